@@ -1,0 +1,10 @@
+pub mod Promises
+pub mod Padding
+pub mod Parts
+pub mod Placings
+pub mod Descriptions
+pub mod Requests
+pub mod Sound
+pub mod BackBytes
+pub mod BackView
+pub mod Pairs

@@ -1,0 +1,39 @@
+-- Placings: every way to give the parts of a list places, in their order from the end.
+use Rattle.std.specs.Prelude.{◌≡◌, ℕ, ◌+◌, ◌≤◌, List, [], ◌∷◌, ⊤}
+use Rattle.planus_back.specs.Promises.{Promise, CanBeKept}
+use Rattle.planus_back.specs.Padding.{promise_of, IsLeastPadding}
+use Rattle.planus_back.specs.Parts.{Part}
+
+-- Each part lies in front of the one before it, and the first in front of this many bytes.
+abbrev pub LieInOrder : ℕ → List Part → List ℕ → Type 0
+LieInOrder length [] [] = ⊤
+LieInOrder length (part ∷ parts) (place ∷ places) = (length + part.size ≤ place) × LieInOrder place parts places
+LieInOrder length [] (place ∷ places) = ⊥
+LieInOrder length (part ∷ parts) [] = ⊥
+
+-- what places promise of their parts
+abbrev pub promises_at : List Part → List ℕ → List Promise
+promises_at [] places = []
+promises_at (part ∷ parts) [] = []
+promises_at (part ∷ parts) (place ∷ places) = promise_of place part.alignment ∷ promises_at parts places
+
+-- Places of the parts: in order, and some length keeps what all of them promise.
+pub record IsPlacing (parts : List Part) (places : List ℕ) : Type 0 where
+  pub in_order : LieInOrder 0 parts places
+  pub kept : CanBeKept (promises_at parts places)
+
+-- The places that the parts get one by one, each by the least padding, from that many bytes and these promises on.
+abbrev pub PlacedInTurn : ℕ → List Promise → List Part → List ℕ → Type 0
+PlacedInTurn length promises [] [] = ⊤
+PlacedInTurn length promises (part ∷ parts) (place ∷ places) =
+    ((padding : ℕ) × (place ≡ length + padding + part.size) × IsLeastPadding length promises part.size part.alignment padding)
+    × PlacedInTurn place (promise_of place part.alignment ∷ promises) parts places
+PlacedInTurn length promises [] (place ∷ places) = ⊥
+PlacedInTurn length promises (part ∷ parts) [] = ⊥
+
+-- each place is at most the other list's place of the same part
+abbrev pub NoneIsGreater : List ℕ → List ℕ → Type 0
+NoneIsGreater [] [] = ⊤
+NoneIsGreater (x ∷ xs) (y ∷ ys) = (x ≤ y) × NoneIsGreater xs ys
+NoneIsGreater [] (y ∷ ys) = ⊥
+NoneIsGreater (x ∷ xs) [] = ⊥

@@ -1,0 +1,231 @@
+//! A byte vector that grows towards its front.
+ghost use Rattle.std.specs.Prelude.{◌≡◌, ℕ, ◌+◌, ◌-◌, ◌≤◌, List, [], ◌++◌, length, take, drop, replicate, IfOk, OnOk, OnErr, IsOk};
+ghost use Rattle.std.specs.Prelude.{vec_len};
+
+use crate::fill::Fill;
+use std::alloc::{AllocError, Global};
+use std::fmt;
+use std::marker::Model;
+
+/// The least number of bytes that a vector asks memory for.
+const LEAST_CAPACITY: usize = 16;
+
+/// A list of bytes that grows at its front.
+#[derive(Drop)]
+pub struct BackVec {
+    // The whole block that was asked for; the vector's bytes are its end.
+    block: Vec<u8>,
+    start: usize,
+}
+
+impl Model for BackVec {
+    ghost use Rattle.planus_back.specs.BackBytes.{BackBytes};
+
+    ghost Value = { BackBytes };
+
+    ghost use Rattle.planus_back.specs.BackView.{back_bytes, StartsInside};
+
+    ghost view = { back_bytes };
+
+    ghost invariant = { StartsInside };
+}
+
+/// A block of `room` zeros and then `bytes`, of `room + bytes.len()` bytes in all. Asks for memory once.
+fn block_behind(
+    alloc: Global,
+    room: usize,
+    capacity: usize,
+    bytes: &[u8],
+) -> Result<Vec<u8>, AllocError>
+    requires { room + length bytes.now ≡ capacity }
+    ensures { IfOk result (λ v. v.items ≡ replicate room 0 ++ bytes.now) }
+{
+    let mut block = Vec::with_capacity(alloc, capacity)?;
+    block.resize(room, 0)?;
+    block.extend_from_slice(bytes)?;
+    Ok(block)
+}
+
+// Writes the slice in front of position `start`.
+fn put_slice(block: &mut [u8], start: usize, bytes: &[u8])
+    requires inside { start ≤ length block.old }
+    requires room { length bytes.now ≤ start }
+    ensures { drop (start - length bytes.now) block.new ≡ bytes.now ++ drop start block.old }
+{
+    let (front, _back) = block.split_at_mut(start);
+    let (_rest, gap) = front.split_at_mut(start - bytes.len());
+    gap.copy_from_slice(bytes);
+}
+
+// Writes n zeros in front of position `start`.
+fn put_zeros(block: &mut [u8], start: usize, n: usize)
+    requires inside { start ≤ length block.old }
+    requires room { n ≤ start }
+    ensures { drop (start - n) block.new ≡ replicate n 0 ++ drop start block.old }
+{
+    let (front, _back) = block.split_at_mut(start);
+    let (_rest, gap) = front.split_at_mut(start - n);
+    gap.fill(0);
+}
+
+// Lets the filler write n bytes in front of position `start`, over zeros.
+fn put_filled<F: Fill>(block: &mut [u8], start: usize, place: u32, n: usize, filler: &F)
+    requires inside { start ≤ length block.old }
+    requires room { n ≤ start }
+    requires fits { F.fits filler.now place n }
+    ensures { drop (start - n) block.new ≡ F.leaves filler.now place n ++ drop start block.old }
+{
+    let (front, _back) = block.split_at_mut(start);
+    let (_rest, gap) = front.split_at_mut(start - n);
+    gap.fill(0);
+    filler.fill(place, gap);
+}
+
+impl BackVec {
+    /// An empty vector, with room for `n` bytes and at least 16. Asks for that many bytes of memory, and is refused only
+    /// where the memory is.
+    pub fn with_capacity(alloc: Global, n: usize) -> Result<BackVec, AllocError>
+        ensures bytes { IfOk result (λ v. v.bytes ≡ []) }
+        ensures room { IfOk result (λ v. n ≤ v.room) }
+    {
+        let capacity = n.max(LEAST_CAPACITY);
+        let block = block_behind(alloc, capacity, capacity, &[])?;
+        Ok(BackVec {
+            block,
+            start: capacity,
+        })
+    }
+
+    /// The allocator that the vector takes memory from.
+    pub fn alloc(&self) -> Global {
+        *self.block.allocator()
+    }
+
+    /// The number of bytes.
+    #[inline]
+    pub fn len(&self) -> usize
+        ensures { result ≡ length self.now.bytes }
+    {
+        self.block.len() - self.start
+    }
+
+    /// How many more bytes fit in front without memory.
+    #[inline]
+    pub fn room(&self) -> usize
+        ensures { result ≡ self.now.room }
+    {
+        self.start // all before the bytes is free
+    }
+
+    /// The bytes.
+    #[inline]
+    pub fn as_slice(&self) -> &[u8]
+        ensures { result.now ≡ self.now.bytes }
+    {
+        &self.block[self.start..]
+    }
+
+    /// Takes all bytes away. The memory is kept, so that there is room for as many bytes more.
+    pub fn clear(&mut self)
+        ensures bytes { self.new.bytes ≡ [] }
+        ensures room { self.new.room ≡ length self.old.bytes + self.old.room }
+    {
+        self.start = self.block.len();
+    }
+
+    /// Makes room for `n` more bytes in front, and leaves the bytes as they are. Takes no memory where there is room
+    /// already. A refusal changes nothing; a number of bytes above `usize::MAX` counts as refused.
+    #[inline]
+    pub fn reserve(&mut self, n: usize) -> Result<(), AllocError>
+        ensures ok { OnOk result (n ≤ self.new.room) }
+        ensures bytes { self.new.bytes ≡ self.old.bytes }
+        ensures err { OnErr result (self.new ≡ self.old) }
+        ensures enough { n ≤ self.old.room → IsOk result }
+        ensures unchanged { n ≤ self.old.room → self.new ≡ self.old }
+    {
+        if n <= self.start {
+            return Ok(());
+        }
+        self.grow(n)
+    }
+
+    // Moves the bytes to the end of a block that is at least twice as large and has room for n more.
+    fn grow(&mut self, n: usize) -> Result<(), AllocError>
+        ensures ok { OnOk result (n ≤ self.new.room) }
+        ensures bytes { self.new.bytes ≡ self.old.bytes }
+        ensures err { OnErr result (self.new ≡ self.old) }
+    {
+        let len = self.len();
+        let Some(needed) = len.checked_add(n) else {
+            return Err(AllocError);
+        };
+        let capacity = needed.max(self.block.len().saturating_mul(2));
+        let room = capacity - len;
+        let block = block_behind(self.alloc(), room, capacity, self.as_slice())?;
+        self.block = block;
+        self.start = room;
+        Ok(())
+    }
+
+    /// Puts the bytes of the slice in front. A refusal of memory changes nothing.
+    #[inline]
+    pub fn extend_from_slice(&mut self, bytes: &[u8]) -> Result<(), AllocError>
+        ensures ok { OnOk result (self.new.bytes ≡ bytes.now ++ self.old.bytes) }
+        ensures err { OnErr result (self.new ≡ self.old) }
+        ensures enough { length bytes.now ≤ self.old.room → IsOk result }
+        ensures room { length bytes.now ≤ self.old.room → self.new.room + length bytes.now ≡ self.old.room }
+    {
+        let n = bytes.len();
+        self.reserve(n)?;
+        put_slice(self.block.as_mut_slice(), self.start, bytes);
+        self.start -= n;
+        Ok(())
+    }
+
+    /// Puts `n` zeros in front. A refusal of memory changes nothing.
+    #[inline]
+    pub fn extend_with_zeros(&mut self, n: usize) -> Result<(), AllocError>
+        ensures ok { OnOk result (self.new.bytes ≡ replicate n 0 ++ self.old.bytes) }
+        ensures err { OnErr result (self.new ≡ self.old) }
+        ensures enough { n ≤ self.old.room → IsOk result }
+        ensures room { n ≤ self.old.room → self.new.room + n ≡ self.old.room }
+    {
+        self.reserve(n)?;
+        put_zeros(self.block.as_mut_slice(), self.start, n);
+        self.start -= n;
+        Ok(())
+    }
+
+    /// Puts `n` bytes in front, which the filler writes over zeros. `place` is handed to it: the distance in bytes from
+    /// the end of the buffer to the first of them. A refusal of memory changes nothing, and the filler isn't called.
+    #[inline]
+    pub fn extend_write<F: Fill>(
+        &mut self,
+        place: u32,
+        n: usize,
+        filler: &F,
+    ) -> Result<(), AllocError>
+        requires { F.fits filler.now place n }
+        ensures ok { OnOk result (self.new.bytes ≡ F.leaves filler.now place n ++ self.old.bytes) }
+        ensures err { OnErr result (self.new ≡ self.old) }
+        ensures enough { n ≤ self.old.room → IsOk result }
+        ensures room { n ≤ self.old.room → self.new.room + n ≡ self.old.room }
+    {
+        self.reserve(n)?;
+        put_filled(self.block.as_mut_slice(), self.start, place, n, filler);
+        self.start -= n;
+        Ok(())
+    }
+}
+
+/// Prints the bytes as those of a slice.
+impl fmt::Debug for BackVec {
+    ghost use Rattle.std.specs.Prelude.{Some};
+    ghost use Rattle.std.specs.Fmt.{debug_list, decimal};
+
+    ghost debug_output = { λ b. debug_list (λ n. Some (decimal n)) b.bytes };
+
+    fn fmt<W: fmt::Write>(&self, f: &mut fmt::Formatter<W>) -> fmt::Result {
+        fmt::Debug::fmt(&self.as_slice(), f)
+    }
+}

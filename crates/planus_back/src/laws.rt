@@ -1,0 +1,43 @@
+//! Laws of promises, padding and places. The functions do nothing: each states a law by its contract.
+ghost use Rattle.std.specs.Prelude.{◌≡◌, ℕ, ◌+◌, ◌<◌, ◌≤◌, List, [], ◌∷◌};
+ghost use Rattle.std.specs.List.{AllByRecursion};
+ghost use Rattle.planus_back.specs.Promises.{Promise, IsPowerOfTwo, Keep, greatest_alignment};
+ghost use Rattle.planus_back.specs.Padding.{promise_of, IsLeastPadding};
+ghost use Rattle.planus_back.specs.Parts.{Part};
+ghost use Rattle.planus_back.specs.Placings.{IsPlacing, PlacedInTurn, NoneIsGreater};
+ghost use Rattle.planus_back.specs.Descriptions.{Describes};
+
+/// The padding of one write is below the alignment that it asks for.
+pub fn padding_is_below_alignment()
+    ensures { (length : ℕ) (promises : List Promise) (size alignment padding : ℕ) → 0 < alignment
+        → IsLeastPadding length promises size alignment padding → padding < alignment }
+{}
+
+/// There is a least padding in front of every part, as long as the promises before are described.
+pub fn least_padding_exists()
+    ensures { (length delayed mask : ℕ) (promises : List Promise) (size alignment : ℕ) → Describes length delayed mask promises
+        → IsPowerOfTwo alignment → (padding : ℕ) × IsLeastPadding length promises size alignment padding }
+{}
+
+/// There is one least padding.
+pub fn least_padding_is_unique()
+    ensures { (length : ℕ) (promises : List Promise) (size alignment a b : ℕ) → IsLeastPadding length promises size alignment a
+        → IsLeastPadding length promises size alignment b → a ≡ b }
+{}
+
+/// A part with the greatest alignment of all, as the first word of a finished buffer has it, ends at a length that keeps
+/// every promise, where all of them were made of what is written.
+pub fn greatest_alignment_keeps_every_promise()
+    ensures { (length : ℕ) (promises : List Promise) (size alignment padding : ℕ)
+        → AllByRecursion (λ (p : Promise). IsPowerOfTwo p.alignment) promises → AllByRecursion (λ (p : Promise). p.distance ≤ length) promises
+        → IsPowerOfTwo alignment → greatest_alignment 1 promises ≤ alignment
+        → IsLeastPadding length promises size alignment padding
+        → Keep (promise_of (length + padding + size) alignment ∷ promises) (length + padding + size) }
+{}
+
+/// The least padding in front of each part in turn gives every part the least place that it has in any placing of the same
+/// parts in the same order. So the finished length is the least that this order allows.
+pub fn least_padding_gives_the_least_places()
+    ensures { (parts : List Part) (places others : List ℕ) → AllByRecursion (λ (part : Part). IsPowerOfTwo part.alignment) parts
+        → PlacedInTurn 0 [] parts places → IsPlacing parts others → NoneIsGreater places others }
+{}

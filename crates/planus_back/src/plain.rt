@@ -1,0 +1,87 @@
+//! The least padding by trying: plain and slow, to compare with.
+ghost use Rattle.std.specs.Prelude.{◌≡◌, ℕ, ◌+◌, ◌*◌, ◌^◌, ◌<◌, ◌≤◌, ◌↔◌, ◌∷◌, IsTrue, MatchOption};
+ghost use Rattle.planus_back.specs.Promises.{Keeps, Keep, CanBeKept};
+ghost use Rattle.planus_back.specs.Padding.{promise_of, CanPad, IsLeastPadding};
+ghost use Rattle.planus_back.specs.Pairs.{promises_of, period, AlignmentsAboveZero, DistancesWithin};
+
+// Tells whether a finished length keeps one promise.
+fn keeps_one(length: usize, distance: usize, alignment: usize) -> bool
+    requires { 0 < alignment }
+    ensures { IsTrue result ↔ Keeps length (promise_of distance alignment) }
+{
+    if length < distance {
+        return false;
+    }
+    (length - distance) % alignment == 0
+}
+
+// Tells whether a finished length keeps every promise.
+fn keeps(length: usize, promises: &[(usize, usize)]) -> bool
+    requires { AlignmentsAboveZero promises.now }
+    ensures { IsTrue result ↔ Keep (promises_of promises.now) length }
+{
+    match promises {
+        [] => true,
+        [first, rest @ ..] => {
+            let first_is_kept = keeps_one(length, first.0, first.1);
+            first_is_kept && keeps(length, rest)
+        }
+    }
+}
+
+// The number of bytes after which lengths keep the promises again as before.
+fn period(promises: &[(usize, usize)]) -> usize
+    requires positive { AlignmentsAboveZero promises.now }
+    requires small { period promises.now < 2 ^ 32 }
+    ensures { result ≡ period promises.now }
+{
+    match promises {
+        [] => 1,
+        [first, rest @ ..] => first.1 * period(rest),
+    }
+}
+
+// Tells whether some finished length keeps the promises and that of a part at this place.
+fn can_stand(place: usize, alignment: usize, promises: &[(usize, usize)], tries: usize) -> bool
+    requires above_zero { 0 < alignment }
+    requires positive { AlignmentsAboveZero promises.now }
+    requires within { DistancesWithin place promises.now }
+    requires all { tries ≡ alignment * period promises.now }
+    requires small { place + tries < 2 ^ 32 }
+    ensures { IsTrue result ↔ CanBeKept (promise_of place alignment ∷ promises_of promises.now) }
+{
+    for length in place..place + tries {
+        if keeps_one(length, place, alignment) && keeps(length, promises) {
+            return true;
+        }
+    }
+    false
+}
+
+/// The least padding for a part of `size` bytes with this alignment, in front of `len` bytes of which these promises were
+/// made; each promise is a pair of a distance from the end and an alignment, in bytes. None where no padding will do.
+///
+/// It tries paddings from 0 on, and for each of them finished lengths. The alignments need not be powers of two, but are
+/// above 0; no distance is above `len`; and all numbers are small, since every length up to the product of the alignments
+/// is tried.
+pub fn least_padding(
+    len: usize,
+    promises: &[(usize, usize)],
+    size: usize,
+    alignment: usize,
+) -> Option<usize>
+    requires above_zero { 0 < alignment }
+    requires positive { AlignmentsAboveZero promises.now }
+    requires within { DistancesWithin len promises.now }
+    requires small { len + alignment + size + alignment * period promises.now < 2 ^ 32 }
+    ensures { MatchOption result ((padding : ℕ) → ¬ CanPad len (promises_of promises.now) size alignment padding)
+        (λ padding. IsLeastPadding len (promises_of promises.now) size alignment padding) }
+{
+    let tries = alignment * period(promises);
+    for padding in 0..alignment {
+        if can_stand(len + padding + size, alignment, promises, tries) {
+            return Some(padding);
+        }
+    }
+    None
+}

@@ -1,0 +1,13 @@
+pub mod Splitting
+pub mod Numbers
+pub mod Words
+pub mod ReadOn
+pub mod Stepping
+pub mod ReadingBack
+pub mod Lists
+pub mod Kept
+pub mod Walking
+pub mod Replayed
+pub mod Printing
+pub mod Named
+pub mod Limited

@@ -1,0 +1,73 @@
+-- A replay's steps, as the definitions see them.
+use Rattle.std.proofs.Common.{◌≡◌, ℕ, suc, ◌+◌, ◌≤◌, ◌<◌, List, [], ◌∷◌, ◌++◌, length, take, drop, map, get_or, refl, sym, ap, ◌∙◌, subst, None, Ok, Err, drop-cons}
+use Rattle.std.specs.List.{AllByRecursion}
+use Rattle.std.proofs.lemmas.List.{take-append-drop, map-append, map_push, take_more, take_all, length-map}
+use Rattle.planus_back.specs.Promises.{Promise}
+use Rattle.planus_write.specs.State.{StandsFor}
+use Rattle.planus_demo.specs.Script.{Command, text, finish}
+use Rattle.planus_demo.specs.Steps.{command_of_step}
+use Rattle.planus_demo.specs.Runs.{nothing_written, LeadsTo}
+use Rattle.planus_demo.specs.Replays.{first_bad, Replays, finish_given}
+use Rattle.planus_demo.specs.Headline.{FinishHolds}
+use Rattle.planus_demo.specs.Replaying.{state_with, distance_of, Advanced, Stopped, AreReached}
+use Rattle.planus_demo.specs.declared.step.Step.{Step}
+use Rattle.planus_demo.specs.declared.replay.Progress.{Progress}
+use Rattle.planus_demo.specs.declared.replay.ReplayError.{ReplayError}
+use Rattle.planus_demo.specs.declared.replay.ReplayError.TheVariants.{OutOfMemory, TooLarge, BadStep}
+use Rattle.planus_demo.proofs.Kept.{run_kept, run_reached}
+use Rattle.planus_demo.proofs.Walking.{all_utf8, leads_on, still_clean, too_large, bad_step}
+
+-- the first i steps
+abbrev pub first_steps : List Step → ℕ → List Command
+first_steps steps i = map command_of_step (take i steps)
+
+-- the replay is where the first i steps lead, and none of them is bad
+pub record Reaches (steps : List Step) (i : ℕ) (progress : Progress) : Type 0 where
+  pub run : (promises : List Promise) × StandsFor progress.builder promises × LeadsTo nothing_written (first_steps steps i) (state_with progress promises)
+  pub clean : first_bad (first_steps steps i) ≡ None
+
+pub are_reached : (steps : List Step) (i : ℕ) (progress : Progress) → Reaches steps i progress → AreReached progress
+are_reached steps i progress h step distance e =
+    run_reached (first_steps steps i) (all_utf8 (take i steps)) (state_with progress h.run.0) h.run.2 step distance e
+
+module _ (steps : List Step) (i : ℕ) (item : Step) (inside : i < length steps) (there : item ≡ get_or steps i item) (progress : Progress) (h : Reaches steps i progress) where
+  whole : map command_of_step steps ≡ first_steps steps i ++ command_of_step item ∷ map command_of_step (drop (suc i) steps)
+  whole = ap (map command_of_step) (sym (take-append-drop i steps) ∙ ap (λ xs. take i steps ++ xs) (drop-cons steps i item inside ∙ ap (λ x. x ∷ drop (suc i) steps) (sym there)))
+      ∙ map-append command_of_step (take i steps) (item ∷ drop (suc i) steps)
+
+  next : first_steps steps (i + 1) ≡ first_steps steps i ++ command_of_step item ∷ []
+  next = ap (map command_of_step) (take_more steps i item inside ∙ ap (λ x. take i steps ++ x ∷ []) (sym there)) ∙ map_push command_of_step (take i steps) item
+
+  pub reaches_next : (after : Progress) → Advanced progress (command_of_step item) (Ok tt) after → Reaches steps (i + 1) after
+  reaches_next after advanced =
+      let a = advanced h.run.0 h.run.1 in
+      record {
+        run = (
+          a.0,
+          a.1,
+          subst (λ cs. LeadsTo nothing_written cs (state_with after a.0)) (sym next)
+              (leads_on nothing_written (state_with progress h.run.0) (state_with after a.0) (first_steps steps i) (command_of_step item) h.run.2 a.2),
+        );
+        clean = ap first_bad next
+            ∙ still_clean (map command_of_step steps) (first_steps steps i) (command_of_step item) (map command_of_step (drop (suc i) steps)) whole (state_with progress h.run.0) (all_utf8 (take i steps)) h.run.2 h.clean a.2.part a.2.is_part;
+      }
+
+  stopped_at : (c : Command) → command_of_step item ≡ c → (error : ReplayError) → Stopped progress c error → Replays (map command_of_step steps) (Err error)
+  stopped_at c is OutOfMemory stopped = tt
+  stopped_at c is TooLarge stopped =
+      let s = stopped h.run.0 h.run.1 in
+      too_large (map command_of_step steps) (first_steps steps i) c (map command_of_step (drop (suc i) steps)) (subst (λ x. map command_of_step steps ≡ first_steps steps i ++ x ∷ map command_of_step (drop (suc i) steps)) is whole)
+      (state_with progress h.run.0) (all_utf8 (take i steps)) h.run.2 h.clean s.0 s.1 s.2
+  stopped_at (text bytes) is (BadStep number why) stopped = absurd stopped
+  stopped_at (finish root) is (BadStep number why) stopped =
+      bad_step (map command_of_step steps) (first_steps steps i) (finish root) (map command_of_step (drop (suc i) steps)) (subst (λ x. map command_of_step steps ≡ first_steps steps i ++ x ∷ map command_of_step (drop (suc i) steps)) is whole)
+      (state_with progress h.run.0) (all_utf8 (take i steps)) h.run.2 h.clean root number why refl (stopped.0 ∙ sym (length-map progress.offsets.items distance_of)) stopped.1
+
+  pub stops : (error : ReplayError) → Stopped progress (command_of_step item) error → Replays (map command_of_step steps) (Err error)
+  stops error stopped = stopped_at (command_of_step item) refl error stopped
+
+pub all_hold : (steps : List Step) (i : ℕ) (progress : Progress) → length steps ≤ i → Reaches steps i progress → AllByRecursion (FinishHolds (map command_of_step steps)) (map finish_given progress.finished.items)
+all_hold steps i progress past h =
+    let all : first_steps steps i ≡ map command_of_step steps = ap (map command_of_step) (take_all i steps past) in
+    subst (λ cs. AllByRecursion (FinishHolds cs) (map finish_given progress.finished.items)) all
+    (run_kept (first_steps steps i) (all_utf8 (take i steps)) (state_with progress h.run.0) h.run.2).finished

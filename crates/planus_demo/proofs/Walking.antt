@@ -1,0 +1,87 @@
+-- The steps of a replay one by one.
+use Rattle.std.proofs.Common.{◌≡◌, ℕ, zero, suc, ◌+◌, List, [], ◌∷◌, ◌++◌, length, take, map, refl, sym, ap, ◌∙◌, subst, arith, Option, Some, None, append_assoc, append-nil, length-append, Err}
+use Rattle.std.specs.Prelude.{slice_get}
+use Rattle.std.specs.Str.{IsUtf8}
+use Rattle.std.specs.String.{string_bytes}
+use Rattle.std.proofs.lemmas.Str.{IsUtf8-string_bytes}
+use Rattle.planus_demo.specs.Script.{Command, text, finish}
+use Rattle.planus_demo.specs.Steps.{command_of_step}
+use Rattle.planus_demo.specs.Runs.{State, Advances, LeadsTo, PartOf, nothing_written}
+use Rattle.planus_demo.specs.Replays.{first_bad, first_bad_after, first_bad_or, broken_check, fault_of, Replays}
+use Rattle.planus_demo.specs.declared.replay.ReplayError.TheVariants.{TooLarge, BadStep}
+use Rattle.planus_demo.specs.declared.replay.Why.{Why}
+use Rattle.planus_demo.specs.declared.step.Step.{Step}
+use Rattle.planus_demo.specs.declared.step.Step.TheVariants.{Text, Finish}
+use Rattle.planus_demo.proofs.Kept.{AllUtf8, Kept, run_kept, same_fault, kinds_length, there_at}
+use Rattle.std.proofs.Math.Seq.{take-append_seam}
+use Rattle.planus_back.specs.Parts.{Part, IsTooLarge}
+use Rattle.planus_demo.specs.Replaying.{distance_fault}
+
+pub leads_on : (before between after : State) (steps : List Command) (step : Command) → LeadsTo before steps between → Advances between step after → LeadsTo before (steps ++ step ∷ []) after
+leads_on before between after [] step leads advances = (after, subst (λ s. Advances s step after) leads advances, refl)
+leads_on before between after (first ∷ steps) step leads advances = (leads.0, leads.1, leads_on leads.0 between after steps step leads.2 advances)
+
+none_after : (n : ℕ) (check : Option Why) (later : Option (ℕ × Why)) → first_bad_or n check later ≡ None → (check ≡ None) × (later ≡ None)
+none_after n None later h = (refl, h)
+none_after n (Some why) later h = (cc)
+
+-- the check of one more step decides, where none before is broken
+pub next_check : (earlier steps : List Command) (step : Command) (rest : List Command) → first_bad_after earlier steps ≡ None
+    → first_bad_after earlier (steps ++ step ∷ rest) ≡ first_bad_or (length earlier + length steps) (broken_check (earlier ++ steps) step) (first_bad_after (earlier ++ (steps ++ step ∷ [])) rest)
+next_check earlier [] step rest h =
+    ap (λ n. first_bad_or n (broken_check earlier step) (first_bad_after (earlier ++ step ∷ []) rest)) (let e : length earlier ≡ length earlier + 0 = omega arith in e)
+    ∙ ap (λ xs. first_bad_or (length earlier + 0) (broken_check xs step) (first_bad_after (earlier ++ step ∷ []) rest)) (sym (append-nil earlier))
+next_check earlier (first ∷ steps) step rest h =
+    let parts = none_after (length earlier) (broken_check earlier first) (first_bad_after (earlier ++ first ∷ []) steps) h in
+    rw parts.0 (next_check (earlier ++ first ∷ []) steps step rest parts.1
+    ∙ rw (append_assoc earlier (first ∷ []) steps, append_assoc earlier (first ∷ []) (steps ++ step ∷ []), length-append earlier (first ∷ []))
+    (ap (λ n. first_bad_or n (broken_check (earlier ++ (first ∷ steps)) step) (first_bad_after (earlier ++ (first ∷ (steps ++ step ∷ []))) rest)) (omega arith)))
+
+pub all_utf8 : (steps : List Step) → AllUtf8 (map command_of_step steps)
+all_utf8 [] i bytes e = (cc)
+all_utf8 (Text words ∷ steps) zero bytes e = let same : string_bytes words ≡ bytes = cc in subst IsUtf8 same (IsUtf8-string_bytes words)
+all_utf8 (Finish root ∷ steps) zero bytes e = (cc)
+all_utf8 (Text words ∷ steps) (suc i) bytes e = all_utf8 steps i bytes e
+all_utf8 (Finish root ∷ steps) (suc i) bytes e = all_utf8 steps i bytes e
+
+-- The steps cs lead to a state, none of them bad; then comes the step c, and then the rest.
+module _ (all cs : List Command) (c : Command) (rest : List Command) (whole : all ≡ cs ++ c ∷ rest) (state : State) (utf8 : AllUtf8 cs) (run : LeadsTo nothing_written cs state)
+    (clean : first_bad cs ≡ None) where
+  there : slice_get all (length cs) ≡ Some c
+  there = ap (λ xs. slice_get xs (length cs)) whole ∙ there_at cs c rest
+
+  before_is : take (length cs) all ≡ cs
+  before_is = ap (take (length cs)) whole ∙ take-append_seam cs (c ∷ rest)
+
+  kept : Kept cs cs state
+  kept = run_kept cs utf8 state run
+
+  faults : (root : ℕ) → distance_fault (slice_get state.distances root) ≡ fault_of (slice_get cs root)
+  faults root = same_fault cs state.distances root kept.kinds
+
+  no_fault : (step : Command) (part : Part) → PartOf state step part → broken_check cs step ≡ None
+  no_fault (text bytes) part h = refl
+  no_fault (finish root) part h = sym (faults root) ∙ ap distance_fault h.1
+
+  pub still_clean : (part : Part) → PartOf state c part → first_bad (cs ++ c ∷ []) ≡ None
+  still_clean part h = next_check [] cs c [] clean ∙ ap (λ check. first_bad_or (0 + length cs) check None) (no_fault c part h)
+
+  up_to : take (length cs + 1) all ≡ cs ++ c ∷ []
+  up_to = ap (take (length cs + 1)) (whole ∙ sym (append_assoc cs (c ∷ []) rest))
+      ∙ ap (λ n. take n ((cs ++ c ∷ []) ++ rest)) (let e : length cs + 1 ≡ length (cs ++ c ∷ []) = sym (length-append cs (c ∷ [])) in e) ∙ take-append_seam (cs ++ c ∷ []) rest
+
+  pub too_large : (part : Part) → PartOf state c part → IsTooLarge part state.written → Replays all (Err TooLarge)
+  too_large part is_part h = (
+    length cs,
+    ap first_bad up_to ∙ still_clean part is_part,
+    record { step = c; there = there; before = state; run = subst (λ xs. LeadsTo nothing_written xs state) (sym before_is) run; part = part; is_part = is_part; too_large = h },
+  )
+
+  pub bad_step : (root number : ℕ) (why : Why) → c ≡ finish root → number ≡ length state.distances → distance_fault (slice_get state.distances root) ≡ Some why → Replays all (Err (BadStep number why))
+  bad_step root number why is_finish at_end fault =
+      let same : number ≡ length cs = at_end ∙ kinds_length cs state.distances kept.kinds in
+      let check : broken_check cs c ≡ Some why = ap (broken_check cs) is_finish ∙ sym (faults root) ∙ fault in (
+        ap first_bad whole ∙ next_check [] cs c rest clean ∙ ap (λ o. first_bad_or (0 + length cs) o (first_bad_after ([] ++ (cs ++ c ∷ [])) rest)) check
+            ∙ ap (λ n. Some (n, why)) (let e : 0 + length cs ≡ number = omega arith in e),
+        (state, subst (λ xs. LeadsTo nothing_written xs state) (sym (ap (λ n. take n all) same ∙ before_is)) run),
+      )

@@ -1,0 +1,18 @@
+use Rattle.std.proofs.lemmas.Result.{err_from_is_err_and}
+use Rattle.planus_demo.proofs.Replayed.{are_reached, reaches_next, stops, all_hold}
+use Rattle.planus_demo.proofs.replay.replay.Goals as goal
+
+pub advance-requires : goal.advance-requires
+advance-requires c = are_reached c.args.steps.now c.loop-step.step-index c.loop-step.replay c.loop-step.invariant
+
+pub returns-in_err-advance-clause-run : goal.returns-in_err-advance-clause-run
+returns-in_err-advance-clause-run c =
+    let p = err_from_is_err_and c.from_residual-in_err-advance.result c.from_residual-in_err-advance.ensures.1 in
+    rw (p.1, p.2) (stops c.args.steps.now c.loop-step.step-index c.step-item.result c.loop-step-test.true c.step-item.is c.loop-step.replay c.loop-step.invariant c.in_err-advance.field-0.0 c.in_err-advance.ensures)
+
+pub loop-step-preserved : goal.loop-step-preserved
+loop-step-preserved c =
+    reaches_next c.args.steps.now c.loop-step.step-index c.step-item.result c.loop-step-test.true c.step-item.is c.loop-step.replay c.loop-step.invariant c.advance.new.self c.in_ok-advance.ensures
+
+pub returns-clause-holds : goal.returns-clause-holds
+returns-clause-holds c = all_hold c.args.steps.now c.loop-step.step-index c.loop-step.replay c.loop-step-test.false c.loop-step.invariant

@@ -1,0 +1,26 @@
+-- What the program's output is to the definitions.
+use Rattle.std.specs.Prelude.{ℕ, ◌<◌, Bool, List, Result, Ok, Err, ⊤, ◌⊎◌, Vec}
+use Rattle.std.specs.declared.alloc.Global.{Global}
+use Rattle.std.specs.String.{string_bytes}
+use Rattle.planus_demo.specs.Runs.{Finish}
+use Rattle.planus_demo.specs.Printed.{PrintsAnswer, PrintsOutOfMemory}
+use Rattle.planus_demo.specs.declared.print.Output.{Output}
+use Rattle.planus_demo.specs.declared.replay.Finished.{Finished}
+use Rattle.planus_demo.specs.declared.replay.ReplayError.{ReplayError}
+use Rattle.planus_demo.specs.declared.replay.ReplayError.TheVariants.{OutOfMemory, TooLarge, BadStep}
+
+abbrev pub is_clean : Output → Bool
+is_clean output = output.clean
+
+abbrev pub printed_text : Output → List ℕ
+printed_text output = string_bytes output.text
+
+-- a bad step is one of so many steps
+abbrev pub NamesStep : ℕ → Result (Vec Finished Global) ReplayError → Type 0
+NamesStep count (Err (BadStep step why)) = step < count
+NamesStep count (Err TooLarge) = ⊤
+NamesStep count (Err OutOfMemory) = ⊤
+NamesStep count (Ok finished) = ⊤
+
+abbrev pub PrintsAnswerOr : List ℕ → Result (List Finish) ReplayError → Bool → List ℕ → Type 0
+PrintsAnswerOr numbers answer clean printed = PrintsAnswer numbers answer clean printed ⊎ PrintsOutOfMemory clean printed

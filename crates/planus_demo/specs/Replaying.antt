@@ -1,0 +1,54 @@
+-- A replay on its way, as the definitions see it.
+use Rattle.std.specs.Prelude.{◌≡◌, ℕ, ◌≤◌, List, map, length, slice_get, Option, Some, None, Result, Ok, Err, ⊤}
+use Rattle.std.specs.Option.{option_map}
+use Rattle.planus_back.specs.Promises.{Promise}
+use Rattle.planus_back.specs.Parts.{Part, IsTooLarge}
+use Rattle.planus_write.specs.State.{StandsFor, written_with}
+use Rattle.planus_write.specs.declared.offset.Offset.{Offset}
+use Rattle.planus_demo.specs.Script.{Command, text, finish}
+use Rattle.planus_demo.specs.Runs.{State, PartOf, Advances}
+use Rattle.planus_demo.specs.Replays.{finish_given}
+use Rattle.planus_demo.specs.declared.replay.Why.{Why}
+use Rattle.planus_demo.specs.declared.replay.Why.TheVariants.{NoSuchStep, WrongKind}
+use Rattle.planus_demo.specs.declared.replay.ReplayError.{ReplayError}
+use Rattle.planus_demo.specs.declared.replay.ReplayError.TheVariants.{OutOfMemory, TooLarge, BadStep}
+use Rattle.planus_demo.specs.declared.replay.Progress.{Progress}
+
+abbrev pub distance_of : Option (Offset (Unit {0})) → Option ℕ
+distance_of offset = option_map (λ o. o.distance) offset
+
+-- the state of the run, if these are the promises made
+abbrev pub state_with : Progress → List Promise → State
+state_with replay promises = record {
+  written = written_with replay.builder promises;
+  distances = map distance_of replay.offsets.items;
+  finished = map finish_given replay.finished.items;
+}
+
+-- what is wrong with naming the step that has this distance, or none
+abbrev pub distance_fault : Option (Option ℕ) → Option Why
+distance_fault None = Some NoSuchStep
+distance_fault (Some None) = Some WrongKind
+distance_fault (Some (Some distance)) = None
+
+-- the value of an earlier step, or what is wrong with naming it
+abbrev pub FindsValue : List (Option ℕ) → ℕ → Result (Offset (Unit {0})) Why → Type 0
+FindsValue distances step (Ok offset) = slice_get distances step ≡ Some (Some offset.distance)
+FindsValue distances step (Err why) = distance_fault (slice_get distances step) ≡ Some why
+
+-- why a step was not taken
+abbrev pub Stopped : Progress → Command → ReplayError → Type 0
+Stopped old step OutOfMemory = ⊤
+Stopped old step TooLarge = (promises : List Promise) → StandsFor old.builder promises → (part : Part) × PartOf (state_with old promises) step part × IsTooLarge part (written_with old.builder promises)
+Stopped old (text bytes) (BadStep number why) = ⊥
+Stopped old (finish root) (BadStep number why) = (number ≡ length old.offsets.items) × (distance_fault (slice_get (map distance_of old.offsets.items) root) ≡ Some why)
+
+-- One step was taken, whatever the promises before, or was not.
+abbrev pub Advanced : Progress → Command → Result (Unit {0}) ReplayError → Progress → Type 0
+Advanced old step (Ok done) new = (promises : List Promise) → StandsFor old.builder promises →
+    (after : List Promise) × StandsFor new.builder after × Advances (state_with old promises) step (state_with new after)
+Advanced old step (Err error) new = Stopped old step error
+
+-- every value so far lies in the builder
+abbrev pub AreReached : Progress → Type 0
+AreReached replay = (step distance : ℕ) → slice_get (map distance_of replay.offsets.items) step ≡ Some (Some distance) → distance ≤ length replay.builder.bytes

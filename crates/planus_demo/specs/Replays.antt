@@ -1,0 +1,62 @@
+-- What a replay of steps answers.
+use Rattle.std.specs.Prelude.{◌≡◌, ℕ, ◌+◌, List, [], ◌∷◌, ◌++◌, length, take, slice_get, map, Option, Some, None, Result, Ok, Err, ⊤}
+use Rattle.std.specs.Prelude.{Vec}
+use Rattle.std.specs.declared.alloc.Global.{Global}
+use Rattle.planus_demo.specs.Script.{Command, text, finish}
+use Rattle.planus_demo.specs.Runs.{Finish, State, nothing_written, LeadsTo, Runs, ComesToTooLarge}
+use Rattle.planus_demo.specs.declared.replay.Why.{Why}
+use Rattle.planus_demo.specs.declared.replay.Why.TheVariants.{NoSuchStep, WrongKind}
+use Rattle.planus_demo.specs.declared.replay.ReplayError.{ReplayError}
+use Rattle.planus_demo.specs.declared.replay.ReplayError.TheVariants.{OutOfMemory, TooLarge, BadStep}
+use Rattle.planus_demo.specs.declared.replay.Finished.{Finished}
+use Rattle.planus_write.specs.declared.errors.BuildError.{BuildError}
+use Rattle.planus_write.specs.declared.errors.BuildError.TheVariants as build
+use Rattle.planus_demo.specs.declared.replay.StepPlace.{StepPlace}
+
+-- what is wrong with naming, as a value, the step that stands there
+abbrev pub fault_of : Option Command → Option Why
+fault_of None = Some NoSuchStep
+fault_of (Some (text bytes)) = None
+fault_of (Some (finish root)) = Some WrongKind
+
+-- the first broken check of a step, by the steps before it: a root is an earlier step, and a value
+abbrev pub broken_check : List Command → Command → Option Why
+broken_check earlier (text bytes) = None
+broken_check earlier (finish root) = fault_of (slice_get earlier root)
+
+abbrev pub first_bad_or : ℕ → Option Why → Option (ℕ × Why) → Option (ℕ × Why)
+first_bad_or n (Some why) later = Some (n, why)
+first_bad_or n None later = later
+
+-- FirstBad: the first step with a broken check, and that check; it looks at the steps alone.
+abbrev pub first_bad_after : List Command → List Command → Option (ℕ × Why)
+first_bad_after earlier [] = None
+first_bad_after earlier (step ∷ steps) = first_bad_or (length earlier) (broken_check earlier step) (first_bad_after (earlier ++ step ∷ []) steps)
+
+abbrev pub first_bad : List Command → Option (ℕ × Why)
+first_bad steps = first_bad_after [] steps
+
+abbrev pub place_of : StepPlace → ℕ × ℕ
+place_of place = (place.step, place.distance)
+
+-- a finish, without where it lies in memory
+abbrev pub finish_given : Finished → Finish
+finish_given finished = record { bytes = finished.bytes.items; places = map place_of finished.places.items }
+
+-- The answer is that of the run: what each finish gives where no step is bad; the first bad step, if the run comes to it; a part that
+-- is too large, if the run comes to that before. Of a want of memory nothing is said.
+abbrev pub Replays : List Command → Result (List Finish) ReplayError → Type 0
+Replays steps (Ok finished) = (first_bad steps ≡ None) × Runs steps finished
+Replays steps (Err (BadStep step why)) = (first_bad steps ≡ Some (step, why)) × ((before : State) × LeadsTo nothing_written (take step steps) before)
+Replays steps (Err TooLarge) = (n : ℕ) × (first_bad (take (n + 1) steps) ≡ None) × ComesToTooLarge steps n
+Replays steps (Err OutOfMemory) = ⊤
+
+-- a refused write, as a replay's error
+abbrev pub replay_error : BuildError → ReplayError
+replay_error build.OutOfMemory = OutOfMemory
+replay_error build.TooLarge = TooLarge
+
+-- the answer, without where its finishes lie in memory
+abbrev pub given_by : Result (Vec Finished Global) ReplayError → Result (List Finish) ReplayError
+given_by (Ok finished) = Ok (map finish_given finished.items)
+given_by (Err error) = Err error

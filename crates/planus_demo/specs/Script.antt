@@ -1,0 +1,83 @@
+-- The script: what the bytes of an input say, line by line.
+use Rattle.std.specs.Prelude.{ℕ, ◌+◌, ◌^◌, ◌==◌, ◌&&◌, nat_le, nat_lt, Bool, true, List, [], ◌∷◌, length, Option, Some, None, Result, Ok, Err, if◌then◌else◌, codes}
+use Rattle.std.specs.List.{slice_split, after_first, list_all}
+use Rattle.std.specs.Char.{is_ascii_digit}
+use Rattle.std.specs.Str.{is_utf8, bytes_eq}
+use Rattle.std.specs.Str.Parse.{digits_value}
+use Rattle.planus_demo.specs.declared.script.ReadFault.{ReadFault}
+use Rattle.planus_demo.specs.declared.script.ReadFault.TheVariants.{NotUtf8, UnknownCommand, BadNumber}
+
+-- a step of a script: a text with its bytes, or a finish with the number of its root's step
+pub data Command : Type 0 where
+  text : List ℕ → Command
+  finish : ℕ → Command
+
+-- the lines of an input, which line feeds separate
+abbrev pub lines_of : List ℕ → List (List ℕ)
+lines_of input = slice_split (λ b. b == 10) input
+
+-- the words of a line, which single spaces separate
+abbrev pub words_of : List ℕ → List (List ℕ)
+words_of line = slice_split (λ b. b == 32) line
+
+-- empty lines and comments are no steps
+abbrev pub is_skipped : List ℕ → Bool
+is_skipped [] = true
+is_skipped (b ∷ bs) = b == 35
+
+-- a number is one to twenty decimal digits, of at most 18446744073709551615
+abbrev pub is_number : List ℕ → Bool
+is_number word = nat_le 1 (length word) && (nat_le (length word) 20 && (list_all is_ascii_digit word && nat_lt (digits_value 10 word) (2 ^ 64)))
+
+abbrev pub number_of : List ℕ → Result ℕ ReadFault
+number_of word = if is_number word then Ok (digits_value 10 word) else Err BadNumber
+
+-- `finish I`
+abbrev pub finish_of : List (List ℕ) → Result Command ReadFault
+finish_of [] = Err UnknownCommand
+finish_of (root ∷ []) = finish_at (number_of root) where
+  finish_at : Result ℕ ReadFault → Result Command ReadFault
+  finish_at (Ok n) = Ok (finish n)
+  finish_at (Err fault) = Err fault
+finish_of (root ∷ more ∷ words) = Err UnknownCommand
+
+-- what the words of a line say, and the bytes after its first space
+abbrev pub command_of_words : List ℕ → List (List ℕ) → Result Command ReadFault
+command_of_words line [] = Err UnknownCommand
+command_of_words line (word ∷ words) =
+    if bytes_eq word (codes "text") then Ok (text (after_first (λ b. b == 32) line))
+    else (if bytes_eq word (codes "finish") then finish_of words else Err UnknownCommand)
+
+-- The step that a line is, or its first fault of reading.
+abbrev pub command_of : List ℕ → Result Command ReadFault
+command_of line = if is_utf8 line then command_of_words line (words_of line) else Err NotUtf8
+
+-- the steps of a script, each with the number of its line
+pub record Read : Type 0 where
+  pub numbers : List ℕ
+  pub commands : List Command
+
+-- one step more in front
+abbrev pub onto_read : ℕ → Command → Result Read (ℕ × ReadFault) → Result Read (ℕ × ReadFault)
+onto_read number command (Ok read) = Ok (record { numbers = number ∷ read.numbers; commands = command ∷ read.commands })
+onto_read number command (Err fault) = Err fault
+
+-- a line that is a step, or is at fault, and what follows it
+abbrev pub then_read : ℕ → Result Command ReadFault → Result Read (ℕ × ReadFault) → Result Read (ℕ × ReadFault)
+then_read number (Ok command) more = onto_read number command more
+then_read number (Err fault) more = Err (number, fault)
+
+-- The steps of the lines from this number on, or the first line with a fault of reading.
+abbrev pub read_lines : ℕ → List (List ℕ) → Result Read (ℕ × ReadFault)
+read_lines number [] = Ok (record { numbers = []; commands = [] })
+read_lines number (line ∷ lines) =
+    if is_skipped line then read_lines (number + 1) lines else then_read number (command_of line) (read_lines (number + 1) lines)
+
+-- Lines are numbered from 1, skipped ones included.
+abbrev pub script_of : List ℕ → Result Read (ℕ × ReadFault)
+script_of input = read_lines 1 (lines_of input)
+
+-- the words behind the first one, where there is a space behind it
+abbrev pub words_behind : Option (List ℕ) → List (List ℕ)
+words_behind None = []
+words_behind (Some rest) = words_of rest

@@ -1,0 +1,37 @@
+-- The steps of the program, as the definitions see them, and what its readers of lines answer.
+use Rattle.std.specs.Prelude.{◌≡◌, ℕ, map, Result, Ok, Err, ⊤}
+use Rattle.std.specs.String.{string_bytes}
+use Rattle.planus_demo.specs.Script.{Command, text, finish, Read}
+use Rattle.planus_demo.specs.declared.step.Step.{Step}
+use Rattle.planus_demo.specs.declared.step.Step.TheVariants.{Text, Finish}
+use Rattle.planus_demo.specs.declared.script.ReadFault.{ReadFault}
+use Rattle.planus_demo.specs.declared.script.LineError.{LineError}
+use Rattle.planus_demo.specs.declared.script.LineError.TheVariants as line
+use Rattle.planus_demo.specs.declared.script.ParseError.{ParseError}
+use Rattle.planus_demo.specs.declared.script.ParseError.TheVariants as parse
+use Rattle.planus_demo.specs.declared.script.Script.{Script}
+
+abbrev pub command_of_step : Step → Command
+command_of_step (Text words) = text (string_bytes words)
+command_of_step (Finish root) = finish root
+
+-- a script, without where it lies in memory
+abbrev pub read_of : Script → Read
+read_of script = record { numbers = script.numbers.items; commands = map command_of_step script.steps.items }
+
+-- the answer is this command or this fault
+abbrev pub AnswersCommand : Result Step ReadFault → Result Command ReadFault → Type 0
+AnswersCommand (Ok step) expected = expected ≡ Ok (command_of_step step)
+AnswersCommand (Err fault) expected = expected ≡ Err fault
+
+-- the same, unless memory was refused
+abbrev pub AnswersLine : Result Step LineError → Result Command ReadFault → Type 0
+AnswersLine (Ok step) expected = expected ≡ Ok (command_of_step step)
+AnswersLine (Err (line.Fault fault)) expected = expected ≡ Err fault
+AnswersLine (Err line.OutOfMemory) expected = ⊤
+
+-- the answer is this script, or this line's fault, unless memory was refused
+abbrev pub AnswersScript : Result Script ParseError → Result Read (ℕ × ReadFault) → Type 0
+AnswersScript (Ok script) expected = expected ≡ Ok (read_of script)
+AnswersScript (Err (parse.Line number fault)) expected = expected ≡ Err (number, fault)
+AnswersScript (Err parse.OutOfMemory) expected = ⊤

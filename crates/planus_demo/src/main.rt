@@ -1,0 +1,18 @@
+//! Reads a script from standard input, and prints each finished buffer as a line of hexadecimal bytes.
+#![tactic(auto)]
+
+mod print;
+mod replay;
+mod run;
+mod script;
+mod step;
+
+use std::io;
+use std::process::ExitCode;
+
+fn main(rt: HostRuntime) -> ExitCode {
+    let mut reader = rt.reader();
+    let mut writer = io::writer(&rt);
+    let answer = run::run(rt.alloc(), &mut reader, &mut writer);
+    ExitCode::from(run::status(&answer))
+}

@@ -1,0 +1,111 @@
+//! What is printed of a script.
+ghost use Rattle.std.specs.Prelude.{◌≡◌, ◌<◌, ◌/◌, ◌%◌, ◌++◌, ◌∷◌, [], map, length, IfOk, OnOk, is_ok};
+ghost use Rattle.std.specs.List.{join_with_byte, flat_map};
+ghost use Rattle.std.specs.Char.{digit_char};
+ghost use Rattle.std.specs.String.{string_bytes};
+ghost use Rattle.planus_demo.specs.Replays.{finish_given, given_by};
+ghost use Rattle.planus_demo.specs.Printed.{hex_of, hex_line, PrintedOrOutOfMemory};
+ghost use Rattle.planus_demo.specs.Outputs.{is_clean, printed_text, NamesStep, PrintsAnswerOr};
+
+use crate::replay::{Finished, ReplayError, replay};
+use crate::script::{ParseError, parse};
+use std::alloc::{AllocError, Global};
+
+/// No script is longer, in bytes.
+pub const GREATEST_SCRIPT: usize = 1048576;
+
+/// What is printed, and whether the script is clean.
+#[derive(Debug, Drop)]
+pub struct Output {
+    pub clean: bool,
+    pub text: String,
+}
+
+fn push_hex(text: &mut String, byte: u8) -> std::result::Result<(), AllocError>
+    ensures { OnOk result (string_bytes text.new ≡ string_bytes text.old ++ hex_of byte) }
+{
+    text.push(hex_digit(byte / 16))?;
+    text.push(hex_digit(byte % 16))?;
+    Ok(())
+}
+
+fn hex_digit(value: u8) -> char
+    requires { value < 16 }
+    ensures digit { result ≡ digit_char value }
+    ensures ascii { result < 128 }
+{
+    match char::from_digit(u32::from(value), 16) {
+        Some(digit) => digit,
+        None => unreachable!(),
+    }
+}
+
+/// A line of bytes, with one space between them.
+fn push_line(text: &mut String, bytes: &[u8]) -> std::result::Result<(), AllocError>
+    ensures { OnOk result (string_bytes text.new ≡ string_bytes text.old ++ hex_line bytes.now) }
+{
+    for (index, byte) in bytes.iter().enumerate() {
+        if index > 0 {
+            text.push(' ')?;
+        }
+        push_hex(text, *byte)?;
+    }
+    text.push('\n')?;
+    Ok(())
+}
+
+/// A line for each finish.
+fn finished_text(alloc: Global, finished: &[Finished]) -> std::result::Result<String, AllocError>
+    ensures { IfOk result (λ text. string_bytes text ≡ flat_map (λ finish. hex_line finish.bytes) (map finish_given finished.now)) }
+{
+    let mut text = String::new(alloc);
+    for finish in finished {
+        push_line(&mut text, finish.bytes.as_slice())?;
+    }
+    Ok(text)
+}
+
+/// What is printed of a replay's answer. The steps stand on the lines of these numbers.
+fn answer_text(
+    alloc: Global,
+    numbers: &[usize],
+    answer: &std::result::Result<Vec<Finished>, ReplayError>,
+) -> std::result::Result<String, AllocError>
+    requires { NamesStep (length numbers.now) answer.now }
+    ensures { IfOk result (λ text. PrintsAnswerOr numbers.now (given_by answer.now) (is_ok answer.now) (string_bytes text)) }
+{
+    match answer {
+        Ok(finished) => finished_text(alloc, finished.as_slice()),
+        Err(ReplayError::TooLarge) => format!(in alloc; "too large\n"),
+        Err(ReplayError::OutOfMemory) => format!(in alloc; "out of memory\n"),
+        Err(ReplayError::BadStep { step, why }) => {
+            let number = numbers[*step];
+            format!(in alloc; "line {number}: {why}\n")
+        }
+    }
+}
+
+/// What is printed of an input.
+pub fn output_of(alloc: Global, input: &[u8]) -> std::result::Result<Output, AllocError>
+    ensures { IfOk result (λ output. PrintedOrOutOfMemory input.now (is_clean output) (printed_text output)) }
+{
+    if input.len() > GREATEST_SCRIPT {
+        let text = format!(in alloc; "script too long\n")?;
+        return Ok(Output { clean: false, text });
+    }
+    match parse(alloc, input) {
+        Err(ParseError::OutOfMemory) => Err(AllocError),
+        Err(ParseError::Line { number, fault }) => {
+            let text = format!(in alloc; "line {number}: {fault}\n")?;
+            Ok(Output { clean: false, text })
+        }
+        Ok(script) => {
+            let answer = replay(alloc, script.steps.as_slice());
+            let text = answer_text(alloc, script.numbers.as_slice(), &answer)?;
+            Ok(Output {
+                clean: answer.is_ok(),
+                text,
+            })
+        }
+    }
+}

@@ -1,0 +1,206 @@
+//! Steps to finished bytes.
+ghost use Rattle.std.specs.Prelude.{◌≡◌, ℕ, List, [], map, IfOk, IfErr};
+ghost use Rattle.std.specs.List.{AllByRecursion};
+ghost use Rattle.planus_back.specs.Promises.{Promise};
+ghost use Rattle.planus_write.specs.State.{StandsFor};
+ghost use Rattle.planus_demo.specs.Steps.{command_of_step};
+ghost use Rattle.planus_demo.specs.Runs.{nothing_written, places_from};
+ghost use Rattle.planus_demo.specs.Replays.{place_of, finish_given, Replays, given_by};
+ghost use Rattle.planus_demo.specs.Headline.{FinishHolds};
+ghost use Rattle.planus_demo.specs.Replaying.{distance_of, state_with, FindsValue, Advanced, AreReached};
+ghost use Rattle.planus_demo.specs.Script as command;
+
+use crate::step::Step;
+use planus_write::{BuildError, Builder, Offset};
+use std::alloc::{AllocError, AllocFailed, Global};
+use std::fmt;
+
+/// What is wrong with a step.
+#[derive(Clone, Copy, Debug, PartialEq, Eq)]
+pub enum Why {
+    /// No earlier step has the number.
+    NoSuchStep,
+    /// The step with the number is no value.
+    WrongKind,
+}
+
+impl fmt::Display for Why {
+    ghost use Rattle.planus_demo.specs.Texts.{why_text};
+    ghost use Rattle.std.specs.Prelude.{Some};
+
+    ghost output = { λ why. Some (why_text why) };
+
+    fn fmt<W: fmt::Write>(&self, f: &mut fmt::Formatter<W>) -> fmt::Result {
+        match self {
+            Why::NoSuchStep => write!(f, "no such step"),
+            Why::WrongKind => write!(f, "wrong kind"),
+        }
+    }
+}
+
+/// Why a replay stopped.
+#[derive(Clone, Copy, Debug, PartialEq, Eq)]
+pub enum ReplayError {
+    /// Memory was refused.
+    OutOfMemory,
+    /// The bytes would be more than 2147483647.
+    TooLarge,
+    /// The first bad step, by its number from 0.
+    BadStep { step: usize, why: Why },
+}
+
+impl From<BuildError> for ReplayError {
+    ghost use Rattle.std.specs.Prelude.{◌≡◌};
+    ghost use Rattle.planus_demo.specs.Replays.{replay_error};
+
+    ghost from_gives = { λ error e. e ≡ replay_error error };
+
+    fn from(error: BuildError) -> ReplayError {
+        match error {
+            BuildError::OutOfMemory => ReplayError::OutOfMemory,
+            BuildError::TooLarge => ReplayError::TooLarge,
+        }
+    }
+}
+
+impl From<AllocError> for ReplayError {
+    ghost use Rattle.std.specs.Prelude.{◌≡◌};
+    ghost use Rattle.planus_demo.specs.declared.replay.ReplayError.TheVariants.{OutOfMemory};
+
+    ghost from_gives = { λ _ e. e ≡ OutOfMemory };
+
+    fn from(_error: AllocError) -> ReplayError {
+        ReplayError::OutOfMemory
+    }
+}
+
+impl<T: Drop> From<AllocFailed<T>> for ReplayError {
+    ghost use Rattle.std.specs.Prelude.{◌≡◌};
+    ghost use Rattle.planus_demo.specs.declared.replay.ReplayError.TheVariants.{OutOfMemory};
+
+    ghost from_gives = { λ _ e. e ≡ OutOfMemory };
+
+    fn from(_error: AllocFailed<T>) -> ReplayError {
+        ReplayError::OutOfMemory
+    }
+}
+
+/// Where a step's value stands: its distance in bytes from the end of the finished bytes to its first byte.
+#[derive(Clone, Copy, Debug, PartialEq, Eq)]
+pub struct StepPlace {
+    pub step: usize,
+    pub distance: u32,
+}
+
+/// What a finish gives: the bytes, and where each value so far stands in them.
+#[derive(Debug, Drop)]
+pub struct Finished {
+    pub bytes: Vec<u8>,
+    pub places: Vec<StepPlace>,
+}
+
+/// A replay on its way.
+#[derive(Drop)]
+struct Progress {
+    builder: Builder,
+    // Of each step so far, the offset of its value, if it wrote one.
+    offsets: Vec<Option<Offset<()>>>,
+    finished: Vec<Finished>,
+}
+
+/// The places of the values among these steps.
+fn places_of(
+    alloc: Global,
+    offsets: &[Option<Offset<()>>],
+) -> std::result::Result<Vec<StepPlace>, AllocError>
+    ensures { IfOk result (λ places. map place_of places.items ≡ places_from 0 (map distance_of offsets.now)) }
+{
+    let mut places = Vec::new(alloc);
+    for (step, offset) in offsets.iter().enumerate() {
+        if let Some(offset) = offset {
+            places.push(StepPlace {
+                step,
+                distance: offset.distance(),
+            })?;
+        }
+    }
+    Ok(places)
+}
+
+impl Progress {
+    fn new(alloc: Global) -> std::result::Result<Progress, ReplayError>
+        ensures ok { IfOk result (λ replay. StandsFor replay.builder [] × (state_with replay [] ≡ nothing_written)) }
+        ensures error { IfErr result (λ error. error ≡ ReplayError.OutOfMemory) }
+    {
+        Ok(Progress {
+            builder: Builder::new(alloc)?,
+            offsets: Vec::new(alloc),
+            finished: Vec::new(alloc),
+        })
+    }
+
+    /// The value of an earlier step, by its number.
+    fn value(&self, step: usize) -> std::result::Result<Offset<()>, Why>
+        ensures { FindsValue (map distance_of self.now.offsets.items) step result }
+    {
+        match self.offsets.get(step) {
+            None => Err(Why::NoSuchStep),
+            Some(None) => Err(Why::WrongKind),
+            Some(Some(offset)) => Ok(*offset),
+        }
+    }
+
+    /// Writes a text.
+    fn text(&mut self, text: &str) -> std::result::Result<(), ReplayError>
+        ensures { Advanced self.old (command.text text.now) result self.new }
+    {
+        let offset = self.builder.create_string(text)?;
+        self.offsets.push(Some(offset.downcast()))?;
+        Ok(())
+    }
+
+    /// Takes one step.
+    fn advance(&mut self, alloc: Global, step: &Step) -> std::result::Result<(), ReplayError>
+        requires { AreReached self.old }
+        ensures { Advanced self.old (command_of_step step.now) result self.new }
+    {
+        match step {
+            Step::Text(text) => self.text(text.as_str()),
+            Step::Finish { root } => self.finish(alloc, *root),
+        }
+    }
+
+    /// Finishes the value of an earlier step.
+    fn finish(&mut self, alloc: Global, root: usize) -> std::result::Result<(), ReplayError>
+        requires { AreReached self.old }
+        ensures { Advanced self.old (command.finish root) result self.new }
+    {
+        let root = match self.value(root) {
+            Ok(root) => root,
+            Err(why) => {
+                let step = self.offsets.len();
+                return Err(ReplayError::BadStep { step, why });
+            }
+        };
+        let bytes = Vec::from_slice(alloc, self.builder.finish(root, None)?)?;
+        let places = places_of(alloc, self.offsets.as_slice())?;
+        self.finished.push(Finished { bytes, places })?;
+        self.offsets.push(None)?;
+        Ok(())
+    }
+}
+
+/// What each finish of the steps gives, in order.
+///
+/// Each step is checked before it writes, so the first refused step decides.
+pub fn replay(alloc: Global, steps: &[Step]) -> std::result::Result<Vec<Finished>, ReplayError>
+    ensures run { Replays (map command_of_step steps.now) (given_by result) }
+    ensures holds { IfOk result (λ finished. AllByRecursion (FinishHolds (map command_of_step steps.now)) (map finish_given finished.items)) }
+{
+    let mut replay = Progress::new(alloc)?;
+    for step in steps {
+        replay.advance(alloc, step)?;
+    }
+    let Progress { finished, .. } = replay;
+    Ok(finished)
+}

@@ -1,0 +1,250 @@
+//! The script: lines of text to steps.
+
+ghost use Rattle.std.specs.Prelude.{◌≡◌, ℕ, ◌+◌, ◌-◌, ◌<◌, ◌≤◌, ◌==◌, List, [], ◌∷◌, length, IsTrue, ◌↔◌, Result, Ok, Err, MatchOption, MatchResult, unwrap_or, OnOk, ◌++◌, map, IfSome};
+ghost use Rattle.std.specs.List.{slice_split, position, list_all, list_any, after_first};
+ghost use Rattle.std.specs.Option.{option_copied};
+ghost use Rattle.std.specs.Char.{is_ascii_digit};
+ghost use Rattle.planus_demo.specs.Script.{lines_of, words_of, words_behind, number_of, finish_of, command_of, command_of_words, script_of, is_skipped as is_skipped_lem};
+ghost use Rattle.planus_demo.specs.Steps.{AnswersCommand, AnswersLine, AnswersScript, command_of_step, read_of};
+
+use crate::step::Step;
+use std::alloc::{AllocError, AllocFailed, Global};
+use std::fmt;
+
+/// A fault in the reading of a line.
+#[derive(Clone, Copy, Debug, PartialEq, Eq)]
+pub enum ReadFault {
+    /// The bytes of the line are no UTF-8.
+    NotUtf8,
+    /// The first word names no command, or the command has another number of words.
+    UnknownCommand,
+    /// A word that should be a number isn't one to twenty decimal digits, or is too great.
+    BadNumber,
+}
+
+impl fmt::Display for ReadFault {
+    ghost use Rattle.planus_demo.specs.Texts.{read_fault_text};
+    ghost use Rattle.std.specs.Prelude.{Some};
+
+    ghost output = { λ fault. Some (read_fault_text fault) };
+
+    fn fmt<W: fmt::Write>(&self, f: &mut fmt::Formatter<W>) -> fmt::Result {
+        match self {
+            ReadFault::NotUtf8 => write!(f, "not utf-8"),
+            ReadFault::UnknownCommand => write!(f, "unknown command"),
+            ReadFault::BadNumber => write!(f, "bad number"),
+        }
+    }
+}
+
+/// Why a script could not be read.
+#[derive(Clone, Copy, Debug, PartialEq, Eq)]
+pub enum ParseError {
+    /// Memory was refused.
+    OutOfMemory,
+    /// The first line with a fault of reading, counted from 1.
+    Line { number: usize, fault: ReadFault },
+}
+
+impl From<AllocError> for ParseError {
+    ghost use Rattle.std.specs.Prelude.{◌≡◌};
+    ghost use Rattle.planus_demo.specs.declared.script.ParseError.TheVariants.{OutOfMemory};
+
+    ghost from_gives = { λ _ e. e ≡ OutOfMemory };
+
+    fn from(_error: AllocError) -> ParseError {
+        ParseError::OutOfMemory
+    }
+}
+
+impl<T: Drop> From<AllocFailed<T>> for ParseError {
+    ghost use Rattle.std.specs.Prelude.{◌≡◌};
+    ghost use Rattle.planus_demo.specs.declared.script.ParseError.TheVariants.{OutOfMemory};
+
+    ghost from_gives = { λ _ e. e ≡ OutOfMemory };
+
+    fn from(_error: AllocFailed<T>) -> ParseError {
+        ParseError::OutOfMemory
+    }
+}
+
+/// The steps of a script, and the number of the line that each stands on.
+#[derive(Debug, Drop)]
+pub struct Script {
+    pub numbers: Vec<usize>,
+    pub steps: Vec<Step>,
+}
+
+/// Why a line could not be read.
+#[derive(Clone, Copy, Debug, PartialEq, Eq)]
+enum LineError {
+    OutOfMemory,
+    Fault(ReadFault),
+}
+
+impl From<AllocError> for LineError {
+    ghost use Rattle.std.specs.Prelude.{◌≡◌};
+    ghost use Rattle.planus_demo.specs.declared.script.LineError.TheVariants.{OutOfMemory};
+
+    ghost from_gives = { λ _ e. e ≡ OutOfMemory };
+
+    fn from(_error: AllocError) -> LineError {
+        LineError::OutOfMemory
+    }
+}
+
+impl From<ReadFault> for LineError {
+    ghost use Rattle.std.specs.Prelude.{◌≡◌};
+    ghost use Rattle.planus_demo.specs.declared.script.LineError.TheVariants.{Fault};
+
+    ghost from_gives = { λ fault e. e ≡ Fault fault };
+
+    fn from(fault: ReadFault) -> LineError {
+        LineError::Fault(fault)
+    }
+}
+
+fn line_end(text: &[u8]) -> Option<usize>
+    ensures { result ≡ position (λ b. b == 10) text.now }
+{
+    text.iter().position(|byte| *byte == b'\n')
+}
+
+/// The bytes before the first line feed, and what stands behind it, if there is one.
+fn first_line(text: &[u8]) -> (&[u8], Option<&[u8]>)
+    ensures shorter { IfSome result.1 (λ more. length more.now < length text.now) }
+    ensures lines { MatchOption result.1 (slice_split (λ b. b == 10) text.now ≡ result.0.now ∷ [])
+        (λ more. slice_split (λ b. b == 10) text.now ≡ result.0.now ∷ slice_split (λ b. b == 10) more.now) }
+{
+    match line_end(text) {
+        None => (text, None),
+        Some(end) => (&text[..end], Some(&text[end + 1..])),
+    }
+}
+
+fn is_digits(word: &str) -> bool
+    ensures { result ≡ list_all is_ascii_digit word.now }
+{
+    word.bytes().all(|byte| byte.is_ascii_digit())
+}
+
+/// A number of one to twenty decimal digits.
+fn number(word: &str) -> std::result::Result<u64, ReadFault>
+    ensures { result ≡ number_of word.now }
+{
+    if word.len() > 20 || !is_digits(word) {
+        return Err(ReadFault::BadNumber);
+    }
+    match word.parse::<u64>() {
+        Ok(number) => Ok(number),
+        Err(_) => Err(ReadFault::BadNumber),
+    }
+}
+
+fn has_space(words: &str) -> bool
+    ensures { result ≡ list_any (λ b. b == 32) words.now }
+{
+    words.bytes().any(|byte| byte == b' ')
+}
+
+/// The first word of a line, and what stands behind the space behind it, if there is one.
+fn first_word(line: &str) -> (&str, Option<&str>)
+    ensures words { words_of line.now ≡ result.0.now ∷ words_behind (option_copied result.1) }
+    ensures rest { after_first (λ b. b == 32) line.now ≡ unwrap_or (option_copied result.1) [] }
+{
+    match line.split_once(' ') {
+        None => (line, None),
+        Some((word, rest)) => (word, Some(rest)),
+    }
+}
+
+/// `finish I`, from what stands behind the first word.
+fn finish(words: Option<&str>) -> std::result::Result<Step, ReadFault>
+    ensures { AnswersCommand result (finish_of (words_behind (option_copied words.entry))) }
+{
+    match words {
+        Some(root) if !has_space(root) => match number(root) {
+            Ok(root) => Ok(Step::Finish {
+                root: root as usize,
+            }),
+            Err(fault) => Err(fault),
+        },
+        _ => Err(ReadFault::UnknownCommand),
+    }
+}
+
+/// Empty lines and comments are no steps.
+fn is_skipped(line: &[u8]) -> bool
+    ensures { result ≡ is_skipped_lem line.now }
+{
+    match line {
+        [] => true,
+        [first, ..] => *first == b'#',
+    }
+}
+
+/// The step that the text of a line is.
+fn step_of_text(alloc: Global, line: &str) -> std::result::Result<Step, LineError>
+    ensures { AnswersLine result (command_of_words line.now (words_of line.now)) }
+{
+    let (word, rest) = first_word(line);
+    if word == "text" {
+        Ok(Step::Text(String::from_str(alloc, rest.unwrap_or(""))?))
+    } else if word == "finish" {
+        Ok(finish(rest)?)
+    } else {
+        Err(LineError::Fault(ReadFault::UnknownCommand))
+    }
+}
+
+/// The step that a line is.
+fn step_of(alloc: Global, line: &[u8]) -> std::result::Result<Step, LineError>
+    ensures { AnswersLine result (command_of line.now) }
+{
+    match str::from_utf8(line) {
+        Ok(text) => step_of_text(alloc, text),
+        Err(_) => Err(LineError::Fault(ReadFault::NotUtf8)),
+    }
+}
+
+impl Script {
+    fn new(alloc: Global) -> Script
+        ensures { read_of result ≡ record { numbers = []; commands = [] } }
+    {
+        Script {
+            numbers: Vec::new(alloc),
+            steps: Vec::new(alloc),
+        }
+    }
+
+    /// One step more, which stands on the line of this number.
+    fn push(&mut self, number: usize, step: Step) -> std::result::Result<(), AllocError>
+        ensures ok { OnOk result (read_of self.new ≡ record { numbers = self.old.numbers.items ++ number ∷ []; commands = map command_of_step (self.old.steps.items ++ step ∷ []) }) }
+    {
+        self.numbers.push(number)?;
+        self.steps.push(step)?;
+        Ok(())
+    }
+}
+
+/// The steps of a script, or the first line with a fault of reading.
+pub fn parse(alloc: Global, input: &[u8]) -> std::result::Result<Script, ParseError>
+    ensures { AnswersScript result (script_of input.now) }
+{
+    let mut script = Script::new(alloc);
+    let mut number = 0;
+    let mut rest = Some(input);
+    while let Some(text) = rest {
+        let (line, more) = first_line(text);
+        rest = more;
+        number += 1;
+        if !is_skipped(line) {
+            match step_of(alloc, line) {
+                Ok(step) => script.push(number, step)?,
+                Err(LineError::OutOfMemory) => return Err(ParseError::OutOfMemory),
+                Err(LineError::Fault(fault)) => return Err(ParseError::Line { number, fault }),
+            }
+        }
+    }
+    Ok(script)
+}

@@ -1,0 +1,100 @@
+-- What stands keeps standing behind bytes that are put in front.
+use Rattle.std.proofs.Common.{◌≡◌, ℕ, ◌+◌, ◌*◌, ◌≤◌, ◌<◌, ◌-ℤ◌, pos, List, [], ◌∷◌, ◌++◌, length, map, Bool, take, drop, refl, sym, ap, ◌∙◌, arith, nat_le, Option, Some, None, length-append, if◌then◌else◌}
+use Rattle.std.proofs.Math.Seq.{drop-append-add}
+use Rattle.std.proofs.lemmas.Bool.Decides.{nat_tests}
+use Rattle.std.proofs.lemmas.Int.{ints}
+use Rattle.std.specs.Int.{Width, w16, w32, byte_len, from_le_bytes, cast_signed}
+use Rattle.std.specs.Option.{option_map}
+use Rattle.planus_read.specs.Bytes.{Num, Int, BytesStand}
+use Rattle.planus_read.specs.Values.{text, byte_list, plain_list, reference_list, union_list, table, Field, plain, reference, tags, values, field_at, vtable_size}
+use Rattle.planus_read.specs.Stands.{ReferenceStands, ItemsStand, FieldStands, SlotStands, TableStands, at, at_both}
+use Rattle.planus_read.specs.Moves.{KeepsStanding, KeepsLeading}
+
+test_moves : (n a b : ℕ) → nat_le (n + a) (n + b) ≡ nat_le a b
+test_moves n a b = grind (arith, nat_tests)
+
+pub rest_moves : (front B : List ℕ) (k j : ℕ) → j ≡ length front + k → drop j (front ++ B) ≡ drop k B
+rest_moves front B k j e = rw e (drop-append-add front B k)
+
+number_in : (w : Width) (b : List ℕ) (inside : Bool) → Option ℕ
+number_in w b inside = if inside then Some (from_le_bytes w (take (byte_len w) b)) else None
+
+pub num_moves : (front B : List ℕ) (k j : ℕ) (w : Width) → j ≡ length front + k → Num (front ++ B) j w ≡ Num B k w
+unfolding number_in
+num_moves front B k j w e =
+    let inside : nat_le (j + byte_len w) (length (front ++ B)) ≡ nat_le (k + byte_len w) (length B) =
+    rw (length-append front B) (ap (λ i. nat_le i (length front + length B)) (let s : j + byte_len w ≡ length front + (k + byte_len w) = omega arith in s) ∙ test_moves (length front) (k + byte_len w) (length B)) in
+    ap (λ b. number_in w b (nat_le (j + byte_len w) (length (front ++ B)))) (rest_moves front B k j e) ∙ ap (number_in w (drop k B)) inside
+
+pub int_moves : (front B : List ℕ) (k j : ℕ) → j ≡ length front + k → Int (front ++ B) j ≡ Int B k
+int_moves front B k j e = ap (option_map (cast_signed w32)) (num_moves front B k j w32 e)
+
+bytes_move : (front B : List ℕ) (k j : ℕ) (bytes : List ℕ) → j ≡ length front + k → BytesStand B k bytes → BytesStand (front ++ B) j bytes
+bytes_move front B k j bytes e h = ap (take (length bytes)) (rest_moves front B k j e) ∙ h
+
+pub reference_moves : (front B : List ℕ) (k j distance : ℕ) → j ≡ length front + k → ReferenceStands B k distance → ReferenceStands (front ++ B) j distance
+reference_moves front B k j distance e h =
+    (h.0, num_moves front B k j w32 e ∙ h.1, rw (length-append front B) (let s : k + h.0 + distance ≡ length B = h.2 in omega arith))
+
+items_move : {X : Type 0} (A C : ℕ → X → Type 0) (n : ℕ) → ((k j : ℕ) (x : X) → j ≡ n + k → A k x → C j x) → (k j size : ℕ) (items : List X) → j ≡ n + k → ItemsStand A k size items → ItemsStand C j size items
+items_move A C n step k j size [] e h = tt
+items_move A C n step k j size (x ∷ xs) e h = (step k j x e h.0, items_move A C n step (k + size) (j + size) size xs (omega arith) h.1)
+
+field_moves : (front B : List ℕ) (k j : ℕ) (field : Field) → j ≡ length front + k → FieldStands B k field → FieldStands (front ++ B) j field
+field_moves front B k j (plain item) e h = bytes_move front B k j item.bytes e h
+field_moves front B k j (reference distance) e h = reference_moves front B k j distance e h
+field_moves front B k j (tags distance) e h = reference_moves front B k j distance e h
+field_moves front B k j (values distance) e h = reference_moves front B k j distance e h
+
+slot_moves : (front B : List ℕ) (k s j : ℕ) (field : Option Field) → j ≡ length front + s → SlotStands B k s field → SlotStands (front ++ B) (length front + k) j field
+slot_moves front B k s j None e h = num_moves front B s j w16 e ∙ h
+slot_moves front B k s j (Some field) e h =
+    (h.0, num_moves front B s j w16 e ∙ h.1, h.2, field_moves front B (k + h.0) (length front + k + h.0) field (omega arith) h.3)
+
+word_moves : (n k t : ℕ) → pos (n + k) -ℤ pos (n + t) ≡ pos k -ℤ pos t
+word_moves n k t = omega (arith, ints)
+
+table_moves : (front B : List ℕ) (k : ℕ) (entries : List (ℕ × Field)) → TableStands B k entries → TableStands (front ++ B) (length front + k) entries
+table_moves front B k entries h =
+    record {
+      vtable = length front + h.vtable;
+      behind = let b : k < h.vtable = h.behind in omega arith;
+      word = int_moves front B k (length front + k) refl ∙ h.word ∙ ap Some (sym (word_moves (length front) k h.vtable));
+      size = num_moves front B h.vtable (length front + h.vtable) w16 refl ∙ h.size;
+      inside = rw (length-append front B) (let i : h.vtable + vtable_size entries ≤ length B = h.inside in omega arith);
+      slots = λ i within. slot_moves front B k (h.vtable + 4 + 2 * i) (length front + h.vtable + 4 + 2 * i) (field_at entries i) (omega arith) (h.slots i within);
+    }
+
+pub keeps_leading : KeepsLeading
+keeps_leading front B f distance h = reference_moves front B f (length front + f) distance refl h
+
+pub keeps_standing : KeepsStanding
+keeps_standing front B (at k) (text bytes) h =
+    (num_moves front B k (length front + k) w32 refl ∙ h.0, bytes_move front B (k + 4) (length front + k + 4) (bytes ++ 0 ∷ []) (omega arith) h.1)
+keeps_standing front B (at k) (byte_list bytes) h =
+    (num_moves front B k (length front + k) w32 refl ∙ h.0, bytes_move front B (k + 4) (length front + k + 4) bytes (omega arith) h.1)
+keeps_standing front B (at k) (plain_list size alignment items) h = (
+  num_moves front B k (length front + k) w32 refl ∙ h.0,
+  items_move (BytesStand B) (BytesStand (front ++ B)) (length front) (bytes_move front B) (k + 4) (length front + k + 4) size items (omega arith) h.1,
+)
+keeps_standing front B (at k) (reference_list distances) h = (
+  num_moves front B k (length front + k) w32 refl ∙ h.0,
+  items_move (ReferenceStands B) (ReferenceStands (front ++ B)) (length front) (reference_moves front B) (k + 4) (length front + k + 4) 4 distances (omega arith) h.1,
+)
+keeps_standing front B (at k) (table entries) h = table_moves front B k entries h
+keeps_standing front B (at k) (union_list items) h = h
+keeps_standing front B (at_both kt kv) (union_list items) h = (
+  (
+    num_moves front B kt (length front + kt) w32 refl ∙ h.0.0,
+    bytes_move front B (kt + 4) (length front + kt + 4) (map (λ item. item.0) items) (omega arith) h.0.1,
+  ),
+  (
+    num_moves front B kv (length front + kv) w32 refl ∙ h.1.0,
+    items_move (ReferenceStands B) (ReferenceStands (front ++ B)) (length front) (reference_moves front B) (kv + 4) (length front + kv + 4) 4 (map (λ item. item.1) items) (omega arith) h.1.1,
+  ),
+)
+keeps_standing front B (at_both kt kv) (text bytes) h = h
+keeps_standing front B (at_both kt kv) (byte_list bytes) h = h
+keeps_standing front B (at_both kt kv) (plain_list size alignment items) h = h
+keeps_standing front B (at_both kt kv) (reference_list distances) h = h
+keeps_standing front B (at_both kt kv) (table entries) h = h

@@ -1,0 +1,193 @@
+//! The builder.
+ghost use Rattle.std.specs.Prelude.{◌≡◌, ℕ, ◌+◌, ◌-◌, ◌≤◌, ◌<◌, ◌==◌, ◌^◌, ◌∷◌, [], ◌++◌, List, length, replicate, IsTrue, ◌↔◌, IfOk, IfErr, Ok, Err, Result, option_map};
+ghost use Rattle.planus_back.specs.Promises.{Promise, IsPowerOfTwo, greatest_alignment};
+ghost use Rattle.planus_write.specs.Parts.{identifier_bytes};
+ghost use Rattle.planus_back.specs.Padding.{greatest_place, promise_of, IsLeastPadding};
+
+use crate::errors::BuildError;
+use crate::offset::{Offset, Text};
+use crate::traits::WriteAsOffset;
+use planus_back::{BackVec, Promises};
+use std::alloc::Global;
+use std::marker::Model;
+
+/// One less than the alignment of a count or a reference.
+const WORD_MASK: usize = 3;
+
+/// Writes flatbuffers from the back, and names each value by its distance from the end.
+#[derive(Drop)]
+pub struct Builder {
+    inner: BackVec,
+    promises: Promises,
+}
+
+impl Model for Builder {
+    ghost use Rattle.planus_write.specs.State.{State};
+
+    ghost Value = { State };
+
+    ghost use Rattle.planus_write.specs.View.{state_of, IsSmall};
+
+    ghost view = { state_of };
+
+    ghost invariant = { IsSmall };
+}
+
+impl Builder {
+    ghost use Rattle.std.specs.Borrow.{sem};
+    ghost use Rattle.planus_write.specs.Parts.{text_part, finish_part};
+    ghost use Rattle.planus_write.specs.State.{State, StandsFor};
+    ghost use Rattle.planus_write.specs.Placing.{Reserves, Refuses};
+    ghost use Rattle.planus_write.specs.Preparing.{WritesText};
+    ghost use Rattle.planus_write.specs.Finishing.{EndsAs, FinishLeaves, WritesRoot};
+
+    /// An empty builder.
+    pub fn new(alloc: Global) -> std::result::Result<Builder, BuildError>
+        ensures bytes { IfOk result (λ builder. builder.bytes ≡ []) }
+        ensures stands { IfOk result (λ builder. StandsFor builder []) }
+        ensures error { IfErr result (λ error. error ≡ BuildError.OutOfMemory) }
+    {
+        let inner = BackVec::with_capacity(alloc, 0)?;
+        Ok(Builder {
+            inner,
+            promises: Promises::new(),
+        })
+    }
+
+    /// The number of bytes.
+    #[inline]
+    pub fn len(&self) -> usize
+        ensures { result ≡ length self.now.bytes }
+    {
+        self.inner.len()
+    }
+
+    /// Whether nothing is written.
+    #[inline]
+    pub fn is_empty(&self) -> bool
+        ensures { IsTrue result ↔ (self.now.bytes ≡ []) }
+    {
+        self.len() == 0
+    }
+
+    /// The bytes.
+    #[inline]
+    pub fn as_slice(&self) -> &[u8]
+        ensures { result.now ≡ self.now.bytes }
+    {
+        self.inner.as_slice()
+    }
+
+    /// How many more bytes fit in front without memory.
+    #[inline]
+    pub fn room(&self) -> usize
+        ensures { result ≡ self.now.room }
+    {
+        self.inner.room()
+    }
+
+    /// Room for a part of `size` bytes, and the padding behind it. Answers the part's place.
+    fn prepare_write(&mut self, size: usize, mask: usize) -> std::result::Result<u32, BuildError>
+        requires power { IsPowerOfTwo (mask + 1) }
+        requires bound { mask + 1 ≤ 2 ^ 30 }
+        ensures { Reserves size (mask + 1) self.old result self.new }
+    {
+        let len = self.inner.len();
+        let (promises, padding) = self.promises.request(len, size, mask)?;
+        self.inner.reserve(padding + size)?;
+        self.inner.extend_with_zeros(padding)?;
+        self.promises = promises;
+        Ok((len + padding + size) as u32)
+    }
+
+    // Bytes for which there is room.
+    fn put(&mut self, bytes: &[u8])
+        requires room { length bytes.now ≤ self.old.room }
+        requires fits { length bytes.now + length self.old.bytes ≤ greatest_place }
+        ensures { self.new ≡ record self.old { bytes = bytes.now ++ self.old.bytes; room = self.old.room - length bytes.now } }
+    {
+        match self.inner.extend_from_slice(bytes) {
+            Ok(()) => {}
+            Err(_) => unreachable!(),
+        }
+    }
+
+    // A text as one part.
+    pub(crate) fn write_text(&mut self, text: &str) -> std::result::Result<Offset<Text>, BuildError>
+        ensures { WritesText text.now self.old result self.new }
+    {
+        let bytes = text.as_bytes();
+        let place = self.prepare_write(bytes.len() + 5, WORD_MASK)?;
+        self.put(&[0]);
+        self.put(bytes);
+        self.put(&(bytes.len() as u32).to_le_bytes());
+        Ok(Offset::at(place))
+    }
+
+    /// Writes a text: one part of a count of 4 bytes, its bytes and a zero byte, aligned to 4 bytes.
+    pub fn create_string<X: WriteAsOffset<Text> + Drop>(
+        &mut self,
+        value: X,
+    ) -> std::result::Result<Offset<Text>, BuildError>
+        requires { X.may value self.old }
+        ensures { X.outcome value self.old result self.new }
+    {
+        value.prepare(self)
+    }
+
+    /// Prepares the root, and puts in front of everything its reference, and behind that the file identifier, if there is
+    /// one. The length is then such that every part since the last clear stands aligned. Answers all bytes.
+    ///
+    /// Writing may go on afterwards, and finish again.
+    pub fn finish<T, X: WriteAsOffset<T> + Drop>(
+        &mut self,
+        root: X,
+        identifier: Option<[u8; 4]>,
+    ) -> std::result::Result<&[u8], BuildError>
+        requires { X.may root self.old }
+        ensures* after { sem 𝓛 (EndsAs self.entry (FinishLeaves (X.outcome root) identifier self.old result)) }
+    {
+        let root = root.prepare(self)?;
+        self.write_root(root.distance(), identifier)?;
+        Ok(self.as_slice())
+    }
+
+    // One less than the greatest of 4 and every alignment so far.
+    fn finish_mask(&self) -> usize
+        ensures power { IsPowerOfTwo (result + 1) }
+        ensures bound { result + 1 ≤ 2 ^ 30 }
+        ensures greatest { (promises : List Promise) → StandsFor self.now promises → greatest_alignment 4 promises ≡ result + 1 }
+        ensures all { (promises : List Promise) → StandsFor self.now promises → greatest_alignment 1 promises ≤ result + 1 }
+    {
+        let mask = self.promises.mask();
+        if mask < WORD_MASK { WORD_MASK } else { mask }
+    }
+
+    // The root word, and the identifier behind it, as one part with the greatest alignment so far.
+    fn write_root(
+        &mut self,
+        root: u32,
+        identifier: Option<[u8; 4]>,
+    ) -> std::result::Result<(), BuildError>
+        requires { root ≤ length self.old.bytes }
+        ensures { WritesRoot root identifier self.old result self.new }
+    {
+        let mask = self.finish_mask();
+        let name = identifier_slice(&identifier);
+        let place = self.prepare_write(name.len() + 4, mask)?;
+        self.put(name);
+        self.put(&(place - root).to_le_bytes());
+        Ok(())
+    }
+}
+
+// The bytes of a file identifier, or none.
+fn identifier_slice(identifier: &Option<[u8; 4]>) -> &[u8]
+    ensures bytes { result.now ≡ identifier_bytes identifier.now }
+    ensures short { length result.now ≤ 4 }
+{
+    match identifier {
+        None => &[],
+        Some(bytes) => bytes,
+    }
+}

@@ -1,0 +1,4 @@
+//! The types that can be written.
+
+mod offset;
+mod str;

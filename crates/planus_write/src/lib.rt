@@ -1,0 +1,13 @@
+//! The builder of flatbuffers, and what it writes.
+#![tactic(auto)]
+
+pub mod builder;
+pub mod errors;
+mod impls;
+pub mod offset;
+pub mod traits;
+
+pub use builder::Builder;
+pub use errors::BuildError;
+pub use offset::{Offset, Text};
+pub use traits::WriteAsOffset;

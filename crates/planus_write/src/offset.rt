@@ -1,0 +1,50 @@
+//! Offsets: what a builder calls the values that it has written.
+
+use std::alloc::AllocError;
+use std::marker::PhantomData;
+
+/// The kind of an offset to a text.
+pub struct Text;
+
+/// A value of kind `T` that a builder has written, by its distance in bytes from the end of the buffer to its first byte.
+pub struct Offset<T> {
+    distance: u32,
+    of: PhantomData<T>,
+}
+
+impl<T> Clone for Offset<T> {
+    fn clone(&self) -> std::result::Result<Self, AllocError> {
+        Ok(*self)
+    }
+}
+
+impl<T> Copy for Offset<T> {}
+
+impl<T> Offset<T> {
+    ghost use Rattle.std.specs.Prelude.{◌≡◌};
+
+    pub(crate) fn at(distance: u32) -> Offset<T>
+        ensures { result.distance ≡ distance }
+    {
+        Offset {
+            distance,
+            of: PhantomData,
+        }
+    }
+
+    /// The distance in bytes from the end of the buffer to the value's first byte; the last byte of a buffer has distance 1.
+    #[inline]
+    pub fn distance(&self) -> u32
+        ensures { result ≡ self.now.distance }
+    {
+        self.distance
+    }
+
+    /// The same offset, with its kind forgotten.
+    #[inline]
+    pub fn downcast(&self) -> Offset<()>
+        ensures { result.distance ≡ self.now.distance }
+    {
+        Offset::at(self.distance)
+    }
+}
