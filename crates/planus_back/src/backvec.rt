@@ -208,6 +208,7 @@ impl BackVec {
         requires { F.fits filler.now place n }
         ensures ok { OnOk result (self.new.bytes ≡ F.leaves filler.now place n ++ self.old.bytes) }
         ensures err { OnErr result (self.new ≡ self.old) }
+        ensures count { OnOk result (length self.new.bytes ≡ n + length self.old.bytes) }
         ensures enough { n ≤ self.old.room → IsOk result }
         ensures room { n ≤ self.old.room → self.new.room + n ≡ self.old.room }
     {

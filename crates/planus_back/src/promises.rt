@@ -88,6 +88,7 @@ impl Promises {
         requires bound { mask + 1 ≤ 2 ^ 30 }
         requires placed { len ≤ greatest_place }
         ensures fits { IfOk result (λ r. len + r.1 + size ≤ greatest_place) }
+        ensures below { IfOk result (λ r. r.1 ≤ mask) }
         ensures least { IfOk result (λ r. IsLeast (LeavesSome self len size (mask + 1)) r.1) }
         ensures those { IfOk result (λ r. DescribesThose self len r.0 (len + r.1 + size) (mask + 1)) }
         ensures least_padding { IfOk result (λ r. (promises : List Promise) → StandsFor self len promises → IsLeastPadding len promises size (mask + 1) r.1) }

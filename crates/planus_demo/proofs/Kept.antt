@@ -1,6 +1,6 @@
 -- What every run keeps, by the definitions alone.
-use Rattle.std.proofs.Common.{◌≡◌, ℕ, zero, suc, ◌+◌, ◌-◌, ◌≤◌, ◌<◌, ◌^◌, List, [], ◌∷◌, ◌++◌, length, take, replicate, refl, sym, ap, ◌∙◌, subst, arith, Option, Some, None, append_assoc, append-nil, length-append, max, inl, inr, lit≤, true}
-use Rattle.std.specs.Prelude.{slice_get, ⊤, nat_le}
+use Rattle.std.proofs.Common.{◌≡◌, ℕ, zero, suc, ◌+◌, ◌-◌, ◌≤◌, ◌<◌, ◌^◌, List, [], ◌∷◌, ◌++◌, length, take, replicate, refl, sym, ap, ◌∙◌, subst, arith, Option, Some, None, append_assoc, append-nil, length-append, max, inl, inr, lit≤, true, drop, Bool, false}
+use Rattle.std.specs.Prelude.{slice_get, ⊤, nat_le, nat_lt, if◌then◌else◌}
 use Rattle.std.proofs.lemmas.Bool.Decides.{nat_tests}
 use Rattle.std.specs.List.{AllByRecursion}
 use Rattle.std.specs.Str.{IsUtf8}
@@ -8,34 +8,37 @@ use Rattle.std.specs.Int.{w32, to_le_bytes}
 use Rattle.std.proofs.lemmas.Nat.{from_le_bytes-to_le_bytes_4}
 use Rattle.std.proofs.lemmas.List.{length-replicate}
 use Rattle.std.proofs.lemmas.Bool.{cases_lt}
-use Rattle.std.proofs.Math.Seq.{take-append_seam}
+use Rattle.std.proofs.Math.Seq.{take-append_seam, drop-length}
 use Rattle.planus_back.specs.Promises.{Promise, IsPowerOfTwo, Keeps, Keep, greatest_alignment}
 use Rattle.planus_back.specs.Padding.{promise_of}
 use Rattle.planus_back.specs.Parts.{Part, Written, Placed}
 use Rattle.planus_back.proofs.PaddingLaws.{keeps_all}
-use Rattle.planus_write.specs.Parts.{text_part, finish_part}
+use Rattle.planus_write.specs.Parts.{text_part, finish_part, identifier_bytes}
 use Rattle.planus_read.specs.Bytes.{Num, position_of}
 use Rattle.planus_read.specs.Values as value
 use Rattle.planus_read.specs.Stands.{Stands, at}
 use Rattle.planus_read.proofs.Moves.{keeps_standing}
-use Rattle.planus_demo.specs.Script.{Command, text, finish}
-use Rattle.planus_demo.specs.Runs.{State, places_from, nothing_written, Adds, Advances, LeadsTo}
-use Rattle.planus_demo.specs.Replays.{fault_of}
+use Rattle.planus_demo.specs.Script.{Command, text, finish, clear}
+use Rattle.planus_demo.specs.Runs.{State, Finish, places_from, nothing_written, Writes, Advances, LeadsTo, distance_at, cleared}
+use Rattle.planus_demo.specs.Replays.{fault_of, first_after_clear, named_step}
 use Rattle.planus_demo.specs.Replaying.{distance_fault}
 use Rattle.planus_demo.specs.Headline.{TextHolds, FinishHolds}
 use Rattle.planus_demo.proofs.ReadingBack.{reads_back}
 use Rattle.planus_demo.proofs.Lists.{all_weaker, all_push, places_push_some, places_push_none, all_at, listed}
 
 -- the steps that wrote a value are the texts
+abbrev pub SameKind : Command → Option ℕ → Type 0
+SameKind (text bytes) (Some d) = ⊤
+SameKind (text bytes) None = ⊥
+SameKind (finish root identifier) (Some d) = ⊥
+SameKind (finish root identifier) None = ⊤
+SameKind clear d = ⊥
+
 abbrev pub SameKinds : List Command → List (Option ℕ) → Type 0
 SameKinds [] [] = ⊤
-SameKinds (text bytes ∷ steps) (Some d ∷ ds) = SameKinds steps ds
-SameKinds (finish root ∷ steps) (None ∷ ds) = SameKinds steps ds
+SameKinds (step ∷ steps) (d ∷ ds) = SameKind step d × SameKinds steps ds
 SameKinds [] (d ∷ ds) = ⊥
-SameKinds (text bytes ∷ steps) [] = ⊥
-SameKinds (text bytes ∷ steps) (None ∷ ds) = ⊥
-SameKinds (finish root ∷ steps) [] = ⊥
-SameKinds (finish root ∷ steps) (Some d ∷ ds) = ⊥
+SameKinds (step ∷ steps) [] = ⊥
 
 -- A value stands in what is written, and every length that keeps the promises aligns it.
 pub record ValueKept (all : List Command) (written : Written) (place : ℕ × ℕ) : Type 0 where
@@ -47,58 +50,85 @@ pub record ValueKept (all : List Command) (written : Written) (place : ℕ × �
   pub kept : (L : ℕ) → Keep written.promises L → Keeps L (promise_of place.1 4)
 
 pub record Kept (all done : List Command) (state : State) : Type 0 where
-  pub kinds : SameKinds done state.distances
+  pub numbered : state.first + length state.distances ≡ length done
+  pub first_is : first_after_clear 0 0 done ≡ state.first
+  pub kinds : SameKinds (drop state.first done) state.distances
   pub powers : AllByRecursion (λ (p : Promise). IsPowerOfTwo p.alignment) state.written.promises
   pub reached : AllByRecursion (λ (p : Promise). p.distance ≤ length state.written.bytes) state.written.promises
-  pub values : AllByRecursion (ValueKept all state.written) (places_from 0 state.distances)
+  pub values : AllByRecursion (ValueKept all state.written) (places_from state.first state.distances)
   pub finished : AllByRecursion (FinishHolds all) state.finished
 
 -- every text of the steps is UTF-8
 abbrev pub AllUtf8 : List Command → Type 0
 AllUtf8 all = (i : ℕ) (bytes : List ℕ) → slice_get all i ≡ Some (text bytes) → IsUtf8 bytes
 
-pub kinds_length : (steps : List Command) (ds : List (Option ℕ)) → SameKinds steps ds → length ds ≡ length steps
-kinds_length [] [] h = refl
-kinds_length (text bytes ∷ steps) (Some d ∷ ds) h = let e = kinds_length steps ds h in omega (arith, e)
-kinds_length (finish root ∷ steps) (None ∷ ds) h = let e = kinds_length steps ds h in omega (arith, e)
-kinds_length [] (d ∷ ds) h = absurd h
-kinds_length (text bytes ∷ steps) [] h = absurd h
-kinds_length (text bytes ∷ steps) (None ∷ ds) h = absurd h
-kinds_length (finish root ∷ steps) [] h = absurd h
-kinds_length (finish root ∷ steps) (Some d ∷ ds) h = absurd h
+kinds_push : (steps : List Command) (ds : List (Option ℕ)) (step : Command) (d : Option ℕ) → SameKind step d → SameKinds steps ds → SameKinds (steps ++ step ∷ []) (ds ++ d ∷ [])
+kinds_push [] [] step d new h = (new, tt)
+kinds_push (x ∷ steps) (e ∷ ds) step d new h = (h.0, kinds_push steps ds step d new h.1)
+kinds_push [] (e ∷ ds) step d new h = absurd h
+kinds_push (x ∷ steps) [] step d new h = absurd h
 
-kinds_push_text : (steps : List Command) (ds : List (Option ℕ)) (bytes : List ℕ) (d : ℕ) → SameKinds steps ds → SameKinds (steps ++ text bytes ∷ []) (ds ++ Some d ∷ [])
-kinds_push_text [] [] bytes d h = tt
-kinds_push_text (text b ∷ steps) (Some e ∷ ds) bytes d h = kinds_push_text steps ds bytes d h
-kinds_push_text (finish root ∷ steps) (None ∷ ds) bytes d h = kinds_push_text steps ds bytes d h
-kinds_push_text [] (e ∷ ds) bytes d h = absurd h
-kinds_push_text (text b ∷ steps) [] bytes d h = absurd h
-kinds_push_text (text b ∷ steps) (None ∷ ds) bytes d h = absurd h
-kinds_push_text (finish root ∷ steps) [] bytes d h = absurd h
-kinds_push_text (finish root ∷ steps) (Some e ∷ ds) bytes d h = absurd h
+fault_of_kind : (step : Command) (d : Option ℕ) → SameKind step d → distance_fault (Some d) ≡ fault_of (Some step)
+fault_of_kind (text bytes) (Some d) h = refl
+fault_of_kind (text bytes) None h = absurd h
+fault_of_kind (finish root identifier) (Some d) h = absurd h
+fault_of_kind (finish root identifier) None h = refl
+fault_of_kind clear d h = absurd h
 
-kinds_push_finish : (steps : List Command) (ds : List (Option ℕ)) (root : ℕ) → SameKinds steps ds → SameKinds (steps ++ finish root ∷ []) (ds ++ None ∷ [])
-kinds_push_finish [] [] root h = tt
-kinds_push_finish (text b ∷ steps) (Some e ∷ ds) root h = kinds_push_finish steps ds root h
-kinds_push_finish (finish r ∷ steps) (None ∷ ds) root h = kinds_push_finish steps ds root h
-kinds_push_finish [] (e ∷ ds) root h = absurd h
-kinds_push_finish (text b ∷ steps) [] root h = absurd h
-kinds_push_finish (text b ∷ steps) (None ∷ ds) root h = absurd h
-kinds_push_finish (finish r ∷ steps) [] root h = absurd h
-kinds_push_finish (finish r ∷ steps) (Some e ∷ ds) root h = absurd h
+same_fault : (steps : List Command) (ds : List (Option ℕ)) (i : ℕ) → SameKinds steps ds → distance_fault (slice_get ds i) ≡ fault_of (slice_get steps i)
+same_fault [] [] i h = refl
+same_fault (x ∷ steps) (e ∷ ds) zero h = fault_of_kind x e h.0
+same_fault (x ∷ steps) (e ∷ ds) (suc i) h = same_fault steps ds i h.1
+same_fault [] (e ∷ ds) i h = absurd h
+same_fault (x ∷ steps) [] i h = absurd h
+
+get_dropped : (n k : ℕ) (steps : List Command) → slice_get (drop n steps) k ≡ slice_get steps (n + k)
+get_dropped zero k steps = ap (slice_get steps) (let e : k ≡ 0 + k = omega arith in e)
+get_dropped (suc n) k [] = refl
+get_dropped (suc n) k (x ∷ steps) = get_dropped n k steps ∙ ap (slice_get (x ∷ steps)) (let e : suc (n + k) ≡ suc n + k = omega arith in e)
 
 -- what is wrong with a reference shows in the distances
-pub same_fault : (steps : List Command) (ds : List (Option ℕ)) (i : ℕ) → SameKinds steps ds → distance_fault (slice_get ds i) ≡ fault_of (slice_get steps i)
-same_fault [] [] i h = refl
-same_fault (text b ∷ steps) (Some e ∷ ds) zero h = refl
-same_fault (text b ∷ steps) (Some e ∷ ds) (suc i) h = same_fault steps ds i h
-same_fault (finish r ∷ steps) (None ∷ ds) zero h = refl
-same_fault (finish r ∷ steps) (None ∷ ds) (suc i) h = same_fault steps ds i h
-same_fault [] (e ∷ ds) i h = absurd h
-same_fault (text b ∷ steps) [] i h = absurd h
-same_fault (text b ∷ steps) (None ∷ ds) i h = absurd h
-same_fault (finish r ∷ steps) [] i h = absurd h
-same_fault (finish r ∷ steps) (Some e ∷ ds) i h = absurd h
+fault_from : (done : List Command) (first : ℕ) (ds : List (Option ℕ)) (root : ℕ) (earlier : Bool) → nat_lt root first ≡ earlier → SameKinds (drop first done) ds
+    → distance_fault (if earlier then None else slice_get ds (root - first)) ≡ fault_of (if earlier then None else slice_get done root)
+fault_from done first ds root true e h = refl
+fault_from done first ds root false e h =
+    let from : first ≤ root = grind (arith, nat_tests, e) in
+    same_fault (drop first done) ds (root - first) h ∙ ap fault_of (get_dropped first (root - first) done ∙ ap (slice_get done) (let f : first + (root - first) ≡ root = omega arith in f))
+
+pub named_fault : (all done : List Command) (state : State) → Kept all done state → (root : ℕ) → distance_fault (distance_at state.first state.distances root) ≡ fault_of (named_step done root)
+named_fault all done state h root =
+    fault_from done state.first state.distances root (nat_lt root state.first) refl h.kinds ∙ ap (λ first. fault_of (if nat_lt root first then None else slice_get done root)) (sym h.first_is)
+
+-- a value that is named stands behind the last clear
+pub named_value : (first : ℕ) (ds : List (Option ℕ)) (root d : ℕ) → distance_at first ds root ≡ Some (Some d) → slice_get ds (root - first) ≡ Some (Some d)
+named_value first ds root d h = by_test (nat_lt root first) h
+  where
+    by_test : (earlier : Bool) → (if earlier then None else slice_get ds (root - first)) ≡ Some (Some d) → slice_get ds (root - first) ≡ Some (Some d)
+    by_test true e = (cc)
+    by_test false e = e
+
+drop_push : (n : ℕ) (steps : List Command) (step : Command) → n ≤ length steps → drop n (steps ++ step ∷ []) ≡ drop n steps ++ step ∷ []
+drop_push zero steps step h = refl
+drop_push (suc n) [] step h = absurd (omega arith)
+drop_push (suc n) (x ∷ steps) step h = drop_push n steps step (omega arith)
+
+first_push_text : (first n : ℕ) (done : List Command) (bytes : List ℕ) → first_after_clear first n (done ++ text bytes ∷ []) ≡ first_after_clear first n done
+first_push_text first n [] bytes = refl
+first_push_text first n (text b ∷ done) bytes = first_push_text first (n + 1) done bytes
+first_push_text first n (finish r i ∷ done) bytes = first_push_text first (n + 1) done bytes
+first_push_text first n (clear ∷ done) bytes = first_push_text (n + 1) (n + 1) done bytes
+
+first_push_finish : (first n : ℕ) (done : List Command) (root : ℕ) (identifier : Option (List ℕ)) → first_after_clear first n (done ++ finish root identifier ∷ []) ≡ first_after_clear first n done
+first_push_finish first n [] root identifier = refl
+first_push_finish first n (text b ∷ done) root identifier = first_push_finish first (n + 1) done root identifier
+first_push_finish first n (finish r i ∷ done) root identifier = first_push_finish first (n + 1) done root identifier
+first_push_finish first n (clear ∷ done) root identifier = first_push_finish (n + 1) (n + 1) done root identifier
+
+first_push_clear : (first n : ℕ) (done : List Command) → first_after_clear first n (done ++ clear ∷ []) ≡ n + length done + 1
+first_push_clear first n [] = omega arith
+first_push_clear first n (text b ∷ done) = first_push_clear first (n + 1) done ∙ (let e : n + 1 + length done + 1 ≡ n + suc (length done) + 1 = omega arith in e)
+first_push_clear first n (finish r i ∷ done) = first_push_clear first (n + 1) done ∙ (let e : n + 1 + length done + 1 ≡ n + suc (length done) + 1 = omega arith in e)
+first_push_clear first n (clear ∷ done) = first_push_clear (n + 1) (n + 1) done ∙ (let e : n + 1 + length done + 1 ≡ n + suc (length done) + 1 = omega arith in e)
 
 -- one part placed
 module _ (part : Part) (before after : Written) (placed : Placed part before after) (sized : length (part.bytes_at placed.place) ≡ part.size) where
@@ -159,35 +189,48 @@ text_size : (bytes : List ℕ) → length (to_le_bytes w32 (length bytes) ++ byt
 text_size bytes = simp length-append (omega arith)
 
 -- a text that is placed is kept
-text_kept : (all done : List Command) (bytes : List ℕ) (before after : State) → slice_get all (length done) ≡ Some (text bytes) → IsUtf8 bytes
-    → (placed : Placed (text_part bytes) before.written after.written) → Adds before (text bytes) placed.place after → Kept all done before → Kept all (done ++ text bytes ∷ []) after
-text_kept all done bytes before after step utf8 placed adds h =
-    let at_end : length after.written.bytes ≡ placed.place = length_after (text_part bytes) before.written after.written placed (text_size bytes) in
-    let fits : placed.place ≤ 2147483647 = placed.fits in
-    let room : length before.written.bytes + (length bytes + 5) ≤ length after.written.bytes = grown (text_part bytes) before.written after.written placed (text_size bytes) in
-    let small : length bytes < 2 ^ 32 = omega arith in
-    let front_at : 0 ≡ length after.written.bytes - placed.place = omega arith in
-    let number : length before.distances ≡ 0 + length before.distances = omega arith in
-    let new : ValueKept all after.written (length before.distances, placed.place) = record {
-      content = bytes;
-      step = subst (λ n. slice_get all n ≡ Some (text bytes)) (sym (kinds_length done before.distances h.kinds)) step;
-      utf8 = utf8;
-      inside = omega arith;
-      stands = subst (λ k. Stands after.written.bytes (at k) (value.text bytes)) front_at
-          (subst (λ B. Stands B (at 0) (value.text bytes)) (sym placed.bytes) (text_at_front bytes (replicate placed.padding 0) before.written.bytes small));
-      kept = λ L keep. (subst (λ ps. Keep ps L) placed.promises keep).0;
-    } in
-    record {
-      kinds = subst (λ ds. SameKinds (done ++ text bytes ∷ []) ds) (sym adds.0) (kinds_push_text done before.distances bytes placed.place h.kinds);
-      powers = powers_after (text_part bytes) before.written after.written placed (text_size bytes) h.powers (2, refl);
-      reached = reached_after (text_part bytes) before.written after.written placed (text_size bytes) h.reached;
-      values = subst (λ ds. AllByRecursion (ValueKept all after.written) (places_from 0 ds)) (sym adds.0)
-          (subst (λ ps. AllByRecursion (ValueKept all after.written) ps) (sym (places_push_some 0 before.distances placed.place))
-          (all_push (ValueKept all after.written) (places_from 0 before.distances) (0 + length before.distances, placed.place)
-          (values_move (text_part bytes) before.written after.written placed (text_size bytes) all (places_from 0 before.distances) h.values)
-          (subst (λ n. ValueKept all after.written (n, placed.place)) number new)));
-      finished = subst (λ fs. AllByRecursion (FinishHolds all) fs) (sym adds.1) h.finished;
-    }
+module _ (all done : List Command) (bytes : List ℕ) (before after : State) (there : slice_get all (length done) ≡ Some (text bytes)) (utf8 : IsUtf8 bytes)
+    (placed : Placed (text_part bytes) before.written after.written) (first : after.first ≡ before.first) (distances : after.distances ≡ before.distances ++ Some placed.place ∷ [])
+    (finished : after.finished ≡ before.finished ++ []) (h : Kept all done before) where
+  new_text : ValueKept all after.written (before.first + length before.distances, placed.place)
+  new_text =
+      let at_end : length after.written.bytes ≡ placed.place = length_after (text_part bytes) before.written after.written placed (text_size bytes) in
+      let fits : placed.place ≤ 2147483647 = placed.fits in
+      let room : length before.written.bytes + (length bytes + 5) ≤ length after.written.bytes = grown (text_part bytes) before.written after.written placed (text_size bytes) in
+      let small : length bytes < 2 ^ 32 = omega arith in
+      let front_at : 0 ≡ length after.written.bytes - placed.place = omega arith in
+      record {
+        content = bytes;
+        step = subst (λ n. slice_get all n ≡ Some (text bytes)) (sym h.numbered) there;
+        utf8 = utf8;
+        inside = omega arith;
+        stands = subst (λ k. Stands after.written.bytes (at k) (value.text bytes)) front_at
+            (subst (λ B. Stands B (at 0) (value.text bytes)) (sym placed.bytes) (text_at_front bytes (replicate placed.padding 0) before.written.bytes small));
+        kept = λ L keep. (subst (λ ps. Keep ps L) placed.promises keep).0;
+      }
+
+  all_texts : AllByRecursion (ValueKept all after.written) (places_from before.first (before.distances ++ Some placed.place ∷ []))
+  all_texts = subst (λ ps. AllByRecursion (ValueKept all after.written) ps) (sym (places_push_some before.first before.distances placed.place))
+      (all_push (ValueKept all after.written) (places_from before.first before.distances) (before.first + length before.distances, placed.place)
+      (values_move (text_part bytes) before.written after.written placed (text_size bytes) all (places_from before.first before.distances) h.values) new_text)
+
+  pub text_kept : Kept all (done ++ text bytes ∷ []) after
+  text_kept =
+      let numbered : before.first + length before.distances ≡ length done = h.numbered in
+      let within : before.first ≤ length done = omega arith in
+      record {
+        numbered = ap (λ n. n + length after.distances) first ∙ ap (λ ds. before.first + length ds) distances
+            ∙ simp length-append (let e : before.first + (length before.distances + 1) ≡ length done + 1 = omega arith in e);
+        first_is = first_push_text 0 0 done bytes ∙ h.first_is ∙ sym first;
+        kinds = subst (λ n. SameKinds (drop n (done ++ text bytes ∷ [])) after.distances) (sym first) (subst (λ ds. SameKinds (drop before.first (done ++ text bytes ∷ [])) ds) (sym distances)
+            (subst (λ steps. SameKinds steps (before.distances ++ Some placed.place ∷ [])) (sym (drop_push before.first done (text bytes) within))
+            (kinds_push (drop before.first done) before.distances (text bytes) (Some placed.place) tt h.kinds)));
+        powers = powers_after (text_part bytes) before.written after.written placed (text_size bytes) h.powers (2, refl);
+        reached = reached_after (text_part bytes) before.written after.written placed (text_size bytes) h.reached;
+        values = subst (λ n. AllByRecursion (ValueKept all after.written) (places_from n after.distances)) (sym first)
+            (subst (λ ds. AllByRecursion (ValueKept all after.written) (places_from before.first ds)) (sym distances) all_texts);
+        finished = subst (λ fs. AllByRecursion (FinishHolds all) fs) (sym (finished ∙ append-nil before.finished)) h.finished;
+      }
 
 greatest_power : (least : ℕ) (promises : List Promise) → IsPowerOfTwo least → AllByRecursion (λ (p : Promise). IsPowerOfTwo p.alignment) promises → IsPowerOfTwo (greatest_alignment least promises)
 greatest_power least [] power h = power
@@ -215,50 +258,95 @@ value_holds all written keep place v = record {
 }
 
 -- a finish that is placed holds
-finish_kept : (all done : List Command) (root distance : ℕ) (before after : State) → slice_get before.distances root ≡ Some (Some distance)
-    → (placed : Placed (finish_part distance None before.written.promises) before.written after.written) → Adds before (finish root) placed.place after → Kept all done before
-    → Kept all (done ++ finish root ∷ []) after
-finish_kept all done root distance before after found placed adds h =
-    let part : Part = finish_part distance None before.written.promises in
-    let sized : length (part.bytes_at placed.place) ≡ part.size = refl in
-    let at_end : length after.written.bytes ≡ placed.place = length_after part before.written after.written placed sized in
-    let fits : placed.place ≤ 2147483647 = placed.fits in
-    let longer : length before.written.bytes + part.size ≤ length after.written.bytes = grown part before.written after.written placed sized in
-    let power : IsPowerOfTwo part.alignment = greatest_power 4 before.written.promises (2, refl) h.powers in
-    let keep_all : Keep (promise_of (length before.written.bytes + placed.padding + part.size) part.alignment ∷ before.written.promises) (length before.written.bytes + placed.padding + part.size)
-    = keeps_all (length before.written.bytes) before.written.promises part.size part.alignment placed.padding h.powers h.reached power (greatest_rises before.written.promises) placed.is_least in
-    let keep_there : Keep (promise_of placed.place part.alignment ∷ before.written.promises) placed.place
-    = subst (λ n. Keep (promise_of n part.alignment ∷ before.written.promises) n) (sym placed.is_place) keep_all in
-    let keep : Keep after.written.promises (length after.written.bytes)
-    = subst (λ n. Keep after.written.promises n) (sym at_end) (subst (λ ps. Keep ps placed.place) (sym placed.promises) keep_there) in
-    let values : AllByRecursion (ValueKept all after.written) (places_from 0 before.distances)
-    = values_move part before.written after.written placed sized all (places_from 0 before.distances) h.values in
-    let root_kept : ValueKept all after.written (0 + root, distance) = all_at (ValueKept all after.written) 0 before.distances root distance values found in
-    let inside : distance ≤ length after.written.bytes = root_kept.inside in
-    let word : Num after.written.bytes 0 w32 ≡ Some (placed.place - distance)
-    = subst (λ B. Num B 0 w32 ≡ Some (placed.place - distance)) (sym placed.bytes)
-    (front_number (placed.place - distance) (([] ++ replicate placed.padding 0) ++ before.written.bytes) (omega arith)) in
-    let holds : FinishHolds all (record { bytes = after.written.bytes; places = places_from 0 before.distances }) = record {
-      values = all_weaker (ValueKept all after.written) (TextHolds all after.written.bytes) (value_holds all after.written keep) (places_from 0 before.distances) values;
-      root = ((0 + root, distance), listed 0 before.distances root distance found, (placed.place - distance, word, omega arith));
-    } in
+module _ (all done : List Command) (root distance : ℕ) (identifier : Option (List ℕ)) (before after : State) (found : distance_at before.first before.distances root ≡ Some (Some distance))
+    (placed : Placed (finish_part distance identifier before.written.promises) before.written after.written) (first : after.first ≡ before.first)
+    (distances : after.distances ≡ before.distances ++ None ∷ [])
+    (finished : after.finished ≡ before.finished ++ record { bytes = after.written.bytes; places = places_from before.first before.distances } ∷ []) (h : Kept all done before) where
+  abbrev part : Part
+  part = finish_part distance identifier before.written.promises
+
+  sized : length (part.bytes_at placed.place) ≡ part.size
+  sized = let e : 4 + length (identifier_bytes identifier) ≡ length (identifier_bytes identifier) + 4 = omega arith in simp length-append (omega arith)
+
+  at_end : length after.written.bytes ≡ placed.place
+  at_end = length_after part before.written after.written placed sized
+
+  power : IsPowerOfTwo part.alignment
+  power = greatest_power 4 before.written.promises (2, refl) h.powers
+
+  keep : Keep after.written.promises (length after.written.bytes)
+  keep =
+      let keep_all : Keep (promise_of (length before.written.bytes + placed.padding + part.size) part.alignment ∷ before.written.promises) (length before.written.bytes + placed.padding + part.size)
+      = keeps_all (length before.written.bytes) before.written.promises part.size part.alignment placed.padding h.powers h.reached power (greatest_rises before.written.promises) placed.is_least in
+      let keep_there : Keep (promise_of placed.place part.alignment ∷ before.written.promises) placed.place
+      = subst (λ n. Keep (promise_of n part.alignment ∷ before.written.promises) n) (sym placed.is_place) keep_all in
+      subst (λ n. Keep after.written.promises n) (sym at_end) (subst (λ ps. Keep ps placed.place) (sym placed.promises) keep_there)
+
+  values : AllByRecursion (ValueKept all after.written) (places_from before.first before.distances)
+  values = values_move part before.written after.written placed sized all (places_from before.first before.distances) h.values
+
+  found_at : slice_get before.distances (root - before.first) ≡ Some (Some distance)
+  found_at = named_value before.first before.distances root distance found
+
+  holds : FinishHolds all (record { bytes = after.written.bytes; places = places_from before.first before.distances })
+  holds =
+      let root_kept : ValueKept all after.written (before.first + (root - before.first), distance)
+      = all_at (ValueKept all after.written) before.first before.distances (root - before.first) distance values found_at in
+      let inside : distance ≤ length after.written.bytes = root_kept.inside in
+      let ended : length after.written.bytes ≡ placed.place = at_end in
+      let fits : placed.place ≤ 2147483647 = placed.fits in
+      let word : Num after.written.bytes 0 w32 ≡ Some (placed.place - distance)
+      = subst (λ B. Num B 0 w32 ≡ Some (placed.place - distance)) (sym placed.bytes)
+      (front_number (placed.place - distance) ((identifier_bytes identifier ++ replicate placed.padding 0) ++ before.written.bytes) (omega arith)) in
+      record {
+        values = all_weaker (ValueKept all after.written) (TextHolds all after.written.bytes) (value_holds all after.written keep) (places_from before.first before.distances) values;
+        root = ((before.first + (root - before.first), distance), listed before.first before.distances (root - before.first) distance found_at, (placed.place - distance, word, omega arith));
+      }
+
+  pub finish_kept : Kept all (done ++ finish root identifier ∷ []) after
+  finish_kept =
+      let numbered : before.first + length before.distances ≡ length done = h.numbered in
+      let within : before.first ≤ length done = omega arith in
+      record {
+        numbered = ap (λ n. n + length after.distances) first ∙ ap (λ ds. before.first + length ds) distances
+            ∙ simp length-append (let e : before.first + (length before.distances + 1) ≡ length done + 1 = omega arith in e);
+        first_is = first_push_finish 0 0 done root identifier ∙ h.first_is ∙ sym first;
+        kinds = subst (λ n. SameKinds (drop n (done ++ finish root identifier ∷ [])) after.distances) (sym first)
+            (subst (λ ds. SameKinds (drop before.first (done ++ finish root identifier ∷ [])) ds) (sym distances)
+            (subst (λ steps. SameKinds steps (before.distances ++ None ∷ [])) (sym (drop_push before.first done (finish root identifier) within))
+            (kinds_push (drop before.first done) before.distances (finish root identifier) None tt h.kinds)));
+        powers = powers_after part before.written after.written placed sized h.powers power;
+        reached = reached_after part before.written after.written placed sized h.reached;
+        values = subst (λ n. AllByRecursion (ValueKept all after.written) (places_from n after.distances)) (sym first)
+            (subst (λ ds. AllByRecursion (ValueKept all after.written) (places_from before.first ds)) (sym distances)
+            (subst (λ ps. AllByRecursion (ValueKept all after.written) ps) (sym (places_push_none before.first before.distances)) values));
+        finished = subst (λ fs. AllByRecursion (FinishHolds all) fs) (sym finished) (all_push (FinishHolds all) before.finished _ h.finished holds);
+      }
+
+-- a clear keeps what was given
+clear_kept : (all done : List Command) (before : State) → Kept all done before → Kept all (done ++ clear ∷ []) (cleared before)
+clear_kept all done before h =
+    let numbered : before.first + length before.distances ≡ length done = h.numbered in
+    let whole : before.first + length before.distances + 1 ≡ length (done ++ clear ∷ []) = simp length-append (let e : before.first + length before.distances + 1 ≡ length done + 1 = omega arith in e) in
     record {
-      kinds = subst (λ ds. SameKinds (done ++ finish root ∷ []) ds) (sym adds.0) (kinds_push_finish done before.distances root h.kinds);
-      powers = powers_after part before.written after.written placed sized h.powers power;
-      reached = reached_after part before.written after.written placed sized h.reached;
-      values = subst (λ ds. AllByRecursion (ValueKept all after.written) (places_from 0 ds)) (sym adds.0)
-          (subst (λ ps. AllByRecursion (ValueKept all after.written) ps) (sym (places_push_none 0 before.distances)) values);
-      finished = subst (λ fs. AllByRecursion (FinishHolds all) fs) (sym adds.1) (all_push (FinishHolds all) before.finished _ h.finished holds);
+      numbered = (let e : before.first + length before.distances + 1 + 0 ≡ before.first + length before.distances + 1 = omega arith in e) ∙ whole;
+      first_is = first_push_clear 0 0 done ∙ (let e : 0 + length done + 1 ≡ before.first + length before.distances + 1 = omega arith in e);
+      kinds = subst (λ n. SameKinds (drop n (done ++ clear ∷ [])) []) (sym whole) (subst (λ steps. SameKinds steps []) (sym (drop-length (done ++ clear ∷ []))) tt);
+      powers = tt;
+      reached = tt;
+      values = tt;
+      finished = h.finished;
     }
 
 step_kept : (all done : List Command) (step : Command) (before after : State) → slice_get all (length done) ≡ Some step → AllUtf8 all → Advances before step after → Kept all done before
     → Kept all (done ++ step ∷ []) after
-step_kept all done (text bytes) before after there utf8 advances h =
-    subst (λ (part : Part). (placed : Placed part before.written after.written) → Adds before (text bytes) placed.place after → Kept all (done ++ text bytes ∷ []) after) (sym advances.is_part)
-    (λ placed adds. text_kept all done bytes before after there (utf8 (length done) bytes there) placed adds h) advances.placed advances.adds
-step_kept all done (finish root) before after there utf8 advances h =
-    subst (λ (part : Part). (placed : Placed part before.written after.written) → Adds before (finish root) placed.place after → Kept all (done ++ finish root ∷ []) after) (sym advances.is_part.2)
-    (λ placed adds. finish_kept all done root advances.is_part.0 before after advances.is_part.1 placed adds h) advances.placed advances.adds
+step_kept all done (text bytes) before after there utf8 writes h =
+    subst (λ (part : Part). (placed : Placed part before.written after.written) → after.distances ≡ before.distances ++ Some placed.place ∷ [] → Kept all (done ++ text bytes ∷ []) after) (sym writes.is_part)
+    (λ placed distances. text_kept all done bytes before after there (utf8 (length done) bytes there) placed writes.first distances writes.finished h) writes.placed writes.distances
+step_kept all done (finish root identifier) before after there utf8 writes h =
+    subst (λ (part : Part). (placed : Placed part before.written after.written) → Kept all (done ++ finish root identifier ∷ []) after) (sym writes.is_part.2)
+    (λ placed. finish_kept all done root writes.is_part.0 identifier before after writes.is_part.1 placed writes.first writes.distances writes.finished h) writes.placed
+step_kept all done clear before after there utf8 is_clear h = subst (λ s. Kept all (done ++ clear ∷ []) s) (sym is_clear) (clear_kept all done before h)
 
 pub there_at : (done : List Command) (step : Command) (rest : List Command) → slice_get (done ++ step ∷ rest) (length done) ≡ Some step
 there_at [] step rest = refl
@@ -272,7 +360,7 @@ leads_kept all done (step ∷ rest) e utf8 before after leads h =
     (step_kept all done step before leads.0 there utf8 leads.1 h)
 
 nothing_kept : (all : List Command) → Kept all [] nothing_written
-nothing_kept all = record { kinds = tt; powers = tt; reached = tt; values = tt; finished = tt }
+nothing_kept all = record { numbered = refl; first_is = refl; kinds = tt; powers = tt; reached = tt; values = tt; finished = tt }
 
 -- what every run keeps
 pub run_kept : (steps : List Command) → AllUtf8 steps → (end : State) → LeadsTo nothing_written steps end → Kept steps steps end
@@ -280,4 +368,4 @@ run_kept steps utf8 end leads = leads_kept steps [] steps refl utf8 nothing_writ
 
 -- the values of a run lie in its bytes
 pub run_reached : (steps : List Command) → AllUtf8 steps → (end : State) → LeadsTo nothing_written steps end → (i d : ℕ) → slice_get end.distances i ≡ Some (Some d) → d ≤ length end.written.bytes
-run_reached steps utf8 end leads i d e = (all_at (ValueKept steps end.written) 0 end.distances i d (run_kept steps utf8 end leads).values e).inside
+run_reached steps utf8 end leads i d e = (all_at (ValueKept steps end.written) end.first end.distances i d (run_kept steps utf8 end leads).values e).inside

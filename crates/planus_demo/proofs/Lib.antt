@@ -2,11 +2,11 @@ pub mod Splitting
 pub mod Numbers
 pub mod Words
 pub mod ReadOn
-pub mod Stepping
-pub mod ReadingBack
 pub mod Lists
+pub mod ReadingBack
 pub mod Kept
 pub mod Walking
+pub mod Stepping
 pub mod Replayed
 pub mod Printing
 pub mod Named

@@ -1,10 +1,10 @@
 -- A replay's steps, as the definitions see them.
 use Rattle.std.proofs.Common.{◌≡◌, ℕ, suc, ◌+◌, ◌≤◌, ◌<◌, List, [], ◌∷◌, ◌++◌, length, take, drop, map, get_or, refl, sym, ap, ◌∙◌, subst, None, Ok, Err, drop-cons}
 use Rattle.std.specs.List.{AllByRecursion}
-use Rattle.std.proofs.lemmas.List.{take-append-drop, map-append, map_push, take_more, take_all, length-map}
+use Rattle.std.proofs.lemmas.List.{take-append-drop, map-append, map_push, take_more, take_all, length-map, length-take-le}
 use Rattle.planus_back.specs.Promises.{Promise}
 use Rattle.planus_write.specs.State.{StandsFor}
-use Rattle.planus_demo.specs.Script.{Command, text, finish}
+use Rattle.planus_demo.specs.Script.{Command, text, finish, clear}
 use Rattle.planus_demo.specs.Steps.{command_of_step}
 use Rattle.planus_demo.specs.Runs.{nothing_written, LeadsTo}
 use Rattle.planus_demo.specs.Replays.{first_bad, Replays, finish_given}
@@ -30,6 +30,11 @@ pub are_reached : (steps : List Step) (i : ℕ) (progress : Progress) → Reache
 are_reached steps i progress h step distance e =
     run_reached (first_steps steps i) (all_utf8 (take i steps)) (state_with progress h.run.0) h.run.2 step distance e
 
+pub number_is : (steps : List Step) (i : ℕ) (progress : Progress) → i ≤ length steps → Reaches steps i progress → progress.first + length progress.offsets.items ≡ i
+number_is steps i progress within h =
+    let kept = run_kept (first_steps steps i) (all_utf8 (take i steps)) (state_with progress h.run.0) h.run.2 in
+    ap (λ n. progress.first + n) (sym (length-map progress.offsets.items distance_of)) ∙ kept.numbered ∙ length-map (take i steps) command_of_step ∙ length-take-le i steps within
+
 module _ (steps : List Step) (i : ℕ) (item : Step) (inside : i < length steps) (there : item ≡ get_or steps i item) (progress : Progress) (h : Reaches steps i progress) where
   whole : map command_of_step steps ≡ first_steps steps i ++ command_of_step item ∷ map command_of_step (drop (suc i) steps)
   whole = ap (map command_of_step) (sym (take-append-drop i steps) ∙ ap (λ xs. take i steps ++ xs) (drop-cons steps i item inside ∙ ap (λ x. x ∷ drop (suc i) steps) (sym there)))
@@ -49,7 +54,7 @@ module _ (steps : List Step) (i : ℕ) (item : Step) (inside : i < length steps)
               (leads_on nothing_written (state_with progress h.run.0) (state_with after a.0) (first_steps steps i) (command_of_step item) h.run.2 a.2),
         );
         clean = ap first_bad next
-            ∙ still_clean (map command_of_step steps) (first_steps steps i) (command_of_step item) (map command_of_step (drop (suc i) steps)) whole (state_with progress h.run.0) (all_utf8 (take i steps)) h.run.2 h.clean a.2.part a.2.is_part;
+            ∙ still_clean (map command_of_step steps) (first_steps steps i) (command_of_step item) (map command_of_step (drop (suc i) steps)) whole (state_with progress h.run.0) (all_utf8 (take i steps)) h.run.2 h.clean (state_with after a.0) a.2;
       }
 
   stopped_at : (c : Command) → command_of_step item ≡ c → (error : ReplayError) → Stopped progress c error → Replays (map command_of_step steps) (Err error)
@@ -59,9 +64,10 @@ module _ (steps : List Step) (i : ℕ) (item : Step) (inside : i < length steps)
       too_large (map command_of_step steps) (first_steps steps i) c (map command_of_step (drop (suc i) steps)) (subst (λ x. map command_of_step steps ≡ first_steps steps i ++ x ∷ map command_of_step (drop (suc i) steps)) is whole)
       (state_with progress h.run.0) (all_utf8 (take i steps)) h.run.2 h.clean s.0 s.1 s.2
   stopped_at (text bytes) is (BadStep number why) stopped = absurd stopped
-  stopped_at (finish root) is (BadStep number why) stopped =
-      bad_step (map command_of_step steps) (first_steps steps i) (finish root) (map command_of_step (drop (suc i) steps)) (subst (λ x. map command_of_step steps ≡ first_steps steps i ++ x ∷ map command_of_step (drop (suc i) steps)) is whole)
-      (state_with progress h.run.0) (all_utf8 (take i steps)) h.run.2 h.clean root number why refl (stopped.0 ∙ sym (length-map progress.offsets.items distance_of)) stopped.1
+  stopped_at clear is (BadStep number why) stopped = absurd stopped
+  stopped_at (finish root identifier) is (BadStep number why) stopped =
+      bad_step (map command_of_step steps) (first_steps steps i) (finish root identifier) (map command_of_step (drop (suc i) steps)) (subst (λ x. map command_of_step steps ≡ first_steps steps i ++ x ∷ map command_of_step (drop (suc i) steps)) is whole)
+      (state_with progress h.run.0) (all_utf8 (take i steps)) h.run.2 h.clean root number identifier why refl (stopped.0 ∙ ap (λ n. progress.first + n) (sym (length-map progress.offsets.items distance_of))) stopped.1
 
   pub stops : (error : ReplayError) → Stopped progress (command_of_step item) error → Replays (map command_of_step steps) (Err error)
   stops error stopped = stopped_at (command_of_step item) refl error stopped

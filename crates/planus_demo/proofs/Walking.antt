@@ -4,15 +4,15 @@ use Rattle.std.specs.Prelude.{slice_get}
 use Rattle.std.specs.Str.{IsUtf8}
 use Rattle.std.specs.String.{string_bytes}
 use Rattle.std.proofs.lemmas.Str.{IsUtf8-string_bytes}
-use Rattle.planus_demo.specs.Script.{Command, text, finish}
+use Rattle.planus_demo.specs.Script.{Command, text, finish, clear}
 use Rattle.planus_demo.specs.Steps.{command_of_step}
-use Rattle.planus_demo.specs.Runs.{State, Advances, LeadsTo, PartOf, nothing_written}
-use Rattle.planus_demo.specs.Replays.{first_bad, first_bad_after, first_bad_or, broken_check, fault_of, Replays}
+use Rattle.planus_demo.specs.Runs.{State, Advances, LeadsTo, PartOf, nothing_written, distance_at}
+use Rattle.planus_demo.specs.Replays.{first_bad, first_bad_after, first_bad_or, broken_check, fault_of, named_step, Replays}
 use Rattle.planus_demo.specs.declared.replay.ReplayError.TheVariants.{TooLarge, BadStep}
 use Rattle.planus_demo.specs.declared.replay.Why.{Why}
 use Rattle.planus_demo.specs.declared.step.Step.{Step}
-use Rattle.planus_demo.specs.declared.step.Step.TheVariants.{Text, Finish}
-use Rattle.planus_demo.proofs.Kept.{AllUtf8, Kept, run_kept, same_fault, kinds_length, there_at}
+use Rattle.planus_demo.specs.declared.step.Step.TheVariants.{Text, Finish, Clear}
+use Rattle.planus_demo.proofs.Kept.{AllUtf8, Kept, run_kept, named_fault, there_at}
 use Rattle.std.proofs.Math.Seq.{take-append_seam}
 use Rattle.planus_back.specs.Parts.{Part, IsTooLarge}
 use Rattle.planus_demo.specs.Replaying.{distance_fault}
@@ -40,9 +40,11 @@ next_check earlier (first ∷ steps) step rest h =
 pub all_utf8 : (steps : List Step) → AllUtf8 (map command_of_step steps)
 all_utf8 [] i bytes e = (cc)
 all_utf8 (Text words ∷ steps) zero bytes e = let same : string_bytes words ≡ bytes = cc in subst IsUtf8 same (IsUtf8-string_bytes words)
-all_utf8 (Finish root ∷ steps) zero bytes e = (cc)
+all_utf8 (Finish root id ∷ steps) zero bytes e = (cc)
+all_utf8 (Clear ∷ steps) zero bytes e = (cc)
 all_utf8 (Text words ∷ steps) (suc i) bytes e = all_utf8 steps i bytes e
-all_utf8 (Finish root ∷ steps) (suc i) bytes e = all_utf8 steps i bytes e
+all_utf8 (Finish root id ∷ steps) (suc i) bytes e = all_utf8 steps i bytes e
+all_utf8 (Clear ∷ steps) (suc i) bytes e = all_utf8 steps i bytes e
 
 -- The steps cs lead to a state, none of them bad; then comes the step c, and then the rest.
 module _ (all cs : List Command) (c : Command) (rest : List Command) (whole : all ≡ cs ++ c ∷ rest) (state : State) (utf8 : AllUtf8 cs) (run : LeadsTo nothing_written cs state)
@@ -56,15 +58,21 @@ module _ (all cs : List Command) (c : Command) (rest : List Command) (whole : al
   kept : Kept cs cs state
   kept = run_kept cs utf8 state run
 
-  faults : (root : ℕ) → distance_fault (slice_get state.distances root) ≡ fault_of (slice_get cs root)
-  faults root = same_fault cs state.distances root kept.kinds
+  faults : (root : ℕ) → distance_fault (distance_at state.first state.distances root) ≡ fault_of (named_step cs root)
+  faults root = named_fault cs cs state kept root
 
-  no_fault : (step : Command) (part : Part) → PartOf state step part → broken_check cs step ≡ None
-  no_fault (text bytes) part h = refl
-  no_fault (finish root) part h = sym (faults root) ∙ ap distance_fault h.1
+  no_fault : (step : Command) (after : State) → Advances state step after → broken_check cs step ≡ None
+  no_fault (text bytes) after h = refl
+  no_fault (finish root identifier) after h = sym (faults root) ∙ ap distance_fault h.is_part.1
+  no_fault clear after h = refl
 
-  pub still_clean : (part : Part) → PartOf state c part → first_bad (cs ++ c ∷ []) ≡ None
-  still_clean part h = next_check [] cs c [] clean ∙ ap (λ check. first_bad_or (0 + length cs) check None) (no_fault c part h)
+  pub still_clean : (after : State) → Advances state c after → first_bad (cs ++ c ∷ []) ≡ None
+  still_clean after h = next_check [] cs c [] clean ∙ ap (λ check. first_bad_or (0 + length cs) check None) (no_fault c after h)
+
+  part_fault : (step : Command) (part : Part) → PartOf state step part → broken_check cs step ≡ None
+  part_fault (text bytes) part h = refl
+  part_fault (finish root identifier) part h = sym (faults root) ∙ ap distance_fault h.1
+  part_fault clear part h = refl
 
   up_to : take (length cs + 1) all ≡ cs ++ c ∷ []
   up_to = ap (take (length cs + 1)) (whole ∙ sym (append_assoc cs (c ∷ []) rest))
@@ -73,13 +81,14 @@ module _ (all cs : List Command) (c : Command) (rest : List Command) (whole : al
   pub too_large : (part : Part) → PartOf state c part → IsTooLarge part state.written → Replays all (Err TooLarge)
   too_large part is_part h = (
     length cs,
-    ap first_bad up_to ∙ still_clean part is_part,
+    ap first_bad up_to ∙ next_check [] cs c [] clean ∙ ap (λ check. first_bad_or (0 + length cs) check None) (part_fault c part is_part),
     record { step = c; there = there; before = state; run = subst (λ xs. LeadsTo nothing_written xs state) (sym before_is) run; part = part; is_part = is_part; too_large = h },
   )
 
-  pub bad_step : (root number : ℕ) (why : Why) → c ≡ finish root → number ≡ length state.distances → distance_fault (slice_get state.distances root) ≡ Some why → Replays all (Err (BadStep number why))
-  bad_step root number why is_finish at_end fault =
-      let same : number ≡ length cs = at_end ∙ kinds_length cs state.distances kept.kinds in
+  pub bad_step : (root number : ℕ) (identifier : Option (List ℕ)) (why : Why) → c ≡ finish root identifier → number ≡ state.first + length state.distances
+      → distance_fault (distance_at state.first state.distances root) ≡ Some why → Replays all (Err (BadStep number why))
+  bad_step root number identifier why is_finish at_end fault =
+      let same : number ≡ length cs = at_end ∙ kept.numbered in
       let check : broken_check cs c ≡ Some why = ap (broken_check cs) is_finish ∙ sym (faults root) ∙ fault in (
         ap first_bad whole ∙ next_check [] cs c rest clean ∙ ap (λ o. first_bad_or (0 + length cs) o (first_bad_after ([] ++ (cs ++ c ∷ [])) rest)) check
             ∙ ap (λ n. Some (n, why)) (let e : 0 + length cs ≡ number = omega arith in e),

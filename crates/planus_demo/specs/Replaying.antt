@@ -1,12 +1,12 @@
 -- A replay on its way, as the definitions see it.
-use Rattle.std.specs.Prelude.{◌≡◌, ℕ, ◌≤◌, List, map, length, slice_get, Option, Some, None, Result, Ok, Err, ⊤}
+use Rattle.std.specs.Prelude.{◌≡◌, ℕ, ◌+◌, ◌≤◌, List, map, length, slice_get, Option, Some, None, Result, Ok, Err, ⊤}
 use Rattle.std.specs.Option.{option_map}
 use Rattle.planus_back.specs.Promises.{Promise}
 use Rattle.planus_back.specs.Parts.{Part, IsTooLarge}
 use Rattle.planus_write.specs.State.{StandsFor, written_with}
 use Rattle.planus_write.specs.declared.offset.Offset.{Offset}
-use Rattle.planus_demo.specs.Script.{Command, text, finish}
-use Rattle.planus_demo.specs.Runs.{State, PartOf, Advances}
+use Rattle.planus_demo.specs.Script.{Command, text, finish, clear}
+use Rattle.planus_demo.specs.Runs.{State, PartOf, Advances, distance_at}
 use Rattle.planus_demo.specs.Replays.{finish_given}
 use Rattle.planus_demo.specs.declared.replay.Why.{Why}
 use Rattle.planus_demo.specs.declared.replay.Why.TheVariants.{NoSuchStep, WrongKind}
@@ -21,6 +21,7 @@ distance_of offset = option_map (λ o. o.distance) offset
 abbrev pub state_with : Progress → List Promise → State
 state_with replay promises = record {
   written = written_with replay.builder promises;
+  first = replay.first;
   distances = map distance_of replay.offsets.items;
   finished = map finish_given replay.finished.items;
 }
@@ -32,16 +33,18 @@ distance_fault (Some None) = Some WrongKind
 distance_fault (Some (Some distance)) = None
 
 -- the value of an earlier step, or what is wrong with naming it
-abbrev pub FindsValue : List (Option ℕ) → ℕ → Result (Offset (Unit {0})) Why → Type 0
-FindsValue distances step (Ok offset) = slice_get distances step ≡ Some (Some offset.distance)
-FindsValue distances step (Err why) = distance_fault (slice_get distances step) ≡ Some why
+abbrev pub FindsValue : ℕ → List (Option ℕ) → ℕ → Result (Offset (Unit {0})) Why → Type 0
+FindsValue first distances step (Ok offset) = distance_at first distances step ≡ Some (Some offset.distance)
+FindsValue first distances step (Err why) = distance_fault (distance_at first distances step) ≡ Some why
 
 -- why a step was not taken
 abbrev pub Stopped : Progress → Command → ReplayError → Type 0
 Stopped old step OutOfMemory = ⊤
 Stopped old step TooLarge = (promises : List Promise) → StandsFor old.builder promises → (part : Part) × PartOf (state_with old promises) step part × IsTooLarge part (written_with old.builder promises)
 Stopped old (text bytes) (BadStep number why) = ⊥
-Stopped old (finish root) (BadStep number why) = (number ≡ length old.offsets.items) × (distance_fault (slice_get (map distance_of old.offsets.items) root) ≡ Some why)
+Stopped old clear (BadStep number why) = ⊥
+Stopped old (finish root identifier) (BadStep number why) =
+    (number ≡ old.first + length old.offsets.items) × (distance_fault (distance_at old.first (map distance_of old.offsets.items) root) ≡ Some why)
 
 -- One step was taken, whatever the promises before, or was not.
 abbrev pub Advanced : Progress → Command → Result (Unit {0}) ReplayError → Progress → Type 0
@@ -49,6 +52,6 @@ Advanced old step (Ok done) new = (promises : List Promise) → StandsFor old.bu
     (after : List Promise) × StandsFor new.builder after × Advances (state_with old promises) step (state_with new after)
 Advanced old step (Err error) new = Stopped old step error
 
--- every value so far lies in the builder
+-- every value since the last clear lies in the builder
 abbrev pub AreReached : Progress → Type 0
 AreReached replay = (step distance : ℕ) → slice_get (map distance_of replay.offsets.items) step ≡ Some (Some distance) → distance ≤ length replay.builder.bytes

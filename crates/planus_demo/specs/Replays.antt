@@ -1,8 +1,8 @@
 -- What a replay of steps answers.
-use Rattle.std.specs.Prelude.{◌≡◌, ℕ, ◌+◌, List, [], ◌∷◌, ◌++◌, length, take, slice_get, map, Option, Some, None, Result, Ok, Err, ⊤}
+use Rattle.std.specs.Prelude.{◌≡◌, ℕ, ◌+◌, List, [], ◌∷◌, ◌++◌, length, take, slice_get, map, nat_lt, if◌then◌else◌, Option, Some, None, Result, Ok, Err, ⊤}
 use Rattle.std.specs.Prelude.{Vec}
 use Rattle.std.specs.declared.alloc.Global.{Global}
-use Rattle.planus_demo.specs.Script.{Command, text, finish}
+use Rattle.planus_demo.specs.Script.{Command, text, finish, clear}
 use Rattle.planus_demo.specs.Runs.{Finish, State, nothing_written, LeadsTo, Runs, ComesToTooLarge}
 use Rattle.planus_demo.specs.declared.replay.Why.{Why}
 use Rattle.planus_demo.specs.declared.replay.Why.TheVariants.{NoSuchStep, WrongKind}
@@ -13,16 +13,29 @@ use Rattle.planus_write.specs.declared.errors.BuildError.{BuildError}
 use Rattle.planus_write.specs.declared.errors.BuildError.TheVariants as build
 use Rattle.planus_demo.specs.declared.replay.StepPlace.{StepPlace}
 
--- what is wrong with naming, as a value, the step that stands there
+-- the number of the first step behind the last clear, in steps that are numbered from n on, where it was `first` before them
+abbrev pub first_after_clear : ℕ → ℕ → List Command → ℕ
+first_after_clear first n [] = first
+first_after_clear first n (text bytes ∷ steps) = first_after_clear first (n + 1) steps
+first_after_clear first n (finish root identifier ∷ steps) = first_after_clear first (n + 1) steps
+first_after_clear first n (clear ∷ steps) = first_after_clear (n + 1) (n + 1) steps
+
+-- the step that a number names: an earlier one, behind the last clear
+abbrev pub named_step : List Command → ℕ → Option Command
+named_step earlier number = if nat_lt number (first_after_clear 0 0 earlier) then None else slice_get earlier number
+
+-- what is wrong with naming it as a value
 abbrev pub fault_of : Option Command → Option Why
 fault_of None = Some NoSuchStep
 fault_of (Some (text bytes)) = None
-fault_of (Some (finish root)) = Some WrongKind
+fault_of (Some (finish root identifier)) = Some WrongKind
+fault_of (Some clear) = Some WrongKind
 
--- the first broken check of a step, by the steps before it: a root is an earlier step, and a value
+-- the first broken check of a step, by the steps before it: a root is an earlier step behind the last clear, and a value
 abbrev pub broken_check : List Command → Command → Option Why
 broken_check earlier (text bytes) = None
-broken_check earlier (finish root) = fault_of (slice_get earlier root)
+broken_check earlier (finish root identifier) = fault_of (named_step earlier root)
+broken_check earlier clear = None
 
 abbrev pub first_bad_or : ℕ → Option Why → Option (ℕ × Why) → Option (ℕ × Why)
 first_bad_or n (Some why) later = Some (n, why)

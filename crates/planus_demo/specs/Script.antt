@@ -2,15 +2,17 @@
 use Rattle.std.specs.Prelude.{ℕ, ◌+◌, ◌^◌, ◌==◌, ◌&&◌, nat_le, nat_lt, Bool, true, List, [], ◌∷◌, length, Option, Some, None, Result, Ok, Err, if◌then◌else◌, codes}
 use Rattle.std.specs.List.{slice_split, after_first, list_all}
 use Rattle.std.specs.Char.{is_ascii_digit}
+use Rattle.std.specs.Int.{is_in_range}
 use Rattle.std.specs.Str.{is_utf8, bytes_eq}
 use Rattle.std.specs.Str.Parse.{digits_value}
 use Rattle.planus_demo.specs.declared.script.ReadFault.{ReadFault}
-use Rattle.planus_demo.specs.declared.script.ReadFault.TheVariants.{NotUtf8, UnknownCommand, BadNumber}
+use Rattle.planus_demo.specs.declared.script.ReadFault.TheVariants.{NotUtf8, UnknownCommand, BadNumber, BadIdentifier}
 
--- a step of a script: a text with its bytes, or a finish with the number of its root's step
+-- a step of a script: a text with its bytes; a finish with the number of its root's step, and a file identifier, if there is one; a clear
 pub data Command : Type 0 where
   text : List ℕ → Command
-  finish : ℕ → Command
+  finish : ℕ → Option (List ℕ) → Command
+  clear : Command
 
 -- the lines of an input, which line feeds separate
 abbrev pub lines_of : List ℕ → List (List ℕ)
@@ -32,21 +34,45 @@ is_number word = nat_le 1 (length word) && (nat_le (length word) 20 && (list_all
 abbrev pub number_of : List ℕ → Result ℕ ReadFault
 number_of word = if is_number word then Ok (digits_value 10 word) else Err BadNumber
 
--- `finish I`
+-- an identifier is four bytes, each from `21` to `7e` hexadecimal
+abbrev pub is_identifier : List ℕ → Bool
+is_identifier word = length word == 4 && list_all (is_in_range 33 126) word
+
+abbrev pub identifier_of : List ℕ → Result (List ℕ) ReadFault
+identifier_of word = if is_identifier word then Ok word else Err BadIdentifier
+
+abbrev pub finish_at : Result ℕ ReadFault → Result Command ReadFault
+finish_at (Ok root) = Ok (finish root None)
+finish_at (Err fault) = Err fault
+
+abbrev pub finish_with : ℕ → Result (List ℕ) ReadFault → Result Command ReadFault
+finish_with root (Ok identifier) = Ok (finish root (Some identifier))
+finish_with root (Err fault) = Err fault
+
+-- the number first, and then the identifier
+abbrev pub identified_at : Result ℕ ReadFault → Result (List ℕ) ReadFault → Result Command ReadFault
+identified_at (Ok root) identifier = finish_with root identifier
+identified_at (Err fault) identifier = Err fault
+
+-- `finish I` or `finish I ABCD`
 abbrev pub finish_of : List (List ℕ) → Result Command ReadFault
 finish_of [] = Err UnknownCommand
-finish_of (root ∷ []) = finish_at (number_of root) where
-  finish_at : Result ℕ ReadFault → Result Command ReadFault
-  finish_at (Ok n) = Ok (finish n)
-  finish_at (Err fault) = Err fault
-finish_of (root ∷ more ∷ words) = Err UnknownCommand
+finish_of (root ∷ []) = finish_at (number_of root)
+finish_of (root ∷ identifier ∷ []) = identified_at (number_of root) (identifier_of identifier)
+finish_of (root ∷ identifier ∷ more ∷ words) = Err UnknownCommand
+
+-- `clear`
+abbrev pub clear_of : List (List ℕ) → Result Command ReadFault
+clear_of [] = Ok clear
+clear_of (word ∷ words) = Err UnknownCommand
 
 -- what the words of a line say, and the bytes after its first space
 abbrev pub command_of_words : List ℕ → List (List ℕ) → Result Command ReadFault
 command_of_words line [] = Err UnknownCommand
 command_of_words line (word ∷ words) =
     if bytes_eq word (codes "text") then Ok (text (after_first (λ b. b == 32) line))
-    else (if bytes_eq word (codes "finish") then finish_of words else Err UnknownCommand)
+    else (if bytes_eq word (codes "finish") then finish_of words
+    else (if bytes_eq word (codes "clear") then clear_of words else Err UnknownCommand))
 
 -- The step that a line is, or its first fault of reading.
 abbrev pub command_of : List ℕ → Result Command ReadFault

@@ -1,9 +1,9 @@
 -- The steps of the program, as the definitions see them, and what its readers of lines answer.
 use Rattle.std.specs.Prelude.{◌≡◌, ℕ, map, Result, Ok, Err, ⊤}
 use Rattle.std.specs.String.{string_bytes}
-use Rattle.planus_demo.specs.Script.{Command, text, finish, Read}
+use Rattle.planus_demo.specs.Script.{Command, text, finish, clear, Read}
 use Rattle.planus_demo.specs.declared.step.Step.{Step}
-use Rattle.planus_demo.specs.declared.step.Step.TheVariants.{Text, Finish}
+use Rattle.planus_demo.specs.declared.step.Step.TheVariants.{Text, Finish, Clear}
 use Rattle.planus_demo.specs.declared.script.ReadFault.{ReadFault}
 use Rattle.planus_demo.specs.declared.script.LineError.{LineError}
 use Rattle.planus_demo.specs.declared.script.LineError.TheVariants as line
@@ -13,7 +13,8 @@ use Rattle.planus_demo.specs.declared.script.Script.{Script}
 
 abbrev pub command_of_step : Step → Command
 command_of_step (Text words) = text (string_bytes words)
-command_of_step (Finish root) = finish root
+command_of_step (Finish root id) = finish root id
+command_of_step Clear = clear
 
 -- a script, without where it lies in memory
 abbrev pub read_of : Script → Read

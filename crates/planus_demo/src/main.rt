@@ -6,6 +6,8 @@ mod replay;
 mod run;
 mod script;
 mod step;
+#[cfg(test)]
+mod tests;
 
 use std::io;
 use std::process::ExitCode;

@@ -1,5 +1,5 @@
 //! Steps to finished bytes.
-ghost use Rattle.std.specs.Prelude.{◌≡◌, ℕ, List, [], map, IfOk, IfErr};
+ghost use Rattle.std.specs.Prelude.{◌≡◌, ℕ, List, [], ◌+◌, ◌<◌, ◌^◌, vec_len, length, map, IfOk, IfErr, Ok};
 ghost use Rattle.std.specs.List.{AllByRecursion};
 ghost use Rattle.planus_back.specs.Promises.{Promise};
 ghost use Rattle.planus_write.specs.State.{StandsFor};
@@ -18,7 +18,7 @@ use std::fmt;
 /// What is wrong with a step.
 #[derive(Clone, Copy, Debug, PartialEq, Eq)]
 pub enum Why {
-    /// No earlier step has the number.
+    /// No earlier step behind the last clear has the number.
     NoSuchStep,
     /// The step with the number is no value.
     WrongKind,
@@ -92,7 +92,7 @@ pub struct StepPlace {
     pub distance: u32,
 }
 
-/// What a finish gives: the bytes, and where each value so far stands in them.
+/// What a finish gives: the bytes, and where each value since the last clear stands in them.
 #[derive(Debug, Drop)]
 pub struct Finished {
     pub bytes: Vec<u8>,
@@ -103,23 +103,27 @@ pub struct Finished {
 #[derive(Drop)]
 struct Progress {
     builder: Builder,
-    // Of each step so far, the offset of its value, if it wrote one.
+    // The number of the first step behind the last clear.
+    first: usize,
+    // Of each step since, the offset of its value, if it wrote one.
     offsets: Vec<Option<Offset<()>>>,
     finished: Vec<Finished>,
 }
 
-/// The places of the values among these steps.
+/// The places of the values among these steps, which are numbered from `first` on.
 fn places_of(
     alloc: Global,
+    first: usize,
     offsets: &[Option<Offset<()>>],
 ) -> std::result::Result<Vec<StepPlace>, AllocError>
-    ensures { IfOk result (λ places. map place_of places.items ≡ places_from 0 (map distance_of offsets.now)) }
+    requires { first + length offsets.now < 2 ^ 64 }
+    ensures { IfOk result (λ places. map place_of places.items ≡ places_from first (map distance_of offsets.now)) }
 {
     let mut places = Vec::new(alloc);
-    for (step, offset) in offsets.iter().enumerate() {
+    for (index, offset) in offsets.iter().enumerate() {
         if let Some(offset) = offset {
             places.push(StepPlace {
-                step,
+                step: first + index,
                 distance: offset.distance(),
             })?;
         }
@@ -134,6 +138,7 @@ impl Progress {
     {
         Ok(Progress {
             builder: Builder::new(alloc)?,
+            first: 0,
             offsets: Vec::new(alloc),
             finished: Vec::new(alloc),
         })
@@ -141,9 +146,12 @@ impl Progress {
 
     /// The value of an earlier step, by its number.
     fn value(&self, step: usize) -> std::result::Result<Offset<()>, Why>
-        ensures { FindsValue (map distance_of self.now.offsets.items) step result }
+        ensures { FindsValue self.now.first (map distance_of self.now.offsets.items) step result }
     {
-        match self.offsets.get(step) {
+        if step < self.first {
+            return Err(Why::NoSuchStep);
+        }
+        match self.offsets.get(step - self.first) {
             None => Err(Why::NoSuchStep),
             Some(None) => Err(Why::WrongKind),
             Some(Some(offset)) => Ok(*offset),
@@ -161,29 +169,50 @@ impl Progress {
 
     /// Takes one step.
     fn advance(&mut self, alloc: Global, step: &Step) -> std::result::Result<(), ReplayError>
-        requires { AreReached self.old }
+        requires reached { AreReached self.old }
+        requires number { self.old.first + vec_len self.old.offsets + 1 < 2 ^ 64 }
         ensures { Advanced self.old (command_of_step step.now) result self.new }
     {
         match step {
             Step::Text(text) => self.text(text.as_str()),
-            Step::Finish { root } => self.finish(alloc, *root),
+            Step::Finish { root, id } => self.finish(alloc, *root, *id),
+            Step::Clear => {
+                self.clear();
+                Ok(())
+            }
         }
     }
 
+    /// Takes all away that was written.
+    fn clear(&mut self)
+        requires { self.old.first + vec_len self.old.offsets + 1 < 2 ^ 64 }
+        ensures { Advanced self.old command.clear (Ok tt) self.new }
+    {
+        self.builder.clear();
+        self.first += self.offsets.len() + 1;
+        self.offsets.clear();
+    }
+
     /// Finishes the value of an earlier step.
-    fn finish(&mut self, alloc: Global, root: usize) -> std::result::Result<(), ReplayError>
-        requires { AreReached self.old }
-        ensures { Advanced self.old (command.finish root) result self.new }
+    fn finish(
+        &mut self,
+        alloc: Global,
+        root: usize,
+        id: Option<[u8; 4]>,
+    ) -> std::result::Result<(), ReplayError>
+        requires reached { AreReached self.old }
+        requires number { self.old.first + vec_len self.old.offsets < 2 ^ 64 }
+        ensures { Advanced self.old (command.finish root id) result self.new }
     {
         let root = match self.value(root) {
             Ok(root) => root,
             Err(why) => {
-                let step = self.offsets.len();
+                let step = self.first + self.offsets.len();
                 return Err(ReplayError::BadStep { step, why });
             }
         };
-        let bytes = Vec::from_slice(alloc, self.builder.finish(root, None)?)?;
-        let places = places_of(alloc, self.offsets.as_slice())?;
+        let bytes = Vec::from_slice(alloc, self.builder.finish(root, id)?)?;
+        let places = places_of(alloc, self.first, self.offsets.as_slice())?;
         self.finished.push(Finished { bytes, places })?;
         self.offsets.push(None)?;
         Ok(())

@@ -1,7 +1,7 @@
 //! From a reader to a writer.
-ghost use Rattle.std.specs.Prelude.{◌≡◌, ℕ, List, take, Bool, true, false, IfOk, IfErr, IfSome, OnOk, Result, Ok, Err};
+ghost use Rattle.std.specs.Prelude.{◌≡◌, ◌+◌, ℕ, List, take, Bool, true, false, IfOk, IfErr, IfSome, OnOk, Result, Ok, Err};
 ghost use Rattle.std.specs.Io.KnownBytes.{Appends, Keeps};
-ghost use Rattle.planus_demo.specs.Printed.{PrintedOrOutOfMemory};
+ghost use Rattle.planus_demo.specs.Printed.{greatest_script};
 ghost use Rattle.planus_demo.specs.Runner.{WritesPrinted, LeavesUnwritten, IsReading, status_of};
 
 use crate::print::{GREATEST_SCRIPT, output_of};
@@ -33,7 +33,7 @@ impl From<AllocError> for RunError {
 
 /// The bytes of a script, or the first bytes of one that is too long.
 fn read_script<R: Read>(alloc: Global, reader: &mut R) -> std::result::Result<Vec<u8>, RunError>
-    ensures bytes { IfOk result (λ input. IfSome (R.remaining reader.old) (λ bytes. input.items ≡ take 1048577 bytes)) }
+    ensures bytes { IfOk result (λ input. IfSome (R.remaining reader.old) (λ bytes. input.items ≡ take (greatest_script + 1) bytes)) }
     ensures error { IfErr result (λ error. IsReading error) }
 {
     let mut input = Vec::new(alloc);

@@ -1,10 +1,11 @@
 //! The script: lines of text to steps.
 
 ghost use Rattle.std.specs.Prelude.{◌≡◌, ℕ, ◌+◌, ◌-◌, ◌<◌, ◌≤◌, ◌==◌, List, [], ◌∷◌, length, IsTrue, ◌↔◌, Result, Ok, Err, MatchOption, MatchResult, unwrap_or, OnOk, ◌++◌, map, IfSome};
-ghost use Rattle.std.specs.List.{slice_split, position, list_all, list_any, after_first};
+ghost use Rattle.std.specs.List.{slice_split, position, list_all, after_first};
 ghost use Rattle.std.specs.Option.{option_copied};
 ghost use Rattle.std.specs.Char.{is_ascii_digit};
-ghost use Rattle.planus_demo.specs.Script.{lines_of, words_of, words_behind, number_of, finish_of, command_of, command_of_words, script_of, is_skipped as is_skipped_lem};
+ghost use Rattle.std.specs.Int.{is_in_range};
+ghost use Rattle.planus_demo.specs.Script.{lines_of, words_of, words_behind, number_of, identifier_of, finish_of, finish_at, identified_at, clear_of, command_of, command_of_words, script_of, is_skipped as is_skipped_lem};
 ghost use Rattle.planus_demo.specs.Steps.{AnswersCommand, AnswersLine, AnswersScript, command_of_step, read_of};
 
 use crate::step::Step;
@@ -20,6 +21,8 @@ pub enum ReadFault {
     UnknownCommand,
     /// A word that should be a number isn't one to twenty decimal digits, or is too great.
     BadNumber,
+    /// A word that should be a file identifier isn't four bytes from `!` to `~`.
+    BadIdentifier,
 }
 
 impl fmt::Display for ReadFault {
@@ -33,6 +36,7 @@ impl fmt::Display for ReadFault {
             ReadFault::NotUtf8 => write!(f, "not utf-8"),
             ReadFault::UnknownCommand => write!(f, "unknown command"),
             ReadFault::BadNumber => write!(f, "bad number"),
+            ReadFault::BadIdentifier => write!(f, "bad identifier"),
         }
     }
 }
@@ -141,12 +145,6 @@ fn number(word: &str) -> std::result::Result<u64, ReadFault>
     }
 }
 
-fn has_space(words: &str) -> bool
-    ensures { result ≡ list_any (λ b. b == 32) words.now }
-{
-    words.bytes().any(|byte| byte == b' ')
-}
-
 /// The first word of a line, and what stands behind the space behind it, if there is one.
 fn first_word(line: &str) -> (&str, Option<&str>)
     ensures words { words_of line.now ≡ result.0.now ∷ words_behind (option_copied result.1) }
@@ -158,18 +156,77 @@ fn first_word(line: &str) -> (&str, Option<&str>)
     }
 }
 
-/// `finish I`, from what stands behind the first word.
+fn is_graphic(word: &str) -> bool
+    ensures { result ≡ list_all (is_in_range 33 126) word.now }
+{
+    word.bytes().all(|byte| (33..=126).contains(&byte))
+}
+
+/// A file identifier of four bytes.
+fn identifier(word: &str) -> std::result::Result<[u8; 4], ReadFault>
+    ensures { result ≡ identifier_of word.now }
+{
+    if word.len() != 4 || !is_graphic(word) {
+        return Err(ReadFault::BadIdentifier);
+    }
+    match word.as_bytes().first_chunk::<4>() {
+        Some(bytes) => Ok(*bytes),
+        None => Err(ReadFault::BadIdentifier),
+    }
+}
+
+/// `finish I` or `finish I ABCD`, from what stands behind the first word.
 fn finish(words: Option<&str>) -> std::result::Result<Step, ReadFault>
     ensures { AnswersCommand result (finish_of (words_behind (option_copied words.entry))) }
 {
+    let Some(words) = words else {
+        return Err(ReadFault::UnknownCommand);
+    };
+    let (root, words) = first_word(words);
+    let Some(words) = words else {
+        return finish_plain(root);
+    };
+    let (name, words) = first_word(words);
     match words {
-        Some(root) if !has_space(root) => match number(root) {
-            Ok(root) => Ok(Step::Finish {
+        None => finish_named(root, name),
+        Some(_) => Err(ReadFault::UnknownCommand),
+    }
+}
+
+fn finish_plain(root: &str) -> std::result::Result<Step, ReadFault>
+    ensures { AnswersCommand result (finish_at (number_of root.now)) }
+{
+    match number(root) {
+        Ok(root) => Ok(Step::Finish {
+            root: root as usize,
+            id: None,
+        }),
+        Err(fault) => Err(fault),
+    }
+}
+
+fn finish_named(root: &str, name: &str) -> std::result::Result<Step, ReadFault>
+    ensures { AnswersCommand result (identified_at (number_of root.now) (identifier_of name.now)) }
+{
+    match number(root) {
+        Ok(root) => match identifier(name) {
+            Ok(id) => Ok(Step::Finish {
                 root: root as usize,
+                id: Some(id),
             }),
             Err(fault) => Err(fault),
         },
-        _ => Err(ReadFault::UnknownCommand),
+        Err(fault) => Err(fault),
+    }
+}
+
+/// `clear`, from what stands behind the first word.
+fn clear(words: Option<&str>) -> std::result::Result<Step, ReadFault>
+    ensures { AnswersCommand result (clear_of (words_behind (option_copied words.entry))) }
+{
+    match words {
+        None => Ok(Step::Clear),
+        Some(_) => Err(ReadFault::UnknownCommand),
     }
 }
 
@@ -192,6 +249,8 @@ fn step_of_text(alloc: Global, line: &str) -> std::result::Result<Step, LineErro
         Ok(Step::Text(String::from_str(alloc, rest.unwrap_or(""))?))
     } else if word == "finish" {
         Ok(finish(rest)?)
+    } else if word == "clear" {
+        Ok(clear(rest)?)
     } else {
         Err(LineError::Fault(ReadFault::UnknownCommand))
     }

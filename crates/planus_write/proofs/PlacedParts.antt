@@ -2,7 +2,7 @@
 use Rattle.std.proofs.Common.{◌≡◌, ℕ, ◌+◌, ◌-◌, ◌≤◌, List, [], ◌∷◌, ◌++◌, length, replicate, refl, sym, ap, ◌∙◌, subst, arith, append_assoc, length-append}
 use Rattle.std.proofs.lemmas.List.{length-replicate}
 use Rattle.std.specs.Int.{w32, to_le_bytes}
-use Rattle.planus_write.specs.Parts.{text_part, finish_part, identifier_bytes}
+use Rattle.planus_write.specs.Parts.{text_part, finish_part, filled_part, identifier_bytes}
 use Rattle.planus_write.specs.Finishing.{Finishes}
 use Rattle.std.specs.Prelude.{Option}
 use Rattle.planus_back.specs.Promises.{Promise, Keep, greatest_alignment}
@@ -117,3 +117,10 @@ module _ (root : ℕ) (identifier : Option (List ℕ)) (word : List ℕ) (place 
         = subst (λ n. Keep (promise_of n alignment ∷ promises) n) (sym root_length) kept_there in
         subst (λ a. Keep (promise_of (length new.bytes) a ∷ promises) (length new.bytes)) (sym (greatest promises stands)) kept_here;
   }
+
+-- a filler's bytes, put into the room made for them
+pub filled_places : (leaves : ℕ → ℕ → List ℕ) (size alignment place : ℕ) (old mid new : State) → MakesRoom size alignment old place mid → length (leaves place size) ≡ size
+    → new ≡ record mid { bytes = leaves place size ++ mid.bytes; room = mid.room - size } → Places (λ promises. filled_part size alignment leaves) old new
+filled_places leaves size alignment place old mid new room count put =
+    places (λ promises. filled_part size alignment leaves) size alignment place old mid new (leaves place size) room
+    (record { size_is = λ promises stands. refl; alignment_is = λ promises stands. refl; bytes_are = λ promises stands. refl; length_is = count }) put

@@ -22,3 +22,7 @@ finish_part root identifier promises = record {
   alignment = greatest_alignment 4 promises;
   bytes_at = λ place. to_le_bytes w32 (place - root) ++ identifier_bytes identifier;
 }
+
+-- bytes that a filler leaves at the part's place
+abbrev pub filled_part : ℕ → ℕ → (ℕ → ℕ → List ℕ) → Part
+filled_part size alignment leaves = record { size = size; alignment = alignment; bytes_at = λ place. leaves place size }

@@ -38,10 +38,16 @@ pub record Refuses (part : List Promise → Part) (old : State) (error : BuildEr
   pub unchanged : new ≡ old
   pub cause : RefusedFor part old error
 
+-- The part was placed, or refused.
+abbrev pub WritesPart : (List Promise → Part) → State → Result (Unit {0}) BuildError → State → Type 0
+WritesPart part old (Ok done) new = Places part old new
+WritesPart part old (Err error) new = Refuses part old error new
+
 -- Padding was written, and there is room for a part of that size at the place that was answered.
 pub record MakesRoom (size alignment : ℕ) (old : State) (place : ℕ) (new : State) : Type 0 where
   pub padding : ℕ
   pub is_place : place ≡ length old.bytes + padding + size
+  pub below : padding < alignment
   pub fits : place ≤ greatest_place
   pub bytes : new.bytes ≡ replicate padding 0 ++ old.bytes
   pub size_fits : size ≤ new.room

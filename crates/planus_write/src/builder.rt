@@ -7,7 +7,7 @@ ghost use Rattle.planus_back.specs.Padding.{greatest_place, promise_of, IsLeastP
 use crate::errors::BuildError;
 use crate::offset::{Offset, Text};
 use crate::traits::WriteAsOffset;
-use planus_back::{BackVec, Promises};
+use planus_back::{BackVec, Fill, Promises};
 use std::alloc::Global;
 use std::marker::Model;
 
@@ -35,9 +35,9 @@ impl Model for Builder {
 
 impl Builder {
     ghost use Rattle.std.specs.Borrow.{sem};
-    ghost use Rattle.planus_write.specs.Parts.{text_part, finish_part};
+    ghost use Rattle.planus_write.specs.Parts.{text_part, finish_part, filled_part};
     ghost use Rattle.planus_write.specs.State.{State, StandsFor};
-    ghost use Rattle.planus_write.specs.Placing.{Reserves, Refuses};
+    ghost use Rattle.planus_write.specs.Placing.{Reserves, Refuses, WritesPart};
     ghost use Rattle.planus_write.specs.Preparing.{WritesText};
     ghost use Rattle.planus_write.specs.Finishing.{EndsAs, FinishLeaves, WritesRoot};
 
@@ -47,7 +47,17 @@ impl Builder {
         ensures stands { IfOk result (λ builder. StandsFor builder []) }
         ensures error { IfErr result (λ error. error ≡ BuildError.OutOfMemory) }
     {
-        let inner = BackVec::with_capacity(alloc, 0)?;
+        Builder::with_capacity(alloc, 0)
+    }
+
+    /// An empty builder with room for `capacity` bytes.
+    pub fn with_capacity(alloc: Global, capacity: usize) -> std::result::Result<Builder, BuildError>
+        ensures bytes { IfOk result (λ builder. builder.bytes ≡ []) }
+        ensures room { IfOk result (λ builder. capacity ≤ builder.room) }
+        ensures stands { IfOk result (λ builder. StandsFor builder []) }
+        ensures error { IfErr result (λ error. error ≡ BuildError.OutOfMemory) }
+    {
+        let inner = BackVec::with_capacity(alloc, capacity)?;
         Ok(Builder {
             inner,
             promises: Promises::new(),
@@ -86,6 +96,24 @@ impl Builder {
         self.inner.room()
     }
 
+    /// The offset of what was written last: it begins at the front of the bytes.
+    #[inline]
+    pub fn current_offset<T>(&self) -> Offset<T>
+        ensures { result.distance ≡ length self.now.bytes }
+    {
+        Offset::at(self.inner.len() as u32)
+    }
+
+    /// Takes all bytes and promises away. The memory is kept, so that there is room for as many bytes more.
+    pub fn clear(&mut self)
+        ensures bytes { self.new.bytes ≡ [] }
+        ensures room { self.new.room ≡ length self.old.bytes + self.old.room }
+        ensures stands { StandsFor self.new [] }
+    {
+        self.inner.clear();
+        self.promises = Promises::new();
+    }
+
     /// Room for a part of `size` bytes, and the padding behind it. Answers the part's place.
     fn prepare_write(&mut self, size: usize, mask: usize) -> std::result::Result<u32, BuildError>
         requires power { IsPowerOfTwo (mask + 1) }
@@ -122,6 +150,41 @@ impl Builder {
         self.put(bytes);
         self.put(&(bytes.len() as u32).to_le_bytes());
         Ok(Offset::at(place))
+    }
+
+    /// Writes a part of `size` bytes, aligned to `alignment_mask + 1`, whose bytes the filler writes over zeros. It is
+    /// handed the part's place: the distance in bytes from the end of the buffer to the part's first byte.
+    ///
+    /// The filler may be called with `size` bytes at every place from `len() + size` to `len() + size + alignment_mask`
+    /// that is at most 2147483647, and `alignment_mask + 1` is a power of two up to 2^30.
+    pub fn write_with<F: Fill>(
+        &mut self,
+        size: usize,
+        alignment_mask: usize,
+        filler: &F,
+    ) -> std::result::Result<(), BuildError>
+        requires power { IsPowerOfTwo (alignment_mask + 1) }
+        requires bound { alignment_mask + 1 ≤ 2 ^ 30 }
+        requires fits { (place : ℕ) → length self.old.bytes + size ≤ place → place ≤ length self.old.bytes + size + alignment_mask → place ≤ greatest_place → F.fits filler.now place size }
+        ensures { WritesPart (λ promises. filled_part size (alignment_mask + 1) (F.leaves filler.now)) self.old result self.new }
+    {
+        let place = self.prepare_write(size, alignment_mask)?;
+        self.put_filled(place, size, filler);
+        Ok(())
+    }
+
+    // The filler's bytes, for which there is room.
+    fn put_filled<F: Fill>(&mut self, place: u32, size: usize, filler: &F)
+        requires room { size ≤ self.old.room }
+        requires within { size + length self.old.bytes ≤ greatest_place }
+        requires fits { F.fits filler.now place size }
+        ensures put { self.new ≡ record self.old { bytes = F.leaves filler.now place size ++ self.old.bytes; room = self.old.room - size } }
+        ensures count { length (F.leaves filler.now place size) ≡ size }
+    {
+        match self.inner.extend_write(place, size, filler) {
+            Ok(()) => {}
+            Err(_) => unreachable!(),
+        }
     }
 
     /// Writes a text: one part of a count of 4 bytes, its bytes and a zero byte, aligned to 4 bytes.

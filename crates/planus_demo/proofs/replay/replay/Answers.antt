@@ -1,9 +1,10 @@
+use Rattle.std.proofs.Common.{arith}
 use Rattle.std.proofs.lemmas.Result.{err_from_is_err_and}
-use Rattle.planus_demo.proofs.Replayed.{are_reached, reaches_next, stops, all_hold}
+use Rattle.planus_demo.proofs.Replayed.{are_reached, number_is, reaches_next, stops, all_hold}
 use Rattle.planus_demo.proofs.replay.replay.Goals as goal
 
-pub advance-requires : goal.advance-requires
-advance-requires c = are_reached c.args.steps.now c.loop-step.step-index c.loop-step.replay c.loop-step.invariant
+pub advance-requires-clause-reached : goal.advance-requires-clause-reached
+advance-requires-clause-reached c = are_reached c.args.steps.now c.loop-step.step-index c.loop-step.replay c.loop-step.invariant
 
 pub returns-in_err-advance-clause-run : goal.returns-in_err-advance-clause-run
 returns-in_err-advance-clause-run c =
@@ -16,3 +17,6 @@ loop-step-preserved c =
 
 pub returns-clause-holds : goal.returns-clause-holds
 returns-clause-holds c = all_hold c.args.steps.now c.loop-step.step-index c.loop-step.replay c.loop-step-test.false c.loop-step.invariant
+
+pub advance-requires-clause-number : goal.advance-requires-clause-number
+advance-requires-clause-number c = let number = number_is c.args.steps.now c.loop-step.step-index c.loop-step.replay (omega arith) c.loop-step.invariant in let count = c.loop-step.replay.offsets.ok.0 in omega (arith, number, count)

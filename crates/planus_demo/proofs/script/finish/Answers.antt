@@ -1,17 +1,13 @@
-use Rattle.std.proofs.Common.{◌∙◌, refl}
-use Rattle.planus_demo.proofs.Words.{spaced, alone}
+use Rattle.std.proofs.Common.{◌∷◌, ◌∙◌, ap}
+use Rattle.std.specs.Option.{option_copied}
+use Rattle.planus_demo.specs.Script.{finish_of, words_behind}
+use Rattle.planus_demo.proofs.Words.{finish_followed}
 use Rattle.planus_demo.proofs.script.finish.Goals as goal
-use Rattle.planus_demo.proofs.script.finish.Goals.{in_default-via-in-Some+else-not-has_space, in_default-via-in_default}
 
-pub returns-in-Ok : goal.returns-in-Ok
-returns-in-Ok c = rw c.in-Some.is (alone c.in-Some.root.now (cc) ∙ rw (← c.in-Ok.ensures) refl)
-
-pub returns-in-Err : goal.returns-in-Err
-returns-in-Err c = rw c.in-Some.is (alone c.in-Some.root.now (cc) ∙ rw (← c.in-Err.ensures) refl)
-
-pub returns-in_default : goal.returns-in_default
-returns-in_default c =
-    elim c.in_default.branch [
-      | in_default-via-in-Some+else-not-has_space w ↦ rw w.in-Some.is (spaced w.in-Some.root.now (cc))
-      | in_default-via-in_default w ↦ rw w.in_default.is refl
-    ]
+pub returns-in-Some-words-2 : goal.returns-in-Some-words-2
+returns-in-Some-words-2 c =
+    let root = c.first_word.result.0.now in
+    let name = c.first_word-2.result.0.now in
+    rw c.in-Some.is (ap finish_of (c.first_word.ensures.words ∙ ap (λ o. root ∷ words_behind (option_copied o)) c.in-Some-words.is
+    ∙ ap (λ words. root ∷ words) (c.first_word-2.ensures.words ∙ ap (λ o. name ∷ words_behind (option_copied o)) c.in-Some-words-2.is))
+    ∙ finish_followed root name c.in-Some-words-2.field-0.now)

@@ -1,0 +1,13 @@
+use Rattle.std.proofs.Common.{◌∙◌, ap, map, refl}
+use Rattle.planus_demo.specs.Runs.{places_from}
+use Rattle.planus_demo.specs.Replaying.{distance_of}
+use Rattle.planus_demo.proofs.Stepping.{finish_advances, offset_finished}
+use Rattle.planus_demo.proofs.replay.Progress.finish.Goals as goal
+
+pub returns : goal.returns
+returns c =
+    let done = offset_finished c.in-Ok.root c.args.id c.args.self.now.builder c.finish.follows.lender-at-none c.finish.result c.in_ok-finish.field-0 c.in_ok-finish.was c.finish.follows.holds-at-none in
+    finish_advances c.args.root c.in-Ok.root.distance c.args.id c.args.self.now
+    (record { builder = c.finish.follows.lender-at-none; first = c.args.self.now.first; offsets = c.push-2.new.self; finished = c.push.new.self })
+    (record { bytes = c.in_ok-bytes.bytes; places = c.in_ok-places.places }) c.in-Ok.ensures done.0 refl c.in_ok-push-2.ensures.items c.in_ok-push.ensures.items (c.in_ok-bytes.ensures.items ∙ done.1)
+    (c.in_ok-places.ensures ∙ ap (λ offsets. places_from c.args.self.now.first (map distance_of offsets)) c.as_slice.ensures.value)

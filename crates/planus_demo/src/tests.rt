@@ -1,0 +1,208 @@
+//! Scripts as a user runs them, and readers and writers that fail.
+
+use crate::replay::replay;
+use crate::run::{RunError, run, status};
+use crate::step::Step;
+use planus_read::plain::text_stands_at;
+use std::io;
+use std::io::{Error, ErrorKind, Read, Write};
+use std::test::Fail;
+
+/// Scripts, what they print, and whether they are clean.
+const ROWS: [(&[u8], &[u8], bool); 28] = [
+    (b"", b"", true),
+    (
+        b"text Axe\nfinish 0\n",
+        b"04 00 00 00 03 00 00 00 41 78 65 00\n",
+        true,
+    ),
+    (
+        b"text Axe\nfinish 0",
+        b"04 00 00 00 03 00 00 00 41 78 65 00\n",
+        true,
+    ),
+    (
+        b"text Hi\ntext Hi\nfinish 1\n",
+        b"04 00 00 00 02 00 00 00 48 69 00 00 02 00 00 00 48 69 00\n",
+        true,
+    ),
+    (
+        b"text\nfinish 0 TEST\n",
+        b"08 00 00 00 54 45 53 54 00 00 00 00 00\n",
+        true,
+    ),
+    (b"text\nfinish 0\n", b"04 00 00 00 00 00 00 00 00\n", true),
+    (
+        b"text Axe\nfinish 0\nfinish 0\n",
+        b"04 00 00 00 03 00 00 00 41 78 65 00\n08 00 00 00 04 00 00 00 03 00 00 00 41 78 65 00\n",
+        true,
+    ),
+    (
+        b"text Hi\nclear\ntext Axe\nfinish 2\n",
+        b"04 00 00 00 03 00 00 00 41 78 65 00\n",
+        true,
+    ),
+    (
+        b"# a comment\n\ntext Axe\nfinish 0\n",
+        b"04 00 00 00 03 00 00 00 41 78 65 00\n",
+        true,
+    ),
+    (
+        b"text A\nfinish 0\nfinish 1\n",
+        b"line 3: wrong kind\n",
+        false,
+    ),
+    (b"text A\nfinish 1\n", b"line 2: no such step\n", false),
+    (
+        b"text A\nclear\nfinish 0\n",
+        b"line 3: no such step\n",
+        false,
+    ),
+    (b"clear\nfinish 0\n", b"line 2: no such step\n", false),
+    (b"finish 0\n", b"line 1: no such step\n", false),
+    (
+        b"\n# a comment\nfinish 0\n",
+        b"line 3: no such step\n",
+        false,
+    ),
+    (
+        b"text A\nfinish 18446744073709551615\n",
+        b"line 2: no such step\n",
+        false,
+    ),
+    (b"text A\ntexts\n", b"line 2: unknown command\n", false),
+    (b"text A\nfinish\n", b"line 2: unknown command\n", false),
+    (
+        b"text A\nfinish 0 TEST more\n",
+        b"line 2: unknown command\n",
+        false,
+    ),
+    (b"clear now\n", b"line 1: unknown command\n", false),
+    (b"text A\nfinish  0\n", b"line 2: bad number\n", false),
+    (
+        b"text A\nfinish 18446744073709551616\n",
+        b"line 2: bad number\n",
+        false,
+    ),
+    (b"text A\nfinish +0\n", b"line 2: bad number\n", false),
+    (
+        b"text A\nfinish 0 TES\n",
+        b"line 2: bad identifier\n",
+        false,
+    ),
+    (b"text A\nfinish 0 \n", b"line 2: bad identifier\n", false),
+    (b"text A\nfinish x TES\n", b"line 2: bad number\n", false),
+    (b"text \xff\n", b"line 1: not utf-8\n", false),
+    (b"finish 0\ntexts\n", b"line 2: unknown command\n", false),
+];
+
+#[test]
+fn scripts(rt: HostRuntime) -> Result<(), Fail> {
+    for (script, printed, clean) in ROWS {
+        let mut reader = script;
+        let mut writer = Vec::new(rt.alloc());
+        let answer = run(rt.alloc(), &mut reader, &mut writer);
+        assert!(rt; answer == Ok(clean), "clean");
+        assert_eq!(rt; writer.as_slice(), printed);
+        assert_eq!(rt; status(&answer), if clean { 0 } else { 1 });
+    }
+    Ok(())
+}
+
+#[test]
+fn longest_script(rt: HostRuntime) -> Result<(), Fail> {
+    for (count, printed) in [
+        (1048576, "".as_bytes()),
+        (1048577, "script too long\n".as_bytes()),
+    ] {
+        let script = vec![in rt.alloc(); b'#'; count]?;
+        let mut reader = script.as_slice();
+        let mut writer = Vec::new(rt.alloc());
+        let answer = run(rt.alloc(), &mut reader, &mut writer);
+        assert!(rt; answer == Ok(printed.is_empty()), "clean");
+        assert_eq!(rt; writer.as_slice(), printed);
+    }
+    Ok(())
+}
+
+#[test]
+fn text_stands_in_finished_bytes(rt: HostRuntime) -> Result<(), Fail> {
+    let mut steps = Vec::new(rt.alloc());
+    steps.push(Step::Text(String::from_str(rt.alloc(), "Axe")?))?;
+    steps.push(Step::Finish { root: 0, id: None })?;
+    let finished = replay(rt.alloc(), steps.as_slice()).expect(&rt, "a clean script");
+    assert_eq!(rt; finished.len(), 1);
+    let bytes = finished[0].bytes.as_slice();
+    assert!(rt; text_stands_at(bytes, 4, "Axe".as_bytes()), "the text");
+    assert_eq!(rt; finished[0].places.len(), 1);
+    assert_eq!(rt; finished[0].places[0].step, 0);
+    assert_eq!(rt; finished[0].places[0].distance, 8);
+    Ok(())
+}
+
+/// A reader that gives some bytes and then fails.
+#[derive(Drop)]
+struct FailingReader<'a> {
+    bytes: &'a [u8],
+}
+
+impl<'a> Read for FailingReader<'a> {
+    fn read(&mut self, buf: &mut [u8]) -> io::Result<usize> {
+        if self.bytes.is_empty() || buf.is_empty() {
+            return Err(Error::from(ErrorKind::ConnectionReset));
+        }
+        let (first, rest) = self.bytes.split_at(1);
+        buf[0] = first[0];
+        self.bytes = rest;
+        Ok(1)
+    }
+}
+
+/// A writer that takes some bytes and then fails.
+#[derive(Drop)]
+struct FailingWriter {
+    room: usize,
+    taken: Vec<u8>,
+}
+
+impl Write for FailingWriter {
+    fn write(&mut self, buf: &[u8]) -> io::Result<usize> {
+        if self.room == 0 || buf.is_empty() {
+            return Err(Error::from(ErrorKind::StorageFull));
+        }
+        self.taken.push(buf[0])?;
+        self.room -= 1;
+        Ok(1)
+    }
+
+    fn flush(&mut self) -> io::Result<()> {
+        Ok(())
+    }
+}
+
+#[test]
+fn reading_fails_on_the_way(rt: HostRuntime) -> Result<(), Fail> {
+    let mut reader = FailingReader {
+        bytes: b"text Axe\nfin",
+    };
+    let mut writer = Vec::new(rt.alloc());
+    let answer = run(rt.alloc(), &mut reader, &mut writer);
+    assert!(rt; answer == Err(RunError::Read), "an error of reading");
+    assert_eq!(rt; writer.len(), 0);
+    assert_eq!(rt; status(&answer), 2);
+    Ok(())
+}
+
+#[test]
+fn writing_fails_on_the_way(rt: HostRuntime) -> Result<(), Fail> {
+    let mut reader = b"text Axe\nfinish 0\n".as_slice();
+    let mut writer = FailingWriter {
+        room: 5,
+        taken: Vec::new(rt.alloc()),
+    };
+    let answer = run(rt.alloc(), &mut reader, &mut writer);
+    assert!(rt; answer == Err(RunError::Write), "an error of writing");
+    assert_eq!(rt; writer.taken.as_slice(), "04 00".as_bytes());
+    assert_eq!(rt; status(&answer), 2);
+    Ok(())
+}
