@@ -19,7 +19,7 @@ use Rattle.planus_read.specs.Values as value
 use Rattle.planus_read.specs.Stands.{Stands, at}
 use Rattle.planus_read.proofs.Moves.{keeps_standing}
 use Rattle.planus_demo.specs.Script.{Command, text, finish, clear}
-use Rattle.planus_demo.specs.Runs.{State, Finish, places_from, nothing_written, Writes, Advances, LeadsTo, distance_at, cleared}
+use Rattle.planus_demo.specs.Runs.{State, places_from, nothing_written, Advances, LeadsTo, distance_at, cleared}
 use Rattle.planus_demo.specs.Replays.{fault_of, first_after_clear, named_step}
 use Rattle.planus_demo.specs.Replaying.{distance_fault}
 use Rattle.planus_demo.specs.Headline.{TextHolds, FinishHolds}

@@ -1,9 +1,9 @@
 -- The words of a line.
-use Rattle.std.proofs.Common.{◌≡◌, ℕ, ◌<◌, ◌≤◌, ◌+◌, List, [], ◌∷◌, length, Bool, true, false, ◌||◌, cond, refl, ap, ◌∙◌, arith, Ok, Err}
+use Rattle.std.proofs.Common.{◌≡◌, ℕ, ◌<◌, ◌≤◌, List, [], ◌∷◌, length, Bool, true, false, refl, ap, ◌∙◌, arith, Ok, Err}
 use Rattle.std.specs.Prelude.{◌==◌, codes, if◌then◌else◌}
-use Rattle.std.specs.List.{slice_split, list_any, onto_first, count_by, after_first, before_first, position_or_len}
+use Rattle.std.specs.List.{after_first, before_first, position_or_len}
 use Rattle.std.proofs.lemmas.List.Splits.{length-slice_split, slice_split_none, slice_split_first}
-use Rattle.std.proofs.lemmas.List.Sums.{fails_before_first, sum_by-cons}
+use Rattle.std.proofs.lemmas.List.Sums.{fails_before_first}
 use Rattle.std.specs.Str.{bytes_eq, is_utf8, IsUtf8}
 use Rattle.std.proofs.lemmas.Str.{IsUtf8-from_is_utf8, is_utf8-from_IsUtf8}
 use Rattle.planus_demo.specs.Script.{text, finish_of, words_of, command_of, command_of_words, clear_of}

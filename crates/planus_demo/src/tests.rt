@@ -3,7 +3,7 @@
 use crate::replay::replay;
 use crate::run::{RunError, run, status};
 use crate::step::Step;
-use planus_read::plain::text_stands_at;
+use planus_read::{SliceWithStartOffset, TableRead};
 use std::io;
 use std::io::{Error, ErrorKind, Read, Write};
 use std::test::Fail;
@@ -126,14 +126,15 @@ fn longest_script(rt: HostRuntime) -> Result<(), Fail> {
 }
 
 #[test]
-fn text_stands_in_finished_bytes(rt: HostRuntime) -> Result<(), Fail> {
+fn text_reads_back(rt: HostRuntime) -> Result<(), Fail> {
     let mut steps = Vec::new(rt.alloc());
     steps.push(Step::Text(String::from_str(rt.alloc(), "Axe")?))?;
     steps.push(Step::Finish { root: 0, id: None })?;
     let finished = replay(rt.alloc(), steps.as_slice()).expect(&rt, "a clean script");
     assert_eq!(rt; finished.len(), 1);
-    let bytes = finished[0].bytes.as_slice();
-    assert!(rt; text_stands_at(bytes, 4, "Axe".as_bytes()), "the text");
+    let whole = SliceWithStartOffset::new(finished[0].bytes.as_slice(), 0);
+    let text = <&str as TableRead>::from_buffer(whole, 0).expect(&rt, "a text");
+    assert_eq!(rt; text, "Axe");
     assert_eq!(rt; finished[0].places.len(), 1);
     assert_eq!(rt; finished[0].places[0].step, 0);
     assert_eq!(rt; finished[0].places[0].distance, 8);

@@ -1,2 +1,5 @@
 pub mod Moves
 pub mod Parts
+pub mod Readers
+pub mod Walks
+pub mod TableReading

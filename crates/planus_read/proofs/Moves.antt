@@ -1,5 +1,5 @@
 -- What stands keeps standing behind bytes that are put in front.
-use Rattle.std.proofs.Common.{◌≡◌, ℕ, ◌+◌, ◌*◌, ◌≤◌, ◌<◌, ◌-ℤ◌, pos, List, [], ◌∷◌, ◌++◌, length, map, Bool, take, drop, refl, sym, ap, ◌∙◌, arith, nat_le, Option, Some, None, length-append, if◌then◌else◌}
+use Rattle.std.proofs.Common.{◌≡◌, ℕ, ◌+◌, ◌-◌, ◌*◌, ◌≤◌, ◌<◌, ◌-ℤ◌, pos, List, [], ◌∷◌, ◌++◌, length, map, Bool, take, drop, refl, sym, ap, ◌∙◌, arith, nat_le, Option, Some, None, length-append, if◌then◌else◌}
 use Rattle.std.proofs.Math.Seq.{drop-append-add}
 use Rattle.std.proofs.lemmas.Bool.Decides.{nat_tests}
 use Rattle.std.proofs.lemmas.Int.{ints}
@@ -8,7 +8,7 @@ use Rattle.std.specs.Option.{option_map}
 use Rattle.planus_read.specs.Bytes.{Num, Int, BytesStand}
 use Rattle.planus_read.specs.Values.{text, byte_list, plain_list, reference_list, union_list, table, Field, plain, reference, tags, values, field_at, vtable_size}
 use Rattle.planus_read.specs.Stands.{ReferenceStands, ItemsStand, FieldStands, SlotStands, TableStands, at, at_both}
-use Rattle.planus_read.specs.Moves.{KeepsStanding, KeepsLeading}
+use Rattle.planus_read.specs.Moves.{KeepsStanding, KeepsLeading, StandsAlone, LeadsAlone}
 
 test_moves : (n a b : ℕ) → nat_le (n + a) (n + b) ≡ nat_le a b
 test_moves n a b = grind (arith, nat_tests)
@@ -98,3 +98,77 @@ keeps_standing front B (at_both kt kv) (byte_list bytes) h = h
 keeps_standing front B (at_both kt kv) (plain_list size alignment items) h = h
 keeps_standing front B (at_both kt kv) (reference_list distances) h = h
 keeps_standing front B (at_both kt kv) (table entries) h = h
+
+-- the same without what is in front
+reference_back : (front B : List ℕ) (k j distance : ℕ) → j ≡ length front + k → ReferenceStands (front ++ B) j distance → ReferenceStands B k distance
+reference_back front B k j distance e h =
+    (h.0, sym (num_moves front B k j w32 e) ∙ h.1, let s : j + h.0 + distance ≡ length (front ++ B) = h.2 in omega (arith, length-append front B))
+
+bytes_back : (front B : List ℕ) (k j : ℕ) (bytes : List ℕ) → j ≡ length front + k → BytesStand (front ++ B) j bytes → BytesStand B k bytes
+bytes_back front B k j bytes e h = sym (ap (take (length bytes)) (rest_moves front B k j e)) ∙ h
+
+items_back : {X : Type 0} (A C : ℕ → X → Type 0) (n : ℕ) → ((k j : ℕ) (x : X) → j ≡ n + k → C j x → A k x) → (k j size : ℕ) (items : List X) → j ≡ n + k → ItemsStand C j size items → ItemsStand A k size items
+items_back A C n step k j size [] e h = tt
+items_back A C n step k j size (x ∷ xs) e h = (step k j x e h.0, items_back A C n step (k + size) (j + size) size xs (omega arith) h.1)
+
+pub field_back : (front B : List ℕ) (k j : ℕ) (field : Field) → j ≡ length front + k → FieldStands (front ++ B) j field → FieldStands B k field
+field_back front B k j (plain item) e h = bytes_back front B k j item.bytes e h
+field_back front B k j (reference distance) e h = reference_back front B k j distance e h
+field_back front B k j (tags distance) e h = reference_back front B k j distance e h
+field_back front B k j (values distance) e h = reference_back front B k j distance e h
+
+slot_back : (front B : List ℕ) (k s j : ℕ) (field : Option Field) → j ≡ length front + s → SlotStands (front ++ B) (length front + k) j field → SlotStands B k s field
+slot_back front B k s j None e h = sym (num_moves front B s j w16 e) ∙ h
+slot_back front B k s j (Some field) e h =
+    (h.0, sym (num_moves front B s j w16 e) ∙ h.1, h.2, field_back front B (k + h.0) (length front + k + h.0) field (omega arith) h.3)
+
+table_back : (front B : List ℕ) (k : ℕ) (entries : List (ℕ × Field)) → TableStands (front ++ B) (length front + k) entries → TableStands B k entries
+table_back front B k entries h =
+    let behind : length front + k < h.vtable = h.behind in
+    let t : ℕ = h.vtable - length front in
+    let here : h.vtable ≡ length front + t = omega arith in
+    record {
+      vtable = t;
+      behind = omega arith;
+      word = sym (int_moves front B k (length front + k) refl) ∙ h.word ∙ ap (λ v. Some (pos (length front + k) -ℤ pos v)) here ∙ ap Some (word_moves (length front) k t);
+      size = sym (num_moves front B t h.vtable w16 here) ∙ h.size;
+      inside = let i : h.vtable + vtable_size entries ≤ length (front ++ B) = h.inside in omega (arith, length-append front B);
+      slots = λ i within. slot_back front B k (t + 4 + 2 * i) (h.vtable + 4 + 2 * i) (field_at entries i) (omega arith) (h.slots i within);
+    }
+
+pub leads_alone : LeadsAlone
+leads_alone front B f distance h = reference_back front B f (length front + f) distance refl h
+
+count_back : (front B : List ℕ) (k n : ℕ) → Num (front ++ B) (length front + k) w32 ≡ Some n → Num B k w32 ≡ Some n
+count_back front B k n h = sym (num_moves front B k (length front + k) w32 refl) ∙ h
+
+pub stands_alone : StandsAlone
+stands_alone front B (at k) (text bytes) h =
+    (count_back front B k (length bytes) h.0, bytes_back front B (k + 4) (length front + k + 4) (bytes ++ 0 ∷ []) (omega arith) h.1)
+stands_alone front B (at k) (byte_list bytes) h =
+    (count_back front B k (length bytes) h.0, bytes_back front B (k + 4) (length front + k + 4) bytes (omega arith) h.1)
+stands_alone front B (at k) (plain_list size alignment items) h = (
+  count_back front B k (length items) h.0,
+  items_back (BytesStand B) (BytesStand (front ++ B)) (length front) (bytes_back front B) (k + 4) (length front + k + 4) size items (omega arith) h.1,
+)
+stands_alone front B (at k) (reference_list distances) h = (
+  count_back front B k (length distances) h.0,
+  items_back (ReferenceStands B) (ReferenceStands (front ++ B)) (length front) (reference_back front B) (k + 4) (length front + k + 4) 4 distances (omega arith) h.1,
+)
+stands_alone front B (at k) (table entries) h = table_back front B k entries h
+stands_alone front B (at k) (union_list items) h = h
+stands_alone front B (at_both kt kv) (union_list items) h = (
+  (
+    count_back front B kt (length (map (λ item. item.0) items)) h.0.0,
+    bytes_back front B (kt + 4) (length front + kt + 4) (map (λ item. item.0) items) (omega arith) h.0.1,
+  ),
+  (
+    count_back front B kv (length (map (λ item. item.1) items)) h.1.0,
+    items_back (ReferenceStands B) (ReferenceStands (front ++ B)) (length front) (reference_back front B) (kv + 4) (length front + kv + 4) 4 (map (λ item. item.1) items) (omega arith) h.1.1,
+  ),
+)
+stands_alone front B (at_both kt kv) (text bytes) h = h
+stands_alone front B (at_both kt kv) (byte_list bytes) h = h
+stands_alone front B (at_both kt kv) (plain_list size alignment items) h = h
+stands_alone front B (at_both kt kv) (reference_list distances) h = h
+stands_alone front B (at_both kt kv) (table entries) h = h

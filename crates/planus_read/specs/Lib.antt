@@ -4,4 +4,15 @@ pub mod Stands
 pub mod Aligned
 pub mod Rows
 pub mod Moves
+pub mod Texts
+pub mod Pieces
+pub mod Clauses
 pub mod Reading
+pub mod Heads
+pub mod Located
+pub mod SignedBytes
+pub mod Tables
+pub mod Places
+pub mod Converted
+pub mod ReadingLaws
+pub mod TableReading

@@ -1,16 +1,150 @@
--- What stands for a reader at a field of some bytes. S is the bytes, f the field's offset in them.
-use Rattle.std.specs.Prelude.{◌≡◌, ℕ, ◌+◌, List, Some}
+-- What stands for a reader at a field of some bytes, and the clauses that a reader tests there in order. S is the bytes, f the field's
+-- offset in them. A value side is said by `Num` and `Stands` over all of S; the clauses are sums and limits.
+use Rattle.std.specs.Prelude.{◌≡◌, ℕ, ◌+◌, ◌*◌, ◌%◌, ◌<◌, ◌≤◌, ◌≤ℤ◌, ◌-ℤ◌, ℤ, pos, unsigned_abs, List, [], ◌∷◌, length, take, drop, slice_index, Some, ⊤, Bool, not, ◌==◌}
+use Rattle.std.specs.Option.{option_map}
 use Rattle.std.specs.Str.{IsUtf8}
-use Rattle.std.specs.Int.{w32}
-use Rattle.planus_read.specs.Bytes.{Num}
-use Rattle.planus_read.specs.Values.{text}
+use Rattle.std.specs.Int.{Width, w8, w16, w32, byte_len, from_le_bytes, cast_signed}
+use Rattle.planus_read.specs.declared.errors.ErrorKind.{ErrorKind}
+use Rattle.planus_read.specs.declared.errors.ErrorKind.TheVariants.{InvalidOffset, InvalidLength, UnionVectorLengthsMismatched, InvalidVtableLength, InvalidUtf8, MissingNullTerminator}
+use Rattle.planus_read.specs.Bytes.{Num, Int}
+use Rattle.planus_read.specs.Values.{text, byte_list}
 use Rattle.planus_read.specs.Stands.{Stands, at}
+use Rattle.planus_read.specs.Clauses.{Clause, clause}
+
+-- the number of the width's bytes at the position, bytes past the end being taken as 0
+abbrev pub number : List ℕ → ℕ → Width → ℕ
+number S position width = from_le_bytes width (take (byte_len width) (drop position S))
+
+-- the clause of a number: its bytes lie in S
+abbrev pub number_clause : List ℕ → ℕ → Width → Clause
+number_clause S position width = clause (position + byte_len width ≤ length S) InvalidOffset
+
+abbrev pub number_clauses : List ℕ → ℕ → Width → List Clause
+number_clauses S f width = number_clause S f width ∷ []
 
 -- The reference at f leads to the position.
 -- The format: a reference is an unsigned number of 4 bytes, which leads forward from where it stands.
 abbrev pub Leads : List ℕ → ℕ → ℕ → Type 0
 Leads S f position = (n : ℕ) × (Num S f w32 ≡ Some n) × (position ≡ f + n)
 
+-- the position to which the reference at f leads
+abbrev pub target : List ℕ → ℕ → ℕ
+target S f = f + number S f w32
+
+-- the clauses of a reference to a count: the reference lies in S, what it leads to, and the count there
+abbrev pub head_clauses : List ℕ → ℕ → List Clause → List Clause
+head_clauses S f rest =
+    number_clause S f w32 ∷ clause (target S f ≤ length S) InvalidOffset ∷ number_clause S (target S f) w32 ∷ rest
+
+-- the count to which the reference at f leads
+abbrev pub count_at : List ℕ → ℕ → ℕ
+count_at S f = number S (target S f) w32
+
+-- where the items behind that count begin
+abbrev pub items_at : List ℕ → ℕ → ℕ
+items_at S f = target S f + 4
+
+-- A head: count items begin at this position. Nothing is said of their size.
+pub record HeadThere (S : List ℕ) (f position count : ℕ) : Type 0 where
+  pub begin : ℕ
+  pub reference : Leads S f begin
+  pub word : Num S begin w32 ≡ Some count
+  pub behind : position ≡ begin + 4
+
 -- a text
 abbrev pub TextThere : List ℕ → ℕ → List ℕ → Type 0
 TextThere S f content = (position : ℕ) × Leads S f position × Stands S (at position) (text content) × IsUtf8 content
+
+-- the error of a text that isn't UTF-8; the fault that it names is left open
+abbrev pub IsUtf8Error : ErrorKind → Type 0
+IsUtf8Error (InvalidUtf8 source) = ⊤
+IsUtf8Error _ = ⊥
+
+-- the byte at the count behind the items exists and is 0
+abbrev pub ZeroByte : List ℕ → ℕ → ℕ → Type 0
+ZeroByte S first count = (first + count < length S) × (slice_index S (first + count) ≡ 0)
+
+abbrev pub text_clauses : List ℕ → ℕ → List Clause
+text_clauses S f =
+    head_clauses S f (clause (ZeroByte S (items_at S f) (count_at S f)) MissingNullTerminator
+    ∷ record { holds = IsUtf8 (take (count_at S f) (drop (items_at S f) S)); errors = IsUtf8Error } ∷ [])
+
+-- a byte list
+abbrev pub ByteListThere : List ℕ → ℕ → List ℕ → Type 0
+ByteListThere S f content = (position : ℕ) × Leads S f position × Stands S (at position) (byte_list content)
+
+abbrev pub byte_list_clauses : List ℕ → ℕ → List Clause
+byte_list_clauses S f = head_clauses S f (clause (items_at S f + count_at S f ≤ length S) InvalidLength ∷ [])
+
+-- a vector: count items of this stride from this position on, all in S
+pub record VectorThere (S : List ℕ) (f stride position count : ℕ) : Type 0 where
+  pub head : HeadThere S f position count
+  pub inside : position + count * stride ≤ length S
+
+abbrev pub vector_clauses : List ℕ → ℕ → ℕ → List Clause
+vector_clauses S f stride = head_clauses S f (clause (items_at S f + count_at S f * stride ≤ length S) InvalidLength ∷ [])
+
+-- a vector of unions: a vector of tags at f and one of references at g, of equal count
+pub record UnionVectorThere (S : List ℕ) (f g tags references count : ℕ) : Type 0 where
+  pub tags_there : VectorThere S f 1 tags count
+  pub references_there : VectorThere S g 4 references count
+
+abbrev pub union_vector_clauses : List ℕ → ℕ → ℕ → List Clause
+union_vector_clauses S f g =
+    head_clauses S f (head_clauses S g (clause (items_at S f + count_at S f ≤ length S) InvalidLength
+    ∷ clause (items_at S g + count_at S g * 4 ≤ length S) InvalidLength
+    ∷ clause (count_at S f ≡ count_at S g) (UnionVectorLengthsMismatched (count_at S f) (count_at S g)) ∷ []))
+
+-- A table: the object begins at one position, its vtable, of this size in bytes, at the other. The vtable may lie anywhere in S.
+-- The format: a table begins with a signed number of 4 bytes, its own position less that of its vtable. A vtable is its own size in
+-- bytes, the object's size, and the slots, of two bytes each.
+pub record TableThere (S : List ℕ) (f object vtable size : ℕ) : Type 0 where
+  pub reference : Leads S f object
+  pub word : Int S object ≡ Some (pos object -ℤ pos vtable)
+  pub size_word : Num S vtable w16 ≡ Some size
+  pub least : 4 ≤ size
+  pub even : size % 2 ≡ 0
+  pub inside : vtable + size ≤ length S
+
+-- the signed number of 4 bytes at the position, bytes past the end being taken as 0
+abbrev pub signed_number : List ℕ → ℕ → ℤ
+signed_number S position = cast_signed w32 (number S position w32)
+
+-- where the vtable of the object at this position lies
+abbrev pub vtable_at : List ℕ → ℕ → ℕ
+vtable_at S object = unsigned_abs (pos object -ℤ signed_number S object)
+
+-- the size that stands in the vtable of the object at this position
+abbrev pub vtable_size_at : List ℕ → ℕ → ℕ
+vtable_size_at S object = number S (vtable_at S object) w16
+
+-- the slots of the vtable of the object at this position: its bytes without the first four
+abbrev pub slots_of : List ℕ → ℕ → List ℕ
+slots_of S object = drop 4 (take (vtable_size_at S object) (drop (vtable_at S object) S))
+
+-- the clauses of the first word of the object at a position
+abbrev pub word_clauses : List ℕ → ℕ → List Clause → List Clause
+word_clauses S object rest = number_clause S object w32 ∷ clause (signed_number S object ≤ℤ pos object) InvalidOffset ∷ rest
+
+-- the clauses of the object at a position
+abbrev pub object_clauses : List ℕ → ℕ → List Clause
+object_clauses S object =
+    word_clauses S object (number_clause S (vtable_at S object) w16
+    ∷ clause ((4 ≤ vtable_size_at S object) × (vtable_size_at S object % 2 ≡ 0)) (InvalidVtableLength (vtable_size_at S object))
+    ∷ clause (vtable_at S object + vtable_size_at S object ≤ length S) InvalidLength
+    ∷ [])
+
+abbrev pub table_clauses : List ℕ → ℕ → List Clause
+table_clauses S f =
+    number_clause S f w32 ∷ clause (target S f ≤ length S) InvalidOffset ∷ object_clauses S (target S f)
+
+-- a number at f, a signed number, and a truth value
+-- The format: signed numbers are two's complement; a truth value is one byte, true where it isn't 0.
+abbrev pub NumberThere : List ℕ → ℕ → Width → ℕ → Type 0
+NumberThere S f width x = Num S f width ≡ Some x
+
+abbrev pub SignedThere : List ℕ → ℕ → Width → ℤ → Type 0
+SignedThere S f width x = option_map (cast_signed width) (Num S f width) ≡ Some x
+
+abbrev pub TruthThere : List ℕ → ℕ → Bool → Type 0
+TruthThere S f x = option_map (λ n. not (n == 0)) (Num S f w8) ≡ Some x

@@ -1,8 +1,31 @@
 //! Zero-copy readers of flatbuffers, and what stands where in their bytes.
 #![tactic(auto)]
 
+pub mod errors;
+mod impls;
 pub mod laws;
+pub mod located;
+mod place;
 pub mod plain;
+mod slice_helpers;
+pub mod table_reader;
 #[cfg(test)]
 mod tests;
+mod traits;
 pub mod worked_rows;
+
+pub use errors::Error;
+pub use impls::{SignedBytes, array_from_buffer};
+pub use place::{Place, TaggedPlace};
+pub use slice_helpers::{ArrayWithStartOffset, SliceWithStartOffset};
+pub use traits::{
+    ReadAsRoot, ReadError, Stride, TableRead, TableReadUnion, TableReadUnionVector, VectorName,
+    VectorRead, VectorReadInner, VectorReadUnion,
+};
+
+/// The result of a read.
+pub type Result<T> = std::result::Result<T, Error>;
+
+/// A type that has no value.
+#[derive(Clone, Copy)]
+pub enum Void {}

@@ -15,7 +15,7 @@ use std::marker::Model;
 const WORD_MASK: usize = 3;
 
 /// Writes flatbuffers from the back, and names each value by its distance from the end.
-#[derive(Drop)]
+#[derive(Debug, Drop)]
 pub struct Builder {
     inner: BackVec,
     promises: Promises,
@@ -41,7 +41,7 @@ impl Builder {
     ghost use Rattle.planus_write.specs.Preparing.{WritesText};
     ghost use Rattle.planus_write.specs.Finishing.{EndsAs, FinishLeaves, WritesRoot};
 
-    /// An empty builder.
+    /// An empty builder; [`BuildError::OutOfMemory`] where memory is refused.
     pub fn new(alloc: Global) -> std::result::Result<Builder, BuildError>
         ensures bytes { IfOk result (λ builder. builder.bytes ≡ []) }
         ensures stands { IfOk result (λ builder. StandsFor builder []) }
@@ -50,7 +50,7 @@ impl Builder {
         Builder::with_capacity(alloc, 0)
     }
 
-    /// An empty builder with room for `capacity` bytes.
+    /// An empty builder with room for `capacity` bytes; [`BuildError::OutOfMemory`] where memory is refused.
     pub fn with_capacity(alloc: Global, capacity: usize) -> std::result::Result<Builder, BuildError>
         ensures bytes { IfOk result (λ builder. builder.bytes ≡ []) }
         ensures room { IfOk result (λ builder. capacity ≤ builder.room) }
@@ -69,7 +69,7 @@ impl Builder {
     pub fn len(&self) -> usize
         ensures { result ≡ length self.now.bytes }
     {
-        self.inner.len()
+        self.inner.len() // promises take no bytes
     }
 
     /// Whether nothing is written.
@@ -157,6 +157,9 @@ impl Builder {
     ///
     /// The filler may be called with `size` bytes at every place from `len() + size` to `len() + size + alignment_mask`
     /// that is at most 2147483647, and `alignment_mask + 1` is a power of two up to 2^30.
+    ///
+    /// [`BuildError::TooLarge`] where the part would begin more than 2147483647 bytes from the end, before memory is asked for;
+    /// [`BuildError::OutOfMemory`] where padding and part don't fit [`Builder::room`] and memory is refused. Nothing is changed then.
     pub fn write_with<F: Fill>(
         &mut self,
         size: usize,
@@ -202,6 +205,9 @@ impl Builder {
     /// one. The length is then such that every part since the last clear stands aligned. Answers all bytes.
     ///
     /// Writing may go on afterwards, and finish again.
+    ///
+    /// [`BuildError::TooLarge`] and [`BuildError::OutOfMemory`] as in [`Builder::write_with`]. A root that was written for this call
+    /// stays then; the reference and the identifier leave nothing behind.
     pub fn finish<T, X: WriteAsOffset<T> + Drop>(
         &mut self,
         root: X,

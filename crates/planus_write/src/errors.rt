@@ -3,12 +3,12 @@
 use planus_back::TooLarge;
 use std::alloc::AllocError;
 
-/// Why a write is refused. The refused write leaves nothing behind.
+/// Why a write is refused. A refused placement leaves bytes and promises as they were; what was written before it stays.
 #[derive(Clone, Copy, Debug, PartialEq, Eq)]
 pub enum BuildError {
     /// Memory was refused.
     OutOfMemory,
-    /// The bytes would be more than 2147483647.
+    /// The part would begin more than 2147483647 bytes from the end. No memory was asked for.
     TooLarge,
 }
 

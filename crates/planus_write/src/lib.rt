@@ -11,3 +11,6 @@ pub use builder::Builder;
 pub use errors::BuildError;
 pub use offset::{Offset, Text};
 pub use traits::WriteAsOffset;
+
+#[cfg(test)]
+mod tests;

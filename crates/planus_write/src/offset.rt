@@ -13,6 +13,12 @@ pub struct Offset<T> {
 }
 
 impl<T> Clone for Offset<T> {
+    ghost use Rattle.std.specs.Prelude.{◌≡◌, ⊤};
+
+    ghost is_clone = { λ offset copy. copy ≡ offset };
+
+    ghost is_infallible = { λ _. ⊤ };
+
     fn clone(&self) -> std::result::Result<Self, AllocError> {
         Ok(*self)
     }
@@ -37,7 +43,7 @@ impl<T> Offset<T> {
     pub fn distance(&self) -> u32
         ensures { result ≡ self.now.distance }
     {
-        self.distance
+        self.distance // from the end of the buffer
     }
 
     /// The same offset, with its kind forgotten.

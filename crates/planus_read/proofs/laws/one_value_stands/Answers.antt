@@ -1,0 +1,14 @@
+use Rattle.planus_read.proofs.Readers as readers
+use Rattle.planus_read.proofs.laws.one_value_stands.Goals as goal
+
+pub returns-clause-text : goal.returns-clause-text
+returns-clause-text c = readers.one_text
+
+pub returns-clause-byte_list : goal.returns-clause-byte_list
+returns-clause-byte_list c = readers.one_byte_list
+
+pub returns-clause-vector : goal.returns-clause-vector
+returns-clause-vector c = readers.one_vector
+
+pub returns-clause-table : goal.returns-clause-table
+returns-clause-table c = readers.one_table

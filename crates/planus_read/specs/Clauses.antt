@@ -1,0 +1,26 @@
+-- What a reader answers: a value where all its clauses hold, else the error of the first clause that fails.
+use Rattle.std.specs.Prelude.{◌≡◌, List, [], ◌∷◌, ◌⊎◌, ⊤, Result, Ok, Err}
+use Rattle.planus_read.specs.declared.errors.ErrorKind.{ErrorKind}
+
+-- what has to hold, and which error may come where it doesn't
+pub record Clause : Type 1 where
+  pub holds : Type 0
+  pub errors : ErrorKind → Type 0
+
+-- what has to hold, and the one error that comes where it doesn't
+abbrev pub clause : Type 0 → ErrorKind → Clause
+clause holds error = record { holds = holds; errors = λ e. e ≡ error }
+
+abbrev pub AllHold : List Clause → Type 0
+AllHold [] = ⊤
+AllHold (first ∷ rest) = first.holds × AllHold rest
+
+-- the error is that of the first clause that fails
+abbrev pub FirstBroken : List Clause → ErrorKind → Type 0
+FirstBroken [] e = ⊥
+FirstBroken (first ∷ rest) e = ((first.holds → ⊥) × first.errors e) ⊎ (first.holds × FirstBroken rest e)
+
+-- The answer of a reader with this value side and these clauses.
+abbrev pub Answer : {A : Type 0} → (A → Type 0) → List Clause → Result A ErrorKind → Type 0
+Answer Value clauses (Ok x) = Value x
+Answer Value clauses (Err e) = FirstBroken clauses e

@@ -1,0 +1,25 @@
+-- What the readers of this library hand to one another.
+use Rattle.std.specs.Prelude.{◌≡◌, ℕ, ◌+◌, List, [], ◌∷◌, take, drop}
+use Rattle.planus_read.specs.declared.slice_helpers.SliceWithStartOffset.{SliceWithStartOffset}
+use Rattle.planus_read.specs.Clauses.{AllHold, Clause, clause}
+use Rattle.planus_read.specs.Pieces.{slice_bytes, slice_start}
+use Rattle.planus_read.specs.Reading.{head_clauses, items_at, count_at, ZeroByte, IsUtf8Error}
+use Rattle.planus_read.specs.declared.errors.ErrorKind.TheVariants.{MissingNullTerminator}
+use Rattle.std.specs.Str.{IsUtf8}
+
+-- The items behind the count to which the reference at f leads, as a piece, and the count.
+pub record IsHead (S : List ℕ) (start f : ℕ) (items : SliceWithStartOffset) (count : ℕ) : Type 0 where
+  pub holds : AllHold (head_clauses S f [])
+  pub bytes : slice_bytes items ≡ drop (items_at S f) S
+  pub begin : slice_start items ≡ start + items_at S f
+  pub counted : count ≡ count_at S f
+
+-- The text of the first count items, with a zero byte behind it.
+pub record IsTextOf (items : List ℕ) (count : ℕ) (content : List ℕ) : Type 0 where
+  pub zero_byte : ZeroByte items 0 count
+  pub bytes : content ≡ take count items
+  pub is_utf8 : IsUtf8 content
+
+abbrev pub text_of_clauses : List ℕ → ℕ → List Clause
+text_of_clauses items count =
+    clause (ZeroByte items 0 count) MissingNullTerminator ∷ record { holds = IsUtf8 (take count items); errors = IsUtf8Error } ∷ []

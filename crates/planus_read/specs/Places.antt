@@ -1,0 +1,32 @@
+-- Places in a buffer whose reading is chosen later.
+use Rattle.std.specs.Prelude.{◌≡◌, ℕ, List}
+use Rattle.planus_read.specs.declared.place.Place.{Place}
+use Rattle.planus_read.specs.declared.place.TaggedPlace.{TaggedPlace}
+use Rattle.planus_read.specs.Pieces.{slice_bytes, slice_start}
+
+-- the bytes and the start of a place's piece, and its offset in them
+abbrev pub place_bytes : Place → List ℕ
+place_bytes place = slice_bytes place.buffer
+
+abbrev pub place_start : Place → ℕ
+place_start place = slice_start place.buffer
+
+abbrev pub place_offset : Place → ℕ
+place_offset place = place.offset
+
+abbrev pub tagged_tag : TaggedPlace → ℕ
+tagged_tag tagged = tagged.tag
+
+abbrev pub tagged_place : TaggedPlace → Place
+tagged_place tagged = tagged.place
+
+-- the place at f of a piece with the bytes S and this start
+pub record IsPlace (S : List ℕ) (start f : ℕ) (place : Place) : Type 0 where
+  pub bytes : place_bytes place ≡ S
+  pub begin : place_start place ≡ start
+  pub offset : place_offset place ≡ f
+
+-- the tag, and the place at f of a piece with the bytes S and this start
+pub record IsTaggedPlace (S : List ℕ) (start tag f : ℕ) (tagged : TaggedPlace) : Type 0 where
+  pub tag_is : tagged_tag tagged ≡ tag
+  pub place_is : IsPlace S start f (tagged_place tagged)

@@ -1,0 +1,51 @@
+-- The laws that tie the clauses of each reader to its value side.
+use Rattle.std.specs.Prelude.{◌≡◌, ◌↔◌, ℕ, ℤ, Bool, List}
+use Rattle.std.specs.Int.{Width, w8}
+use Rattle.planus_read.specs.Clauses.{AllHold}
+use Rattle.planus_read.specs.Reading.{NumberThere, SignedThere, TruthThere, number_clauses, TextThere, text_clauses, ByteListThere, byte_list_clauses, VectorThere, vector_clauses, UnionVectorThere, union_vector_clauses, TableThere, table_clauses}
+
+-- All clauses hold exactly where a value stands.
+abbrev pub NumberLaw : Type 0
+NumberLaw = (S : List ℕ) (f : ℕ) (width : Width) → AllHold (number_clauses S f width) ↔ ((x : ℕ) × NumberThere S f width x)
+
+abbrev pub SignedLaw : Type 0
+SignedLaw = (S : List ℕ) (f : ℕ) (width : Width) → AllHold (number_clauses S f width) ↔ ((x : ℤ) × SignedThere S f width x)
+
+abbrev pub TruthLaw : Type 0
+TruthLaw = (S : List ℕ) (f : ℕ) → AllHold (number_clauses S f w8) ↔ ((x : Bool) × TruthThere S f x)
+
+abbrev pub TextLaw : Type 0
+TextLaw = (S : List ℕ) (f : ℕ) → AllHold (text_clauses S f) ↔ ((content : List ℕ) × TextThere S f content)
+
+abbrev pub ByteListLaw : Type 0
+ByteListLaw = (S : List ℕ) (f : ℕ) → AllHold (byte_list_clauses S f) ↔ ((content : List ℕ) × ByteListThere S f content)
+
+abbrev pub VectorLaw : Type 0
+VectorLaw =
+    (S : List ℕ) (f stride : ℕ) → AllHold (vector_clauses S f stride) ↔ ((position : ℕ) × (count : ℕ) × VectorThere S f stride position count)
+
+abbrev pub UnionVectorLaw : Type 0
+UnionVectorLaw =
+    (S : List ℕ) (f g : ℕ) → AllHold (union_vector_clauses S f g)
+    ↔ ((tags : ℕ) × (references : ℕ) × (count : ℕ) × UnionVectorThere S f g tags references count)
+
+abbrev pub TableLaw : Type 0
+TableLaw =
+    (S : List ℕ) (f : ℕ) → AllHold (table_clauses S f) ↔ ((object : ℕ) × (vtable : ℕ) × (size : ℕ) × TableThere S f object vtable size)
+
+-- At most one value stands at a field.
+abbrev pub OneText : Type 0
+OneText = (S : List ℕ) (f : ℕ) (x y : List ℕ) → TextThere S f x → TextThere S f y → x ≡ y
+
+abbrev pub OneByteList : Type 0
+OneByteList = (S : List ℕ) (f : ℕ) (x y : List ℕ) → ByteListThere S f x → ByteListThere S f y → x ≡ y
+
+abbrev pub OneVector : Type 0
+OneVector =
+    (S : List ℕ) (f stride position count position' count' : ℕ) → VectorThere S f stride position count
+    → VectorThere S f stride position' count' → (position ≡ position') × (count ≡ count')
+
+abbrev pub OneTable : Type 0
+OneTable =
+    (S : List ℕ) (f object vtable size object' vtable' size' : ℕ) → TableThere S f object vtable size
+    → TableThere S f object' vtable' size' → (object ≡ object') × (vtable ≡ vtable') × (size ≡ size')

@@ -1,0 +1,105 @@
+-- Tables as readers hold them, and the answers to their fields.
+use Rattle.std.specs.Prelude.{◌≡◌, ◌≢◌, ℕ, ◌+◌, ◌*◌, ◌≤◌, ◌<◌, ◌⊎◌, List, length, take, drop, Option, Some, None, Result, Ok, Err}
+use Rattle.std.specs.Option.{unwrap_or}
+use Rattle.std.specs.Int.{w8, w16}
+use Rattle.planus_read.specs.declared.errors.ErrorKind.{ErrorKind}
+use Rattle.planus_read.specs.declared.errors.ErrorKind.TheVariants.{InvalidOffset, InvalidVtableLength}
+use Rattle.planus_read.specs.declared.table_reader.Table.{Table}
+use Rattle.planus_read.specs.Bytes.{Num}
+use Rattle.planus_read.specs.Pieces.{slice_bytes, slice_start}
+use Rattle.planus_read.specs.Reading.{TableThere}
+
+-- the bytes from the table's first on, where these start in the buffer, and the slots of its vtable
+abbrev pub table_object : Table → List ℕ
+table_object table = slice_bytes table.object
+
+abbrev pub table_start : Table → ℕ
+table_start table = slice_start table.object
+
+abbrev pub table_slots : Table → List ℕ
+table_slots table = table.vtable.now
+
+-- The table at f of a piece with the bytes S and this start.
+pub record IsTable (S : List ℕ) (start f : ℕ) (table : Table) : Type 0 where
+  pub object : ℕ
+  pub vtable : ℕ
+  pub size : ℕ
+  pub there : TableThere S f object vtable size
+  pub object_bytes : table_object table ≡ drop object S
+  pub object_start : table_start table ≡ start + object
+  pub slots : table_slots table ≡ drop 4 (take size (drop vtable S))
+
+-- The field's distance from the table's first byte by slot i of the slots V, 0 where the field is absent.
+-- The format: a slot has two bytes, 0 for an absent field; slots past the vtable's end are absent.
+abbrev pub Slot : List ℕ → ℕ → ℕ
+Slot V i = unwrap_or (Num V (2 * i) w16) 0
+
+-- The answer to the field of a slot, where reads is what its type answers: none where the field is absent, else the type's own answer.
+abbrev pub FieldAnswer : {T : Type 0} → (List ℕ → ℕ → ℕ → Result T ErrorKind → Type 0) → Table → ℕ → Result (Option T) ErrorKind → Type 0
+FieldAnswer reads table i (Ok None) = Slot (table_slots table) i ≡ 0
+FieldAnswer reads table i (Ok (Some x)) =
+    (Slot (table_slots table) i ≢ 0) × reads (table_object table) (table_start table) (Slot (table_slots table) i) (Ok x)
+FieldAnswer reads table i (Err e) =
+    (Slot (table_slots table) i ≢ 0) × reads (table_object table) (table_start table) (Slot (table_slots table) i) (Err e)
+
+-- slots i and i + 1 both lie in the vtable
+abbrev pub BothSlots : Table → ℕ → Type 0
+BothSlots table i = 2 * i + 4 ≤ length (table_slots table)
+
+-- The tag byte of the union of slots i and i + 1: the byte of the object at the distance in slot i, 0 or not.
+abbrev pub tag_of : Table → ℕ → Option ℕ
+tag_of table i = Num (table_object table) (Slot (table_slots table) i) w8
+
+-- The union of slots i and i + 1 is there with this tag.
+-- The format: a union field is two slots, a tag of one byte and a reference. Tag 0 means none.
+pub record UnionThere (table : Table) (i tag : ℕ) : Type 0 where
+  pub both : BothSlots table i
+  pub tag_byte : tag_of table i ≡ Some tag
+  pub tag_present : tag ≢ 0
+  pub tag_slot : Slot (table_slots table) i ≢ 0
+  pub value_slot : Slot (table_slots table) (i + 1) ≢ 0
+
+-- No union is there: the vtable ends before slot i, or the tag or a slot is 0.
+abbrev pub UnionAbsent : Table → ℕ → Type 0
+UnionAbsent table i =
+    (length (table_slots table) ≤ 2 * i)
+    ⊎ (BothSlots table i × ((tag : ℕ) × (tag_of table i ≡ Some tag)
+    × ((tag ≡ 0) ⊎ (Slot (table_slots table) i ≡ 0) ⊎ (Slot (table_slots table) (i + 1) ≡ 0))))
+
+-- The slots of a union are damaged: the tag doesn't lie in the object, or the vtable ends between the two slots.
+abbrev pub UnionBroken : Table → ℕ → ErrorKind → Type 0
+UnionBroken table i e =
+    (BothSlots table i × (tag_of table i ≡ None) × (e ≡ InvalidOffset))
+    ⊎ ((2 * i < length (table_slots table)) × (length (table_slots table) < 2 * i + 4) × (e ≡ InvalidVtableLength (length (table_slots table) + 4)))
+
+abbrev pub UnionAnswer : {T : Type 0} → (List ℕ → ℕ → ℕ → ℕ → Result T ErrorKind → Type 0) → Table → ℕ → Result (Option T) ErrorKind → Type 0
+UnionAnswer reads table i (Ok None) = UnionAbsent table i
+UnionAnswer reads table i (Ok (Some x)) =
+    (tag : ℕ) × UnionThere table i tag × reads (table_object table) (table_start table) tag (Slot (table_slots table) (i + 1)) (Ok x)
+UnionAnswer reads table i (Err e) =
+    UnionBroken table i e
+    ⊎ ((tag : ℕ) × UnionThere table i tag × reads (table_object table) (table_start table) tag (Slot (table_slots table) (i + 1)) (Err e))
+
+-- A vector of unions is there: both slots lie in the vtable and hold a distance.
+-- The format: a vector of unions takes two slots, tags first.
+pub record UnionVectorSlots (table : Table) (i : ℕ) : Type 0 where
+  pub both : BothSlots table i
+  pub tags_slot : Slot (table_slots table) i ≢ 0
+  pub values_slot : Slot (table_slots table) (i + 1) ≢ 0
+
+-- exactly one of both slots holds a distance
+abbrev pub HalfVector : Table → ℕ → Type 0
+HalfVector table i =
+    BothSlots table i
+    × (((Slot (table_slots table) i ≡ 0) × (Slot (table_slots table) (i + 1) ≢ 0)) ⊎ ((Slot (table_slots table) i ≢ 0) × (Slot (table_slots table) (i + 1) ≡ 0)))
+
+abbrev pub UnionVectorAnswer : {T : Type 0} → (List ℕ → ℕ → ℕ → ℕ → Result T ErrorKind → Type 0) → Table → ℕ → Result (Option T) ErrorKind → Type 0
+UnionVectorAnswer reads table i (Ok None) =
+    (length (table_slots table) < 2 * i + 4) ⊎ (BothSlots table i × (Slot (table_slots table) i ≡ 0) × (Slot (table_slots table) (i + 1) ≡ 0))
+UnionVectorAnswer reads table i (Ok (Some x)) =
+    UnionVectorSlots table i
+    × reads (table_object table) (table_start table) (Slot (table_slots table) i) (Slot (table_slots table) (i + 1)) (Ok x)
+UnionVectorAnswer reads table i (Err e) =
+    (HalfVector table i × (e ≡ InvalidOffset))
+    ⊎ (UnionVectorSlots table i
+    × reads (table_object table) (table_start table) (Slot (table_slots table) i) (Slot (table_slots table) (i + 1)) (Err e))

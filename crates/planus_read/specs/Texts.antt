@@ -1,0 +1,47 @@
+-- The texts that errors print.
+use Rattle.std.specs.Prelude.{ℕ, List, [], ◌++◌, ◌-◌, ◌^◌, ◌==◌, false, codes, Option, Some, None, if◌then◌else◌}
+use Rattle.std.specs.Fmt.{decimal, signed_decimal, digits}
+use Rattle.std.specs.Option.{option_map}
+use Rattle.planus_read.specs.declared.errors.ErrorKind.{ErrorKind}
+use Rattle.planus_read.specs.declared.errors.ErrorKind.TheVariants.{InvalidOffset, InvalidLength, UnionVectorLengthsMismatched, UnknownEnumTag as unknown_enum_tag, UnknownUnionTag, InvalidVtableLength, InvalidUtf8, MissingRequired, MissingNullTerminator}
+use Rattle.planus_read.specs.declared.errors.UnknownEnumTagKind.{UnknownEnumTagKind}
+use Rattle.planus_read.specs.declared.located.ErrorLocation.{ErrorLocation}
+use Rattle.planus_read.specs.declared.located.Error.{Error}
+use Rattle.planus_read.specs.declared.located.UnknownEnumTag.{UnknownEnumTag}
+
+abbrev pub unknown_tag_text : UnknownEnumTagKind → List ℕ
+unknown_tag_text kind = codes "Unknown enum (tag = " ++ signed_decimal kind.tag ++ codes ")"
+
+-- the text of a kind; that of a fault in UTF-8 has the fault's own words, and is left open
+abbrev pub kind_text : ErrorKind → Option (List ℕ)
+kind_text InvalidOffset = Some (codes "Invalid offset")
+kind_text InvalidLength = Some (codes "Invalid length")
+kind_text (UnionVectorLengthsMismatched tags_len values_len) =
+    Some (codes "Mismatched lengths between tag and value vectors. Length of tags = " ++ (decimal tags_len ++ (codes ", length of values = " ++ decimal values_len)))
+kind_text (unknown_enum_tag source) = Some (unknown_tag_text source)
+kind_text (UnknownUnionTag tag) = Some (codes "Unknown union (tag = " ++ decimal tag ++ codes ")")
+kind_text (InvalidVtableLength size) = Some (codes "Invalid vtable length (length = " ++ decimal size ++ codes ")")
+kind_text (InvalidUtf8 source) = None
+kind_text MissingRequired = Some (codes "Missing required field")
+kind_text MissingNullTerminator = Some (codes "Missing null terminator")
+
+-- the offset of a location that has none: the greatest of 64 bits
+abbrev pub no_offset : ℕ
+no_offset = 2 ^ 64 - 1
+
+-- the type, the offset in lower-case hexadecimal where there is one, and the method
+abbrev pub location_text : ErrorLocation → List ℕ
+location_text location =
+    codes "<" ++ location.type_.now
+    ++ (if location.byte_offset == no_offset then [] else codes "@" ++ digits 16 false location.byte_offset)
+    ++ codes ">::" ++ location.method.now ++ codes "()"
+
+-- a text at a location
+abbrev pub located_text : ErrorLocation → List ℕ → List ℕ
+located_text location kind = codes "In " ++ location_text location ++ codes ": " ++ kind
+
+abbrev pub error_text : Error → Option (List ℕ)
+error_text e = option_map (located_text e.source_location) (kind_text e.error_kind)
+
+abbrev pub unknown_enum_tag_text : UnknownEnumTag → List ℕ
+unknown_enum_tag_text e = located_text e.source_location (unknown_tag_text e.error_kind)

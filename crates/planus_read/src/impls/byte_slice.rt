@@ -1,0 +1,87 @@
+//! Byte lists as fields of tables.
+
+ghost use Rattle.std.specs.Prelude.{◌≡◌, ◌==◌, ◌<◌, length, MatchOption, slice_index};
+ghost use Rattle.std.specs.Int.{w8, cast_signed};
+ghost use Rattle.planus_read.specs.Clauses.{Answer};
+ghost use Rattle.planus_read.specs.Reading.{ByteListThere, byte_list_clauses};
+
+use super::array_from_buffer;
+use crate::errors::ErrorKind;
+use crate::slice_helpers::SliceWithStartOffset;
+use crate::traits::TableRead;
+
+impl<'buf> TableRead<'buf> for &'buf [u8] {
+    ghost reads = { λ S start f r. Answer (λ bytes. ByteListThere S f bytes.now) (byte_list_clauses S f) r };
+
+    #[inline]
+    fn from_buffer(
+        buffer: SliceWithStartOffset<'buf>,
+        offset: usize,
+    ) -> Result<&'buf [u8], ErrorKind> {
+        let (items, count) = array_from_buffer(buffer, offset)?;
+        let items = items.as_slice();
+        let count = count as usize;
+        if count > items.len() {
+            return Err(ErrorKind::InvalidLength);
+        }
+        Ok(&items[..count])
+    }
+}
+
+/// A list of signed bytes.
+#[derive(Clone, Copy, Debug)]
+pub struct SignedBytes<'buf> {
+    bytes: &'buf [u8],
+}
+
+impl<'buf> SignedBytes<'buf> {
+    ghost use Rattle.planus_read.specs.SignedBytes.{signed_bytes, signed_item};
+
+    /// The number of bytes.
+    #[inline]
+    pub fn len(&self) -> usize
+        ensures { result ≡ length (signed_bytes self.now) }
+    {
+        self.bytes.len()
+    }
+
+    /// Whether there are no bytes.
+    #[inline]
+    pub fn is_empty(&self) -> bool
+        ensures { result ≡ (length (signed_bytes self.now) == 0) }
+    {
+        self.bytes.is_empty()
+    }
+
+    /// The signed byte at an index, `None` where the index isn't below the length.
+    #[inline]
+    pub fn get(&self, index: usize) -> Option<i8>
+        ensures { result ≡ signed_item (signed_bytes self.now) index }
+    {
+        let byte = self.bytes.get(index)?;
+        Some(i8::from_le_bytes([*byte]))
+    }
+
+    /// The same bytes, unsigned.
+    #[inline]
+    pub fn as_bytes(&self) -> &'buf [u8]
+        ensures { result.now ≡ signed_bytes self.now }
+    {
+        self.bytes
+    }
+}
+
+impl<'buf> TableRead<'buf> for SignedBytes<'buf> {
+    ghost use Rattle.planus_read.specs.SignedBytes.{signed_bytes};
+
+    ghost reads = { λ S start f r. Answer (λ list. ByteListThere S f (signed_bytes list)) (byte_list_clauses S f) r };
+
+    #[inline]
+    fn from_buffer(
+        buffer: SliceWithStartOffset<'buf>,
+        offset: usize,
+    ) -> Result<SignedBytes<'buf>, ErrorKind> {
+        let bytes = <&'buf [u8] as TableRead<'buf>>::from_buffer(buffer, offset)?;
+        Ok(SignedBytes { bytes })
+    }
+}

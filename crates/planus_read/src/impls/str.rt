@@ -1,0 +1,72 @@
+//! Texts as fields of tables and as items of vectors.
+
+ghost use Rattle.std.specs.Prelude.{◌≡◌, ◌<◌, length, take, slice_index, IfOk, IfErr, codes};
+ghost use Rattle.std.proofs.Common.{lit≤};
+ghost use Rattle.planus_read.specs.Located.{Located};
+ghost use Rattle.planus_read.specs.Clauses.{Answer, FirstBroken};
+ghost use Rattle.planus_read.specs.Reading.{TextThere, text_clauses};
+ghost use Rattle.planus_read.specs.Heads.{IsTextOf, text_of_clauses};
+
+use super::array_from_buffer;
+use crate::errors::{Error, ErrorKind};
+use crate::slice_helpers::SliceWithStartOffset;
+use crate::traits::{ReadError, Stride, TableRead, VectorReadInner};
+
+// The text of the first count items, with a zero byte behind it.
+fn text_of(items: &[u8], count: usize) -> Result<&str, ErrorKind>
+    ensures text { IfOk result (λ text. IsTextOf items.now count text.now) }
+    ensures error { IfErr result (λ e. FirstBroken (text_of_clauses items.now count) e) }
+{
+    if count >= items.len() {
+        return Err(ErrorKind::MissingNullTerminator);
+    }
+    if items[count] != 0 {
+        return Err(ErrorKind::MissingNullTerminator);
+    }
+    match std::str::from_utf8(&items[..count]) {
+        Ok(text) => Ok(text),
+        Err(source) => Err(ErrorKind::InvalidUtf8 { source }),
+    }
+}
+
+impl<'buf> TableRead<'buf> for &'buf str {
+    ghost reads = { λ S start f r. Answer (λ text. TextThere S f text.now) (text_clauses S f) r };
+
+    #[inline]
+    fn from_buffer(
+        buffer: SliceWithStartOffset<'buf>,
+        offset: usize,
+    ) -> Result<&'buf str, ErrorKind> {
+        let (items, count) = array_from_buffer(buffer, offset)?;
+        text_of(items.as_slice(), count as usize)
+    }
+}
+
+impl<'buf> Stride for &'buf str {
+    ghost STRIDE = { 4 };
+
+    ghost is_positive = { lit≤ tt };
+
+    #[inline]
+    fn stride() -> usize
+        ensures { result ≡ 4 }
+    {
+        4
+    }
+}
+
+impl<'buf> ReadError for &'buf str {
+    type Error = Error;
+}
+
+impl<'buf> VectorReadInner<'buf> for &'buf str {
+    ghost gives = { λ S start f r. Located (Answer (λ text. TextThere S f text.now) (text_clauses S f)) (codes "[str]") (codes "get") start r };
+
+    #[inline]
+    fn from_buffer(buffer: SliceWithStartOffset<'buf>, offset: usize) -> Result<&'buf str, Error> {
+        match <&'buf str as TableRead<'buf>>::from_buffer(buffer, offset) {
+            Ok(text) => Ok(text),
+            Err(kind) => Err(kind.with_error_location("[str]", "get", buffer.offset_from_start())),
+        }
+    }
+}

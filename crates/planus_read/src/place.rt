@@ -1,0 +1,124 @@
+//! Places in a buffer whose reading is chosen later.
+
+ghost use Rattle.std.specs.Prelude.{◌≡◌, []};
+ghost use Rattle.std.proofs.Common.{lit≤};
+ghost use Rattle.planus_read.specs.Clauses.{Answer};
+
+use crate::errors::ErrorKind;
+use crate::slice_helpers::SliceWithStartOffset;
+use crate::traits::{Stride, TableRead, TableReadUnion, VectorName, VectorRead};
+
+/// A field's place: a piece of a buffer and an offset in it. How it is read is chosen later; until then nothing is tested.
+#[derive(Clone, Copy, Debug)]
+pub struct Place<'buf> {
+    buffer: SliceWithStartOffset<'buf>,
+    offset: usize,
+}
+
+/// A union's tag and its value's place.
+#[derive(Clone, Copy, Debug)]
+pub struct TaggedPlace<'buf> {
+    tag: u8,
+    place: Place<'buf>,
+}
+
+impl<'buf> Place<'buf> {
+    ghost use Rattle.planus_read.specs.Places.{place_bytes, place_start, place_offset};
+
+    /// The value of type `T` that stands here, or the error of `T` at this place.
+    #[inline]
+    pub fn read<T: TableRead<'buf>>(&self) -> Result<T, ErrorKind>
+        ensures { T.reads (place_bytes self.now) (place_start self.now) (place_offset self.now) result }
+    {
+        T::from_buffer(self.buffer, self.offset)
+    }
+}
+
+impl<'buf> TableRead<'buf> for Place<'buf> {
+    ghost use Rattle.planus_read.specs.Places.{IsPlace};
+
+    ghost reads = { λ S start f r. Answer (IsPlace S start f) [] r };
+
+    #[inline]
+    fn from_buffer(
+        buffer: SliceWithStartOffset<'buf>,
+        offset: usize,
+    ) -> Result<Place<'buf>, ErrorKind> {
+        Ok(Place { buffer, offset })
+    }
+}
+
+impl<'buf> Stride for Place<'buf> {
+    ghost STRIDE = { 4 };
+
+    ghost is_positive = { lit≤ tt };
+
+    #[inline]
+    fn stride() -> usize
+        ensures { result ≡ 4 }
+    {
+        4
+    }
+}
+
+impl<'buf> VectorRead<'buf> for Place<'buf> {
+    ghost use Rattle.planus_read.specs.Places.{IsPlace};
+
+    ghost gives = { λ S start f x. IsPlace S start f x };
+
+    #[inline]
+    fn from_buffer(buffer: SliceWithStartOffset<'buf>, offset: usize) -> Place<'buf> {
+        Place { buffer, offset }
+    }
+}
+
+impl<'buf> TaggedPlace<'buf> {
+    ghost use Rattle.planus_read.specs.Places.{tagged_tag, tagged_place};
+
+    /// The union's tag.
+    #[inline]
+    pub fn tag(&self) -> u8
+        ensures { result ≡ tagged_tag self.now }
+    {
+        self.tag
+    }
+
+    /// The place of the union's value.
+    #[inline]
+    pub fn place(&self) -> Place<'buf>
+        ensures { result ≡ tagged_place self.now }
+    {
+        self.place
+    }
+}
+
+impl<'buf> TableReadUnion<'buf> for TaggedPlace<'buf> {
+    ghost use Rattle.planus_read.specs.Places.{IsTaggedPlace};
+
+    ghost reads = { λ S start tag f r. Answer (IsTaggedPlace S start tag f) [] r };
+
+    #[inline]
+    fn from_buffer(
+        buffer: SliceWithStartOffset<'buf>,
+        tag: u8,
+        offset: usize,
+    ) -> Result<TaggedPlace<'buf>, ErrorKind> {
+        Ok(TaggedPlace {
+            tag,
+            place: Place { buffer, offset },
+        })
+    }
+}
+
+impl<'buf> VectorName for TaggedPlace<'buf> {
+    ghost use Rattle.std.specs.Prelude.{codes};
+
+    ghost name = { codes "[union]" };
+
+    #[inline]
+    fn vector_name() -> &'static str
+        ensures { result.now ≡ codes "[union]" }
+    {
+        "[union]"
+    }
+}

@@ -1,0 +1,201 @@
+//! Pieces of a buffer that know where in it they start.
+
+ghost use Rattle.std.specs.Prelude.{◌≡◌, ◌+◌, ◌<◌, ◌≤◌, ◌^◌, ◌==◌, length, IfOk, IfErr};
+
+use crate::errors::ErrorKind;
+use std::fmt;
+
+/// Bytes of a buffer, and where in the buffer they start.
+#[derive(Clone, Copy, Debug)]
+pub struct SliceWithStartOffset<'buf> {
+    buffer: &'buf [u8],
+    offset_from_start: usize,
+    ghost fits: { offset_from_start + length buffer.now < 2 ^ 64 },
+}
+
+/// `N` bytes of a buffer, and where in the buffer they start.
+#[derive(Clone, Copy)]
+pub struct ArrayWithStartOffset<'buf, const N: usize> {
+    buffer: &'buf [u8; N],
+    offset_from_start: usize,
+    ghost fits: { offset_from_start + N < 2 ^ 64 },
+    ghost small: { N < 2 ^ 63 },
+}
+
+impl<'buf, const N: usize> fmt::Debug for ArrayWithStartOffset<'buf, N> {
+    fn fmt<W: fmt::Write>(&self, f: &mut fmt::Formatter<W>) -> fmt::Result {
+        let array = self.buffer;
+        let buffer: &[u8] = &array[..];
+        let start = self.offset_from_start;
+        write!(
+            f,
+            "ArrayWithStartOffset {{ buffer: {buffer:?}, offset_from_start: {start} }}"
+        )
+    }
+}
+
+impl<'buf> SliceWithStartOffset<'buf> {
+    ghost use Rattle.planus_read.specs.Pieces.{slice_bytes, slice_start, IsAdvanced, IsArrayAt};
+
+    /// These bytes, which start at this offset in bytes from the start of a buffer.
+    #[inline]
+    pub fn new(buffer: &'buf [u8], offset_from_start: usize) -> Self
+        requires { offset_from_start + length buffer.now < 2 ^ 64 }
+        ensures bytes { slice_bytes result ≡ buffer.entry.now }
+        ensures start { slice_start result ≡ offset_from_start }
+    {
+        SliceWithStartOffset {
+            buffer,
+            offset_from_start,
+        }
+    }
+
+    /// The offset in bytes of the first byte from the buffer's start.
+    #[inline]
+    pub fn offset_from_start(&self) -> usize
+        ensures { result ≡ slice_start self.now }
+    {
+        self.offset_from_start
+    }
+
+    /// The length in bytes.
+    #[inline]
+    pub fn len(&self) -> usize
+        ensures { result ≡ length (slice_bytes self.now) }
+    {
+        self.buffer.len()
+    }
+
+    /// Whether there are no bytes.
+    #[inline]
+    pub fn is_empty(&self) -> bool
+        ensures { result ≡ (length (slice_bytes self.now) == 0) }
+    {
+        self.buffer.len() == 0
+    }
+
+    /// The bytes.
+    #[inline]
+    pub fn as_slice(&self) -> &'buf [u8]
+        ensures { result.now ≡ slice_bytes self.now }
+    {
+        self.buffer
+    }
+
+    /// The piece that starts `amount` bytes further on; [`ErrorKind::InvalidOffset`] where that is past the end.
+    #[inline]
+    pub fn advance(&self, amount: usize) -> std::result::Result<Self, ErrorKind>
+        ensures piece { IfOk result (λ piece. IsAdvanced self.now amount piece) }
+        ensures error { IfErr result (λ e. (length (slice_bytes self.now) < amount) × (e ≡ ErrorKind.InvalidOffset)) }
+    {
+        if amount > self.buffer.len() {
+            return Err(ErrorKind::InvalidOffset);
+        }
+        Ok(SliceWithStartOffset {
+            buffer: &self.buffer[amount..],
+            offset_from_start: self.offset_from_start + amount,
+        })
+    }
+
+    /// The `N` bytes that start `amount` bytes further on; [`ErrorKind::InvalidOffset`] where they don't all lie in this piece.
+    #[inline]
+    pub fn advance_as_array<const N: usize>(
+        &self,
+        amount: usize,
+    ) -> std::result::Result<ArrayWithStartOffset<'buf, N>, ErrorKind>
+        ensures array { IfOk result (λ array. IsArrayAt (slice_bytes self.now) (slice_start self.now) amount array) }
+        ensures error { IfErr result (λ e. (length (slice_bytes self.now) < amount + N) × (e ≡ ErrorKind.InvalidOffset)) }
+    {
+        let whole = self.buffer;
+        if amount > whole.len() {
+            return Err(ErrorKind::InvalidOffset);
+        }
+        let rest = &whole[amount..];
+        if N > rest.len() {
+            return Err(ErrorKind::InvalidOffset);
+        }
+        match rest.first_chunk::<N>() {
+            None => Err(ErrorKind::InvalidOffset),
+            Some(buffer) => Ok(ArrayWithStartOffset {
+                buffer,
+                offset_from_start: self.offset_from_start + amount,
+            }),
+        }
+    }
+
+    /// The `N` bytes that start `amount` bytes further on, all of which lie in this piece.
+    #[inline]
+    pub fn unchecked_advance_as_array<const N: usize>(
+        &self,
+        amount: usize,
+    ) -> ArrayWithStartOffset<'buf, N>
+        requires { amount + N ≤ length (slice_bytes self.now) }
+        ensures { IsArrayAt (slice_bytes self.now) (slice_start self.now) amount result }
+    {
+        match self.advance_as_array::<N>(amount) {
+            Ok(array) => array,
+            Err(_) => unreachable!(),
+        }
+    }
+}
+
+impl<'buf, const N: usize> ArrayWithStartOffset<'buf, N> {
+    ghost use Rattle.planus_read.specs.Pieces.{array_bytes, array_start, IsArrayAt};
+
+    /// These bytes, which start at this offset in bytes from the start of a buffer.
+    #[inline]
+    pub fn new(buffer: &'buf [u8; N], offset_from_start: usize) -> Self
+        requires fits { offset_from_start + N < 2 ^ 64 }
+        requires small { N < 2 ^ 63 }
+        ensures bytes { array_bytes result ≡ buffer.entry.now }
+        ensures start { array_start result ≡ offset_from_start }
+    {
+        ArrayWithStartOffset {
+            buffer,
+            offset_from_start,
+        }
+    }
+
+    /// The offset in bytes of the first byte from the buffer's start.
+    #[inline]
+    pub fn offset_from_start(&self) -> usize
+        ensures { result ≡ array_start self.now }
+    {
+        self.offset_from_start
+    }
+
+    /// The bytes.
+    #[inline]
+    pub fn as_array(&self) -> &'buf [u8; N]
+        ensures { result.now ≡ array_bytes self.now }
+    {
+        self.buffer
+    }
+
+    /// The `K` bytes that start `amount` bytes further on; [`ErrorKind::InvalidOffset`] where they don't all lie in this array.
+    #[inline]
+    pub fn advance_as_array<const K: usize>(
+        &self,
+        amount: usize,
+    ) -> std::result::Result<ArrayWithStartOffset<'buf, K>, ErrorKind>
+        ensures array { IfOk result (λ array. IsArrayAt (array_bytes self.now) (array_start self.now) amount array) }
+        ensures error { IfErr result (λ e. (N < amount + K) × (e ≡ ErrorKind.InvalidOffset)) }
+    {
+        let array = self.buffer;
+        let whole: &[u8] = &array[..];
+        if amount > whole.len() {
+            return Err(ErrorKind::InvalidOffset);
+        }
+        let rest = &whole[amount..];
+        if K > rest.len() {
+            return Err(ErrorKind::InvalidOffset);
+        }
+        match rest.first_chunk::<K>() {
+            None => Err(ErrorKind::InvalidOffset),
+            Some(buffer) => Ok(ArrayWithStartOffset {
+                buffer,
+                offset_from_start: self.offset_from_start + amount,
+            }),
+        }
+    }
+}

@@ -1,0 +1,80 @@
+//! The texts of errors.
+
+use crate::errors::{Error, ErrorKind, ErrorLocation, UnknownEnumTag, UnknownEnumTagKind};
+use std::test::Fail;
+
+#[test]
+fn kinds_print_their_texts(rt: HostRuntime) -> Result<(), Fail> {
+    let rows = [
+        (ErrorKind::InvalidOffset, "Invalid offset"),
+        (ErrorKind::InvalidLength, "Invalid length"),
+        (
+            ErrorKind::UnionVectorLengthsMismatched {
+                tags_len: 2,
+                values_len: 3,
+            },
+            "Mismatched lengths between tag and value vectors. Length of tags = 2, length of values = 3",
+        ),
+        (
+            ErrorKind::from(UnknownEnumTagKind { tag: -1 }),
+            "Unknown enum (tag = -1)",
+        ),
+        (
+            ErrorKind::UnknownUnionTag { tag: 9 },
+            "Unknown union (tag = 9)",
+        ),
+        (
+            ErrorKind::InvalidVtableLength { length: 3 },
+            "Invalid vtable length (length = 3)",
+        ),
+        (ErrorKind::MissingRequired, "Missing required field"),
+        (ErrorKind::MissingNullTerminator, "Missing null terminator"),
+    ];
+    for (kind, text) in rows {
+        let shown = format!(in rt.alloc(); "{kind}")?;
+        assert_eq!(rt; shown.as_str(), text);
+    }
+    Ok(())
+}
+
+#[test]
+fn a_fault_in_utf8_begins_its_text(rt: HostRuntime) -> Result<(), Fail> {
+    let Err(source) = std::str::from_utf8(&[0xff]) else {
+        assert!(rt; false, "a text");
+        return Ok(());
+    };
+    let shown = format!(in rt.alloc(); "{}", ErrorKind::from(source))?;
+    let words = format!(in rt.alloc(); "Invalid utf-8: {source}")?;
+    assert_eq!(rt; shown.as_str(), words.as_str());
+    Ok(())
+}
+
+#[test]
+fn locations_print_their_texts(rt: HostRuntime) -> Result<(), Fail> {
+    let error: Error = ErrorKind::InvalidLength.with_error_location("Monster", "name", 255);
+    let shown = format!(in rt.alloc(); "{error}")?;
+    assert_eq!(rt; shown.as_str(), "In <Monster@ff>::name(): Invalid length");
+    let nowhere = ErrorLocation {
+        type_: "T",
+        method: "m",
+        byte_offset: usize::MAX,
+    };
+    let shown = format!(in rt.alloc(); "{nowhere}")?;
+    assert_eq!(rt; shown.as_str(), "<T>::m()");
+    let tag: UnknownEnumTag = UnknownEnumTagKind { tag: -1 }.with_error_location(
+        "Color", "color", 16,
+    );
+    let shown = format!(in rt.alloc(); "{tag}")?;
+    assert_eq!(rt;
+        shown.as_str(),
+        "In <Color@10>::color(): Unknown enum (tag = -1)"
+    );
+    let same = tag.clone()?;
+    let error = Error::from(same);
+    let shown = format!(in rt.alloc(); "{error}")?;
+    assert_eq!(rt;
+        shown.as_str(),
+        "In <Color@10>::color(): Unknown enum (tag = -1)"
+    );
+    Ok(())
+}

@@ -1,0 +1,163 @@
+//! Each trait at concrete types, through its bound.
+
+use crate::errors::{Error, ErrorKind};
+use crate::table_reader::Table;
+use crate::{
+    Place, ReadAsRoot, SignedBytes, SliceWithStartOffset, Stride, TableRead, TableReadUnion,
+    TaggedPlace, VectorRead, VectorReadInner, VectorReadUnion,
+};
+use std::test::Fail;
+
+const BYTES: [u8; 16] = [
+    0xff, 0xfe, 0xfd, 0xfc, 0xfb, 0xfa, 0xf9, 0xf8, 1, 0, 2, 0, 3, 0, 0, 0,
+];
+
+fn field<'buf, T: TableRead<'buf>>(bytes: &'buf [u8], offset: usize) -> Result<T, ErrorKind> {
+    T::from_buffer(SliceWithStartOffset::new(bytes, 0), offset)
+}
+
+// The item at an offset, where all of it is there.
+fn item<'buf, T: VectorRead<'buf>>(bytes: &'buf [u8], offset: usize) -> Option<T> {
+    let stride = T::stride();
+    if offset > bytes.len() || bytes.len() - offset < stride {
+        return None;
+    }
+    Some(T::from_buffer(SliceWithStartOffset::new(bytes, 0), offset))
+}
+
+fn inner_item<'buf, T: VectorReadInner<'buf>>(
+    bytes: &'buf [u8],
+    offset: usize,
+) -> Option<Result<T, T::Error>> {
+    let stride = T::stride();
+    if offset > bytes.len() || bytes.len() - offset < stride {
+        return None;
+    }
+    Some(T::from_buffer(SliceWithStartOffset::new(bytes, 0), offset))
+}
+
+fn union_field<'buf, T: TableReadUnion<'buf>>(
+    bytes: &'buf [u8],
+    tag: u8,
+    offset: usize,
+) -> Result<T, ErrorKind> {
+    T::from_buffer(SliceWithStartOffset::new(bytes, 0), tag, offset)
+}
+
+#[test]
+fn numbers_are_fields(rt: HostRuntime) -> Result<(), Fail> {
+    assert_eq!(rt; field::<u8>(&BYTES, 0)?, 0xff);
+    assert_eq!(rt; field::<u16>(&BYTES, 0)?, 0xfeff);
+    assert_eq!(rt; field::<u32>(&BYTES, 0)?, 0xfcfd_feff);
+    assert_eq!(rt; field::<u64>(&BYTES, 0)?, 0xf8f9_fafb_fcfd_feff);
+    assert_eq!(rt; field::<i8>(&BYTES, 0)?, -1);
+    assert_eq!(rt; field::<i16>(&BYTES, 0)?, -257);
+    assert_eq!(rt; field::<i32>(&BYTES, 0)?, -50_462_977);
+    assert_eq!(rt; field::<i64>(&BYTES, 8)?, 0x3_0002_0001);
+    assert!(rt; field::<bool>(&BYTES, 0)?);
+    assert!(rt; !field::<bool>(&BYTES, 9)?);
+    assert!(rt; field::<u64>(&BYTES, 9).is_err());
+    Ok(())
+}
+
+#[test]
+fn numbers_are_items(rt: HostRuntime) {
+    assert_eq!(rt; item::<u16>(&BYTES, 8), Some(1));
+    assert_eq!(rt; item::<u32>(&BYTES, 8), Some(0x2_0001));
+    assert_eq!(rt; item::<u64>(&BYTES, 8), Some(0x3_0002_0001));
+    assert_eq!(rt; item::<i16>(&BYTES, 0), Some(-257));
+    assert_eq!(rt; item::<i32>(&BYTES, 8), Some(0x2_0001));
+    assert_eq!(rt; item::<i64>(&BYTES, 8), Some(0x3_0002_0001));
+    assert_eq!(rt; item::<bool>(&BYTES, 8), Some(true));
+    assert_eq!(rt; item::<u64>(&BYTES, 9), None);
+}
+
+// A reference to the text `Hi` at 0, and one to damage at 4.
+const TEXTS: [u8; 16] = [8, 0, 0, 0, 99, 0, 0, 0, 2, 0, 0, 0, 72, 105, 0, 0];
+
+#[test]
+fn texts_and_byte_lists(rt: HostRuntime) -> Result<(), Fail> {
+    assert_eq!(rt; field::<&str>(&TEXTS, 0)?, "Hi");
+    assert_eq!(rt; field::<&[u8]>(&TEXTS, 0)?, b"Hi".as_slice());
+    let signed = field::<SignedBytes<'_>>(&[4, 0, 0, 0, 1, 0, 0, 0, 0xff], 0)?;
+    assert_eq!(rt; signed.len(), 1);
+    assert!(rt; !signed.is_empty());
+    assert_eq!(rt; signed.get(0), Some(-1));
+    assert_eq!(rt; signed.get(1), None);
+    assert_eq!(rt; signed.as_bytes(), [0xff].as_slice());
+    Ok(())
+}
+
+#[test]
+fn texts_are_items(rt: HostRuntime) -> Result<(), Fail> {
+    assert_eq!(rt; <&str as Stride>::stride(), 4);
+    assert_eq!(rt; inner_item::<&str>(&TEXTS, 0).ok_or("no item")??, "Hi");
+    assert_eq!(rt;
+        item::<Result<&str, Error>>(&TEXTS, 0).ok_or("no item")??,
+        "Hi"
+    );
+    match item::<Result<&str, Error>>(&TEXTS, 4) {
+        Some(Err(e)) => {
+            let text = format!(in rt.alloc(); "{e}")?;
+            assert_eq!(rt; text.as_str(), "In <[str]@0>::get(): Invalid offset");
+        }
+        _ => assert!(rt; false, "no error"),
+    }
+    Ok(())
+}
+
+#[test]
+fn places_are_read_later(rt: HostRuntime) -> Result<(), Fail> {
+    assert_eq!(rt; field::<Place<'_>>(&TEXTS, 0)?.read::<&str>()?, "Hi");
+    assert!(rt; field::<Place<'_>>(&TEXTS, 99)?.read::<u8>().is_err());
+    assert_eq!(rt;
+        item::<Place<'_>>(&TEXTS, 0)
+            .ok_or("no item")?
+            .read::<u32>()?,
+        8
+    );
+    let union = union_field::<TaggedPlace<'_>>(&TEXTS, 7, 0)?;
+    assert_eq!(rt; union.tag(), 7);
+    assert_eq!(rt; union.place().read::<&str>()?, "Hi");
+    let piece = SliceWithStartOffset::new(&TEXTS, 0);
+    let union = <TaggedPlace<'_> as VectorReadUnion<'_>>::from_buffer(piece, 3, 0)?;
+    assert_eq!(rt; union.tag(), 3);
+    Ok(())
+}
+
+// A root table with one number.
+#[derive(Clone, Copy)]
+struct Root<'a>(Table<'a>);
+
+impl<'a> ReadAsRoot<'a> for Root<'a> {
+    ghost use Rattle.std.specs.Prelude.{⊤};
+
+    ghost reads_root = { λ S r. ⊤ };
+
+    fn read_as_root(slice: &'a [u8]) -> crate::Result<Root<'a>> {
+        match Table::from_buffer(SliceWithStartOffset::new(slice, 0), 0) {
+            Ok(table) => Ok(Root(table)),
+            Err(kind) => Err(kind.with_error_location("[Root]", "read_as_root", 0)),
+        }
+    }
+}
+
+#[test]
+fn roots(rt: HostRuntime) -> Result<(), Fail> {
+    let bytes = [4, 0, 0, 0, 0xfa, 0xff, 0xff, 0xff, 24, 0, 6, 0, 6, 0, 4, 0];
+    let Root(table) = Root::read_as_root(&bytes)?;
+    assert_eq!(rt; table.access::<u16>(0, "Root", "n")?, Some(24));
+    let nested = field::<Table<'_>>(&bytes, 0)?;
+    assert_eq!(rt; nested.access_required::<u8>(0, "Root", "n")?, 24);
+    match Root::read_as_root(&[]) {
+        Ok(_) => assert!(rt; false, "a root"),
+        Err(e) => {
+            let text = format!(in rt.alloc(); "{e}")?;
+            assert_eq!(rt;
+                text.as_str(),
+                "In <[Root]@0>::read_as_root(): Invalid offset"
+            );
+        }
+    }
+    Ok(())
+}

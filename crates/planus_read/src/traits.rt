@@ -1,0 +1,149 @@
+//! The traits of what can be read.
+
+ghost use Rattle.std.specs.Prelude.{◌≡◌, ◌≤◌, ◌+◌, ℕ, List, length, codes, Result as std_result};
+ghost use Rattle.planus_read.specs.declared.errors.ErrorKind.{ErrorKind};
+ghost use Rattle.planus_read.specs.declared.located.Error.{Error};
+ghost use Rattle.planus_read.specs.Pieces.{slice_bytes, slice_start};
+ghost use Rattle.planus_read.specs.Located.{Located};
+
+use crate::errors::ErrorKind;
+use crate::slice_helpers::SliceWithStartOffset;
+use crate::{Result, located};
+
+/// What can be read as the root of a buffer.
+pub trait ReadAsRoot<'a>: Sized {
+    /// What the whole bytes of a buffer may be answered with.
+    ghost reads_root: { List ℕ → std_result Self Error → Type 0 };
+
+    /// The view of the root of these bytes, the whole bytes of a buffer.
+    fn read_as_root(slice: &'a [u8]) -> Result<Self>
+        ensures { reads_root slice.entry.now result };
+}
+
+/// What can be read as a field of a table.
+pub trait TableRead<'buf>: Sized {
+    /// What a piece with these bytes and this start may be answered with at this offset.
+    ghost reads: { List ℕ → ℕ → ℕ → std_result Self ErrorKind → Type 0 };
+
+    /// The value of the field that stands at the offset, in bytes from the start of the piece.
+    fn from_buffer(
+        buffer: SliceWithStartOffset<'buf>,
+        offset: usize,
+    ) -> std::result::Result<Self, ErrorKind>
+        ensures { reads (slice_bytes buffer.entry) (slice_start buffer.entry) offset result };
+}
+
+/// What can be read as a union field of a table.
+pub trait TableReadUnion<'buf>: Sized {
+    /// What a piece with these bytes and this start may be answered with for this tag at this offset.
+    ghost reads: { List ℕ → ℕ → ℕ → ℕ → std_result Self ErrorKind → Type 0 };
+
+    /// The value of the union field with this tag, whose reference stands at the offset, in bytes from the start of the piece.
+    fn from_buffer(
+        buffer: SliceWithStartOffset<'buf>,
+        tag: u8,
+        offset: usize,
+    ) -> std::result::Result<Self, ErrorKind>
+        ensures { reads (slice_bytes buffer.entry) (slice_start buffer.entry) tag offset result };
+}
+
+/// What can be read as a field of a table that is a vector of unions.
+pub trait TableReadUnionVector<'buf>: Sized {
+    /// What a piece with these bytes and this start may be answered with at these two offsets.
+    ghost reads: { List ℕ → ℕ → ℕ → ℕ → std_result Self ErrorKind → Type 0 };
+
+    /// The vector of unions whose references to tags and values stand at the offsets, in bytes from the start of the piece.
+    fn from_buffer(
+        buffer: SliceWithStartOffset<'buf>,
+        tags_offset: usize,
+        values_offset: usize,
+    ) -> std::result::Result<Self, ErrorKind>
+        ensures { reads (slice_bytes buffer.entry) (slice_start buffer.entry) tags_offset values_offset result };
+}
+
+/// What has a size in a vector.
+pub trait Stride: Sized {
+    /// The size of an item in bytes.
+    ghost STRIDE: { ℕ };
+
+    /// The size of an item in bytes.
+    fn stride() -> usize
+        ensures { result ≡ STRIDE };
+
+    /// No item has size 0.
+    ghost is_positive: { 1 ≤ STRIDE };
+}
+
+/// What can be read as an item of a vector.
+pub trait VectorRead<'buf>: Stride {
+    /// Which item a piece with these bytes and this start gives at this offset.
+    ghost gives: { List ℕ → ℕ → ℕ → Self → Type 0 };
+
+    /// The item that stands at the offset, in bytes from the start of the piece. All of it lies in the piece.
+    fn from_buffer(buffer: SliceWithStartOffset<'buf>, offset: usize) -> Self
+        requires { offset + Self.STRIDE ≤ length (slice_bytes buffer) }
+        ensures { gives (slice_bytes buffer.entry) (slice_start buffer.entry) offset result };
+}
+
+/// The error of an item whose read may fail.
+pub trait ReadError {
+    /// The error.
+    type Error;
+}
+
+/// What can be read as an item of a vector, and may fail.
+pub trait VectorReadInner<'buf>: Stride + ReadError {
+    /// What a piece with these bytes and this start may be answered with at this offset.
+    ghost gives: { List ℕ → ℕ → ℕ → std_result Self Self.Error → Type 0 };
+
+    /// The item that stands at the offset, in bytes from the start of the piece. Its own bytes, not those that it refers to, all lie in
+    /// the piece.
+    fn from_buffer(
+        buffer: SliceWithStartOffset<'buf>,
+        offset: usize,
+    ) -> std::result::Result<Self, Self::Error>
+        requires { offset + Self.STRIDE ≤ length (slice_bytes buffer) }
+        ensures { gives (slice_bytes buffer.entry) (slice_start buffer.entry) offset result };
+}
+
+/// The name of the vector type of a union, for the location of an item's error.
+pub trait VectorName {
+    /// The bytes of the name.
+    ghost name: { List ℕ };
+
+    /// The name.
+    fn vector_name() -> &'static str
+        ensures { result.now ≡ name };
+}
+
+/// What can be read as an item of a vector of unions: each union field with a [`VectorName`].
+pub trait VectorReadUnion<'buf>: TableReadUnion<'buf> + VectorName {
+    /// The union with this tag whose reference stands at the offset, in bytes from the start of the piece. Its error has the location
+    /// of the piece under the vector's name and the method `get`.
+    fn from_buffer(buffer: SliceWithStartOffset<'buf>, tag: u8, offset: usize) -> Result<Self>
+        ensures { Located (Self.reads (slice_bytes buffer.entry) (slice_start buffer.entry) tag offset) Self.name (codes "get") (slice_start buffer.entry) result };
+}
+
+// The item with names of any lifetime.
+fn union_item<'buf, 'n, T: TableReadUnion<'buf> + VectorName>(
+    buffer: SliceWithStartOffset<'buf>,
+    tag: u8,
+    offset: usize,
+) -> std::result::Result<T, located::Error<'n>>
+    ensures { Located (T.reads (slice_bytes buffer.entry) (slice_start buffer.entry) tag offset) T.name (codes "get") (slice_start buffer.entry) result }
+{
+    match T::from_buffer(buffer, tag, offset) {
+        Ok(value) => Ok(value),
+        Err(kind) => Err(kind.with_error_location(
+            T::vector_name(),
+            "get",
+            buffer.offset_from_start(),
+        )),
+    }
+}
+
+impl<'buf, T: TableReadUnion<'buf> + VectorName> VectorReadUnion<'buf> for T {
+    fn from_buffer(buffer: SliceWithStartOffset<'buf>, tag: u8, offset: usize) -> Result<T> {
+        union_item::<T>(buffer, tag, offset)
+    }
+}

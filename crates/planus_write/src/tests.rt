@@ -1,0 +1,379 @@
+ghost use Rattle.std.specs.Prelude.{◌≡◌, ◌+◌, ◌^◌, ◌≤◌, length, replicate, ⊤};
+ghost use Rattle.std.specs.Int.{w32, to_le_bytes};
+ghost use Rattle.planus_back.specs.Promises.{IsPowerOfTwo};
+
+use crate::builder::Builder;
+use crate::errors::BuildError;
+use crate::offset::{Offset, Text};
+use crate::traits::WriteAsOffset;
+use planus_back::{Fill, Promises};
+use std::alloc::{AllocError, Global};
+use std::test::Fail;
+
+const FOUR_WRITES: &[u8] = b"\x05\0\0\0\x000123456ABCDEFGHIJKLMNO";
+
+// One less than an alignment from 1 to 16.
+fn mask_of(alignment: usize) -> usize
+    ensures power { IsPowerOfTwo (result + 1) }
+    ensures bound { result + 1 ≤ 2 ^ 30 }
+{
+    match alignment {
+        1 => 0,
+        2 => 1,
+        4 => 3,
+        8 => 7,
+        _ => 15,
+    }
+}
+
+// Leaves these very bytes, at any place.
+#[derive(Drop)]
+struct Same<'a> {
+    bytes: &'a [u8],
+}
+
+impl<'a> Fill for Same<'a> {
+    ghost fits = { λ filler _ n. n ≡ length filler.bytes.now };
+
+    ghost leaves = { λ filler _ _. filler.bytes.now };
+
+    fn fill(&self, _place: u32, bytes: &mut [u8]) {
+        bytes.copy_from_slice(self.bytes);
+    }
+}
+
+// Leaves one byte over and over, as often as there is room.
+#[derive(Drop)]
+struct Repeated {
+    byte: u8,
+}
+
+impl Fill for Repeated {
+    ghost fits = { λ _ _ _. ⊤ };
+
+    ghost leaves = { λ filler _ n. replicate n filler.byte };
+
+    fn fill(&self, _place: u32, bytes: &mut [u8]) {
+        bytes.fill(self.byte);
+    }
+}
+
+// Leaves the place at which it is called.
+#[derive(Drop)]
+struct OwnPlace;
+
+impl Fill for OwnPlace {
+    ghost fits = { λ _ _ n. n ≡ 4 };
+
+    ghost leaves = { λ _ place _. to_le_bytes w32 place };
+
+    fn fill(&self, place: u32, bytes: &mut [u8]) {
+        bytes.copy_from_slice(&place.to_le_bytes());
+    }
+}
+
+// Writes the bytes as one part.
+fn put(builder: &mut Builder, bytes: &[u8], alignment: usize) -> Result<(), BuildError> {
+    builder.write_with(bytes.len(), mask_of(alignment), &Same { bytes })
+}
+
+fn put_four(builder: &mut Builder) -> Result<(), BuildError> {
+    put(builder, b"MNO", 1)?;
+    put(builder, b"IJKL", 2)?;
+    put(builder, b"ABCDEFGH", 4)?;
+    put(builder, b"0123456", 1)
+}
+
+// Finishes with the part that was written last as the root.
+fn finish_last(builder: &mut Builder) -> Result<&[u8], BuildError> {
+    let root = builder.current_offset::<()>();
+    builder.finish(root, None)
+}
+
+// Finishes with a value of before, which the builder still has.
+fn finish_with<T>(
+    builder: &mut Builder,
+    root: Offset<T>,
+    identifier: Option<[u8; 4]>,
+) -> Result<&[u8], Fail> {
+    if root.distance() as usize > builder.len() {
+        return Err(Fail::new("the builder has no such value"));
+    }
+    Ok(builder.finish(root, identifier)?)
+}
+
+// Prepares a value, of which only the bound is known.
+fn prepared<T, X: WriteAsOffset<T>>(
+    builder: &mut Builder,
+    value: &X,
+) -> Result<Offset<T>, BuildError>
+    requires { X.may value.now builder.old }
+{
+    value.prepare(builder)
+}
+
+#[test]
+fn parts_and_clear(rt: HostRuntime) -> Result<(), Fail> {
+    let mut empty = Builder::new(rt.alloc())?;
+    assert_eq!(rt; finish_last(&mut empty)?, b"\x04\0\0\0".as_slice());
+    let mut builder = Builder::new(rt.alloc())?;
+    put_four(&mut builder)?;
+    assert_eq!(rt; finish_last(&mut builder)?, FOUR_WRITES);
+    builder.clear();
+    put(&mut builder, b"IJKL", 4)?;
+    put(&mut builder, b"X", 1)?;
+    put(&mut builder, b"Y", 1)?;
+    put(&mut builder, b"ABCDEFGH", 8)?;
+    let after_clear = b"\x08\0\0\0\0\0\0\0ABCDEFGH\0\0YXIJKL";
+    assert_eq!(rt; finish_last(&mut builder)?, after_clear.as_slice());
+    Ok(())
+}
+
+// None where the part is too large.
+fn request(promises: Promises, len: usize, size: usize, alignment: usize) -> Option<Promises> {
+    if len > 2147483647 {
+        return None;
+    }
+    match promises.request(len, size, mask_of(alignment)) {
+        Ok((next, _)) => Some(next),
+        Err(_) => None,
+    }
+}
+
+#[test]
+fn delays_after_clear(rt: HostRuntime) {
+    let mut promises = Promises::new();
+    for (len, size, alignment, delayed) in [
+        (0, 4, 4, 0),
+        (4, 1, 1, 3),
+        (5, 1, 1, 2),
+        (6, 8, 8, 0),
+    ] {
+        let Some(next) = request(promises, len, size, alignment) else {
+            assert!(rt; false, "too large at {len}");
+            return;
+        };
+        assert_eq!(rt; next.delayed(), delayed, "at {len}");
+        promises = next;
+    }
+}
+
+#[test]
+fn texts(rt: HostRuntime) -> Result<(), Fail> {
+    let axe = b"\x04\0\0\0\x03\0\0\0Axe\0".as_slice();
+    let mut builder = Builder::new(rt.alloc())?;
+    assert_eq!(rt; builder.finish("Axe", None)?, axe);
+    builder.clear();
+    let text = builder.create_string("Axe")?;
+    assert_eq!(rt; finish_with(&mut builder, text, None)?, axe);
+    let again = b"\x08\0\0\0\x04\0\0\0\x03\0\0\0Axe\0".as_slice();
+    assert_eq!(rt; finish_with(&mut builder, text, None)?, again);
+    builder.clear();
+    let text = builder.create_string("Axe")?;
+    let named = b"\x08\0\0\0TEST\x03\0\0\0Axe\0".as_slice();
+    assert_eq!(rt; finish_with(&mut builder, text, Some(*b"TEST"))?, named);
+    Ok(())
+}
+
+#[test]
+fn a_text_twice(rt: HostRuntime) -> Result<(), Fail> {
+    let mut builder = Builder::new(rt.alloc())?;
+    let first = prepared::<Text, &str>(&mut builder, &"Hi")?;
+    assert_eq!(rt; (first.distance(), builder.len()), (7, 7));
+    let second = builder.create_string("Hi")?;
+    assert_eq!(rt; (second.distance(), builder.len()), (15, 15));
+    let last = builder.current_offset::<Text>();
+    let same = prepared::<Text, Offset<Text>>(&mut builder, &last)?;
+    assert_eq!(rt; (same.distance(), builder.len()), (15, 15));
+    Ok(())
+}
+
+#[test]
+fn each_call(rt: HostRuntime) -> Result<(), Fail> {
+    let mut builder = Builder::with_capacity(rt.alloc(), 64)?;
+    assert_eq!(rt;
+        (builder.len(), builder.is_empty(), builder.room()),
+        (0, true, 64)
+    );
+    builder.write_with(5, mask_of(1), &Repeated { byte: 7 })?;
+    assert_eq!(rt; builder.as_slice(), [7u8; 5].as_slice());
+    let text = format!(in rt.alloc(); "{builder:?}")?;
+    assert!(rt;
+        text.as_str()
+            .starts_with("Builder { inner: [7, 7, 7, 7, 7]"),
+        "{text}"
+    );
+    assert_eq!(rt;
+        (builder.len(), builder.is_empty(), builder.room()),
+        (5, false, 59)
+    );
+    let last = builder.current_offset::<Text>();
+    assert_eq!(rt; (last.distance(), last.downcast().distance()), (5, 5));
+    assert_eq!(rt; last.clone()?.distance(), 5);
+    builder.clear();
+    assert_eq!(rt;
+        (builder.len(), builder.is_empty(), builder.room()),
+        (0, true, 64)
+    );
+    Ok(())
+}
+
+#[test]
+fn the_filler_is_told_its_place(rt: HostRuntime) -> Result<(), Fail> {
+    let mut builder = Builder::new(rt.alloc())?;
+    put(&mut builder, b"MNO", 1)?;
+    builder.write_with(4, mask_of(16), &OwnPlace)?;
+    assert_eq!(rt; builder.as_slice(), b"\x07\0\0\0MNO".as_slice());
+    put(&mut builder, b"X", 8)?;
+    builder.write_with(4, mask_of(16), &OwnPlace)?;
+    let bytes = b"\x17\0\0\0\0\0\0\0X\0\0\0\0\0\0\0\x07\0\0\0MNO".as_slice();
+    assert_eq!(rt; builder.as_slice(), bytes);
+    Ok(())
+}
+
+#[test]
+fn too_large(rt: HostRuntime) -> Result<(), Fail> {
+    let mut builder = Builder::with_capacity(rt.alloc(), 64)?;
+    put_four(&mut builder)?;
+    let refused = builder.write_with(2147483648, mask_of(1), &Repeated { byte: 7 });
+    assert_eq!(rt; refused, Err(BuildError::TooLarge));
+    assert_eq!(rt; (builder.len(), builder.room()), (22, 42));
+    assert_eq!(rt; finish_last(&mut builder)?, FOUR_WRITES);
+    Ok(())
+}
+
+// Takes blocks until not even one byte is to be had.
+fn exhaust(alloc: Global, held: &mut Vec<Vec<u8>>) {
+    let mut size: usize = 1 << 40;
+    for _ in 0..41 {
+        for _ in 0..70000 {
+            let block: Vec<u8> = match Vec::with_capacity(alloc, size) {
+                Ok(block) => block,
+                Err(_) => break,
+            };
+            if held.push(block).is_err() {
+                return;
+            }
+        }
+        size = size / 2;
+    }
+}
+
+#[test]
+fn refused_memory(rt: HostRuntime) -> Result<(), Fail> {
+    let alloc = rt.alloc();
+    let text = "more bytes than are left of a room of 64";
+    let mut held: Vec<Vec<u8>> = Vec::with_capacity(alloc, 262144)?;
+    let mut builder = Builder::with_capacity(alloc, 64)?;
+    exhaust(alloc, &mut held);
+    let made = Builder::new(alloc).is_ok();
+    let written = put_four(&mut builder);
+    let finished = finish_last(&mut builder).is_ok();
+    let refused = builder.create_string(text).map(|_| ());
+    let room = builder.room();
+    drop(held);
+    assert!(rt; !made);
+    assert_eq!(rt; (written, finished), (Ok(()), true));
+    assert_eq!(rt; refused, Err(BuildError::OutOfMemory));
+    assert_eq!(rt; builder.as_slice(), FOUR_WRITES);
+    assert_eq!(rt; room, 37);
+    assert_eq!(rt; builder.create_string(text)?.distance(), 75);
+    Ok(())
+}
+
+// The numbers of the test with random sizes.
+#[derive(Drop)]
+struct Numbers {
+    last: u32,
+}
+
+impl Numbers {
+    fn draw(&mut self) -> u32 {
+        self.last = self.last.wrapping_mul(1664525).wrapping_add(1013904223);
+        self.last / 65536
+    }
+}
+
+// A part of equal bytes, and how far from the end it begins.
+#[derive(Clone, Copy)]
+struct Written {
+    byte: u8,
+    size: usize,
+    mask: usize,
+    distance: usize,
+}
+
+// Tells whether the part stands aligned in the finished bytes.
+fn stands(bytes: &[u8], part: Written) -> bool {
+    let Some(start) = bytes.len().checked_sub(part.distance) else {
+        return false;
+    };
+    let (_before, rest) = bytes.split_at(start);
+    match rest.get(..part.size) {
+        Some(found) => start & part.mask == 0 && found.iter().all(|b| *b == part.byte),
+        None => false,
+    }
+}
+
+// Writes 49 parts of random sizes and alignments.
+fn write_parts(
+    alloc: Global,
+    builder: &mut Builder,
+    numbers: &mut Numbers,
+) -> Result<Vec<Written>, Fail> {
+    let mut parts = Vec::new(alloc);
+    for byte in 1..50 {
+        let size = (numbers.draw() % 128) as usize;
+        let mask = mask_of(1 << (numbers.draw() % 5));
+        let before = builder.len();
+        builder.write_with(size, mask, &Repeated { byte })?;
+        if builder.len().wrapping_sub(before) > size + mask {
+            return Err(Fail::new("a padding of an alignment or more"));
+        }
+        parts.push(Written {
+            byte,
+            size,
+            mask,
+            distance: builder.len(),
+        })?;
+    }
+    Ok(parts)
+}
+
+fn random_bytes(alloc: Global, numbers: &mut Numbers) -> Result<Vec<u8>, AllocError> {
+    let size = numbers.draw() % 128;
+    let mut bytes = Vec::new(alloc);
+    for _ in 0..size {
+        bytes.push((numbers.draw() % 256) as u8)?;
+    }
+    Ok(bytes)
+}
+
+#[test]
+fn random_parts_stand_aligned(rt: HostRuntime) -> Result<(), Fail> {
+    let alloc = rt.alloc();
+    let mut numbers = Numbers { last: 1 };
+    for round in 0..50 {
+        let mut builder = Builder::new(alloc)?;
+        let parts = write_parts(alloc, &mut builder, &mut numbers)?;
+        let root = random_bytes(alloc, &mut numbers)?;
+        put(&mut builder, root.as_slice(), 2)?;
+        let distance = builder.len();
+        let bytes = finish_last(&mut builder)?;
+        for part in &parts {
+            assert!(rt; stands(bytes, *part), "byte {} in round {round}", part.byte);
+        }
+        let Some(start) = bytes.len().checked_sub(distance) else {
+            assert!(rt; false, "no root in round {round}");
+            return Ok(());
+        };
+        let (front, rest) = bytes.split_at(start);
+        assert!(rt; start % 2 == 0, "round {round}");
+        assert!(rt; rest.starts_with(root.as_slice()), "round {round}");
+        assert!(rt;
+            front.starts_with(&(start as u64).to_le_bytes()[..4]),
+            "round {round}"
+        );
+    }
+    Ok(())
+}
