@@ -46,7 +46,7 @@ impl<'buf> SliceWithStartOffset<'buf> {
     {
         SliceWithStartOffset {
             buffer,
-            offset_from_start,
+            offset_from_start, // of the first byte
         }
     }
 
@@ -55,7 +55,7 @@ impl<'buf> SliceWithStartOffset<'buf> {
     pub fn offset_from_start(&self) -> usize
         ensures { result ≡ slice_start self.now }
     {
-        self.offset_from_start
+        self.offset_from_start // of the first byte of the piece
     }
 
     /// The length in bytes.
@@ -63,7 +63,7 @@ impl<'buf> SliceWithStartOffset<'buf> {
     pub fn len(&self) -> usize
         ensures { result ≡ length (slice_bytes self.now) }
     {
-        self.buffer.len()
+        self.buffer.len() // of the piece alone
     }
 
     /// Whether there are no bytes.
@@ -79,7 +79,7 @@ impl<'buf> SliceWithStartOffset<'buf> {
     pub fn as_slice(&self) -> &'buf [u8]
         ensures { result.now ≡ slice_bytes self.now }
     {
-        self.buffer
+        self.buffer // of the piece alone, as long as the buffer is there
     }
 
     /// The piece that starts `amount` bytes further on; [`ErrorKind::InvalidOffset`] where that is past the end.
@@ -152,7 +152,7 @@ impl<'buf, const N: usize> ArrayWithStartOffset<'buf, N> {
     {
         ArrayWithStartOffset {
             buffer,
-            offset_from_start,
+            offset_from_start, // of the first of the N bytes
         }
     }
 
@@ -161,7 +161,7 @@ impl<'buf, const N: usize> ArrayWithStartOffset<'buf, N> {
     pub fn offset_from_start(&self) -> usize
         ensures { result ≡ array_start self.now }
     {
-        self.offset_from_start
+        self.offset_from_start // of the first byte of the array
     }
 
     /// The bytes.

@@ -67,7 +67,7 @@ impl<'buf> SignedBytes<'buf> {
     pub fn as_bytes(&self) -> &'buf [u8]
         ensures { result.now ≡ signed_bytes self.now }
     {
-        self.bytes
+        self.bytes // as they stand
     }
 }
 
