@@ -2,7 +2,7 @@
 use Rattle.std.proofs.Common.{◌≡◌, ℕ, zero, suc, ◌+◌, ◌-◌, ◌≤◌, ◌<◌, ◌^◌, List, [], ◌∷◌, ◌++◌, length, take, replicate, refl, sym, ap, ◌∙◌, subst, arith, Option, Some, None, append_assoc, append-nil, length-append, max, inl, inr, lit≤, true, drop, Bool, false}
 use Rattle.std.specs.Prelude.{slice_get, ⊤, nat_le, nat_lt, if◌then◌else◌}
 use Rattle.std.proofs.lemmas.Bool.Decides.{nat_tests}
-use Rattle.std.specs.List.{AllByRecursion}
+use Rattle.std.specs.List.{AllByRecursion, Contains}
 use Rattle.std.specs.Str.{IsUtf8}
 use Rattle.std.specs.Int.{w32, to_le_bytes}
 use Rattle.std.proofs.lemmas.Nat.{from_le_bytes-to_le_bytes_4}
@@ -14,7 +14,7 @@ use Rattle.planus_back.specs.Padding.{promise_of}
 use Rattle.planus_back.specs.Parts.{Part, Written, Placed}
 use Rattle.planus_back.proofs.PaddingLaws.{keeps_all}
 use Rattle.planus_write.specs.Parts.{text_part, finish_part, identifier_bytes}
-use Rattle.planus_read.specs.Bytes.{Num, position_of}
+use Rattle.planus_read.specs.Bytes.{Num, BytesStand, position_of}
 use Rattle.planus_read.specs.Values as value
 use Rattle.planus_read.specs.Stands.{Stands, at}
 use Rattle.planus_read.proofs.Moves.{keeps_standing}
@@ -22,8 +22,9 @@ use Rattle.planus_demo.specs.Script.{Command, text, finish, clear}
 use Rattle.planus_demo.specs.Runs.{State, places_from, nothing_written, Advances, LeadsTo, distance_at, cleared}
 use Rattle.planus_demo.specs.Replays.{fault_of, first_after_clear, named_step}
 use Rattle.planus_demo.specs.Replaying.{distance_fault}
-use Rattle.planus_demo.specs.Headline.{TextHolds, FinishHolds}
+use Rattle.planus_demo.specs.Headline.{TextHolds, IsFewest, FinishHolds}
 use Rattle.planus_demo.proofs.ReadingBack.{reads_back}
+use Rattle.planus_demo.proofs.Turns.{InTurn, turn_taken, fewest}
 use Rattle.planus_demo.proofs.Lists.{all_weaker, all_push, places_push_some, places_push_none, all_at, listed}
 
 -- the steps that wrote a value are the texts
@@ -56,11 +57,17 @@ pub record Kept (all done : List Command) (state : State) : Type 0 where
   pub powers : AllByRecursion (λ (p : Promise). IsPowerOfTwo p.alignment) state.written.promises
   pub reached : AllByRecursion (λ (p : Promise). p.distance ≤ length state.written.bytes) state.written.promises
   pub values : AllByRecursion (ValueKept all state.written) (places_from state.first state.distances)
+  pub turns : InTurn state.written state.parts state.places
+  pub run : LeadsTo nothing_written done state
   pub finished : AllByRecursion (FinishHolds all) state.finished
 
 -- every text of the steps is UTF-8
 abbrev pub AllUtf8 : List Command → Type 0
 AllUtf8 all = (i : ℕ) (bytes : List ℕ) → slice_get all i ≡ Some (text bytes) → IsUtf8 bytes
+
+pub leads_on : (before between after : State) (steps : List Command) (step : Command) → LeadsTo before steps between → Advances between step after → LeadsTo before (steps ++ step ∷ []) after
+leads_on before between after [] step leads advances = (after, subst (λ s. Advances s step after) leads advances, refl)
+leads_on before between after (first ∷ steps) step leads advances = (leads.0, leads.1, leads_on leads.0 between after steps step leads.2 advances)
 
 kinds_push : (steps : List Command) (ds : List (Option ℕ)) (step : Command) (d : Option ℕ) → SameKind step d → SameKinds steps ds → SameKinds (steps ++ step ∷ []) (ds ++ d ∷ [])
 kinds_push [] [] step d new h = (new, tt)
@@ -106,6 +113,13 @@ named_value first ds root d h = by_test (nat_lt root first) h
     by_test : (earlier : Bool) → (if earlier then None else slice_get ds (root - first)) ≡ Some (Some d) → slice_get ds (root - first) ≡ Some (Some d)
     by_test true e = (cc)
     by_test false e = e
+
+pub named_behind : (first : ℕ) (ds : List (Option ℕ)) (root d : ℕ) → distance_at first ds root ≡ Some (Some d) → first ≤ root
+named_behind first ds root d h = by_test (nat_lt root first) refl h
+  where
+    by_test : (earlier : Bool) → nat_lt root first ≡ earlier → (if earlier then None else slice_get ds (root - first)) ≡ Some (Some d) → first ≤ root
+    by_test true is e = (cc)
+    by_test false is e = grind (arith, nat_tests, is)
 
 drop_push : (n : ℕ) (steps : List Command) (step : Command) → n ≤ length steps → drop n (steps ++ step ∷ []) ≡ drop n steps ++ step ∷ []
 drop_push zero steps step h = refl
@@ -170,6 +184,14 @@ module _ (part : Part) (before after : Written) (placed : Placed part before aft
       subst (λ ps. AllByRecursion (λ (p : Promise). p.distance ≤ length after.bytes) ps) (sym placed.promises)
       (here, all_weaker (λ (p : Promise). p.distance ≤ length before.bytes) (λ (p : Promise). p.distance ≤ length after.bytes) (λ p le. omega arith) before.promises h)
 
+-- one part more of a run is placed in turn
+turned : (part : Part) (before after : State) (placed : Placed part before.written after.written) → length (part.bytes_at placed.place) ≡ part.size → after.parts ≡ before.parts ++ part ∷ []
+    → after.places ≡ before.places ++ placed.place ∷ [] → IsPowerOfTwo part.alignment → InTurn before.written before.parts before.places → InTurn after.written after.parts after.places
+turned part before after placed sized parts places power h =
+    subst (λ ps. InTurn after.written ps after.places) (sym parts)
+    (subst (λ ps. InTurn after.written (before.parts ++ part ∷ []) ps) (sym places)
+    (turn_taken part before.written after.written placed (length_after part before.written after.written placed sized) before.parts before.places h power))
+
 four_fit : (m : ℕ) → nat_le 4 (suc (suc (suc (suc m)))) ≡ true
 four_fit m = grind (arith, nat_tests)
 
@@ -190,8 +212,9 @@ text_size bytes = simp length-append (omega arith)
 
 -- a text that is placed is kept
 module _ (all done : List Command) (bytes : List ℕ) (before after : State) (there : slice_get all (length done) ≡ Some (text bytes)) (utf8 : IsUtf8 bytes)
-    (placed : Placed (text_part bytes) before.written after.written) (first : after.first ≡ before.first) (distances : after.distances ≡ before.distances ++ Some placed.place ∷ [])
-    (finished : after.finished ≡ before.finished ++ []) (h : Kept all done before) where
+    (placed : Placed (text_part bytes) before.written after.written) (parts : after.parts ≡ before.parts ++ text_part bytes ∷ []) (places : after.places ≡ before.places ++ placed.place ∷ [])
+    (first : after.first ≡ before.first) (distances : after.distances ≡ before.distances ++ Some placed.place ∷ [])
+    (finished : after.finished ≡ before.finished ++ []) (run : LeadsTo nothing_written (done ++ text bytes ∷ []) after) (h : Kept all done before) where
   new_text : ValueKept all after.written (before.first + length before.distances, placed.place)
   new_text =
       let at_end : length after.written.bytes ≡ placed.place = length_after (text_part bytes) before.written after.written placed (text_size bytes) in
@@ -229,6 +252,8 @@ module _ (all done : List Command) (bytes : List ℕ) (before after : State) (th
         reached = reached_after (text_part bytes) before.written after.written placed (text_size bytes) h.reached;
         values = subst (λ n. AllByRecursion (ValueKept all after.written) (places_from n after.distances)) (sym first)
             (subst (λ ds. AllByRecursion (ValueKept all after.written) (places_from before.first ds)) (sym distances) all_texts);
+        turns = turned (text_part bytes) before after placed (text_size bytes) parts places (2, refl) h.turns;
+        run = run;
         finished = subst (λ fs. AllByRecursion (FinishHolds all) fs) (sym (finished ∙ append-nil before.finished)) h.finished;
       }
 
@@ -259,9 +284,12 @@ value_holds all written keep place v = record {
 
 -- a finish that is placed holds
 module _ (all done : List Command) (root distance : ℕ) (identifier : Option (List ℕ)) (before after : State) (found : distance_at before.first before.distances root ≡ Some (Some distance))
-    (placed : Placed (finish_part distance identifier before.written.promises) before.written after.written) (first : after.first ≡ before.first)
-    (distances : after.distances ≡ before.distances ++ None ∷ [])
-    (finished : after.finished ≡ before.finished ++ record { bytes = after.written.bytes; places = places_from before.first before.distances } ∷ []) (h : Kept all done before) where
+    (placed : Placed (finish_part distance identifier before.written.promises) before.written after.written)
+    (parts : after.parts ≡ before.parts ++ finish_part distance identifier before.written.promises ∷ []) (places : after.places ≡ before.places ++ placed.place ∷ [])
+    (first : after.first ≡ before.first) (distances : after.distances ≡ before.distances ++ None ∷ [])
+    (finished : after.finished ≡ before.finished ++ record { bytes = after.written.bytes; places = places_from before.first before.distances } ∷ [])
+    (there : slice_get all (length done) ≡ Some (finish root identifier)) (up_to : take (length done + 1) all ≡ done ++ finish root identifier ∷ [])
+    (run : LeadsTo nothing_written (done ++ finish root identifier ∷ []) after) (h : Kept all done before) where
   abbrev part : Part
   part = finish_part distance identifier before.written.promises
 
@@ -285,6 +313,21 @@ module _ (all done : List Command) (root distance : ℕ) (identifier : Option (L
   values : AllByRecursion (ValueKept all after.written) (places_from before.first before.distances)
   values = values_move part before.written after.written placed sized all (places_from before.first before.distances) h.values
 
+  behind : before.first + (root - before.first) ≡ root
+  behind = let from : before.first ≤ root = named_behind before.first before.distances root distance found in omega arith
+
+  identified_at : BytesStand after.written.bytes 4 (identifier_bytes identifier)
+  identified_at = subst (λ B. BytesStand B 4 (identifier_bytes identifier)) (sym placed.bytes)
+      (ap (take (length (identifier_bytes identifier))) (append_assoc (identifier_bytes identifier) (replicate placed.padding 0) before.written.bytes)
+      ∙ take-append_seam (identifier_bytes identifier) (replicate placed.padding 0 ++ before.written.bytes))
+
+  taken : InTurn after.written after.parts after.places
+  taken = turned part before after placed sized parts places power h.turns
+
+  few : IsFewest after.parts after.places after.written.bytes
+  few = subst (λ ps. IsFewest after.parts ps after.written.bytes) (sym places)
+      (fewest after.written after.parts before.places placed.place (sym at_end) (subst (λ ps. InTurn after.written after.parts ps) places taken))
+
   found_at : slice_get before.distances (root - before.first) ≡ Some (Some distance)
   found_at = named_value before.first before.distances root distance found
 
@@ -298,9 +341,20 @@ module _ (all done : List Command) (root distance : ℕ) (identifier : Option (L
       let word : Num after.written.bytes 0 w32 ≡ Some (placed.place - distance)
       = subst (λ B. Num B 0 w32 ≡ Some (placed.place - distance)) (sym placed.bytes)
       (front_number (placed.place - distance) ((identifier_bytes identifier ++ replicate placed.padding 0) ++ before.written.bytes) (omega arith)) in
+      let listed_root : Contains (places_from before.first before.distances) (root, distance)
+      = subst (λ n. Contains (places_from before.first before.distances) (n, distance)) behind (listed before.first before.distances (root - before.first) distance found_at) in
       record {
+        number = length done;
+        root = root;
+        identifier = identifier;
+        step = there;
+        state = after;
+        run = subst (λ steps. LeadsTo nothing_written steps after) (sym up_to) run;
+        bytes = refl;
         values = all_weaker (ValueKept all after.written) (TextHolds all after.written.bytes) (value_holds all after.written keep) (places_from before.first before.distances) values;
-        root = ((before.first + (root - before.first), distance), listed before.first before.distances (root - before.first) distance found_at, (placed.place - distance, word, omega arith));
+        leads = (distance, listed_root, (placed.place - distance, word, omega arith));
+        identified = identified_at;
+        fewest = few;
       }
 
   pub finish_kept : Kept all (done ++ finish root identifier ∷ []) after
@@ -320,6 +374,8 @@ module _ (all done : List Command) (root distance : ℕ) (identifier : Option (L
         values = subst (λ n. AllByRecursion (ValueKept all after.written) (places_from n after.distances)) (sym first)
             (subst (λ ds. AllByRecursion (ValueKept all after.written) (places_from before.first ds)) (sym distances)
             (subst (λ ps. AllByRecursion (ValueKept all after.written) ps) (sym (places_push_none before.first before.distances)) values));
+        turns = taken;
+        run = run;
         finished = subst (λ fs. AllByRecursion (FinishHolds all) fs) (sym finished) (all_push (FinishHolds all) before.finished _ h.finished holds);
       }
 
@@ -335,18 +391,26 @@ clear_kept all done before h =
       powers = tt;
       reached = tt;
       values = tt;
+      turns = record { powers = tt; turns = tt; ended = refl; promised = refl };
+      run = leads_on nothing_written before (cleared before) done clear h.run refl;
       finished = h.finished;
     }
 
-step_kept : (all done : List Command) (step : Command) (before after : State) → slice_get all (length done) ≡ Some step → AllUtf8 all → Advances before step after → Kept all done before
-    → Kept all (done ++ step ∷ []) after
-step_kept all done (text bytes) before after there utf8 writes h =
-    subst (λ (part : Part). (placed : Placed part before.written after.written) → after.distances ≡ before.distances ++ Some placed.place ∷ [] → Kept all (done ++ text bytes ∷ []) after) (sym writes.is_part)
-    (λ placed distances. text_kept all done bytes before after there (utf8 (length done) bytes there) placed writes.first distances writes.finished h) writes.placed writes.distances
-step_kept all done (finish root identifier) before after there utf8 writes h =
-    subst (λ (part : Part). (placed : Placed part before.written after.written) → Kept all (done ++ finish root identifier ∷ []) after) (sym writes.is_part.2)
-    (λ placed. finish_kept all done root writes.is_part.0 identifier before after writes.is_part.1 placed writes.first writes.distances writes.finished h) writes.placed
-step_kept all done clear before after there utf8 is_clear h = subst (λ s. Kept all (done ++ clear ∷ []) s) (sym is_clear) (clear_kept all done before h)
+step_kept : (all done : List Command) (step : Command) (before after : State) → slice_get all (length done) ≡ Some step → take (length done + 1) all ≡ done ++ step ∷ [] → AllUtf8 all
+    → Advances before step after → Kept all done before → Kept all (done ++ step ∷ []) after
+step_kept all done (text bytes) before after there up_to utf8 writes h =
+    let run = leads_on nothing_written before after done (text bytes) h.run writes in
+    subst (λ (part : Part). (placed : Placed part before.written after.written) → after.parts ≡ before.parts ++ part ∷ [] → after.places ≡ before.places ++ placed.place ∷ []
+    → after.distances ≡ before.distances ++ Some placed.place ∷ [] → Kept all (done ++ text bytes ∷ []) after) (sym writes.is_part)
+    (λ placed parts places distances. text_kept all done bytes before after there (utf8 (length done) bytes there) placed parts places writes.first distances writes.finished run h)
+    writes.placed writes.parts writes.places writes.distances
+step_kept all done (finish root identifier) before after there up_to utf8 writes h =
+    let run = leads_on nothing_written before after done (finish root identifier) h.run writes in
+    subst (λ (part : Part). (placed : Placed part before.written after.written) → after.parts ≡ before.parts ++ part ∷ [] → after.places ≡ before.places ++ placed.place ∷ []
+    → Kept all (done ++ finish root identifier ∷ []) after) (sym writes.is_part.2)
+    (λ placed parts places. finish_kept all done root writes.is_part.0 identifier before after writes.is_part.1 placed parts places writes.first writes.distances writes.finished there up_to run h)
+    writes.placed writes.parts writes.places
+step_kept all done clear before after there up_to utf8 is_clear h = subst (λ s. Kept all (done ++ clear ∷ []) s) (sym is_clear) (clear_kept all done before h)
 
 pub there_at : (done : List Command) (step : Command) (rest : List Command) → slice_get (done ++ step ∷ rest) (length done) ≡ Some step
 there_at [] step rest = refl
@@ -356,11 +420,14 @@ leads_kept : (all done rest : List Command) → all ≡ done ++ rest → AllUtf8
 leads_kept all done [] e utf8 before after leads h = subst (λ s. Kept all all s) (sym leads) (subst (λ d. Kept all d before) (sym (e ∙ append-nil done)) h)
 leads_kept all done (step ∷ rest) e utf8 before after leads h =
     let there : slice_get all (length done) ≡ Some step = ap (λ xs. slice_get xs (length done)) e ∙ there_at done step rest in
-    leads_kept all (done ++ step ∷ []) rest (e ∙ sym (append_assoc done (step ∷ []) rest)) utf8 leads.0 after leads.2
-    (step_kept all done step before leads.0 there utf8 leads.1 h)
+    let again : all ≡ (done ++ step ∷ []) ++ rest = e ∙ sym (append_assoc done (step ∷ []) rest) in
+    let count : length done + 1 ≡ length (done ++ step ∷ []) = sym (length-append done (step ∷ [])) in
+    let up_to : take (length done + 1) all ≡ done ++ step ∷ [] = ap (take (length done + 1)) again ∙ ap (λ n. take n ((done ++ step ∷ []) ++ rest)) count ∙ take-append_seam (done ++ step ∷ []) rest in
+    leads_kept all (done ++ step ∷ []) rest again utf8 leads.0 after leads.2
+    (step_kept all done step before leads.0 there up_to utf8 leads.1 h)
 
 nothing_kept : (all : List Command) → Kept all [] nothing_written
-nothing_kept all = record { numbered = refl; first_is = refl; kinds = tt; powers = tt; reached = tt; values = tt; finished = tt }
+nothing_kept all = record { numbered = refl; first_is = refl; kinds = tt; powers = tt; reached = tt; values = tt; turns = record { powers = tt; turns = tt; ended = refl; promised = refl }; run = refl; finished = tt }
 
 -- what every run keeps
 pub run_kept : (steps : List Command) → AllUtf8 steps → (end : State) → LeadsTo nothing_written steps end → Kept steps steps end

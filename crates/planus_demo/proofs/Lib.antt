@@ -5,6 +5,7 @@ pub mod ReadOn
 pub mod Lists
 pub mod ReadingBack
 pub mod Kept
+pub mod Turns
 pub mod Walking
 pub mod Stepping
 pub mod Replayed

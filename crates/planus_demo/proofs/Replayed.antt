@@ -2,20 +2,19 @@
 use Rattle.std.proofs.Common.{◌≡◌, ℕ, suc, ◌+◌, ◌≤◌, ◌<◌, List, [], ◌∷◌, ◌++◌, length, take, drop, map, get_or, refl, sym, ap, ◌∙◌, subst, None, Ok, Err, drop-cons}
 use Rattle.std.specs.List.{AllByRecursion}
 use Rattle.std.proofs.lemmas.List.{take-append-drop, map-append, map_push, take_more, take_all, length-map, length-take-le}
-use Rattle.planus_back.specs.Promises.{Promise}
 use Rattle.planus_write.specs.State.{StandsFor}
 use Rattle.planus_demo.specs.Script.{Command, text, finish, clear}
 use Rattle.planus_demo.specs.Steps.{command_of_step}
 use Rattle.planus_demo.specs.Runs.{nothing_written, LeadsTo}
 use Rattle.planus_demo.specs.Replays.{first_bad, Replays, finish_given}
 use Rattle.planus_demo.specs.Headline.{FinishHolds}
-use Rattle.planus_demo.specs.Replaying.{state_with, distance_of, Advanced, Stopped, AreReached}
+use Rattle.planus_demo.specs.Replaying.{Past, state_with, distance_of, Advanced, Stopped, AreReached}
 use Rattle.planus_demo.specs.declared.step.Step.{Step}
 use Rattle.planus_demo.specs.declared.replay.Progress.{Progress}
 use Rattle.planus_demo.specs.declared.replay.ReplayError.{ReplayError}
 use Rattle.planus_demo.specs.declared.replay.ReplayError.TheVariants.{OutOfMemory, TooLarge, BadStep}
-use Rattle.planus_demo.proofs.Kept.{run_kept, run_reached}
-use Rattle.planus_demo.proofs.Walking.{all_utf8, leads_on, still_clean, too_large, bad_step}
+use Rattle.planus_demo.proofs.Kept.{leads_on, run_kept, run_reached}
+use Rattle.planus_demo.proofs.Walking.{all_utf8, still_clean, too_large, bad_step}
 
 -- the first i steps
 abbrev pub first_steps : List Step → ℕ → List Command
@@ -23,7 +22,7 @@ first_steps steps i = map command_of_step (take i steps)
 
 -- the replay is where the first i steps lead, and none of them is bad
 pub record Reaches (steps : List Step) (i : ℕ) (progress : Progress) : Type 0 where
-  pub run : (promises : List Promise) × StandsFor progress.builder promises × LeadsTo nothing_written (first_steps steps i) (state_with progress promises)
+  pub run : (past : Past) × StandsFor progress.builder past.promises × LeadsTo nothing_written (first_steps steps i) (state_with progress past)
   pub clean : first_bad (first_steps steps i) ≡ None
 
 pub are_reached : (steps : List Step) (i : ℕ) (progress : Progress) → Reaches steps i progress → AreReached progress

@@ -33,15 +33,18 @@ place_is_length part old new promises placed = sym (ap first_distance placed.pro
 pub text_advances : (bytes : List ℕ) (old new : Progress) (offset : Offset (Unit {0})) → Places (λ promises. text_part bytes) old.builder new.builder
     → offset.distance ≡ length new.builder.bytes → new.first ≡ old.first → new.offsets.items ≡ old.offsets.items ++ Some offset ∷ [] → new.finished.items ≡ old.finished.items
     → Advanced old (text bytes) (Ok tt) new
-text_advances bytes old new offset places at_end first pushed same promises stands =
+text_advances bytes old new offset places at_end first pushed same past stands =
+    let promises : List Promise = past.promises in
     let placed : Placed (text_part bytes) (written_with old.builder promises) (written_with new.builder (and_promised (λ p. text_part bytes) new.builder promises)) = places.placed promises stands in
     let place : placed.place ≡ length new.builder.bytes = place_is_length (λ p. text_part bytes) old.builder new.builder promises placed in (
-      and_promised (λ p. text_part bytes) new.builder promises,
+      record { promises = and_promised (λ p. text_part bytes) new.builder promises; parts = past.parts ++ text_part bytes ∷ []; places = past.places ++ placed.place ∷ [] },
       places.stands promises stands,
       record {
         part = text_part bytes;
         is_part = refl;
         placed = placed;
+        parts = refl;
+        places = refl;
         first = first;
         distances = ap (map distance_of) pushed ∙ map_push distance_of old.offsets.items (Some offset) ∙ ap (λ d. map distance_of old.offsets.items ++ Some d ∷ []) (at_end ∙ sym place);
         finished = ap (map finish_given) same ∙ sym (append-nil (map finish_given old.finished.items));
@@ -52,13 +55,19 @@ text_advances bytes old new offset places at_end first pushed same promises stan
 pub finish_advances : (root distance : ℕ) (identifier : Option (List ℕ)) (old new : Progress) (given : Finished) → distance_at old.first (map distance_of old.offsets.items) root ≡ Some (Some distance)
     → Finishes distance identifier old.builder new.builder → new.first ≡ old.first → new.offsets.items ≡ old.offsets.items ++ None ∷ [] → new.finished.items ≡ old.finished.items ++ given ∷ []
     → given.bytes.items ≡ new.builder.bytes → map place_of given.places.items ≡ places_from old.first (map distance_of old.offsets.items) → Advanced old (finish root identifier) (Ok tt) new
-finish_advances root distance identifier old new given found finishes first pushed gave bytes listed promises stands = (
-  and_promised (finish_part distance identifier) new.builder promises,
-  finishes.places.stands promises stands,
+finish_advances root distance identifier old new given found finishes first pushed gave bytes listed past stands = (
   record {
-    part = finish_part distance identifier promises;
+    promises = and_promised (finish_part distance identifier) new.builder past.promises;
+    parts = past.parts ++ finish_part distance identifier past.promises ∷ [];
+    places = past.places ++ (finishes.places.placed past.promises stands).place ∷ [];
+  },
+  finishes.places.stands past.promises stands,
+  record {
+    part = finish_part distance identifier past.promises;
     is_part = (distance, found, refl);
-    placed = finishes.places.placed promises stands;
+    placed = finishes.places.placed past.promises stands;
+    parts = refl;
+    places = refl;
     first = first;
     distances = ap (map distance_of) pushed ∙ map_push distance_of old.offsets.items None;
     finished = ap (map finish_given) gave ∙ map_push finish_given old.finished.items given

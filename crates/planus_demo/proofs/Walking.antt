@@ -17,10 +17,6 @@ use Rattle.std.proofs.Math.Seq.{take-append_seam}
 use Rattle.planus_back.specs.Parts.{Part, IsTooLarge}
 use Rattle.planus_demo.specs.Replaying.{distance_fault}
 
-pub leads_on : (before between after : State) (steps : List Command) (step : Command) → LeadsTo before steps between → Advances between step after → LeadsTo before (steps ++ step ∷ []) after
-leads_on before between after [] step leads advances = (after, subst (λ s. Advances s step after) leads advances, refl)
-leads_on before between after (first ∷ steps) step leads advances = (leads.0, leads.1, leads_on leads.0 between after steps step leads.2 advances)
-
 none_after : (n : ℕ) (check : Option Why) (later : Option (ℕ × Why)) → first_bad_or n check later ≡ None → (check ≡ None) × (later ≡ None)
 none_after n None later h = (refl, h)
 none_after n (Some why) later h = (cc)

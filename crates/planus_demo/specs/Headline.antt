@@ -1,13 +1,16 @@
 -- What is true of every finish of every run.
-use Rattle.std.specs.Prelude.{◌≡◌, ℕ, ◌-◌, ◌≤◌, List, length, drop, slice_get, Some}
+use Rattle.std.specs.Prelude.{◌≡◌, ℕ, ◌+◌, ◌-◌, ◌≤◌, List, [], ◌∷◌, ◌++◌, length, take, drop, slice_get, Option, Some}
 use Rattle.std.specs.List.{AllByRecursion, Contains}
-use Rattle.planus_read.specs.Bytes.{position_of}
+use Rattle.planus_back.specs.Parts.{Part}
+use Rattle.planus_back.specs.Placings.{IsPlacing, NoneIsGreater}
+use Rattle.planus_read.specs.Bytes.{position_of, BytesStand}
 use Rattle.planus_read.specs.Values as value
 use Rattle.planus_read.specs.Stands.{Stands, ReferenceStands, at}
 use Rattle.planus_read.specs.Aligned.{AlignedAt}
 use Rattle.planus_read.specs.Reading.{Leads, TextThere}
-use Rattle.planus_demo.specs.Script.{Command, text}
-use Rattle.planus_demo.specs.Runs.{Finish}
+use Rattle.planus_write.specs.Parts.{identifier_bytes}
+use Rattle.planus_demo.specs.Script.{Command, text, finish}
+use Rattle.planus_demo.specs.Runs.{Finish, State, nothing_written, LeadsTo}
 
 -- Whichever reference leads to k, over whichever slice of the bytes that holds it, the text is what a reader finds there.
 abbrev pub ReadsBack : List ℕ → ℕ → List ℕ → Type 0
@@ -22,8 +25,24 @@ pub record TextHolds (steps : List Command) (bytes : List ℕ) (place : ℕ × �
   pub aligned : AlignedAt bytes (at (position_of bytes place.1)) (value.text content)
   pub reads_back : ReadsBack bytes (position_of bytes place.1) content
 
--- Every value that a finish lists holds in its bytes, and the reference at their front leads to one of them.
--- The format: a buffer begins with a reference to its root.
-pub record FinishHolds (steps : List Command) (finish : Finish) : Type 0 where
-  pub values : AllByRecursion (TextHolds steps finish.bytes) finish.places
-  pub root : (place : ℕ × ℕ) × Contains finish.places place × ReferenceStands finish.bytes 0 place.1
+-- The fewest bytes: no placing of the parts since the last clear has a smaller place for any of them, and the last one's place is the
+-- length of the bytes.
+pub record IsFewest (parts : List Part) (places : List ℕ) (bytes : List ℕ) : Type 0 where
+  pub whole : (earlier : List ℕ) × (places ≡ earlier ++ length bytes ∷ [])
+  pub least : (others : List ℕ) → IsPlacing parts others → NoneIsGreater places others
+
+-- What is given by the finish of one step, to which the steps with it lead: every value that it lists holds in its bytes; the reference
+-- at their front leads to the value of its root's step, and its identifier stands behind that; and its bytes are the fewest.
+-- The format: a buffer begins with a reference to its root; four bytes that identify the file may follow.
+pub record FinishHolds (steps : List Command) (given : Finish) : Type 0 where
+  pub number : ℕ
+  pub root : ℕ
+  pub identifier : Option (List ℕ)
+  pub step : slice_get steps number ≡ Some (finish root identifier)
+  pub state : State
+  pub run : LeadsTo nothing_written (take (number + 1) steps) state
+  pub bytes : given.bytes ≡ state.written.bytes
+  pub values : AllByRecursion (TextHolds steps given.bytes) given.places
+  pub leads : (distance : ℕ) × Contains given.places (root, distance) × ReferenceStands given.bytes 0 distance
+  pub identified : BytesStand given.bytes 4 (identifier_bytes identifier)
+  pub fewest : IsFewest state.parts state.places given.bytes

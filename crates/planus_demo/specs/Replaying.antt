@@ -1,5 +1,5 @@
 -- A replay on its way, as the definitions see it.
-use Rattle.std.specs.Prelude.{◌≡◌, ℕ, ◌+◌, ◌≤◌, List, map, length, slice_get, Option, Some, None, Result, Ok, Err, ⊤}
+use Rattle.std.specs.Prelude.{◌≡◌, ℕ, ◌+◌, ◌≤◌, List, [], map, length, slice_get, Option, Some, None, Result, Ok, Err, ⊤}
 use Rattle.std.specs.Option.{option_map}
 use Rattle.planus_back.specs.Promises.{Promise}
 use Rattle.planus_back.specs.Parts.{Part, IsTooLarge}
@@ -17,10 +17,21 @@ use Rattle.planus_demo.specs.declared.replay.Progress.{Progress}
 abbrev pub distance_of : Option (Offset (Unit {0})) → Option ℕ
 distance_of offset = option_map (λ o. o.distance) offset
 
--- the state of the run, if these are the promises made
-abbrev pub state_with : Progress → List Promise → State
-state_with replay promises = record {
-  written = written_with replay.builder promises;
+-- What the run knows beside what a replay keeps: the promises made since the last clear, and the parts and their places.
+pub record Past : Type 0 where
+  pub promises : List Promise
+  pub parts : List Part
+  pub places : List ℕ
+
+abbrev pub no_past : Past
+no_past = record { promises = []; parts = []; places = [] }
+
+-- the state of the run, if this is its past
+abbrev pub state_with : Progress → Past → State
+state_with replay past = record {
+  written = written_with replay.builder past.promises;
+  parts = past.parts;
+  places = past.places;
   first = replay.first;
   distances = map distance_of replay.offsets.items;
   finished = map finish_given replay.finished.items;
@@ -40,16 +51,16 @@ FindsValue first distances step (Err why) = distance_fault (distance_at first di
 -- why a step was not taken
 abbrev pub Stopped : Progress → Command → ReplayError → Type 0
 Stopped old step OutOfMemory = ⊤
-Stopped old step TooLarge = (promises : List Promise) → StandsFor old.builder promises → (part : Part) × PartOf (state_with old promises) step part × IsTooLarge part (written_with old.builder promises)
+Stopped old step TooLarge = (past : Past) → StandsFor old.builder past.promises → (part : Part) × PartOf (state_with old past) step part × IsTooLarge part (written_with old.builder past.promises)
 Stopped old (text bytes) (BadStep number why) = ⊥
 Stopped old clear (BadStep number why) = ⊥
 Stopped old (finish root identifier) (BadStep number why) =
     (number ≡ old.first + length old.offsets.items) × (distance_fault (distance_at old.first (map distance_of old.offsets.items) root) ≡ Some why)
 
--- One step was taken, whatever the promises before, or was not.
+-- One step was taken, whatever the past, or was not.
 abbrev pub Advanced : Progress → Command → Result (Unit {0}) ReplayError → Progress → Type 0
-Advanced old step (Ok done) new = (promises : List Promise) → StandsFor old.builder promises →
-    (after : List Promise) × StandsFor new.builder after × Advances (state_with old promises) step (state_with new after)
+Advanced old step (Ok done) new = (past : Past) → StandsFor old.builder past.promises →
+    (after : Past) × StandsFor new.builder after.promises × Advances (state_with old past) step (state_with new after)
 Advanced old step (Err error) new = Stopped old step error
 
 -- every value since the last clear lies in the builder

@@ -9,16 +9,19 @@ pub record Finish : Type 0 where
   pub bytes : List ℕ
   pub places : List (ℕ × ℕ)
 
--- What a run has come to: what is written and promised since the last clear; the number of the first step behind that clear; the
--- distance of each step since, if it wrote a value; and what each finish gave.
+-- What a run has come to: what is written and promised since the last clear; the parts of it and their places, in the order in which
+-- they were placed; the number of the first step behind that clear; the distance of each step since, if it wrote a value; and what each
+-- finish gave.
 pub record State : Type 0 where
   pub written : Written
+  pub parts : List Part
+  pub places : List ℕ
   pub first : ℕ
   pub distances : List (Option ℕ)
   pub finished : List Finish
 
 abbrev pub nothing_written : State
-nothing_written = record { written = record { bytes = []; promises = [] }; first = 0; distances = []; finished = [] }
+nothing_written = record { written = record { bytes = []; promises = [] }; parts = []; places = []; first = 0; distances = []; finished = [] }
 
 -- the distance of a step, by its number, where it stands behind the last clear
 abbrev pub distance_at : ℕ → List (Option ℕ) → ℕ → Option (Option ℕ)
@@ -54,14 +57,22 @@ pub record Writes (before : State) (step : Command) (after : State) : Type 0 whe
   pub part : Part
   pub is_part : PartOf before step part
   pub placed : Placed part before.written after.written
+  pub parts : after.parts ≡ before.parts ++ part ∷ []
+  pub places : after.places ≡ before.places ++ placed.place ∷ []
   pub first : after.first ≡ before.first
   pub distances : after.distances ≡ before.distances ++ distance_added step placed.place ∷ []
   pub finished : after.finished ≡ before.finished ++ finish_added step before after.written
 
 -- a clear: nothing is written, and nothing before it can be named
 abbrev pub cleared : State → State
-cleared before =
-    record { written = record { bytes = []; promises = [] }; first = before.first + length before.distances + 1; distances = []; finished = before.finished }
+cleared before = record {
+  written = record { bytes = []; promises = [] };
+  parts = [];
+  places = [];
+  first = before.first + length before.distances + 1;
+  distances = [];
+  finished = before.finished;
+}
 
 abbrev pub Advances : State → Command → State → Type 0
 Advances before (text bytes) after = Writes before (text bytes) after

@@ -7,7 +7,7 @@ ghost use Rattle.planus_demo.specs.Steps.{command_of_step};
 ghost use Rattle.planus_demo.specs.Runs.{nothing_written, places_from};
 ghost use Rattle.planus_demo.specs.Replays.{place_of, finish_given, Replays, given_by};
 ghost use Rattle.planus_demo.specs.Headline.{FinishHolds};
-ghost use Rattle.planus_demo.specs.Replaying.{distance_of, state_with, FindsValue, Advanced, AreReached};
+ghost use Rattle.planus_demo.specs.Replaying.{distance_of, no_past, state_with, FindsValue, Advanced, AreReached};
 ghost use Rattle.planus_demo.specs.Script as command;
 
 use crate::step::Step;
@@ -133,7 +133,7 @@ fn places_of(
 
 impl Progress {
     fn new(alloc: Global) -> std::result::Result<Progress, ReplayError>
-        ensures ok { IfOk result (λ replay. StandsFor replay.builder [] × (state_with replay [] ≡ nothing_written)) }
+        ensures ok { IfOk result (λ replay. StandsFor replay.builder [] × (state_with replay no_past ≡ nothing_written)) }
         ensures error { IfErr result (λ error. error ≡ ReplayError.OutOfMemory) }
     {
         Ok(Progress {

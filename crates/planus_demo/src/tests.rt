@@ -1,9 +1,10 @@
 //! Scripts as a user runs them, and readers and writers that fail.
 
-use crate::replay::replay;
+use crate::replay::{ReplayError, replay};
 use crate::run::{RunError, run, status};
 use crate::step::Step;
 use planus_read::{SliceWithStartOffset, TableRead};
+use std::alloc::Global;
 use std::io;
 use std::io::{Error, ErrorKind, Read, Write};
 use std::test::Fail;
@@ -205,5 +206,51 @@ fn writing_fails_on_the_way(rt: HostRuntime) -> Result<(), Fail> {
     assert!(rt; answer == Err(RunError::Write), "an error of writing");
     assert_eq!(rt; writer.taken.as_slice(), "04 00".as_bytes());
     assert_eq!(rt; status(&answer), 2);
+    Ok(())
+}
+
+// Takes all the memory there is, in blocks that grow smaller.
+fn exhaust(alloc: Global, held: &mut Vec<Vec<u8>>) {
+    let mut size: usize = 1 << 40;
+    for _ in 0..41 {
+        for _ in 0..70000 {
+            let block: Vec<u8> = match Vec::with_capacity(alloc, size) {
+                Ok(block) => block,
+                Err(_) => break,
+            };
+            if held.push(block).is_err() {
+                return;
+            }
+        }
+        size = size / 2;
+    }
+}
+
+#[test]
+fn refused_memory(rt: HostRuntime) -> Result<(), Fail> {
+    let alloc = rt.alloc();
+    let script = b"text Axe\nfinish 0\n".as_slice();
+    let mut steps = Vec::new(alloc);
+    steps.push(Step::Text(String::from_str(alloc, "Axe")?))?;
+    steps.push(Step::Finish { root: 0, id: None })?;
+    let mut printed: Vec<u8> = Vec::with_capacity(alloc, 64)?;
+    let mut held: Vec<Vec<u8>> = Vec::with_capacity(alloc, 262144)?;
+    exhaust(alloc, &mut held);
+    let mut reader = script;
+    let ran = run(alloc, &mut reader, &mut printed);
+    let written = printed.len();
+    let replayed = replay(alloc, steps.as_slice());
+    drop(held);
+    assert!(rt; ran == Err(RunError::OutOfMemory));
+    assert_eq!(rt; (written, status(&ran)), (0, 2));
+    assert!(rt; matches!(replayed, Err(ReplayError::OutOfMemory)));
+    let mut reader = script;
+    let again = run(alloc, &mut reader, &mut printed);
+    assert!(rt; again == Ok(true));
+    assert_eq!(rt;
+        printed.as_slice(),
+        b"04 00 00 00 03 00 00 00 41 78 65 00\n".as_slice()
+    );
+    assert!(rt; replay(alloc, steps.as_slice()).is_ok());
     Ok(())
 }
