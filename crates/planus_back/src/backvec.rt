@@ -197,7 +197,8 @@ impl BackVec {
     }
 
     /// Puts `n` bytes in front, which the filler writes over zeros. `place` is handed to it: the distance in bytes from
-    /// the end of the buffer to the first of them. A refusal of memory changes nothing, and the filler isn't called.
+    /// the end of the buffer to the first of them. The filler must be such that it may be called with `n` bytes at that
+    /// place. A refusal of memory changes nothing, and the filler isn't called.
     #[inline]
     pub fn extend_write<F: Fill>(
         &mut self,

@@ -55,7 +55,7 @@ impl Promises {
     pub fn delayed(&self) -> usize
         ensures { result ≡ self.now.delayed }
     {
-        self.delayed // up to the first length that keeps every promise
+        self.delayed
     }
 
     /// One less than the greatest alignment promised so far, or 0.
@@ -67,7 +67,7 @@ impl Promises {
         ensures greatest { (len : ℕ) (promises : List Promise) → StandsFor self.now len promises → greatest_alignment 1 promises ≡ result + 1 }
         ensures greatest_from { (len least : ℕ) (promises : List Promise) → StandsFor self.now len promises → 1 ≤ least → greatest_alignment least promises ≡ max (result + 1) least }
     {
-        self.mask // of the greatest alignment so far
+        self.mask
     }
 
     /// The least padding, in bytes, for a part of `size` bytes in front of the `len` bytes so far, such that every promise

@@ -6,7 +6,7 @@ ghost use Rattle.planus_back.specs.Pairs.{period, AlignmentsAboveZero, Distances
 use crate::backvec::BackVec;
 use crate::fill::Fill;
 use crate::plain::least_padding;
-use crate::promises::Promises;
+use crate::promises::{Promises, TooLarge};
 use std::alloc::{AllocError, Global};
 use std::test::Fail;
 
@@ -146,13 +146,16 @@ fn values_after_each_part(rt: HostRuntime) {
 
 #[test]
 fn greatest_place_is_the_last(rt: HostRuntime) {
-    let Some((_, padding)) = request(Promises::new(), 2147483640, 7, 1) else {
-        assert!(rt; false, "refused at the greatest place");
+    let Some(none) = mask_of(1) else {
+        assert!(rt; false, "no mask");
         return;
     };
-    assert_eq!(rt; padding, 0);
-    assert!(rt; request(Promises::new(), 2147483640, 8, 1).is_none());
-    assert!(rt; request(Promises::new(), 2147483640, usize::MAX, 1).is_none());
+    let last = Promises::new().request(2147483640, 7, none);
+    assert!(rt; matches!(last, Ok((_, 0))));
+    let refused = Promises::new().request(2147483640, 8, none);
+    assert!(rt; matches!(refused, Err(TooLarge)));
+    let refused = Promises::new().request(2147483640, usize::MAX, none);
+    assert!(rt; matches!(refused, Err(TooLarge)));
 }
 
 // Every list of three parts, and with it every shorter one.

@@ -3,6 +3,7 @@ pub mod Numbers
 pub mod Words
 pub mod ReadOn
 pub mod Lists
+pub mod Naming
 pub mod ReadingBack
 pub mod Kept
 pub mod Turns

@@ -7,7 +7,7 @@ use Rattle.std.specs.Io.KnownBytes.{Appends}
 use Rattle.std.proofs.lemmas.List.{length-take-le, take_all}
 use Rattle.std.proofs.lemmas.Bool.Decides.{nat_tests}
 use Rattle.planus_demo.specs.Script.{script_of}
-use Rattle.planus_demo.specs.Printed.{Printed, PrintedOrOutOfMemory, PrintsRead, line_of}
+use Rattle.planus_demo.specs.Printed.{Printed, PrintedOrOutOfMemory, IsScript, PrintsRead, line_of}
 use Rattle.planus_demo.specs.Runner.{WritesPrinted}
 
 pub read_known : (known : Option (List ℕ)) (limit : ℕ) (items before : List ℕ) → limit ≡ 1048577 → before ≡ [] → IfSome (option_map (take limit) known) (λ xs. items ≡ before ++ xs)
@@ -27,9 +27,19 @@ printed_whole bytes clean printed false e h =
     let short : length bytes ≤ 1048577 = grind (arith, nat_tests, e) in
     subst (λ xs. Printed xs clean printed) (take_all 1048577 bytes short) h
 
+script_whole : (bytes : List ℕ) (long : Bool) → nat_lt 1048576 (length bytes) ≡ long → IsScript (take 1048577 bytes) → IsScript bytes
+script_whole bytes true e h =
+    let above : 1048577 ≤ length bytes = grind (arith, nat_tests, e) in
+    let count : length (take 1048577 bytes) ≡ 1048577 = length-take-le 1048577 bytes above in
+    let fits : length (take 1048577 bytes) ≤ 1048576 = h.fits in
+    absurd (omega arith)
+script_whole bytes false e h =
+    let short : length bytes ≤ 1048577 = grind (arith, nat_tests, e) in
+    subst IsScript (take_all 1048577 bytes short) h
+
 printed_or : (bytes : List ℕ) (clean : Bool) (printed : List ℕ) → PrintedOrOutOfMemory (take 1048577 bytes) clean printed → PrintedOrOutOfMemory bytes clean printed
 printed_or bytes clean printed (inl h) = inl (printed_whole bytes clean printed (nat_lt 1048576 (length bytes)) refl h)
-printed_or bytes clean printed (inr h) = inr h
+printed_or bytes clean printed (inr h) = inr (script_whole bytes (nat_lt 1048576 (length bytes)) refl h.0, h.1)
 
 pub writes_printed : (known before after : Option (List ℕ)) (input printed : List ℕ) (clean : Bool) → IfSome known (λ bytes. input ≡ take 1048577 bytes) → PrintedOrOutOfMemory input clean printed
     → Appends before after printed → IfSome known (λ bytes. WritesPrinted bytes clean before after)

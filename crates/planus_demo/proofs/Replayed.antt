@@ -1,5 +1,5 @@
 -- A replay's steps, as the definitions see them.
-use Rattle.std.proofs.Common.{◌≡◌, ℕ, suc, ◌+◌, ◌≤◌, ◌<◌, List, [], ◌∷◌, ◌++◌, length, take, drop, map, get_or, refl, sym, ap, ◌∙◌, subst, None, Ok, Err, drop-cons}
+use Rattle.std.proofs.Common.{◌≡◌, ℕ, suc, ◌+◌, ◌≤◌, ◌<◌, List, [], ◌∷◌, ◌++◌, length, take, drop, map, get_or, refl, sym, ap, ◌∙◌, subst, None, Err, drop-cons}
 use Rattle.std.specs.List.{AllByRecursion}
 use Rattle.std.proofs.lemmas.List.{take-append-drop, map-append, map_push, take_more, take_all, length-map, length-take-le}
 use Rattle.planus_write.specs.State.{StandsFor}
@@ -8,12 +8,14 @@ use Rattle.planus_demo.specs.Steps.{command_of_step}
 use Rattle.planus_demo.specs.Runs.{nothing_written, LeadsTo}
 use Rattle.planus_demo.specs.Replays.{first_bad, Replays, finish_given}
 use Rattle.planus_demo.specs.Headline.{FinishHolds}
-use Rattle.planus_demo.specs.Replaying.{Past, state_with, distance_of, Advanced, Stopped, AreReached}
+use Rattle.planus_demo.specs.Replaying.{Past, state_with, distances, HasTaken, Takes, Stopped, AreReached}
 use Rattle.planus_demo.specs.declared.step.Step.{Step}
 use Rattle.planus_demo.specs.declared.replay.Progress.{Progress}
 use Rattle.planus_demo.specs.declared.replay.ReplayError.{ReplayError}
 use Rattle.planus_demo.specs.declared.replay.ReplayError.TheVariants.{OutOfMemory, TooLarge, BadStep}
-use Rattle.planus_demo.proofs.Kept.{leads_on, run_kept, run_reached}
+use Rattle.planus_demo.proofs.Kept.{leads_on, run_kept, run_value}
+use Rattle.planus_demo.proofs.Lists.{listed}
+use Rattle.planus_demo.proofs.Naming.{named_fault}
 use Rattle.planus_demo.proofs.Walking.{all_utf8, still_clean, too_large, bad_step}
 
 -- the first i steps
@@ -24,15 +26,15 @@ first_steps steps i = map command_of_step (take i steps)
 pub record Reaches (steps : List Step) (i : ℕ) (progress : Progress) : Type 0 where
   pub run : (past : Past) × StandsFor progress.builder past.promises × LeadsTo nothing_written (first_steps steps i) (state_with progress past)
   pub clean : first_bad (first_steps steps i) ≡ None
+  pub taken : HasTaken progress (first_steps steps i)
 
 pub are_reached : (steps : List Step) (i : ℕ) (progress : Progress) → Reaches steps i progress → AreReached progress
 are_reached steps i progress h step distance e =
-    run_reached (first_steps steps i) (all_utf8 (take i steps)) (state_with progress h.run.0) h.run.2 step distance e
+    (run_value (first_steps steps i) (all_utf8 (take i steps)) (state_with progress h.run.0) h.run.2 (progress.first + step) distance (listed progress.first (distances progress) step distance e)).inside
 
 pub number_is : (steps : List Step) (i : ℕ) (progress : Progress) → i ≤ length steps → Reaches steps i progress → progress.first + length progress.offsets.items ≡ i
 number_is steps i progress within h =
-    let kept = run_kept (first_steps steps i) (all_utf8 (take i steps)) (state_with progress h.run.0) h.run.2 in
-    ap (λ n. progress.first + n) (sym (length-map progress.offsets.items distance_of)) ∙ kept.numbered ∙ length-map (take i steps) command_of_step ∙ length-take-le i steps within
+    h.taken.counted ∙ length-map (take i steps) command_of_step ∙ length-take-le i steps within
 
 module _ (steps : List Step) (i : ℕ) (item : Step) (inside : i < length steps) (there : item ≡ get_or steps i item) (progress : Progress) (h : Reaches steps i progress) where
   whole : map command_of_step steps ≡ first_steps steps i ++ command_of_step item ∷ map command_of_step (drop (suc i) steps)
@@ -42,9 +44,9 @@ module _ (steps : List Step) (i : ℕ) (item : Step) (inside : i < length steps)
   next : first_steps steps (i + 1) ≡ first_steps steps i ++ command_of_step item ∷ []
   next = ap (map command_of_step) (take_more steps i item inside ∙ ap (λ x. take i steps ++ x ∷ []) (sym there)) ∙ map_push command_of_step (take i steps) item
 
-  pub reaches_next : (after : Progress) → Advanced progress (command_of_step item) (Ok tt) after → Reaches steps (i + 1) after
+  pub reaches_next : (after : Progress) → Takes progress (command_of_step item) after → Reaches steps (i + 1) after
   reaches_next after advanced =
-      let a = advanced h.run.0 h.run.1 in
+      let a = advanced.advances h.run.0 h.run.1 in
       record {
         run = (
           a.0,
@@ -54,6 +56,7 @@ module _ (steps : List Step) (i : ℕ) (item : Step) (inside : i < length steps)
         );
         clean = ap first_bad next
             ∙ still_clean (map command_of_step steps) (first_steps steps i) (command_of_step item) (map command_of_step (drop (suc i) steps)) whole (state_with progress h.run.0) (all_utf8 (take i steps)) h.run.2 h.clean (state_with after a.0) a.2;
+        taken = subst (λ cs. HasTaken after cs) (sym next) (advanced.taken (first_steps steps i) h.taken);
       }
 
   stopped_at : (c : Command) → command_of_step item ≡ c → (error : ReplayError) → Stopped progress c error → Replays (map command_of_step steps) (Err error)
@@ -66,7 +69,7 @@ module _ (steps : List Step) (i : ℕ) (item : Step) (inside : i < length steps)
   stopped_at clear is (BadStep number why) stopped = absurd stopped
   stopped_at (finish root identifier) is (BadStep number why) stopped =
       bad_step (map command_of_step steps) (first_steps steps i) (finish root identifier) (map command_of_step (drop (suc i) steps)) (subst (λ x. map command_of_step steps ≡ first_steps steps i ++ x ∷ map command_of_step (drop (suc i) steps)) is whole)
-      (state_with progress h.run.0) (all_utf8 (take i steps)) h.run.2 h.clean root number identifier why refl (stopped.0 ∙ ap (λ n. progress.first + n) (sym (length-map progress.offsets.items distance_of))) stopped.1
+      (state_with progress h.run.0) (all_utf8 (take i steps)) h.run.2 h.clean root number identifier why refl (stopped.0 ∙ h.taken.counted) (sym (named_fault progress (first_steps steps i) h.taken root) ∙ stopped.1)
 
   pub stops : (error : ReplayError) → Stopped progress (command_of_step item) error → Replays (map command_of_step steps) (Err error)
   stops error stopped = stopped_at (command_of_step item) refl error stopped

@@ -1,10 +1,10 @@
 -- The parts of a run are placed in turn, and so are the fewest bytes.
-use Rattle.std.proofs.Common.{◌≡◌, ℕ, ◌+◌, List, [], ◌∷◌, ◌++◌, length, refl, sym, ap, ◌∙◌, subst}
+use Rattle.std.proofs.Common.{◌≡◌, ℕ, ◌+◌, List, [], ◌∷◌, ◌++◌, length, refl, sym, ap, ◌∙◌, subst, arith}
 use Rattle.std.specs.List.{AllByRecursion}
-use Rattle.planus_back.specs.Promises.{Promise, IsPowerOfTwo}
+use Rattle.planus_back.specs.Promises.{Promise, IsPowerOfTwo, Keep}
 use Rattle.planus_back.specs.Padding.{promise_of, IsLeastPadding}
 use Rattle.planus_back.specs.Parts.{Part, Written, Placed}
-use Rattle.planus_back.specs.Placings.{PlacedInTurn}
+use Rattle.planus_back.specs.Placings.{PlacedInTurn, LieInOrder, promises_at}
 use Rattle.planus_back.proofs.Places.{least_places}
 use Rattle.planus_demo.specs.Headline.{IsFewest}
 use Rattle.planus_demo.proofs.Lists.{all_push}
@@ -62,10 +62,31 @@ module _ (part : Part) (before after : Written) (placed : Placed part before aft
     promised = promised_push 0 [] parts places part placed.place h.turns ∙ ap (λ ps. promise_of placed.place part.alignment ∷ ps) h.promised ∙ sym placed.promises;
   }
 
+-- parts that are placed in turn lie in order
+in_order : (n : ℕ) (promises : List Promise) (parts : List Part) (places : List ℕ) → PlacedInTurn n promises parts places → LieInOrder n parts places
+in_order n promises [] [] h = tt
+in_order n promises (part ∷ parts) (place ∷ places) h =
+    let at : place ≡ n + h.0.0 + part.size = h.0.1 in (omega (arith, at), in_order place (promise_of place part.alignment ∷ promises) parts places h.1)
+in_order n promises [] (place ∷ places) h = absurd h
+in_order n promises (part ∷ parts) [] h = absurd h
+
+-- a length that keeps the promises after them keeps those of each
+keeps_each : (n : ℕ) (promises : List Promise) (parts : List Part) (places : List ℕ) (L : ℕ) → PlacedInTurn n promises parts places → Keep (promised_by promises parts places) L
+    → Keep promises L × Keep (promises_at parts places) L
+keeps_each n promises [] [] L h keep = (keep, tt)
+keeps_each n promises (part ∷ parts) (place ∷ places) L h keep =
+    let both = keeps_each place (promise_of place part.alignment ∷ promises) parts places L h.1 keep in (both.0.1, (both.0.0, both.1))
+keeps_each n promises [] (place ∷ places) L h keep = absurd h
+keeps_each n promises (part ∷ parts) [] L h keep = absurd h
+
 -- parts that were placed in turn are the fewest bytes
-pub fewest : (written : Written) (parts : List Part) (earlier : List ℕ) (place : ℕ) → place ≡ length written.bytes → InTurn written parts (earlier ++ place ∷ [])
-    → IsFewest parts (earlier ++ place ∷ []) written.bytes
-fewest written parts earlier place at_end h = record {
+pub fewest : (written : Written) (parts : List Part) (earlier : List ℕ) (place : ℕ) → place ≡ length written.bytes → Keep written.promises (length written.bytes)
+    → InTurn written parts (earlier ++ place ∷ []) → IsFewest parts (earlier ++ place ∷ []) written.bytes
+fewest written parts earlier place at_end keep h = record {
+  placing = record {
+    in_order = in_order 0 [] parts (earlier ++ place ∷ []) h.turns;
+    kept = (length written.bytes, (keeps_each 0 [] parts (earlier ++ place ∷ []) (length written.bytes) h.turns (subst (λ ps. Keep ps (length written.bytes)) (sym h.promised) keep)).1);
+  };
   whole = (earlier, ap (λ n. earlier ++ n ∷ []) at_end);
   least = λ others placing. least_places parts (earlier ++ place ∷ []) others placing.kept.0 h.powers h.turns placing.in_order placing.kept.1;
 }

@@ -6,16 +6,16 @@ use Rattle.std.specs.String.{string_bytes}
 use Rattle.std.proofs.lemmas.Str.{IsUtf8-string_bytes}
 use Rattle.planus_demo.specs.Script.{Command, text, finish, clear}
 use Rattle.planus_demo.specs.Steps.{command_of_step}
-use Rattle.planus_demo.specs.Runs.{State, Advances, LeadsTo, PartOf, nothing_written, distance_at}
+use Rattle.planus_demo.specs.Runs.{State, Advances, LeadsTo, PartOf, nothing_written}
 use Rattle.planus_demo.specs.Replays.{first_bad, first_bad_after, first_bad_or, broken_check, fault_of, named_step, Replays}
 use Rattle.planus_demo.specs.declared.replay.ReplayError.TheVariants.{TooLarge, BadStep}
 use Rattle.planus_demo.specs.declared.replay.Why.{Why}
 use Rattle.planus_demo.specs.declared.step.Step.{Step}
 use Rattle.planus_demo.specs.declared.step.Step.TheVariants.{Text, Finish, Clear}
-use Rattle.planus_demo.proofs.Kept.{AllUtf8, Kept, run_kept, named_fault, there_at}
+use Rattle.planus_demo.proofs.Kept.{AllUtf8, run_value}
+use Rattle.planus_demo.proofs.Lists.{get_last}
 use Rattle.std.proofs.Math.Seq.{take-append_seam}
 use Rattle.planus_back.specs.Parts.{Part, IsTooLarge}
-use Rattle.planus_demo.specs.Replaying.{distance_fault}
 
 none_after : (n : ℕ) (check : Option Why) (later : Option (ℕ × Why)) → first_bad_or n check later ≡ None → (check ≡ None) × (later ≡ None)
 none_after n None later h = (refl, h)
@@ -46,20 +46,14 @@ all_utf8 (Clear ∷ steps) (suc i) bytes e = all_utf8 steps i bytes e
 module _ (all cs : List Command) (c : Command) (rest : List Command) (whole : all ≡ cs ++ c ∷ rest) (state : State) (utf8 : AllUtf8 cs) (run : LeadsTo nothing_written cs state)
     (clean : first_bad cs ≡ None) where
   there : slice_get all (length cs) ≡ Some c
-  there = ap (λ xs. slice_get xs (length cs)) whole ∙ there_at cs c rest
+  there = ap (λ xs. slice_get xs (length cs)) whole ∙ get_last cs c rest
 
   before_is : take (length cs) all ≡ cs
   before_is = ap (take (length cs)) whole ∙ take-append_seam cs (c ∷ rest)
 
-  kept : Kept cs cs state
-  kept = run_kept cs utf8 state run
-
-  faults : (root : ℕ) → distance_fault (distance_at state.first state.distances root) ≡ fault_of (named_step cs root)
-  faults root = named_fault cs cs state kept root
-
   no_fault : (step : Command) (after : State) → Advances state step after → broken_check cs step ≡ None
   no_fault (text bytes) after h = refl
-  no_fault (finish root identifier) after h = sym (faults root) ∙ ap distance_fault h.is_part.1
+  no_fault (finish root identifier) after h = ap fault_of (run_value cs utf8 state run root h.is_part.0 h.is_part.1).named
   no_fault clear after h = refl
 
   pub still_clean : (after : State) → Advances state c after → first_bad (cs ++ c ∷ []) ≡ None
@@ -67,7 +61,7 @@ module _ (all cs : List Command) (c : Command) (rest : List Command) (whole : al
 
   part_fault : (step : Command) (part : Part) → PartOf state step part → broken_check cs step ≡ None
   part_fault (text bytes) part h = refl
-  part_fault (finish root identifier) part h = sym (faults root) ∙ ap distance_fault h.1
+  part_fault (finish root identifier) part h = ap fault_of (run_value cs utf8 state run root h.0 h.1).named
   part_fault clear part h = refl
 
   up_to : take (length cs + 1) all ≡ cs ++ c ∷ []
@@ -81,11 +75,10 @@ module _ (all cs : List Command) (c : Command) (rest : List Command) (whole : al
     record { step = c; there = there; before = state; run = subst (λ xs. LeadsTo nothing_written xs state) (sym before_is) run; part = part; is_part = is_part; too_large = h },
   )
 
-  pub bad_step : (root number : ℕ) (identifier : Option (List ℕ)) (why : Why) → c ≡ finish root identifier → number ≡ state.first + length state.distances
-      → distance_fault (distance_at state.first state.distances root) ≡ Some why → Replays all (Err (BadStep number why))
-  bad_step root number identifier why is_finish at_end fault =
-      let same : number ≡ length cs = at_end ∙ kept.numbered in
-      let check : broken_check cs c ≡ Some why = ap (broken_check cs) is_finish ∙ sym (faults root) ∙ fault in (
+  pub bad_step : (root number : ℕ) (identifier : Option (List ℕ)) (why : Why) → c ≡ finish root identifier → number ≡ length cs → fault_of (named_step cs root) ≡ Some why
+      → Replays all (Err (BadStep number why))
+  bad_step root number identifier why is_finish same fault =
+      let check : broken_check cs c ≡ Some why = ap (broken_check cs) is_finish ∙ fault in (
         ap first_bad whole ∙ next_check [] cs c rest clean ∙ ap (λ o. first_bad_or (0 + length cs) o (first_bad_after ([] ++ (cs ++ c ∷ [])) rest)) check
             ∙ ap (λ n. Some (n, why)) (let e : 0 + length cs ≡ number = omega arith in e),
         (state, subst (λ xs. LeadsTo nothing_written xs state) (sym (ap (λ n. take n all) same ∙ before_is)) run),

@@ -1,5 +1,5 @@
 -- What the program's output is to the definitions.
-use Rattle.std.specs.Prelude.{ℕ, ◌<◌, Bool, List, Result, Ok, Err, ⊤, ◌⊎◌, Vec}
+use Rattle.std.specs.Prelude.{ℕ, ◌<◌, Bool, List, Result, Ok, Err, ⊤, Vec}
 use Rattle.std.specs.declared.alloc.Global.{Global}
 use Rattle.std.specs.String.{string_bytes}
 use Rattle.planus_demo.specs.Runs.{Finish}
@@ -22,5 +22,9 @@ NamesStep count (Err TooLarge) = ⊤
 NamesStep count (Err OutOfMemory) = ⊤
 NamesStep count (Ok finished) = ⊤
 
+-- what is printed of a replay's answer, a refusal for memory included
 abbrev pub PrintsAnswerOr : List ℕ → Result (List Finish) ReplayError → Bool → List ℕ → Type 0
-PrintsAnswerOr numbers answer clean printed = PrintsAnswer numbers answer clean printed ⊎ PrintsOutOfMemory clean printed
+PrintsAnswerOr numbers (Ok finished) clean printed = PrintsAnswer numbers (Ok finished) clean printed
+PrintsAnswerOr numbers (Err (BadStep step why)) clean printed = PrintsAnswer numbers (Err (BadStep step why)) clean printed
+PrintsAnswerOr numbers (Err TooLarge) clean printed = PrintsAnswer numbers (Err TooLarge) clean printed
+PrintsAnswerOr numbers (Err OutOfMemory) clean printed = PrintsOutOfMemory clean printed

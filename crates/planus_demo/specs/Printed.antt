@@ -1,5 +1,5 @@
 -- What the program prints for the bytes of a script.
-use Rattle.std.specs.Prelude.{◌≡◌, ℕ, ◌/◌, ◌%◌, Bool, true, false, nat_lt, List, [], ◌∷◌, ◌++◌, map, length, slice_get, Some, Result, Ok, Err, codes, ◌⊎◌}
+use Rattle.std.specs.Prelude.{◌≡◌, ℕ, ◌≤◌, ◌/◌, ◌%◌, Bool, true, false, nat_lt, List, [], ◌∷◌, ◌++◌, map, length, slice_get, Some, Result, Ok, Err, codes, ◌⊎◌}
 use Rattle.std.specs.Bool.{MatchBool}
 use Rattle.std.specs.List.{flat_map, join_with_byte}
 use Rattle.std.specs.Char.{digit_char}
@@ -47,9 +47,15 @@ abbrev pub Printed : List ℕ → Bool → List ℕ → Type 0
 Printed input clean printed =
     MatchBool (nat_lt greatest_script (length input)) ((clean ≡ false) × (printed ≡ line_of (codes "script too long"))) (PrintsRead (script_of input) clean printed)
 
--- A replay was refused for memory.
+-- The input is a script: it isn't too long, and each of its lines can be read.
+pub record IsScript (input : List ℕ) : Type 0 where
+  pub fits : length input ≤ greatest_script
+  pub read : (read : Read) × (script_of input ≡ Ok read)
+
+-- what is printed where a replay was refused for memory
 abbrev pub PrintsOutOfMemory : Bool → List ℕ → Type 0
 PrintsOutOfMemory clean printed = (clean ≡ false) × (printed ≡ line_of (codes "out of memory"))
 
+-- Of this input this is printed, or else it is a script whose replay was refused for memory.
 abbrev pub PrintedOrOutOfMemory : List ℕ → Bool → List ℕ → Type 0
-PrintedOrOutOfMemory input clean printed = Printed input clean printed ⊎ PrintsOutOfMemory clean printed
+PrintedOrOutOfMemory input clean printed = Printed input clean printed ⊎ (IsScript input × PrintsOutOfMemory clean printed)

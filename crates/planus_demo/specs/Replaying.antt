@@ -1,12 +1,12 @@
 -- A replay on its way, as the definitions see it.
-use Rattle.std.specs.Prelude.{◌≡◌, ℕ, ◌+◌, ◌≤◌, List, [], map, length, slice_get, Option, Some, None, Result, Ok, Err, ⊤}
+use Rattle.std.specs.Prelude.{◌≡◌, ℕ, ◌+◌, ◌-◌, ◌≤◌, nat_lt, List, [], ◌∷◌, ◌++◌, map, length, drop, slice_get, Option, Some, None, if◌then◌else◌, Result, Ok, Err, ⊤, ◌⊎◌}
 use Rattle.std.specs.Option.{option_map}
 use Rattle.planus_back.specs.Promises.{Promise}
 use Rattle.planus_back.specs.Parts.{Part, IsTooLarge}
 use Rattle.planus_write.specs.State.{StandsFor, written_with}
 use Rattle.planus_write.specs.declared.offset.Offset.{Offset}
 use Rattle.planus_demo.specs.Script.{Command, text, finish, clear}
-use Rattle.planus_demo.specs.Runs.{State, PartOf, Advances, distance_at}
+use Rattle.planus_demo.specs.Runs.{State, PartOf, Advances}
 use Rattle.planus_demo.specs.Replays.{finish_given}
 use Rattle.planus_demo.specs.declared.replay.Why.{Why}
 use Rattle.planus_demo.specs.declared.replay.Why.TheVariants.{NoSuchStep, WrongKind}
@@ -26,14 +26,28 @@ pub record Past : Type 0 where
 abbrev pub no_past : Past
 no_past = record { promises = []; parts = []; places = [] }
 
+-- what each step since the last clear wrote: the distance of its value, if it wrote one
+abbrev pub distances : Progress → List (Option ℕ)
+distances replay = map distance_of replay.offsets.items
+
+-- the values among steps that are numbered from n on, with their distances
+abbrev pub values_from : ℕ → List (Option ℕ) → List (ℕ × ℕ)
+values_from n [] = []
+values_from n (None ∷ rest) = values_from (n + 1) rest
+values_from n (Some distance ∷ rest) = (n, distance) ∷ values_from (n + 1) rest
+
+-- what the step of a number wrote, where it stands behind the last clear; the steps since are numbered from `first` on
+abbrev pub distance_at : ℕ → List (Option ℕ) → ℕ → Option (Option ℕ)
+distance_at first since step = if nat_lt step first then None else slice_get since (step - first)
+
 -- the state of the run, if this is its past
 abbrev pub state_with : Progress → Past → State
 state_with replay past = record {
   written = written_with replay.builder past.promises;
   parts = past.parts;
   places = past.places;
-  first = replay.first;
-  distances = map distance_of replay.offsets.items;
+  values = values_from replay.first (distances replay);
+  next = replay.first + length replay.offsets.items;
   finished = map finish_given replay.finished.items;
 }
 
@@ -45,8 +59,8 @@ distance_fault (Some (Some distance)) = None
 
 -- the value of an earlier step, or what is wrong with naming it
 abbrev pub FindsValue : ℕ → List (Option ℕ) → ℕ → Result (Offset (Unit {0})) Why → Type 0
-FindsValue first distances step (Ok offset) = distance_at first distances step ≡ Some (Some offset.distance)
-FindsValue first distances step (Err why) = distance_fault (distance_at first distances step) ≡ Some why
+FindsValue first since step (Ok offset) = distance_at first since step ≡ Some (Some offset.distance)
+FindsValue first since step (Err why) = distance_fault (distance_at first since step) ≡ Some why
 
 -- why a step was not taken
 abbrev pub Stopped : Progress → Command → ReplayError → Type 0
@@ -55,14 +69,39 @@ Stopped old step TooLarge = (past : Past) → StandsFor old.builder past.promise
 Stopped old (text bytes) (BadStep number why) = ⊥
 Stopped old clear (BadStep number why) = ⊥
 Stopped old (finish root identifier) (BadStep number why) =
-    (number ≡ old.first + length old.offsets.items) × (distance_fault (distance_at old.first (map distance_of old.offsets.items) root) ≡ Some why)
+    (number ≡ old.first + length old.offsets.items) × (distance_fault (distance_at old.first (distances old) root) ≡ Some why)
 
--- One step was taken, whatever the past, or was not.
+-- a step wrote what its kind says: a text its value, a finish none; a clear is no step since the last clear
+abbrev pub Wrote : Command → Option ℕ → Type 0
+Wrote (text bytes) (Some distance) = ⊤
+Wrote (text bytes) None = ⊥
+Wrote (finish root identifier) (Some distance) = ⊥
+Wrote (finish root identifier) None = ⊤
+Wrote clear distance = ⊥
+
+abbrev pub AllWrote : List Command → List (Option ℕ) → Type 0
+AllWrote [] [] = ⊤
+AllWrote (step ∷ steps) (distance ∷ rest) = Wrote step distance × AllWrote steps rest
+AllWrote [] (distance ∷ rest) = ⊥
+AllWrote (step ∷ steps) [] = ⊥
+
+-- The replay has taken these steps: it begins to count behind the last clear, and knows what each step since then wrote.
+pub record HasTaken (replay : Progress) (steps : List Command) : Type 0 where
+  pub counted : replay.first + length replay.offsets.items ≡ length steps
+  pub behind_clear : (replay.first ≡ 0) ⊎ (slice_get steps (replay.first - 1) ≡ Some clear)
+  pub wrote : AllWrote (drop replay.first steps) (distances replay)
+
+-- One step was taken, whatever the past.
+pub record Takes (old : Progress) (step : Command) (new : Progress) : Type 0 where
+  pub taken : (steps : List Command) → HasTaken old steps → HasTaken new (steps ++ step ∷ [])
+  pub advances : (past : Past) → StandsFor old.builder past.promises
+      → (after : Past) × StandsFor new.builder after.promises × Advances (state_with old past) step (state_with new after)
+
+-- One step was taken, or was not.
 abbrev pub Advanced : Progress → Command → Result (Unit {0}) ReplayError → Progress → Type 0
-Advanced old step (Ok done) new = (past : Past) → StandsFor old.builder past.promises →
-    (after : Past) × StandsFor new.builder after.promises × Advances (state_with old past) step (state_with new after)
+Advanced old step (Ok done) new = Takes old step new
 Advanced old step (Err error) new = Stopped old step error
 
 -- every value since the last clear lies in the builder
 abbrev pub AreReached : Progress → Type 0
-AreReached replay = (step distance : ℕ) → slice_get (map distance_of replay.offsets.items) step ≡ Some (Some distance) → distance ≤ length replay.builder.bytes
+AreReached replay = (step distance : ℕ) → slice_get (distances replay) step ≡ Some (Some distance) → distance ≤ length replay.builder.bytes

@@ -1,6 +1,7 @@
 -- What a replay of steps answers.
-use Rattle.std.specs.Prelude.{◌≡◌, ℕ, ◌+◌, List, [], ◌∷◌, ◌++◌, length, take, slice_get, map, nat_lt, if◌then◌else◌, Option, Some, None, Result, Ok, Err, ⊤}
+use Rattle.std.specs.Prelude.{◌≡◌, ℕ, ◌+◌, List, [], ◌∷◌, ◌++◌, length, take, drop, slice_get, map, Bool, true, false, if◌then◌else◌, Option, Some, None, Result, Ok, Err, ⊤}
 use Rattle.std.specs.Prelude.{Vec}
+use Rattle.std.specs.List.{list_any}
 use Rattle.std.specs.declared.alloc.Global.{Global}
 use Rattle.planus_demo.specs.Script.{Command, text, finish, clear}
 use Rattle.planus_demo.specs.Runs.{Finish, State, nothing_written, LeadsTo, Runs, ComesToTooLarge}
@@ -13,16 +14,14 @@ use Rattle.planus_write.specs.declared.errors.BuildError.{BuildError}
 use Rattle.planus_write.specs.declared.errors.BuildError.TheVariants as build
 use Rattle.planus_demo.specs.declared.replay.StepPlace.{StepPlace}
 
--- the number of the first step behind the last clear, in steps that are numbered from n on, where it was `first` before them
-abbrev pub first_after_clear : ℕ → ℕ → List Command → ℕ
-first_after_clear first n [] = first
-first_after_clear first n (text bytes ∷ steps) = first_after_clear first (n + 1) steps
-first_after_clear first n (finish root identifier ∷ steps) = first_after_clear first (n + 1) steps
-first_after_clear first n (clear ∷ steps) = first_after_clear (n + 1) (n + 1) steps
+abbrev pub is_clear : Command → Bool
+is_clear (text bytes) = false
+is_clear (finish root identifier) = false
+is_clear clear = true
 
--- the step that a number names: an earlier one, behind the last clear
+-- the step that a number names: an earlier one, with no clear from it on
 abbrev pub named_step : List Command → ℕ → Option Command
-named_step earlier number = if nat_lt number (first_after_clear 0 0 earlier) then None else slice_get earlier number
+named_step earlier number = if list_any is_clear (drop number earlier) then None else slice_get earlier number
 
 -- what is wrong with naming it as a value
 abbrev pub fault_of : Option Command → Option Why

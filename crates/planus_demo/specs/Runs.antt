@@ -1,5 +1,6 @@
 -- Runs: what the steps of a script come to, by the definitions of parts and placing alone.
-use Rattle.std.specs.Prelude.{◌≡◌, ℕ, ◌+◌, ◌-◌, nat_lt, List, [], ◌∷◌, ◌++◌, length, take, slice_get, Option, Some, None, if◌then◌else◌}
+use Rattle.std.specs.Prelude.{◌≡◌, ℕ, ◌+◌, List, [], ◌∷◌, ◌++◌, take, slice_get, Some}
+use Rattle.std.specs.List.{Contains}
 use Rattle.planus_back.specs.Parts.{Part, Written, Placed, IsTooLarge}
 use Rattle.planus_write.specs.Parts.{text_part, finish_part}
 use Rattle.planus_demo.specs.Script.{Command, text, finish, clear}
@@ -10,46 +11,40 @@ pub record Finish : Type 0 where
   pub places : List (ℕ × ℕ)
 
 -- What a run has come to: what is written and promised since the last clear; the parts of it and their places, in the order in which
--- they were placed; the number of the first step behind that clear; the distance of each step since, if it wrote a value; and what each
--- finish gave.
+-- they were placed; its values, each by the number of its step and its distance; the number of the next step; and what each finish gave.
 pub record State : Type 0 where
   pub written : Written
   pub parts : List Part
   pub places : List ℕ
-  pub first : ℕ
-  pub distances : List (Option ℕ)
+  pub values : List (ℕ × ℕ)
+  pub next : ℕ
   pub finished : List Finish
 
+-- nothing is written, from the step of this number on, and this was given before
+abbrev pub nothing_since : ℕ → List Finish → State
+nothing_since next finished =
+    record { written = record { bytes = []; promises = [] }; parts = []; places = []; values = []; next = next; finished = finished }
+
 abbrev pub nothing_written : State
-nothing_written = record { written = record { bytes = []; promises = [] }; parts = []; places = []; first = 0; distances = []; finished = [] }
-
--- the distance of a step, by its number, where it stands behind the last clear
-abbrev pub distance_at : ℕ → List (Option ℕ) → ℕ → Option (Option ℕ)
-distance_at first distances step = if nat_lt step first then None else slice_get distances (step - first)
-
--- the values among steps that are numbered from n on, with their distances
-abbrev pub places_from : ℕ → List (Option ℕ) → List (ℕ × ℕ)
-places_from n [] = []
-places_from n (None ∷ distances) = places_from (n + 1) distances
-places_from n (Some distance ∷ distances) = (n, distance) ∷ places_from (n + 1) distances
+nothing_written = nothing_since 0 []
 
 -- the part that a step writes
 abbrev pub PartOf : State → Command → Part → Type 0
 PartOf state (text bytes) part = part ≡ text_part bytes
 PartOf state (finish root identifier) part =
-    (distance : ℕ) × (distance_at state.first state.distances root ≡ Some (Some distance)) × (part ≡ finish_part distance identifier state.written.promises)
+    (distance : ℕ) × Contains state.values (root, distance) × (part ≡ finish_part distance identifier state.written.promises)
 PartOf state clear part = ⊥
 
--- what a step adds to the distances, once its part is placed
-abbrev pub distance_added : Command → ℕ → Option ℕ
-distance_added (text bytes) place = Some place
-distance_added (finish root identifier) place = None
-distance_added clear place = None
+-- what a step of this number adds to the values, once its part is placed
+abbrev pub value_added : Command → ℕ → ℕ → List (ℕ × ℕ)
+value_added (text bytes) number place = (number, place) ∷ []
+value_added (finish root identifier) number place = []
+value_added clear number place = []
 
--- what it adds to what was given
+-- what it adds to what was given: the bytes, and all values since the last clear
 abbrev pub finish_added : Command → State → Written → List Finish
 finish_added (text bytes) before written = []
-finish_added (finish root identifier) before written = record { bytes = written.bytes; places = places_from before.first before.distances } ∷ []
+finish_added (finish root identifier) before written = record { bytes = written.bytes; places = before.values } ∷ []
 finish_added clear before written = []
 
 -- One step that writes: its part is placed, by least padding.
@@ -59,20 +54,13 @@ pub record Writes (before : State) (step : Command) (after : State) : Type 0 whe
   pub placed : Placed part before.written after.written
   pub parts : after.parts ≡ before.parts ++ part ∷ []
   pub places : after.places ≡ before.places ++ placed.place ∷ []
-  pub first : after.first ≡ before.first
-  pub distances : after.distances ≡ before.distances ++ distance_added step placed.place ∷ []
+  pub values : after.values ≡ before.values ++ value_added step before.next placed.place
+  pub next : after.next ≡ before.next + 1
   pub finished : after.finished ≡ before.finished ++ finish_added step before after.written
 
 -- a clear: nothing is written, and nothing before it can be named
 abbrev pub cleared : State → State
-cleared before = record {
-  written = record { bytes = []; promises = [] };
-  parts = [];
-  places = [];
-  first = before.first + length before.distances + 1;
-  distances = [];
-  finished = before.finished;
-}
+cleared before = nothing_since (before.next + 1) before.finished
 
 abbrev pub Advances : State → Command → State → Type 0
 Advances before (text bytes) after = Writes before (text bytes) after

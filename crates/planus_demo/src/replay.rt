@@ -4,10 +4,10 @@ ghost use Rattle.std.specs.List.{AllByRecursion};
 ghost use Rattle.planus_back.specs.Promises.{Promise};
 ghost use Rattle.planus_write.specs.State.{StandsFor};
 ghost use Rattle.planus_demo.specs.Steps.{command_of_step};
-ghost use Rattle.planus_demo.specs.Runs.{nothing_written, places_from};
+ghost use Rattle.planus_demo.specs.Runs.{nothing_written};
 ghost use Rattle.planus_demo.specs.Replays.{place_of, finish_given, Replays, given_by};
 ghost use Rattle.planus_demo.specs.Headline.{FinishHolds};
-ghost use Rattle.planus_demo.specs.Replaying.{distance_of, no_past, state_with, FindsValue, Advanced, AreReached};
+ghost use Rattle.planus_demo.specs.Replaying.{distance_of, distances, values_from, no_past, state_with, FindsValue, HasTaken, Advanced, AreReached};
 ghost use Rattle.planus_demo.specs.Script as command;
 
 use crate::step::Step;
@@ -85,17 +85,21 @@ impl<T: Drop> From<AllocFailed<T>> for ReplayError {
     }
 }
 
-/// Where a step's value stands: its distance in bytes from the end of the finished bytes to its first byte.
+/// Where a step's value stands in finished bytes.
 #[derive(Clone, Copy, Debug, PartialEq, Eq)]
 pub struct StepPlace {
+    /// The step's number, from 0.
     pub step: usize,
+    /// The distance in bytes from the end of the finished bytes to the value's first byte.
     pub distance: u32,
 }
 
 /// What a finish gives: the bytes, and where each value since the last clear stands in them.
 #[derive(Debug, Drop)]
 pub struct Finished {
+    /// All of the buffer.
     pub bytes: Vec<u8>,
+    /// The values in the order of their steps, referenced or not.
     pub places: Vec<StepPlace>,
 }
 
@@ -117,7 +121,7 @@ fn places_of(
     offsets: &[Option<Offset<()>>],
 ) -> std::result::Result<Vec<StepPlace>, AllocError>
     requires { first + length offsets.now < 2 ^ 64 }
-    ensures { IfOk result (λ places. map place_of places.items ≡ places_from first (map distance_of offsets.now)) }
+    ensures { IfOk result (λ places. map place_of places.items ≡ values_from first (map distance_of offsets.now)) }
 {
     let mut places = Vec::new(alloc);
     for (index, offset) in offsets.iter().enumerate() {
@@ -134,6 +138,7 @@ fn places_of(
 impl Progress {
     fn new(alloc: Global) -> std::result::Result<Progress, ReplayError>
         ensures ok { IfOk result (λ replay. StandsFor replay.builder [] × (state_with replay no_past ≡ nothing_written)) }
+        ensures taken { IfOk result (λ replay. HasTaken replay []) }
         ensures error { IfErr result (λ error. error ≡ ReplayError.OutOfMemory) }
     {
         Ok(Progress {
@@ -146,7 +151,7 @@ impl Progress {
 
     /// The value of an earlier step, by its number.
     fn value(&self, step: usize) -> std::result::Result<Offset<()>, Why>
-        ensures { FindsValue self.now.first (map distance_of self.now.offsets.items) step result }
+        ensures { FindsValue self.now.first (distances self.now) step result }
     {
         if step < self.first {
             return Err(Why::NoSuchStep);
@@ -221,15 +226,17 @@ impl Progress {
 
 /// What each finish of the steps gives, in order.
 ///
-/// Each step is checked before it writes, so the first refused step decides.
+/// Each step is checked before it writes, so the first refused step decides: [`ReplayError::BadStep`] where its check is
+/// broken, [`ReplayError::TooLarge`] where its part's place would be above 2147483647 bytes from the end, and
+/// [`ReplayError::OutOfMemory`] where memory is refused.
 pub fn replay(alloc: Global, steps: &[Step]) -> std::result::Result<Vec<Finished>, ReplayError>
     ensures run { Replays (map command_of_step steps.now) (given_by result) }
     ensures holds { IfOk result (λ finished. AllByRecursion (FinishHolds (map command_of_step steps.now)) (map finish_given finished.items)) }
 {
-    let mut replay = Progress::new(alloc)?;
+    let mut progress = Progress::new(alloc)?;
     for step in steps {
-        replay.advance(alloc, step)?;
+        progress.advance(alloc, step)?;
     }
-    let Progress { finished, .. } = replay;
+    let Progress { finished, .. } = progress;
     Ok(finished)
 }

@@ -75,7 +75,9 @@ impl<T: Drop> From<AllocFailed<T>> for ParseError {
 /// The steps of a script, and the number of the line that each stands on.
 #[derive(Debug, Drop)]
 pub struct Script {
+    /// The number of each step's line, from 1.
     pub numbers: Vec<usize>,
+    /// The steps, in order.
     pub steps: Vec<Step>,
 }
 
@@ -196,28 +198,16 @@ fn finish(words: Option<&str>) -> std::result::Result<Step, ReadFault>
 fn finish_plain(root: &str) -> std::result::Result<Step, ReadFault>
     ensures { AnswersCommand result (finish_at (number_of root.now)) }
 {
-    match number(root) {
-        Ok(root) => Ok(Step::Finish {
-            root: root as usize,
-            id: None,
-        }),
-        Err(fault) => Err(fault),
-    }
+    let root = number(root)? as usize;
+    Ok(Step::Finish { root, id: None })
 }
 
 fn finish_named(root: &str, name: &str) -> std::result::Result<Step, ReadFault>
     ensures { AnswersCommand result (identified_at (number_of root.now) (identifier_of name.now)) }
 {
-    match number(root) {
-        Ok(root) => match identifier(name) {
-            Ok(id) => Ok(Step::Finish {
-                root: root as usize,
-                id: Some(id),
-            }),
-            Err(fault) => Err(fault),
-        },
-        Err(fault) => Err(fault),
-    }
+    let root = number(root)? as usize;
+    let id = Some(identifier(name)?);
+    Ok(Step::Finish { root, id })
 }
 
 /// `clear`, from what stands behind the first word.

@@ -1,6 +1,6 @@
 //! The steps of a script.
 
-/// One step: a value that is written, or a finish.
+/// One step: a value that is written, a finish, or a clear.
 #[derive(Debug, Drop)]
 pub enum Step {
     /// A text.

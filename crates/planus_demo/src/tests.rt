@@ -127,6 +127,17 @@ fn longest_script(rt: HostRuntime) -> Result<(), Fail> {
 }
 
 #[test]
+fn reads_one_byte_more_than_the_longest_script(rt: HostRuntime) -> Result<(), Fail> {
+    let script = vec![in rt.alloc(); b'#'; 1048580]?;
+    let mut reader = script.as_slice();
+    let mut writer = Vec::new(rt.alloc());
+    let answer = run(rt.alloc(), &mut reader, &mut writer);
+    assert!(rt; answer == Ok(false), "too long");
+    assert_eq!(rt; reader.len(), 3);
+    Ok(())
+}
+
+#[test]
 fn text_reads_back(rt: HostRuntime) -> Result<(), Fail> {
     let mut steps = Vec::new(rt.alloc());
     steps.push(Step::Text(String::from_str(rt.alloc(), "Axe")?))?;
@@ -206,6 +217,38 @@ fn writing_fails_on_the_way(rt: HostRuntime) -> Result<(), Fail> {
     assert!(rt; answer == Err(RunError::Write), "an error of writing");
     assert_eq!(rt; writer.taken.as_slice(), "04 00".as_bytes());
     assert_eq!(rt; status(&answer), 2);
+    Ok(())
+}
+
+/// A writer that takes all bytes, and fails to hand them on.
+#[derive(Drop)]
+struct FailingFlush {
+    taken: Vec<u8>,
+}
+
+impl Write for FailingFlush {
+    fn write(&mut self, buf: &[u8]) -> io::Result<usize> {
+        self.taken.extend_from_slice(buf)?;
+        Ok(buf.len())
+    }
+
+    fn flush(&mut self) -> io::Result<()> {
+        Err(Error::from(ErrorKind::StorageFull))
+    }
+}
+
+#[test]
+fn handing_on_fails(rt: HostRuntime) -> Result<(), Fail> {
+    let mut reader = b"text Axe\nfinish 0\n".as_slice();
+    let mut writer = FailingFlush {
+        taken: Vec::new(rt.alloc()),
+    };
+    let answer = run(rt.alloc(), &mut reader, &mut writer);
+    assert!(rt; answer == Err(RunError::Write), "an error of writing");
+    assert_eq!(rt;
+        writer.taken.as_slice(),
+        "04 00 00 00 03 00 00 00 41 78 65 00\n".as_bytes()
+    );
     Ok(())
 }
 

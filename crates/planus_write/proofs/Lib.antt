@@ -1,1 +1,2 @@
 pub mod PlacedParts
+pub mod Standing

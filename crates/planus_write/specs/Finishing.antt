@@ -26,6 +26,11 @@ FinishLeaves {T} prepare identifier old (Ok bytes) new =
 FinishLeaves {T} prepare identifier old (Err error) new =
     prepare old (Err error) new ⊎ ((root : Offset T) × (prepared : State) × prepare old (Ok root) prepared × Refuses (finish_part root.distance identifier) prepared error new)
 
+-- The bytes that a finish lends: all of the builder's, once the root is prepared and the finish is placed.
+abbrev pub FinishGives : {T : Type 0} → (State → Result (Offset T) BuildError → State → Type 0) → Option (List ℕ) → State → List ℕ → Type 0
+FinishGives {T} prepare identifier old bytes =
+    (root : Offset T) × (prepared : State) × (new : State) × prepare old (Ok root) prepared × Finishes root.distance identifier prepared new × (bytes ≡ new.bytes)
+
 -- the builder is left so, once the bytes that are lent are given back
 abbrev pub EndsAs : MutBor State → (State → Type 0) → Fml
 EndsAs builder Leaves = follows_so the_row the_row builder.ghost_name none (λ _ _. ⊤) Leaves

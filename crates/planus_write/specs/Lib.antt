@@ -5,3 +5,4 @@ pub mod View
 pub mod Preparing
 pub mod Laws
 pub mod Finishing
+pub mod Standing

@@ -39,7 +39,7 @@ impl Builder {
     ghost use Rattle.planus_write.specs.State.{State, StandsFor};
     ghost use Rattle.planus_write.specs.Placing.{Reserves, Refuses, WritesPart};
     ghost use Rattle.planus_write.specs.Preparing.{WritesText};
-    ghost use Rattle.planus_write.specs.Finishing.{EndsAs, FinishLeaves, WritesRoot};
+    ghost use Rattle.planus_write.specs.Finishing.{EndsAs, FinishGives, FinishLeaves, WritesRoot};
 
     /// An empty builder; [`BuildError::OutOfMemory`] where memory is refused.
     pub fn new(alloc: Global) -> std::result::Result<Builder, BuildError>
@@ -69,7 +69,7 @@ impl Builder {
     pub fn len(&self) -> usize
         ensures { result ≡ length self.now.bytes }
     {
-        self.inner.len() // promises take no bytes
+        self.inner.len()
     }
 
     /// Whether nothing is written.
@@ -190,7 +190,11 @@ impl Builder {
         }
     }
 
-    /// Writes a text: one part of a count of 4 bytes, its bytes and a zero byte, aligned to 4 bytes.
+    /// Writes a text: one part of a count of 4 bytes, its bytes and a zero byte, aligned to 4 bytes. Answers its offset. Nothing
+    /// is written for an offset; it must be one that this builder answered since the last clear.
+    ///
+    /// [`BuildError::TooLarge`] where the part's place would be above 2147483647 bytes from the end; [`BuildError::OutOfMemory`]
+    /// where it doesn't fit [`Builder::room`] and memory is refused. Then nothing is changed.
     pub fn create_string<X: WriteAsOffset<Text> + Drop>(
         &mut self,
         value: X,
@@ -202,7 +206,8 @@ impl Builder {
     }
 
     /// Prepares the root, and puts in front of everything its reference, and behind that the file identifier, if there is
-    /// one. The length is then such that every part since the last clear stands aligned. Answers all bytes.
+    /// one. The length is then such that every part since the last clear stands aligned. Answers all bytes. An offset as the
+    /// root must be one that this builder answered since the last clear.
     ///
     /// Writing may go on afterwards, and finish again.
     ///
@@ -214,6 +219,7 @@ impl Builder {
         identifier: Option<[u8; 4]>,
     ) -> std::result::Result<&[u8], BuildError>
         requires { X.may root self.old }
+        ensures bytes { IfOk result (λ bytes. FinishGives (X.outcome root) identifier self.old bytes.now) }
         ensures* after { sem 𝓛 (EndsAs self.entry (FinishLeaves (X.outcome root) identifier self.old result)) }
     {
         let root = root.prepare(self)?;
@@ -228,8 +234,7 @@ impl Builder {
         ensures greatest { (promises : List Promise) → StandsFor self.now promises → greatest_alignment 4 promises ≡ result + 1 }
         ensures all { (promises : List Promise) → StandsFor self.now promises → greatest_alignment 1 promises ≤ result + 1 }
     {
-        let mask = self.promises.mask();
-        if mask < WORD_MASK { WORD_MASK } else { mask }
+        self.promises.mask().max(WORD_MASK)
     }
 
     // The root word, and the identifier behind it, as one part with the greatest alignment so far.

@@ -4,6 +4,7 @@
 pub mod builder;
 pub mod errors;
 mod impls;
+pub mod laws;
 pub mod offset;
 pub mod traits;
 

@@ -19,6 +19,7 @@ impl<T> Clone for Offset<T> {
 
     ghost is_infallible = { λ _. ⊤ };
 
+    #[inline]
     fn clone(&self) -> std::result::Result<Self, AllocError> {
         Ok(*self)
     }
@@ -43,7 +44,7 @@ impl<T> Offset<T> {
     pub fn distance(&self) -> u32
         ensures { result ≡ self.now.distance }
     {
-        self.distance // from the end of the buffer
+        self.distance
     }
 
     /// The same offset, with its kind forgotten.

@@ -1,4 +1,4 @@
-ghost use Rattle.std.specs.Prelude.{◌≡◌, ◌+◌, ◌^◌, ◌≤◌, length, replicate, ⊤};
+ghost use Rattle.std.specs.Prelude.{◌≡◌, ◌+◌, ◌%◌, ◌^◌, ◌≤◌, length, replicate, ⊤};
 ghost use Rattle.std.specs.Int.{w32, to_le_bytes};
 ghost use Rattle.planus_back.specs.Promises.{IsPowerOfTwo};
 
@@ -69,6 +69,20 @@ impl Fill for OwnPlace {
 
     fn fill(&self, place: u32, bytes: &mut [u8]) {
         bytes.copy_from_slice(&place.to_le_bytes());
+    }
+}
+
+// Leaves the last byte of the place at which it is called, as often as there is room.
+#[derive(Drop)]
+struct PlaceByte;
+
+impl Fill for PlaceByte {
+    ghost fits = { λ _ _ _. ⊤ };
+
+    ghost leaves = { λ _ place n. replicate n (place % 256) };
+
+    fn fill(&self, place: u32, bytes: &mut [u8]) {
+        bytes.fill((place % 256) as u8);
     }
 }
 
@@ -340,6 +354,22 @@ fn write_parts(
     Ok(parts)
 }
 
+// Writes parts of the same sizes and alignments. Tells whether each filler was called at the length with its part.
+fn fillers_know_their_places(alloc: Global, numbers: &mut Numbers) -> Result<bool, Fail> {
+    let mut builder = Builder::new(alloc)?;
+    for _ in 1..50 {
+        let size = (numbers.draw() % 128) as usize;
+        let mask = mask_of(1 << (numbers.draw() % 5));
+        builder.write_with(size, mask, &PlaceByte)?;
+        let last = (builder.len() % 256) as u8;
+        match builder.as_slice().get(..size) {
+            Some(part) if part.iter().all(|b| *b == last) => {}
+            _ => return Ok(false),
+        }
+    }
+    Ok(true)
+}
+
 fn random_bytes(alloc: Global, numbers: &mut Numbers) -> Result<Vec<u8>, AllocError> {
     let size = numbers.draw() % 128;
     let mut bytes = Vec::new(alloc);
@@ -354,6 +384,11 @@ fn random_parts_stand_aligned(rt: HostRuntime) -> Result<(), Fail> {
     let alloc = rt.alloc();
     let mut numbers = Numbers { last: 1 };
     for round in 0..50 {
+        let mut again = Numbers { last: numbers.last };
+        assert!(rt;
+            fillers_know_their_places(alloc, &mut again)?,
+            "round {round}"
+        );
         let mut builder = Builder::new(alloc)?;
         let parts = write_parts(alloc, &mut builder, &mut numbers)?;
         let root = random_bytes(alloc, &mut numbers)?;

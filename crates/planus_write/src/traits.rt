@@ -18,8 +18,11 @@ pub trait WriteAsOffset<T> {
 
     ghost outcome: { Self → State → Result (Offset T) BuildError → State → Type 0 };
 
-    /// Writes the value, if it isn't an offset already, and answers its offset. A refusal leaves what was written before
-    /// it, and nothing of the refused write.
+    /// Writes the value, if it isn't an offset already, and answers its offset.
+    ///
+    /// [`BuildError::TooLarge`] where a part's place would be above 2147483647 bytes from the end; [`BuildError::OutOfMemory`]
+    /// where a part doesn't fit the builder's room and memory is refused. A refusal leaves what was written before it, and
+    /// nothing of the refused write.
     fn prepare(&self, builder: &mut Builder) -> std::result::Result<Offset<T>, BuildError>
         requires { may self.now builder.old }
         ensures { outcome self.now builder.old result builder.new };

@@ -18,6 +18,7 @@ impl<'a> WriteAsOffset<Text> for &'a str {
 
     ghost reaches = { λ text old answer new may done. text_reaches text.now old answer new done };
 
+    #[inline]
     fn prepare(&self, builder: &mut Builder) -> std::result::Result<Offset<Text>, BuildError> {
         let text = *self;
         builder.write_text(text)
