@@ -20,5 +20,6 @@ pub record IsLeast (Holds : ℕ → Type 0) (n : ℕ) : Type 0 where
   pub holds : Holds n
   pub least : (m : ℕ) → Holds m → n ≤ m
 
+-- With this padding and with none that is less, some length keeps the promises so far and that of the part.
 abbrev pub IsLeastPadding : ℕ → List Promise → ℕ → ℕ → ℕ → Type 0
 IsLeastPadding length promises size alignment padding = IsLeast (CanPad length promises size alignment) padding

@@ -3,6 +3,7 @@ use Rattle.std.specs.Prelude.{ℕ, ◌*◌, ◌<◌, ◌≤◌, List, [], ◌∷
 use Rattle.planus_back.specs.Promises.{Promise}
 use Rattle.planus_back.specs.Padding.{promise_of}
 
+-- the promises that pairs of a distance and an alignment are
 abbrev pub promises_of : List (ℕ × ℕ) → List Promise
 promises_of [] = []
 promises_of (pair ∷ pairs) = promise_of pair.0 pair.1 ∷ promises_of pairs

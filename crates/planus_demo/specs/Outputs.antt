@@ -9,9 +9,11 @@ use Rattle.planus_demo.specs.declared.replay.Finished.{Finished}
 use Rattle.planus_demo.specs.declared.replay.ReplayError.{ReplayError}
 use Rattle.planus_demo.specs.declared.replay.ReplayError.TheVariants.{OutOfMemory, TooLarge, BadStep}
 
+-- whether the script was without a fault, and all of it was done
 abbrev pub is_clean : Output → Bool
 is_clean output = output.clean
 
+-- the bytes that are printed
 abbrev pub printed_text : Output → List ℕ
 printed_text output = string_bytes output.text
 

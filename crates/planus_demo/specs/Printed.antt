@@ -24,9 +24,11 @@ hex_of byte = digit_char (byte / 16) ∷ digit_char (byte % 16) ∷ []
 abbrev pub hex_line : List ℕ → List ℕ
 hex_line bytes = join_with_byte 32 (map hex_of bytes) ++ 10 ∷ []
 
+-- words with a line feed behind them
 abbrev pub line_of : List ℕ → List ℕ
 line_of words = words ++ 10 ∷ []
 
+-- a fault on the line of this number
 abbrev pub fault_line : ℕ → List ℕ → List ℕ
 fault_line number fault = codes "line " ++ (decimal number ++ (codes ": " ++ line_of fault))
 

@@ -14,6 +14,7 @@ use Rattle.planus_demo.specs.declared.replay.ReplayError.{ReplayError}
 use Rattle.planus_demo.specs.declared.replay.ReplayError.TheVariants.{OutOfMemory, TooLarge, BadStep}
 use Rattle.planus_demo.specs.declared.replay.Progress.{Progress}
 
+-- the distance of a value's offset, if there is a value
 abbrev pub distance_of : Option (Offset (Unit {0})) → Option ℕ
 distance_of offset = option_map (λ o. o.distance) offset
 
@@ -23,6 +24,7 @@ pub record Past : Type 0 where
   pub parts : List Part
   pub places : List ℕ
 
+-- nothing was written
 abbrev pub no_past : Past
 no_past = record { promises = []; parts = []; places = [] }
 
@@ -79,6 +81,7 @@ Wrote (finish root identifier) (Some distance) = ⊥
 Wrote (finish root identifier) None = ⊤
 Wrote clear distance = ⊥
 
+-- each step wrote what its kind says
 abbrev pub AllWrote : List Command → List (Option ℕ) → Type 0
 AllWrote [] [] = ⊤
 AllWrote (step ∷ steps) (distance ∷ rest) = Wrote step distance × AllWrote steps rest

@@ -14,6 +14,7 @@ use Rattle.planus_write.specs.declared.errors.BuildError.{BuildError}
 use Rattle.planus_write.specs.declared.errors.BuildError.TheVariants as build
 use Rattle.planus_demo.specs.declared.replay.StepPlace.{StepPlace}
 
+-- whether a step is a clear
 abbrev pub is_clear : Command → Bool
 is_clear (text bytes) = false
 is_clear (finish root identifier) = false
@@ -36,6 +37,7 @@ broken_check earlier (text bytes) = None
 broken_check earlier (finish root identifier) = fault_of (named_step earlier root)
 broken_check earlier clear = None
 
+-- the step of this number with its broken check, if it has one, or else a later one
 abbrev pub first_bad_or : ℕ → Option Why → Option (ℕ × Why) → Option (ℕ × Why)
 first_bad_or n (Some why) later = Some (n, why)
 first_bad_or n None later = later
@@ -45,9 +47,11 @@ abbrev pub first_bad_after : List Command → List Command → Option (ℕ × Wh
 first_bad_after earlier [] = None
 first_bad_after earlier (step ∷ steps) = first_bad_or (length earlier) (broken_check earlier step) (first_bad_after (earlier ++ step ∷ []) steps)
 
+-- the first bad step of a script
 abbrev pub first_bad : List Command → Option (ℕ × Why)
 first_bad steps = first_bad_after [] steps
 
+-- a value's place, as a pair of its step's number and its distance
 abbrev pub place_of : StepPlace → ℕ × ℕ
 place_of place = (place.step, place.distance)
 

@@ -21,6 +21,7 @@ IsReading Write = ⊥
 IsReading Read = ⊤
 IsReading OutOfMemory = ⊤
 
+-- the exit status: 0 clean, 1 after a printed fault, 2 where the run failed
 abbrev pub status_of : Result Bool RunError → ℕ
 status_of (Ok true) = 0
 status_of (Ok false) = 1

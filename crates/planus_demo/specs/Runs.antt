@@ -25,6 +25,7 @@ abbrev pub nothing_since : ℕ → List Finish → State
 nothing_since next finished =
     record { written = record { bytes = []; promises = [] }; parts = []; places = []; values = []; next = next; finished = finished }
 
+-- where every run begins
 abbrev pub nothing_written : State
 nothing_written = nothing_since 0 []
 
@@ -62,6 +63,7 @@ pub record Writes (before : State) (step : Command) (after : State) : Type 0 whe
 abbrev pub cleared : State → State
 cleared before = nothing_since (before.next + 1) before.finished
 
+-- One step leads from one state to the next.
 abbrev pub Advances : State → Command → State → Type 0
 Advances before (text bytes) after = Writes before (text bytes) after
 Advances before (finish root identifier) after = Writes before (finish root identifier) after

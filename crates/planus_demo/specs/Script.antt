@@ -31,6 +31,7 @@ is_skipped (b ∷ bs) = b == 35
 abbrev pub is_number : List ℕ → Bool
 is_number word = nat_le 1 (length word) && (nat_le (length word) 20 && (list_all is_ascii_digit word && nat_lt (digits_value 10 word) (2 ^ 64)))
 
+-- the number that a word is, or the fault that it is none
 abbrev pub number_of : List ℕ → Result ℕ ReadFault
 number_of word = if is_number word then Ok (digits_value 10 word) else Err BadNumber
 
@@ -38,13 +39,16 @@ number_of word = if is_number word then Ok (digits_value 10 word) else Err BadNu
 abbrev pub is_identifier : List ℕ → Bool
 is_identifier word = length word == 4 && list_all (is_in_range 33 126) word
 
+-- the identifier that a word is, or the fault that it is none
 abbrev pub identifier_of : List ℕ → Result (List ℕ) ReadFault
 identifier_of word = if is_identifier word then Ok word else Err BadIdentifier
 
+-- a finish without an identifier, or the fault of its number
 abbrev pub finish_at : Result ℕ ReadFault → Result Command ReadFault
 finish_at (Ok root) = Ok (finish root None)
 finish_at (Err fault) = Err fault
 
+-- a finish of this number with an identifier, or the identifier's fault
 abbrev pub finish_with : ℕ → Result (List ℕ) ReadFault → Result Command ReadFault
 finish_with root (Ok identifier) = Ok (finish root (Some identifier))
 finish_with root (Err fault) = Err fault

@@ -11,6 +11,7 @@ use Rattle.planus_demo.specs.declared.script.ParseError.{ParseError}
 use Rattle.planus_demo.specs.declared.script.ParseError.TheVariants as parse
 use Rattle.planus_demo.specs.declared.script.Script.{Script}
 
+-- a step, without where its text lies in memory
 abbrev pub command_of_step : Step → Command
 command_of_step (Text words) = text (string_bytes words)
 command_of_step (Finish root id) = finish root id

@@ -15,6 +15,7 @@ pub record Finishes (root : ℕ) (identifier : Option (List ℕ)) (old new : Sta
   pub places : Places (finish_part root identifier) old new
   pub kept : (promises : List Promise) → StandsFor old promises → Keep (and_promised (finish_part root identifier) new promises) (length new.bytes)
 
+-- the finish of a prepared root was placed, or refused
 abbrev pub WritesRoot : ℕ → Option (List ℕ) → State → Result (Unit {0}) BuildError → State → Type 0
 WritesRoot root identifier old (Ok answer) new = Finishes root identifier old new
 WritesRoot root identifier old (Err error) new = Refuses (finish_part root identifier) old error new

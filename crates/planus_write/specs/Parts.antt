@@ -9,6 +9,7 @@ use Rattle.planus_back.specs.Parts.{Part}
 abbrev pub text_part : List ℕ → Part
 text_part bytes = record { size = length bytes + 5; alignment = 4; bytes_at = λ place. to_le_bytes w32 (length bytes) ++ bytes ++ 0 ∷ [] }
 
+-- the bytes of a file identifier, none where there is none
 abbrev pub identifier_bytes : Option (List ℕ) → List ℕ
 identifier_bytes None = []
 identifier_bytes (Some bytes) = bytes

@@ -60,6 +60,7 @@ pub record MakesRoom (size alignment : ℕ) (old : State) (place : ℕ) (new : S
 abbrev pub blank_part : ℕ → ℕ → Part
 blank_part size alignment = record { size = size; alignment = alignment; bytes_at = λ place. [] }
 
+-- Room was made for a part of that size and alignment, at the place that is answered, or it was refused.
 abbrev pub Reserves : ℕ → ℕ → State → Result ℕ BuildError → State → Type 0
 Reserves size alignment old (Ok place) new = MakesRoom size alignment old place new
 Reserves size alignment old (Err error) new = Refuses (λ promises. blank_part size alignment) old error new

@@ -15,6 +15,7 @@ pub record State : Type 0 where
 abbrev pub StandsFor : State → List Promise → Type 0
 StandsFor state promises = Describes (length state.bytes) state.delayed state.mask promises
 
+-- the builder's bytes, with these promises
 abbrev pub written_with : State → List Promise → Written
 written_with state promises = record { bytes = state.bytes; promises = promises }
 

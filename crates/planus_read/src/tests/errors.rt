@@ -34,6 +34,9 @@ fn kinds_print_their_texts(rt: HostRuntime) -> Result<(), Fail> {
         let shown = format!(in rt.alloc(); "{kind}")?;
         assert_eq!(rt; shown.as_str(), text);
     }
+    let tag = UnknownEnumTagKind { tag: -1 };
+    let shown = format!(in rt.alloc(); "{tag}")?;
+    assert_eq!(rt; shown.as_str(), "Unknown enum (tag = -1)");
     Ok(())
 }
 
@@ -46,6 +49,14 @@ fn a_fault_in_utf8_begins_its_text(rt: HostRuntime) -> Result<(), Fail> {
     let shown = format!(in rt.alloc(); "{}", ErrorKind::from(source))?;
     let words = format!(in rt.alloc(); "Invalid utf-8: {source}")?;
     assert_eq!(rt; shown.as_str(), words.as_str());
+    let error: Error = ErrorKind::from(source).with_error_location("T", "m", 255);
+    let shown = format!(in rt.alloc(); "{error}")?;
+    assert!(rt;
+        shown
+            .as_str()
+            .starts_with("In <T@ff>::m(): Invalid utf-8: "),
+        "{shown}"
+    );
     Ok(())
 }
 
@@ -54,13 +65,15 @@ fn locations_print_their_texts(rt: HostRuntime) -> Result<(), Fail> {
     let error: Error = ErrorKind::InvalidLength.with_error_location("Monster", "name", 255);
     let shown = format!(in rt.alloc(); "{error}")?;
     assert_eq!(rt; shown.as_str(), "In <Monster@ff>::name(): Invalid length");
-    let nowhere = ErrorLocation {
-        type_: "T",
-        method: "m",
-        byte_offset: usize::MAX,
-    };
-    let shown = format!(in rt.alloc(); "{nowhere}")?;
-    assert_eq!(rt; shown.as_str(), "<T>::m()");
+    for (byte_offset, text) in [(255, "<T@ff>::m()"), (usize::MAX, "<T>::m()")] {
+        let location = ErrorLocation {
+            type_: "T",
+            method: "m",
+            byte_offset,
+        };
+        let shown = format!(in rt.alloc(); "{location}")?;
+        assert_eq!(rt; shown.as_str(), text);
+    }
     let tag: UnknownEnumTag = UnknownEnumTagKind { tag: -1 }.with_error_location(
         "Color", "color", 16,
     );

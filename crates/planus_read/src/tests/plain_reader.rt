@@ -1,285 +1,457 @@
 //! A plain, slow reader, which computes values and clauses from their definitions, and is compared with the readers.
 
 use crate::errors::ErrorKind;
+use crate::located::{Error, ErrorLocation};
 use crate::table_reader::Table;
-use crate::{SliceWithStartOffset, TableRead, TableReadUnionVector, TaggedPlace};
+use crate::{
+    Place, SignedBytes, SliceWithStartOffset, TableRead, TableReadUnionVector, TaggedPlace,
+    array_from_buffer,
+};
 
-// A number for each error, with the length that it names.
-pub fn code(kind: ErrorKind) -> u32 {
-    match kind {
-        ErrorKind::InvalidOffset => 1,
-        ErrorKind::InvalidLength => 2,
-        ErrorKind::UnionVectorLengthsMismatched {
-            tags_len: _,
-            values_len: _,
-        } => 3,
-        ErrorKind::UnknownEnumTag { source: _ } => 4,
-        ErrorKind::UnknownUnionTag { tag } => 1000 + tag as u32,
-        ErrorKind::InvalidVtableLength { length } => 2000 + length as u32,
-        ErrorKind::InvalidUtf8 { source: _ } => 5,
-        ErrorKind::MissingRequired => 6,
-        ErrorKind::MissingNullTerminator => 7,
-    }
-}
+type Answer<T> = Result<T, ErrorKind>;
+
+// The slots of small tables.
+pub const SLOTS: [usize; 6] = [0, 1, 2, 3, 4, 5];
+
+// Slots that no vtable has: twice such a slot, or a little more, leaves 16 or 64 bits.
+pub const FAR_SLOTS: [usize; 7] = [
+    32767,
+    32768,
+    usize::MAX / 2 - 1,
+    usize::MAX / 2,
+    usize::MAX / 2 + 1,
+    usize::MAX - 1,
+    usize::MAX,
+];
 
 // The little-endian number of the bytes at a position, if they all lie there.
-fn number(bytes: &[u8], at: usize, width: usize) -> Option<u64> {
+fn number(bytes: &[u8], at: usize, width: usize) -> Answer<u64> {
+    let Some(end) = at.checked_add(width) else {
+        return Err(ErrorKind::InvalidOffset);
+    };
+    let Some(part) = bytes.get(at..end) else {
+        return Err(ErrorKind::InvalidOffset);
+    };
     let mut value: u64 = 0;
     let mut worth: u64 = 1;
-    for i in 0..width {
-        let byte = *bytes.get(at.checked_add(i)?)?;
-        value = value.wrapping_add(worth.wrapping_mul(byte as u64));
+    for byte in part {
+        value = value.wrapping_add(worth.wrapping_mul(*byte as u64));
         worth = worth.wrapping_mul(256);
     }
-    Some(value)
+    Ok(value)
 }
 
-fn number_or(bytes: &[u8], at: usize, width: usize, error: u32) -> Result<usize, u32> {
-    match number(bytes, at, width) {
-        Some(value) => Ok(value as usize),
-        None => Err(error),
-    }
+fn short(bytes: &[u8], at: usize) -> Answer<u16> {
+    Ok((number(bytes, at, 2)? % 65536) as u16)
+}
+
+// The same bytes as a number of two's complement.
+fn signed(bytes: &[u8], at: usize, width: usize) -> Answer<i128> {
+    let value = number(bytes, at, width)? as i128;
+    let all: i128 = match width {
+        1 => 0x100,
+        2 => 0x1_0000,
+        4 => 0x1_0000_0000,
+        _ => 0x1_0000_0000_0000_0000,
+    };
+    Ok(if value < all / 2 { value } else { value - all })
 }
 
 // Where a reference leads.
-fn target(bytes: &[u8], f: usize) -> Result<usize, u32> {
-    let value = number_or(bytes, f, 4, 1)?;
+fn target(bytes: &[u8], f: usize) -> Answer<usize> {
+    let value = number(bytes, f, 4)? as usize;
     match f.checked_add(value) {
         Some(target) if target <= bytes.len() => Ok(target),
-        _ => Err(1),
+        _ => Err(ErrorKind::InvalidOffset),
     }
 }
 
 // Where the items behind a count begin, and the count.
-fn head(bytes: &[u8], f: usize) -> Result<(usize, usize), u32> {
+fn plain_head(bytes: &[u8], f: usize) -> Answer<(usize, usize)> {
     let target = target(bytes, f)?;
-    let count = number_or(bytes, target, 4, 1)?;
+    let count = number(bytes, target, 4)? as usize;
     match target.checked_add(4) {
         Some(items) => Ok((items, count)),
-        None => Err(1),
+        None => Err(ErrorKind::InvalidOffset),
     }
 }
 
-fn byte_list(bytes: &[u8], f: usize) -> Result<&[u8], u32> {
-    let (items, count) = head(bytes, f)?;
+fn byte_list(bytes: &[u8], f: usize) -> Answer<&[u8]> {
+    let (items, count) = plain_head(bytes, f)?;
     let Some(rest) = bytes.get(items..) else {
-        return Err(1);
+        return Err(ErrorKind::InvalidOffset);
     };
     match rest.get(..count) {
         Some(list) => Ok(list),
-        None => Err(2),
+        None => Err(ErrorKind::InvalidLength),
     }
 }
 
-fn text(bytes: &[u8], f: usize) -> Result<&[u8], u32> {
-    let (items, count) = head(bytes, f)?;
+fn text(bytes: &[u8], f: usize) -> Answer<&str> {
+    let (items, count) = plain_head(bytes, f)?;
     let Some(rest) = bytes.get(items..) else {
-        return Err(1);
+        return Err(ErrorKind::InvalidOffset);
     };
     if rest.get(count).copied() != Some(0) {
-        return Err(7);
+        return Err(ErrorKind::MissingNullTerminator);
     }
     let Some(list) = rest.get(..count) else {
-        return Err(7);
+        return Err(ErrorKind::MissingNullTerminator);
     };
-    match std::str::from_utf8(list) {
-        Ok(_) => Ok(list),
-        Err(_) => Err(5),
-    }
+    Ok(std::str::from_utf8(list)?)
 }
 
-fn vtable_error(size: usize) -> u32 {
-    u32::try_from(size).unwrap_or(0).wrapping_add(2000)
+// A table, by where it and its vtable begin, and the vtable's size.
+#[derive(Clone, Copy)]
+struct PlainTable<'a> {
+    bytes: &'a [u8],
+    object: usize,
+    vtable: usize,
+    size: u16,
 }
 
-// Where a table and its vtable begin, and the vtable's size.
-fn table(bytes: &[u8], f: usize) -> Result<(usize, usize, usize), u32> {
+fn table(bytes: &[u8], f: usize) -> Answer<PlainTable<'_>> {
     let object = target(bytes, f)?;
-    let word = number_or(bytes, object, 4, 1)?;
-    let vtable = object as i128
-        - if word < 0x8000_0000 {
-            word as i128
-        } else {
-            word as i128 - 0x1_0000_0000
-        };
-    if vtable < 0 {
-        return Err(1);
-    }
-    let Ok(vtable) = usize::try_from(vtable) else {
-        return Err(1);
+    let relative = signed(bytes, object, 4)?;
+    let Ok(vtable) = usize::try_from((object as i128).wrapping_sub(relative)) else {
+        return Err(ErrorKind::InvalidOffset);
     };
-    let size = number_or(bytes, vtable, 2, 1)?;
+    let size = short(bytes, vtable)?;
     if size < 4 || size % 2 != 0 {
-        return Err(vtable_error(size));
+        return Err(ErrorKind::InvalidVtableLength { length: size });
     }
-    match vtable.checked_add(size) {
-        Some(end) if end <= bytes.len() => Ok((object, vtable, size)),
-        _ => Err(2),
+    match vtable.checked_add(size as usize) {
+        Some(end) if end <= bytes.len() => Ok(PlainTable {
+            bytes,
+            object,
+            vtable,
+            size,
+        }),
+        _ => Err(ErrorKind::InvalidLength),
+    }
+}
+
+impl<'a> PlainTable<'a> {
+    // Whether so many slots from this one on lie in the vtable.
+    fn has_slots(&self, slot: usize, count: u8) -> bool {
+        4 + 2 * (slot as u128 + count as u128) <= self.size as u128
+    }
+
+    // The distance in a slot, 0 where there is none.
+    fn slot(&self, slot: usize) -> usize {
+        if !self.has_slots(slot, 1) {
+            return 0;
+        }
+        let at = self
+            .vtable
+            .wrapping_add(slot.wrapping_mul(2).wrapping_add(4));
+        number(self.bytes, at, 2).unwrap_or(0) as usize
+    }
+
+    // The position of a slot's field.
+    fn field(&self, slot: usize) -> Option<usize> {
+        match self.slot(slot) {
+            0 => None,
+            distance => Some(self.object.wrapping_add(distance)),
+        }
+    }
+
+    // The tag of the union of a slot and the next, and the position of its reference.
+    fn union(&self, slot: usize) -> Answer<Option<(u8, usize)>> {
+        if !self.has_slots(slot, 2) {
+            return if self.size as u128 <= 4 + 2 * slot as u128 {
+                Ok(None)
+            } else {
+                Err(ErrorKind::InvalidVtableLength { length: self.size })
+            };
+        }
+        let tag_at = self.object.wrapping_add(self.slot(slot));
+        let tag = (number(self.bytes, tag_at, 1)? % 256) as u8;
+        let next = slot.wrapping_add(1);
+        match (tag, self.field(slot), self.field(next)) {
+            (0, _, _) => Ok(None),
+            (_, Some(_), Some(value)) => Ok(Some((tag, value))),
+            _ => Ok(None),
+        }
+    }
+
+    // The positions of the two references of the vector of unions of a slot and the next.
+    fn union_vector(&self, slot: usize) -> Answer<Option<(usize, usize)>> {
+        if !self.has_slots(slot, 2) {
+            return Ok(None);
+        }
+        match (self.field(slot), self.field(slot.wrapping_add(1))) {
+            (None, None) => Ok(None),
+            (Some(tags), Some(values)) => Ok(Some((tags, values))),
+            _ => Err(ErrorKind::InvalidOffset),
+        }
+    }
+}
+
+// Whether two errors are of one kind, of those that the tests expect.
+pub fn same_kind(read: ErrorKind, plain: ErrorKind) -> bool {
+    match (read, plain) {
+        (ErrorKind::InvalidOffset, ErrorKind::InvalidOffset)
+        | (ErrorKind::InvalidLength, ErrorKind::InvalidLength)
+        | (ErrorKind::InvalidUtf8 { .. }, ErrorKind::InvalidUtf8 { .. })
+        | (ErrorKind::MissingRequired, ErrorKind::MissingRequired)
+        | (ErrorKind::MissingNullTerminator, ErrorKind::MissingNullTerminator) => true,
+        (
+            ErrorKind::InvalidVtableLength { length },
+            ErrorKind::InvalidVtableLength { length: plain },
+        ) => length == plain,
+        (ErrorKind::UnknownUnionTag { tag }, ErrorKind::UnknownUnionTag { tag: plain }) => {
+            tag == plain
+        }
+        _ => false,
+    }
+}
+
+// Whether a reader answers as the plain reader does.
+fn same<T: PartialEq + Copy>(read: Answer<T>, plain: Answer<T>) -> bool {
+    match (read, plain) {
+        (Ok(value), Ok(plain)) => value == plain,
+        (Err(kind), Err(plain)) => same_kind(kind, plain),
+        _ => false,
+    }
+}
+
+// The same of an accessor of a table that starts here, whose error has a location.
+fn same_at<T: PartialEq + Copy>(
+    read: Result<T, Error<'_>>,
+    plain: Answer<T>,
+    start: usize,
+) -> bool {
+    match (read, plain) {
+        (Ok(value), Ok(plain)) => value == plain,
+        (Err(e), Err(plain)) => {
+            let ErrorLocation {
+                type_,
+                method,
+                byte_offset,
+            } = e.source_location;
+            same_kind(e.error_kind, plain) && (type_, method, byte_offset) == ("T", "m", start)
+        }
+        _ => false,
+    }
+}
+
+// The same of an accessor and of its form that wants a field to be there.
+fn same_access<T: PartialEq + Copy>(
+    read: Result<Option<T>, Error<'_>>,
+    required: Result<T, Error<'_>>,
+    plain: Answer<Option<T>>,
+    start: usize,
+) -> bool {
+    let needed = match plain {
+        Ok(Some(value)) => Ok(value),
+        Ok(None) => Err(ErrorKind::MissingRequired),
+        Err(kind) => Err(kind),
+    };
+    same_at(read, plain, start) && same_at(required, needed, start)
+}
+
+// Reads nothing, and tells where it was to read, counted from the buffer's start.
+#[derive(Clone, Copy)]
+struct Spot(usize);
+
+impl<'buf> TableRead<'buf> for Spot {
+    ghost use Rattle.std.specs.Prelude.{⊤};
+
+    ghost reads = { λ S start f r. ⊤ };
+
+    fn from_buffer(buffer: SliceWithStartOffset<'buf>, offset: usize) -> Answer<Spot> {
+        Ok(Spot(buffer.offset_from_start().wrapping_add(offset)))
+    }
+}
+
+fn position(place: Place<'_>) -> usize {
+    match place.read::<Spot>() {
+        Ok(Spot(at)) => at,
+        Err(_) => usize::MAX,
     }
 }
 
 // The two places of a vector of unions.
-#[derive(Drop)]
-struct Pair;
+#[derive(Clone, Copy)]
+struct Pair<'buf> {
+    tags: Place<'buf>,
+    values: Place<'buf>,
+}
 
-impl<'buf> TableReadUnionVector<'buf> for Pair {
+impl<'buf> TableReadUnionVector<'buf> for Pair<'buf> {
     ghost use Rattle.std.specs.Prelude.{⊤};
 
     ghost reads = { λ S start f g r. ⊤ };
 
     fn from_buffer(
-        _buffer: SliceWithStartOffset<'buf>,
-        _tags: usize,
-        _values: usize,
-    ) -> Result<Pair, ErrorKind> {
-        Ok(Pair)
+        buffer: SliceWithStartOffset<'buf>,
+        tags: usize,
+        values: usize,
+    ) -> Answer<Pair<'buf>> {
+        Ok(Pair {
+            tags: <Place<'buf> as TableRead<'buf>>::from_buffer(buffer, tags)?,
+            values: <Place<'buf> as TableRead<'buf>>::from_buffer(buffer, values)?,
+        })
     }
 }
 
-// A table by what the plain reader found.
+// A table as its reader and the plain reader found it, in bytes that start here.
 #[derive(Clone, Copy)]
-struct Plain<'a> {
-    bytes: &'a [u8],
-    object: usize,
-    vtable: usize,
-    size: usize,
+struct Found<'a> {
+    table: Table<'a>,
+    plain: PlainTable<'a>,
+    start: usize,
 }
 
-impl<'a> Plain<'a> {
-    // Whether so many slots from the first on lie in the vtable.
-    fn has_slots(&self, slots: usize) -> bool {
-        match slots.checked_mul(2) {
-            Some(end) => self.size >= 4 && end <= self.size - 4,
-            None => false,
-        }
+impl<'a> Found<'a> {
+    // A position in the bytes, from the buffer's start.
+    fn place(&self, position: usize) -> usize {
+        self.start.wrapping_add(position)
     }
 
-    fn slot(&self, slot: usize) -> usize {
-        if slot >= 32768 || !self.has_slots(slot + 1) {
-            return 0;
-        }
-        let at = self.vtable.wrapping_add(4 + 2 * slot);
-        number_or(self.bytes, at, 2, 1).unwrap_or(0)
+    fn object(&self) -> usize {
+        self.place(self.plain.object)
     }
 
-    // The tag of the union of a slot and the next.
-    fn union_tag(&self, slot: usize) -> Result<Option<usize>, u32> {
-        if slot >= 32768 || !self.has_slots(slot + 2) {
-            let ends_before = slot >= 32768 || self.size <= 2 * slot + 4;
-            return if ends_before {
-                Ok(None)
-            } else {
-                Err(vtable_error(self.size))
-            };
-        }
-        let (first, second) = (self.slot(slot), self.slot(slot + 1));
-        let tag = number_or(self.bytes, self.object.wrapping_add(first), 1, 1)?;
-        if tag == 0 || first == 0 || second == 0 {
-            return Ok(None);
-        }
-        Ok(Some(tag))
+    fn texts_agree(&self, slot: usize) -> bool {
+        let plain = self.plain;
+        let there = plain.field(slot).map(|at| text(plain.bytes, at));
+        same_access(
+            self.table.access::<&str>(slot, "T", "m"),
+            self.table.access_required::<&str>(slot, "T", "m"),
+            there.transpose(),
+            self.object(),
+        )
     }
 
-    // Whether the vector of unions of a slot and the next is there.
-    fn has_union_vector(&self, slot: usize) -> Result<bool, u32> {
-        if slot >= 32768 || !self.has_slots(slot + 2) {
-            return Ok(false);
-        }
-        match (self.slot(slot), self.slot(slot + 1)) {
-            (0, 0) => Ok(false),
-            (0, _) | (_, 0) => Err(1),
-            _ => Ok(true),
-        }
+    fn numbers_agree(&self, slot: usize) -> bool {
+        let plain = self.plain;
+        let there = plain.field(slot).map(|at| short(plain.bytes, at));
+        same_access(
+            self.table.access::<u16>(slot, "T", "m"),
+            self.table.access_required::<u16>(slot, "T", "m"),
+            there.transpose(),
+            self.object(),
+        )
     }
-}
 
-fn same_text(read: Result<&str, ErrorKind>, plain: Result<&[u8], u32>) -> bool {
-    match (read, plain) {
-        (Ok(text), Ok(bytes)) => text.as_bytes() == bytes,
-        (Err(kind), Err(error)) => code(kind) == error,
-        _ => false,
-    }
-}
-
-fn same_bytes(read: Result<&[u8], ErrorKind>, plain: Result<&[u8], u32>) -> bool {
-    match (read, plain) {
-        (Ok(list), Ok(bytes)) => list == bytes,
-        (Err(kind), Err(error)) => code(kind) == error,
-        _ => false,
-    }
-}
-
-fn same_field(table: &Table<'_>, plain: &Plain<'_>, slot: usize) -> bool {
-    let offset = plain.slot(slot);
-    let at = plain.object.wrapping_add(offset);
-    let text_agrees = match table.access::<&str>(slot, "T", "t") {
-        Ok(None) => offset == 0,
-        Ok(Some(read)) => offset != 0 && same_text(Ok(read), text(plain.bytes, at)),
-        Err(e) => offset != 0 && same_text(Err(e.error_kind), text(plain.bytes, at)),
-    };
-    let number_agrees = match table.access::<u16>(slot, "T", "n") {
-        Ok(None) => offset == 0,
-        Ok(Some(read)) => offset != 0 && number(plain.bytes, at, 2) == Some(read as u64),
-        Err(e) => offset != 0 && number(plain.bytes, at, 2) == None && code(e.error_kind) == 1,
-    };
-    text_agrees && number_agrees
-}
-
-fn same_unions(table: &Table<'_>, plain: &Plain<'_>, slot: usize) -> bool {
-    let union_agrees = match (
-        table.access_union::<TaggedPlace<'_>>(slot, "T", "u"),
-        plain.union_tag(slot),
-    ) {
-        (Ok(None), Ok(None)) => true,
-        (Ok(Some(read)), Ok(Some(tag))) => read.tag() as usize == tag,
-        (Err(e), Err(error)) => code(e.error_kind) == error,
-        _ => false,
-    };
-    let vector_agrees = match (
-        table.access_union_vector::<Pair>(slot, "T", "v"),
-        plain.has_union_vector(slot),
-    ) {
-        (Ok(None), Ok(false)) => true,
-        (Ok(Some(Pair)), Ok(true)) => true,
-        (Err(e), Err(error)) => code(e.error_kind) == error,
-        _ => false,
-    };
-    union_agrees && vector_agrees
-}
-
-fn same_table(
-    read: Result<Table<'_>, ErrorKind>,
-    plain: Result<(usize, usize, usize), u32>,
-    bytes: &[u8],
-) -> bool {
-    match (read, plain) {
-        (Ok(table), Ok((object, vtable, size))) => {
-            let plain = Plain {
-                bytes,
-                object,
-                vtable,
-                size,
-            };
-            for slot in 0..6 {
-                if !same_field(&table, &plain, slot) || !same_unions(&table, &plain, slot) {
-                    return false;
-                }
+    fn unions_agree(&self, slot: usize) -> bool {
+        let there = self.plain.union(slot);
+        let read = self.table.access_union::<TaggedPlace<'_>>(slot, "T", "m");
+        let required = self
+            .table
+            .access_union_required::<TaggedPlace<'_>>(slot, "T", "m");
+        let values_agree = match (read, there) {
+            (Ok(Some(union)), Ok(Some((_, at)))) => {
+                same(union.place().read::<&str>(), text(self.plain.bytes, at))
             }
-            true
+            _ => true,
+        };
+        let there = there.map(|union| union.map(|(tag, at)| (tag, self.place(at))));
+        values_agree
+            && same_access(
+                read.map(|union| union.map(|union| (union.tag(), position(union.place())))),
+                required.map(|union| (union.tag(), position(union.place()))),
+                there,
+                self.object(),
+            )
+    }
+
+    fn union_vectors_agree(&self, slot: usize) -> bool {
+        let there = self.plain.union_vector(slot);
+        let read = self.table.access_union_vector::<Pair<'_>>(slot, "T", "m");
+        let required = self
+            .table
+            .access_union_vector_required::<Pair<'_>>(slot, "T", "m");
+        let there = there.map(|pair| pair.map(|(f, g)| (self.place(f), self.place(g))));
+        same_access(
+            read.map(|pair| pair.map(|pair| (position(pair.tags), position(pair.values)))),
+            required.map(|pair| (position(pair.tags), position(pair.values))),
+            there,
+            self.object(),
+        )
+    }
+
+    fn agree_at(&self, slot: usize) -> bool {
+        self.texts_agree(slot)
+            && self.numbers_agree(slot)
+            && self.unions_agree(slot)
+            && self.union_vectors_agree(slot)
+    }
+}
+
+fn tables_agree(piece: SliceWithStartOffset<'_>, f: usize, slots: &[usize]) -> bool {
+    match (Table::from_buffer(piece, f), table(piece.as_slice(), f)) {
+        (Ok(table), Ok(plain)) => {
+            let start = piece.offset_from_start();
+            let found = Found {
+                table,
+                plain,
+                start,
+            };
+            slots.iter().all(|slot| found.agree_at(*slot))
         }
-        (Err(kind), Err(error)) => code(kind) == error,
+        (Err(kind), Err(plain)) => same_kind(kind, plain),
         _ => false,
     }
 }
 
-// Whether the readers and the plain reader agree on these bytes at this offset.
-pub fn agrees(bytes: &[u8], f: usize) -> bool {
-    let buffer = SliceWithStartOffset::new(bytes, 0);
-    same_text(
-        <&str as TableRead<'_>>::from_buffer(buffer, f),
+fn number_agrees<'buf, T: TableRead<'buf> + Into<i128>>(
+    piece: SliceWithStartOffset<'buf>,
+    f: usize,
+    plain: Answer<i128>,
+) -> bool {
+    match T::from_buffer(piece, f) {
+        Ok(number) => same(Ok(number.into()), plain),
+        Err(kind) => same(Err(kind), plain),
+    }
+}
+
+// Whether the readers of numbers and truth values and the plain reader agree at this offset of these bytes, which start here.
+pub fn numbers_agree(bytes: &[u8], f: usize, start: u32) -> bool {
+    let piece = SliceWithStartOffset::new(bytes, start as usize);
+    let unsigned = |width: usize| number(bytes, f, width).map(|number| number as i128);
+    number_agrees::<u8>(piece, f, unsigned(1))
+        && number_agrees::<u16>(piece, f, unsigned(2))
+        && number_agrees::<u32>(piece, f, unsigned(4))
+        && number_agrees::<u64>(piece, f, unsigned(8))
+        && number_agrees::<i8>(piece, f, signed(bytes, f, 1))
+        && number_agrees::<i16>(piece, f, signed(bytes, f, 2))
+        && number_agrees::<i32>(piece, f, signed(bytes, f, 4))
+        && number_agrees::<i64>(piece, f, signed(bytes, f, 8))
+        && same(
+            <bool as TableRead<'_>>::from_buffer(piece, f),
+            number(bytes, f, 1).map(|number| number != 0),
+        )
+}
+
+fn lists_agree(piece: SliceWithStartOffset<'_>, f: usize) -> bool {
+    let bytes = piece.as_slice();
+    let signed = <SignedBytes<'_> as TableRead<'_>>::from_buffer(piece, f);
+    same(
+        <&str as TableRead<'_>>::from_buffer(piece, f),
         text(bytes, f),
-    ) && same_bytes(
-        <&[u8] as TableRead<'_>>::from_buffer(buffer, f),
+    ) && same(
+        <&[u8] as TableRead<'_>>::from_buffer(piece, f),
         byte_list(bytes, f),
-    ) && same_table(Table::from_buffer(buffer, f), table(bytes, f), bytes)
+    ) && same(signed.map(|list| list.as_bytes()), byte_list(bytes, f))
+}
+
+fn heads_agree(piece: SliceWithStartOffset<'_>, f: usize) -> bool {
+    let head = array_from_buffer(piece, f);
+    let head = head.map(|(items, count)| (items.offset_from_start(), items.len(), count as usize));
+    let (start, len) = (piece.offset_from_start(), piece.len());
+    let plain = plain_head(piece.as_slice(), f);
+    same(
+        head,
+        plain.map(|(items, count)| (start.wrapping_add(items), len.wrapping_sub(items), count)),
+    )
+}
+
+// Whether the readers of lists and tables and the plain reader agree at this offset of these bytes, which start here, and at these
+// slots of the table.
+pub fn fields_agree(bytes: &[u8], f: usize, start: u32, slots: &[usize]) -> bool {
+    let piece = SliceWithStartOffset::new(bytes, start as usize);
+    lists_agree(piece, f) && heads_agree(piece, f) && tables_agree(piece, f, slots)
 }

@@ -1,29 +1,35 @@
 //! The worked rows, with expected values written out.
 
-use super::WEAPON;
-use super::plain_reader::code;
+use super::plain_reader::same_kind;
+use super::{UNIONS, WEAPON};
 use crate::errors::ErrorKind;
 use crate::table_reader::Table;
-use crate::{SliceWithStartOffset, TableRead, TableReadUnionVector, TaggedPlace};
+use crate::{
+    ArrayWithStartOffset, Place, SliceWithStartOffset, TableRead, TableReadUnionVector,
+    TaggedPlace, array_from_buffer,
+};
 use std::test::Fail;
 
-const U16_TABLE: [u8; 16] = [4, 0, 0, 0, 0xfa, 0xff, 0xff, 0xff, 24, 0, 6, 0, 6, 0, 4, 0];
+pub const U16_TABLE: [u8; 16] = [4, 0, 0, 0, 0xfa, 0xff, 0xff, 0xff, 24, 0, 6, 0, 6, 0, 4, 0];
 
 const U16_TABLE_VTABLE_FIRST: [u8; 18] = [12, 0, 0, 0, 0, 0, 6, 0, 6, 0, 4, 0, 6, 0, 0, 0, 24, 0];
 
-const HALF_UNION_VECTOR: [u8; 20] = [
+pub const HALF_UNION_VECTOR: [u8; 20] = [
     4, 0, 0, 0, 0xf8, 0xff, 0xff, 0xff, 0, 0, 0, 0, 8, 0, 8, 0, 4, 0, 0, 0,
 ];
 
-const TAG_PAST_END: [u8; 16] = [
+pub const TAG_PAST_END: [u8; 16] = [
     4, 0, 0, 0, 0xfc, 0xff, 0xff, 0xff, 8, 0, 4, 0, 0xff, 0, 0, 0,
 ];
 
-// The count of a vector of unions, by its tags alone.
-#[derive(Drop)]
-struct TagCount(u32);
+// The items behind the counts of the tags and of the values of a vector of unions, and these counts.
+#[derive(Clone, Copy)]
+pub struct Heads<'buf> {
+    pub tags: (SliceWithStartOffset<'buf>, u32),
+    pub values: (SliceWithStartOffset<'buf>, u32),
+}
 
-impl<'buf> TableReadUnionVector<'buf> for TagCount {
+impl<'buf> TableReadUnionVector<'buf> for Heads<'buf> {
     ghost use Rattle.std.specs.Prelude.{⊤};
 
     ghost reads = { λ S start f g r. ⊤ };
@@ -31,9 +37,12 @@ impl<'buf> TableReadUnionVector<'buf> for TagCount {
     fn from_buffer(
         buffer: SliceWithStartOffset<'buf>,
         tags: usize,
-        _values: usize,
-    ) -> Result<TagCount, ErrorKind> {
-        Ok(TagCount(crate::array_from_buffer(buffer, tags)?.1))
+        values: usize,
+    ) -> Result<Heads<'buf>, ErrorKind> {
+        Ok(Heads {
+            tags: array_from_buffer(buffer, tags)?,
+            values: array_from_buffer(buffer, values)?,
+        })
     }
 }
 
@@ -41,17 +50,27 @@ fn table_at(bytes: &[u8]) -> Result<Table<'_>, ErrorKind> {
     Table::from_buffer(SliceWithStartOffset::new(bytes, 0), 0)
 }
 
+pub fn fails_with<T: Drop>(answer: crate::Result<T>, kind: ErrorKind) -> bool {
+    match answer {
+        Ok(_) => false,
+        Err(e) => same_kind(e.error_kind, kind),
+    }
+}
+
 #[test]
 fn bad_tables(rt: HostRuntime) {
-    let rows: [(&[u8], u32); 3] = [
-        (&[4, 0, 0, 0], 1),
-        (&[0, 0, 0], 1),
-        (&[4, 0, 0, 0, 0xfc, 0xff, 0xff, 0xff, 3, 0], 2003),
+    let rows: [(&[u8], ErrorKind); 3] = [
+        (&[4, 0, 0, 0], ErrorKind::InvalidOffset),
+        (&[0, 0, 0], ErrorKind::InvalidOffset),
+        (
+            &[4, 0, 0, 0, 0xfc, 0xff, 0xff, 0xff, 3, 0],
+            ErrorKind::InvalidVtableLength { length: 3 },
+        ),
     ];
     for (bytes, error) in rows {
         match table_at(bytes) {
             Ok(_) => assert!(rt; false, "a table"),
-            Err(kind) => assert_eq!(rt; code(kind), error),
+            Err(kind) => assert!(rt; same_kind(kind, error), "{kind}"),
         }
     }
 }
@@ -98,13 +117,15 @@ fn u16_table(rt: HostRuntime) -> Result<(), Fail> {
     );
     assert!(rt;
         table
-            .access_union_vector::<TagCount>(0, "T", "v")?
+            .access_union_vector::<Heads<'_>>(0, "T", "v")?
             .is_none()
     );
-    match table.access_union::<TaggedPlace<'_>>(0, "T", "u") {
-        Ok(_) => assert!(rt; false, "a union"),
-        Err(e) => assert_eq!(rt; code(e.error_kind), 2006),
-    }
+    assert!(rt;
+        fails_with(
+            table.access_union::<TaggedPlace<'_>>(0, "T", "u"),
+            ErrorKind::InvalidVtableLength { length: 6 }
+        )
+    );
     match table.access_required::<u16>(1, "T", "n") {
         Ok(_) => assert!(rt; false, "a number"),
         Err(e) => {
@@ -125,14 +146,18 @@ fn half_union_vector(rt: HostRuntime) -> Result<(), Fail> {
             .access_union::<TaggedPlace<'_>>(0, "T", "u")?
             .is_none()
     );
-    match table.access_union_vector::<TagCount>(0, "T", "v") {
-        Ok(_) => assert!(rt; false, "a vector"),
-        Err(e) => assert_eq!(rt; code(e.error_kind), 1),
-    }
-    match table.access_union_required::<TaggedPlace<'_>>(0, "T", "u") {
-        Ok(_) => assert!(rt; false, "a union"),
-        Err(e) => assert_eq!(rt; code(e.error_kind), 6),
-    }
+    assert!(rt;
+        fails_with(
+            table.access_union_vector::<Heads<'_>>(0, "T", "v"),
+            ErrorKind::InvalidOffset
+        )
+    );
+    assert!(rt;
+        fails_with(
+            table.access_union_required::<TaggedPlace<'_>>(0, "T", "u"),
+            ErrorKind::MissingRequired
+        )
+    );
     Ok(())
 }
 
@@ -146,28 +171,22 @@ fn tag_past_the_end(rt: HostRuntime) -> Result<(), Fail> {
             assert_eq!(rt; text.as_str(), "In <T@4>::u(): Invalid offset");
         }
     }
-    match table.access::<u8>(0, "T", "n") {
-        Ok(_) => assert!(rt; false, "a number"),
-        Err(e) => assert_eq!(rt; code(e.error_kind), 1),
-    }
+    assert!(rt; fails_with(table.access::<u8>(0, "T", "n"), ErrorKind::InvalidOffset));
     assert_eq!(rt; table.access::<u8>(1, "T", "n")?, None);
-    match table.access_union_vector::<TagCount>(0, "T", "v") {
-        Ok(_) => assert!(rt; false, "a vector"),
-        Err(e) => assert_eq!(rt; code(e.error_kind), 1),
-    }
-    match table.access_union_vector_required::<TagCount>(2, "T", "v") {
-        Ok(_) => assert!(rt; false, "a vector"),
-        Err(e) => assert_eq!(rt; code(e.error_kind), 6),
-    }
+    assert!(rt;
+        fails_with(
+            table.access_union_vector::<Heads<'_>>(0, "T", "v"),
+            ErrorKind::InvalidOffset
+        )
+    );
+    assert!(rt;
+        fails_with(
+            table.access_union_vector_required::<Heads<'_>>(2, "T", "v"),
+            ErrorKind::MissingRequired
+        )
+    );
     Ok(())
 }
-
-// A table at 4 with its vtable at 20: tag 1 and a text in slots 0 and 1, tags and values of a vector of unions in slots 2 and 3.
-const UNIONS: [u8; 60] = [
-    4, 0, 0, 0, 0xf0, 0xff, 0xff, 0xff, 1, 0, 0, 0, 24, 0, 0, 0, 28, 0, 0, 0, 12, 0, 16, 0, 4, 0,
-    8, 0, 12, 0, 8, 0, 0, 0, 0, 0, 2, 0, 0, 0, 72, 105, 0, 0, 2, 0, 0, 0, 1, 2, 0, 0, 0, 0, 0, 0,
-    0, 0, 0, 0,
-];
 
 #[test]
 fn unions(rt: HostRuntime) -> Result<(), Fail> {
@@ -175,12 +194,19 @@ fn unions(rt: HostRuntime) -> Result<(), Fail> {
     let union = table.access_union_required::<TaggedPlace<'_>>(0, "T", "u")?;
     assert_eq!(rt; union.tag(), 1);
     assert_eq!(rt; union.place().read::<&str>()?, "Hi");
+    let vector = table.access_union_vector_required::<Heads<'_>>(2, "T", "v")?;
+    let (tags, tag_count) = vector.tags;
+    let (values, value_count) = vector.values;
+    assert_eq!(rt; (tag_count, value_count), (2, 2));
     assert_eq!(rt;
-        table
-            .access_union_vector_required::<TagCount>(2, "T", "v")?
-            .0,
-        2
+        (tags.offset_from_start(), values.offset_from_start()),
+        (48, 56)
     );
+    assert!(rt; tags.as_slice().starts_with(&[1, 2]));
+    for (offset, text) in [(0, "A"), (4, "B")] {
+        let item = <Place<'_> as TableRead<'_>>::from_buffer(values, offset)?;
+        assert_eq!(rt; item.read::<&str>()?, text);
+    }
     Ok(())
 }
 
@@ -188,9 +214,19 @@ fn unions(rt: HostRuntime) -> Result<(), Fail> {
 fn advance_past_the_end(rt: HostRuntime) -> Result<(), Fail> {
     let bytes = [1, 2, 3, 4, 5, 6, 7, 8];
     let piece = SliceWithStartOffset::new(&bytes, 16);
-    assert!(rt; piece.advance_as_array::<4>(usize::MAX).is_err());
-    assert!(rt; piece.advance_as_array::<4>(5).is_err());
-    assert!(rt; piece.advance(9).is_err());
+    assert!(rt;
+        matches!(
+            piece.advance_as_array::<4>(usize::MAX),
+            Err(ErrorKind::InvalidOffset)
+        )
+    );
+    assert!(rt;
+        matches!(
+            piece.advance_as_array::<4>(5),
+            Err(ErrorKind::InvalidOffset)
+        )
+    );
+    assert!(rt; matches!(piece.advance(9), Err(ErrorKind::InvalidOffset)));
     assert!(rt; piece.advance(8)?.is_empty());
     let rest = piece.advance(3)?;
     assert_eq!(rt; rest.offset_from_start(), 19);
@@ -199,10 +235,16 @@ fn advance_past_the_end(rt: HostRuntime) -> Result<(), Fail> {
     let array = piece.advance_as_array::<4>(4)?;
     assert_eq!(rt; array.offset_from_start(), 20);
     assert_eq!(rt; *array.as_array(), [5, 6, 7, 8]);
-    let part = array.advance_as_array::<2>(2)?;
+    let same = ArrayWithStartOffset::new(array.as_array(), 20);
+    let part = same.advance_as_array::<2>(2)?;
     assert_eq!(rt; *part.as_array(), [7, 8]);
     assert_eq!(rt; part.offset_from_start(), 22);
-    assert!(rt; array.advance_as_array::<2>(usize::MAX).is_err());
+    assert!(rt;
+        matches!(
+            array.advance_as_array::<2>(usize::MAX),
+            Err(ErrorKind::InvalidOffset)
+        )
+    );
     assert_eq!(rt;
         *piece.unchecked_advance_as_array::<2>(6).as_array(),
         [7, 8]

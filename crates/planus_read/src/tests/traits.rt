@@ -1,23 +1,26 @@
 //! Each trait at concrete types, through its bound.
 
+use super::UNIONS;
+use super::rows::Heads;
 use crate::errors::{Error, ErrorKind};
 use crate::table_reader::Table;
 use crate::{
     Place, ReadAsRoot, SignedBytes, SliceWithStartOffset, Stride, TableRead, TableReadUnion,
-    TaggedPlace, VectorRead, VectorReadInner, VectorReadUnion,
+    TableReadUnionVector, TaggedPlace, VectorName, VectorRead, VectorReadInner, VectorReadUnion,
+    located,
 };
 use std::test::Fail;
 
-const BYTES: [u8; 16] = [
+pub const BYTES: [u8; 16] = [
     0xff, 0xfe, 0xfd, 0xfc, 0xfb, 0xfa, 0xf9, 0xf8, 1, 0, 2, 0, 3, 0, 0, 0,
 ];
 
-fn field<'buf, T: TableRead<'buf>>(bytes: &'buf [u8], offset: usize) -> Result<T, ErrorKind> {
+pub fn field<'buf, T: TableRead<'buf>>(bytes: &'buf [u8], offset: usize) -> Result<T, ErrorKind> {
     T::from_buffer(SliceWithStartOffset::new(bytes, 0), offset)
 }
 
 // The item at an offset, where all of it is there.
-fn item<'buf, T: VectorRead<'buf>>(bytes: &'buf [u8], offset: usize) -> Option<T> {
+pub fn item<'buf, T: VectorRead<'buf>>(bytes: &'buf [u8], offset: usize) -> Option<T> {
     let stride = T::stride();
     if offset > bytes.len() || bytes.len() - offset < stride {
         return None;
@@ -25,7 +28,7 @@ fn item<'buf, T: VectorRead<'buf>>(bytes: &'buf [u8], offset: usize) -> Option<T
     Some(T::from_buffer(SliceWithStartOffset::new(bytes, 0), offset))
 }
 
-fn inner_item<'buf, T: VectorReadInner<'buf>>(
+pub fn inner_item<'buf, T: VectorReadInner<'buf>>(
     bytes: &'buf [u8],
     offset: usize,
 ) -> Option<Result<T, T::Error>> {
@@ -44,6 +47,36 @@ fn union_field<'buf, T: TableReadUnion<'buf>>(
     T::from_buffer(SliceWithStartOffset::new(bytes, 0), tag, offset)
 }
 
+fn union_vector_field<'buf, T: TableReadUnionVector<'buf>>(
+    bytes: &'buf [u8],
+    tags: usize,
+    values: usize,
+) -> Result<T, ErrorKind> {
+    T::from_buffer(SliceWithStartOffset::new(bytes, 0), tags, values)
+}
+
+// The union item at an offset of bytes that start at 1000.
+pub fn union_item<'buf, 'n, T: VectorReadUnion<'buf>>(
+    bytes: &'buf [u8],
+    tag: u8,
+    offset: usize,
+) -> Result<T, located::Error<'n>> {
+    let piece = SliceWithStartOffset::new(bytes, 1000);
+    <T as VectorReadUnion<'buf>>::from_buffer(piece, tag, offset)
+}
+
+fn read_root<'a, 'n, T: ReadAsRoot<'a>>(bytes: &'a [u8]) -> Result<T, located::Error<'n>> {
+    T::read_as_root(bytes)
+}
+
+fn stride<T: Stride>() -> usize {
+    T::stride()
+}
+
+fn vector_name<T: VectorName>() -> &'static str {
+    T::vector_name()
+}
+
 #[test]
 fn numbers_are_fields(rt: HostRuntime) -> Result<(), Fail> {
     assert_eq!(rt; field::<u8>(&BYTES, 0)?, 0xff);
@@ -56,7 +89,7 @@ fn numbers_are_fields(rt: HostRuntime) -> Result<(), Fail> {
     assert_eq!(rt; field::<i64>(&BYTES, 8)?, 0x3_0002_0001);
     assert!(rt; field::<bool>(&BYTES, 0)?);
     assert!(rt; !field::<bool>(&BYTES, 9)?);
-    assert!(rt; field::<u64>(&BYTES, 9).is_err());
+    assert!(rt; matches!(field::<u64>(&BYTES, 9), Err(ErrorKind::InvalidOffset)));
     Ok(())
 }
 
@@ -73,7 +106,7 @@ fn numbers_are_items(rt: HostRuntime) {
 }
 
 // A reference to the text `Hi` at 0, and one to damage at 4.
-const TEXTS: [u8; 16] = [8, 0, 0, 0, 99, 0, 0, 0, 2, 0, 0, 0, 72, 105, 0, 0];
+pub const TEXTS: [u8; 16] = [8, 0, 0, 0, 99, 0, 0, 0, 2, 0, 0, 0, 72, 105, 0, 0];
 
 #[test]
 fn texts_and_byte_lists(rt: HostRuntime) -> Result<(), Fail> {
@@ -90,7 +123,7 @@ fn texts_and_byte_lists(rt: HostRuntime) -> Result<(), Fail> {
 
 #[test]
 fn texts_are_items(rt: HostRuntime) -> Result<(), Fail> {
-    assert_eq!(rt; <&str as Stride>::stride(), 4);
+    assert_eq!(rt; stride::<&str>(), 4);
     assert_eq!(rt; inner_item::<&str>(&TEXTS, 0).ok_or("no item")??, "Hi");
     assert_eq!(rt;
         item::<Result<&str, Error>>(&TEXTS, 0).ok_or("no item")??,
@@ -109,7 +142,8 @@ fn texts_are_items(rt: HostRuntime) -> Result<(), Fail> {
 #[test]
 fn places_are_read_later(rt: HostRuntime) -> Result<(), Fail> {
     assert_eq!(rt; field::<Place<'_>>(&TEXTS, 0)?.read::<&str>()?, "Hi");
-    assert!(rt; field::<Place<'_>>(&TEXTS, 99)?.read::<u8>().is_err());
+    let outside = field::<Place<'_>>(&TEXTS, 99)?.read::<u8>();
+    assert!(rt; matches!(outside, Err(ErrorKind::InvalidOffset)));
     assert_eq!(rt;
         item::<Place<'_>>(&TEXTS, 0)
             .ok_or("no item")?
@@ -119,9 +153,72 @@ fn places_are_read_later(rt: HostRuntime) -> Result<(), Fail> {
     let union = union_field::<TaggedPlace<'_>>(&TEXTS, 7, 0)?;
     assert_eq!(rt; union.tag(), 7);
     assert_eq!(rt; union.place().read::<&str>()?, "Hi");
-    let piece = SliceWithStartOffset::new(&TEXTS, 0);
-    let union = <TaggedPlace<'_> as VectorReadUnion<'_>>::from_buffer(piece, 3, 0)?;
+    Ok(())
+}
+
+// A union with one variant, a text of tag 1.
+#[derive(Clone, Copy)]
+pub struct OneText<'a>(pub &'a str);
+
+impl<'buf> TableReadUnion<'buf> for OneText<'buf> {
+    ghost use Rattle.std.specs.Prelude.{⊤};
+
+    ghost reads = { λ S start tag f r. ⊤ };
+
+    fn from_buffer(
+        buffer: SliceWithStartOffset<'buf>,
+        tag: u8,
+        offset: usize,
+    ) -> Result<OneText<'buf>, ErrorKind> {
+        match tag {
+            1 => Ok(OneText(<&str as TableRead<'_>>::from_buffer(buffer, offset)?)),
+            _ => Err(ErrorKind::UnknownUnionTag { tag }),
+        }
+    }
+}
+
+impl<'buf> VectorName for OneText<'buf> {
+    ghost use Rattle.std.specs.Prelude.{◌≡◌, codes};
+
+    ghost name = { codes "[OneText]" };
+
+    fn vector_name() -> &'static str
+        ensures { result.now ≡ codes "[OneText]" }
+    {
+        "[OneText]"
+    }
+}
+
+#[test]
+fn unions_are_items(rt: HostRuntime) -> Result<(), Fail> {
+    assert_eq!(rt; vector_name::<TaggedPlace<'_>>(), "[union]");
+    let union = union_item::<TaggedPlace<'_>>(&TEXTS, 3, 0)?;
     assert_eq!(rt; union.tag(), 3);
+    assert_eq!(rt; union.place().read::<&str>()?, "Hi");
+    let OneText(text) = union_item::<OneText<'_>>(&TEXTS, 1, 0)?;
+    assert_eq!(rt; text, "Hi");
+    let rows = [
+        (9, 0, "In <[OneText]@3e8>::get(): Unknown union (tag = 9)"),
+        (1, 4, "In <[OneText]@3e8>::get(): Invalid offset"),
+    ];
+    for (tag, offset, error) in rows {
+        match union_item::<OneText<'_>>(&TEXTS, tag, offset) {
+            Ok(_) => assert!(rt; false, "a union"),
+            Err(e) => {
+                let shown = format!(in rt.alloc(); "{e}")?;
+                assert_eq!(rt; shown.as_str(), error);
+            }
+        }
+    }
+    Ok(())
+}
+
+#[test]
+fn vectors_of_unions_are_fields(rt: HostRuntime) -> Result<(), Fail> {
+    let heads = union_vector_field::<Heads<'_>>(&UNIONS, 12, 16)?;
+    assert_eq!(rt; (heads.tags.1, heads.values.1), (2, 2));
+    let outside = union_vector_field::<Heads<'_>>(&UNIONS, 12, 77).map(|_| ());
+    assert!(rt; matches!(outside, Err(ErrorKind::InvalidOffset)));
     Ok(())
 }
 
@@ -145,11 +242,11 @@ impl<'a> ReadAsRoot<'a> for Root<'a> {
 #[test]
 fn roots(rt: HostRuntime) -> Result<(), Fail> {
     let bytes = [4, 0, 0, 0, 0xfa, 0xff, 0xff, 0xff, 24, 0, 6, 0, 6, 0, 4, 0];
-    let Root(table) = Root::read_as_root(&bytes)?;
+    let Root(table) = read_root::<Root<'_>>(&bytes)?;
     assert_eq!(rt; table.access::<u16>(0, "Root", "n")?, Some(24));
     let nested = field::<Table<'_>>(&bytes, 0)?;
     assert_eq!(rt; nested.access_required::<u8>(0, "Root", "n")?, 24);
-    match Root::read_as_root(&[]) {
+    match read_root::<Root<'_>>(&[]) {
         Ok(_) => assert!(rt; false, "a root"),
         Err(e) => {
             let text = format!(in rt.alloc(); "{e}")?;

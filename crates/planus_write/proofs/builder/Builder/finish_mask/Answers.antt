@@ -1,4 +1,4 @@
-use Rattle.std.proofs.Common.{◌≡◌, ◌+◌, ◌<◌, max, inl, inr, refl, arith, subst}
+use Rattle.std.proofs.Common.{◌≡◌, ◌+◌, inl, inr, refl, arith, subst}
 use Rattle.std.proofs.lemmas.Bool.{cases_lt}
 use Rattle.planus_back.specs.Promises.{IsPowerOfTwo}
 use Rattle.planus_write.proofs.builder.Builder.finish_mask.Goals as goal
