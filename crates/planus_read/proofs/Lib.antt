@@ -3,3 +3,4 @@ pub mod Parts
 pub mod Readers
 pub mod Walks
 pub mod TableReading
+pub mod ListReading

@@ -7,7 +7,7 @@ use Rattle.std.specs.Int.{Width, w16, w32, byte_len, from_le_bytes, cast_signed}
 use Rattle.std.specs.Option.{option_map}
 use Rattle.planus_read.specs.Bytes.{Num, Int, BytesStand}
 use Rattle.planus_read.specs.Values.{text, byte_list, plain_list, reference_list, union_list, table, Field, plain, reference, tags, values, field_at, vtable_size}
-use Rattle.planus_read.specs.Stands.{ReferenceStands, ItemsStand, FieldStands, SlotStands, TableStands, at, at_both}
+use Rattle.planus_read.specs.Stands.{ReferenceStands, PlainStands, ItemsStand, FieldStands, SlotStands, TableStands, at, at_both}
 use Rattle.planus_read.specs.Moves.{KeepsStanding, KeepsLeading, StandsAlone, LeadsAlone}
 
 test_moves : (n a b : ℕ) → nat_le (n + a) (n + b) ≡ nat_le a b
@@ -31,6 +31,9 @@ int_moves front B k j e = ap (option_map (cast_signed w32)) (num_moves front B k
 
 bytes_move : (front B : List ℕ) (k j : ℕ) (bytes : List ℕ) → j ≡ length front + k → BytesStand B k bytes → BytesStand (front ++ B) j bytes
 bytes_move front B k j bytes e h = ap (take (length bytes)) (rest_moves front B k j e) ∙ h
+
+plain_moves : (front B : List ℕ) (size k j : ℕ) (item : List ℕ) → j ≡ length front + k → PlainStands size B k item → PlainStands size (front ++ B) j item
+plain_moves front B size k j item e h = (h.0, bytes_move front B k j item e h.1)
 
 pub reference_moves : (front B : List ℕ) (k j distance : ℕ) → j ≡ length front + k → ReferenceStands B k distance → ReferenceStands (front ++ B) j distance
 reference_moves front B k j distance e h =
@@ -75,7 +78,7 @@ keeps_standing front B (at k) (byte_list bytes) h =
     (num_moves front B k (length front + k) w32 refl ∙ h.0, bytes_move front B (k + 4) (length front + k + 4) bytes (omega arith) h.1)
 keeps_standing front B (at k) (plain_list size alignment items) h = (
   num_moves front B k (length front + k) w32 refl ∙ h.0,
-  items_move (BytesStand B) (BytesStand (front ++ B)) (length front) (bytes_move front B) (k + 4) (length front + k + 4) size items (omega arith) h.1,
+  items_move (PlainStands size B) (PlainStands size (front ++ B)) (length front) (plain_moves front B size) (k + 4) (length front + k + 4) size items (omega arith) h.1,
 )
 keeps_standing front B (at k) (reference_list distances) h = (
   num_moves front B k (length front + k) w32 refl ∙ h.0,
@@ -106,6 +109,9 @@ reference_back front B k j distance e h =
 
 bytes_back : (front B : List ℕ) (k j : ℕ) (bytes : List ℕ) → j ≡ length front + k → BytesStand (front ++ B) j bytes → BytesStand B k bytes
 bytes_back front B k j bytes e h = sym (ap (take (length bytes)) (rest_moves front B k j e)) ∙ h
+
+plain_back : (front B : List ℕ) (size k j : ℕ) (item : List ℕ) → j ≡ length front + k → PlainStands size (front ++ B) j item → PlainStands size B k item
+plain_back front B size k j item e h = (h.0, bytes_back front B k j item e h.1)
 
 items_back : {X : Type 0} (A C : ℕ → X → Type 0) (n : ℕ) → ((k j : ℕ) (x : X) → j ≡ n + k → C j x → A k x) → (k j size : ℕ) (items : List X) → j ≡ n + k → ItemsStand C j size items → ItemsStand A k size items
 items_back A C n step k j size [] e h = tt
@@ -149,7 +155,7 @@ stands_alone front B (at k) (byte_list bytes) h =
     (count_back front B k (length bytes) h.0, bytes_back front B (k + 4) (length front + k + 4) bytes (omega arith) h.1)
 stands_alone front B (at k) (plain_list size alignment items) h = (
   count_back front B k (length items) h.0,
-  items_back (BytesStand B) (BytesStand (front ++ B)) (length front) (bytes_back front B) (k + 4) (length front + k + 4) size items (omega arith) h.1,
+  items_back (PlainStands size B) (PlainStands size (front ++ B)) (length front) (plain_back front B size) (k + 4) (length front + k + 4) size items (omega arith) h.1,
 )
 stands_alone front B (at k) (reference_list distances) h = (
   count_back front B k (length distances) h.0,

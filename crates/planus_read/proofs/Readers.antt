@@ -10,13 +10,13 @@ use denote.Ref.{Bor}
 use Rattle.planus_read.specs.declared.errors.ErrorKind.{ErrorKind}
 use Rattle.planus_read.specs.declared.slice_helpers.SliceWithStartOffset.{SliceWithStartOffset}
 use Rattle.planus_read.specs.Bytes.{Num, Int, BytesStand}
-use Rattle.planus_read.specs.Clauses.{AllHold, FirstBroken, Answer}
+use Rattle.planus_read.specs.Clauses.{Clause, AllHold, FirstBroken, Answer}
 use Rattle.planus_read.specs.Pieces.{slice_bytes}
 use Rattle.planus_read.specs.Heads.{IsHead, IsTextOf, text_of_clauses}
 use Rattle.planus_read.specs.Reading.{number, number_clauses, Leads, target, head_clauses, count_at, items_at, HeadThere, TextThere, ZeroByte, text_clauses, ByteListThere, byte_list_clauses, VectorThere, vector_clauses, UnionVectorThere, union_vector_clauses, TableThere, signed_number, vtable_at, vtable_size_at, object_clauses, table_clauses, slots_of}
 use Rattle.planus_read.specs.Tables.{IsTable, table_object, table_start, table_slots}
 use Rattle.planus_read.specs.declared.table_reader.Table.{Table}
-use Rattle.planus_read.specs.ReadingLaws.{NumberLaw, SignedLaw, TruthLaw, TextLaw, ByteListLaw, VectorLaw, UnionVectorLaw, TableLaw, OneText, OneByteList, OneVector, OneTable}
+use Rattle.planus_read.specs.ReadingLaws.{NumberLaw, SignedLaw, TruthLaw, HeadLaw, TextLaw, ByteListLaw, VectorLaw, UnionVectorLaw, TableLaw, OneHead, OneText, OneByteList, OneVector, OneUnionVector, OneTable, NoNumber, NoSigned, NoTruth, NoHead, NoText, NoByteList, NoVector, NoUnionVector, NoTable}
 use Rattle.planus_read.proofs.Parts.{parts_stand, whole_stands}
 
 chosen : (b : Bool) (x n : ℕ) → (if b then Some x else None) ≡ Some n → (b ≡ true) × (n ≡ x)
@@ -66,6 +66,21 @@ head_facts S f position count h =
       word = here;
       position_is = h.behind ∙ ap (λ k. k + 4) to;
       count_is = num_value S (target S f) w32 count word;
+    }
+
+-- the head of a piece, by its clauses
+record HeadRead (S : List ℕ) (f : ℕ) (items : SliceWithStartOffset) (count : ℕ) : Type 0 where
+  holds : AllHold (head_clauses S f [])
+  bytes : slice_bytes items ≡ drop (items_at S f) S
+  counted : count ≡ count_at S f
+
+head_read : (S : List ℕ) (start f : ℕ) (items : SliceWithStartOffset) (count : ℕ) → IsHead S start f items count → HeadRead S f items count
+head_read S start f items count h =
+    let facts : HeadFacts S f h.position count = head_facts S f h.position count h.there in
+    record {
+      holds = (facts.reference, (facts.inside, (facts.word, tt)));
+      bytes = h.bytes ∙ ap (λ k. drop k S) facts.position_is;
+      counted = facts.count_is;
     }
 
 -- a text
@@ -142,9 +157,11 @@ no_text_of_head S f count e head counted (inr (z, inr (u, none))) = absurd none
 
 pub text_answer : (S : List ℕ) (start f count : ℕ) (items : SliceWithStartOffset) (bytes : List ℕ) (r : Result (Bor (List ℕ)) ErrorKind) → IsHead S start f items count → bytes ≡ slice_bytes items → IfOk r (λ t. IsTextOf bytes count t.now) → IfErr r (λ e. FirstBroken (text_of_clauses bytes count) e) → Answer (λ t. TextThere S f t.now) (text_clauses S f) r
 text_answer S start f count items bytes (Ok t) head same ok err =
-    text_of_head S f count t.now head.holds head.counted (subst (λ l. IsTextOf l count t.now) (same ∙ head.bytes) ok)
+    let read : HeadRead S f items count = head_read S start f items count head in
+    text_of_head S f count t.now read.holds read.counted (subst (λ l. IsTextOf l count t.now) (same ∙ read.bytes) ok)
 text_answer S start f count items bytes (Err e) head same ok err =
-    no_text_of_head S f count e head.holds head.counted (subst (λ l. FirstBroken (text_of_clauses l count) e) (same ∙ head.bytes) err)
+    let read : HeadRead S f items count = head_read S start f items count head in
+    no_text_of_head S f count e read.holds read.counted (subst (λ l. FirstBroken (text_of_clauses l count) e) (same ∙ read.bytes) err)
 
 -- a byte list
 pub byte_list_there : (S : List ℕ) (f : ℕ) → AllHold (byte_list_clauses S f) → ByteListThere S f (take (count_at S f) (drop (items_at S f) S))
@@ -153,7 +170,7 @@ byte_list_there S f h =
     let long : length (take (count_at S f) (drop (items_at S f) S)) ≡ count_at S f = length-take-le (count_at S f) (drop (items_at S f) S) (omega (arith, length-drop (items_at S f) S)) in
     (target S f, leads_there S f h.0, (num_there S (target S f) w32 h.1.1.0 ∙ ap Some (sym long), ap (λ n. take n (drop (items_at S f) S)) long))
 
-stood_inside : (l bytes : List ℕ) → take (length bytes) l ≡ bytes → length bytes ≤ length l
+pub stood_inside : (l bytes : List ℕ) → take (length bytes) l ≡ bytes → length bytes ≤ length l
 stood_inside l bytes h = omega (arith, ap length h, length-take (length bytes) l)
 
 pub byte_list_holds : (S : List ℕ) (f : ℕ) (content : List ℕ) → ByteListThere S f content → AllHold (byte_list_clauses S f) × (content ≡ take (count_at S f) (drop (items_at S f) S))
@@ -167,13 +184,14 @@ byte_list_holds S f content h =
 
 pub byte_list_answer : (S : List ℕ) (start f count : ℕ) (items : SliceWithStartOffset) (bytes : List ℕ) → IsHead S start f items count → bytes ≡ slice_bytes items → count ≤ length bytes → ByteListThere S f (take count bytes)
 byte_list_answer S start f count items bytes head same within =
-    let here : bytes ≡ drop (items_at S f) S = same ∙ head.bytes in
-    let counted : count ≡ count_at S f = head.counted in
-    let inside : items_at S f ≤ length S = head.holds.1.1.0 in
+    let read : HeadRead S f items count = head_read S start f items count head in
+    let here : bytes ≡ drop (items_at S f) S = same ∙ read.bytes in
+    let counted : count ≡ count_at S f = read.counted in
+    let inside : items_at S f ≤ length S = read.holds.1.1.0 in
     let longer : count ≤ length (drop (items_at S f) S) = subst (λ l. count ≤ length l) here within in
     let fits : items_at S f + count_at S f ≤ length S = omega (arith, length-drop (items_at S f) S) in
     subst (ByteListThere S f) (sym (ap (take count) here ∙ ap (λ n. take n (drop (items_at S f) S)) counted))
-    (byte_list_there S f (head.holds.0, (head.holds.1.0, (head.holds.1.1.0, (fits, tt)))))
+    (byte_list_there S f (read.holds.0, (read.holds.1.0, (read.holds.1.1.0, (fits, tt)))))
 
 -- vectors
 pub vector_there : (S : List ℕ) (f stride : ℕ) → AllHold (vector_clauses S f stride) → VectorThere S f stride (items_at S f) (count_at S f)
@@ -294,6 +312,12 @@ signed_law S f width = mapped_law (cast_signed width) S f width
 pub truth_law : TruthLaw
 truth_law S f = mapped_law (λ n. not (n == 0)) S f w8
 
+pub head_law : HeadLaw
+head_law S f = (
+  (λ h. (items_at S f, count_at S f, head_there S f h.0 h.1.1.0)),
+  λ v. let facts : HeadFacts S f v.0 v.1 = head_facts S f v.0 v.1 v.2 in (facts.reference, (facts.inside, (facts.word, tt))),
+)
+
 pub text_law : TextLaw
 text_law S f = ((λ h. (take (count_at S f) (drop (items_at S f) S), text_there S f h)), λ t. (text_holds S f t.0 t.1).0)
 
@@ -311,6 +335,12 @@ pub table_law : TableLaw
 table_law S f =
     ((λ h. (target S f, vtable_at S (target S f), vtable_size_at S (target S f), table_there S f h)), λ t. (table_holds S f t.0 t.1 t.2 t.3).0)
 
+pub one_head : OneHead
+one_head S f p c p' c' h k =
+    let a : HeadFacts S f p c = head_facts S f p c h in
+    let b : HeadFacts S f p' c' = head_facts S f p' c' k in
+    (a.position_is ∙ sym b.position_is, a.count_is ∙ sym b.count_is)
+
 pub one_text : OneText
 one_text S f x y h k = (text_holds S f x h).1 ∙ sym (text_holds S f y k).1
 
@@ -323,8 +353,48 @@ one_vector S f stride p c p' c' h k =
     let b : AllHold (vector_clauses S f stride) × (p' ≡ items_at S f) × (c' ≡ count_at S f) = vector_holds S f stride p' c' k in
     (a.1 ∙ sym b.1, a.2 ∙ sym b.2)
 
+pub one_union_vector : OneUnionVector
+one_union_vector S f g t r c t' r' c' h k =
+    let tags : (t ≡ t') × (c ≡ c') = one_vector S f 1 t c t' c' h.tags_there k.tags_there in
+    let references : (r ≡ r') × (c ≡ c') = one_vector S g 4 r c r' c' h.references_there k.references_there in
+    (tags.0, references.0, tags.1)
+
 pub one_table : OneTable
 one_table S f o t z o' t' z' h k =
     let a : AllHold (table_clauses S f) × (o ≡ target S f) × (t ≡ vtable_at S (target S f)) × (z ≡ vtable_size_at S (target S f)) = table_holds S f o t z h in
     let b : AllHold (table_clauses S f) × (o' ≡ target S f) × (t' ≡ vtable_at S (target S f)) × (z' ≡ vtable_size_at S (target S f)) = table_holds S f o' t' z' k in
     (a.1 ∙ sym b.1, a.2 ∙ sym b.2, a.3 ∙ sym b.3)
+
+-- a clause is broken, so not all hold
+broken : (clauses : List Clause) (e : ErrorKind) → FirstBroken clauses e → AllHold clauses → ⊥
+broken [] e h all = h
+broken (first ∷ rest) e (inl h) all = h.0 all.0
+broken (first ∷ rest) e (inr h) all = broken rest e h.1 all.1
+
+pub no_number : NoNumber
+no_number S f width e h x there = broken (number_clauses S f width) e h ((number_law S f width).1 (x, there))
+
+pub no_signed : NoSigned
+no_signed S f width e h x there = broken (number_clauses S f width) e h ((signed_law S f width).1 (x, there))
+
+pub no_truth : NoTruth
+no_truth S f e h x there = broken (number_clauses S f w8) e h ((truth_law S f).1 (x, there))
+
+pub no_head : NoHead
+no_head S f e h position count there = broken (head_clauses S f []) e h ((head_law S f).1 (position, count, there))
+
+pub no_text : NoText
+no_text S f e h content there = broken (text_clauses S f) e h ((text_law S f).1 (content, there))
+
+pub no_byte_list : NoByteList
+no_byte_list S f e h content there = broken (byte_list_clauses S f) e h ((byte_list_law S f).1 (content, there))
+
+pub no_vector : NoVector
+no_vector S f stride e h position count there = broken (vector_clauses S f stride) e h ((vector_law S f stride).1 (position, count, there))
+
+pub no_union_vector : NoUnionVector
+no_union_vector S f g e h tags references count there =
+    broken (union_vector_clauses S f g) e h ((union_vector_law S f g).1 (tags, references, count, there))
+
+pub no_table : NoTable
+no_table S f e h object vtable size there = broken (table_clauses S f) e h ((table_law S f).1 (object, vtable, size, there))

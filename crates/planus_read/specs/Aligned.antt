@@ -6,6 +6,7 @@ use Rattle.planus_read.specs.Bytes.{Num, Int}
 use Rattle.planus_read.specs.Values.{Value, text, byte_list, plain_list, reference_list, union_list, table, Field, plain, reference, tags, values, field_at, vtable_size}
 use Rattle.planus_read.specs.Stands.{Position, at, at_both, ItemsStand}
 
+-- the alignment of a field: a plain item's own, and 4 of a reference
 abbrev pub field_alignment : Field → ℕ
 field_alignment (plain item) = item.alignment
 field_alignment (reference distance) = 4
@@ -17,6 +18,8 @@ abbrev pub SlotAligned : List ℕ → ℕ → ℕ → Option Field → Type 0
 SlotAligned B k s None = ⊤
 SlotAligned B k s (Some field) = (q : ℕ) × (Num B s w16 ≡ Some q) × (field_alignment field ∣ (k + q))
 
+-- The table at k stands at a multiple of 4, the vtable to which its first word leads at a multiple of 2, and each present field at
+-- a multiple of its own alignment.
 pub record TableAligned (B : List ℕ) (k : ℕ) (entries : List (ℕ × Field)) : Type 0 where
   pub table : 4 ∣ k
   pub vtable : ℕ

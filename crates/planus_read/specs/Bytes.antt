@@ -3,7 +3,7 @@ use Rattle.std.specs.Prelude.{◌≡◌, ℕ, ◌+◌, ◌-◌, List, length, ta
 use Rattle.std.specs.Int.{Width, w32, byte_len, from_le_bytes, cast_signed}
 use Rattle.std.specs.Option.{option_map}
 
--- the position of what has this distance from the end
+-- the position of what has this distance, of at most the length, from the end
 abbrev pub position_of : List ℕ → ℕ → ℕ
 position_of B distance = length B - distance
 

@@ -11,6 +11,7 @@ pub record Clause : Type 1 where
 abbrev pub clause : Type 0 → ErrorKind → Clause
 clause holds error = record { holds = holds; errors = λ e. e ≡ error }
 
+-- no clause fails
 abbrev pub AllHold : List Clause → Type 0
 AllHold [] = ⊤
 AllHold (first ∷ rest) = first.holds × AllHold rest
@@ -22,5 +23,5 @@ FirstBroken (first ∷ rest) e = ((first.holds → ⊥) × first.errors e) ⊎ (
 
 -- The answer of a reader with this value side and these clauses.
 abbrev pub Answer : {A : Type 0} → (A → Type 0) → List Clause → Result A ErrorKind → Type 0
-Answer Value clauses (Ok x) = Value x
-Answer Value clauses (Err e) = FirstBroken clauses e
+Answer There clauses (Ok x) = There x
+Answer There clauses (Err e) = FirstBroken clauses e

@@ -16,3 +16,4 @@ pub mod Places
 pub mod Converted
 pub mod ReadingLaws
 pub mod TableReading
+pub mod ListReading

@@ -3,12 +3,14 @@ use Rattle.std.specs.Prelude.{◌≡◌, ℕ, ◌+◌, ◌≤◌, List, length, 
 use Rattle.planus_read.specs.declared.slice_helpers.SliceWithStartOffset.{SliceWithStartOffset}
 use Rattle.planus_read.specs.declared.slice_helpers.ArrayWithStartOffset.{ArrayWithStartOffset}
 
+-- the bytes of a piece, and where it starts
 abbrev pub slice_bytes : SliceWithStartOffset → List ℕ
 slice_bytes s = s.buffer.now
 
 abbrev pub slice_start : SliceWithStartOffset → ℕ
 slice_start s = s.offset_from_start
 
+-- the same of a piece of N bytes
 abbrev pub array_bytes : {N : ℕ} → ArrayWithStartOffset N → List ℕ
 array_bytes s = s.buffer.now
 

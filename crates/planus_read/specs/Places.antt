@@ -14,6 +14,7 @@ place_start place = slice_start place.buffer
 abbrev pub place_offset : Place → ℕ
 place_offset place = place.offset
 
+-- the tag of a union, and its value's place
 abbrev pub tagged_tag : TaggedPlace → ℕ
 tagged_tag tagged = tagged.tag
 

@@ -19,6 +19,7 @@ number S position width = from_le_bytes width (take (byte_len width) (drop posit
 abbrev pub number_clause : List ℕ → ℕ → Width → Clause
 number_clause S position width = clause (position + byte_len width ≤ length S) InvalidOffset
 
+-- the clauses of a number
 abbrev pub number_clauses : List ℕ → ℕ → Width → List Clause
 number_clauses S f width = number_clause S f width ∷ []
 
@@ -51,7 +52,7 @@ pub record HeadThere (S : List ℕ) (f position count : ℕ) : Type 0 where
   pub word : Num S begin w32 ≡ Some count
   pub behind : position ≡ begin + 4
 
--- a text
+-- a text, whose bytes are UTF-8
 abbrev pub TextThere : List ℕ → ℕ → List ℕ → Type 0
 TextThere S f content = (position : ℕ) × Leads S f position × Stands S (at position) (text content) × IsUtf8 content
 
@@ -64,6 +65,7 @@ IsUtf8Error _ = ⊥
 abbrev pub ZeroByte : List ℕ → ℕ → ℕ → Type 0
 ZeroByte S first count = (first + count < length S) × (slice_index S (first + count) ≡ 0)
 
+-- the clauses of a text: those of its head, its zero byte, and that its bytes are UTF-8
 abbrev pub text_clauses : List ℕ → ℕ → List Clause
 text_clauses S f =
     head_clauses S f (clause (ZeroByte S (items_at S f) (count_at S f)) MissingNullTerminator
@@ -73,6 +75,7 @@ text_clauses S f =
 abbrev pub ByteListThere : List ℕ → ℕ → List ℕ → Type 0
 ByteListThere S f content = (position : ℕ) × Leads S f position × Stands S (at position) (byte_list content)
 
+-- the clauses of a byte list: those of its head, and that its bytes lie in S
 abbrev pub byte_list_clauses : List ℕ → ℕ → List Clause
 byte_list_clauses S f = head_clauses S f (clause (items_at S f + count_at S f ≤ length S) InvalidLength ∷ [])
 
@@ -81,6 +84,7 @@ pub record VectorThere (S : List ℕ) (f stride position count : ℕ) : Type 0 w
   pub head : HeadThere S f position count
   pub inside : position + count * stride ≤ length S
 
+-- the clauses of a vector: those of its head, and that its items lie in S
 abbrev pub vector_clauses : List ℕ → ℕ → ℕ → List Clause
 vector_clauses S f stride = head_clauses S f (clause (items_at S f + count_at S f * stride ≤ length S) InvalidLength ∷ [])
 
@@ -89,6 +93,7 @@ pub record UnionVectorThere (S : List ℕ) (f g tags references count : ℕ) : T
   pub tags_there : VectorThere S f 1 tags count
   pub references_there : VectorThere S g 4 references count
 
+-- the clauses of a vector of unions: both heads, that the tags and the references lie in S, and equal counts
 abbrev pub union_vector_clauses : List ℕ → ℕ → ℕ → List Clause
 union_vector_clauses S f g =
     head_clauses S f (head_clauses S g (clause (items_at S f + count_at S f ≤ length S) InvalidLength
@@ -134,17 +139,21 @@ object_clauses S object =
     ∷ clause (vtable_at S object + vtable_size_at S object ≤ length S) InvalidLength
     ∷ [])
 
+-- the clauses of a table: the reference and what it leads to, then those of the object
 abbrev pub table_clauses : List ℕ → ℕ → List Clause
 table_clauses S f =
     number_clause S f w32 ∷ clause (target S f ≤ length S) InvalidOffset ∷ object_clauses S (target S f)
 
--- a number at f, a signed number, and a truth value
--- The format: signed numbers are two's complement; a truth value is one byte, true where it isn't 0.
+-- a number of this width
 abbrev pub NumberThere : List ℕ → ℕ → Width → ℕ → Type 0
 NumberThere S f width x = Num S f width ≡ Some x
 
+-- a signed number of this width
+-- The format: signed numbers are two's complement.
 abbrev pub SignedThere : List ℕ → ℕ → Width → ℤ → Type 0
 SignedThere S f width x = option_map (cast_signed width) (Num S f width) ≡ Some x
 
+-- a truth value
+-- The format: a truth value is one byte, true where it isn't 0.
 abbrev pub TruthThere : List ℕ → ℕ → Bool → Type 0
 TruthThere S f x = option_map (λ n. not (n == 0)) (Num S f w8) ≡ Some x

@@ -1,8 +1,9 @@
 -- The laws that tie the clauses of each reader to its value side.
-use Rattle.std.specs.Prelude.{◌≡◌, ◌↔◌, ℕ, ℤ, Bool, List}
+use Rattle.std.specs.Prelude.{◌≡◌, ◌↔◌, ℕ, ℤ, Bool, List, []}
 use Rattle.std.specs.Int.{Width, w8}
-use Rattle.planus_read.specs.Clauses.{AllHold}
-use Rattle.planus_read.specs.Reading.{NumberThere, SignedThere, TruthThere, number_clauses, TextThere, text_clauses, ByteListThere, byte_list_clauses, VectorThere, vector_clauses, UnionVectorThere, union_vector_clauses, TableThere, table_clauses}
+use Rattle.planus_read.specs.declared.errors.ErrorKind.{ErrorKind}
+use Rattle.planus_read.specs.Clauses.{AllHold, FirstBroken}
+use Rattle.planus_read.specs.Reading.{NumberThere, SignedThere, TruthThere, number_clauses, HeadThere, head_clauses, TextThere, text_clauses, ByteListThere, byte_list_clauses, VectorThere, vector_clauses, UnionVectorThere, union_vector_clauses, TableThere, table_clauses}
 
 -- All clauses hold exactly where a value stands.
 abbrev pub NumberLaw : Type 0
@@ -13,6 +14,9 @@ SignedLaw = (S : List ℕ) (f : ℕ) (width : Width) → AllHold (number_clauses
 
 abbrev pub TruthLaw : Type 0
 TruthLaw = (S : List ℕ) (f : ℕ) → AllHold (number_clauses S f w8) ↔ ((x : Bool) × TruthThere S f x)
+
+abbrev pub HeadLaw : Type 0
+HeadLaw = (S : List ℕ) (f : ℕ) → AllHold (head_clauses S f []) ↔ ((position : ℕ) × (count : ℕ) × HeadThere S f position count)
 
 abbrev pub TextLaw : Type 0
 TextLaw = (S : List ℕ) (f : ℕ) → AllHold (text_clauses S f) ↔ ((content : List ℕ) × TextThere S f content)
@@ -34,6 +38,11 @@ TableLaw =
     (S : List ℕ) (f : ℕ) → AllHold (table_clauses S f) ↔ ((object : ℕ) × (vtable : ℕ) × (size : ℕ) × TableThere S f object vtable size)
 
 -- At most one value stands at a field.
+abbrev pub OneHead : Type 0
+OneHead =
+    (S : List ℕ) (f position count position' count' : ℕ) → HeadThere S f position count → HeadThere S f position' count'
+    → (position ≡ position') × (count ≡ count')
+
 abbrev pub OneText : Type 0
 OneText = (S : List ℕ) (f : ℕ) (x y : List ℕ) → TextThere S f x → TextThere S f y → x ≡ y
 
@@ -45,7 +54,50 @@ OneVector =
     (S : List ℕ) (f stride position count position' count' : ℕ) → VectorThere S f stride position count
     → VectorThere S f stride position' count' → (position ≡ position') × (count ≡ count')
 
+abbrev pub OneUnionVector : Type 0
+OneUnionVector =
+    (S : List ℕ) (f g tags references count tags' references' count' : ℕ) → UnionVectorThere S f g tags references count
+    → UnionVectorThere S f g tags' references' count' → (tags ≡ tags') × (references ≡ references') × (count ≡ count')
+
 abbrev pub OneTable : Type 0
 OneTable =
     (S : List ℕ) (f object vtable size object' vtable' size' : ℕ) → TableThere S f object vtable size
     → TableThere S f object' vtable' size' → (object ≡ object') × (vtable ≡ vtable') × (size ≡ size')
+
+-- Where a reader answers an error, nothing of the kind stands at the field.
+abbrev pub NoNumber : Type 0
+NoNumber =
+    (S : List ℕ) (f : ℕ) (width : Width) (e : ErrorKind) → FirstBroken (number_clauses S f width) e → (x : ℕ) → NumberThere S f width x → ⊥
+
+abbrev pub NoSigned : Type 0
+NoSigned =
+    (S : List ℕ) (f : ℕ) (width : Width) (e : ErrorKind) → FirstBroken (number_clauses S f width) e → (x : ℤ) → SignedThere S f width x → ⊥
+
+abbrev pub NoTruth : Type 0
+NoTruth = (S : List ℕ) (f : ℕ) (e : ErrorKind) → FirstBroken (number_clauses S f w8) e → (x : Bool) → TruthThere S f x → ⊥
+
+abbrev pub NoHead : Type 0
+NoHead =
+    (S : List ℕ) (f : ℕ) (e : ErrorKind) → FirstBroken (head_clauses S f []) e → (position count : ℕ) → HeadThere S f position count → ⊥
+
+abbrev pub NoText : Type 0
+NoText = (S : List ℕ) (f : ℕ) (e : ErrorKind) → FirstBroken (text_clauses S f) e → (content : List ℕ) → TextThere S f content → ⊥
+
+abbrev pub NoByteList : Type 0
+NoByteList =
+    (S : List ℕ) (f : ℕ) (e : ErrorKind) → FirstBroken (byte_list_clauses S f) e → (content : List ℕ) → ByteListThere S f content → ⊥
+
+abbrev pub NoVector : Type 0
+NoVector =
+    (S : List ℕ) (f stride : ℕ) (e : ErrorKind) → FirstBroken (vector_clauses S f stride) e → (position count : ℕ)
+    → VectorThere S f stride position count → ⊥
+
+abbrev pub NoUnionVector : Type 0
+NoUnionVector =
+    (S : List ℕ) (f g : ℕ) (e : ErrorKind) → FirstBroken (union_vector_clauses S f g) e → (tags references count : ℕ)
+    → UnionVectorThere S f g tags references count → ⊥
+
+abbrev pub NoTable : Type 0
+NoTable =
+    (S : List ℕ) (f : ℕ) (e : ErrorKind) → FirstBroken (table_clauses S f) e → (object vtable size : ℕ)
+    → TableThere S f object vtable size → ⊥

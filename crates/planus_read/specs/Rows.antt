@@ -41,5 +41,6 @@ two_texts = (1, 6) ∷ (2, 14) ∷ []
 abbrev pub u16_table_bytes : List ℕ
 u16_table_bytes = 4 ∷ 0 ∷ 0 ∷ 0 ∷ 250 ∷ 255 ∷ 255 ∷ 255 ∷ 24 ∷ 0 ∷ 6 ∷ 0 ∷ 6 ∷ 0 ∷ 4 ∷ 0 ∷ []
 
+-- the field of that table
 abbrev pub u16_table_fields : List (ℕ × Field)
 u16_table_fields = (0, twenty_four) ∷ []

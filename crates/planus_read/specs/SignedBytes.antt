@@ -4,6 +4,7 @@ use Rattle.std.specs.Int.{w8, cast_signed}
 use Rattle.std.specs.Option.{option_map}
 use Rattle.planus_read.specs.declared.impls.byte_slice.SignedBytes.{SignedBytes}
 
+-- the bytes of a list of signed bytes
 abbrev pub signed_bytes : SignedBytes → List ℕ
 signed_bytes list = list.bytes.now
 

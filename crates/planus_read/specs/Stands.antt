@@ -4,7 +4,7 @@ use Rattle.std.specs.Int.{w16, w32}
 use Rattle.planus_read.specs.Bytes.{Num, Int, BytesStand}
 use Rattle.planus_read.specs.Values.{Value, text, byte_list, plain_list, reference_list, union_list, table, Field, plain, reference, tags, values, field_at, vtable_size}
 
--- A reference at f leads to the distance: f and its number are that position.
+-- A reference at f leads to the distance: f plus its number is the position at that distance from the end.
 -- The format: a reference is an unsigned number of 4 bytes, which leads forward from where it stands.
 abbrev pub ReferenceStands : List ℕ → ℕ → ℕ → Type 0
 ReferenceStands B f distance = (n : ℕ) × (Num B f w32 ≡ Some n) × (f + n + distance ≡ length B)
@@ -19,10 +19,15 @@ ItemsStand StandsAt position size (item ∷ items) = StandsAt position item × I
 abbrev pub ListStands : {X : Type 0} → (List ℕ → ℕ → X → Type 0) → List ℕ → ℕ → ℕ → List X → Type 0
 ListStands StandsAt B k size items = (Num B k w32 ≡ Some (length items)) × ItemsStand (StandsAt B) (k + 4) size items
 
+-- A plain item: it has the list's size in bytes, and its bytes stand at the position.
+abbrev pub PlainStands : ℕ → List ℕ → ℕ → List ℕ → Type 0
+PlainStands size B position item = (length item ≡ size) × BytesStand B position item
+
 -- a count, and then that many bytes
 abbrev pub ByteListStands : List ℕ → ℕ → List ℕ → Type 0
 ByteListStands B k bytes = (Num B k w32 ≡ Some (length bytes)) × BytesStand B (k + 4) bytes
 
+-- A field at f: the bytes of a plain item, or a reference to the distance.
 abbrev pub FieldStands : List ℕ → ℕ → Field → Type 0
 FieldStands B f (plain item) = BytesStand B f item.bytes
 FieldStands B f (reference distance) = ReferenceStands B f distance
@@ -49,13 +54,14 @@ pub data Position : Type 0 where
   at : ℕ → Position
   at_both : ℕ → ℕ → Position
 
--- The value stands there.
+-- The value stands there. Each item of a plain list has the list's size. That the bytes of a text are UTF-8 is not asked here; the
+-- readers ask it.
 -- The format: a text is a vector of UTF-8 bytes with a zero byte behind it that the count leaves out; a byte list has no such byte;
 -- a union vector is two vectors, of tags and of references.
 abbrev pub Stands : List ℕ → Position → Value → Type 0
 Stands B (at k) (text bytes) = (Num B k w32 ≡ Some (length bytes)) × BytesStand B (k + 4) (bytes ++ 0 ∷ [])
 Stands B (at k) (byte_list bytes) = ByteListStands B k bytes
-Stands B (at k) (plain_list size alignment items) = ListStands BytesStand B k size items
+Stands B (at k) (plain_list size alignment items) = ListStands (PlainStands size) B k size items
 Stands B (at k) (reference_list distances) = ListStands ReferenceStands B k 4 distances
 Stands B (at_both kt kv) (union_list items) =
     ByteListStands B kt (map (λ item. item.0) items) × ListStands ReferenceStands B kv 4 (map (λ item. item.1) items)

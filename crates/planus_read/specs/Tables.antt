@@ -46,7 +46,7 @@ FieldAnswer reads table i (Err e) =
 abbrev pub BothSlots : Table → ℕ → Type 0
 BothSlots table i = 2 * i + 4 ≤ length (table_slots table)
 
--- The tag byte of the union of slots i and i + 1: the byte of the object at the distance in slot i, 0 or not.
+-- The tag byte of the union of slots i and i + 1: the byte of the object at the distance in slot i, whether that distance is 0 or not.
 abbrev pub tag_of : Table → ℕ → Option ℕ
 tag_of table i = Num (table_object table) (Slot (table_slots table) i) w8
 
@@ -72,6 +72,8 @@ UnionBroken table i e =
     (BothSlots table i × (tag_of table i ≡ None) × (e ≡ InvalidOffset))
     ⊎ ((2 * i < length (table_slots table)) × (length (table_slots table) < 2 * i + 4) × (e ≡ InvalidVtableLength (length (table_slots table) + 4)))
 
+-- The answer to the union of slots i and i + 1, where reads is what its type answers: none where no union is there, an error where its
+-- slots are damaged, else the type's own answer for the tag and the value's distance.
 abbrev pub UnionAnswer : {T : Type 0} → (List ℕ → ℕ → ℕ → ℕ → Result T ErrorKind → Type 0) → Table → ℕ → Result (Option T) ErrorKind → Type 0
 UnionAnswer reads table i (Ok None) = UnionAbsent table i
 UnionAnswer reads table i (Ok (Some x)) =
@@ -93,6 +95,8 @@ HalfVector table i =
     BothSlots table i
     × (((Slot (table_slots table) i ≡ 0) × (Slot (table_slots table) (i + 1) ≢ 0)) ⊎ ((Slot (table_slots table) i ≢ 0) × (Slot (table_slots table) (i + 1) ≡ 0)))
 
+-- The answer to the vector of unions of slots i and i + 1, where reads is what its type answers: none where both slots hold 0 or don't
+-- both lie in the vtable, an error where exactly one holds 0, else the type's own answer for both distances.
 abbrev pub UnionVectorAnswer : {T : Type 0} → (List ℕ → ℕ → ℕ → ℕ → Result T ErrorKind → Type 0) → Table → ℕ → Result (Option T) ErrorKind → Type 0
 UnionVectorAnswer reads table i (Ok None) =
     (length (table_slots table) < 2 * i + 4) ⊎ (BothSlots table i × (Slot (table_slots table) i ≡ 0) × (Slot (table_slots table) (i + 1) ≡ 0))

@@ -9,6 +9,7 @@ use Rattle.planus_read.specs.declared.located.ErrorLocation.{ErrorLocation}
 use Rattle.planus_read.specs.declared.located.Error.{Error}
 use Rattle.planus_read.specs.declared.located.UnknownEnumTag.{UnknownEnumTag}
 
+-- the text of an enum's value that its reader doesn't know
 abbrev pub unknown_tag_text : UnknownEnumTagKind → List ℕ
 unknown_tag_text kind = codes "Unknown enum (tag = " ++ signed_decimal kind.tag ++ codes ")"
 
@@ -40,8 +41,10 @@ location_text location =
 abbrev pub located_text : ErrorLocation → List ℕ → List ℕ
 located_text location kind = codes "In " ++ location_text location ++ codes ": " ++ kind
 
+-- the text of an error, where that of its kind is known
 abbrev pub error_text : Error → Option (List ℕ)
 error_text e = option_map (located_text e.source_location) (kind_text e.error_kind)
 
+-- the text of an unknown value at its location
 abbrev pub unknown_enum_tag_text : UnknownEnumTag → List ℕ
 unknown_enum_tag_text e = located_text e.source_location (unknown_tag_text e.error_kind)

@@ -19,7 +19,7 @@ pub data Field : Type 0 where
 pub data Value : Type 0 where
   text : List ℕ → Value
   byte_list : List ℕ → Value
-  -- items of one type, of this size and alignment
+  -- items of one type, each of this size in bytes and this alignment
   plain_list : (size alignment : ℕ) → List (List ℕ) → Value
   reference_list : List ℕ → Value
   -- pairs of a tag and a reference

@@ -1,6 +1,7 @@
 //! Laws over where values stand and what readers answer. Each function is a theorem; its body is empty.
 
-ghost use Rattle.planus_read.specs.ReadingLaws.{NumberLaw, SignedLaw, TruthLaw, TextLaw, ByteListLaw, VectorLaw, UnionVectorLaw, TableLaw, OneText, OneByteList, OneVector, OneTable};
+ghost use Rattle.planus_read.specs.ListReading.{PlainListsRead, ReferenceListsRead, UnionListsRead};
+ghost use Rattle.planus_read.specs.ReadingLaws.{NumberLaw, SignedLaw, TruthLaw, HeadLaw, TextLaw, ByteListLaw, VectorLaw, UnionVectorLaw, TableLaw, OneHead, OneText, OneByteList, OneVector, OneUnionVector, OneTable, NoNumber, NoSigned, NoTruth, NoHead, NoText, NoByteList, NoVector, NoUnionVector, NoTable};
 ghost use Rattle.planus_read.specs.TableReading.{TablesRead};
 ghost use Rattle.planus_read.specs.Moves.{KeepsStanding, KeepsLeading, StandsAlone, LeadsAlone};
 
@@ -18,11 +19,12 @@ pub fn stands_alone()
     ensures reference { LeadsAlone }
 {}
 
-/// All clauses of a reader hold exactly where a value of its kind stands. So its error means that nothing of the kind stands there.
+/// All clauses of a reader hold exactly where a value of its kind stands.
 pub fn clauses_hold_where_values_stand()
     ensures number { NumberLaw }
     ensures signed { SignedLaw }
     ensures truth { TruthLaw }
+    ensures head { HeadLaw }
     ensures text { TextLaw }
     ensures byte_list { ByteListLaw }
     ensures vector { VectorLaw }
@@ -32,14 +34,37 @@ pub fn clauses_hold_where_values_stand()
 
 /// At most one value of a kind stands at a field. So a reader's value is determined.
 pub fn one_value_stands()
+    ensures head { OneHead }
     ensures text { OneText }
     ensures byte_list { OneByteList }
     ensures vector { OneVector }
+    ensures union_vector { OneUnionVector }
     ensures table { OneTable }
+{}
+
+/// Where a reader answers an error, by the first of its clauses that fails, nothing of its kind stands.
+pub fn errors_mean_nothing_stands()
+    ensures number { NoNumber }
+    ensures signed { NoSigned }
+    ensures truth { NoTruth }
+    ensures head { NoHead }
+    ensures text { NoText }
+    ensures byte_list { NoByteList }
+    ensures vector { NoVector }
+    ensures union_vector { NoUnionVector }
+    ensures table { NoTable }
 {}
 
 /// A table that stands where a reference leads is there for a reader, and each of its slots, also past the vtable's end, is read as
 /// its field: as the distance at which the field stands in the object's own bytes, or 0 where it is absent.
 pub fn tables_are_read()
     ensures { TablesRead }
+{}
+
+/// A list that stands where a reference leads, or a union list to whose two parts two references lead, is there for a reader: as a
+/// vector of as many items of the list's size, or as a vector of as many unions, behind its count.
+pub fn lists_are_read()
+    ensures plain { PlainListsRead }
+    ensures references { ReferenceListsRead }
+    ensures unions { UnionListsRead }
 {}

@@ -2,7 +2,7 @@
 
 ghost use Rattle.std.specs.Prelude.{◌≡◌, ◌≤◌, ◌+◌, [], length, IfOk, IfErr};
 ghost use Rattle.std.specs.Int.{w16, w32, byte_len};
-ghost use Rattle.planus_read.specs.Clauses.{FirstBroken};
+ghost use Rattle.planus_read.specs.Clauses.{Answer, FirstBroken};
 ghost use Rattle.planus_read.specs.Heads.{IsHead};
 ghost use Rattle.planus_read.specs.Pieces.{slice_bytes, slice_start};
 ghost use Rattle.planus_read.specs.Reading.{number, signed_number, number_clauses, head_clauses};
@@ -53,8 +53,7 @@ pub fn array_from_buffer<'buf>(
     buffer: SliceWithStartOffset<'buf>,
     offset: usize,
 ) -> Result<(SliceWithStartOffset<'buf>, u32), ErrorKind>
-    ensures head { IfOk result (λ head. IsHead (slice_bytes buffer.entry) (slice_start buffer.entry) offset head.0 head.1) }
-    ensures error { IfErr result (λ e. FirstBroken (head_clauses (slice_bytes buffer.entry) offset []) e) }
+    ensures { Answer (λ head. IsHead (slice_bytes buffer.entry) (slice_start buffer.entry) offset head.0 head.1) (head_clauses (slice_bytes buffer.entry) offset []) result }
 {
     let value = u32_at(buffer, offset)? as usize;
     let Some(target) = offset.checked_add(value) else {

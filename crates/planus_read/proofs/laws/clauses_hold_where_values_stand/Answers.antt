@@ -10,6 +10,9 @@ returns-clause-signed c = readers.signed_law
 pub returns-clause-truth : goal.returns-clause-truth
 returns-clause-truth c = readers.truth_law
 
+pub returns-clause-head : goal.returns-clause-head
+returns-clause-head c = readers.head_law
+
 pub returns-clause-text : goal.returns-clause-text
 returns-clause-text c = readers.text_law
 
