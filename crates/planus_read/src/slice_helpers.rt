@@ -46,7 +46,7 @@ impl<'buf> SliceWithStartOffset<'buf> {
     {
         SliceWithStartOffset {
             buffer,
-            offset_from_start, // of the first byte
+            offset_from_start,
         }
     }
 
@@ -55,7 +55,7 @@ impl<'buf> SliceWithStartOffset<'buf> {
     pub fn offset_from_start(&self) -> usize
         ensures { result ≡ slice_start self.now }
     {
-        self.offset_from_start // of the first byte of the piece
+        self.offset_from_start
     }
 
     /// The length in bytes.
@@ -63,7 +63,7 @@ impl<'buf> SliceWithStartOffset<'buf> {
     pub fn len(&self) -> usize
         ensures { result ≡ length (slice_bytes self.now) }
     {
-        self.buffer.len() // of the piece alone
+        self.buffer.len()
     }
 
     /// Whether there are no bytes.
@@ -71,7 +71,7 @@ impl<'buf> SliceWithStartOffset<'buf> {
     pub fn is_empty(&self) -> bool
         ensures { result ≡ (length (slice_bytes self.now) == 0) }
     {
-        self.buffer.len() == 0
+        self.buffer.is_empty()
     }
 
     /// The bytes.
@@ -79,7 +79,7 @@ impl<'buf> SliceWithStartOffset<'buf> {
     pub fn as_slice(&self) -> &'buf [u8]
         ensures { result.now ≡ slice_bytes self.now }
     {
-        self.buffer // of the piece alone, as long as the buffer is there
+        self.buffer
     }
 
     /// The piece that starts `amount` bytes further on; [`ErrorKind::InvalidOffset`] where that is past the end.
@@ -106,21 +106,11 @@ impl<'buf> SliceWithStartOffset<'buf> {
         ensures array { IfOk result (λ array. IsArrayAt (slice_bytes self.now) (slice_start self.now) amount array) }
         ensures error { IfErr result (λ e. (length (slice_bytes self.now) < amount + N) × (e ≡ ErrorKind.InvalidOffset)) }
     {
-        let whole = self.buffer;
-        if amount > whole.len() {
+        let len = self.buffer.len();
+        if amount > len || N > len - amount {
             return Err(ErrorKind::InvalidOffset);
         }
-        let rest = &whole[amount..];
-        if N > rest.len() {
-            return Err(ErrorKind::InvalidOffset);
-        }
-        match rest.first_chunk::<N>() {
-            None => Err(ErrorKind::InvalidOffset),
-            Some(buffer) => Ok(ArrayWithStartOffset {
-                buffer,
-                offset_from_start: self.offset_from_start + amount,
-            }),
-        }
+        Ok(self.unchecked_advance_as_array::<N>(amount))
     }
 
     /// The `N` bytes that start `amount` bytes further on, all of which lie in this piece.
@@ -132,9 +122,13 @@ impl<'buf> SliceWithStartOffset<'buf> {
         requires { amount + N ≤ length (slice_bytes self.now) }
         ensures { IsArrayAt (slice_bytes self.now) (slice_start self.now) amount result }
     {
-        match self.advance_as_array::<N>(amount) {
-            Ok(array) => array,
-            Err(_) => unreachable!(),
+        let rest = &self.buffer[amount..];
+        match rest.first_chunk::<N>() {
+            Some(buffer) => ArrayWithStartOffset {
+                buffer,
+                offset_from_start: self.offset_from_start + amount,
+            },
+            None => unreachable!(),
         }
     }
 }
@@ -152,7 +146,7 @@ impl<'buf, const N: usize> ArrayWithStartOffset<'buf, N> {
     {
         ArrayWithStartOffset {
             buffer,
-            offset_from_start, // of the first of the N bytes
+            offset_from_start,
         }
     }
 
@@ -161,7 +155,7 @@ impl<'buf, const N: usize> ArrayWithStartOffset<'buf, N> {
     pub fn offset_from_start(&self) -> usize
         ensures { result ≡ array_start self.now }
     {
-        self.offset_from_start // of the first byte of the array
+        self.offset_from_start
     }
 
     /// The bytes.
@@ -182,20 +176,7 @@ impl<'buf, const N: usize> ArrayWithStartOffset<'buf, N> {
         ensures error { IfErr result (λ e. (N < amount + K) × (e ≡ ErrorKind.InvalidOffset)) }
     {
         let array = self.buffer;
-        let whole: &[u8] = &array[..];
-        if amount > whole.len() {
-            return Err(ErrorKind::InvalidOffset);
-        }
-        let rest = &whole[amount..];
-        if K > rest.len() {
-            return Err(ErrorKind::InvalidOffset);
-        }
-        match rest.first_chunk::<K>() {
-            None => Err(ErrorKind::InvalidOffset),
-            Some(buffer) => Ok(ArrayWithStartOffset {
-                buffer,
-                offset_from_start: self.offset_from_start + amount,
-            }),
-        }
+        let whole = SliceWithStartOffset::new(&array[..], self.offset_from_start);
+        whole.advance_as_array::<K>(amount)
     }
 }

@@ -1,9 +1,9 @@
 //! Tables, read in place.
 
-ghost use Rattle.std.specs.Prelude.{◌≡◌, ◌<◌, ◌≤◌, ◌+◌, ◌^◌, [], length, IfOk, IfErr, IfSome, IfNone, IsTrue, ◌↔◌};
+ghost use Rattle.std.specs.Prelude.{◌≡◌, ◌<◌, ◌+◌, ◌*◌, ◌^◌, [], length, IfOk, IfErr, IfSome, IfNone};
 ghost use Rattle.planus_read.specs.Clauses.{Answer, AllHold, FirstBroken};
 ghost use Rattle.planus_read.specs.Pieces.{slice_bytes, slice_start};
-ghost use Rattle.planus_read.specs.Located.{Located, Required, IsLocation};
+ghost use Rattle.planus_read.specs.Located.{Located, Required};
 ghost use Rattle.planus_read.specs.Reading.{table_clauses, word_clauses, object_clauses, vtable_at, slots_of};
 
 use crate::errors::ErrorKind;
@@ -12,7 +12,9 @@ use crate::located::Error;
 use crate::slice_helpers::SliceWithStartOffset;
 use crate::traits::{TableRead, TableReadUnion, TableReadUnionVector};
 
-/// A view of a table.
+/// A view of a table: its bytes from its first on, and the slots of its vtable. In the format a table begins with a signed number of
+/// 4 bytes that leads to its vtable, and the vtable has a slot of 2 bytes for each field: the field's distance from the table's first
+/// byte, or 0 where the field is absent.
 #[derive(Clone, Copy, Debug)]
 pub struct Table<'buf> {
     object: SliceWithStartOffset<'buf>,
@@ -27,10 +29,9 @@ fn vtable_offset(buffer: SliceWithStartOffset<'_>, object_offset: usize) -> Resu
     ensures error { IfErr result (λ e. FirstBroken (word_clauses (slice_bytes buffer.entry) object_offset []) e) }
 {
     let relative = i32_at(buffer, object_offset)?;
-    match object_offset.checked_sub_signed(relative as isize) {
-        Some(offset) => Ok(offset),
-        None => Err(ErrorKind::InvalidOffset),
-    }
+    object_offset
+        .checked_sub_signed(relative as isize)
+        .ok_or(ErrorKind::InvalidOffset)
 }
 
 // The slots of the vtable of the object.
@@ -57,12 +58,21 @@ fn vtable_of<'buf>(
     Ok(&vtable[4..])
 }
 
+// The answer, `MissingRequired` in place of `None`.
+#[inline]
+fn required<A>(answer: Result<Option<A>, ErrorKind>) -> Result<A, ErrorKind>
+    ensures { Required (λ a. a ≡ answer) result }
+{
+    answer?.ok_or(ErrorKind::MissingRequired)
+}
+
 impl<'buf> Table<'buf> {
-    ghost use Rattle.planus_read.specs.Tables.{IsTable, FieldAnswer, UnionAnswer, UnionVectorAnswer, UnionThere, UnionAbsent, UnionBroken, BothSlots, Slot, table_object, table_start, table_slots};
+    ghost use Rattle.planus_read.specs.Tables.{IsTable, FieldAnswer, UnionAnswer, UnionVectorAnswer, UnionThere, UnionAbsent, UnionBroken, BothSlots, Slot, table_start, table_slots};
 
     /// The table to which the reference at the offset leads, in bytes from the start of the piece. Its vtable lies anywhere in the
-    /// piece. [`ErrorKind::InvalidOffset`] where a number or the table lies outside; [`ErrorKind::InvalidVtableLength`] for a vtable
-    /// whose size is odd or below 4; [`ErrorKind::InvalidLength`] where the vtable passes the end.
+    /// piece. [`ErrorKind::InvalidOffset`] where a number or the table lies outside, or the vtable would begin in front of the piece;
+    /// [`ErrorKind::InvalidVtableLength`] for a vtable whose size is odd or below 4; [`ErrorKind::InvalidLength`] where the vtable
+    /// passes the end.
     pub fn from_buffer(buffer: SliceWithStartOffset<'buf>, offset: usize) -> Result<Self, ErrorKind>
         ensures { Answer (IsTable (slice_bytes buffer.entry) (slice_start buffer.entry) offset) (table_clauses (slice_bytes buffer.entry) offset) result }
     {
@@ -94,33 +104,40 @@ impl<'buf> Table<'buf> {
         }
     }
 
-    // Whether the slot and the next both lie in the vtable.
+    // The distances in the slot and the next, `None` where these don't both lie in the vtable.
     #[inline]
-    fn has_both_slots(&self, slot: usize) -> bool
-        ensures { IsTrue result ↔ BothSlots self.now slot }
+    fn both_slots(&self, slot: usize) -> Option<(usize, usize)>
+        ensures both { IfSome result (λ _. BothSlots self.now slot) }
+        ensures first { IfSome result (λ slots. slots.0 ≡ Slot (table_slots self.now) slot) }
+        ensures second { IfSome result (λ slots. slots.1 ≡ Slot (table_slots self.now) (slot + 1)) }
+        ensures none { IfNone result (length (table_slots self.now) < 2 * slot + 4) }
     {
-        match slot.checked_mul(2) {
-            Some(at) => at <= self.vtable.len() && self.vtable.len() - at >= 4,
-            None => false,
+        let at = slot.checked_mul(2)?;
+        let length = self.vtable.len();
+        if at > length || length - at < 4 {
+            return None;
         }
+        Some((self.slot(slot), self.slot(slot + 1)))
     }
 
-    // An error at this table.
+    // The answer, its error at this table.
     #[inline]
-    fn error<'n>(&self, kind: ErrorKind, type_: &'n str, method: &'n str) -> Error<'n>
-        ensures kind { result.error_kind ≡ kind }
-        ensures location { IsLocation result.source_location type_.now method.now (table_start self.now) }
+    fn located<'n, A>(
+        &self,
+        answer: Result<A, ErrorKind>,
+        type_: &'n str,
+        method: &'n str,
+    ) -> Result<A, Error<'n>>
+        ensures { Located (λ a. a ≡ answer) type_.now method.now (table_start self.now) result }
     {
-        kind.with_error_location(type_, method, self.object.offset_from_start())
-    }
-
-    // The error of an absent field at this table.
-    #[inline]
-    fn missing<'n>(&self, type_: &'n str, method: &'n str) -> Error<'n>
-        ensures kind { result.error_kind ≡ ErrorKind.MissingRequired }
-        ensures location { IsLocation result.source_location type_.now method.now (table_start self.now) }
-    {
-        self.error(ErrorKind::MissingRequired, type_, method)
+        match answer {
+            Ok(value) => Ok(value),
+            Err(kind) => Err(kind.with_error_location(
+                type_,
+                method,
+                self.object.offset_from_start(),
+            )),
+        }
     }
 
     // The field of a slot, its error without a location.
@@ -131,10 +148,7 @@ impl<'buf> Table<'buf> {
         if offset == 0 {
             return Ok(None);
         }
-        match T::from_buffer(self.object, offset) {
-            Ok(value) => Ok(Some(value)),
-            Err(fault) => Err(fault),
-        }
+        Ok(Some(T::from_buffer(self.object, offset)?))
     }
 
     // The tag and the value's distance of the union of a slot and the next, `None` where there is no union.
@@ -144,7 +158,7 @@ impl<'buf> Table<'buf> {
         ensures none { IfOk result (λ found. IfNone found (UnionAbsent self.now slot)) }
         ensures error { IfErr result (λ e. UnionBroken self.now slot e) }
     {
-        if !self.has_both_slots(slot) {
+        let Some((tag_offset, value_offset)) = self.both_slots(slot) else {
             let length = self.vtable.len();
             if slot >= length || length <= 2 * slot {
                 return Ok(None);
@@ -152,10 +166,8 @@ impl<'buf> Table<'buf> {
             return Err(ErrorKind::InvalidVtableLength {
                 length: length as u16 + 4,
             });
-        }
-        let tag_offset = self.slot(slot);
+        };
         let tag = <u8 as TableRead<'buf>>::from_buffer(self.object, tag_offset)?;
-        let value_offset = self.slot(slot + 1);
         if tag == 0 || tag_offset == 0 || value_offset == 0 {
             return Ok(None);
         }
@@ -166,14 +178,10 @@ impl<'buf> Table<'buf> {
     fn union_field<T: TableReadUnion<'buf>>(&self, slot: usize) -> Result<Option<T>, ErrorKind>
         ensures { UnionAnswer T.reads self.now slot result }
     {
-        match self.union_at(slot) {
-            Ok(Some((tag, offset))) => match T::from_buffer(self.object, tag, offset) {
-                Ok(value) => Ok(Some(value)),
-                Err(kind) => Err(kind),
-            },
-            Ok(None) => Ok(None),
-            Err(kind) => Err(kind),
-        }
+        let Some((tag, offset)) = self.union_at(slot)? else {
+            return Ok(None);
+        };
+        Ok(Some(T::from_buffer(self.object, tag, offset)?))
     }
 
     // The vector of unions of a slot and the next, its error without a location.
@@ -183,21 +191,16 @@ impl<'buf> Table<'buf> {
     ) -> Result<Option<T>, ErrorKind>
         ensures { UnionVectorAnswer T.reads self.now slot result }
     {
-        if !self.has_both_slots(slot) {
+        let Some((tags, values)) = self.both_slots(slot) else {
             return Ok(None);
-        }
-        let tags = self.slot(slot);
-        let values = self.slot(slot + 1);
+        };
         if tags == 0 && values == 0 {
             return Ok(None);
         }
         if tags == 0 || values == 0 {
             return Err(ErrorKind::InvalidOffset);
         }
-        match T::from_buffer(self.object, tags, values) {
-            Ok(value) => Ok(Some(value)),
-            Err(kind) => Err(kind),
-        }
+        Ok(Some(T::from_buffer(self.object, tags, values)?))
     }
 
     fn access_in<'n, T: TableRead<'buf>>(
@@ -208,14 +211,12 @@ impl<'buf> Table<'buf> {
     ) -> Result<Option<T>, Error<'n>>
         ensures { Located (FieldAnswer T.reads self.now slot) type_.now method.now (table_start self.now) result }
     {
-        match self.field::<T>(slot) {
-            Ok(value) => Ok(value),
-            Err(kind) => Err(self.error(kind, type_, method)),
-        }
+        let answer = self.field::<T>(slot);
+        self.located(answer, type_, method)
     }
 
     /// The field of a slot, `None` where it is absent. Slots count from 0; one past the vtable is absent.
-    /// Every error has the location of this table under these names.
+    /// The errors are those of `T`. Every error has the location of this table under these names.
     pub fn access<T: TableRead<'buf>>(
         &self,
         slot: usize,
@@ -235,14 +236,11 @@ impl<'buf> Table<'buf> {
     ) -> Result<T, Error<'n>>
         ensures { Located (Required (FieldAnswer T.reads self.now slot)) type_.now method.now (table_start self.now) result }
     {
-        match self.field::<T>(slot) {
-            Ok(Some(field)) => Ok(field),
-            Ok(None) => Err(self.missing(type_, method)),
-            Err(kind) => Err(self.error(kind, type_, method)),
-        }
+        let answer = required(self.field::<T>(slot));
+        self.located(answer, type_, method)
     }
 
-    /// As [`Table::access`], and [`ErrorKind::MissingRequired`] in place of `None`.
+    /// As [`Table::access`], with [`ErrorKind::MissingRequired`] in place of `None`, and the errors of `T`.
     pub fn access_required<T: TableRead<'buf>>(
         &self,
         slot: usize,
@@ -262,15 +260,13 @@ impl<'buf> Table<'buf> {
     ) -> Result<Option<T>, Error<'n>>
         ensures { Located (UnionAnswer T.reads self.now slot) type_.now method.now (table_start self.now) result }
     {
-        match self.union_field::<T>(slot) {
-            Ok(value) => Ok(value),
-            Err(kind) => Err(self.error(kind, type_, method)),
-        }
+        let answer = self.union_field::<T>(slot);
+        self.located(answer, type_, method)
     }
 
     /// The union whose tag stands in a slot and whose value in the next, `None` where the tag or a slot is 0 or the vtable ends before.
     /// The tag is read first, also at a slot that holds 0: [`ErrorKind::InvalidOffset`] where it isn't in the buffer.
-    /// [`ErrorKind::InvalidVtableLength`] where the vtable ends between the two slots.
+    /// [`ErrorKind::InvalidVtableLength`] where the vtable ends between the two slots. And the errors of `T`.
     /// Every error has the location of this table under these names.
     pub fn access_union<T: TableReadUnion<'buf>>(
         &self,
@@ -291,14 +287,11 @@ impl<'buf> Table<'buf> {
     ) -> Result<T, Error<'n>>
         ensures { Located (Required (UnionAnswer T.reads self.now slot)) type_.now method.now (table_start self.now) result }
     {
-        match self.union_field::<T>(slot) {
-            Ok(Some(union)) => Ok(union),
-            Ok(None) => Err(self.missing(type_, method)),
-            Err(kind) => Err(self.error(kind, type_, method)),
-        }
+        let answer = required(self.union_field::<T>(slot));
+        self.located(answer, type_, method)
     }
 
-    /// As [`Table::access_union`], and [`ErrorKind::MissingRequired`] in place of `None`.
+    /// As [`Table::access_union`], with [`ErrorKind::MissingRequired`] in place of `None`, and the errors of `T`.
     pub fn access_union_required<T: TableReadUnion<'buf>>(
         &self,
         slot: usize,
@@ -318,15 +311,13 @@ impl<'buf> Table<'buf> {
     ) -> Result<Option<T>, Error<'n>>
         ensures { Located (UnionVectorAnswer T.reads self.now slot) type_.now method.now (table_start self.now) result }
     {
-        match self.union_vector_field::<T>(slot) {
-            Ok(value) => Ok(value),
-            Err(kind) => Err(self.error(kind, type_, method)),
-        }
+        let answer = self.union_vector_field::<T>(slot);
+        self.located(answer, type_, method)
     }
 
     /// The vector of unions whose tags stand in a slot and whose values in the next, `None` where both slots are 0 or don't both lie in
     /// the vtable.
-    /// [`ErrorKind::InvalidOffset`] where exactly one of them is 0.
+    /// [`ErrorKind::InvalidOffset`] where exactly one of them is 0. And the errors of `T`.
     /// Every error has the location of this table under these names.
     pub fn access_union_vector<T: TableReadUnionVector<'buf>>(
         &self,
@@ -347,14 +338,11 @@ impl<'buf> Table<'buf> {
     ) -> Result<T, Error<'n>>
         ensures { Located (Required (UnionVectorAnswer T.reads self.now slot)) type_.now method.now (table_start self.now) result }
     {
-        match self.union_vector_field::<T>(slot) {
-            Ok(Some(vector)) => Ok(vector),
-            Ok(None) => Err(self.missing(type_, method)),
-            Err(kind) => Err(self.error(kind, type_, method)),
-        }
+        let answer = required(self.union_vector_field::<T>(slot));
+        self.located(answer, type_, method)
     }
 
-    /// As [`Table::access_union_vector`], and [`ErrorKind::MissingRequired`] in place of `None`.
+    /// As [`Table::access_union_vector`], with [`ErrorKind::MissingRequired`] in place of `None`, and the errors of `T`.
     pub fn access_union_vector_required<T: TableReadUnionVector<'buf>>(
         &self,
         slot: usize,

@@ -1,7 +1,6 @@
 //! Byte lists as fields of tables.
 
-ghost use Rattle.std.specs.Prelude.{◌≡◌, ◌==◌, ◌<◌, length, MatchOption, slice_index};
-ghost use Rattle.std.specs.Int.{w8, cast_signed};
+ghost use Rattle.std.specs.Prelude.{◌≡◌, ◌==◌, length};
 ghost use Rattle.planus_read.specs.Clauses.{Answer};
 ghost use Rattle.planus_read.specs.Reading.{ByteListThere, byte_list_clauses};
 
@@ -28,7 +27,8 @@ impl<'buf> TableRead<'buf> for &'buf [u8] {
     }
 }
 
-/// A list of signed bytes.
+/// A list of signed bytes. In the format it is a byte list, a vector of bytes with no zero byte behind it; each byte is read in two's
+/// complement.
 #[derive(Clone, Copy, Debug)]
 pub struct SignedBytes<'buf> {
     bytes: &'buf [u8],
@@ -67,7 +67,7 @@ impl<'buf> SignedBytes<'buf> {
     pub fn as_bytes(&self) -> &'buf [u8]
         ensures { result.now ≡ signed_bytes self.now }
     {
-        self.bytes // as they stand
+        self.bytes
     }
 }
 

@@ -18,6 +18,7 @@ use crate::slice_helpers::SliceWithStartOffset;
 pub use byte_slice::SignedBytes;
 
 // The number of 4 bytes at the offset.
+#[inline]
 pub(crate) fn u32_at(buffer: SliceWithStartOffset<'_>, offset: usize) -> Result<u32, ErrorKind>
     ensures value { IfOk result (λ n. n ≡ number (slice_bytes buffer.entry) offset w32) }
     ensures inside { IfOk result (λ _. offset + byte_len w32 ≤ length (slice_bytes buffer.entry)) }
@@ -28,6 +29,7 @@ pub(crate) fn u32_at(buffer: SliceWithStartOffset<'_>, offset: usize) -> Result<
 }
 
 // The number of 2 bytes at the offset.
+#[inline]
 pub(crate) fn u16_at(buffer: SliceWithStartOffset<'_>, offset: usize) -> Result<u16, ErrorKind>
     ensures value { IfOk result (λ n. n ≡ number (slice_bytes buffer.entry) offset w16) }
     ensures inside { IfOk result (λ _. offset + byte_len w16 ≤ length (slice_bytes buffer.entry)) }
@@ -38,6 +40,7 @@ pub(crate) fn u16_at(buffer: SliceWithStartOffset<'_>, offset: usize) -> Result<
 }
 
 // The signed number of 4 bytes at the offset.
+#[inline]
 pub(crate) fn i32_at(buffer: SliceWithStartOffset<'_>, offset: usize) -> Result<i32, ErrorKind>
     ensures value { IfOk result (λ n. n ≡ signed_number (slice_bytes buffer.entry) offset) }
     ensures inside { IfOk result (λ _. offset + byte_len w32 ≤ length (slice_bytes buffer.entry)) }
@@ -47,8 +50,9 @@ pub(crate) fn i32_at(buffer: SliceWithStartOffset<'_>, offset: usize) -> Result<
     Ok(i32::from_le_bytes(*bytes.as_array()))
 }
 
-/// The items of the vector to which the reference at the offset leads, up to the end of the piece, and their count. Nothing is tested
-/// of the items themselves. [`ErrorKind::InvalidOffset`] where the reference, what it leads to or the count doesn't lie in the piece.
+/// The bytes of the piece from the first item on of the vector to which the reference at the offset leads, and the number of its items.
+/// Nothing is tested of the items themselves. [`ErrorKind::InvalidOffset`] where the reference, what it leads to or the count doesn't
+/// lie in the piece.
 pub fn array_from_buffer<'buf>(
     buffer: SliceWithStartOffset<'buf>,
     offset: usize,

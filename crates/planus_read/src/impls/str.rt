@@ -1,6 +1,6 @@
 //! Texts as fields of tables and as items of vectors.
 
-ghost use Rattle.std.specs.Prelude.{◌≡◌, ◌<◌, length, take, slice_index, IfOk, IfErr, codes};
+ghost use Rattle.std.specs.Prelude.{◌≡◌, IfOk, IfErr, codes};
 ghost use Rattle.std.proofs.Common.{lit≤};
 ghost use Rattle.planus_read.specs.Located.{Located};
 ghost use Rattle.planus_read.specs.Clauses.{Answer, FirstBroken};
@@ -13,20 +13,15 @@ use crate::slice_helpers::SliceWithStartOffset;
 use crate::traits::{ReadError, Stride, TableRead, VectorReadInner};
 
 // The text of the first count items, with a zero byte behind it.
+#[inline]
 fn text_of(items: &[u8], count: usize) -> Result<&str, ErrorKind>
     ensures text { IfOk result (λ text. IsTextOf items.now count text.now) }
     ensures error { IfErr result (λ e. FirstBroken (text_of_clauses items.now count) e) }
 {
-    if count >= items.len() {
+    if count >= items.len() || items[count] != 0 {
         return Err(ErrorKind::MissingNullTerminator);
     }
-    if items[count] != 0 {
-        return Err(ErrorKind::MissingNullTerminator);
-    }
-    match std::str::from_utf8(&items[..count]) {
-        Ok(text) => Ok(text),
-        Err(source) => Err(ErrorKind::InvalidUtf8 { source }),
-    }
+    Ok(std::str::from_utf8(&items[..count])?)
 }
 
 impl<'buf> TableRead<'buf> for &'buf str {
