@@ -1,9 +1,8 @@
 -- A list that stands is read with its items.
-use Rattle.std.proofs.Common.{◌≡◌, ℕ, ◌+◌, ◌*◌, ◌≤◌, List, [], ◌∷◌, length, map, drop, refl, sym, ap, subst, ◌∙◌, arith, Some, length-drop}
+use Rattle.std.proofs.Common.{◌≡◌, ℕ, ◌+◌, ◌*◌, ◌≤◌, List, [], ◌∷◌, length, map, drop, refl, subst, arith, length-drop}
 use Rattle.std.proofs.Math.Nat.{suc-mul}
 use Rattle.std.proofs.lemmas.List.{length-map}
 use Rattle.std.specs.Int.{w32, byte_len}
-use Rattle.planus_read.specs.Bytes.{Num}
 use Rattle.planus_read.specs.Stands.{ReferenceStands, PlainStands, ItemsStand, ListStands}
 use Rattle.planus_read.specs.Reading.{Leads, VectorThere}
 use Rattle.planus_read.specs.ListReading.{PlainListsRead, ReferenceListsRead, UnionListsRead}

@@ -16,7 +16,7 @@ use Rattle.planus_read.specs.Heads.{IsHead, IsTextOf, text_of_clauses}
 use Rattle.planus_read.specs.Reading.{number, number_clauses, Leads, target, head_clauses, count_at, items_at, HeadThere, TextThere, ZeroByte, text_clauses, ByteListThere, byte_list_clauses, VectorThere, vector_clauses, UnionVectorThere, union_vector_clauses, TableThere, signed_number, vtable_at, vtable_size_at, object_clauses, table_clauses, slots_of}
 use Rattle.planus_read.specs.Tables.{IsTable, table_object, table_start, table_slots}
 use Rattle.planus_read.specs.declared.table_reader.Table.{Table}
-use Rattle.planus_read.specs.ReadingLaws.{NumberLaw, SignedLaw, TruthLaw, HeadLaw, TextLaw, ByteListLaw, VectorLaw, UnionVectorLaw, TableLaw, OneHead, OneText, OneByteList, OneVector, OneUnionVector, OneTable, NoNumber, NoSigned, NoTruth, NoHead, NoText, NoByteList, NoVector, NoUnionVector, NoTable}
+use Rattle.planus_read.specs.ReadingLaws.{NumberLaw, SignedLaw, TruthLaw, HeadLaw, TextLaw, ByteListLaw, VectorLaw, UnionVectorLaw, TableLaw, OneNumber, OneSigned, OneTruth, OneHead, OneText, OneByteList, OneVector, OneUnionVector, OneTable, NoNumber, NoSigned, NoTruth, NoHead, NoText, NoByteList, NoVector, NoUnionVector, NoTable}
 use Rattle.planus_read.proofs.Parts.{parts_stand, whole_stands}
 
 chosen : (b : Bool) (x n : ℕ) → (if b then Some x else None) ≡ Some n → (b ≡ true) × (n ≡ x)
@@ -334,6 +334,18 @@ union_vector_law S f g =
 pub table_law : TableLaw
 table_law S f =
     ((λ h. (target S f, vtable_at S (target S f), vtable_size_at S (target S f), table_there S f h)), λ t. (table_holds S f t.0 t.1 t.2 t.3).0)
+
+same_some : {A : Type 0} (m : Option A) (x y : A) → m ≡ Some x → m ≡ Some y → x ≡ y
+same_some m x y h k = let e : Some x ≡ Some y = sym h ∙ k in cc
+
+pub one_number : OneNumber
+one_number S f width x y h k = same_some (Num S f width) x y h k
+
+pub one_signed : OneSigned
+one_signed S f width x y h k = same_some (option_map (cast_signed width) (Num S f width)) x y h k
+
+pub one_truth : OneTruth
+one_truth S f x y h k = same_some (option_map (λ n. not (n == 0)) (Num S f w8)) x y h k
 
 pub one_head : OneHead
 one_head S f p c p' c' h k =

@@ -144,16 +144,16 @@ abbrev pub table_clauses : List ℕ → ℕ → List Clause
 table_clauses S f =
     number_clause S f w32 ∷ clause (target S f ≤ length S) InvalidOffset ∷ object_clauses S (target S f)
 
--- a number of this width
+-- a number of this width at f
 abbrev pub NumberThere : List ℕ → ℕ → Width → ℕ → Type 0
 NumberThere S f width x = Num S f width ≡ Some x
 
--- a signed number of this width
+-- a signed number of this width at f
 -- The format: signed numbers are two's complement.
 abbrev pub SignedThere : List ℕ → ℕ → Width → ℤ → Type 0
 SignedThere S f width x = option_map (cast_signed width) (Num S f width) ≡ Some x
 
--- a truth value
+-- a truth value at f
 -- The format: a truth value is one byte, true where it isn't 0.
 abbrev pub TruthThere : List ℕ → ℕ → Bool → Type 0
 TruthThere S f x = option_map (λ n. not (n == 0)) (Num S f w8) ≡ Some x

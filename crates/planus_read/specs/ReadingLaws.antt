@@ -38,6 +38,15 @@ TableLaw =
     (S : List ℕ) (f : ℕ) → AllHold (table_clauses S f) ↔ ((object : ℕ) × (vtable : ℕ) × (size : ℕ) × TableThere S f object vtable size)
 
 -- At most one value stands at a field.
+abbrev pub OneNumber : Type 0
+OneNumber = (S : List ℕ) (f : ℕ) (width : Width) (x y : ℕ) → NumberThere S f width x → NumberThere S f width y → x ≡ y
+
+abbrev pub OneSigned : Type 0
+OneSigned = (S : List ℕ) (f : ℕ) (width : Width) (x y : ℤ) → SignedThere S f width x → SignedThere S f width y → x ≡ y
+
+abbrev pub OneTruth : Type 0
+OneTruth = (S : List ℕ) (f : ℕ) (x y : Bool) → TruthThere S f x → TruthThere S f y → x ≡ y
+
 abbrev pub OneHead : Type 0
 OneHead =
     (S : List ℕ) (f position count position' count' : ℕ) → HeadThere S f position count → HeadThere S f position' count'

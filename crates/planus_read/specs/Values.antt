@@ -16,6 +16,7 @@ pub data Field : Type 0 where
   tags : ℕ → Field
   values : ℕ → Field
 
+-- one value
 pub data Value : Type 0 where
   text : List ℕ → Value
   byte_list : List ℕ → Value

@@ -6,59 +6,60 @@ use crate::located;
 use std::fmt;
 use std::str::Utf8Error;
 
-/// The main error type: what went wrong and where.
+/// The error of a read: what is wrong with the bytes, and where it was met.
 pub type Error = located::Error<'static>;
 
-/// The location of an error, in the code that read and in the bytes that were read.
+/// Where an error was met: the names of the type and the method that read, and the offset in the buffer.
 pub type ErrorLocation = located::ErrorLocation<'static>;
 
-/// An unrecognized enum tag, and where.
+/// A value that its enum doesn't have, and where it was met.
 pub type UnknownEnumTag = located::UnknownEnumTag<'static>;
 
-/// The possible errors when data is read from a serialized buffer.
+/// What can be wrong with bytes that are read.
 #[derive(Clone, Copy, Debug)]
 pub enum ErrorKind {
-    /// An offset leads out of the buffer, or a number doesn't lie wholly in it.
+    /// A reference leads past the end of the piece that is read, a number doesn't lie wholly in it, or a table's vtable would begin in
+    /// front of it. Also where exactly one of the two slots of a vector of unions holds 0.
     InvalidOffset,
-    /// The buffer is too short for a length that stands in it.
+    /// The items of a vector, or the slots of a vtable, reach past the end of the piece that is read.
     InvalidLength,
-    /// The two vectors of a vector of unions have different lengths.
+    /// The two parts of a vector of unions have different counts.
     UnionVectorLengthsMismatched {
-        /// The length of the tags.
+        /// The number of tags, in items.
         tags_len: usize,
-        /// The length of the values.
+        /// The number of references to values, in items.
         values_len: usize,
     },
-    /// An enum has an unknown value. For forward compatibility this should be handled gracefully.
+    /// A value that its enum doesn't have. A writer by a later schema may have put it there, so it needn't be damage.
     UnknownEnumTag {
-        /// The value.
+        /// The value that was read.
         source: UnknownEnumTagKind,
     },
-    /// A union has an unknown variant. For forward compatibility this should be handled gracefully.
+    /// A tag that its union doesn't have. As of an enum's value, that needn't be damage.
     UnknownUnionTag {
-        /// The tag.
+        /// The tag that was read.
         tag: u8,
     },
-    /// A vtable has a length that is odd, below 4, or too short for both slots of a union.
+    /// A vtable's size is odd or below 4, or the vtable ends between the two slots of a union.
     InvalidVtableLength {
-        /// The length in bytes.
+        /// The size in bytes, with the vtable's own first 4 bytes.
         length: u16,
     },
-    /// A text isn't UTF-8.
+    /// The bytes of a text aren't UTF-8.
     InvalidUtf8 {
-        /// The fault that the text has.
+        /// The first fault in these bytes.
         source: Utf8Error,
     },
-    /// A required field is absent.
+    /// A field that its table must have is absent.
     MissingRequired,
-    /// No zero byte stands behind a text.
+    /// A text isn't followed by a zero byte in the piece that is read.
     MissingNullTerminator,
 }
 
-/// The value of an unknown enum tag.
+/// A value that its enum doesn't have.
 #[derive(Clone, Copy, Debug)]
 pub struct UnknownEnumTagKind {
-    /// The unknown tag.
+    /// The value that was read.
     pub tag: i128,
 }
 

@@ -1,7 +1,7 @@
 //! Laws over where values stand and what readers answer. Each function is a theorem; its body is empty.
 
 ghost use Rattle.planus_read.specs.ListReading.{PlainListsRead, ReferenceListsRead, UnionListsRead};
-ghost use Rattle.planus_read.specs.ReadingLaws.{NumberLaw, SignedLaw, TruthLaw, HeadLaw, TextLaw, ByteListLaw, VectorLaw, UnionVectorLaw, TableLaw, OneHead, OneText, OneByteList, OneVector, OneUnionVector, OneTable, NoNumber, NoSigned, NoTruth, NoHead, NoText, NoByteList, NoVector, NoUnionVector, NoTable};
+ghost use Rattle.planus_read.specs.ReadingLaws.{NumberLaw, SignedLaw, TruthLaw, HeadLaw, TextLaw, ByteListLaw, VectorLaw, UnionVectorLaw, TableLaw, OneNumber, OneSigned, OneTruth, OneHead, OneText, OneByteList, OneVector, OneUnionVector, OneTable, NoNumber, NoSigned, NoTruth, NoHead, NoText, NoByteList, NoVector, NoUnionVector, NoTable};
 ghost use Rattle.planus_read.specs.TableReading.{TablesRead};
 ghost use Rattle.planus_read.specs.Moves.{KeepsStanding, KeepsLeading, StandsAlone, LeadsAlone};
 
@@ -34,6 +34,9 @@ pub fn clauses_hold_where_values_stand()
 
 /// At most one value of a kind stands at a field. So a reader's value is determined.
 pub fn one_value_stands()
+    ensures number { OneNumber }
+    ensures signed { OneSigned }
+    ensures truth { OneTruth }
     ensures head { OneHead }
     ensures text { OneText }
     ensures byte_list { OneByteList }

@@ -23,9 +23,9 @@ pub use traits::{
     VectorRead, VectorReadInner, VectorReadUnion,
 };
 
-/// The result of a read.
+/// The result of a read that names its location.
 pub type Result<T> = std::result::Result<T, Error>;
 
-/// A type that has no value.
+/// A type that has no value. It stands for what is prepared of a field that is always left out.
 #[derive(Clone, Copy)]
 pub enum Void {}

@@ -4,32 +4,33 @@
 use crate::errors::{ErrorKind, UnknownEnumTagKind};
 use std::fmt;
 
-/// The main error type: what went wrong and where.
+/// The error of a read: what is wrong with the bytes, and where it was met.
 #[derive(Clone, Copy, Debug)]
 pub struct Error<'n> {
-    /// The location of the error.
+    /// Where the error was met.
     pub source_location: ErrorLocation<'n>,
-    /// The kind of error.
+    /// What is wrong.
     pub error_kind: ErrorKind,
 }
 
-/// The location of an error, in the code that read and in the bytes that were read.
+/// Where an error was met: the names of the type and the method that read, and the offset in the buffer.
 #[derive(Clone, Copy, Debug)]
 pub struct ErrorLocation<'n> {
     /// The name of the type that was read.
     pub type_: &'n str,
     /// The name of the method that read it.
     pub method: &'n str,
-    /// The offset in bytes from the start of the buffer, `usize::MAX` where there is none.
+    /// The offset in bytes from the buffer's start, `usize::MAX` where there is none. Of a table's field it is that of the table's first
+    /// byte; of an item it is the start of the piece that holds the vector's items.
     pub byte_offset: usize,
 }
 
-/// An unrecognized enum tag, and where. For forward compatibility it should be handled gracefully.
+/// A value that its enum doesn't have, and where it was met. A writer by a later schema may have put it there.
 #[derive(Clone, Debug, Drop)]
 pub struct UnknownEnumTag<'n> {
-    /// The location of the unknown tag.
+    /// Where the value was met.
     pub source_location: ErrorLocation<'n>,
-    /// The unknown tag.
+    /// The value that was read.
     pub error_kind: UnknownEnumTagKind,
 }
 

@@ -8,14 +8,15 @@ use crate::errors::ErrorKind;
 use crate::slice_helpers::SliceWithStartOffset;
 use crate::traits::{Stride, TableRead, TableReadUnion, VectorName, VectorRead};
 
-/// A field's place: a piece of a buffer and an offset in it. How it is read is chosen later; until then nothing is tested.
+/// The place of a field, or of an item of 4 bytes as a reference is: a piece of a buffer and an offset in it. How it is read is chosen
+/// later; until then nothing is tested.
 #[derive(Clone, Copy, Debug)]
 pub struct Place<'buf> {
     buffer: SliceWithStartOffset<'buf>,
     offset: usize,
 }
 
-/// A union's tag and its value's place.
+/// A union's tag, 0 for none, and the place of the reference to its value. Neither is tested.
 #[derive(Clone, Copy, Debug)]
 pub struct TaggedPlace<'buf> {
     tag: u8,

@@ -10,22 +10,31 @@ use crate::errors::ErrorKind;
 use crate::slice_helpers::SliceWithStartOffset;
 use crate::{Result, located};
 
-/// What can be read as the root of a buffer.
+/// What can be read as the root of a buffer. In the format the first 4 bytes of a buffer are a reference to its root.
 pub trait ReadAsRoot<'a>: Sized {
     /// What the whole bytes of a buffer may be answered with.
     ghost reads_root: { List ℕ → std_result Self Error → Type 0 };
 
-    /// The view of the root of these bytes, the whole bytes of a buffer.
+    /// The view of the root of these bytes, the whole bytes of a buffer. Which errors come is the type's own.
     fn read_as_root(slice: &'a [u8]) -> Result<Self>
         ensures { reads_root slice.entry.now result };
 }
 
-/// What can be read as a field of a table.
+/// What can be read as a field of a table. The errors of the types of this library:
+///
+/// | Type | Errors |
+/// |---|---|
+/// | `u8` to `u64`, `i8` to `i64`, `bool` | [`ErrorKind::InvalidOffset`] where its bytes don't all lie in the piece |
+/// | `&str` | [`ErrorKind::InvalidOffset`] where the reference, what it leads to or the count doesn't lie in the piece; [`ErrorKind::MissingNullTerminator`] where no zero byte follows the text, or the text passes the end; [`ErrorKind::InvalidUtf8`] where its bytes aren't UTF-8 |
+/// | `&[u8]`, [`crate::SignedBytes`] | [`ErrorKind::InvalidOffset`] as of a text; [`ErrorKind::InvalidLength`] where the bytes pass the end |
+/// | [`crate::table_reader::Table`] | [`ErrorKind::InvalidOffset`], [`ErrorKind::InvalidVtableLength`] and [`ErrorKind::InvalidLength`], as its own `from_buffer` says |
+/// | [`crate::Place`] | none |
 pub trait TableRead<'buf>: Sized {
     /// What a piece with these bytes and this start may be answered with at this offset.
     ghost reads: { List ℕ → ℕ → ℕ → std_result Self ErrorKind → Type 0 };
 
-    /// The value of the field that stands at the offset, in bytes from the start of the piece.
+    /// The value of the field that stands at the offset, in bytes from the start of the piece, or the error of the first thing that is
+    /// wrong there.
     fn from_buffer(
         buffer: SliceWithStartOffset<'buf>,
         offset: usize,
@@ -33,7 +42,8 @@ pub trait TableRead<'buf>: Sized {
         ensures { reads (slice_bytes buffer.entry) (slice_start buffer.entry) offset result };
 }
 
-/// What can be read as a union field of a table.
+/// What can be read as a union field of a table. Its errors are those of the variants' own reads, and
+/// [`ErrorKind::UnknownUnionTag`] for a tag that a type doesn't have; [`crate::TaggedPlace`] takes every tag and has no error.
 pub trait TableReadUnion<'buf>: Sized {
     /// What a piece with these bytes and this start may be answered with for this tag at this offset.
     ghost reads: { List ℕ → ℕ → ℕ → ℕ → std_result Self ErrorKind → Type 0 };
@@ -47,7 +57,8 @@ pub trait TableReadUnion<'buf>: Sized {
         ensures { reads (slice_bytes buffer.entry) (slice_start buffer.entry) tag offset result };
 }
 
-/// What can be read as a field of a table that is a vector of unions.
+/// What can be read as a field of a table that is a vector of unions. In the format that is two vectors of equal count, tags of one byte
+/// and references. Which errors come is the type's own.
 pub trait TableReadUnionVector<'buf>: Sized {
     /// What a piece with these bytes and this start may be answered with at these two offsets.
     ghost reads: { List ℕ → ℕ → ℕ → ℕ → std_result Self ErrorKind → Type 0 };
@@ -74,7 +85,8 @@ pub trait Stride: Sized {
     ghost is_positive: { 1 ≤ STRIDE };
 }
 
-/// What can be read as an item of a vector.
+/// What can be read as an item of a vector. Its bytes are there, so a number or a truth value has no error; `Result` has that of the
+/// [`VectorReadInner`] which it wraps, converted.
 pub trait VectorRead<'buf>: Stride {
     /// Which item a piece with these bytes and this start gives at this offset.
     ghost gives: { List ℕ → ℕ → ℕ → Self → Type 0 };
@@ -91,7 +103,8 @@ pub trait ReadError {
     type Error;
 }
 
-/// What can be read as an item of a vector, and may fail.
+/// What can be read as an item of a vector, and may fail. An item `&str` has the errors of a field `&str`, at the start of the piece
+/// under the names `[str]` and `get`.
 pub trait VectorReadInner<'buf>: Stride + ReadError {
     /// What a piece with these bytes and this start may be answered with at this offset.
     ghost gives: { List ℕ → ℕ → ℕ → std_result Self Self.Error → Type 0 };
@@ -118,8 +131,8 @@ pub trait VectorName {
 
 /// What can be read as an item of a vector of unions: each union field with a [`VectorName`].
 pub trait VectorReadUnion<'buf>: TableReadUnion<'buf> + VectorName {
-    /// The union with this tag whose reference stands at the offset, in bytes from the start of the piece. Its error has the location
-    /// of the piece under the vector's name and the method `get`.
+    /// The union with this tag whose reference stands at the offset, in bytes from the start of the piece. Its errors are those of the
+    /// [`TableReadUnion`], at the start of the piece under the vector's name and the method `get`.
     fn from_buffer(buffer: SliceWithStartOffset<'buf>, tag: u8, offset: usize) -> Result<Self>
         ensures { Located (Self.reads (slice_bytes buffer.entry) (slice_start buffer.entry) tag offset) Self.name (codes "get") (slice_start buffer.entry) result };
 }

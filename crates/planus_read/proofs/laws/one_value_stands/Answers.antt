@@ -1,6 +1,15 @@
 use Rattle.planus_read.proofs.Readers as readers
 use Rattle.planus_read.proofs.laws.one_value_stands.Goals as goal
 
+pub returns-clause-number : goal.returns-clause-number
+returns-clause-number c = readers.one_number
+
+pub returns-clause-signed : goal.returns-clause-signed
+returns-clause-signed c = readers.one_signed
+
+pub returns-clause-truth : goal.returns-clause-truth
+returns-clause-truth c = readers.one_truth
+
 pub returns-clause-head : goal.returns-clause-head
 returns-clause-head c = readers.one_head
 
