@@ -4,7 +4,7 @@ mod plain_reader;
 mod rows;
 mod traits;
 
-use crate::{laws, plain, worked_rows};
+use crate::plain;
 use plain_reader::{FAR_SLOTS, SLOTS, fields_agree, numbers_agree};
 
 const WEAPON: [u8; 32] = [
@@ -19,20 +19,6 @@ const UNIONS: [u8; 78] = [
     17, 0, 16, 0, 4, 0, 8, 0, 12, 0, 2, 0, 0, 0, b'H', b'i', 0, 0, 2, 0, 0, 0, 1, 2, 0, 0, 2, 0, 0,
     0, 16, 0, 0, 0, 4, 0, 0, 0, 1, 0, 0, 0, b'B', 0, 0, 0, 1, 0, 0, 0, b'A', 0,
 ];
-
-#[test]
-fn theorems_have_no_code() {
-    laws::keeps_standing();
-    laws::stands_alone();
-    laws::clauses_hold_where_values_stand();
-    laws::one_value_stands();
-    laws::tables_are_read();
-    worked_rows::text_axe();
-    worked_rows::u64_list();
-    worked_rows::weapon();
-    worked_rows::union_vector();
-    worked_rows::u16_table();
-}
 
 #[test]
 fn plain_programs_read_the_weapon(rt: HostRuntime) {
