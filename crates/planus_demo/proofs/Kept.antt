@@ -215,6 +215,7 @@ module _ (all done : List Command) (root distance : ℕ) (identifier : Option (L
         state = after;
         run = subst (λ steps. LeadsTo nothing_written steps after) (sym up_to) run;
         bytes = refl;
+        places = sym (values ∙ append-nil before.values);
         values = all_weaker (ValueKept all (done ++ finish root identifier ∷ []) after.written) (TextHolds all after.written.bytes)
             (value_holds all (done ++ finish root identifier ∷ []) after.written keep) before.values moved;
         leads = (distance, found, finishes_lead distance identifier before.written after.written inside placed);

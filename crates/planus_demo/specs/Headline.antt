@@ -39,8 +39,9 @@ pub record IsFewest (parts : List Part) (places : List ℕ) (bytes : List ℕ) :
   pub whole : (earlier : List ℕ) × (places ≡ earlier ++ length bytes ∷ [])
   pub least : (others : List ℕ) → IsPlacing parts others → NoneIsGreater places others
 
--- What is given by the finish of one step, to which the steps with it lead: every value that it lists holds in its bytes; the reference
--- at their front leads to the value of its root's step, and its identifier stands behind that; and its bytes are the fewest.
+-- What is given by the finish of one step, to which the steps with it lead: it lists every value since the last clear, and each holds in
+-- its bytes; the reference at their front leads to the value of its root's step, and its identifier stands behind that; and its bytes are
+-- the fewest.
 -- The format: a buffer begins with a reference to its root; four bytes that identify the file may follow.
 pub record FinishHolds (steps : List Command) (given : Finish) : Type 0 where
   pub number : ℕ
@@ -50,6 +51,7 @@ pub record FinishHolds (steps : List Command) (given : Finish) : Type 0 where
   pub state : State
   pub run : LeadsTo nothing_written (take (number + 1) steps) state
   pub bytes : given.bytes ≡ state.written.bytes
+  pub places : given.places ≡ state.values
   pub values : AllByRecursion (TextHolds steps given.bytes) given.places
   pub leads : (distance : ℕ) × Contains given.places (root, distance) × ReferenceStands given.bytes 0 distance
   pub identified : BytesStand given.bytes 4 (identifier_bytes identifier)
