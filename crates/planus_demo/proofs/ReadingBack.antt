@@ -1,5 +1,5 @@
 -- A text that stands reads back, over whichever slice of the bytes.
-use Rattle.std.proofs.Common.{◌≡◌, ℕ, ◌+◌, ◌-◌, ◌≤◌, List, ◌++◌, length, take, drop, refl, sym, ap, ◌∙◌, subst, arith, length-append, Some, None, Bool, true, false, ◌∷◌, [], Result, Ok, Err, inl, inr}
+use Rattle.std.proofs.Common.{◌≡◌, ℕ, ◌+◌, ◌-◌, ◌≤◌, List, ◌++◌, length, take, drop, refl, sym, ap, ◌∙◌, subst, arith, length-append, Some, None, Bool, true, false}
 use Rattle.std.proofs.lemmas.List.{take-append-drop, length-take-le}
 use Rattle.std.proofs.lemmas.Bool.Decides.{nat_tests}
 use Rattle.std.specs.Prelude.{nat_le, if◌then◌else◌}
@@ -9,11 +9,8 @@ use Rattle.planus_read.specs.Bytes.{Num}
 use Rattle.planus_read.specs.Values as value
 use Rattle.planus_read.specs.Stands.{Stands, ReferenceStands, at}
 use Rattle.planus_read.proofs.Moves.{stands_alone, leads_alone}
-use Rattle.planus_read.specs.Clauses.{Clause, AllHold, FirstBroken, Answer}
-use Rattle.planus_read.specs.Reading.{TextThere, text_clauses}
-use Rattle.planus_read.specs.declared.errors.ErrorKind.{ErrorKind}
-use Rattle.planus_read.proofs.Readers.{text_law, one_text}
-use Rattle.planus_demo.specs.Headline.{IsRead, ReadsBack}
+use Rattle.planus_read.proofs.ReadingLaws.{lawful_text}
+use Rattle.planus_demo.specs.Headline.{ReadsBack}
 
 -- a number at f lies in the bytes
 num_inside : (B : List ℕ) (f n : ℕ) → Num B f w32 ≡ Some n → f + 4 ≤ length B
@@ -22,21 +19,6 @@ num_inside B f n h = by_test (nat_le (f + 4) (length B)) refl h
     by_test : (b : Bool) → nat_le (f + 4) (length B) ≡ b → (if b then Some (from_le_bytes w32 (take 4 (drop f B))) else None) ≡ Some n → f + 4 ≤ length B
     by_test true e k = grind (arith, nat_tests, e)
     by_test false e k = (cc)
-
-none_broken : (clauses : List Clause) (e : ErrorKind) → AllHold clauses → FirstBroken clauses e → ⊥
-none_broken [] e h broken = broken
-none_broken (first ∷ rest) e h broken = elim broken as (λ _. ⊥) [
-  | inl here ↦ here.0 h.0
-  | inr later ↦ none_broken rest e h.1 later.1
-]
-
--- a text that is there is the one answer
-is_read : (S : List ℕ) (f : ℕ) (content : List ℕ) → TextThere S f content → IsRead S f content
-is_read S f content there = record { there = there; answered = by_answer }
-  where
-    by_answer : (answer : Result (List ℕ) ErrorKind) → Answer (TextThere S f) (text_clauses S f) answer → answer ≡ Ok content
-    by_answer (Ok other) h = ap Ok (one_text S f other content h there)
-    by_answer (Err e) h = absurd (none_broken (text_clauses S f) e ((text_law S f).1 (content, there)) h)
 
 pub reads_back : (B : List ℕ) (k : ℕ) (content : List ℕ) → Stands B (at k) (value.text content) → IsUtf8 content → ReadsBack B k content
 reads_back B k content h utf8 start f le leads =
@@ -55,4 +37,4 @@ reads_back B k content h utf8 start f le leads =
     (subst (λ p. ReferenceStands B p (length B - k)) (let e : f ≡ length front + (f - start) = omega (arith, n, le) in e) (leads.0, leads.1, omega (arith, from, inside))) in
     let alone : ReferenceStands S (f - start) (length B - k) = leads_alone front S (f - start) (length B - k) leads_there in
     let same : f - start + alone.0 + (length B - k) ≡ length S = alone.2 in
-    is_read S (f - start) content (k - start, (alone.0, alone.1, omega (arith, same, total, n, from, le, inside)), stands_alone front S (at (k - start)) (value.text content) there, utf8)
+    (lawful_text S (f - start)).answered content (k - start, (alone.0, alone.1, omega (arith, same, total, n, from, le, inside)), stands_alone front S (at (k - start)) (value.text content) there, utf8)

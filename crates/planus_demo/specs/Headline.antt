@@ -1,5 +1,5 @@
 -- What is true of every finish of every run.
-use Rattle.std.specs.Prelude.{◌≡◌, ℕ, ◌+◌, ◌-◌, ◌≤◌, List, [], ◌∷◌, ◌++◌, length, take, drop, slice_get, Option, Some, Result, Ok}
+use Rattle.std.specs.Prelude.{◌≡◌, ℕ, ◌+◌, ◌-◌, ◌≤◌, List, [], ◌∷◌, ◌++◌, length, take, drop, slice_get, Option, Some}
 use Rattle.std.specs.List.{AllByRecursion, Contains}
 use Rattle.planus_back.specs.Parts.{Part}
 use Rattle.planus_back.specs.Placings.{IsPlacing, NoneIsGreater}
@@ -7,21 +7,15 @@ use Rattle.planus_read.specs.Bytes.{position_of, BytesStand}
 use Rattle.planus_read.specs.Values as value
 use Rattle.planus_read.specs.Stands.{Stands, ReferenceStands, at}
 use Rattle.planus_read.specs.Aligned.{AlignedAt}
-use Rattle.planus_read.specs.Reading.{Leads, TextThere, text_clauses}
-use Rattle.planus_read.specs.Clauses.{Answer}
-use Rattle.planus_read.specs.declared.errors.ErrorKind.{ErrorKind}
+use Rattle.planus_read.specs.Reading.{Leads, text_reading}
+use Rattle.planus_read.specs.ReadingLaws.{IsAnswered}
 use Rattle.planus_write.specs.Parts.{identifier_bytes}
 use Rattle.planus_demo.specs.Script.{Command, text, finish}
 use Rattle.planus_demo.specs.Runs.{Finish, State, nothing_written, LeadsTo}
 
--- The text is there for a reader, and is its only answer.
-pub record IsRead (S : List ℕ) (f : ℕ) (content : List ℕ) : Type 0 where
-  pub there : TextThere S f content
-  pub answered : (answer : Result (List ℕ) ErrorKind) → Answer (TextThere S f) (text_clauses S f) answer → answer ≡ Ok content
-
 -- Whichever reference leads to k, over whichever slice of the bytes that holds it, the text is what a reader answers.
 abbrev pub ReadsBack : List ℕ → ℕ → List ℕ → Type 0
-ReadsBack B k content = (start f : ℕ) → start ≤ f → Leads B f k → IsRead (drop start B) (f - start) content
+ReadsBack B k content = (start f : ℕ) → start ≤ f → Leads B f k → IsAnswered (text_reading (drop start B) (f - start)) content
 
 -- The text of a step stands aligned at its distance in the bytes, and reads back.
 pub record TextHolds (steps : List Command) (bytes : List ℕ) (place : ℕ × ℕ) : Type 0 where

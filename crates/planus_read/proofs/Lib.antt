@@ -1,6 +1,7 @@
 pub mod Moves
 pub mod Parts
 pub mod Readers
+pub mod ReadingLaws
 pub mod Walks
 pub mod TableReading
 pub mod ListReading

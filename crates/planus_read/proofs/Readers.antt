@@ -1,22 +1,21 @@
 -- The clauses of a reader hold exactly where its value side stands.
-use Rattle.std.proofs.Common.{◌≡◌, ℕ, ◌+◌, ◌*◌, ◌%◌, ◌≤◌, ◌<◌, ◌≤ℤ◌, ◌-ℤ◌, ℤ, pos, Bool, true, false, List, [], ◌∷◌, ◌++◌, length, take, drop, refl, sym, ap, subst, ◌∙◌, arith, nat_le, Option, Some, None, Result, Ok, Err, inl, inr, if◌then◌else◌, length-drop, IfOk, IfErr, get_or, le-leb, leb-true, unsigned_abs, not, ◌==◌, ◌↔◌}
+use Rattle.std.proofs.Common.{◌≡◌, ℕ, ◌+◌, ◌*◌, ◌%◌, ◌≤◌, ◌<◌, ◌≤ℤ◌, ◌-ℤ◌, ℤ, pos, Bool, true, false, List, [], ◌∷◌, ◌++◌, length, take, drop, refl, sym, ap, subst, ◌∙◌, arith, nat_le, Option, Some, None, Result, Ok, Err, inl, inr, if◌then◌else◌, length-drop, IfOk, IfErr, get_or, le-leb, leb-true, unsigned_abs}
 use Rattle.std.proofs.Math.Seq.{drop-cons}
 use Rattle.std.proofs.lemmas.List.{length-take, length-take-le, get_or-drop}
 use Rattle.std.proofs.lemmas.Int.{ints}
-use Rattle.std.specs.Int.{Width, w8, w16, w32, byte_len, cast_signed}
+use Rattle.std.specs.Int.{Width, w16, w32, byte_len, cast_signed}
 use Rattle.std.specs.Option.{option_map}
 use Rattle.std.specs.Str.{IsUtf8}
 use denote.Ref.{Bor}
 use Rattle.planus_read.specs.declared.errors.ErrorKind.{ErrorKind}
 use Rattle.planus_read.specs.declared.slice_helpers.SliceWithStartOffset.{SliceWithStartOffset}
 use Rattle.planus_read.specs.Bytes.{Num, Int, BytesStand}
-use Rattle.planus_read.specs.Clauses.{Clause, AllHold, FirstBroken, Answer}
+use Rattle.planus_read.specs.Clauses.{AllHold, FirstBroken, Answer, shown}
 use Rattle.planus_read.specs.Pieces.{slice_bytes}
-use Rattle.planus_read.specs.Heads.{IsHead, IsTextOf, text_of_clauses}
-use Rattle.planus_read.specs.Reading.{number, number_clauses, Leads, target, head_clauses, count_at, items_at, HeadThere, TextThere, ZeroByte, text_clauses, ByteListThere, byte_list_clauses, VectorThere, vector_clauses, UnionVectorThere, union_vector_clauses, TableThere, signed_number, vtable_at, vtable_size_at, object_clauses, table_clauses, slots_of}
-use Rattle.planus_read.specs.Tables.{IsTable, table_object, table_start, table_slots}
+use Rattle.planus_read.specs.Heads.{ShowsItems, IsTextOf, text_of_clauses}
+use Rattle.planus_read.specs.Reading.{number, Items, TablePlace, text_reading, table_reading, Leads, target, head_clauses, count_at, items_at, HeadThere, TextThere, ZeroByte, text_clauses, ByteListThere, byte_list_clauses, VectorThere, vector_clauses, UnionVectorThere, union_vector_clauses, TableThere, signed_number, vtable_at, vtable_size_at, object_clauses, table_clauses, slots_of}
+use Rattle.planus_read.specs.Tables.{ShowsTable, table_object, table_start, table_slots}
 use Rattle.planus_read.specs.declared.table_reader.Table.{Table}
-use Rattle.planus_read.specs.ReadingLaws.{NumberLaw, SignedLaw, TruthLaw, HeadLaw, TextLaw, ByteListLaw, VectorLaw, UnionVectorLaw, TableLaw, OneNumber, OneSigned, OneTruth, OneHead, OneText, OneByteList, OneVector, OneUnionVector, OneTable, NoNumber, NoSigned, NoTruth, NoHead, NoText, NoByteList, NoVector, NoUnionVector, NoTable}
 use Rattle.planus_read.proofs.Parts.{parts_stand, whole_stands}
 
 chosen : (b : Bool) (x n : ℕ) → (if b then Some x else None) ≡ Some n → (b ≡ true) × (n ≡ x)
@@ -48,14 +47,14 @@ pub head_there : (S : List ℕ) (f : ℕ) → f + byte_len w32 ≤ length S → 
 head_there S f reference word =
     record { begin = target S f; reference = leads_there S f reference; word = num_there S (target S f) w32 word; behind = refl }
 
-record HeadFacts (S : List ℕ) (f position count : ℕ) : Type 0 where
-  reference : f + byte_len w32 ≤ length S
-  inside : target S f ≤ length S
-  word : target S f + byte_len w32 ≤ length S
-  position_is : position ≡ items_at S f
-  count_is : count ≡ count_at S f
+pub record HeadFacts (S : List ℕ) (f position count : ℕ) : Type 0 where
+  pub reference : f + byte_len w32 ≤ length S
+  pub inside : target S f ≤ length S
+  pub word : target S f + byte_len w32 ≤ length S
+  pub position_is : position ≡ items_at S f
+  pub count_is : count ≡ count_at S f
 
-head_facts : (S : List ℕ) (f position count : ℕ) → HeadThere S f position count → HeadFacts S f position count
+pub head_facts : (S : List ℕ) (f position count : ℕ) → HeadThere S f position count → HeadFacts S f position count
 head_facts S f position count h =
     let to : h.begin ≡ target S f = leads_to S f h.begin h.reference in
     let word : Num S (target S f) w32 ≡ Some count = ap (λ k. Num S k w32) (sym to) ∙ h.word in
@@ -68,19 +67,24 @@ head_facts S f position count h =
       count_is = num_value S (target S f) w32 count word;
     }
 
+-- what the reader of heads hands on
+abbrev pub Head : List ℕ → ℕ → ℕ → SliceWithStartOffset → ℕ → Type 0
+Head S start f piece count =
+    (items : Items) × HeadThere S f items.position items.count × ShowsItems S start items piece count
+
 -- the head of a piece, by its clauses
 record HeadRead (S : List ℕ) (f : ℕ) (items : SliceWithStartOffset) (count : ℕ) : Type 0 where
   holds : AllHold (head_clauses S f [])
   bytes : slice_bytes items ≡ drop (items_at S f) S
   counted : count ≡ count_at S f
 
-head_read : (S : List ℕ) (start f : ℕ) (items : SliceWithStartOffset) (count : ℕ) → IsHead S start f items count → HeadRead S f items count
-head_read S start f items count h =
-    let facts : HeadFacts S f h.position count = head_facts S f h.position count h.there in
+head_read : (S : List ℕ) (start f : ℕ) (piece : SliceWithStartOffset) (count : ℕ) → Head S start f piece count → HeadRead S f piece count
+head_read S start f piece count h =
+    let facts : HeadFacts S f h.0.position h.0.count = head_facts S f h.0.position h.0.count h.1 in
     record {
       holds = (facts.reference, (facts.inside, (facts.word, tt)));
-      bytes = h.bytes ∙ ap (λ k. drop k S) facts.position_is;
-      counted = facts.count_is;
+      bytes = h.2.bytes ∙ ap (λ k. drop k S) facts.position_is;
+      counted = h.2.counted ∙ facts.count_is;
     }
 
 -- a text
@@ -155,10 +159,10 @@ no_text_of_head S f count e head counted (inr (z, inl b)) =
     )
 no_text_of_head S f count e head counted (inr (z, inr (u, none))) = absurd none
 
-pub text_answer : (S : List ℕ) (start f count : ℕ) (items : SliceWithStartOffset) (bytes : List ℕ) (r : Result (Bor (List ℕ)) ErrorKind) → IsHead S start f items count → bytes ≡ slice_bytes items → IfOk r (λ t. IsTextOf bytes count t.now) → IfErr r (λ e. FirstBroken (text_of_clauses bytes count) e) → Answer (λ t. TextThere S f t.now) (text_clauses S f) r
+pub text_answer : (S : List ℕ) (start f count : ℕ) (items : SliceWithStartOffset) (bytes : List ℕ) (r : Result (Bor (List ℕ)) ErrorKind) → Head S start f items count → bytes ≡ slice_bytes items → IfOk r (λ t. IsTextOf bytes count t.now) → IfErr r (λ e. FirstBroken (text_of_clauses bytes count) e) → Answer (shown (λ content t. t.now ≡ content) (text_reading S f)) r
 text_answer S start f count items bytes (Ok t) head same ok err =
     let read : HeadRead S f items count = head_read S start f items count head in
-    text_of_head S f count t.now read.holds read.counted (subst (λ l. IsTextOf l count t.now) (same ∙ read.bytes) ok)
+    (t.now, text_of_head S f count t.now read.holds read.counted (subst (λ l. IsTextOf l count t.now) (same ∙ read.bytes) ok), refl)
 text_answer S start f count items bytes (Err e) head same ok err =
     let read : HeadRead S f items count = head_read S start f items count head in
     no_text_of_head S f count e read.holds read.counted (subst (λ l. FirstBroken (text_of_clauses l count) e) (same ∙ read.bytes) err)
@@ -182,7 +186,7 @@ byte_list_holds S f content h =
     let counted : length content ≡ count_at S f = facts.count_is in
     ((facts.reference, (facts.inside, (facts.word, (omega (arith, length-drop (items_at S f) S), tt)))), sym stood ∙ ap (λ n. take n (drop (items_at S f) S)) counted)
 
-pub byte_list_answer : (S : List ℕ) (start f count : ℕ) (items : SliceWithStartOffset) (bytes : List ℕ) → IsHead S start f items count → bytes ≡ slice_bytes items → count ≤ length bytes → ByteListThere S f (take count bytes)
+pub byte_list_answer : (S : List ℕ) (start f count : ℕ) (items : SliceWithStartOffset) (bytes : List ℕ) → Head S start f items count → bytes ≡ slice_bytes items → count ≤ length bytes → (content : List ℕ) × ByteListThere S f content × (take count bytes ≡ content)
 byte_list_answer S start f count items bytes head same within =
     let read : HeadRead S f items count = head_read S start f items count head in
     let here : bytes ≡ drop (items_at S f) S = same ∙ read.bytes in
@@ -190,8 +194,7 @@ byte_list_answer S start f count items bytes head same within =
     let inside : items_at S f ≤ length S = read.holds.1.1.0 in
     let longer : count ≤ length (drop (items_at S f) S) = subst (λ l. count ≤ length l) here within in
     let fits : items_at S f + count_at S f ≤ length S = omega (arith, length-drop (items_at S f) S) in
-    subst (ByteListThere S f) (sym (ap (take count) here ∙ ap (λ n. take n (drop (items_at S f) S)) counted))
-    (byte_list_there S f (read.holds.0, (read.holds.1.0, (read.holds.1.1.0, (fits, tt)))))
+    (take (count_at S f) (drop (items_at S f) S), byte_list_there S f (read.holds.0, (read.holds.1.0, (read.holds.1.1.0, (fits, tt)))), ap (take count) here ∙ ap (λ n. take n (drop (items_at S f) S)) counted)
 
 -- vectors
 pub vector_there : (S : List ℕ) (f stride : ℕ) → AllHold (vector_clauses S f stride) → VectorThere S f stride (items_at S f) (count_at S f)
@@ -280,133 +283,8 @@ table_holds S f object vtable size h =
       size_is,
     )
 
-pub is_table : (S : List ℕ) (start f : ℕ) (table : Table) → AllHold (table_clauses S f) → table_object table ≡ drop (target S f) S → table_start table ≡ start + target S f → table_slots table ≡ slots_of S (target S f) → IsTable S start f table
-is_table S start f table h bytes begin slots =
-    record {
-      object = target S f;
-      vtable = vtable_at S (target S f);
-      size = vtable_size_at S (target S f);
-      there = table_there S f h;
-      object_bytes = bytes;
-      object_start = begin;
-      slots = slots;
-    }
-
--- numbers
-pub number_law : NumberLaw
-number_law S f width = ((λ h. (number S f width, num_there S f width h.0)), λ n. (num_inside S f width n.0 n.1, tt))
-
-mapped_there : {A : Type 0} (g : ℕ → A) (m : Option ℕ) (x : A) → option_map g m ≡ Some x → (n : ℕ) × (m ≡ Some n)
-mapped_there g None x h = absurd (let f : None ≡ Some x = h in cc)
-mapped_there g (Some n) x h = (n, refl)
-
-mapped_law : {A : Type 0} (g : ℕ → A) (S : List ℕ) (f : ℕ) (width : Width) → AllHold (number_clauses S f width) ↔ ((x : A) × (option_map g (Num S f width) ≡ Some x))
-mapped_law g S f width = (
-  (λ h. (g (number S f width), ap (option_map g) (num_there S f width h.0))),
-  λ x. let n : (n : ℕ) × (Num S f width ≡ Some n) = mapped_there g (Num S f width) x.0 x.1 in (num_inside S f width n.0 n.1, tt),
-)
-
-pub signed_law : SignedLaw
-signed_law S f width = mapped_law (cast_signed width) S f width
-
-pub truth_law : TruthLaw
-truth_law S f = mapped_law (λ n. not (n == 0)) S f w8
-
-pub head_law : HeadLaw
-head_law S f = (
-  (λ h. (items_at S f, count_at S f, head_there S f h.0 h.1.1.0)),
-  λ v. let facts : HeadFacts S f v.0 v.1 = head_facts S f v.0 v.1 v.2 in (facts.reference, (facts.inside, (facts.word, tt))),
-)
-
-pub text_law : TextLaw
-text_law S f = ((λ h. (take (count_at S f) (drop (items_at S f) S), text_there S f h)), λ t. (text_holds S f t.0 t.1).0)
-
-pub byte_list_law : ByteListLaw
-byte_list_law S f = ((λ h. (take (count_at S f) (drop (items_at S f) S), byte_list_there S f h)), λ t. (byte_list_holds S f t.0 t.1).0)
-
-pub vector_law : VectorLaw
-vector_law S f stride = ((λ h. (items_at S f, count_at S f, vector_there S f stride h)), λ v. (vector_holds S f stride v.0 v.1 v.2).0)
-
-pub union_vector_law : UnionVectorLaw
-union_vector_law S f g =
-    ((λ h. (items_at S f, items_at S g, count_at S f, union_vector_there S f g h)), λ v. union_vector_holds S f g v.0 v.1 v.2 v.3)
-
-pub table_law : TableLaw
-table_law S f =
-    ((λ h. (target S f, vtable_at S (target S f), vtable_size_at S (target S f), table_there S f h)), λ t. (table_holds S f t.0 t.1 t.2 t.3).0)
-
-same_some : {A : Type 0} (m : Option A) (x y : A) → m ≡ Some x → m ≡ Some y → x ≡ y
-same_some m x y h k = let e : Some x ≡ Some y = sym h ∙ k in cc
-
-pub one_number : OneNumber
-one_number S f width x y h k = same_some (Num S f width) x y h k
-
-pub one_signed : OneSigned
-one_signed S f width x y h k = same_some (option_map (cast_signed width) (Num S f width)) x y h k
-
-pub one_truth : OneTruth
-one_truth S f x y h k = same_some (option_map (λ n. not (n == 0)) (Num S f w8)) x y h k
-
-pub one_head : OneHead
-one_head S f p c p' c' h k =
-    let a : HeadFacts S f p c = head_facts S f p c h in
-    let b : HeadFacts S f p' c' = head_facts S f p' c' k in
-    (a.position_is ∙ sym b.position_is, a.count_is ∙ sym b.count_is)
-
-pub one_text : OneText
-one_text S f x y h k = (text_holds S f x h).1 ∙ sym (text_holds S f y k).1
-
-pub one_byte_list : OneByteList
-one_byte_list S f x y h k = (byte_list_holds S f x h).1 ∙ sym (byte_list_holds S f y k).1
-
-pub one_vector : OneVector
-one_vector S f stride p c p' c' h k =
-    let a : AllHold (vector_clauses S f stride) × (p ≡ items_at S f) × (c ≡ count_at S f) = vector_holds S f stride p c h in
-    let b : AllHold (vector_clauses S f stride) × (p' ≡ items_at S f) × (c' ≡ count_at S f) = vector_holds S f stride p' c' k in
-    (a.1 ∙ sym b.1, a.2 ∙ sym b.2)
-
-pub one_union_vector : OneUnionVector
-one_union_vector S f g t r c t' r' c' h k =
-    let tags : (t ≡ t') × (c ≡ c') = one_vector S f 1 t c t' c' h.tags_there k.tags_there in
-    let references : (r ≡ r') × (c ≡ c') = one_vector S g 4 r c r' c' h.references_there k.references_there in
-    (tags.0, references.0, tags.1)
-
-pub one_table : OneTable
-one_table S f o t z o' t' z' h k =
-    let a : AllHold (table_clauses S f) × (o ≡ target S f) × (t ≡ vtable_at S (target S f)) × (z ≡ vtable_size_at S (target S f)) = table_holds S f o t z h in
-    let b : AllHold (table_clauses S f) × (o' ≡ target S f) × (t' ≡ vtable_at S (target S f)) × (z' ≡ vtable_size_at S (target S f)) = table_holds S f o' t' z' k in
-    (a.1 ∙ sym b.1, a.2 ∙ sym b.2, a.3 ∙ sym b.3)
-
--- a clause is broken, so not all hold
-broken : (clauses : List Clause) (e : ErrorKind) → FirstBroken clauses e → AllHold clauses → ⊥
-broken [] e h all = h
-broken (first ∷ rest) e (inl h) all = h.0 all.0
-broken (first ∷ rest) e (inr h) all = broken rest e h.1 all.1
-
-pub no_number : NoNumber
-no_number S f width e h x there = broken (number_clauses S f width) e h ((number_law S f width).1 (x, there))
-
-pub no_signed : NoSigned
-no_signed S f width e h x there = broken (number_clauses S f width) e h ((signed_law S f width).1 (x, there))
-
-pub no_truth : NoTruth
-no_truth S f e h x there = broken (number_clauses S f w8) e h ((truth_law S f).1 (x, there))
-
-pub no_head : NoHead
-no_head S f e h position count there = broken (head_clauses S f []) e h ((head_law S f).1 (position, count, there))
-
-pub no_text : NoText
-no_text S f e h content there = broken (text_clauses S f) e h ((text_law S f).1 (content, there))
-
-pub no_byte_list : NoByteList
-no_byte_list S f e h content there = broken (byte_list_clauses S f) e h ((byte_list_law S f).1 (content, there))
-
-pub no_vector : NoVector
-no_vector S f stride e h position count there = broken (vector_clauses S f stride) e h ((vector_law S f stride).1 (position, count, there))
-
-pub no_union_vector : NoUnionVector
-no_union_vector S f g e h tags references count there =
-    broken (union_vector_clauses S f g) e h ((union_vector_law S f g).1 (tags, references, count, there))
-
-pub no_table : NoTable
-no_table S f e h object vtable size there = broken (table_clauses S f) e h ((table_law S f).1 (object, vtable, size, there))
+pub table_answer : (S : List ℕ) (start f : ℕ) (table : Table) → AllHold (table_clauses S f) → table_object table ≡ drop (target S f) S → table_start table ≡ start + target S f → table_slots table ≡ slots_of S (target S f) → Answer (shown (ShowsTable S start) (table_reading S f)) (Ok table)
+table_answer S start f table h bytes begin slots =
+    let place : TablePlace = record { object = target S f; vtable = vtable_at S (target S f); size = vtable_size_at S (target S f) } in
+    let shows : ShowsTable S start place table = record { object_bytes = bytes; object_start = begin; slots = slots } in
+    (place, table_there S f h, shows)

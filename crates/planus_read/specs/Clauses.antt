@@ -21,7 +21,17 @@ abbrev pub FirstBroken : List Clause → ErrorKind → Type 0
 FirstBroken [] e = ⊥
 FirstBroken (first ∷ rest) e = ((first.holds → ⊥) × first.errors e) ⊎ (first.holds × FirstBroken rest e)
 
--- The answer of a reader with this value side and these clauses.
-abbrev pub Answer : {A : Type 0} → (A → Type 0) → List Clause → Result A ErrorKind → Type 0
-Answer There clauses (Ok x) = There x
-Answer There clauses (Err e) = FirstBroken clauses e
+-- A reading: which value stands, and what a reader tests for it, in order.
+pub record Reading (A : Type 0) : Type 1 where
+  pub There : A → Type 0
+  pub clauses : List Clause
+
+-- The answer of a reader: the value that stands, or the error of the first clause that fails.
+abbrev pub Answer : {A : Type 0} → Reading A → Result A ErrorKind → Type 0
+Answer reading (Ok x) = reading.There x
+Answer reading (Err e) = FirstBroken reading.clauses e
+
+-- the same reading, answered with something that shows its value
+abbrev pub shown : {A B : Type 0} → (A → B → Type 0) → Reading A → Reading B
+shown {A} Shows reading =
+    record { There = λ shows. (x : A) × reading.There x × Shows x shows; clauses = reading.clauses }

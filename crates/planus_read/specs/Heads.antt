@@ -3,16 +3,15 @@ use Rattle.std.specs.Prelude.{◌≡◌, ℕ, ◌+◌, List, [], ◌∷◌, take
 use Rattle.planus_read.specs.declared.slice_helpers.SliceWithStartOffset.{SliceWithStartOffset}
 use Rattle.planus_read.specs.Clauses.{Clause, clause}
 use Rattle.planus_read.specs.Pieces.{slice_bytes, slice_start}
-use Rattle.planus_read.specs.Reading.{HeadThere, ZeroByte, IsUtf8Error}
+use Rattle.planus_read.specs.Reading.{Items, ZeroByte, IsUtf8Error}
 use Rattle.planus_read.specs.declared.errors.ErrorKind.TheVariants.{MissingNullTerminator}
 use Rattle.std.specs.Str.{IsUtf8}
 
--- The head at f of a piece with the bytes S and this start: the bytes of S from its first item on, as a piece, and the count.
-pub record IsHead (S : List ℕ) (start f : ℕ) (items : SliceWithStartOffset) (count : ℕ) : Type 0 where
-  pub position : ℕ
-  pub there : HeadThere S f position count
-  pub bytes : slice_bytes items ≡ drop position S
-  pub begin : slice_start items ≡ start + position
+-- Items in a piece with the bytes S and this start: the piece from the first of them on, and their number.
+pub record ShowsItems (S : List ℕ) (start : ℕ) (items : Items) (piece : SliceWithStartOffset) (count : ℕ) : Type 0 where
+  pub bytes : slice_bytes piece ≡ drop items.position S
+  pub begin : slice_start piece ≡ start + items.position
+  pub counted : count ≡ items.count
 
 -- The text of the first count items, with a zero byte behind it.
 pub record IsTextOf (items : List ℕ) (count : ℕ) (content : List ℕ) : Type 0 where

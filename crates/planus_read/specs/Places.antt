@@ -1,7 +1,8 @@
 -- Places in a buffer whose reading is chosen later.
-use Rattle.std.specs.Prelude.{◌≡◌, ℕ, List}
+use Rattle.std.specs.Prelude.{◌≡◌, ℕ, List, []}
 use Rattle.planus_read.specs.declared.place.Place.{Place}
 use Rattle.planus_read.specs.declared.place.TaggedPlace.{TaggedPlace}
+use Rattle.planus_read.specs.Clauses.{Reading}
 use Rattle.planus_read.specs.Pieces.{slice_bytes, slice_start}
 
 -- the bytes and the start of a place's piece, and its offset in them
@@ -31,3 +32,10 @@ pub record IsPlace (S : List ℕ) (start f : ℕ) (place : Place) : Type 0 where
 pub record IsTaggedPlace (S : List ℕ) (start tag f : ℕ) (tagged : TaggedPlace) : Type 0 where
   pub tag_is : tagged_tag tagged ≡ tag
   pub place_is : IsPlace S start f (tagged_place tagged)
+
+-- the readings of both, for which nothing is tested
+abbrev pub place_reading : List ℕ → ℕ → ℕ → Reading Place
+place_reading S start f = record { There = IsPlace S start f; clauses = [] }
+
+abbrev pub tagged_place_reading : List ℕ → ℕ → ℕ → ℕ → Reading TaggedPlace
+tagged_place_reading S start tag f = record { There = IsTaggedPlace S start tag f; clauses = [] }

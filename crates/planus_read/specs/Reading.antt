@@ -9,7 +9,7 @@ use Rattle.planus_read.specs.declared.errors.ErrorKind.TheVariants.{InvalidOffse
 use Rattle.planus_read.specs.Bytes.{Num, Int}
 use Rattle.planus_read.specs.Values.{text, byte_list}
 use Rattle.planus_read.specs.Stands.{Stands, at}
-use Rattle.planus_read.specs.Clauses.{Clause, clause}
+use Rattle.planus_read.specs.Clauses.{Clause, clause, Reading}
 
 -- the number of the width's bytes at the position, bytes past the end being taken as 0
 abbrev pub number : List ℕ → ℕ → Width → ℕ
@@ -52,6 +52,16 @@ pub record HeadThere (S : List ℕ) (f position count : ℕ) : Type 0 where
   pub word : Num S begin w32 ≡ Some count
   pub behind : position ≡ begin + 4
 
+-- where items begin, and how many they are
+pub record Items : Type 0 where
+  pub position : ℕ
+  pub count : ℕ
+
+-- the reading of a head
+abbrev pub head_reading : List ℕ → ℕ → Reading Items
+head_reading S f =
+    record { There = λ items. HeadThere S f items.position items.count; clauses = head_clauses S f [] }
+
 -- a text, whose bytes are UTF-8
 abbrev pub TextThere : List ℕ → ℕ → List ℕ → Type 0
 TextThere S f content = (position : ℕ) × Leads S f position × Stands S (at position) (text content) × IsUtf8 content
@@ -71,6 +81,10 @@ text_clauses S f =
     head_clauses S f (clause (ZeroByte S (items_at S f) (count_at S f)) MissingNullTerminator
     ∷ record { holds = IsUtf8 (take (count_at S f) (drop (items_at S f) S)); errors = IsUtf8Error } ∷ [])
 
+-- the reading of a text
+abbrev pub text_reading : List ℕ → ℕ → Reading (List ℕ)
+text_reading S f = record { There = TextThere S f; clauses = text_clauses S f }
+
 -- a byte list
 abbrev pub ByteListThere : List ℕ → ℕ → List ℕ → Type 0
 ByteListThere S f content = (position : ℕ) × Leads S f position × Stands S (at position) (byte_list content)
@@ -78,6 +92,10 @@ ByteListThere S f content = (position : ℕ) × Leads S f position × Stands S (
 -- the clauses of a byte list: those of its head, and that its bytes lie in S
 abbrev pub byte_list_clauses : List ℕ → ℕ → List Clause
 byte_list_clauses S f = head_clauses S f (clause (items_at S f + count_at S f ≤ length S) InvalidLength ∷ [])
+
+-- the reading of a byte list
+abbrev pub byte_list_reading : List ℕ → ℕ → Reading (List ℕ)
+byte_list_reading S f = record { There = ByteListThere S f; clauses = byte_list_clauses S f }
 
 -- a vector: count items of this stride from this position on, all in S
 pub record VectorThere (S : List ℕ) (f stride position count : ℕ) : Type 0 where
@@ -87,6 +105,11 @@ pub record VectorThere (S : List ℕ) (f stride position count : ℕ) : Type 0 w
 -- the clauses of a vector: those of its head, and that its items lie in S
 abbrev pub vector_clauses : List ℕ → ℕ → ℕ → List Clause
 vector_clauses S f stride = head_clauses S f (clause (items_at S f + count_at S f * stride ≤ length S) InvalidLength ∷ [])
+
+-- the reading of a vector
+abbrev pub vector_reading : List ℕ → ℕ → ℕ → Reading Items
+vector_reading S f stride =
+    record { There = λ items. VectorThere S f stride items.position items.count; clauses = vector_clauses S f stride }
 
 -- a vector of unions: a vector of tags at f and one of references at g, of equal count
 pub record UnionVectorThere (S : List ℕ) (f g tags references count : ℕ) : Type 0 where
@@ -99,6 +122,20 @@ union_vector_clauses S f g =
     head_clauses S f (head_clauses S g (clause (items_at S f + count_at S f ≤ length S) InvalidLength
     ∷ clause (items_at S g + count_at S g * 4 ≤ length S) InvalidLength
     ∷ clause (count_at S f ≡ count_at S g) (UnionVectorLengthsMismatched (count_at S f) (count_at S g)) ∷ []))
+
+-- where tags and references begin, and how many of each there are
+pub record UnionItems : Type 0 where
+  pub tags : ℕ
+  pub references : ℕ
+  pub count : ℕ
+
+-- the reading of a vector of unions
+abbrev pub union_vector_reading : List ℕ → ℕ → ℕ → Reading UnionItems
+union_vector_reading S f g =
+    record {
+      There = λ items. UnionVectorThere S f g items.tags items.references items.count;
+      clauses = union_vector_clauses S f g;
+    }
 
 -- A table: the object begins at one position, its vtable, of this size in bytes, at the other. The vtable may lie anywhere in S.
 -- The format: a table begins with a signed number of 4 bytes, its own position less that of its vtable. A vtable is its own size in
@@ -144,16 +181,39 @@ abbrev pub table_clauses : List ℕ → ℕ → List Clause
 table_clauses S f =
     number_clause S f w32 ∷ clause (target S f ≤ length S) InvalidOffset ∷ object_clauses S (target S f)
 
+-- where an object and its vtable begin, and the vtable's size
+pub record TablePlace : Type 0 where
+  pub object : ℕ
+  pub vtable : ℕ
+  pub size : ℕ
+
+-- the reading of a table
+abbrev pub table_reading : List ℕ → ℕ → Reading TablePlace
+table_reading S f =
+    record { There = λ place. TableThere S f place.object place.vtable place.size; clauses = table_clauses S f }
+
 -- a number of this width at f
 abbrev pub NumberThere : List ℕ → ℕ → Width → ℕ → Type 0
 NumberThere S f width x = Num S f width ≡ Some x
+
+-- the reading of a number
+abbrev pub number_reading : List ℕ → ℕ → Width → Reading ℕ
+number_reading S f width = record { There = NumberThere S f width; clauses = number_clauses S f width }
 
 -- a signed number of this width at f
 -- The format: signed numbers are two's complement.
 abbrev pub SignedThere : List ℕ → ℕ → Width → ℤ → Type 0
 SignedThere S f width x = option_map (cast_signed width) (Num S f width) ≡ Some x
 
+-- the reading of a signed number
+abbrev pub signed_reading : List ℕ → ℕ → Width → Reading ℤ
+signed_reading S f width = record { There = SignedThere S f width; clauses = number_clauses S f width }
+
 -- a truth value at f
 -- The format: a truth value is one byte, true where it isn't 0.
 abbrev pub TruthThere : List ℕ → ℕ → Bool → Type 0
 TruthThere S f x = option_map (λ n. not (n == 0)) (Num S f w8) ≡ Some x
+
+-- the reading of a truth value
+abbrev pub truth_reading : List ℕ → ℕ → Reading Bool
+truth_reading S f = record { There = TruthThere S f; clauses = number_clauses S f w8 }

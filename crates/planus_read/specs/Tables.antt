@@ -7,7 +7,7 @@ use Rattle.planus_read.specs.declared.errors.ErrorKind.TheVariants.{InvalidOffse
 use Rattle.planus_read.specs.declared.table_reader.Table.{Table}
 use Rattle.planus_read.specs.Bytes.{Num}
 use Rattle.planus_read.specs.Pieces.{slice_bytes, slice_start}
-use Rattle.planus_read.specs.Reading.{TableThere}
+use Rattle.planus_read.specs.Reading.{TablePlace}
 
 -- the bytes from the table's first on, where these start in the buffer, and the slots of its vtable
 abbrev pub table_object : Table → List ℕ
@@ -19,15 +19,11 @@ table_start table = slice_start table.object
 abbrev pub table_slots : Table → List ℕ
 table_slots table = table.vtable.now
 
--- The table at f of a piece with the bytes S and this start.
-pub record IsTable (S : List ℕ) (start f : ℕ) (table : Table) : Type 0 where
-  pub object : ℕ
-  pub vtable : ℕ
-  pub size : ℕ
-  pub there : TableThere S f object vtable size
-  pub object_bytes : table_object table ≡ drop object S
-  pub object_start : table_start table ≡ start + object
-  pub slots : table_slots table ≡ drop 4 (take size (drop vtable S))
+-- A table in a piece with the bytes S and this start: the piece from its first byte on, and its vtable without the first four bytes.
+pub record ShowsTable (S : List ℕ) (start : ℕ) (place : TablePlace) (table : Table) : Type 0 where
+  pub object_bytes : table_object table ≡ drop place.object S
+  pub object_start : table_start table ≡ start + place.object
+  pub slots : table_slots table ≡ drop 4 (take place.size (drop place.vtable S))
 
 -- The field's distance from the table's first byte by slot i of the slots V, 0 where the field is absent.
 -- The format: a slot has two bytes, 0 for an absent field; slots past the vtable's end are absent.

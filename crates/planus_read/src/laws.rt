@@ -1,7 +1,11 @@
 //! Laws over where values stand and what readers answer. Each function is a theorem; its body is empty.
 
+ghost use Rattle.std.specs.Int.{Width};
+ghost use Rattle.std.specs.Prelude.{ℕ, List};
 ghost use Rattle.planus_read.specs.ListReading.{PlainListsRead, ReferenceListsRead, UnionListsRead};
-ghost use Rattle.planus_read.specs.ReadingLaws.{NumberLaw, SignedLaw, TruthLaw, HeadLaw, TextLaw, ByteListLaw, VectorLaw, UnionVectorLaw, TableLaw, OneNumber, OneSigned, OneTruth, OneHead, OneText, OneByteList, OneVector, OneUnionVector, OneTable, NoNumber, NoSigned, NoTruth, NoHead, NoText, NoByteList, NoVector, NoUnionVector, NoTable};
+ghost use Rattle.planus_read.specs.Reading.{number_reading, signed_reading, truth_reading, head_reading};
+ghost use Rattle.planus_read.specs.Reading.{text_reading, byte_list_reading, vector_reading, union_vector_reading, table_reading};
+ghost use Rattle.planus_read.specs.ReadingLaws.{IsLawful};
 ghost use Rattle.planus_read.specs.TableReading.{TablesRead};
 ghost use Rattle.planus_read.specs.Moves.{KeepsStanding, KeepsLeading, StandsAlone, LeadsAlone};
 
@@ -19,43 +23,18 @@ pub fn stands_alone()
     ensures reference { LeadsAlone }
 {}
 
-/// All clauses of a reader hold exactly where a value of its kind stands.
-pub fn clauses_hold_where_values_stand()
-    ensures number { NumberLaw }
-    ensures signed { SignedLaw }
-    ensures truth { TruthLaw }
-    ensures head { HeadLaw }
-    ensures text { TextLaw }
-    ensures byte_list { ByteListLaw }
-    ensures vector { VectorLaw }
-    ensures union_vector { UnionVectorLaw }
-    ensures table { TableLaw }
-{}
-
-/// At most one value of a kind stands at a field. So a reader's value is determined.
-pub fn one_value_stands()
-    ensures number { OneNumber }
-    ensures signed { OneSigned }
-    ensures truth { OneTruth }
-    ensures head { OneHead }
-    ensures text { OneText }
-    ensures byte_list { OneByteList }
-    ensures vector { OneVector }
-    ensures union_vector { OneUnionVector }
-    ensures table { OneTable }
-{}
-
-/// Where a reader answers an error, by the first of its clauses that fails, nothing of its kind stands.
-pub fn errors_mean_nothing_stands()
-    ensures number { NoNumber }
-    ensures signed { NoSigned }
-    ensures truth { NoTruth }
-    ensures head { NoHead }
-    ensures text { NoText }
-    ensures byte_list { NoByteList }
-    ensures vector { NoVector }
-    ensures union_vector { NoUnionVector }
-    ensures table { NoTable }
+/// All clauses of a reading hold exactly where a value of its kind stands; at most one does; where the first clause that fails gives an
+/// error, none does; where one stands, it is the only answer; and two answers are one value, or errors of one clause.
+pub fn readings_are_lawful()
+    ensures number { (S : List ℕ) (f : ℕ) (width : Width) → IsLawful (number_reading S f width) }
+    ensures signed { (S : List ℕ) (f : ℕ) (width : Width) → IsLawful (signed_reading S f width) }
+    ensures truth { (S : List ℕ) (f : ℕ) → IsLawful (truth_reading S f) }
+    ensures head { (S : List ℕ) (f : ℕ) → IsLawful (head_reading S f) }
+    ensures text { (S : List ℕ) (f : ℕ) → IsLawful (text_reading S f) }
+    ensures byte_list { (S : List ℕ) (f : ℕ) → IsLawful (byte_list_reading S f) }
+    ensures vector { (S : List ℕ) (f stride : ℕ) → IsLawful (vector_reading S f stride) }
+    ensures union_vector { (S : List ℕ) (f g : ℕ) → IsLawful (union_vector_reading S f g) }
+    ensures table { (S : List ℕ) (f : ℕ) → IsLawful (table_reading S f) }
 {}
 
 /// A table that stands where a reference leads is there for a reader, and each of its slots, also past the vtable's end, is read as

@@ -1,6 +1,6 @@
 //! Places in a buffer whose reading is chosen later.
 
-ghost use Rattle.std.specs.Prelude.{◌≡◌, []};
+ghost use Rattle.std.specs.Prelude.{◌≡◌};
 ghost use Rattle.std.proofs.Common.{lit≤};
 ghost use Rattle.planus_read.specs.Clauses.{Answer};
 
@@ -36,9 +36,9 @@ impl<'buf> Place<'buf> {
 }
 
 impl<'buf> TableRead<'buf> for Place<'buf> {
-    ghost use Rattle.planus_read.specs.Places.{IsPlace};
+    ghost use Rattle.planus_read.specs.Places.{place_reading};
 
-    ghost reads = { λ S start f r. Answer (IsPlace S start f) [] r };
+    ghost reads = { λ S start f r. Answer (place_reading S start f) r };
 
     #[inline]
     fn from_buffer(
@@ -94,9 +94,9 @@ impl<'buf> TaggedPlace<'buf> {
 }
 
 impl<'buf> TableReadUnion<'buf> for TaggedPlace<'buf> {
-    ghost use Rattle.planus_read.specs.Places.{IsTaggedPlace};
+    ghost use Rattle.planus_read.specs.Places.{tagged_place_reading};
 
-    ghost reads = { λ S start tag f r. Answer (IsTaggedPlace S start tag f) [] r };
+    ghost reads = { λ S start tag f r. Answer (tagged_place_reading S start tag f) r };
 
     #[inline]
     fn from_buffer(

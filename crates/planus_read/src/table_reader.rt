@@ -1,10 +1,10 @@
 //! Tables, read in place.
 
 ghost use Rattle.std.specs.Prelude.{◌≡◌, ◌<◌, ◌+◌, ◌*◌, ◌^◌, [], length, IfOk, IfErr, IfSome, IfNone};
-ghost use Rattle.planus_read.specs.Clauses.{Answer, AllHold, FirstBroken};
+ghost use Rattle.planus_read.specs.Clauses.{Answer, shown, AllHold, FirstBroken};
 ghost use Rattle.planus_read.specs.Pieces.{slice_bytes, slice_start};
 ghost use Rattle.planus_read.specs.Located.{Located, Required};
-ghost use Rattle.planus_read.specs.Reading.{table_clauses, word_clauses, object_clauses, vtable_at, slots_of};
+ghost use Rattle.planus_read.specs.Reading.{table_reading, word_clauses, object_clauses, vtable_at, slots_of};
 
 use crate::errors::ErrorKind;
 use crate::impls::{i32_at, u16_at, u32_at};
@@ -67,14 +67,14 @@ fn required<A>(answer: Result<Option<A>, ErrorKind>) -> Result<A, ErrorKind>
 }
 
 impl<'buf> Table<'buf> {
-    ghost use Rattle.planus_read.specs.Tables.{IsTable, FieldAnswer, UnionAnswer, UnionVectorAnswer, UnionThere, UnionAbsent, UnionBroken, BothSlots, Slot, table_start, table_slots};
+    ghost use Rattle.planus_read.specs.Tables.{ShowsTable, FieldAnswer, UnionAnswer, UnionVectorAnswer, UnionThere, UnionAbsent, UnionBroken, BothSlots, Slot, table_start, table_slots};
 
     /// The table to which the reference at the offset leads, in bytes from the start of the piece. Its vtable lies anywhere in the
     /// piece. [`ErrorKind::InvalidOffset`] where a number or the table lies outside, or the vtable would begin in front of the piece;
     /// [`ErrorKind::InvalidVtableLength`] for a vtable whose size is odd or below 4; [`ErrorKind::InvalidLength`] where the vtable
     /// passes the end.
     pub fn from_buffer(buffer: SliceWithStartOffset<'buf>, offset: usize) -> Result<Self, ErrorKind>
-        ensures { Answer (IsTable (slice_bytes buffer.entry) (slice_start buffer.entry) offset) (table_clauses (slice_bytes buffer.entry) offset) result }
+        ensures { Answer (shown (ShowsTable (slice_bytes buffer.entry) (slice_start buffer.entry)) (table_reading (slice_bytes buffer.entry) offset)) result }
     {
         let value = u32_at(buffer, offset)? as usize;
         let Some(object_offset) = offset.checked_add(value) else {
@@ -356,9 +356,9 @@ impl<'buf> Table<'buf> {
 }
 
 impl<'buf> TableRead<'buf> for Table<'buf> {
-    ghost use Rattle.planus_read.specs.Tables.{IsTable};
+    ghost use Rattle.planus_read.specs.Tables.{ShowsTable};
 
-    ghost reads = { λ S start f r. Answer (IsTable S start f) (table_clauses S f) r };
+    ghost reads = { λ S start f r. Answer (shown (ShowsTable S start) (table_reading S f)) r };
 
     fn from_buffer(
         buffer: SliceWithStartOffset<'buf>,

@@ -1,16 +1,15 @@
 //! Truth values as fields of tables and as items of vectors.
 
-ghost use Rattle.std.specs.Int.{w8};
 ghost use Rattle.std.proofs.Common.{lit≤};
 ghost use Rattle.planus_read.specs.Clauses.{Answer};
-ghost use Rattle.planus_read.specs.Reading.{TruthThere, number_clauses};
+ghost use Rattle.planus_read.specs.Reading.{TruthThere, truth_reading};
 
 use crate::errors::ErrorKind;
 use crate::slice_helpers::SliceWithStartOffset;
 use crate::traits::{Stride, TableRead, VectorRead};
 
 impl<'buf> TableRead<'buf> for bool {
-    ghost reads = { λ S start f r. Answer (TruthThere S f) (number_clauses S f w8) r };
+    ghost reads = { λ S start f r. Answer (truth_reading S f) r };
 
     #[inline]
     fn from_buffer(buffer: SliceWithStartOffset<'buf>, offset: usize) -> Result<bool, ErrorKind> {

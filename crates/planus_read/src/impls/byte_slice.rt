@@ -1,8 +1,8 @@
 //! Byte lists as fields of tables.
 
 ghost use Rattle.std.specs.Prelude.{◌≡◌, ◌==◌, length};
-ghost use Rattle.planus_read.specs.Clauses.{Answer};
-ghost use Rattle.planus_read.specs.Reading.{ByteListThere, byte_list_clauses};
+ghost use Rattle.planus_read.specs.Clauses.{Answer, shown};
+ghost use Rattle.planus_read.specs.Reading.{byte_list_reading};
 
 use super::array_from_buffer;
 use crate::errors::ErrorKind;
@@ -10,7 +10,7 @@ use crate::slice_helpers::SliceWithStartOffset;
 use crate::traits::TableRead;
 
 impl<'buf> TableRead<'buf> for &'buf [u8] {
-    ghost reads = { λ S start f r. Answer (λ bytes. ByteListThere S f bytes.now) (byte_list_clauses S f) r };
+    ghost reads = { λ S start f r. Answer (shown (λ bytes slice. slice.now ≡ bytes) (byte_list_reading S f)) r };
 
     #[inline]
     fn from_buffer(
@@ -74,7 +74,7 @@ impl<'buf> SignedBytes<'buf> {
 impl<'buf> TableRead<'buf> for SignedBytes<'buf> {
     ghost use Rattle.planus_read.specs.SignedBytes.{signed_bytes};
 
-    ghost reads = { λ S start f r. Answer (λ list. ByteListThere S f (signed_bytes list)) (byte_list_clauses S f) r };
+    ghost reads = { λ S start f r. Answer (shown (λ bytes list. signed_bytes list ≡ bytes) (byte_list_reading S f)) r };
 
     #[inline]
     fn from_buffer(

@@ -1,11 +1,11 @@
 //! What can be read, type by type.
 
-ghost use Rattle.std.specs.Prelude.{◌≡◌, ◌≤◌, ◌+◌, [], length, IfOk, IfErr};
+ghost use Rattle.std.specs.Prelude.{◌≡◌, ◌≤◌, ◌+◌, length, IfOk, IfErr};
 ghost use Rattle.std.specs.Int.{w16, w32, byte_len};
-ghost use Rattle.planus_read.specs.Clauses.{Answer, FirstBroken};
-ghost use Rattle.planus_read.specs.Heads.{IsHead};
+ghost use Rattle.planus_read.specs.Clauses.{Answer, shown, FirstBroken};
+ghost use Rattle.planus_read.specs.Heads.{ShowsItems};
 ghost use Rattle.planus_read.specs.Pieces.{slice_bytes, slice_start};
-ghost use Rattle.planus_read.specs.Reading.{number, signed_number, number_clauses, head_clauses};
+ghost use Rattle.planus_read.specs.Reading.{number, signed_number, number_clauses, head_reading};
 
 mod bool_;
 mod byte_slice;
@@ -57,7 +57,7 @@ pub fn array_from_buffer<'buf>(
     buffer: SliceWithStartOffset<'buf>,
     offset: usize,
 ) -> Result<(SliceWithStartOffset<'buf>, u32), ErrorKind>
-    ensures { Answer (λ head. IsHead (slice_bytes buffer.entry) (slice_start buffer.entry) offset head.0 head.1) (head_clauses (slice_bytes buffer.entry) offset []) result }
+    ensures { Answer (shown (λ items head. ShowsItems (slice_bytes buffer.entry) (slice_start buffer.entry) items head.0 head.1) (head_reading (slice_bytes buffer.entry) offset)) result }
 {
     let value = u32_at(buffer, offset)? as usize;
     let Some(target) = offset.checked_add(value) else {

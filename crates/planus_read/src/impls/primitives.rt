@@ -3,14 +3,14 @@
 ghost use Rattle.std.specs.Int.{w8, w16, w32, w64};
 ghost use Rattle.std.proofs.Common.{lit≤};
 ghost use Rattle.planus_read.specs.Clauses.{Answer};
-ghost use Rattle.planus_read.specs.Reading.{NumberThere, SignedThere, number_clauses};
+ghost use Rattle.planus_read.specs.Reading.{NumberThere, SignedThere, number_reading, signed_reading};
 
 use crate::errors::ErrorKind;
 use crate::slice_helpers::SliceWithStartOffset;
 use crate::traits::{Stride, TableRead, VectorRead};
 
 impl<'buf> TableRead<'buf> for u8 {
-    ghost reads = { λ S start f r. Answer (NumberThere S f w8) (number_clauses S f w8) r };
+    ghost reads = { λ S start f r. Answer (number_reading S f w8) r };
 
     #[inline]
     fn from_buffer(buffer: SliceWithStartOffset<'buf>, offset: usize) -> Result<u8, ErrorKind> {
@@ -20,7 +20,7 @@ impl<'buf> TableRead<'buf> for u8 {
 }
 
 impl<'buf> TableRead<'buf> for u16 {
-    ghost reads = { λ S start f r. Answer (NumberThere S f w16) (number_clauses S f w16) r };
+    ghost reads = { λ S start f r. Answer (number_reading S f w16) r };
 
     #[inline]
     fn from_buffer(buffer: SliceWithStartOffset<'buf>, offset: usize) -> Result<u16, ErrorKind> {
@@ -51,7 +51,7 @@ impl<'buf> VectorRead<'buf> for u16 {
 }
 
 impl<'buf> TableRead<'buf> for u32 {
-    ghost reads = { λ S start f r. Answer (NumberThere S f w32) (number_clauses S f w32) r };
+    ghost reads = { λ S start f r. Answer (number_reading S f w32) r };
 
     #[inline]
     fn from_buffer(buffer: SliceWithStartOffset<'buf>, offset: usize) -> Result<u32, ErrorKind> {
@@ -82,7 +82,7 @@ impl<'buf> VectorRead<'buf> for u32 {
 }
 
 impl<'buf> TableRead<'buf> for u64 {
-    ghost reads = { λ S start f r. Answer (NumberThere S f w64) (number_clauses S f w64) r };
+    ghost reads = { λ S start f r. Answer (number_reading S f w64) r };
 
     #[inline]
     fn from_buffer(buffer: SliceWithStartOffset<'buf>, offset: usize) -> Result<u64, ErrorKind> {
@@ -113,7 +113,7 @@ impl<'buf> VectorRead<'buf> for u64 {
 }
 
 impl<'buf> TableRead<'buf> for i8 {
-    ghost reads = { λ S start f r. Answer (SignedThere S f w8) (number_clauses S f w8) r };
+    ghost reads = { λ S start f r. Answer (signed_reading S f w8) r };
 
     #[inline]
     fn from_buffer(buffer: SliceWithStartOffset<'buf>, offset: usize) -> Result<i8, ErrorKind> {
@@ -123,7 +123,7 @@ impl<'buf> TableRead<'buf> for i8 {
 }
 
 impl<'buf> TableRead<'buf> for i16 {
-    ghost reads = { λ S start f r. Answer (SignedThere S f w16) (number_clauses S f w16) r };
+    ghost reads = { λ S start f r. Answer (signed_reading S f w16) r };
 
     #[inline]
     fn from_buffer(buffer: SliceWithStartOffset<'buf>, offset: usize) -> Result<i16, ErrorKind> {
@@ -154,7 +154,7 @@ impl<'buf> VectorRead<'buf> for i16 {
 }
 
 impl<'buf> TableRead<'buf> for i32 {
-    ghost reads = { λ S start f r. Answer (SignedThere S f w32) (number_clauses S f w32) r };
+    ghost reads = { λ S start f r. Answer (signed_reading S f w32) r };
 
     #[inline]
     fn from_buffer(buffer: SliceWithStartOffset<'buf>, offset: usize) -> Result<i32, ErrorKind> {
@@ -185,7 +185,7 @@ impl<'buf> VectorRead<'buf> for i32 {
 }
 
 impl<'buf> TableRead<'buf> for i64 {
-    ghost reads = { λ S start f r. Answer (SignedThere S f w64) (number_clauses S f w64) r };
+    ghost reads = { λ S start f r. Answer (signed_reading S f w64) r };
 
     #[inline]
     fn from_buffer(buffer: SliceWithStartOffset<'buf>, offset: usize) -> Result<i64, ErrorKind> {

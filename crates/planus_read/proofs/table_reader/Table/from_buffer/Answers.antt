@@ -2,7 +2,7 @@ use Rattle.std.proofs.Common.{◌≡◌, ℕ, ◌+◌, ◌≤◌, List, length, 
 use Rattle.planus_read.specs.Clauses.{AllHold}
 use Rattle.planus_read.specs.Pieces.{slice_bytes, slice_start}
 use Rattle.planus_read.specs.Reading.{target, object_clauses, slots_of}
-use Rattle.planus_read.proofs.Readers.{is_table}
+use Rattle.planus_read.proofs.Readers.{table_answer}
 use Rattle.planus_read.proofs.table_reader.Table.from_buffer.Goals as goal
 
 pub returns : goal.returns
@@ -12,5 +12,5 @@ returns c =
     let piece = c.in_ok-object.ensures.piece in
     let inside : target S f ≤ length S = subst (λ o. o ≤ length S) to piece.inside in
     let object : AllHold (object_clauses S (target S f)) = subst (λ o. AllHold (object_clauses S o)) to c.in_ok-vtable.ensures.holds in
-    is_table S (slice_start c.args.buffer) f _ (c.in_ok-value.ensures.inside, (inside, object)) (piece.bytes ∙ ap (λ o. drop o S) to) (piece.start ∙ ap (λ o. slice_start c.args.buffer + o) to)
+    table_answer S (slice_start c.args.buffer) f _ (c.in_ok-value.ensures.inside, (inside, object)) (piece.bytes ∙ ap (λ o. drop o S) to) (piece.start ∙ ap (λ o. slice_start c.args.buffer + o) to)
     (c.in_ok-vtable.ensures.slots ∙ ap (slots_of S) to)

@@ -1,0 +1,150 @@
+-- The laws of `ReadingLaws`: once over any reading, and then of each kind.
+use Rattle.std.proofs.Common.{◌≡◌, ℕ, ◌==◌, not, List, [], ◌∷◌, take, drop, refl, sym, ap, ◌∙◌, Option, Some, None, Result, Ok, Err, inl, inr}
+use Rattle.std.specs.Int.{Width, w8, cast_signed}
+use Rattle.std.specs.Option.{option_map}
+use Rattle.planus_read.specs.declared.errors.ErrorKind.{ErrorKind}
+use Rattle.planus_read.specs.Bytes.{Num}
+use Rattle.planus_read.specs.Clauses.{Clause, AllHold, FirstBroken, Reading, Answer}
+use Rattle.planus_read.specs.Reading.{number, number_clauses, target, count_at, items_at, vtable_at, vtable_size_at, VectorThere, Items, UnionItems, TablePlace, number_reading, signed_reading, truth_reading, head_reading, text_reading, byte_list_reading, vector_reading, union_vector_reading, table_reading, vector_clauses, table_clauses}
+use Rattle.planus_read.specs.ReadingLaws.{Decides, IsOne, IsAnswered, SameBroken, SameAnswer, IsLawful}
+use Rattle.planus_read.proofs.Readers.{num_inside, num_there, HeadFacts, head_facts, head_there, text_there, text_holds, byte_list_there, byte_list_holds, vector_there, vector_holds, union_vector_there, union_vector_holds, table_there, table_holds}
+
+-- a clause is broken, so not all hold
+broken : (clauses : List Clause) (e : ErrorKind) → FirstBroken clauses e → AllHold clauses → ⊥
+broken [] e h all = h
+broken (first ∷ rest) e (inl h) all = h.0 all.0
+broken (first ∷ rest) e (inr h) all = broken rest e h.1 all.1
+
+same_broken : (clauses : List Clause) (e other : ErrorKind) → FirstBroken clauses e → FirstBroken clauses other → SameBroken clauses e other
+same_broken [] e other h k = h
+same_broken (first ∷ rest) e other (inl h) (inl k) = inl (h.0, h.1, k.1)
+same_broken (first ∷ rest) e other (inl h) (inr k) = absurd (h.0 k.0)
+same_broken (first ∷ rest) e other (inr h) (inl k) = absurd (k.0 h.0)
+same_broken (first ∷ rest) e other (inr h) (inr k) = inr (h.0, same_broken rest e other h.1 k.1)
+
+answered : {A : Type 0} (reading : Reading A) → Decides reading → IsOne reading → (x : A) → reading.There x → IsAnswered reading x
+answered {A} reading decides one x there = record { there = there; only = by_answer }
+  where
+    by_answer : (r : Result A ErrorKind) → Answer reading r → r ≡ Ok x
+    by_answer (Ok y) h = ap Ok (one y x h there)
+    by_answer (Err e) h = absurd (broken reading.clauses e h (decides.1 (x, there)))
+
+same : {A : Type 0} (reading : Reading A) → Decides reading → IsOne reading → (r other : Result A ErrorKind) → Answer reading r → Answer reading other → SameAnswer reading.clauses r other
+same reading decides one (Ok x) (Ok y) h k = one x y h k
+same reading decides one (Ok x) (Err e) h k = broken reading.clauses e k (decides.1 (x, h))
+same reading decides one (Err e) (Ok x) h k = broken reading.clauses e h (decides.1 (x, k))
+same reading decides one (Err e) (Err other) h k = same_broken reading.clauses e other h k
+
+pub lawful : {A : Type 0} (reading : Reading A) → Decides reading → IsOne reading → IsLawful reading
+lawful reading decides one =
+    record {
+      decides = decides;
+      one = one;
+      nothing = λ e h x there. broken reading.clauses e h (decides.1 (x, there));
+      answered = answered reading decides one;
+      same = same reading decides one;
+    }
+
+-- numbers
+same_some : {A : Type 0} (m : Option A) (x y : A) → m ≡ Some x → m ≡ Some y → x ≡ y
+same_some m x y h k = let e : Some x ≡ Some y = sym h ∙ k in cc
+
+pub lawful_number : (S : List ℕ) (f : ℕ) (width : Width) → IsLawful (number_reading S f width)
+lawful_number S f width =
+    lawful (number_reading S f width) ((λ h. (number S f width, num_there S f width h.0)), λ n. (num_inside S f width n.0 n.1, tt))
+    (λ x y h k. same_some (Num S f width) x y h k)
+
+mapped_there : {A : Type 0} (g : ℕ → A) (m : Option ℕ) (x : A) → option_map g m ≡ Some x → (n : ℕ) × (m ≡ Some n)
+mapped_there g None x h = absurd (let f : None ≡ Some x = h in cc)
+mapped_there g (Some n) x h = (n, refl)
+
+-- a value that is computed of a number
+lawful_mapped : {A : Type 0} (g : ℕ → A) (S : List ℕ) (f : ℕ) (width : Width) → IsLawful (record { There = λ x. option_map g (Num S f width) ≡ Some x; clauses = number_clauses S f width })
+lawful_mapped {A} g S f width = lawful (record { There = λ x. option_map g (Num S f width) ≡ Some x; clauses = number_clauses S f width }) (
+  (λ h. (g (number S f width), ap (option_map g) (num_there S f width h.0))),
+  λ x. let n : (n : ℕ) × (Num S f width ≡ Some n) = mapped_there g (Num S f width) x.0 x.1 in (num_inside S f width n.0 n.1, tt),
+) (λ x y h k. same_some (option_map g (Num S f width)) x y h k)
+
+pub lawful_signed : (S : List ℕ) (f : ℕ) (width : Width) → IsLawful (signed_reading S f width)
+lawful_signed S f width = lawful_mapped (cast_signed width) S f width
+
+pub lawful_truth : (S : List ℕ) (f : ℕ) → IsLawful (truth_reading S f)
+lawful_truth S f = lawful_mapped (λ n. not (n == 0)) S f w8
+
+-- heads, texts and lists
+same_items : (a b : Items) → a.position ≡ b.position → a.count ≡ b.count → a ≡ b
+same_items a b p c =
+    ap (λ n. let items : Items = record { position = n; count = a.count } in items) p
+    ∙ ap (λ n. let items : Items = record { position = b.position; count = n } in items) c
+
+pub lawful_head : (S : List ℕ) (f : ℕ) → IsLawful (head_reading S f)
+lawful_head S f = lawful (head_reading S f) (
+  (λ h. (record { position = items_at S f; count = count_at S f }, head_there S f h.0 h.1.1.0)),
+  λ v. let facts : HeadFacts S f v.0.position v.0.count = head_facts S f v.0.position v.0.count v.1 in (facts.reference, (facts.inside, (facts.word, tt))),
+) one
+  where
+    one : IsOne (head_reading S f)
+    one x y h k =
+        let a : HeadFacts S f x.position x.count = head_facts S f x.position x.count h in
+        let b : HeadFacts S f y.position y.count = head_facts S f y.position y.count k in
+        same_items x y (a.position_is ∙ sym b.position_is) (a.count_is ∙ sym b.count_is)
+
+pub lawful_text : (S : List ℕ) (f : ℕ) → IsLawful (text_reading S f)
+lawful_text S f =
+    lawful (text_reading S f) ((λ h. (take (count_at S f) (drop (items_at S f) S), text_there S f h)), λ t. (text_holds S f t.0 t.1).0)
+    (λ x y h k. (text_holds S f x h).1 ∙ sym (text_holds S f y k).1)
+
+pub lawful_byte_list : (S : List ℕ) (f : ℕ) → IsLawful (byte_list_reading S f)
+lawful_byte_list S f =
+    lawful (byte_list_reading S f)
+    ((λ h. (take (count_at S f) (drop (items_at S f) S), byte_list_there S f h)), λ t. (byte_list_holds S f t.0 t.1).0)
+    (λ x y h k. (byte_list_holds S f x h).1 ∙ sym (byte_list_holds S f y k).1)
+
+one_vector : (S : List ℕ) (f stride p c p' c' : ℕ) → VectorThere S f stride p c → VectorThere S f stride p' c' → (p ≡ p') × (c ≡ c')
+one_vector S f stride p c p' c' h k =
+    let a : AllHold (vector_clauses S f stride) × (p ≡ items_at S f) × (c ≡ count_at S f) = vector_holds S f stride p c h in
+    let b : AllHold (vector_clauses S f stride) × (p' ≡ items_at S f) × (c' ≡ count_at S f) = vector_holds S f stride p' c' k in
+    (a.1 ∙ sym b.1, a.2 ∙ sym b.2)
+
+pub lawful_vector : (S : List ℕ) (f stride : ℕ) → IsLawful (vector_reading S f stride)
+lawful_vector S f stride = lawful (vector_reading S f stride) (
+  (λ h. (record { position = items_at S f; count = count_at S f }, vector_there S f stride h)),
+  λ v. (vector_holds S f stride v.0.position v.0.count v.1).0,
+) (λ x y h k. let e : (x.position ≡ y.position) × (x.count ≡ y.count) = one_vector S f stride x.position x.count y.position y.count h k in same_items x y e.0 e.1)
+
+same_union_items : (a b : UnionItems) → a.tags ≡ b.tags → a.references ≡ b.references → a.count ≡ b.count → a ≡ b
+same_union_items a b t r c =
+    ap (λ n. let items : UnionItems = record { tags = n; references = a.references; count = a.count } in items) t
+    ∙ ap (λ n. let items : UnionItems = record { tags = b.tags; references = n; count = a.count } in items) r
+    ∙ ap (λ n. let items : UnionItems = record { tags = b.tags; references = b.references; count = n } in items) c
+
+pub lawful_union_vector : (S : List ℕ) (f g : ℕ) → IsLawful (union_vector_reading S f g)
+lawful_union_vector S f g = lawful (union_vector_reading S f g) (
+  (λ h. (record { tags = items_at S f; references = items_at S g; count = count_at S f }, union_vector_there S f g h)),
+  λ v. union_vector_holds S f g v.0.tags v.0.references v.0.count v.1,
+) one
+  where
+    one : IsOne (union_vector_reading S f g)
+    one x y h k =
+        let tags : (x.tags ≡ y.tags) × (x.count ≡ y.count) = one_vector S f 1 x.tags x.count y.tags y.count h.tags_there k.tags_there in
+        let references : (x.references ≡ y.references) × (x.count ≡ y.count) = one_vector S g 4 x.references x.count y.references y.count h.references_there k.references_there in
+        same_union_items x y tags.0 references.0 tags.1
+
+-- tables
+same_place : (a b : TablePlace) → a.object ≡ b.object → a.vtable ≡ b.vtable → a.size ≡ b.size → a ≡ b
+same_place a b o t z =
+    ap (λ n. let place : TablePlace = record { object = n; vtable = a.vtable; size = a.size } in place) o
+    ∙ ap (λ n. let place : TablePlace = record { object = b.object; vtable = n; size = a.size } in place) t
+    ∙ ap (λ n. let place : TablePlace = record { object = b.object; vtable = b.vtable; size = n } in place) z
+
+pub lawful_table : (S : List ℕ) (f : ℕ) → IsLawful (table_reading S f)
+lawful_table S f = lawful (table_reading S f) (
+  (λ h. (record { object = target S f; vtable = vtable_at S (target S f); size = vtable_size_at S (target S f) }, table_there S f h)),
+  λ t. (table_holds S f t.0.object t.0.vtable t.0.size t.1).0,
+) one
+  where
+    one : IsOne (table_reading S f)
+    one x y h k =
+        let a : AllHold (table_clauses S f) × (x.object ≡ target S f) × (x.vtable ≡ vtable_at S (target S f)) × (x.size ≡ vtable_size_at S (target S f)) = table_holds S f x.object x.vtable x.size h in
+        let b : AllHold (table_clauses S f) × (y.object ≡ target S f) × (y.vtable ≡ vtable_at S (target S f)) × (y.size ≡ vtable_size_at S (target S f)) = table_holds S f y.object y.vtable y.size k in
+        same_place x y (a.1 ∙ sym b.1) (a.2 ∙ sym b.2) (a.3 ∙ sym b.3)
