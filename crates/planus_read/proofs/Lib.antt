@@ -2,6 +2,5 @@ pub mod Moves
 pub mod Parts
 pub mod Readers
 pub mod ReadingLaws
-pub mod Walks
 pub mod TableReading
 pub mod ListReading

@@ -203,7 +203,9 @@ impl<'buf> Table<'buf> {
         Ok(Some(T::from_buffer(self.object, tags, values)?))
     }
 
-    fn access_in<'n, T: TableRead<'buf>>(
+    /// The field of a slot, `None` where it is absent. Slots count from 0; one past the vtable is absent.
+    /// The errors are those of `T`. Every error has the location of this table under these names.
+    pub fn access<'n, T: TableRead<'buf>>(
         &self,
         slot: usize,
         type_: &'n str,
@@ -215,20 +217,8 @@ impl<'buf> Table<'buf> {
         self.located(answer, type_, method)
     }
 
-    /// The field of a slot, `None` where it is absent. Slots count from 0; one past the vtable is absent.
-    /// The errors are those of `T`. Every error has the location of this table under these names.
-    pub fn access<T: TableRead<'buf>>(
-        &self,
-        slot: usize,
-        type_: &'static str,
-        method: &'static str,
-    ) -> crate::Result<Option<T>>
-        ensures { Located (FieldAnswer T.reads self.now slot) type_.now method.now (table_start self.now) result }
-    {
-        self.access_in::<T>(slot, type_, method)
-    }
-
-    fn access_required_in<'n, T: TableRead<'buf>>(
+    /// As [`Table::access`], with [`ErrorKind::MissingRequired`] in place of `None`, and the errors of `T`.
+    pub fn access_required<'n, T: TableRead<'buf>>(
         &self,
         slot: usize,
         type_: &'n str,
@@ -240,19 +230,11 @@ impl<'buf> Table<'buf> {
         self.located(answer, type_, method)
     }
 
-    /// As [`Table::access`], with [`ErrorKind::MissingRequired`] in place of `None`, and the errors of `T`.
-    pub fn access_required<T: TableRead<'buf>>(
-        &self,
-        slot: usize,
-        type_: &'static str,
-        method: &'static str,
-    ) -> crate::Result<T>
-        ensures { Located (Required (FieldAnswer T.reads self.now slot)) type_.now method.now (table_start self.now) result }
-    {
-        self.access_required_in::<T>(slot, type_, method)
-    }
-
-    fn access_union_in<'n, T: TableReadUnion<'buf>>(
+    /// The union whose tag stands in a slot and whose value in the next, `None` where the tag or a slot is 0 or the vtable ends before.
+    /// The tag is read first, also at a slot that holds 0: [`ErrorKind::InvalidOffset`] where it isn't in the buffer.
+    /// [`ErrorKind::InvalidVtableLength`] where the vtable ends between the two slots. And the errors of `T`.
+    /// Every error has the location of this table under these names.
+    pub fn access_union<'n, T: TableReadUnion<'buf>>(
         &self,
         slot: usize,
         type_: &'n str,
@@ -264,22 +246,8 @@ impl<'buf> Table<'buf> {
         self.located(answer, type_, method)
     }
 
-    /// The union whose tag stands in a slot and whose value in the next, `None` where the tag or a slot is 0 or the vtable ends before.
-    /// The tag is read first, also at a slot that holds 0: [`ErrorKind::InvalidOffset`] where it isn't in the buffer.
-    /// [`ErrorKind::InvalidVtableLength`] where the vtable ends between the two slots. And the errors of `T`.
-    /// Every error has the location of this table under these names.
-    pub fn access_union<T: TableReadUnion<'buf>>(
-        &self,
-        slot: usize,
-        type_: &'static str,
-        method: &'static str,
-    ) -> crate::Result<Option<T>>
-        ensures { Located (UnionAnswer T.reads self.now slot) type_.now method.now (table_start self.now) result }
-    {
-        self.access_union_in::<T>(slot, type_, method)
-    }
-
-    fn access_union_required_in<'n, T: TableReadUnion<'buf>>(
+    /// As [`Table::access_union`], with [`ErrorKind::MissingRequired`] in place of `None`, and the errors of `T`.
+    pub fn access_union_required<'n, T: TableReadUnion<'buf>>(
         &self,
         slot: usize,
         type_: &'n str,
@@ -291,19 +259,11 @@ impl<'buf> Table<'buf> {
         self.located(answer, type_, method)
     }
 
-    /// As [`Table::access_union`], with [`ErrorKind::MissingRequired`] in place of `None`, and the errors of `T`.
-    pub fn access_union_required<T: TableReadUnion<'buf>>(
-        &self,
-        slot: usize,
-        type_: &'static str,
-        method: &'static str,
-    ) -> crate::Result<T>
-        ensures { Located (Required (UnionAnswer T.reads self.now slot)) type_.now method.now (table_start self.now) result }
-    {
-        self.access_union_required_in::<T>(slot, type_, method)
-    }
-
-    fn access_union_vector_in<'n, T: TableReadUnionVector<'buf>>(
+    /// The vector of unions whose tags stand in a slot and whose values in the next, `None` where both slots are 0 or don't both lie in
+    /// the vtable.
+    /// [`ErrorKind::InvalidOffset`] where exactly one of them is 0. And the errors of `T`.
+    /// Every error has the location of this table under these names.
+    pub fn access_union_vector<'n, T: TableReadUnionVector<'buf>>(
         &self,
         slot: usize,
         type_: &'n str,
@@ -315,22 +275,8 @@ impl<'buf> Table<'buf> {
         self.located(answer, type_, method)
     }
 
-    /// The vector of unions whose tags stand in a slot and whose values in the next, `None` where both slots are 0 or don't both lie in
-    /// the vtable.
-    /// [`ErrorKind::InvalidOffset`] where exactly one of them is 0. And the errors of `T`.
-    /// Every error has the location of this table under these names.
-    pub fn access_union_vector<T: TableReadUnionVector<'buf>>(
-        &self,
-        slot: usize,
-        type_: &'static str,
-        method: &'static str,
-    ) -> crate::Result<Option<T>>
-        ensures { Located (UnionVectorAnswer T.reads self.now slot) type_.now method.now (table_start self.now) result }
-    {
-        self.access_union_vector_in::<T>(slot, type_, method)
-    }
-
-    fn access_union_vector_required_in<'n, T: TableReadUnionVector<'buf>>(
+    /// As [`Table::access_union_vector`], with [`ErrorKind::MissingRequired`] in place of `None`, and the errors of `T`.
+    pub fn access_union_vector_required<'n, T: TableReadUnionVector<'buf>>(
         &self,
         slot: usize,
         type_: &'n str,
@@ -340,18 +286,6 @@ impl<'buf> Table<'buf> {
     {
         let answer = required(self.union_vector_field::<T>(slot));
         self.located(answer, type_, method)
-    }
-
-    /// As [`Table::access_union_vector`], with [`ErrorKind::MissingRequired`] in place of `None`, and the errors of `T`.
-    pub fn access_union_vector_required<T: TableReadUnionVector<'buf>>(
-        &self,
-        slot: usize,
-        type_: &'static str,
-        method: &'static str,
-    ) -> crate::Result<T>
-        ensures { Located (Required (UnionVectorAnswer T.reads self.now slot)) type_.now method.now (table_start self.now) result }
-    {
-        self.access_union_vector_required_in::<T>(slot, type_, method)
     }
 }
 

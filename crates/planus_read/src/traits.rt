@@ -133,30 +133,27 @@ pub trait VectorName {
 pub trait VectorReadUnion<'buf>: TableReadUnion<'buf> + VectorName {
     /// The union with this tag whose reference stands at the offset, in bytes from the start of the piece. Its errors are those of the
     /// [`TableReadUnion`], at the start of the piece under the vector's name and the method `get`.
-    fn from_buffer(buffer: SliceWithStartOffset<'buf>, tag: u8, offset: usize) -> Result<Self>
+    fn from_buffer<'n>(
+        buffer: SliceWithStartOffset<'buf>,
+        tag: u8,
+        offset: usize,
+    ) -> std::result::Result<Self, located::Error<'n>>
         ensures { Located (Self.reads (slice_bytes buffer.entry) (slice_start buffer.entry) tag offset) Self.name (codes "get") (slice_start buffer.entry) result };
 }
 
-// The item with names of any lifetime.
-fn union_item<'buf, 'n, T: TableReadUnion<'buf> + VectorName>(
-    buffer: SliceWithStartOffset<'buf>,
-    tag: u8,
-    offset: usize,
-) -> std::result::Result<T, located::Error<'n>>
-    ensures { Located (T.reads (slice_bytes buffer.entry) (slice_start buffer.entry) tag offset) T.name (codes "get") (slice_start buffer.entry) result }
-{
-    match T::from_buffer(buffer, tag, offset) {
-        Ok(value) => Ok(value),
-        Err(kind) => Err(kind.with_error_location(
-            T::vector_name(),
-            "get",
-            buffer.offset_from_start(),
-        )),
-    }
-}
-
 impl<'buf, T: TableReadUnion<'buf> + VectorName> VectorReadUnion<'buf> for T {
-    fn from_buffer(buffer: SliceWithStartOffset<'buf>, tag: u8, offset: usize) -> Result<T> {
-        union_item::<T>(buffer, tag, offset)
+    fn from_buffer<'n>(
+        buffer: SliceWithStartOffset<'buf>,
+        tag: u8,
+        offset: usize,
+    ) -> std::result::Result<T, located::Error<'n>> {
+        match <T as TableReadUnion<'buf>>::from_buffer(buffer, tag, offset) {
+            Ok(value) => Ok(value),
+            Err(kind) => Err(kind.with_error_location(
+                T::vector_name(),
+                "get",
+                buffer.offset_from_start(),
+            )),
+        }
     }
 }
