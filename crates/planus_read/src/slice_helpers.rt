@@ -106,11 +106,12 @@ impl<'buf> SliceWithStartOffset<'buf> {
         ensures array { IfOk result (λ array. IsArrayAt (slice_bytes self.now) (slice_start self.now) amount array) }
         ensures error { IfErr result (λ e. (length (slice_bytes self.now) < amount + N) × (e ≡ ErrorKind.InvalidOffset)) }
     {
-        let len = self.buffer.len();
-        if amount > len || N > len - amount {
-            return Err(ErrorKind::InvalidOffset);
+        match amount.checked_add(N) {
+            Some(end) if end <= self.buffer.len() => {
+                Ok(self.unchecked_advance_as_array::<N>(amount))
+            }
+            _ => Err(ErrorKind::InvalidOffset),
         }
-        Ok(self.unchecked_advance_as_array::<N>(amount))
     }
 
     /// The `N` bytes that start `amount` bytes further on, all of which lie in this piece.

@@ -29,9 +29,14 @@ fn vtable_offset(buffer: SliceWithStartOffset<'_>, object_offset: usize) -> Resu
     ensures error { IfErr result (λ e. FirstBroken (word_clauses (slice_bytes buffer.entry) object_offset []) e) }
 {
     let relative = i32_at(buffer, object_offset)?;
-    object_offset
-        .checked_sub_signed(relative as isize)
-        .ok_or(ErrorKind::InvalidOffset)
+    if relative < 0 {
+        return Ok(object_offset + relative.unsigned_abs() as usize);
+    }
+    let relative = relative as usize;
+    if relative > object_offset {
+        return Err(ErrorKind::InvalidOffset);
+    }
+    Ok(object_offset - relative)
 }
 
 // The slots of the vtable of the object.
