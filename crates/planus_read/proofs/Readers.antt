@@ -10,6 +10,7 @@ use denote.Ref.{Bor}
 use Rattle.planus_read.specs.declared.errors.ErrorKind.{ErrorKind}
 use Rattle.planus_read.specs.declared.slice_helpers.SliceWithStartOffset.{SliceWithStartOffset}
 use Rattle.planus_read.specs.Bytes.{Num, Int, BytesStand}
+use Rattle.planus_read.specs.Utf8.{utf8_clause}
 use Rattle.planus_read.specs.Clauses.{AllHold, FirstBroken, Answer, shown}
 use Rattle.planus_read.specs.Pieces.{slice_bytes}
 use Rattle.planus_read.specs.Heads.{ShowsItems, IsTextOf, text_of_clauses}
@@ -152,7 +153,7 @@ no_text_of_head S f count e head counted (inr (z, inl b)) =
           head.1.1.0,
           inr (
             zero_moves_back S (items_at S f) count (count_at S f) head.1.1.0 counted z,
-            inl ((λ u. b.0 (subst IsUtf8 (ap (λ n. take n (drop (items_at S f) S)) (sym counted)) u)), b.1),
+            subst (λ n. FirstBroken (utf8_clause (take n (drop (items_at S f) S)) ∷ []) e) counted (inl b),
           ),
         ),
       ),

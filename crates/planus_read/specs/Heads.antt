@@ -3,7 +3,8 @@ use Rattle.std.specs.Prelude.{◌≡◌, ℕ, ◌+◌, List, [], ◌∷◌, take
 use Rattle.planus_read.specs.declared.slice_helpers.SliceWithStartOffset.{SliceWithStartOffset}
 use Rattle.planus_read.specs.Clauses.{Clause, clause}
 use Rattle.planus_read.specs.Pieces.{slice_bytes, slice_start}
-use Rattle.planus_read.specs.Reading.{Items, ZeroByte, IsUtf8Error}
+use Rattle.planus_read.specs.Reading.{Items, ZeroByte}
+use Rattle.planus_read.specs.Utf8.{utf8_clause}
 use Rattle.planus_read.specs.declared.errors.ErrorKind.TheVariants.{MissingNullTerminator}
 use Rattle.std.specs.Str.{IsUtf8}
 
@@ -22,4 +23,4 @@ pub record IsTextOf (items : List ℕ) (count : ℕ) (content : List ℕ) : Type
 -- the clauses of that text: a zero byte behind the first count items, and that these are UTF-8
 abbrev pub text_of_clauses : List ℕ → ℕ → List Clause
 text_of_clauses items count =
-    clause (ZeroByte items 0 count) MissingNullTerminator ∷ record { holds = IsUtf8 (take count items); errors = IsUtf8Error } ∷ []
+    clause (ZeroByte items 0 count) MissingNullTerminator ∷ utf8_clause (take count items) ∷ []

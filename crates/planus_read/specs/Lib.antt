@@ -7,6 +7,7 @@ pub mod Moves
 pub mod Texts
 pub mod Pieces
 pub mod Clauses
+pub mod Utf8
 pub mod Reading
 pub mod Heads
 pub mod Located

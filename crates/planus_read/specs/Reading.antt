@@ -1,15 +1,15 @@
 -- What stands for a reader at a field of some bytes, and the clauses that a reader tests there in order. S is the bytes, f the field's
 -- offset in them. A value side is said by `Num` and `Stands` over all of S; the clauses are sums and limits.
-use Rattle.std.specs.Prelude.{◌≡◌, ℕ, ◌+◌, ◌*◌, ◌%◌, ◌<◌, ◌≤◌, ◌≤ℤ◌, ◌-ℤ◌, ℤ, pos, unsigned_abs, List, [], ◌∷◌, length, take, drop, slice_index, Some, ⊤, Bool, not, ◌==◌}
+use Rattle.std.specs.Prelude.{◌≡◌, ℕ, ◌+◌, ◌*◌, ◌%◌, ◌<◌, ◌≤◌, ◌≤ℤ◌, ◌-ℤ◌, ℤ, pos, unsigned_abs, List, [], ◌∷◌, length, take, drop, slice_index, Some, Bool, not, ◌==◌}
 use Rattle.std.specs.Option.{option_map}
 use Rattle.std.specs.Str.{IsUtf8}
 use Rattle.std.specs.Int.{Width, w8, w16, w32, byte_len, from_le_bytes, cast_signed}
-use Rattle.planus_read.specs.declared.errors.ErrorKind.{ErrorKind}
-use Rattle.planus_read.specs.declared.errors.ErrorKind.TheVariants.{InvalidOffset, InvalidLength, UnionVectorLengthsMismatched, InvalidVtableLength, InvalidUtf8, MissingNullTerminator}
+use Rattle.planus_read.specs.declared.errors.ErrorKind.TheVariants.{InvalidOffset, InvalidLength, UnionVectorLengthsMismatched, InvalidVtableLength, MissingNullTerminator}
 use Rattle.planus_read.specs.Bytes.{Num, Int}
 use Rattle.planus_read.specs.Values.{text, byte_list}
 use Rattle.planus_read.specs.Stands.{Stands, at}
 use Rattle.planus_read.specs.Clauses.{Clause, clause, Reading}
+use Rattle.planus_read.specs.Utf8.{utf8_clause}
 
 -- the number of the width's bytes at the position, bytes past the end being taken as 0
 abbrev pub number : List ℕ → ℕ → Width → ℕ
@@ -66,11 +66,6 @@ head_reading S f =
 abbrev pub TextThere : List ℕ → ℕ → List ℕ → Type 0
 TextThere S f content = (position : ℕ) × Leads S f position × Stands S (at position) (text content) × IsUtf8 content
 
--- the error of a text that isn't UTF-8; the fault that it names is left open
-abbrev pub IsUtf8Error : ErrorKind → Type 0
-IsUtf8Error (InvalidUtf8 source) = ⊤
-IsUtf8Error _ = ⊥
-
 -- the byte at the count behind the items exists and is 0
 abbrev pub ZeroByte : List ℕ → ℕ → ℕ → Type 0
 ZeroByte S first count = (first + count < length S) × (slice_index S (first + count) ≡ 0)
@@ -79,7 +74,7 @@ ZeroByte S first count = (first + count < length S) × (slice_index S (first + c
 abbrev pub text_clauses : List ℕ → ℕ → List Clause
 text_clauses S f =
     head_clauses S f (clause (ZeroByte S (items_at S f) (count_at S f)) MissingNullTerminator
-    ∷ record { holds = IsUtf8 (take (count_at S f) (drop (items_at S f) S)); errors = IsUtf8Error } ∷ [])
+    ∷ utf8_clause (take (count_at S f) (drop (items_at S f) S)) ∷ [])
 
 -- the reading of a text
 abbrev pub text_reading : List ℕ → ℕ → Reading (List ℕ)

@@ -1,7 +1,7 @@
 -- The texts that errors print.
 use Rattle.std.specs.Prelude.{ℕ, List, [], ◌++◌, ◌-◌, ◌^◌, ◌==◌, false, codes, Option, Some, None, if◌then◌else◌}
 use Rattle.std.specs.Fmt.{decimal, signed_decimal, digits}
-use Rattle.std.specs.Option.{option_map}
+use Rattle.std.specs.Str.{valid_up_to, error_len}
 use Rattle.planus_read.specs.declared.errors.ErrorKind.{ErrorKind}
 use Rattle.planus_read.specs.declared.errors.ErrorKind.TheVariants.{InvalidOffset, InvalidLength, UnionVectorLengthsMismatched, UnknownEnumTag as unknown_enum_tag, UnknownUnionTag, InvalidVtableLength, InvalidUtf8, MissingRequired, MissingNullTerminator}
 use Rattle.planus_read.specs.declared.errors.UnknownEnumTagKind.{UnknownEnumTagKind}
@@ -13,18 +13,26 @@ use Rattle.planus_read.specs.declared.located.UnknownEnumTag.{UnknownEnumTag}
 abbrev pub unknown_tag_text : UnknownEnumTagKind → List ℕ
 unknown_tag_text kind = codes "Unknown enum (tag = " ++ signed_decimal kind.tag ++ codes ")"
 
--- the text of a kind; that of a fault in UTF-8 has the fault's own words, and is left open
-abbrev pub kind_text : ErrorKind → Option (List ℕ)
-kind_text InvalidOffset = Some (codes "Invalid offset")
-kind_text InvalidLength = Some (codes "Invalid length")
+-- The text of a fault in UTF-8 by its two numbers: the bytes in front of it that are UTF-8, and the bytes at fault, or none where the
+-- bytes end within a character.
+abbrev pub utf8_text : ℕ → Option ℕ → List ℕ
+utf8_text valid_len (Some error_len) =
+    codes "invalid utf-8 sequence of " ++ (decimal error_len ++ (codes " bytes from index " ++ decimal valid_len))
+utf8_text valid_len None = codes "incomplete utf-8 byte sequence from index " ++ decimal valid_len
+
+-- the text of a kind
+abbrev pub kind_text : ErrorKind → List ℕ
+kind_text InvalidOffset = codes "Invalid offset"
+kind_text InvalidLength = codes "Invalid length"
 kind_text (UnionVectorLengthsMismatched tags_len values_len) =
-    Some (codes "Mismatched lengths between tag and value vectors. Length of tags = " ++ (decimal tags_len ++ (codes ", length of values = " ++ decimal values_len)))
-kind_text (unknown_enum_tag source) = Some (unknown_tag_text source)
-kind_text (UnknownUnionTag tag) = Some (codes "Unknown union (tag = " ++ decimal tag ++ codes ")")
-kind_text (InvalidVtableLength size) = Some (codes "Invalid vtable length (length = " ++ decimal size ++ codes ")")
-kind_text (InvalidUtf8 source) = None
-kind_text MissingRequired = Some (codes "Missing required field")
-kind_text MissingNullTerminator = Some (codes "Missing null terminator")
+    codes "Mismatched lengths between tag and value vectors. Length of tags = "
+    ++ (decimal tags_len ++ (codes ", length of values = " ++ decimal values_len))
+kind_text (unknown_enum_tag source) = unknown_tag_text source
+kind_text (UnknownUnionTag tag) = codes "Unknown union (tag = " ++ decimal tag ++ codes ")"
+kind_text (InvalidVtableLength size) = codes "Invalid vtable length (length = " ++ decimal size ++ codes ")"
+kind_text (InvalidUtf8 source) = codes "Invalid utf-8: " ++ utf8_text (valid_up_to source) (error_len source)
+kind_text MissingRequired = codes "Missing required field"
+kind_text MissingNullTerminator = codes "Missing null terminator"
 
 -- the offset of a location that has none: the greatest of 64 bits
 abbrev pub no_offset : ℕ
@@ -41,9 +49,9 @@ location_text location =
 abbrev pub located_text : ErrorLocation → List ℕ → List ℕ
 located_text location kind = codes "In " ++ location_text location ++ codes ": " ++ kind
 
--- the text of an error, where that of its kind is known
-abbrev pub error_text : Error → Option (List ℕ)
-error_text e = option_map (located_text e.source_location) (kind_text e.error_kind)
+-- the text of an error
+abbrev pub error_text : Error → List ℕ
+error_text e = located_text e.source_location (kind_text e.error_kind)
 
 -- the text of an unknown value at its location
 abbrev pub unknown_enum_tag_text : UnknownEnumTag → List ℕ

@@ -63,10 +63,34 @@ pub struct UnknownEnumTagKind {
     pub tag: i128,
 }
 
+// The two numbers of a fault in UTF-8: the bytes in front of it that are UTF-8, and the bytes at fault, none where the text ends within
+// a character. They print as std prints the fault itself, whose own Display has no text in its contract.
+#[derive(Clone, Copy)]
+struct Utf8Fault {
+    valid_len: usize,
+    error_len: Option<usize>,
+}
+
+impl fmt::Display for Utf8Fault {
+    ghost use Rattle.planus_read.specs.Texts.{utf8_text};
+    ghost use Rattle.std.specs.Prelude.{Some};
+
+    ghost output = { λ fault. Some (utf8_text fault.valid_len fault.error_len) };
+
+    fn fmt<W: fmt::Write>(&self, f: &mut fmt::Formatter<W>) -> fmt::Result {
+        let at = self.valid_len;
+        match self.error_len {
+            Some(len) => write!(f, "invalid utf-8 sequence of {len} bytes from index {at}"),
+            None => write!(f, "incomplete utf-8 byte sequence from index {at}"),
+        }
+    }
+}
+
 impl fmt::Display for ErrorKind {
     ghost use Rattle.planus_read.specs.Texts.{kind_text};
+    ghost use Rattle.std.specs.Prelude.{Some};
 
-    ghost output = { kind_text };
+    ghost output = { λ kind. Some (kind_text kind) };
 
     fn fmt<W: fmt::Write>(&self, f: &mut fmt::Formatter<W>) -> fmt::Result {
         match self {
@@ -85,7 +109,13 @@ impl fmt::Display for ErrorKind {
                 f,
                 "Invalid vtable length (length = {length})"
             ),
-            ErrorKind::InvalidUtf8 { source } => write!(f, "Invalid utf-8: {source}"),
+            ErrorKind::InvalidUtf8 { source } => {
+                let fault = Utf8Fault {
+                    valid_len: source.valid_up_to(),
+                    error_len: source.error_len(),
+                };
+                write!(f, "Invalid utf-8: {fault}")
+            }
             ErrorKind::MissingRequired => write!(f, "Missing required field"),
             ErrorKind::MissingNullTerminator => write!(f, "Missing null terminator"),
         }

@@ -55,8 +55,9 @@ impl<'n> fmt::Display for ErrorLocation<'n> {
 
 impl<'n> fmt::Display for Error<'n> {
     ghost use Rattle.planus_read.specs.Texts.{error_text};
+    ghost use Rattle.std.specs.Prelude.{Some};
 
-    ghost output = { error_text };
+    ghost output = { λ e. Some (error_text e) };
 
     fn fmt<W: fmt::Write>(&self, f: &mut fmt::Formatter<W>) -> fmt::Result {
         let (location, kind) = (self.source_location, self.error_kind);

@@ -1,5 +1,6 @@
 //! The texts of errors.
 
+use super::traits::field;
 use crate::errors::{Error, ErrorKind, ErrorLocation, UnknownEnumTag, UnknownEnumTagKind};
 use std::test::Fail;
 
@@ -41,22 +42,52 @@ fn kinds_print_their_texts(rt: HostRuntime) -> Result<(), Fail> {
 }
 
 #[test]
-fn a_fault_in_utf8_begins_its_text(rt: HostRuntime) -> Result<(), Fail> {
-    let Err(source) = std::str::from_utf8(&[0xff]) else {
-        assert!(rt; false, "a text");
-        return Ok(());
-    };
-    let shown = format!(in rt.alloc(); "{}", ErrorKind::from(source))?;
-    let words = format!(in rt.alloc(); "Invalid utf-8: {source}")?;
-    assert_eq!(rt; shown.as_str(), words.as_str());
-    let error: Error = ErrorKind::from(source).with_error_location("T", "m", 255);
-    let shown = format!(in rt.alloc(); "{error}")?;
-    assert!(rt;
-        shown
-            .as_str()
-            .starts_with("In <T@ff>::m(): Invalid utf-8: "),
-        "{shown}"
-    );
+fn faults_in_utf8_print_as_std_prints_them(rt: HostRuntime) -> Result<(), Fail> {
+    let rows: [(&[u8], &str); 4] = [
+        (
+            &[0xff],
+            "Invalid utf-8: invalid utf-8 sequence of 1 bytes from index 0",
+        ),
+        (
+            &[b'A', 0xf0, 0x9f, 0x92, b'B', 0xff],
+            "Invalid utf-8: invalid utf-8 sequence of 3 bytes from index 1",
+        ),
+        (
+            &[b'A', b'x', 0xe2, 0x82],
+            "Invalid utf-8: incomplete utf-8 byte sequence from index 2",
+        ),
+        (
+            &[0xc3, 0xa9, 0xc3],
+            "Invalid utf-8: incomplete utf-8 byte sequence from index 2",
+        ),
+    ];
+    for (bytes, text) in rows {
+        let Err(source) = std::str::from_utf8(bytes) else {
+            assert!(rt; false, "a text");
+            return Ok(());
+        };
+        let shown = format!(in rt.alloc(); "{}", ErrorKind::from(source))?;
+        assert_eq!(rt; shown.as_str(), text);
+        let words = format!(in rt.alloc(); "Invalid utf-8: {source}")?;
+        assert_eq!(rt; shown.as_str(), words.as_str());
+    }
+    Ok(())
+}
+
+#[test]
+fn texts_name_their_first_fault(rt: HostRuntime) -> Result<(), Fail> {
+    let bytes = [4, 0, 0, 0, 4, 0, 0, 0, b'A', b'x', 0xff, 0xfe, 0];
+    match field::<&str>(&bytes, 0) {
+        Ok(_) => assert!(rt; false, "a text"),
+        Err(kind) => {
+            let error: Error = kind.with_error_location("T", "m", 255);
+            let shown = format!(in rt.alloc(); "{error}")?;
+            assert_eq!(rt;
+                shown.as_str(),
+                "In <T@ff>::m(): Invalid utf-8: invalid utf-8 sequence of 1 bytes from index 2"
+            );
+        }
+    }
     Ok(())
 }
 
