@@ -1,8 +1,8 @@
 //! No reader asks for memory.
 
-use super::rows::{HALF_UNION_VECTOR, TAG_PAST_END, U16_TABLE, fails_with};
+use super::rows::{Heads, fails_with};
 use super::traits::{BYTES, OneText, TEXTS, field, inner_item, item, union_item};
-use super::{UNIONS, WEAPON, all_agree};
+use super::{UNIONS, WEAPON};
 use crate::errors::{Error, ErrorKind, UnknownEnumTagKind};
 use crate::table_reader::Table;
 use crate::{Place, SignedBytes, SliceWithStartOffset, TaggedPlace};
@@ -26,22 +26,55 @@ fn exhaust(alloc: Global, held: &mut Vec<Vec<u8>>) {
     }
 }
 
-// Numbers, texts, byte lists, heads and tables, and the accessors of tables.
 fn fields_are_read() -> bool {
-    let rows: [&[u8]; 5] = [
-        &WEAPON,
-        &UNIONS,
-        &U16_TABLE,
-        &HALF_UNION_VECTOR,
-        &TAG_PAST_END,
-    ];
     let signed = field::<SignedBytes<'_>>(&TEXTS, 0).map(|list| (list.len(), list.get(1)));
     let place = field::<Place<'_>>(&TEXTS, 0).map(|place| place.read::<&str>());
-    rows.iter()
-        .all(|bytes| (0..24).all(|f| all_agree(bytes, f)))
+    matches!(field::<u8>(&BYTES, 8), Ok(1))
+        && matches!(field::<u16>(&BYTES, 8), Ok(1))
+        && matches!(field::<u32>(&BYTES, 8), Ok(0x2_0001))
+        && matches!(field::<u64>(&BYTES, 8), Ok(0x3_0002_0001))
+        && matches!(field::<i8>(&BYTES, 0), Ok(-1))
+        && matches!(field::<i16>(&BYTES, 0), Ok(-257))
+        && matches!(field::<i32>(&BYTES, 8), Ok(0x2_0001))
+        && matches!(field::<i64>(&BYTES, 8), Ok(0x3_0002_0001))
+        && matches!(field::<bool>(&BYTES, 8), Ok(true))
+        && matches!(field::<&str>(&TEXTS, 0), Ok("Hi"))
+        && matches!(field::<&[u8]>(&TEXTS, 0), Ok(b"Hi"))
         && matches!(signed, Ok((2, Some(105))))
         && matches!(place, Ok(Ok("Hi")))
-        && field::<Table<'_>>(&WEAPON, 0).is_ok()
+        && matches!(field::<&str>(&TEXTS, 4), Err(ErrorKind::InvalidOffset))
+        && matches!(field::<Table<'_>>(&TEXTS, 4), Err(ErrorKind::InvalidOffset))
+}
+
+fn accessors_answer() -> bool {
+    let (Ok(weapon), Ok(unions)) = (
+        field::<Table<'_>>(&WEAPON, 0),
+        field::<Table<'_>>(&UNIONS, 0),
+    ) else {
+        return false;
+    };
+    let union = unions.access_union::<TaggedPlace<'_>>(0, "T", "u");
+    let required = unions.access_union_required::<TaggedPlace<'_>>(0, "T", "u");
+    let vector = unions.access_union_vector::<Heads<'_>>(2, "T", "v");
+    let whole = unions.access_union_vector_required::<Heads<'_>>(2, "T", "v");
+    let count = whole.map(|heads| heads.tags.1);
+    matches!(weapon.access::<&str>(0, "T", "n"), Ok(Some("Axe")))
+        && matches!(weapon.access::<&str>(2, "T", "n"), Ok(None))
+        && matches!(weapon.access_required::<u16>(1, "T", "n"), Ok(24))
+        && matches!(
+            union.map(|union| union.map(|union| union.tag())),
+            Ok(Some(1))
+        )
+        && matches!(required.map(|union| union.tag()), Ok(1))
+        && matches!(
+            vector.map(|heads| heads.map(|heads| heads.tags.1)),
+            Ok(Some(2))
+        )
+        && matches!(count, Ok(2))
+        && fails_with(
+            weapon.access_required::<u16>(9, "T", "n"),
+            ErrorKind::MissingRequired,
+        )
 }
 
 fn items_are_read() -> bool {
@@ -111,11 +144,15 @@ fn no_reader_asks_for_memory(rt: HostRuntime) -> Result<(), Fail> {
     exhaust(alloc, &mut held);
     let refused = Vec::<u8>::with_capacity(alloc, 1).is_err();
     let fields = fields_are_read();
+    let accessors = accessors_answer();
     let items = items_are_read();
     let pieces = pieces_advance();
     let errors = errors_are_made();
     drop(held);
     assert!(rt; refused, "memory was left");
-    assert_eq!(rt; (fields, items, pieces, errors), (true, true, true, true));
+    assert_eq!(rt;
+        (fields, accessors, items, pieces, errors),
+        (true, true, true, true, true)
+    );
     Ok(())
 }

@@ -1,11 +1,9 @@
 mod errors;
 mod memory;
-mod plain_reader;
 mod rows;
 mod traits;
 
 use crate::plain;
-use plain_reader::{FAR_SLOTS, SLOTS, fields_agree, numbers_agree};
 
 const WEAPON: [u8; 32] = [
     4, 0, 0, 0, 0xf4, 0xff, 0xff, 0xff, 16, 0, 0, 0, 24, 0, 0, 0, 8, 0, 10, 0, 4, 0, 8, 0, 3, 0, 0,
@@ -31,77 +29,4 @@ fn plain_programs_read_the_weapon(rt: HostRuntime) {
     assert!(rt; plain::text_stands_at(&WEAPON, 24, b"Axe"));
     assert!(rt; !plain::text_stands_at(&WEAPON, 24, b"Ax"));
     assert!(rt; !plain::text_stands_at(&WEAPON[..31], 24, b"Axe"));
-}
-
-// Whether the readers and the plain reader agree at this offset, wherever the bytes start, and at all slots.
-fn all_agree(bytes: &[u8], f: usize) -> bool {
-    for start in [0, 1000] {
-        let agree = numbers_agree(bytes, f, start)
-            && fields_agree(bytes, f, start, &SLOTS)
-            && fields_agree(bytes, f, start, &FAR_SLOTS);
-        if !agree {
-            return false;
-        }
-    }
-    true
-}
-
-#[test]
-fn readers_agree_at_every_prefix(rt: HostRuntime) {
-    let far = [usize::MAX / 2, usize::MAX - 8, usize::MAX - 1, usize::MAX];
-    for len in 0..33 {
-        for f in (0..34).chain(far) {
-            assert!(rt;
-                all_agree(&WEAPON[..len], f),
-                "the first {len} bytes at {f}"
-            );
-        }
-    }
-    for len in 0..79 {
-        for f in 0..24 {
-            assert!(rt;
-                all_agree(&UNIONS[..len], f),
-                "the first {len} bytes at {f}"
-            );
-        }
-    }
-}
-
-#[test]
-fn readers_agree_after_every_change(rt: HostRuntime) {
-    let mut bytes = WEAPON;
-    for at in 0..32 {
-        let byte = bytes[at];
-        for new in 0..=255 {
-            bytes[at] = new;
-            for f in 0..8 {
-                assert!(rt;
-                    fields_agree(&bytes, f, 0, &SLOTS),
-                    "byte {at} made {new}, at {f}"
-                );
-            }
-            assert!(rt;
-                fields_agree(&bytes, 0, 1000, &SLOTS),
-                "byte {at} made {new}"
-            );
-        }
-        bytes[at] = byte;
-    }
-}
-
-#[test]
-fn numbers_agree_after_every_change(rt: HostRuntime) {
-    let mut bytes = WEAPON;
-    for at in 0..32 {
-        let byte = bytes[at];
-        for new in 0..=255 {
-            bytes[at] = new;
-            // Each byte of a number is the changed one in turn.
-            for back in 0..8 {
-                let f = at.wrapping_sub(back);
-                assert!(rt; numbers_agree(&bytes, f, 0), "byte {at} made {new}, at {f}");
-            }
-        }
-        bytes[at] = byte;
-    }
 }

@@ -1,9 +1,9 @@
 //! A plain, slow reader, which computes values and clauses from their definitions, and is compared with the readers.
 
-use crate::errors::ErrorKind;
-use crate::located::{Error, ErrorLocation};
-use crate::table_reader::Table;
-use crate::{
+use planus_read::errors::ErrorKind;
+use planus_read::located::{Error, ErrorLocation};
+use planus_read::table_reader::Table;
+use planus_read::{
     Place, SignedBytes, SliceWithStartOffset, TableRead, TableReadUnionVector, TaggedPlace,
     array_from_buffer,
 };
@@ -189,7 +189,7 @@ impl<'a> PlainTable<'a> {
 }
 
 // Whether two errors are of one kind, of those that the tests expect.
-pub fn same_kind(read: ErrorKind, plain: ErrorKind) -> bool {
+fn same_kind(read: ErrorKind, plain: ErrorKind) -> bool {
     match (read, plain) {
         (ErrorKind::InvalidOffset, ErrorKind::InvalidOffset)
         | (ErrorKind::InvalidLength, ErrorKind::InvalidLength)
