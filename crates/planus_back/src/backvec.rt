@@ -2,7 +2,7 @@
 ghost use Rattle.std.specs.Prelude.{◌≡◌, ℕ, ◌+◌, ◌-◌, ◌≤◌, List, [], ◌++◌, length, take, drop, replicate, IfOk, OnOk, OnErr, IsOk};
 ghost use Rattle.std.specs.Prelude.{vec_len};
 
-use crate::fill::Fill;
+use crate::fill::{Fill, Overwrite};
 use std::alloc::{AllocError, Global};
 use std::fmt;
 use std::marker::Model;
@@ -47,6 +47,7 @@ fn block_behind(
 }
 
 // Writes the slice in front of position `start`.
+#[inline]
 fn put_slice(block: &mut [u8], start: usize, bytes: &[u8])
     requires inside { start ≤ length block.old }
     requires room { length bytes.now ≤ start }
@@ -57,8 +58,23 @@ fn put_slice(block: &mut [u8], start: usize, bytes: &[u8])
     gap.copy_from_slice(bytes);
 }
 
+// Writes 8 zeros in front of position `start`, of which the last n are asked for.
+#[inline]
+fn put_few_zeros(block: &mut [u8], start: usize, n: usize)
+    requires inside { start ≤ length block.old }
+    requires room { 8 ≤ start }
+    requires few { n ≤ 8 }
+    ensures { drop (start - n) block.new ≡ replicate n 0 ++ drop start block.old }
+{
+    let (front, _back) = block.split_at_mut(start);
+    let (_rest, gap) = front.split_at_mut(start - 8);
+    gap.copy_from_slice(&[0; 8]);
+}
+
 // Writes n zeros in front of position `start`.
-fn put_zeros(block: &mut [u8], start: usize, n: usize)
+#[cold]
+#[inline(never)]
+fn put_many_zeros(block: &mut [u8], start: usize, n: usize)
     requires inside { start ≤ length block.old }
     requires room { n ≤ start }
     ensures { drop (start - n) block.new ≡ replicate n 0 ++ drop start block.old }
@@ -68,17 +84,51 @@ fn put_zeros(block: &mut [u8], start: usize, n: usize)
     gap.fill(0);
 }
 
+// Writes n zeros in front of position `start`. Padding is mostly below 8 bytes, and is then one
+// store of 8 where there is room for it.
+#[inline]
+fn put_zeros(block: &mut [u8], start: usize, n: usize)
+    requires inside { start ≤ length block.old }
+    requires room { n ≤ start }
+    ensures { drop (start - n) block.new ≡ replicate n 0 ++ drop start block.old }
+{
+    if n == 0 {
+        return;
+    }
+    if n <= 8 && 8 <= start {
+        put_few_zeros(block, start, n);
+    } else {
+        put_many_zeros(block, start, n);
+    }
+}
+
 // Lets the filler write n bytes in front of position `start`, over zeros.
+#[inline]
 fn put_filled<F: Fill>(block: &mut [u8], start: usize, place: u32, n: usize, filler: &F)
     requires inside { start ≤ length block.old }
     requires room { n ≤ start }
     requires fits { F.fits filler.now place n }
-    ensures { drop (start - n) block.new ≡ F.leaves filler.now place n ++ drop start block.old }
+    ensures bytes { drop (start - n) block.new ≡ F.leaves filler.now place n ++ drop start block.old }
+    ensures count { length (F.leaves filler.now place n) ≡ n }
 {
     let (front, _back) = block.split_at_mut(start);
     let (_rest, gap) = front.split_at_mut(start - n);
     gap.fill(0);
     filler.fill(place, gap);
+}
+
+// Lets the writer write n bytes in front of position `start`, over whatever is there.
+#[inline]
+fn put_overwritten<W: Overwrite>(block: &mut [u8], start: usize, place: u32, n: usize, writer: &W)
+    requires inside { start ≤ length block.old }
+    requires room { n ≤ start }
+    requires fits { W.fits writer.now place n }
+    ensures bytes { drop (start - n) block.new ≡ W.leaves writer.now place n ++ drop start block.old }
+    ensures count { length (W.leaves writer.now place n) ≡ n }
+{
+    let (front, _back) = block.split_at_mut(start);
+    let (_rest, gap) = front.split_at_mut(start - n);
+    writer.overwrite(place, gap);
 }
 
 impl BackVec {
@@ -150,6 +200,8 @@ impl BackVec {
     }
 
     // Moves the bytes to the end of a block that is at least twice as large and has room for n more.
+    #[cold]
+    #[inline(never)]
     fn grow(&mut self, n: usize) -> Result<(), AllocError>
         ensures ok { OnOk result (n ≤ self.new.room) }
         ensures bytes { self.new.bytes ≡ self.old.bytes }
@@ -167,6 +219,75 @@ impl BackVec {
         Ok(())
     }
 
+    /// Puts the bytes of the slice in front. There is room for them.
+    #[inline]
+    pub fn put_slice(&mut self, bytes: &[u8])
+        requires { length bytes.now ≤ self.old.room }
+        ensures bytes { self.new.bytes ≡ bytes.now ++ self.old.bytes }
+        ensures room { self.new.room + length bytes.now ≡ self.old.room }
+    {
+        put_slice(self.block.as_mut_slice(), self.start, bytes);
+        self.start -= bytes.len();
+    }
+
+    /// Puts the bytes of three slices in front, those of the first foremost. There is room for all
+    /// of them.
+    #[inline]
+    pub fn put_three(&mut self, first: &[u8], second: &[u8], third: &[u8])
+        requires { length (first.now ++ second.now ++ third.now) ≤ self.old.room }
+        ensures bytes { self.new.bytes ≡ (first.now ++ second.now ++ third.now) ++ self.old.bytes }
+        ensures room { self.new.room + length (first.now ++ second.now ++ third.now) ≡ self.old.room }
+    {
+        let block = self.block.as_mut_slice();
+        let mut start = self.start;
+        put_slice(block, start, third);
+        start -= third.len();
+        put_slice(block, start, second);
+        start -= second.len();
+        put_slice(block, start, first);
+        self.start = start - first.len();
+    }
+
+    /// Puts `n` zeros in front. There is room for them.
+    #[inline]
+    pub fn put_zeros(&mut self, n: usize)
+        requires { n ≤ self.old.room }
+        ensures bytes { self.new.bytes ≡ replicate n 0 ++ self.old.bytes }
+        ensures room { self.new.room + n ≡ self.old.room }
+    {
+        put_zeros(self.block.as_mut_slice(), self.start, n);
+        self.start -= n;
+    }
+
+    /// Puts `n` bytes in front, which the filler writes over zeros. There is room for them.
+    /// `place` is handed to the filler, as in [`BackVec::extend_write`].
+    #[inline]
+    pub fn put_filled<F: Fill>(&mut self, place: u32, n: usize, filler: &F)
+        requires room { n ≤ self.old.room }
+        requires fits { F.fits filler.now place n }
+        ensures bytes { self.new.bytes ≡ F.leaves filler.now place n ++ self.old.bytes }
+        ensures count { length (F.leaves filler.now place n) ≡ n }
+        ensures room { self.new.room + n ≡ self.old.room }
+    {
+        put_filled(self.block.as_mut_slice(), self.start, place, n, filler);
+        self.start -= n;
+    }
+
+    /// Puts `n` bytes in front, all of which the writer writes, over whatever was there. There is
+    /// room for them. `place` is handed to the writer: the distance in bytes from the end of the
+    /// buffer to the first of them.
+    #[inline]
+    pub fn put_overwritten<W: Overwrite>(&mut self, place: u32, n: usize, writer: &W)
+        requires room { n ≤ self.old.room }
+        requires fits { W.fits writer.now place n }
+        ensures bytes { self.new.bytes ≡ W.leaves writer.now place n ++ self.old.bytes }
+        ensures count { length (W.leaves writer.now place n) ≡ n }
+        ensures room { self.new.room + n ≡ self.old.room }
+    {
+        put_overwritten(self.block.as_mut_slice(), self.start, place, n, writer);
+        self.start -= n;
+    }
+
     /// Puts the bytes of the slice in front. A refusal of memory changes nothing.
     #[inline]
     pub fn extend_from_slice(&mut self, bytes: &[u8]) -> Result<(), AllocError>
@@ -175,10 +296,8 @@ impl BackVec {
         ensures enough { length bytes.now ≤ self.old.room → IsOk result }
         ensures room { length bytes.now ≤ self.old.room → self.new.room + length bytes.now ≡ self.old.room }
     {
-        let n = bytes.len();
-        self.reserve(n)?;
-        put_slice(self.block.as_mut_slice(), self.start, bytes);
-        self.start -= n;
+        self.reserve(bytes.len())?;
+        self.put_slice(bytes);
         Ok(())
     }
 
@@ -191,8 +310,7 @@ impl BackVec {
         ensures room { n ≤ self.old.room → self.new.room + n ≡ self.old.room }
     {
         self.reserve(n)?;
-        put_zeros(self.block.as_mut_slice(), self.start, n);
-        self.start -= n;
+        self.put_zeros(n);
         Ok(())
     }
 
@@ -214,8 +332,7 @@ impl BackVec {
         ensures room { n ≤ self.old.room → self.new.room + n ≡ self.old.room }
     {
         self.reserve(n)?;
-        put_filled(self.block.as_mut_slice(), self.start, place, n, filler);
-        self.start -= n;
+        self.put_filled(place, n, filler);
         Ok(())
     }
 }

@@ -17,3 +17,18 @@ pub trait Fill {
         requires zeroed { bytes.old ≡ replicate (length bytes.old) 0 }
         ensures { bytes.new ≡ leaves self.now place (length bytes.old) };
 }
+
+/// Writes all bytes of one part, whatever was there before.
+///
+/// Its ghost members say the same as those of [`Fill`].
+pub trait Overwrite {
+    ghost fits: { Self → ℕ → ℕ → Type 0 };
+
+    ghost leaves: { Self → ℕ → ℕ → List ℕ };
+
+    /// Writes the part's bytes over `bytes`. `place` is the distance in bytes from the end of the
+    /// buffer to the part's first byte.
+    fn overwrite(&self, place: u32, bytes: &mut [u8])
+        requires { fits self.now place (length bytes.old) }
+        ensures { bytes.new ≡ leaves self.now place (length bytes.old) };
+}

@@ -2,7 +2,7 @@
 //!
 //! [`BackVec`] is a byte vector that grows towards its front. [`Promises`] keeps, in a remainder and a mask, exactly the
 //! finished lengths at which every part placed so far stands aligned, and names the least padding in front of the next
-//! one. [`Fill`] writes the bytes of one part in place. [`laws`] states what the definitions of padding and places are
+//! one. [`Fill`] and [`Overwrite`] write the bytes of one part in place. [`laws`] states what the definitions of padding and places are
 //! good for, and [`plain`] finds the least padding by trying.
 #![tactic(auto)]
 
@@ -13,7 +13,7 @@ pub mod plain;
 pub mod promises;
 
 pub use backvec::BackVec;
-pub use fill::Fill;
+pub use fill::{Fill, Overwrite};
 pub use promises::{Promises, TooLarge};
 
 #[cfg(test)]

@@ -99,8 +99,11 @@ impl Promises {
     {
         let ahead = self.delayed.wrapping_sub(size) & self.mask;
         let padding = ahead & mask;
-        let padded = len + padding;
-        if padded > GREATEST_PLACE || size > GREATEST_PLACE - padded {
+        if size > GREATEST_PLACE {
+            return Err(TooLarge);
+        }
+        let place = len + padding + size;
+        if place > GREATEST_PLACE {
             return Err(TooLarge);
         }
         let next = Promises {

@@ -4,7 +4,7 @@ ghost use Rattle.planus_back.specs.Padding.{greatest_place};
 ghost use Rattle.planus_back.specs.Pairs.{period, AlignmentsAboveZero, DistancesWithin};
 
 use crate::backvec::BackVec;
-use crate::fill::Fill;
+use crate::fill::{Fill, Overwrite};
 use crate::plain::least_padding;
 use crate::promises::{Promises, TooLarge};
 use std::alloc::{AllocError, Global};
@@ -198,6 +198,16 @@ impl Fill for PlaceByte {
     }
 }
 
+impl Overwrite for PlaceByte {
+    ghost fits = { λ _ place n. n ≡ 1 };
+
+    ghost leaves = { λ _ place n. (place % 256) ∷ [] };
+
+    fn overwrite(&self, place: u32, bytes: &mut [u8]) {
+        bytes[0] = (place % 256) as u8;
+    }
+}
+
 #[test]
 fn grows_at_its_front(rt: HostRuntime) -> Result<(), Fail> {
     let mut bytes = BackVec::with_capacity(rt.alloc(), 0)?;
@@ -217,6 +227,28 @@ fn grows_at_its_front(rt: HostRuntime) -> Result<(), Fail> {
     assert_eq!(rt; text.as_str(), "[0, 0]");
     bytes.reserve(100)?;
     assert_eq!(rt; (bytes.len(), bytes.room()), (2, 100));
+    Ok(())
+}
+
+#[test]
+fn puts_into_its_room(rt: HostRuntime) -> Result<(), Fail> {
+    let mut bytes = BackVec::with_capacity(rt.alloc(), 40)?;
+    if bytes.room() < 40 {
+        assert!(rt; false, "no room");
+        return Ok(());
+    }
+    bytes.put_slice(b"end");
+    bytes.put_three(b"<", b"body", b">>");
+    bytes.put_zeros(0);
+    bytes.put_zeros(3);
+    bytes.put_filled(262, 1, &PlaceByte);
+    bytes.put_overwritten(7, 1, &PlaceByte);
+    assert_eq!(rt; bytes.as_slice(), b"\x07\x06\0\0\0<body>>end".as_slice());
+    assert_eq!(rt; (bytes.len(), bytes.room()), (15, 25));
+    bytes.put_zeros(9);
+    bytes.put_zeros(16);
+    assert_eq!(rt; (bytes.len(), bytes.room()), (40, 0));
+    assert_eq!(rt; &bytes.as_slice()[..25], [0u8; 25].as_slice());
     Ok(())
 }
 

@@ -46,6 +46,7 @@ fn hex_digit(value: u8) -> char
 fn push_line(text: &mut String, bytes: &[u8]) -> std::result::Result<(), AllocError>
     ensures { OnOk result (string_bytes text.new ≡ string_bytes text.old ++ hex_line bytes.now) }
 {
+    text.reserve(bytes.len().saturating_mul(3))?;
     for (index, byte) in bytes.iter().enumerate() {
         if index > 0 {
             text.push(' ')?;

@@ -123,7 +123,7 @@ fn places_of(
     requires { first + length offsets.now < 2 ^ 64 }
     ensures { IfOk result (λ places. map place_of places.items ≡ values_from first (map distance_of offsets.now)) }
 {
-    let mut places = Vec::new(alloc);
+    let mut places = Vec::with_capacity(alloc, offsets.len())?;
     for (index, offset) in offsets.iter().enumerate() {
         if let Some(offset) = offset {
             places.push(StepPlace {

@@ -8,7 +8,7 @@ use Rattle.std.specs.Prelude.{Option}
 use Rattle.planus_back.specs.Promises.{Promise, Keep, greatest_alignment}
 use Rattle.planus_back.specs.Padding.{promise_of}
 use Rattle.planus_back.specs.Parts.{Part}
-use Rattle.planus_write.specs.State.{State, StandsFor}
+use Rattle.planus_write.specs.State.{State, StandsFor, Puts}
 use Rattle.planus_write.specs.Placing.{Places, MakesRoom}
 
 -- the part has this size and alignment, and these bytes at the place, whatever was promised
@@ -19,7 +19,7 @@ pub record IsShaped (part : List Promise → Part) (old : State) (size alignment
   pub length_is : length bytes ≡ size
 
 module _ (part : List Promise → Part) (size alignment place : ℕ) (old mid new : State) (bytes : List ℕ) (room : MakesRoom size alignment old place mid)
-    (shape : IsShaped part old size alignment place bytes) (put : new ≡ record mid { bytes = bytes ++ mid.bytes; room = mid.room - size }) where
+    (shape : IsShaped part old size alignment place bytes) (put : Puts bytes mid new) where
   new_bytes : new.bytes ≡ (bytes ++ replicate room.padding 0) ++ old.bytes
   new_bytes = ap (λ state. state.bytes) put ∙ ap (λ xs. bytes ++ xs) room.bytes ∙ sym (append_assoc bytes (replicate room.padding 0) old.bytes)
 
@@ -27,7 +27,7 @@ module _ (part : List Promise → Part) (size alignment place : ℕ) (old mid ne
   new_length = ap length new_bytes ∙ simp (length-append, length-replicate) (let h = shape.length_is in let g = room.is_place in omega arith)
 
   new_room : new.room ≡ mid.room - size
-  new_room = ap (λ state. state.room) put
+  new_room = subst (λ n. new.room ≡ mid.room - n) shape.length_is (ap (λ state. state.room) put)
 
   pub places : Places part old new
   places = record {
@@ -48,38 +48,28 @@ module _ (part : List Promise → Part) (size alignment place : ℕ) (old mid ne
         let h = new_length in let g = new_room in let i = room.is_place in let k = room.size_fits in let falls = room.room in omega arith;
   }
 
--- bytes were put in front
-abbrev pub Puts : List ℕ → State → State → Type 0
-Puts bytes old new = new ≡ record old { bytes = bytes ++ old.bytes; room = old.room - length bytes }
-
+-- bytes that are put in front of bytes that were put in front
 pub puts_twice : (x y : List ℕ) (a b c : State) → Puts y a b → Puts x b c → Puts (x ++ y) a c
 puts_twice x y a b c first second =
     second ∙ rw (first, append_assoc x y a.bytes, length-append x y) (ap (λ n. record a { bytes = x ++ (y ++ a.bytes); room = n }) (omega arith))
 
--- a text, put in three pieces into the room made for it
-module _ (text count : List ℕ) (place : ℕ) (old mid a b new : State) (room : MakesRoom (length text + 5) 4 old place mid)
-    (zero_put : Puts (0 ∷ []) mid a) (text_put : Puts text a b) (count_put : Puts count b new) (count_is : count ≡ to_le_bytes w32 (length text)) where
-  put : Puts ((count ++ text) ++ 0 ∷ []) mid new
-  put = rw (append_assoc count text (0 ∷ [])) (puts_twice count (text ++ 0 ∷ []) mid b new (puts_twice text (0 ∷ []) mid a b zero_put text_put) count_put)
-
-  bytes_length : length ((count ++ text) ++ 0 ∷ []) ≡ length text + 5
-  bytes_length = rw count_is (simp length-append (omega arith))
-
-  put_all : new ≡ record mid { bytes = ((count ++ text) ++ 0 ∷ []) ++ mid.bytes; room = mid.room - (length text + 5) }
-  put_all = put ∙ ap (λ n. record mid { bytes = ((count ++ text) ++ 0 ∷ []) ++ mid.bytes; room = mid.room - n }) bytes_length
-
+-- a text, put into the room made for it
+module _ (text count : List ℕ) (place : ℕ) (old mid new : State)
+    (room : MakesRoom (length text + 5) 4 old place mid)
+    (put : Puts ((count ++ text) ++ 0 ∷ []) mid new)
+    (count_is : count ≡ to_le_bytes w32 (length text)) where
   shape : IsShaped (λ promises. text_part text) old (length text + 5) 4 place ((count ++ text) ++ 0 ∷ [])
   shape = record {
     size_is = λ promises stands. refl;
     alignment_is = λ promises stands. refl;
     bytes_are = λ promises stands. rw count_is refl;
-    length_is = bytes_length;
+    length_is = rw count_is (simp length-append (omega arith));
   }
 
   pub text_placed : Places (λ promises. text_part text) old new × (place ≡ length new.bytes)
   text_placed = (
-    places (λ promises. text_part text) (length text + 5) 4 place old mid new _ room shape put_all,
-    sym (new_length (λ promises. text_part text) (length text + 5) 4 place old mid new _ room shape put_all),
+    places (λ promises. text_part text) (length text + 5) 4 place old mid new _ room shape put,
+    sym (new_length (λ promises. text_part text) (length text + 5) 4 place old mid new _ room shape put),
   )
 
 -- a root word and an identifier, put in two pieces into the room made for them
@@ -94,9 +84,6 @@ module _ (root : ℕ) (identifier : Option (List ℕ)) (word : List ℕ) (place 
   root_bytes_length : length (word ++ identifier_bytes identifier) ≡ length (identifier_bytes identifier) + 4
   root_bytes_length = rw word_is (simp length-append (omega arith))
 
-  root_put_all : new ≡ record mid { bytes = (word ++ identifier_bytes identifier) ++ mid.bytes; room = mid.room - (length (identifier_bytes identifier) + 4) }
-  root_put_all = root_put ∙ ap (λ n. record mid { bytes = (word ++ identifier_bytes identifier) ++ mid.bytes; room = mid.room - n }) root_bytes_length
-
   root_shape : IsShaped (finish_part root identifier) old (length (identifier_bytes identifier) + 4) alignment place (word ++ identifier_bytes identifier)
   root_shape = record {
     size_is = λ promises stands. refl;
@@ -106,11 +93,11 @@ module _ (root : ℕ) (identifier : Option (List ℕ)) (word : List ℕ) (place 
   }
 
   root_length : length new.bytes ≡ place
-  root_length = new_length (finish_part root identifier) _ alignment place old mid new _ room root_shape root_put_all
+  root_length = new_length (finish_part root identifier) _ alignment place old mid new _ room root_shape root_put
 
   pub finishes : Finishes root identifier old new
   finishes = record {
-    places = places (finish_part root identifier) _ alignment place old mid new _ room root_shape root_put_all;
+    places = places (finish_part root identifier) _ alignment place old mid new _ room root_shape root_put;
     kept = λ promises stands.
         let kept_there : Keep (promise_of place alignment ∷ promises) place = room.kept promises stands (all promises stands) in
         let kept_here : Keep (promise_of (length new.bytes) alignment ∷ promises) (length new.bytes)
@@ -120,7 +107,7 @@ module _ (root : ℕ) (identifier : Option (List ℕ)) (word : List ℕ) (place 
 
 -- a filler's bytes, put into the room made for them
 pub filled_places : (leaves : ℕ → ℕ → List ℕ) (size alignment place : ℕ) (old mid new : State) → MakesRoom size alignment old place mid → length (leaves place size) ≡ size
-    → new ≡ record mid { bytes = leaves place size ++ mid.bytes; room = mid.room - size } → Places (λ promises. filled_part size alignment leaves) old new
+    → Puts (leaves place size) mid new → Places (λ promises. filled_part size alignment leaves) old new
 filled_places leaves size alignment place old mid new room count put =
     places (λ promises. filled_part size alignment leaves) size alignment place old mid new (leaves place size) room
     (record { size_is = λ promises stands. refl; alignment_is = λ promises stands. refl; bytes_are = λ promises stands. refl; length_is = count }) put

@@ -1,5 +1,5 @@
 -- What a builder is to its callers.
-use Rattle.std.specs.Prelude.{◌≡◌, ℕ, List, ◌++◌, length}
+use Rattle.std.specs.Prelude.{◌≡◌, ℕ, ◌-◌, List, ◌++◌, length}
 use Rattle.planus_back.specs.Promises.{Promise}
 use Rattle.planus_back.specs.Descriptions.{Describes}
 use Rattle.planus_back.specs.Parts.{Written}
@@ -23,3 +23,7 @@ written_with state promises = record { bytes = state.bytes; promises = promises 
 pub record Grows (old new : State) : Type 0 where
   pub bytes : (front : List ℕ) × (new.bytes ≡ front ++ old.bytes)
   pub promises : (promises : List Promise) → StandsFor old promises → (more : List Promise) × StandsFor new (more ++ promises)
+
+-- The bytes were put in front, into the room that there was for them, and nothing else changed.
+abbrev pub Puts : List ℕ → State → State → Type 0
+Puts bytes old new = new ≡ record old { bytes = bytes ++ old.bytes; room = old.room - length bytes }

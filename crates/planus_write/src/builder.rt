@@ -36,7 +36,7 @@ impl Model for Builder {
 impl Builder {
     ghost use Rattle.std.specs.Borrow.{sem};
     ghost use Rattle.planus_write.specs.Parts.{text_part, finish_part, filled_part};
-    ghost use Rattle.planus_write.specs.State.{State, StandsFor};
+    ghost use Rattle.planus_write.specs.State.{State, StandsFor, Puts};
     ghost use Rattle.planus_write.specs.Placing.{Reserves, Refuses, WritesPart};
     ghost use Rattle.planus_write.specs.Preparing.{WritesText};
     ghost use Rattle.planus_write.specs.Finishing.{EndsAs, FinishGives, FinishLeaves, WritesRoot};
@@ -123,7 +123,7 @@ impl Builder {
         let len = self.inner.len();
         let (promises, padding) = self.promises.request(len, size, mask)?;
         self.inner.reserve(padding + size)?;
-        self.inner.extend_with_zeros(padding)?;
+        self.inner.put_zeros(padding);
         self.promises = promises;
         Ok((len + padding + size) as u32)
     }
@@ -132,12 +132,19 @@ impl Builder {
     fn put(&mut self, bytes: &[u8])
         requires room { length bytes.now ≤ self.old.room }
         requires fits { length bytes.now + length self.old.bytes ≤ greatest_place }
-        ensures { self.new ≡ record self.old { bytes = bytes.now ++ self.old.bytes; room = self.old.room - length bytes.now } }
+        ensures { Puts bytes.now self.old self.new }
     {
-        match self.inner.extend_from_slice(bytes) {
-            Ok(()) => {}
-            Err(_) => unreachable!(),
-        }
+        self.inner.put_slice(bytes);
+    }
+
+    // The bytes of three slices, for which there is room.
+    #[inline]
+    fn put_three(&mut self, first: &[u8], second: &[u8], third: &[u8])
+        requires room { length (first.now ++ second.now ++ third.now) ≤ self.old.room }
+        requires fits { length (first.now ++ second.now ++ third.now) + length self.old.bytes ≤ greatest_place }
+        ensures { Puts (first.now ++ second.now ++ third.now) self.old self.new }
+    {
+        self.inner.put_three(first, second, third);
     }
 
     // A text as one part.
@@ -146,9 +153,7 @@ impl Builder {
     {
         let bytes = text.as_bytes();
         let place = self.prepare_write(bytes.len() + 5, WORD_MASK)?;
-        self.put(&[0]);
-        self.put(bytes);
-        self.put(&(bytes.len() as u32).to_le_bytes());
+        self.put_three(&(bytes.len() as u32).to_le_bytes(), bytes, &[0]);
         Ok(Offset::at(place))
     }
 
@@ -181,13 +186,10 @@ impl Builder {
         requires room { size ≤ self.old.room }
         requires within { size + length self.old.bytes ≤ greatest_place }
         requires fits { F.fits filler.now place size }
-        ensures put { self.new ≡ record self.old { bytes = F.leaves filler.now place size ++ self.old.bytes; room = self.old.room - size } }
+        ensures put { Puts (F.leaves filler.now place size) self.old self.new }
         ensures count { length (F.leaves filler.now place size) ≡ size }
     {
-        match self.inner.extend_write(place, size, filler) {
-            Ok(()) => {}
-            Err(_) => unreachable!(),
-        }
+        self.inner.put_filled(place, size, filler);
     }
 
     /// Writes a text: one part of a count of 4 bytes, its bytes and a zero byte, aligned to 4 bytes. Answers its offset. Nothing

@@ -1,6 +1,7 @@
 use Rattle.std.proofs.Common.{◌+◌, length, subst}
 use Rattle.planus_write.specs.Placing.{MakesRoom}
-use Rattle.planus_write.proofs.PlacedParts.{Puts, finishes}
+use Rattle.planus_write.specs.State.{Puts}
+use Rattle.planus_write.proofs.PlacedParts.{finishes}
 use Rattle.planus_write.proofs.builder.Builder.write_root.Goals as goal
 
 pub returns : goal.returns
