@@ -3,4 +3,6 @@ pub mod Parts
 pub mod Readers
 pub mod ReadingLaws
 pub mod TableReading
-pub mod ListReading
+pub mod ListItems
+pub mod PieceLaws
+pub mod ReadsBack

@@ -43,7 +43,7 @@ items_move : {X : Type 0} (A C : ℕ → X → Type 0) (n : ℕ) → ((k j : ℕ
 items_move A C n step k j size [] e h = tt
 items_move A C n step k j size (x ∷ xs) e h = (step k j x e h.0, items_move A C n step (k + size) (j + size) size xs (omega arith) h.1)
 
-field_moves : (front B : List ℕ) (k j : ℕ) (field : Field) → j ≡ length front + k → FieldStands B k field → FieldStands (front ++ B) j field
+pub field_moves : (front B : List ℕ) (k j : ℕ) (field : Field) → j ≡ length front + k → FieldStands B k field → FieldStands (front ++ B) j field
 field_moves front B k j (plain item) e h = bytes_move front B k j item.bytes e h
 field_moves front B k j (reference distance) e h = reference_moves front B k j distance e h
 field_moves front B k j (tags distance) e h = reference_moves front B k j distance e h

@@ -248,7 +248,7 @@ zero_from o t r e = (omega (arith, ints), omega (arith, ints))
 signed_chosen : (m : Option ℕ) (n : ℕ) (z : ℤ) → m ≡ Some n → option_map (cast_signed w32) m ≡ Some z → z ≡ cast_signed w32 n
 signed_chosen m n z e h = let f : Some (cast_signed w32 n) ≡ Some z = ap (option_map (cast_signed w32)) (sym e) ∙ h in cc
 
-number_of_signed : (m : Option ℕ) (z : ℤ) → option_map (cast_signed w32) m ≡ Some z → (n : ℕ) × (m ≡ Some n)
+pub number_of_signed : (m : Option ℕ) (z : ℤ) → option_map (cast_signed w32) m ≡ Some z → (n : ℕ) × (m ≡ Some n)
 number_of_signed None z h = absurd (let f : None ≡ Some z = h in cc)
 number_of_signed (Some n) z h = (n, refl)
 

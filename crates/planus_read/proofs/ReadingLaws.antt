@@ -23,7 +23,7 @@ same_broken (first ∷ rest) e other (inr h) (inl k) = absurd (k.0 h.0)
 same_broken (first ∷ rest) e other (inr h) (inr k) = inr (h.0, same_broken rest e other h.1 k.1)
 
 answered : {A : Type 0} (reading : Reading A) → Decides reading → IsOne reading → (x : A) → reading.There x → IsAnswered reading x
-answered {A} reading decides one x there = record { there = there; only = by_answer }
+answered {A} reading decides one x there = record { there = there; alone = λ y h. one y x h there; only = by_answer }
   where
     by_answer : (r : Result A ErrorKind) → Answer reading r → r ≡ Ok x
     by_answer (Ok y) h = ap Ok (one y x h there)

@@ -17,4 +17,6 @@ pub mod Places
 pub mod Converted
 pub mod ReadingLaws
 pub mod TableReading
-pub mod ListReading
+pub mod ListItems
+pub mod PieceLaws
+pub mod ReadsBack

@@ -1,9 +1,10 @@
 -- Places in a buffer whose reading is chosen later.
-use Rattle.std.specs.Prelude.{◌≡◌, ℕ, List, []}
+use Rattle.std.specs.Prelude.{◌≡◌, ℕ, ◌+◌, List, [], drop}
 use Rattle.planus_read.specs.declared.place.Place.{Place}
 use Rattle.planus_read.specs.declared.place.TaggedPlace.{TaggedPlace}
 use Rattle.planus_read.specs.Clauses.{Reading}
 use Rattle.planus_read.specs.Pieces.{slice_bytes, slice_start}
+use Rattle.planus_read.specs.Reading.{Leads}
 
 -- the bytes and the start of a place's piece, and its offset in them
 abbrev pub place_bytes : Place → List ℕ
@@ -39,3 +40,14 @@ place_reading S start f = record { There = IsPlace S start f; clauses = [] }
 
 abbrev pub tagged_place_reading : List ℕ → ℕ → ℕ → ℕ → Reading TaggedPlace
 tagged_place_reading S start tag f = record { There = IsTaggedPlace S start tag f; clauses = [] }
+
+-- Reading goes on from the place at the position k of B: the place is in the piece of B from its start on, and the reference there
+-- leads to k.
+pub record LeadsOn (B : List ℕ) (k : ℕ) (place : Place) : Type 0 where
+  pub piece : place_bytes place ≡ drop (place_start place) B
+  pub leads : Leads B (place_start place + place_offset place) k
+
+-- the same of the value of a union with this tag
+pub record TaggedLeadsOn (B : List ℕ) (tag k : ℕ) (tagged : TaggedPlace) : Type 0 where
+  pub tag_is : tagged_tag tagged ≡ tag
+  pub leads_on : LeadsOn B k (tagged_place tagged)

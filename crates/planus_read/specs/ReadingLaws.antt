@@ -15,9 +15,10 @@ IsOne {A} reading = (x y : A) → reading.There x → reading.There y → x ≡ 
 abbrev pub ErrorsMeanNothing : {A : Type 0} → Reading A → Type 0
 ErrorsMeanNothing {A} reading = (e : ErrorKind) → FirstBroken reading.clauses e → (x : A) → reading.There x → ⊥
 
--- The value stands, and is the only answer.
+-- The value stands, alone, and is the only answer.
 pub record IsAnswered {A : Type 0} (reading : Reading A) (x : A) : Type 0 where
   pub there : reading.There x
+  pub alone : (y : A) → reading.There y → y ≡ x
   pub only : (r : Result A ErrorKind) → Answer reading r → r ≡ Ok x
 
 -- both are errors of the first clause that fails

@@ -2,12 +2,16 @@
 
 ghost use Rattle.std.specs.Int.{Width};
 ghost use Rattle.std.specs.Prelude.{ℕ, List};
-ghost use Rattle.planus_read.specs.ListReading.{PlainListsRead, ReferenceListsRead, UnionListsRead};
+ghost use Rattle.planus_read.specs.ListItems.{PlainItemsStand, ReferenceItemsStand, UnionItemsStand};
 ghost use Rattle.planus_read.specs.Reading.{number_reading, signed_reading, truth_reading, head_reading};
 ghost use Rattle.planus_read.specs.Reading.{text_reading, byte_list_reading, vector_reading, union_vector_reading, table_reading};
 ghost use Rattle.planus_read.specs.ReadingLaws.{IsLawful};
-ghost use Rattle.planus_read.specs.TableReading.{TablesRead};
+ghost use Rattle.planus_read.specs.PieceLaws.{ReferencesLead, LeadsInPieces, FieldsStandInPieces, StandsInPieces};
+ghost use Rattle.planus_read.specs.ReadsBack.{FieldsReadBack, WhatStandsReadsBack};
+ghost use Rattle.planus_read.specs.TableReading.{FieldsRead, UnionsRead, UnionVectorsRead};
 ghost use Rattle.planus_read.specs.Moves.{KeepsStanding, KeepsLeading, StandsAlone, LeadsAlone};
+
+use crate::traits::{TableRead, TableReadUnion, TableReadUnionVector};
 
 /// What stands in some bytes, of any kind, keeps standing behind whatever is put in front of them, at positions further on by the
 /// length of that, and so at the same distances from the end. A reference keeps leading to its distance.
@@ -37,16 +41,47 @@ pub fn readings_are_lawful()
     ensures table { (S : List ℕ) (f : ℕ) → IsLawful (table_reading S f) }
 {}
 
-/// A table that stands where a reference leads is there for a reader, and each of its slots, also past the vtable's end, is read as
-/// its field: as the distance at which the field stands in the object's own bytes, or 0 where it is absent.
-pub fn tables_are_read()
-    ensures { TablesRead }
+/// A reference that is encoded leads to the position of its distance. It leads there too in each piece of the bytes that begins no
+/// further on, and what stands in the bytes stands in that piece: fields and values of any kind.
+pub fn pieces_keep_what_stands()
+    ensures reference { ReferencesLead }
+    ensures leads { LeadsInPieces }
+    ensures field { FieldsStandInPieces }
+    ensures value { StandsInPieces }
 {}
 
-/// A list that stands where a reference leads, or a union list to whose two parts two references lead, is there for a reader: as a
-/// vector of as many items of the list's size, or as a vector of as many unions, behind its count.
-pub fn lists_are_read()
-    ensures plain { PlainListsRead }
-    ensures references { ReferenceListsRead }
-    ensures unions { UnionListsRead }
+/// Each item of a list that stands is encoded behind the count and the items before it: plain items, references, and the tags and
+/// references of unions.
+pub fn items_stand()
+    ensures plain { PlainItemsStand }
+    ensures references { ReferenceItemsStand }
+    ensures unions { UnionItemsStand }
+{}
+
+/// A field that is encoded is answered as its value, over each piece of the bytes that begins no further on: a plain item as the
+/// number, signed number or truth value of its bytes, a reference as the place from which reading goes on at its distance.
+pub fn fields_read_back()
+    ensures { FieldsReadBack }
+{}
+
+/// What stands reads back, whatever it is, if its texts are UTF-8: by each reference that leads to it, over each piece of the bytes
+/// that begins no further on than the reference, it is the only answer.
+pub fn what_stands_reads_back()
+    ensures { WhatStandsReadsBack }
+{}
+
+/// The fields of a table that was written are answered, by `access` and `access_required`: of each slot, as what `T` answers where
+/// the field is encoded, and as absent where the table has none.
+pub fn fields_are_answered<'buf, T: TableRead<'buf>>()
+    ensures { FieldsRead T.reads }
+{}
+
+/// The unions of a table that was written are answered, by `access_union` and `access_union_required`.
+pub fn unions_are_answered<'buf, T: TableReadUnion<'buf>>()
+    ensures { UnionsRead T.reads }
+{}
+
+/// The vectors of unions of a table that was written are answered, by `access_union_vector` and `access_union_vector_required`.
+pub fn union_vectors_are_answered<'buf, T: TableReadUnionVector<'buf>>()
+    ensures { UnionVectorsRead T.reads }
 {}
