@@ -1,5 +1,5 @@
 -- A list that stands is read with its items.
-use Rattle.std.proofs.Common.{◌≡◌, ℕ, zero, suc, ◌+◌, ◌*◌, ◌≤◌, List, [], ◌∷◌, length, map, drop, take, refl, sym, ap, ◌∙◌, subst, arith, length-drop, Option, Some, None, lit≤}
+use Rattle.std.proofs.Common.{◌≡◌, ℕ, zero, suc, ◌+◌, ◌*◌, ◌≤◌, List, [], ◌∷◌, length, map, drop, take, refl, sym, ap, ◌∙◌, subst, arith, length-drop, Some, None, lit≤}
 use Rattle.std.proofs.Math.Nat.{suc-mul}
 use Rattle.std.proofs.lemmas.List.{length-map}
 use Rattle.std.proofs.lemmas.Option.{slice_get-map}
@@ -10,7 +10,7 @@ use Rattle.planus_read.specs.Stands.{Stands, at, at_both, ReferenceStands, Plain
 use Rattle.planus_read.specs.Values.{plain_list, reference_list, union_list}
 use Rattle.planus_read.specs.Bytes.{Num, BytesStand}
 use Rattle.planus_read.proofs.Parts.{parts_stand}
-use Rattle.planus_read.specs.Reading.{Leads, VectorThere, UnionVectorThere, number}
+use Rattle.planus_read.specs.Reading.{Leads, VectorThere, UnionVectorThere}
 use Rattle.planus_read.specs.ListItems.{PlainItemsStand, ReferenceItemsStand, UnionItemsStand}
 use Rattle.planus_read.proofs.Readers.{num_inside, num_there, stood_inside}
 

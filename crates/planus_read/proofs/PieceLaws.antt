@@ -1,12 +1,10 @@
 -- The laws of `PieceLaws`: what stands in some bytes stands in their pieces.
-use Rattle.std.proofs.Common.{◌≡◌, ℕ, ◌+◌, ◌-◌, ◌≤◌, List, [], ◌∷◌, ◌++◌, length, take, drop, sym, ap, ◌∙◌, subst, arith}
+use Rattle.std.proofs.Common.{◌≡◌, ℕ, ◌+◌, ◌≤◌, List, ◌++◌, length, take, drop, sym, ap, ◌∙◌, subst, arith}
 use Rattle.std.proofs.lemmas.List.{drop-drop, take-append-drop, length-take-le}
 use Rattle.std.specs.Int.{Width, w32, byte_len}
 use Rattle.planus_read.specs.Bytes.{Num, BytesStand}
-use Rattle.planus_read.specs.Values.{Value, Field}
-use Rattle.planus_read.specs.Stands.{Position, Stands, FieldStands}
+use Rattle.planus_read.specs.Stands.{Stands, FieldStands}
 use Rattle.planus_read.specs.Moves.{moved}
-use Rattle.planus_read.specs.Reading.{Leads}
 use Rattle.planus_read.specs.PieceLaws.{ReferencesLead, LeadsInPieces, FieldsStandInPieces, StandsInPieces}
 use Rattle.planus_read.proofs.Moves.{num_moves, field_back, stands_alone}
 use Rattle.planus_read.proofs.Readers.{num_inside}

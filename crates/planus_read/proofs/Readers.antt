@@ -12,7 +12,7 @@ use Rattle.planus_read.specs.declared.slice_helpers.SliceWithStartOffset.{SliceW
 use Rattle.planus_read.specs.Bytes.{Num, Int, BytesStand}
 use Rattle.planus_read.specs.Utf8.{utf8_clause}
 use Rattle.planus_read.specs.Clauses.{AllHold, FirstBroken, Answer, shown}
-use Rattle.planus_read.specs.Pieces.{slice_bytes}
+use Rattle.planus_read.specs.Pieces.{slice_bytes, ShowsBytes}
 use Rattle.planus_read.specs.Heads.{ShowsItems, IsTextOf, text_of_clauses}
 use Rattle.planus_read.specs.Reading.{number, Items, TablePlace, text_reading, table_reading, Leads, target, head_clauses, count_at, items_at, HeadThere, TextThere, ZeroByte, text_clauses, ByteListThere, byte_list_clauses, VectorThere, vector_clauses, UnionVectorThere, union_vector_clauses, TableThere, signed_number, vtable_at, vtable_size_at, object_clauses, table_clauses, slots_of}
 use Rattle.planus_read.specs.Tables.{ShowsTable, table_object, table_start, table_slots}
@@ -71,7 +71,7 @@ head_facts S f position count h =
 -- what the reader of heads hands on
 abbrev pub Head : List ℕ → ℕ → ℕ → SliceWithStartOffset → ℕ → Type 0
 Head S start f piece count =
-    (items : Items) × HeadThere S f items.position items.count × ShowsItems S start items piece count
+    (items : Items) × HeadThere S f items.position items.count × ShowsItems S start items (piece, count)
 
 -- the head of a piece, by its clauses
 record HeadRead (S : List ℕ) (f : ℕ) (items : SliceWithStartOffset) (count : ℕ) : Type 0 where
@@ -160,7 +160,7 @@ no_text_of_head S f count e head counted (inr (z, inl b)) =
     )
 no_text_of_head S f count e head counted (inr (z, inr (u, none))) = absurd none
 
-pub text_answer : (S : List ℕ) (start f count : ℕ) (items : SliceWithStartOffset) (bytes : List ℕ) (r : Result (Bor (List ℕ)) ErrorKind) → Head S start f items count → bytes ≡ slice_bytes items → IfOk r (λ t. IsTextOf bytes count t.now) → IfErr r (λ e. FirstBroken (text_of_clauses bytes count) e) → Answer (shown (λ content t. t.now ≡ content) (text_reading S f)) r
+pub text_answer : (S : List ℕ) (start f count : ℕ) (items : SliceWithStartOffset) (bytes : List ℕ) (r : Result (Bor (List ℕ)) ErrorKind) → Head S start f items count → bytes ≡ slice_bytes items → IfOk r (λ t. IsTextOf bytes count t.now) → IfErr r (λ e. FirstBroken (text_of_clauses bytes count) e) → Answer (shown ShowsBytes (text_reading S f)) r
 text_answer S start f count items bytes (Ok t) head same ok err =
     let read : HeadRead S f items count = head_read S start f items count head in
     (t.now, text_of_head S f count t.now read.holds read.counted (subst (λ l. IsTextOf l count t.now) (same ∙ read.bytes) ok), refl)

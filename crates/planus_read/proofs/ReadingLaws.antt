@@ -1,12 +1,17 @@
 -- The laws of `ReadingLaws`: once over any reading, and then of each kind.
-use Rattle.std.proofs.Common.{◌≡◌, ℕ, ◌==◌, not, List, [], ◌∷◌, take, drop, refl, sym, ap, ◌∙◌, Option, Some, None, Result, Ok, Err, inl, inr}
+use Rattle.std.proofs.Common.{subst, ◌≡◌, ℕ, ◌==◌, not, List, [], ◌∷◌, take, drop, refl, sym, ap, ◌∙◌, Option, Some, None, Result, Ok, Err, inl, inr}
 use Rattle.std.specs.Int.{Width, w8, cast_signed}
 use Rattle.std.specs.Option.{option_map}
+use Rattle.std.specs.Prelude.{⊤}
+use Rattle.std.specs.Str.{valid_up_to, error_len}
+use Rattle.std.specs.declared.str.Utf8Error.{Utf8Error}
 use Rattle.planus_read.specs.declared.errors.ErrorKind.{ErrorKind}
+use Rattle.planus_read.specs.declared.errors.ErrorKind.TheVariants.{InvalidOffset, InvalidLength, UnionVectorLengthsMismatched, InvalidVtableLength, InvalidUtf8, MissingNullTerminator}
+use Rattle.planus_read.specs.Utf8.{IsUtf8Error}
 use Rattle.planus_read.specs.Bytes.{Num}
 use Rattle.planus_read.specs.Clauses.{Clause, AllHold, FirstBroken, Reading, Answer}
 use Rattle.planus_read.specs.Reading.{number, number_clauses, target, count_at, items_at, vtable_at, vtable_size_at, VectorThere, Items, UnionItems, TablePlace, number_reading, signed_reading, truth_reading, head_reading, text_reading, byte_list_reading, vector_reading, union_vector_reading, table_reading, vector_clauses, table_clauses}
-use Rattle.planus_read.specs.ReadingLaws.{Decides, IsOne, IsAnswered, SameBroken, SameAnswer, IsLawful}
+use Rattle.planus_read.specs.ReadingLaws.{Decides, IsOne, IsAnswered, IsLawful, IsShown}
 use Rattle.planus_read.proofs.Readers.{num_inside, num_there, HeadFacts, head_facts, head_there, text_there, text_holds, byte_list_there, byte_list_holds, vector_there, vector_holds, union_vector_there, union_vector_holds, table_there, table_holds}
 
 -- a clause is broken, so not all hold
@@ -15,12 +20,17 @@ broken [] e h all = h
 broken (first ∷ rest) e (inl h) all = h.0 all.0
 broken (first ∷ rest) e (inr h) all = broken rest e h.1 all.1
 
-same_broken : (clauses : List Clause) (e other : ErrorKind) → FirstBroken clauses e → FirstBroken clauses other → SameBroken clauses e other
-same_broken [] e other h k = h
-same_broken (first ∷ rest) e other (inl h) (inl k) = inl (h.0, h.1, k.1)
-same_broken (first ∷ rest) e other (inl h) (inr k) = absurd (h.0 k.0)
-same_broken (first ∷ rest) e other (inr h) (inl k) = absurd (k.0 h.0)
-same_broken (first ∷ rest) e other (inr h) (inr k) = inr (h.0, same_broken rest e other h.1 k.1)
+-- each clause has one error
+abbrev pub OneError : List Clause → Type 0
+OneError [] = ⊤
+OneError (first ∷ rest) = ((e other : ErrorKind) → first.errors e → first.errors other → e ≡ other) × OneError rest
+
+same_broken : (clauses : List Clause) → OneError clauses → (e other : ErrorKind) → FirstBroken clauses e → FirstBroken clauses other → e ≡ other
+same_broken [] one e other h k = absurd h
+same_broken (first ∷ rest) one e other (inl h) (inl k) = one.0 e other h.1 k.1
+same_broken (first ∷ rest) one e other (inl h) (inr k) = absurd (h.0 k.0)
+same_broken (first ∷ rest) one e other (inr h) (inl k) = absurd (k.0 h.0)
+same_broken (first ∷ rest) one e other (inr h) (inr k) = same_broken rest one.1 e other h.1 k.1
 
 answered : {A : Type 0} (reading : Reading A) → Decides reading → IsOne reading → (x : A) → reading.There x → IsAnswered reading x
 answered {A} reading decides one x there = record { there = there; alone = λ y h. one y x h there; only = by_answer }
@@ -29,21 +39,43 @@ answered {A} reading decides one x there = record { there = there; alone = λ y 
     by_answer (Ok y) h = ap Ok (one y x h there)
     by_answer (Err e) h = absurd (broken reading.clauses e h (decides.1 (x, there)))
 
-same : {A : Type 0} (reading : Reading A) → Decides reading → IsOne reading → (r other : Result A ErrorKind) → Answer reading r → Answer reading other → SameAnswer reading.clauses r other
-same reading decides one (Ok x) (Ok y) h k = one x y h k
-same reading decides one (Ok x) (Err e) h k = broken reading.clauses e k (decides.1 (x, h))
-same reading decides one (Err e) (Ok x) h k = broken reading.clauses e h (decides.1 (x, k))
-same reading decides one (Err e) (Err other) h k = same_broken reading.clauses e other h k
+same : {A : Type 0} (reading : Reading A) → Decides reading → IsOne reading → OneError reading.clauses → (r other : Result A ErrorKind) → Answer reading r → Answer reading other → r ≡ other
+same reading decides one errors (Ok x) (Ok y) h k = ap Ok (one x y h k)
+same reading decides one errors (Ok x) (Err e) h k = absurd (broken reading.clauses e k (decides.1 (x, h)))
+same reading decides one errors (Err e) (Ok x) h k = absurd (broken reading.clauses e h (decides.1 (x, k)))
+same reading decides one errors (Err e) (Err other) h k = ap Err (same_broken reading.clauses errors e other h k)
 
-pub lawful : {A : Type 0} (reading : Reading A) → Decides reading → IsOne reading → IsLawful reading
-lawful reading decides one =
+pub lawful : {A : Type 0} (reading : Reading A) → OneError reading.clauses → Decides reading → IsOne reading → IsLawful reading
+lawful reading errors decides one =
     record {
       decides = decides;
       one = one;
       nothing = λ e h x there. broken reading.clauses e h (decides.1 (x, there));
       answered = answered reading decides one;
-      same = same reading decides one;
+      same = same reading decides one errors;
     }
+
+pub is_shown : {A B : Type 0} (reading : Reading A) (Shows : A → B → Type 0) → IsLawful reading → IsShown reading Shows
+is_shown reading Shows law x there (Ok shows) h = subst (λ y. Shows y shows) (law.one h.0 x h.1 there) h.2
+is_shown reading Shows law x there (Err e) h = absurd (law.nothing e h x there)
+
+-- the errors of the clauses
+this_error : (error e other : ErrorKind) → e ≡ error → other ≡ error → e ≡ other
+this_error error e other h k = h ∙ sym k
+
+same_fault : (a b : Utf8Error) → valid_up_to a ≡ valid_up_to b → error_len a ≡ error_len b → a ≡ b
+same_fault a b v l =
+    ap (λ n. let fault : Utf8Error = record { valid_up_to = n; error_len = error_len a } in fault) v
+    ∙ ap (λ n. let fault : Utf8Error = record { valid_up_to = valid_up_to b; error_len = n } in fault) l
+
+utf8_error : (bytes : List ℕ) (e other : ErrorKind) → IsUtf8Error bytes e → IsUtf8Error bytes other → e ≡ other
+utf8_error bytes (InvalidUtf8 a) (InvalidUtf8 b) h k =
+    ap InvalidUtf8 (same_fault a b (h.valid_len ∙ sym k.valid_len) (h.fault_len ∙ sym k.fault_len))
+utf8_error bytes (InvalidUtf8 a) _ h k = absurd k
+utf8_error bytes _ other h k = absurd h
+
+number_error : (S : List ℕ) (f : ℕ) (width : Width) → OneError (number_clauses S f width)
+number_error S f width = (this_error InvalidOffset, tt)
 
 -- numbers
 same_some : {A : Type 0} (m : Option A) (x y : A) → m ≡ Some x → m ≡ Some y → x ≡ y
@@ -51,7 +83,7 @@ same_some m x y h k = let e : Some x ≡ Some y = sym h ∙ k in cc
 
 pub lawful_number : (S : List ℕ) (f : ℕ) (width : Width) → IsLawful (number_reading S f width)
 lawful_number S f width =
-    lawful (number_reading S f width) ((λ h. (number S f width, num_there S f width h.0)), λ n. (num_inside S f width n.0 n.1, tt))
+    lawful (number_reading S f width) (number_error S f width) ((λ h. (number S f width, num_there S f width h.0)), λ n. (num_inside S f width n.0 n.1, tt))
     (λ x y h k. same_some (Num S f width) x y h k)
 
 mapped_there : {A : Type 0} (g : ℕ → A) (m : Option ℕ) (x : A) → option_map g m ≡ Some x → (n : ℕ) × (m ≡ Some n)
@@ -60,7 +92,7 @@ mapped_there g (Some n) x h = (n, refl)
 
 -- a value that is computed of a number
 lawful_mapped : {A : Type 0} (g : ℕ → A) (S : List ℕ) (f : ℕ) (width : Width) → IsLawful (record { There = λ x. option_map g (Num S f width) ≡ Some x; clauses = number_clauses S f width })
-lawful_mapped {A} g S f width = lawful (record { There = λ x. option_map g (Num S f width) ≡ Some x; clauses = number_clauses S f width }) (
+lawful_mapped {A} g S f width = lawful (record { There = λ x. option_map g (Num S f width) ≡ Some x; clauses = number_clauses S f width }) (number_error S f width) (
   (λ h. (g (number S f width), ap (option_map g) (num_there S f width h.0))),
   λ x. let n : (n : ℕ) × (Num S f width ≡ Some n) = mapped_there g (Num S f width) x.0 x.1 in (num_inside S f width n.0 n.1, tt),
 ) (λ x y h k. same_some (option_map g (Num S f width)) x y h k)
@@ -78,7 +110,7 @@ same_items a b p c =
     ∙ ap (λ n. let items : Items = record { position = b.position; count = n } in items) c
 
 pub lawful_head : (S : List ℕ) (f : ℕ) → IsLawful (head_reading S f)
-lawful_head S f = lawful (head_reading S f) (
+lawful_head S f = lawful (head_reading S f) (this_error InvalidOffset, (this_error InvalidOffset, (this_error InvalidOffset, tt))) (
   (λ h. (record { position = items_at S f; count = count_at S f }, head_there S f h.0 h.1.1.0)),
   λ v. let facts : HeadFacts S f v.0.position v.0.count = head_facts S f v.0.position v.0.count v.1 in (facts.reference, (facts.inside, (facts.word, tt))),
 ) one
@@ -91,12 +123,12 @@ lawful_head S f = lawful (head_reading S f) (
 
 pub lawful_text : (S : List ℕ) (f : ℕ) → IsLawful (text_reading S f)
 lawful_text S f =
-    lawful (text_reading S f) ((λ h. (take (count_at S f) (drop (items_at S f) S), text_there S f h)), λ t. (text_holds S f t.0 t.1).0)
+    lawful (text_reading S f) (this_error InvalidOffset, (this_error InvalidOffset, (this_error InvalidOffset, (this_error MissingNullTerminator, (utf8_error (take (count_at S f) (drop (items_at S f) S)), tt))))) ((λ h. (take (count_at S f) (drop (items_at S f) S), text_there S f h)), λ t. (text_holds S f t.0 t.1).0)
     (λ x y h k. (text_holds S f x h).1 ∙ sym (text_holds S f y k).1)
 
 pub lawful_byte_list : (S : List ℕ) (f : ℕ) → IsLawful (byte_list_reading S f)
 lawful_byte_list S f =
-    lawful (byte_list_reading S f)
+    lawful (byte_list_reading S f) (this_error InvalidOffset, (this_error InvalidOffset, (this_error InvalidOffset, (this_error InvalidLength, tt))))
     ((λ h. (take (count_at S f) (drop (items_at S f) S), byte_list_there S f h)), λ t. (byte_list_holds S f t.0 t.1).0)
     (λ x y h k. (byte_list_holds S f x h).1 ∙ sym (byte_list_holds S f y k).1)
 
@@ -107,7 +139,7 @@ one_vector S f stride p c p' c' h k =
     (a.1 ∙ sym b.1, a.2 ∙ sym b.2)
 
 pub lawful_vector : (S : List ℕ) (f stride : ℕ) → IsLawful (vector_reading S f stride)
-lawful_vector S f stride = lawful (vector_reading S f stride) (
+lawful_vector S f stride = lawful (vector_reading S f stride) (this_error InvalidOffset, (this_error InvalidOffset, (this_error InvalidOffset, (this_error InvalidLength, tt)))) (
   (λ h. (record { position = items_at S f; count = count_at S f }, vector_there S f stride h)),
   λ v. (vector_holds S f stride v.0.position v.0.count v.1).0,
 ) (λ x y h k. let e : (x.position ≡ y.position) × (x.count ≡ y.count) = one_vector S f stride x.position x.count y.position y.count h k in same_items x y e.0 e.1)
@@ -119,7 +151,7 @@ same_union_items a b t r c =
     ∙ ap (λ n. let items : UnionItems = record { tags = b.tags; references = b.references; count = n } in items) c
 
 pub lawful_union_vector : (S : List ℕ) (f g : ℕ) → IsLawful (union_vector_reading S f g)
-lawful_union_vector S f g = lawful (union_vector_reading S f g) (
+lawful_union_vector S f g = lawful (union_vector_reading S f g) (this_error InvalidOffset, (this_error InvalidOffset, (this_error InvalidOffset, (this_error InvalidOffset, (this_error InvalidOffset, (this_error InvalidOffset, (this_error InvalidLength, (this_error InvalidLength, (this_error (UnionVectorLengthsMismatched (count_at S f) (count_at S g)), tt))))))))) (
   (λ h. (record { tags = items_at S f; references = items_at S g; count = count_at S f }, union_vector_there S f g h)),
   λ v. union_vector_holds S f g v.0.tags v.0.references v.0.count v.1,
 ) one
@@ -138,7 +170,7 @@ same_place a b o t z =
     ∙ ap (λ n. let place : TablePlace = record { object = b.object; vtable = b.vtable; size = n } in place) z
 
 pub lawful_table : (S : List ℕ) (f : ℕ) → IsLawful (table_reading S f)
-lawful_table S f = lawful (table_reading S f) (
+lawful_table S f = lawful (table_reading S f) (this_error InvalidOffset, (this_error InvalidOffset, (this_error InvalidOffset, (this_error InvalidOffset, (this_error InvalidOffset, (this_error (InvalidVtableLength (vtable_size_at S (target S f))), (this_error InvalidLength, tt))))))) (
   (λ h. (record { object = target S f; vtable = vtable_at S (target S f); size = vtable_size_at S (target S f) }, table_there S f h)),
   λ t. (table_holds S f t.0.object t.0.vtable t.0.size t.1).0,
 ) one

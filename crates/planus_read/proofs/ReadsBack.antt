@@ -1,24 +1,23 @@
 -- The laws of `ReadsBack`: what stands reads back.
-use Rattle.std.proofs.Common.{◌≡◌, ℕ, ◌+◌, ◌-◌, ◌*◌, ◌≤◌, ◌-ℤ◌, ◌==◌, not, pos, List, [], ◌∷◌, length, map, take, drop, refl, sym, ap, ◌∙◌, subst, arith, Option, Some, None, Result, Ok, Err}
+use Rattle.std.proofs.Common.{◌≡◌, ℕ, ◌+◌, ◌-◌, ◌*◌, ◌≤◌, ◌-ℤ◌, ◌==◌, not, pos, List, [], ◌∷◌, length, map, take, drop, refl, sym, ap, ◌∙◌, subst, arith, Some, Result, Ok, Err}
 use Rattle.std.proofs.lemmas.List.{drop-drop}
 use Rattle.std.specs.Option.{option_map}
-use Rattle.std.specs.Prelude.{slice_get, IsOkAnd}
+use Rattle.std.specs.Prelude.{IsOkAnd}
 use Rattle.std.specs.Str.{IsUtf8}
-use Rattle.std.specs.Int.{Width, w8, w32, byte_len, from_le_bytes, cast_signed}
+use Rattle.std.specs.Int.{w8, w32, byte_len, from_le_bytes, cast_signed}
 use Rattle.planus_read.specs.declared.errors.ErrorKind.{ErrorKind}
 use Rattle.planus_read.specs.declared.place.Place.{Place}
-use Rattle.planus_read.specs.declared.place.TaggedPlace.{TaggedPlace}
 use Rattle.planus_read.specs.declared.table_reader.Table.{Table}
-use Rattle.planus_read.specs.Bytes.{Num, Int, BytesStand, position_of}
+use Rattle.planus_read.specs.Bytes.{Num, BytesStand, position_of}
 use Rattle.planus_read.specs.Clauses.{Answer, shown}
-use Rattle.planus_read.specs.Values.{Value, text, byte_list, plain_list, reference_list, union_list, table, Field, plain, reference, tags, values, field_at, vtable_size, slot_count}
-use Rattle.planus_read.specs.Stands.{Position, at, at_both, Stands, ReferenceStands, TableStands}
-use Rattle.planus_read.specs.Places.{IsPlace, LeadsOn, place_start, place_offset, tagged_place}
-use Rattle.planus_read.specs.Reading.{Leads, Items, UnionItems, TablePlace, TableThere, number_reading, signed_reading, truth_reading, text_reading, byte_list_reading, vector_reading, union_vector_reading, table_reading}
+use Rattle.planus_read.specs.Values.{Value, text, byte_list, plain_list, reference_list, union_list, table, Field, plain, reference, tags, values, field_at, vtable_size}
+use Rattle.planus_read.specs.Stands.{at, at_both, Stands, ReferenceStands, TableStands}
+use Rattle.planus_read.specs.Places.{IsPlace, LeadsOn, place_offset, tagged_place}
+use Rattle.planus_read.specs.Reading.{Leads, Items, UnionItems, TablePlace, text_reading, byte_list_reading, table_reading}
 use Rattle.planus_read.specs.ReadingLaws.{IsAnswered}
-use Rattle.planus_read.specs.Tables.{Slot, ShowsTable, table_slots}
+use Rattle.planus_read.specs.Tables.{Slot, ShowsTable}
 use Rattle.planus_read.specs.TableReading.{SlotReads, HasFields}
-use Rattle.planus_read.specs.ReadsBack.{PlainReads, PlaceReads, FieldReads, FieldsReadBack, ListReads, UnionListReads, TableReads, WhatStandsReadsBack}
+use Rattle.planus_read.specs.ReadsBack.{PlainReads, PlaceReads, FieldsReadBack, ListReads, UnionListReads, TableReads, WhatStandsReadsBack}
 use Rattle.planus_read.proofs.ReadingLaws.{lawful_number, lawful_signed, lawful_truth, lawful_text, lawful_byte_list, lawful_vector, lawful_union_vector, lawful_table}
 use Rattle.planus_read.proofs.Readers.{num_inside, number_of_signed}
 use Rattle.planus_read.proofs.PieceLaws.{references_lead, num_in_piece, leads_in_pieces, bytes_in_piece, stands_in_pieces}
@@ -132,16 +131,21 @@ table_reads B k entries h start f to = record { place = place; answered = answer
   where
     here : InPiece B start f k
     here = in_piece B start f k to
+
     stands : TableStands (drop start B) (k - start) entries
     stands = stands_here B start f k (table entries) here h
+
     place : TablePlace
     place = record { object = k - start; vtable = stands.vtable; size = vtable_size entries }
+
     answered : IsAnswered (table_reading (drop start B) f) place
     answered = (lawful_table (drop start B) f).answered place (table_place (drop start B) f (k - start) entries here.leads stands)
+
     inside : k + 4 ≤ length B
     inside =
         let word : (n : ℕ) × (Num B k w32 ≡ Some n) = number_of_signed (Num B k w32) (pos k -ℤ pos h.vtable) h.word in
         num_inside B k w32 word.0 word.1
+
     has_fields : (t : Table) → ShowsTable (drop start B) start place t → HasFields B k entries t
     has_fields t shows =
         record {
@@ -154,6 +158,7 @@ table_reads B k entries h start f to = record { place = place; answered = answer
               (subst (λ n. SlotReads B n (Slot (drop 4 (take (vtable_size entries) (drop stands.vtable (drop start B)))) i) (field_at entries i)) (sym here.whole)
               (slot_reads_whole B start (k - start) (Slot (drop 4 (take (vtable_size entries) (drop stands.vtable (drop start B)))) i) (field_at entries i) here.inside (any_slot_reads (drop start B) (k - start) entries stands i)));
         }
+
     fields : (r : Result Table ErrorKind) → Answer (shown (ShowsTable (drop start B) start) (table_reading (drop start B) f)) r → IsOkAnd r (HasFields B k entries)
     fields (Ok t) it = has_fields t (subst (λ p. ShowsTable (drop start B) start p t) (answered.alone it.0 it.1) it.2)
     fields (Err e) it = absurd ((lawful_table (drop start B) f).nothing e it place answered.there)

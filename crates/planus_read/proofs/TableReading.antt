@@ -96,9 +96,11 @@ table_slot_bytes S k entries h =
 -- a field of a slice of the bytes is the bytes' own
 pub slot_reads_whole : (B : List ℕ) (start k q : ℕ) (o : Option Field) → start ≤ length B → SlotReads (drop start B) k q o → SlotReads B (start + k) q o
 slot_reads_whole B start k q None inside h = h
-slot_reads_whole B start k q (Some field) inside h =
-    (h.0, subst (λ l. FieldStands l (start + k + q) field) (take-append-drop start B)
-    (field_moves (take start B) (drop start B) (k + q) (start + k + q) field (rw (length-take-le start B inside) (omega arith)) h.1))
+slot_reads_whole B start k q (Some field) inside h = (
+  h.0,
+  subst (λ l. FieldStands l (start + k + q) field) (take-append-drop start B)
+      (field_moves (take start B) (drop start B) (k + q) (start + k + q) field (rw (length-take-le start B inside) (omega arith)) h.1),
+)
 
 -- the last used slot holds a field
 last_used : (b : Bool) (x : Field) (rest : Option Field) (a n i : ℕ) → (b ≡ false → a ≡ i → ⊥) → max (a + 1) n ≡ i + 1 → (n ≡ i + 1 → rest ≡ None → ⊥) → (if b then Some x else rest) ≡ None → ⊥
@@ -180,27 +182,35 @@ union_read {T} reads B k entries table h i (Some union) hold r it = by_answer r 
   where
     tag_field : Field
     tag_field = plain (record { bytes = union.0 ∷ []; alignment = hold.1.0 })
+
     tag_slot : SlotReads B k (Slot (table_slots table) i) (Some tag_field)
     tag_slot = present B k entries table h i tag_field hold.1.1
+
     value_slot : SlotReads B k (Slot (table_slots table) (i + 1)) (Some (reference union.1))
     value_slot = present B k entries table h (i + 1) (reference union.1) hold.2
+
     fit : BothSlots table i
     fit = both_fit B k entries table h i (reference union.1) hold.2
+
     tag_byte : tag_of table i ≡ Some union.0
     tag_byte =
         ap (λ o. Num o (Slot (table_slots table) i) w8) h.object
         ∙ num_of_bytes (drop k B) (Slot (table_slots table) i) w8 (union.0 ∷ []) refl (bytes_in_piece B k (Slot (table_slots table) i) (union.0 ∷ []) tag_slot.1)
+
     same_tag : (tag : ℕ) → tag_of table i ≡ Some tag → tag ≡ union.0
     same_tag tag e = let f : Some tag ≡ Some union.0 = sym e ∙ tag_byte in cc
+
     found : (tag : ℕ) (answer : Result T ErrorKind) → tag_of table i ≡ Some tag → reads (table_object table) (table_start table) tag (Slot (table_slots table) (i + 1)) answer → reads (drop k B) k union.0 (Slot (table_slots table) (i + 1)) answer
     found tag answer e it =
         here_in (λ o s q a. reads o s union.0 q a) B k entries table h (Slot (table_slots table) (i + 1)) answer
         (subst (λ t. reads (table_object table) (table_start table) t (Slot (table_slots table) (i + 1)) answer) (same_tag tag e) it)
+
     none_here : UnionAbsent table i → ⊥
     none_here (inl past) = let l : length (table_slots table) ≤ 2 * i = past in let f : 2 * i + 4 ≤ length (table_slots table) = fit in omega arith
     none_here (inr (b, (tag, e, inl zero))) = hold.0 (sym (same_tag tag e) ∙ zero)
     none_here (inr (b, (tag, e, inr (inl zero)))) = let low : 4 ≤ Slot (table_slots table) i = tag_slot.0 in let z : Slot (table_slots table) i ≡ 0 = zero in omega arith
     none_here (inr (b, (tag, e, inr (inr zero)))) = let low : 4 ≤ Slot (table_slots table) (i + 1) = value_slot.0 in let z : Slot (table_slots table) (i + 1) ≡ 0 = zero in omega arith
+
     by_answer : (r : Result (Option T) ErrorKind) → UnionAnswer reads table i r → UnionRead reads B k (Some union) r
     by_answer (Ok None) it = absurd (none_here it)
     by_answer (Ok (Some x)) it = (Slot (table_slots table) (i + 1), value_slot.1, found it.0 (Ok x) it.1.tag_byte it.2)
@@ -227,15 +237,20 @@ union_vector_read {T} reads B k entries table h i (Some both) hold r it = by_ans
   where
     tags_slot : SlotReads B k (Slot (table_slots table) i) (Some (tags both.0))
     tags_slot = present B k entries table h i (tags both.0) hold.0
+
     values_slot : SlotReads B k (Slot (table_slots table) (i + 1)) (Some (values both.1))
     values_slot = present B k entries table h (i + 1) (values both.1) hold.1
+
     found : (answer : Result T ErrorKind) → reads (table_object table) (table_start table) (Slot (table_slots table) i) (Slot (table_slots table) (i + 1)) answer → reads (drop k B) k (Slot (table_slots table) i) (Slot (table_slots table) (i + 1)) answer
     found answer it = here_in (λ o s q a. reads o s (Slot (table_slots table) i) q a) B k entries table h (Slot (table_slots table) (i + 1)) answer it
+
     no_slot : (q : ℕ) → 4 ≤ q → q ≡ 0 → ⊥
     no_slot q low zero = omega arith
+
     no_one : ((Slot (table_slots table) i ≡ 0) × (Slot (table_slots table) (i + 1) ≢ 0)) ⊎ ((Slot (table_slots table) i ≢ 0) × (Slot (table_slots table) (i + 1) ≡ 0)) → ⊥
     no_one (inl one) = no_slot (Slot (table_slots table) i) tags_slot.0 one.0
     no_one (inr one) = no_slot (Slot (table_slots table) (i + 1)) values_slot.0 one.1
+
     by_answer : (r : Result (Option T) ErrorKind) → UnionVectorAnswer reads table i r → UnionVectorRead reads B k (Some both) r
     by_answer (Ok None) (inl past) =
         absurd (let l : length (table_slots table) < 2 * i + 4 = past in let f : 2 * i + 4 ≤ length (table_slots table) = both_fit B k entries table h i (values both.1) hold.1 in omega arith)

@@ -9,10 +9,10 @@ use Rattle.planus_read.specs.declared.errors.ErrorKind.TheVariants.{MissingNullT
 use Rattle.std.specs.Str.{IsUtf8}
 
 -- Items in a piece with the bytes S and this start: the piece from the first of them on, and their number.
-pub record ShowsItems (S : List ℕ) (start : ℕ) (items : Items) (piece : SliceWithStartOffset) (count : ℕ) : Type 0 where
-  pub bytes : slice_bytes piece ≡ drop items.position S
-  pub begin : slice_start piece ≡ start + items.position
-  pub counted : count ≡ items.count
+pub record ShowsItems (S : List ℕ) (start : ℕ) (items : Items) (head : SliceWithStartOffset × ℕ) : Type 0 where
+  pub bytes : slice_bytes head.0 ≡ drop items.position S
+  pub begin : slice_start head.0 ≡ start + items.position
+  pub counted : head.1 ≡ items.count
 
 -- The text of the first count items, with a zero byte behind it.
 pub record IsTextOf (items : List ℕ) (count : ℕ) (content : List ℕ) : Type 0 where

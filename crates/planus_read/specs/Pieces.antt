@@ -1,4 +1,5 @@
 -- Pieces of a buffer: their bytes, and where in the buffer they start.
+use Rattle.std.specs.Borrow.{Bor}
 use Rattle.std.specs.Prelude.{◌≡◌, ℕ, ◌+◌, ◌≤◌, List, length, take, drop}
 use Rattle.planus_read.specs.declared.slice_helpers.SliceWithStartOffset.{SliceWithStartOffset}
 use Rattle.planus_read.specs.declared.slice_helpers.ArrayWithStartOffset.{ArrayWithStartOffset}
@@ -28,3 +29,7 @@ pub record IsArrayAt {N : ℕ} (bytes : List ℕ) (start amount : ℕ) (array : 
   pub inside : amount + N ≤ length bytes
   pub items : array_bytes array ≡ take N (drop amount bytes)
   pub begin : array_start array ≡ start + amount
+
+-- the text, or the slice, has these bytes
+abbrev pub ShowsBytes : List ℕ → Bor (List ℕ) → Type 0
+ShowsBytes bytes lent = lent.now ≡ bytes

@@ -1,7 +1,7 @@
 -- The laws that tie the clauses of a reading to its value.
-use Rattle.std.specs.Prelude.{◌≡◌, ◌↔◌, List, [], ◌∷◌, ◌⊎◌, Result, Ok, Err}
+use Rattle.std.specs.Prelude.{◌≡◌, ◌↔◌, Result, Ok, IsOkAnd}
 use Rattle.planus_read.specs.declared.errors.ErrorKind.{ErrorKind}
-use Rattle.planus_read.specs.Clauses.{Clause, AllHold, FirstBroken, Reading, Answer}
+use Rattle.planus_read.specs.Clauses.{AllHold, FirstBroken, Reading, Answer, shown}
 
 -- All clauses hold exactly where a value stands.
 abbrev pub Decides : {A : Type 0} → Reading A → Type 0
@@ -21,24 +21,16 @@ pub record IsAnswered {A : Type 0} (reading : Reading A) (x : A) : Type 0 where
   pub alone : (y : A) → reading.There y → y ≡ x
   pub only : (r : Result A ErrorKind) → Answer reading r → r ≡ Ok x
 
--- both are errors of the first clause that fails
-abbrev pub SameBroken : List Clause → ErrorKind → ErrorKind → Type 0
-SameBroken [] e other = ⊥
-SameBroken (first ∷ rest) e other =
-    ((first.holds → ⊥) × first.errors e × first.errors other) ⊎ (first.holds × SameBroken rest e other)
-
--- the same value, or errors of the same clause
-abbrev pub SameAnswer : {A : Type 0} → List Clause → Result A ErrorKind → Result A ErrorKind → Type 0
-SameAnswer clauses (Ok x) (Ok y) = x ≡ y
-SameAnswer clauses (Err e) (Err other) = SameBroken clauses e other
-SameAnswer clauses (Ok x) (Err e) = ⊥
-SameAnswer clauses (Err e) (Ok x) = ⊥
-
 -- What holds of a reading of any kind: its clauses decide whether a value stands, which is the only one; an error means that none
--- does; where one stands, it is the only answer; and two answers are one value, or errors of one clause.
+-- does; where one stands, it is the only answer; and there is at most one answer.
 pub record IsLawful {A : Type 0} (reading : Reading A) : Type 0 where
   pub decides : Decides reading
   pub one : IsOne reading
   pub nothing : ErrorsMeanNothing reading
   pub answered : (x : A) → reading.There x → IsAnswered reading x
-  pub same : (r other : Result A ErrorKind) → Answer reading r → Answer reading other → SameAnswer reading.clauses r other
+  pub same : (r other : Result A ErrorKind) → Answer reading r → Answer reading other → r ≡ other
+
+-- Where a value stands, what shows it is answered.
+abbrev pub IsShown : {A B : Type 0} → Reading A → (A → B → Type 0) → Type 0
+IsShown {A} {B} reading Shows =
+    (x : A) → reading.There x → (r : Result B ErrorKind) → Answer (shown Shows reading) r → IsOkAnd r (Shows x)

@@ -61,7 +61,7 @@ pub record UnionListReads (B : List ℕ) (kt kv start f g : ℕ) (items : List (
   pub first_tag : start + tags_position ≡ kt + 4
   pub first_reference : start + references_position ≡ kv + 4
   pub vector :
-    IsAnswered (union_vector_reading (drop start B) f g) (record { tags = tags_position; references = references_position; count = length items })
+      IsAnswered (union_vector_reading (drop start B) f g) (record { tags = tags_position; references = references_position; count = length items })
   pub each_tag : (i : ℕ) (item : ℕ × ℕ) → slice_get items i ≡ Some item → IsAnswered (number_reading (drop (kt + 4) B) i w8) item.0
   pub each_reference : (i : ℕ) (item : ℕ × ℕ) → slice_get items i ≡ Some item → PlaceReads B (kv + 4) (i * 4) item.1
 

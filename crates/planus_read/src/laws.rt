@@ -5,7 +5,11 @@ ghost use Rattle.std.specs.Prelude.{ℕ, List};
 ghost use Rattle.planus_read.specs.ListItems.{PlainItemsStand, ReferenceItemsStand, UnionItemsStand};
 ghost use Rattle.planus_read.specs.Reading.{number_reading, signed_reading, truth_reading, head_reading};
 ghost use Rattle.planus_read.specs.Reading.{text_reading, byte_list_reading, vector_reading, union_vector_reading, table_reading};
-ghost use Rattle.planus_read.specs.ReadingLaws.{IsLawful};
+ghost use Rattle.planus_read.specs.ReadingLaws.{IsLawful, IsShown};
+ghost use Rattle.planus_read.specs.Heads.{ShowsItems};
+ghost use Rattle.planus_read.specs.Pieces.{ShowsBytes};
+ghost use Rattle.planus_read.specs.SignedBytes.{ShowsSigned};
+ghost use Rattle.planus_read.specs.Tables.{ShowsTable};
 ghost use Rattle.planus_read.specs.PieceLaws.{ReferencesLead, LeadsInPieces, FieldsStandInPieces, StandsInPieces};
 ghost use Rattle.planus_read.specs.ReadsBack.{FieldsReadBack, WhatStandsReadsBack};
 ghost use Rattle.planus_read.specs.TableReading.{FieldsRead, UnionsRead, UnionVectorsRead};
@@ -28,7 +32,7 @@ pub fn stands_alone()
 {}
 
 /// All clauses of a reading hold exactly where a value of its kind stands; at most one does; where the first clause that fails gives an
-/// error, none does; where one stands, it is the only answer; and two answers are one value, or errors of one clause.
+/// error, none does; where one stands, it is the only answer; and there is at most one answer.
 pub fn readings_are_lawful()
     ensures number { (S : List ℕ) (f : ℕ) (width : Width) → IsLawful (number_reading S f width) }
     ensures signed { (S : List ℕ) (f : ℕ) (width : Width) → IsLawful (signed_reading S f width) }
@@ -39,6 +43,16 @@ pub fn readings_are_lawful()
     ensures vector { (S : List ℕ) (f stride : ℕ) → IsLawful (vector_reading S f stride) }
     ensures union_vector { (S : List ℕ) (f g : ℕ) → IsLawful (union_vector_reading S f g) }
     ensures table { (S : List ℕ) (f : ℕ) → IsLawful (table_reading S f) }
+{}
+
+/// Where a value stands, its reader returns it: the text, the slice, the list of signed bytes, the items and their count, or the table
+/// that shows this value.
+pub fn readers_show_values()
+    ensures head { (S : List ℕ) (start f : ℕ) → IsShown (head_reading S f) (ShowsItems S start) }
+    ensures text { (S : List ℕ) (f : ℕ) → IsShown (text_reading S f) ShowsBytes }
+    ensures byte_list { (S : List ℕ) (f : ℕ) → IsShown (byte_list_reading S f) ShowsBytes }
+    ensures signed_bytes { (S : List ℕ) (f : ℕ) → IsShown (byte_list_reading S f) ShowsSigned }
+    ensures table { (S : List ℕ) (start f : ℕ) → IsShown (table_reading S f) (ShowsTable S start) }
 {}
 
 /// A reference that is encoded leads to the position of its distance. It leads there too in each piece of the bytes that begins no

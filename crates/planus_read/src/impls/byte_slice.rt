@@ -2,6 +2,7 @@
 
 ghost use Rattle.std.specs.Prelude.{◌≡◌, ◌==◌, length};
 ghost use Rattle.planus_read.specs.Clauses.{Answer, shown};
+ghost use Rattle.planus_read.specs.Pieces.{ShowsBytes};
 ghost use Rattle.planus_read.specs.Reading.{byte_list_reading};
 
 use super::array_from_buffer;
@@ -10,7 +11,7 @@ use crate::slice_helpers::SliceWithStartOffset;
 use crate::traits::TableRead;
 
 impl<'buf> TableRead<'buf> for &'buf [u8] {
-    ghost reads = { λ S start f r. Answer (shown (λ bytes slice. slice.now ≡ bytes) (byte_list_reading S f)) r };
+    ghost reads = { λ S start f r. Answer (shown ShowsBytes (byte_list_reading S f)) r };
 
     #[inline]
     fn from_buffer(
@@ -72,9 +73,9 @@ impl<'buf> SignedBytes<'buf> {
 }
 
 impl<'buf> TableRead<'buf> for SignedBytes<'buf> {
-    ghost use Rattle.planus_read.specs.SignedBytes.{signed_bytes};
+    ghost use Rattle.planus_read.specs.SignedBytes.{ShowsSigned};
 
-    ghost reads = { λ S start f r. Answer (shown (λ bytes list. signed_bytes list ≡ bytes) (byte_list_reading S f)) r };
+    ghost reads = { λ S start f r. Answer (shown ShowsSigned (byte_list_reading S f)) r };
 
     #[inline]
     fn from_buffer(

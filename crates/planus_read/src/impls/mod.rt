@@ -57,7 +57,7 @@ pub fn array_from_buffer<'buf>(
     buffer: SliceWithStartOffset<'buf>,
     offset: usize,
 ) -> Result<(SliceWithStartOffset<'buf>, u32), ErrorKind>
-    ensures { Answer (shown (λ items head. ShowsItems (slice_bytes buffer.entry) (slice_start buffer.entry) items head.0 head.1) (head_reading (slice_bytes buffer.entry) offset)) result }
+    ensures { Answer (shown (ShowsItems (slice_bytes buffer.entry) (slice_start buffer.entry)) (head_reading (slice_bytes buffer.entry) offset)) result }
 {
     let value = u32_at(buffer, offset)? as usize;
     let Some(target) = offset.checked_add(value) else {

@@ -4,6 +4,7 @@ ghost use Rattle.std.specs.Prelude.{◌≡◌, IfOk, IfErr, codes};
 ghost use Rattle.std.proofs.Common.{lit≤};
 ghost use Rattle.planus_read.specs.Located.{Located};
 ghost use Rattle.planus_read.specs.Clauses.{Answer, shown, FirstBroken};
+ghost use Rattle.planus_read.specs.Pieces.{ShowsBytes};
 ghost use Rattle.planus_read.specs.Reading.{text_reading};
 ghost use Rattle.planus_read.specs.Heads.{IsTextOf, text_of_clauses};
 
@@ -25,7 +26,7 @@ fn text_of(items: &[u8], count: usize) -> Result<&str, ErrorKind>
 }
 
 impl<'buf> TableRead<'buf> for &'buf str {
-    ghost reads = { λ S start f r. Answer (shown (λ content text. text.now ≡ content) (text_reading S f)) r };
+    ghost reads = { λ S start f r. Answer (shown ShowsBytes (text_reading S f)) r };
 
     #[inline]
     fn from_buffer(
@@ -55,7 +56,7 @@ impl<'buf> ReadError for &'buf str {
 }
 
 impl<'buf> VectorReadInner<'buf> for &'buf str {
-    ghost gives = { λ S start f r. Located (Answer (shown (λ content text. text.now ≡ content) (text_reading S f))) (codes "[str]") (codes "get") start r };
+    ghost gives = { λ S start f r. Located (Answer (shown ShowsBytes (text_reading S f))) (codes "[str]") (codes "get") start r };
 
     #[inline]
     fn from_buffer(buffer: SliceWithStartOffset<'buf>, offset: usize) -> Result<&'buf str, Error> {

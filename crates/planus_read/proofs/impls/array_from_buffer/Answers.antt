@@ -13,7 +13,7 @@ returns c =
     let word : target S f + byte_len w32 ≤ length S = subst (λ k. k + byte_len w32 ≤ length S) to c.in_ok-count.ensures.inside in
     let items : Items = record { position = items_at S f; count = count_at S f } in
     let piece = c.in_ok-items.ensures.piece in
-    let shows : ShowsItems S (slice_start c.args.buffer) items c.in_ok-items.items c.in_ok-count.count = record {
+    let shows : ShowsItems S (slice_start c.args.buffer) items (c.in_ok-items.items, c.in_ok-count.count) = record {
       bytes = piece.bytes ∙ ap (λ k. drop (k + 4) S) to;
       begin = piece.start ∙ ap (λ k. slice_start c.args.buffer + (k + 4)) to;
       counted = c.in_ok-count.ensures.value ∙ ap (λ k. number S k w32) to;
