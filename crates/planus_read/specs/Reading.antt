@@ -187,6 +187,10 @@ abbrev pub table_reading : List ℕ → ℕ → Reading TablePlace
 table_reading S f =
     record { There = λ place. TableThere S f place.object place.vtable place.size; clauses = table_clauses S f }
 
+-- The reading of a scalar of this width, where There says which one stands.
+abbrev pub scalar_reading : {A : Type 0} → Width → (List ℕ → ℕ → A → Type 0) → List ℕ → ℕ → Reading A
+scalar_reading width There S f = record { There = There S f; clauses = number_clauses S f width }
+
 -- a number of this width at f
 abbrev pub NumberThere : List ℕ → ℕ → Width → ℕ → Type 0
 NumberThere S f width x = Num S f width ≡ Some x

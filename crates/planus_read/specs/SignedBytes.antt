@@ -2,7 +2,7 @@
 use Rattle.std.specs.Prelude.{◌≡◌, ℕ, ℤ, List, Option, slice_get}
 use Rattle.std.specs.Int.{w8, cast_signed}
 use Rattle.std.specs.Option.{option_map}
-use Rattle.planus_read.specs.declared.impls.byte_slice.SignedBytes.{SignedBytes}
+use Rattle.planus_read.specs.declared.signed_bytes.SignedBytes.{SignedBytes}
 
 -- the bytes of a list of signed bytes
 abbrev pub signed_bytes : SignedBytes → List ℕ

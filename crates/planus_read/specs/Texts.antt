@@ -1,10 +1,11 @@
 -- The texts that errors print.
-use Rattle.std.specs.Prelude.{ℕ, List, [], ◌++◌, ◌-◌, ◌^◌, ◌==◌, false, codes, Option, Some, None, if◌then◌else◌}
+use Rattle.std.specs.Prelude.{ℕ, List, [], ◌++◌, ◌==◌, false, codes, Option, Some, None, if◌then◌else◌}
 use Rattle.std.specs.Fmt.{decimal, signed_decimal, digits}
 use Rattle.std.specs.Str.{valid_up_to, error_len}
 use Rattle.planus_read.specs.declared.errors.ErrorKind.{ErrorKind}
 use Rattle.planus_read.specs.declared.errors.ErrorKind.TheVariants.{InvalidOffset, InvalidLength, UnionVectorLengthsMismatched, UnknownEnumTag as unknown_enum_tag, UnknownUnionTag, InvalidVtableLength, InvalidUtf8, MissingRequired, MissingNullTerminator}
 use Rattle.planus_read.specs.declared.errors.UnknownEnumTagKind.{UnknownEnumTagKind}
+use Rattle.planus_read.specs.declared.located.TheConstants.{NO_OFFSET}
 use Rattle.planus_read.specs.declared.located.ErrorLocation.{ErrorLocation}
 use Rattle.planus_read.specs.declared.located.Error.{Error}
 use Rattle.planus_read.specs.declared.located.UnknownEnumTag.{UnknownEnumTag}
@@ -34,15 +35,11 @@ kind_text (InvalidUtf8 source) = codes "Invalid utf-8: " ++ utf8_text (valid_up_
 kind_text MissingRequired = codes "Missing required field"
 kind_text MissingNullTerminator = codes "Missing null terminator"
 
--- the offset of a location that has none: the greatest of 64 bits
-abbrev pub no_offset : ℕ
-no_offset = 2 ^ 64 - 1
-
 -- the type, the offset in lower-case hexadecimal where there is one, and the method
 abbrev pub location_text : ErrorLocation → List ℕ
 location_text location =
     codes "<" ++ location.type_.now
-    ++ (if location.byte_offset == no_offset then [] else codes "@" ++ digits 16 false location.byte_offset)
+    ++ (if location.byte_offset == NO_OFFSET then [] else codes "@" ++ digits 16 false location.byte_offset)
     ++ codes ">::" ++ location.method.now ++ codes "()"
 
 -- a text at a location

@@ -101,7 +101,8 @@ impl fmt::Display for ErrorKind {
                 values_len,
             } => write!(
                 f,
-                "Mismatched lengths between tag and value vectors. Length of tags = {tags_len}, length of values = {values_len}"
+                "Mismatched lengths between tag and value vectors. \
+                 Length of tags = {tags_len}, length of values = {values_len}"
             ),
             ErrorKind::UnknownEnumTag { source } => write!(f, "{source}"),
             ErrorKind::UnknownUnionTag { tag } => write!(f, "Unknown union (tag = {tag})"),
@@ -134,9 +135,11 @@ impl fmt::Display for UnknownEnumTagKind {
 }
 
 impl From<UnknownEnumTagKind> for ErrorKind {
-    ghost use Rattle.planus_read.specs.declared.errors.ErrorKind.TheVariants.{UnknownEnumTag as unknown_enum_tag};
+    ghost use Rattle.planus_read.specs.declared.errors.ErrorKind.TheVariants.{
+      UnknownEnumTag as unknown,
+    };
 
-    ghost from_gives = { λ source kind. kind ≡ unknown_enum_tag source };
+    ghost from_gives = { λ source kind. kind ≡ unknown source };
 
     fn from(source: UnknownEnumTagKind) -> Self {
         ErrorKind::UnknownEnumTag { source }
@@ -144,9 +147,11 @@ impl From<UnknownEnumTagKind> for ErrorKind {
 }
 
 impl From<Utf8Error> for ErrorKind {
-    ghost use Rattle.planus_read.specs.declared.errors.ErrorKind.TheVariants.{InvalidUtf8 as invalid_utf8};
+    ghost use Rattle.planus_read.specs.declared.errors.ErrorKind.TheVariants.{
+      InvalidUtf8 as invalid,
+    };
 
-    ghost from_gives = { λ source kind. kind ≡ invalid_utf8 source };
+    ghost from_gives = { λ source kind. kind ≡ invalid source };
 
     fn from(source: Utf8Error) -> Self {
         ErrorKind::InvalidUtf8 { source }
@@ -161,7 +166,9 @@ impl UnknownEnumTagKind {
         method: &'n str,
         byte_offset: usize,
     ) -> located::UnknownEnumTag<'n>
-        ensures { result ≡ record { source_location = record { type_ = type_.entry; method = method.entry; byte_offset = byte_offset }; error_kind = self } }
+        ensures location { result.source_location
+            ≡ record { type_ = type_.entry; method = method.entry; byte_offset = byte_offset } }
+        ensures kind { result.error_kind ≡ self }
     {
         located::UnknownEnumTag {
             source_location: located::ErrorLocation {
@@ -182,7 +189,9 @@ impl ErrorKind {
         method: &'n str,
         byte_offset: usize,
     ) -> located::Error<'n>
-        ensures { result ≡ record { source_location = record { type_ = type_.entry; method = method.entry; byte_offset = byte_offset }; error_kind = self } }
+        ensures location { result.source_location
+            ≡ record { type_ = type_.entry; method = method.entry; byte_offset = byte_offset } }
+        ensures kind { result.error_kind ≡ self }
     {
         located::Error {
             source_location: located::ErrorLocation {

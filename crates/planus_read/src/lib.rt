@@ -2,11 +2,13 @@
 #![tactic(auto)]
 
 pub mod errors;
+mod heads;
 mod impls;
 pub mod laws;
 pub mod located;
 mod place;
 pub mod plain;
+mod signed_bytes;
 mod slice_helpers;
 pub mod table_reader;
 #[cfg(test)]
@@ -15,8 +17,9 @@ mod traits;
 pub mod worked_rows;
 
 pub use errors::Error;
-pub use impls::{SignedBytes, array_from_buffer};
+pub use heads::array_from_buffer;
 pub use place::{Place, TaggedPlace};
+pub use signed_bytes::SignedBytes;
 pub use slice_helpers::{ArrayWithStartOffset, SliceWithStartOffset};
 pub use traits::{
     ReadAsRoot, ReadError, Stride, TableRead, TableReadUnion, TableReadUnionVector, VectorName,

@@ -4,6 +4,12 @@
 use crate::errors::{ErrorKind, UnknownEnumTagKind};
 use std::fmt;
 
+// The offset of a location that has none.
+const NO_OFFSET: usize = usize::MAX;
+
+// The method that the error of an item names.
+pub(crate) const ITEM_METHOD: &str = "get";
+
 /// The error of a read: what is wrong with the bytes, and where it was met.
 #[derive(Clone, Copy, Debug)]
 pub struct Error<'n> {
@@ -41,7 +47,7 @@ impl<'n> fmt::Display for ErrorLocation<'n> {
     ghost output = { λ location. Some (location_text location) };
 
     fn fmt<W: fmt::Write>(&self, f: &mut fmt::Formatter<W>) -> fmt::Result {
-        if self.byte_offset != usize::MAX {
+        if self.byte_offset != NO_OFFSET {
             write!(
                 f,
                 "<{}@{:x}>::{}()",
@@ -77,10 +83,13 @@ impl<'n> fmt::Display for UnknownEnumTag<'n> {
 }
 
 impl<'n> From<UnknownEnumTag<'n>> for Error<'n> {
-    ghost use Rattle.planus_read.specs.declared.errors.ErrorKind.TheVariants.{UnknownEnumTag as unknown_enum_tag};
+    ghost use Rattle.planus_read.specs.declared.errors.ErrorKind.TheVariants.{
+      UnknownEnumTag as unknown,
+    };
     ghost use Rattle.std.specs.Prelude.{◌≡◌};
 
-    ghost from_gives = { λ tag e. e ≡ record { source_location = tag.source_location; error_kind = unknown_enum_tag tag.error_kind } };
+    ghost from_gives = { λ tag e.
+        e ≡ record { source_location = tag.source_location; error_kind = unknown tag.error_kind } };
 
     fn from(error: UnknownEnumTag<'n>) -> Self {
         Error {

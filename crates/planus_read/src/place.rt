@@ -5,8 +5,12 @@ ghost use Rattle.std.proofs.Common.{lit≤};
 ghost use Rattle.planus_read.specs.Clauses.{Answer};
 
 use crate::errors::ErrorKind;
+use crate::heads::REFERENCE_SIZE;
 use crate::slice_helpers::SliceWithStartOffset;
 use crate::traits::{Stride, TableRead, TableReadUnion, VectorName, VectorRead};
+
+// The name of a vector of such unions.
+const VECTOR_NAME: &str = "[union]";
 
 /// The place of a field, or of an item of 4 bytes as a reference is: a piece of a buffer and an offset in it. How it is read is chosen
 /// later; until then nothing is tested.
@@ -29,7 +33,8 @@ impl<'buf> Place<'buf> {
     /// The value of type `T` that stands here, or the error of `T` at this place.
     #[inline]
     pub fn read<T: TableRead<'buf>>(&self) -> Result<T, ErrorKind>
-        ensures { T.reads (place_bytes self.now) (place_start self.now) (place_offset self.now) result }
+        ensures { T.reads (place_bytes self.now) (place_start self.now)
+            (place_offset self.now) result }
     {
         T::from_buffer(self.buffer, self.offset)
     }
@@ -50,15 +55,17 @@ impl<'buf> TableRead<'buf> for Place<'buf> {
 }
 
 impl<'buf> Stride for Place<'buf> {
-    ghost STRIDE = { 4 };
+    ghost use Rattle.planus_read.specs.declared.heads.TheConstants.{REFERENCE_SIZE};
+
+    ghost STRIDE = { REFERENCE_SIZE };
 
     ghost is_positive = { lit≤ tt };
 
     #[inline]
     fn stride() -> usize
-        ensures { result ≡ 4 }
+        ensures { result ≡ REFERENCE_SIZE }
     {
-        4
+        REFERENCE_SIZE
     }
 }
 
@@ -112,14 +119,14 @@ impl<'buf> TableReadUnion<'buf> for TaggedPlace<'buf> {
 }
 
 impl<'buf> VectorName for TaggedPlace<'buf> {
-    ghost use Rattle.std.specs.Prelude.{codes};
+    ghost use Rattle.planus_read.specs.declared.place.TheConstants.{VECTOR_NAME};
 
-    ghost name = { codes "[union]" };
+    ghost name = { VECTOR_NAME.now };
 
     #[inline]
     fn vector_name() -> &'static str
-        ensures { result.now ≡ codes "[union]" }
+        ensures { result.now ≡ VECTOR_NAME.now }
     {
-        "[union]"
+        VECTOR_NAME
     }
 }

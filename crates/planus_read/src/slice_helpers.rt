@@ -86,7 +86,8 @@ impl<'buf> SliceWithStartOffset<'buf> {
     #[inline]
     pub fn advance(&self, amount: usize) -> std::result::Result<Self, ErrorKind>
         ensures piece { IfOk result (λ piece. IsAdvanced self.now amount piece) }
-        ensures error { IfErr result (λ e. (length (slice_bytes self.now) < amount) × (e ≡ ErrorKind.InvalidOffset)) }
+        ensures error { IfErr result (λ e.
+            (length (slice_bytes self.now) < amount) × (e ≡ ErrorKind.InvalidOffset)) }
     {
         if amount > self.buffer.len() {
             return Err(ErrorKind::InvalidOffset);
@@ -103,8 +104,10 @@ impl<'buf> SliceWithStartOffset<'buf> {
         &self,
         amount: usize,
     ) -> std::result::Result<ArrayWithStartOffset<'buf, N>, ErrorKind>
-        ensures array { IfOk result (λ array. IsArrayAt (slice_bytes self.now) (slice_start self.now) amount array) }
-        ensures error { IfErr result (λ e. (length (slice_bytes self.now) < amount + N) × (e ≡ ErrorKind.InvalidOffset)) }
+        ensures array { IfOk result (λ array.
+            IsArrayAt (slice_bytes self.now) (slice_start self.now) amount array) }
+        ensures error { IfErr result (λ e.
+            (length (slice_bytes self.now) < amount + N) × (e ≡ ErrorKind.InvalidOffset)) }
     {
         match amount.checked_add(N) {
             Some(end) if end <= self.buffer.len() => {
@@ -173,7 +176,8 @@ impl<'buf, const N: usize> ArrayWithStartOffset<'buf, N> {
         &self,
         amount: usize,
     ) -> std::result::Result<ArrayWithStartOffset<'buf, K>, ErrorKind>
-        ensures array { IfOk result (λ array. IsArrayAt (array_bytes self.now) (array_start self.now) amount array) }
+        ensures array { IfOk result (λ array.
+            IsArrayAt (array_bytes self.now) (array_start self.now) amount array) }
         ensures error { IfErr result (λ e. (N < amount + K) × (e ≡ ErrorKind.InvalidOffset)) }
     {
         let array = self.buffer;

@@ -1,13 +1,14 @@
 //! Tables, read in place.
 
-ghost use Rattle.std.specs.Prelude.{◌≡◌, ◌<◌, ◌+◌, ◌*◌, ◌^◌, [], length, IfOk, IfErr, IfSome, IfNone};
+ghost use Rattle.std.specs.Prelude.{◌≡◌, ◌<◌, ◌+◌, ◌*◌, ◌^◌, [], length};
+ghost use Rattle.std.specs.Prelude.{IfOk, IfErr, IfSome, IfNone};
 ghost use Rattle.planus_read.specs.Clauses.{Answer, shown, AllHold, FirstBroken};
 ghost use Rattle.planus_read.specs.Pieces.{slice_bytes, slice_start};
 ghost use Rattle.planus_read.specs.Located.{Located, Required};
-ghost use Rattle.planus_read.specs.Reading.{table_reading, word_clauses, object_clauses, vtable_at, slots_of};
+ghost use Rattle.planus_read.specs.Reading.{table_reading, word_clauses, object_clauses};
+ghost use Rattle.planus_read.specs.Reading.{vtable_at, slots_of};
 
 use crate::errors::ErrorKind;
-use crate::impls::{i32_at, u16_at, u32_at};
 use crate::located::Error;
 use crate::slice_helpers::SliceWithStartOffset;
 use crate::traits::{TableRead, TableReadUnion, TableReadUnionVector};
@@ -25,10 +26,12 @@ pub struct Table<'buf> {
 // Where the vtable of the object lies.
 fn vtable_offset(buffer: SliceWithStartOffset<'_>, object_offset: usize) -> Result<usize, ErrorKind>
     ensures offset { IfOk result (λ t. t ≡ vtable_at (slice_bytes buffer.entry) object_offset) }
-    ensures holds { IfOk result (λ _. AllHold (word_clauses (slice_bytes buffer.entry) object_offset [])) }
-    ensures error { IfErr result (λ e. FirstBroken (word_clauses (slice_bytes buffer.entry) object_offset []) e) }
+    ensures holds { IfOk result (λ _.
+        AllHold (word_clauses (slice_bytes buffer.entry) object_offset [])) }
+    ensures error { IfErr result (λ e.
+        FirstBroken (word_clauses (slice_bytes buffer.entry) object_offset []) e) }
 {
-    let relative = i32_at(buffer, object_offset)?;
+    let relative = <i32 as TableRead<'_>>::from_buffer(buffer, object_offset)?;
     if relative < 0 {
         return Ok(object_offset + relative.unsigned_abs() as usize);
     }
@@ -44,13 +47,16 @@ fn vtable_of<'buf>(
     buffer: SliceWithStartOffset<'buf>,
     object_offset: usize,
 ) -> Result<&'buf [u8], ErrorKind>
-    ensures slots { IfOk result (λ slots. slots.now ≡ slots_of (slice_bytes buffer.entry) object_offset) }
+    ensures slots { IfOk result (λ slots.
+        slots.now ≡ slots_of (slice_bytes buffer.entry) object_offset) }
     ensures small { IfOk result (λ slots. length slots.now + 4 < 2 ^ 16) }
-    ensures holds { IfOk result (λ _. AllHold (object_clauses (slice_bytes buffer.entry) object_offset)) }
-    ensures error { IfErr result (λ e. FirstBroken (object_clauses (slice_bytes buffer.entry) object_offset) e) }
+    ensures holds { IfOk result (λ _.
+        AllHold (object_clauses (slice_bytes buffer.entry) object_offset)) }
+    ensures error { IfErr result (λ e.
+        FirstBroken (object_clauses (slice_bytes buffer.entry) object_offset) e) }
 {
     let offset = vtable_offset(buffer, object_offset)?;
-    let size = u16_at(buffer, offset)?;
+    let size = <u16 as TableRead<'_>>::from_buffer(buffer, offset)?;
     if size < 4 || size % 2 != 0 {
         return Err(ErrorKind::InvalidVtableLength { length: size });
     }
@@ -72,17 +78,21 @@ fn required<A>(answer: Result<Option<A>, ErrorKind>) -> Result<A, ErrorKind>
 }
 
 impl<'buf> Table<'buf> {
-    ghost use Rattle.planus_read.specs.Tables.{ShowsTable, FieldAnswer, UnionAnswer, UnionVectorAnswer, UnionThere, UnionAbsent, UnionBroken, BothSlots, Slot, table_start, table_slots};
+    ghost use Rattle.planus_read.specs.Tables.{ShowsTable, table_start, table_slots};
+    ghost use Rattle.planus_read.specs.Tables.{Slot, BothSlots};
+    ghost use Rattle.planus_read.specs.Tables.{FieldAnswer, UnionAnswer, UnionVectorAnswer};
+    ghost use Rattle.planus_read.specs.Tables.{UnionThere, UnionAbsent, UnionBroken};
 
     /// The table to which the reference at the offset leads, in bytes from the start of the piece. Its vtable lies anywhere in the
     /// piece. [`ErrorKind::InvalidOffset`] where a number or the table lies outside, or the vtable would begin in front of the piece;
     /// [`ErrorKind::InvalidVtableLength`] for a vtable whose size is odd or below 4; [`ErrorKind::InvalidLength`] where the vtable
     /// passes the end.
     pub fn from_buffer(buffer: SliceWithStartOffset<'buf>, offset: usize) -> Result<Self, ErrorKind>
-        ensures { Answer (shown (ShowsTable (slice_bytes buffer.entry) (slice_start buffer.entry)) (table_reading (slice_bytes buffer.entry) offset)) result }
+        ensures { let S = slice_bytes buffer.entry in let start = slice_start buffer.entry in
+            Answer (shown (ShowsTable S start) (table_reading S offset)) result }
     {
-        let value = u32_at(buffer, offset)? as usize;
-        let Some(object_offset) = offset.checked_add(value) else {
+        let value = <u32 as TableRead<'buf>>::from_buffer(buffer, offset)?;
+        let Some(object_offset) = offset.checked_add(value as usize) else {
             return Err(ErrorKind::InvalidOffset);
         };
         let object = buffer.advance(object_offset)?;
@@ -133,7 +143,8 @@ impl<'buf> Table<'buf> {
         type_: &'n str,
         method: &'n str,
     ) -> Result<A, Error<'n>>
-        ensures { Located (λ a. a ≡ answer) type_.now method.now (table_start self.now) result }
+        ensures { Located (λ a. a ≡ answer)
+            type_.now method.now (table_start self.now) result }
     {
         match answer {
             Ok(value) => Ok(value),
@@ -158,8 +169,10 @@ impl<'buf> Table<'buf> {
 
     // The tag and the value's distance of the union of a slot and the next, `None` where there is no union.
     fn union_at(&self, slot: usize) -> Result<Option<(u8, usize)>, ErrorKind>
-        ensures some { IfOk result (λ found. IfSome found (λ union. UnionThere self.now slot union.0)) }
-        ensures value { IfOk result (λ found. IfSome found (λ union. union.1 ≡ Slot (table_slots self.now) (slot + 1))) }
+        ensures some { IfOk result (λ found.
+            IfSome found (λ union. UnionThere self.now slot union.0)) }
+        ensures value { IfOk result (λ found.
+            IfSome found (λ union. union.1 ≡ Slot (table_slots self.now) (slot + 1))) }
         ensures none { IfOk result (λ found. IfNone found (UnionAbsent self.now slot)) }
         ensures error { IfErr result (λ e. UnionBroken self.now slot e) }
     {
@@ -216,7 +229,8 @@ impl<'buf> Table<'buf> {
         type_: &'n str,
         method: &'n str,
     ) -> Result<Option<T>, Error<'n>>
-        ensures { Located (FieldAnswer T.reads self.now slot) type_.now method.now (table_start self.now) result }
+        ensures { Located (FieldAnswer T.reads self.now slot)
+            type_.now method.now (table_start self.now) result }
     {
         let answer = self.field::<T>(slot);
         self.located(answer, type_, method)
@@ -229,7 +243,8 @@ impl<'buf> Table<'buf> {
         type_: &'n str,
         method: &'n str,
     ) -> Result<T, Error<'n>>
-        ensures { Located (Required (FieldAnswer T.reads self.now slot)) type_.now method.now (table_start self.now) result }
+        ensures { Located (Required (FieldAnswer T.reads self.now slot))
+            type_.now method.now (table_start self.now) result }
     {
         let answer = required(self.field::<T>(slot));
         self.located(answer, type_, method)
@@ -245,7 +260,8 @@ impl<'buf> Table<'buf> {
         type_: &'n str,
         method: &'n str,
     ) -> Result<Option<T>, Error<'n>>
-        ensures { Located (UnionAnswer T.reads self.now slot) type_.now method.now (table_start self.now) result }
+        ensures { Located (UnionAnswer T.reads self.now slot)
+            type_.now method.now (table_start self.now) result }
     {
         let answer = self.union_field::<T>(slot);
         self.located(answer, type_, method)
@@ -258,7 +274,8 @@ impl<'buf> Table<'buf> {
         type_: &'n str,
         method: &'n str,
     ) -> Result<T, Error<'n>>
-        ensures { Located (Required (UnionAnswer T.reads self.now slot)) type_.now method.now (table_start self.now) result }
+        ensures { Located (Required (UnionAnswer T.reads self.now slot))
+            type_.now method.now (table_start self.now) result }
     {
         let answer = required(self.union_field::<T>(slot));
         self.located(answer, type_, method)
@@ -274,7 +291,8 @@ impl<'buf> Table<'buf> {
         type_: &'n str,
         method: &'n str,
     ) -> Result<Option<T>, Error<'n>>
-        ensures { Located (UnionVectorAnswer T.reads self.now slot) type_.now method.now (table_start self.now) result }
+        ensures { Located (UnionVectorAnswer T.reads self.now slot)
+            type_.now method.now (table_start self.now) result }
     {
         let answer = self.union_vector_field::<T>(slot);
         self.located(answer, type_, method)
@@ -287,7 +305,8 @@ impl<'buf> Table<'buf> {
         type_: &'n str,
         method: &'n str,
     ) -> Result<T, Error<'n>>
-        ensures { Located (Required (UnionVectorAnswer T.reads self.now slot)) type_.now method.now (table_start self.now) result }
+        ensures { Located (Required (UnionVectorAnswer T.reads self.now slot))
+            type_.now method.now (table_start self.now) result }
     {
         let answer = required(self.union_vector_field::<T>(slot));
         self.located(answer, type_, method)

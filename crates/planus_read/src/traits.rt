@@ -1,14 +1,15 @@
 //! The traits of what can be read.
 
-ghost use Rattle.std.specs.Prelude.{◌≡◌, ◌≤◌, ◌+◌, ℕ, List, length, codes, Result as std_result};
+ghost use Rattle.std.specs.Prelude.{◌≡◌, ◌≤◌, ◌+◌, ℕ, List, length, Result as std_result};
 ghost use Rattle.planus_read.specs.declared.errors.ErrorKind.{ErrorKind};
 ghost use Rattle.planus_read.specs.declared.located.Error.{Error};
 ghost use Rattle.planus_read.specs.Pieces.{slice_bytes, slice_start};
 ghost use Rattle.planus_read.specs.Located.{Located};
 
+use crate::Result;
 use crate::errors::ErrorKind;
+use crate::located::{self, ITEM_METHOD};
 use crate::slice_helpers::SliceWithStartOffset;
-use crate::{Result, located};
 
 /// What can be read as the root of a buffer. In the format the first 4 bytes of a buffer are a reference to its root.
 pub trait ReadAsRoot<'a>: Sized {
@@ -69,7 +70,8 @@ pub trait TableReadUnionVector<'buf>: Sized {
         tags_offset: usize,
         values_offset: usize,
     ) -> std::result::Result<Self, ErrorKind>
-        ensures { reads (slice_bytes buffer.entry) (slice_start buffer.entry) tags_offset values_offset result };
+        ensures { reads (slice_bytes buffer.entry) (slice_start buffer.entry)
+            tags_offset values_offset result };
 }
 
 /// What has a size in a vector.
@@ -138,7 +140,8 @@ pub trait VectorReadUnion<'buf>: TableReadUnion<'buf> + VectorName {
         tag: u8,
         offset: usize,
     ) -> std::result::Result<Self, located::Error<'n>>
-        ensures { Located (Self.reads (slice_bytes buffer.entry) (slice_start buffer.entry) tag offset) Self.name (codes "get") (slice_start buffer.entry) result };
+        ensures { let S = slice_bytes buffer.entry in let start = slice_start buffer.entry in
+            Located (Self.reads S start tag offset) Self.name ITEM_METHOD.now start result };
 }
 
 impl<'buf, T: TableReadUnion<'buf> + VectorName> VectorReadUnion<'buf> for T {
@@ -151,7 +154,7 @@ impl<'buf, T: TableReadUnion<'buf> + VectorName> VectorReadUnion<'buf> for T {
             Ok(value) => Ok(value),
             Err(kind) => Err(kind.with_error_location(
                 T::vector_name(),
-                "get",
+                ITEM_METHOD,
                 buffer.offset_from_start(),
             )),
         }

@@ -2,7 +2,9 @@
 //! empty.
 
 ghost use Rattle.planus_read.specs.Aligned.{AlignedAt};
-ghost use Rattle.planus_read.specs.Rows.{text_axe_bytes, u64_list_bytes, one_u64, weapon_bytes, weapon_fields, union_vector_bytes, two_texts, u16_table_bytes, u16_table_fields};
+ghost use Rattle.planus_read.specs.Rows.{text_axe_bytes, u64_list_bytes, one_u64};
+ghost use Rattle.planus_read.specs.Rows.{weapon_bytes, weapon_fields, union_vector_bytes};
+ghost use Rattle.planus_read.specs.Rows.{two_texts, u16_table_bytes, u16_table_fields};
 ghost use Rattle.planus_read.specs.Stands.{Stands, ReferenceStands, at, at_both};
 ghost use Rattle.planus_read.specs.Values.{text, plain_list, union_list, table};
 ghost use Rattle.std.specs.Prelude.{◌∷◌, []};

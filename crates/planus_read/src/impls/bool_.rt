@@ -1,40 +1,29 @@
 //! Truth values as fields of tables and as items of vectors.
 
+ghost use Rattle.std.specs.Int.{w8};
 ghost use Rattle.std.proofs.Common.{lit≤};
-ghost use Rattle.planus_read.specs.Clauses.{Answer};
-ghost use Rattle.planus_read.specs.Reading.{TruthThere, truth_reading};
+ghost use Rattle.planus_read.specs.Reading.{TruthThere};
 
-use crate::errors::ErrorKind;
+use super::primitives::{Scalar, ScalarItem};
 use crate::slice_helpers::SliceWithStartOffset;
-use crate::traits::{Stride, TableRead, VectorRead};
 
-impl<'buf> TableRead<'buf> for bool {
-    ghost reads = { λ S start f r. Answer (truth_reading S f) r };
+impl Scalar for bool {
+    ghost width = { w8 };
 
-    #[inline]
-    fn from_buffer(buffer: SliceWithStartOffset<'buf>, offset: usize) -> Result<bool, ErrorKind> {
-        let bytes = buffer.advance_as_array::<1>(offset)?;
-        Ok(u8::from_le_bytes(*bytes.as_array()) != 0)
-    }
-}
-
-impl Stride for bool {
-    ghost STRIDE = { 1 };
+    ghost There = { λ S f x. TruthThere S f x };
 
     ghost is_positive = { lit≤ tt };
 
     #[inline]
-    fn stride() -> usize {
+    fn size() -> usize {
         1
     }
-}
-
-impl<'buf> VectorRead<'buf> for bool {
-    ghost gives = { λ S start f x. TruthThere S f x };
 
     #[inline]
-    fn from_buffer(buffer: SliceWithStartOffset<'buf>, offset: usize) -> bool {
-        let bytes = buffer.unchecked_advance_as_array::<1>(offset);
-        u8::from_le_bytes(*bytes.as_array()) != 0
+    fn read(buffer: SliceWithStartOffset<'_>, offset: usize) -> bool {
+        let [byte] = *buffer.unchecked_advance_as_array::<1>(offset).as_array();
+        byte != 0
     }
 }
+
+impl ScalarItem for bool {}

@@ -1,12 +1,12 @@
 //! Byte lists as fields of tables.
 
-ghost use Rattle.std.specs.Prelude.{◌≡◌, ◌==◌, length};
+ghost use Rattle.std.specs.Prelude.{◌≡◌};
 ghost use Rattle.planus_read.specs.Clauses.{Answer, shown};
 ghost use Rattle.planus_read.specs.Pieces.{ShowsBytes};
 ghost use Rattle.planus_read.specs.Reading.{byte_list_reading};
 
-use super::array_from_buffer;
 use crate::errors::ErrorKind;
+use crate::heads::array_from_buffer;
 use crate::slice_helpers::SliceWithStartOffset;
 use crate::traits::TableRead;
 
@@ -25,64 +25,5 @@ impl<'buf> TableRead<'buf> for &'buf [u8] {
             return Err(ErrorKind::InvalidLength);
         }
         Ok(&items[..count])
-    }
-}
-
-/// A list of signed bytes. In the format it is a byte list, a vector of bytes with no zero byte behind it; each byte is read in two's
-/// complement.
-#[derive(Clone, Copy, Debug)]
-pub struct SignedBytes<'buf> {
-    bytes: &'buf [u8],
-}
-
-impl<'buf> SignedBytes<'buf> {
-    ghost use Rattle.planus_read.specs.SignedBytes.{signed_bytes, signed_item};
-
-    /// The number of bytes.
-    #[inline]
-    pub fn len(&self) -> usize
-        ensures { result ≡ length (signed_bytes self.now) }
-    {
-        self.bytes.len()
-    }
-
-    /// Whether there are no bytes.
-    #[inline]
-    pub fn is_empty(&self) -> bool
-        ensures { result ≡ (length (signed_bytes self.now) == 0) }
-    {
-        self.bytes.is_empty()
-    }
-
-    /// The signed byte at an index, `None` where the index isn't below the length.
-    #[inline]
-    pub fn get(&self, index: usize) -> Option<i8>
-        ensures { result ≡ signed_item (signed_bytes self.now) index }
-    {
-        let byte = self.bytes.get(index)?;
-        Some(i8::from_le_bytes([*byte]))
-    }
-
-    /// The same bytes, unsigned.
-    #[inline]
-    pub fn as_bytes(&self) -> &'buf [u8]
-        ensures { result.now ≡ signed_bytes self.now }
-    {
-        self.bytes
-    }
-}
-
-impl<'buf> TableRead<'buf> for SignedBytes<'buf> {
-    ghost use Rattle.planus_read.specs.SignedBytes.{ShowsSigned};
-
-    ghost reads = { λ S start f r. Answer (shown ShowsSigned (byte_list_reading S f)) r };
-
-    #[inline]
-    fn from_buffer(
-        buffer: SliceWithStartOffset<'buf>,
-        offset: usize,
-    ) -> Result<SignedBytes<'buf>, ErrorKind> {
-        let bytes = <&'buf [u8] as TableRead<'buf>>::from_buffer(buffer, offset)?;
-        Ok(SignedBytes { bytes })
     }
 }

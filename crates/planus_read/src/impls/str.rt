@@ -1,6 +1,6 @@
 //! Texts as fields of tables and as items of vectors.
 
-ghost use Rattle.std.specs.Prelude.{◌≡◌, IfOk, IfErr, codes};
+ghost use Rattle.std.specs.Prelude.{◌≡◌, IfOk, IfErr};
 ghost use Rattle.std.proofs.Common.{lit≤};
 ghost use Rattle.planus_read.specs.Located.{Located};
 ghost use Rattle.planus_read.specs.Clauses.{Answer, shown, FirstBroken};
@@ -8,10 +8,14 @@ ghost use Rattle.planus_read.specs.Pieces.{ShowsBytes};
 ghost use Rattle.planus_read.specs.Reading.{text_reading};
 ghost use Rattle.planus_read.specs.Heads.{IsTextOf, text_of_clauses};
 
-use super::array_from_buffer;
 use crate::errors::{Error, ErrorKind};
+use crate::heads::{REFERENCE_SIZE, array_from_buffer};
+use crate::located::ITEM_METHOD;
 use crate::slice_helpers::SliceWithStartOffset;
 use crate::traits::{ReadError, Stride, TableRead, VectorReadInner};
+
+// The name of a vector of texts, for the location of an item's error.
+const VECTOR_NAME: &str = "[str]";
 
 // The text of the first count items, with a zero byte behind it.
 #[inline]
@@ -39,15 +43,17 @@ impl<'buf> TableRead<'buf> for &'buf str {
 }
 
 impl<'buf> Stride for &'buf str {
-    ghost STRIDE = { 4 };
+    ghost use Rattle.planus_read.specs.declared.heads.TheConstants.{REFERENCE_SIZE};
+
+    ghost STRIDE = { REFERENCE_SIZE };
 
     ghost is_positive = { lit≤ tt };
 
     #[inline]
     fn stride() -> usize
-        ensures { result ≡ 4 }
+        ensures { result ≡ REFERENCE_SIZE }
     {
-        4
+        REFERENCE_SIZE
     }
 }
 
@@ -56,13 +62,22 @@ impl<'buf> ReadError for &'buf str {
 }
 
 impl<'buf> VectorReadInner<'buf> for &'buf str {
-    ghost gives = { λ S start f r. Located (Answer (shown ShowsBytes (text_reading S f))) (codes "[str]") (codes "get") start r };
+    ghost use Rattle.planus_read.specs.declared.impls.str.TheConstants.{VECTOR_NAME};
+    ghost use Rattle.planus_read.specs.declared.located.TheConstants.{ITEM_METHOD};
+
+    ghost gives = { λ S start f r.
+        Located (Answer (shown ShowsBytes (text_reading S f))) VECTOR_NAME.now ITEM_METHOD.now
+        start r };
 
     #[inline]
     fn from_buffer(buffer: SliceWithStartOffset<'buf>, offset: usize) -> Result<&'buf str, Error> {
         match <&'buf str as TableRead<'buf>>::from_buffer(buffer, offset) {
             Ok(text) => Ok(text),
-            Err(kind) => Err(kind.with_error_location("[str]", "get", buffer.offset_from_start())),
+            Err(kind) => Err(kind.with_error_location(
+                VECTOR_NAME,
+                ITEM_METHOD,
+                buffer.offset_from_start(),
+            )),
         }
     }
 }

@@ -1,0 +1,33 @@
+//! Heads of vectors and texts: a reference, and the count to which it leads.
+
+ghost use Rattle.std.specs.Prelude.{◌≡◌};
+ghost use Rattle.planus_read.specs.Clauses.{Answer, shown};
+ghost use Rattle.planus_read.specs.Heads.{ShowsItems};
+ghost use Rattle.planus_read.specs.Pieces.{slice_bytes, slice_start};
+ghost use Rattle.planus_read.specs.Reading.{head_reading};
+
+use crate::errors::ErrorKind;
+use crate::slice_helpers::SliceWithStartOffset;
+use crate::traits::TableRead;
+
+// The size of a reference in bytes.
+pub(crate) const REFERENCE_SIZE: usize = 4;
+
+/// The bytes of the piece from the first item on of the vector to which the reference at the offset leads, and the number of its items.
+/// Nothing is tested of the items themselves. [`ErrorKind::InvalidOffset`] where the reference, what it leads to or the count doesn't
+/// lie in the piece.
+pub fn array_from_buffer<'buf>(
+    buffer: SliceWithStartOffset<'buf>,
+    offset: usize,
+) -> Result<(SliceWithStartOffset<'buf>, u32), ErrorKind>
+    ensures { let S = slice_bytes buffer.entry in let start = slice_start buffer.entry in
+        Answer (shown (ShowsItems S start) (head_reading S offset)) result }
+{
+    let value = <u32 as TableRead<'buf>>::from_buffer(buffer, offset)?;
+    let Some(target) = offset.checked_add(value as usize) else {
+        return Err(ErrorKind::InvalidOffset);
+    };
+    let count = <u32 as TableRead<'buf>>::from_buffer(buffer, target)?;
+    let items = buffer.advance(target + 4)?;
+    Ok((items, count))
+}
