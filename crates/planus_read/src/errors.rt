@@ -159,7 +159,8 @@ impl From<Utf8Error> for ErrorKind {
 }
 
 impl UnknownEnumTagKind {
-    /// This error at a location: the names of the type and the method that read, and the offset in bytes from the buffer's start.
+    /// Returns this error at a location: the names of the type and the method that read, and the offset in bytes from the start of
+    /// the buffer.
     pub fn with_error_location<'n>(
         self,
         type_: &'n str,
@@ -182,7 +183,8 @@ impl UnknownEnumTagKind {
 }
 
 impl ErrorKind {
-    /// This error at a location: the names of the type and the method that read, and the offset in bytes from the buffer's start.
+    /// Returns this error at a location: the names of the type and the method that read, and the offset in bytes from the start of
+    /// the buffer.
     pub fn with_error_location<'n>(
         self,
         type_: &'n str,

@@ -1,4 +1,4 @@
-//! Zero-copy readers of flatbuffers, and what stands where in their bytes.
+//! Zero-copy readers of flatbuffers, and definitions of what is encoded at which position of their bytes.
 #![tactic(auto)]
 
 pub mod errors;
@@ -29,6 +29,6 @@ pub use traits::{
 /// The result of a read that names its location.
 pub type Result<T> = std::result::Result<T, Error>;
 
-/// A type that has no value. It stands for what is prepared of a field that is always left out.
+/// A type that has no value, for what is prepared of a field that is always left out.
 #[derive(Clone, Copy)]
 pub enum Void {}

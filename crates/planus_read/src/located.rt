@@ -1,5 +1,5 @@
 //! The errors, with names of any lifetime. Users see them at `'static`, under [`crate::errors`]; generic code of this library, which
-//! can't name `'static` beside a bound with a lifetime, answers these.
+//! can't name `'static` beside a bound with a lifetime, returns these.
 
 use crate::errors::{ErrorKind, UnknownEnumTagKind};
 use std::fmt;

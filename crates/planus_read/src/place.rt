@@ -1,4 +1,4 @@
-//! Places in a buffer whose reading is chosen later.
+//! Fields and items whose reading is chosen later.
 
 ghost use Rattle.std.specs.Prelude.{◌≡◌};
 ghost use Rattle.std.proofs.Common.{lit≤};
@@ -12,7 +12,7 @@ use crate::traits::{Stride, TableRead, TableReadUnion, VectorName, VectorRead};
 // The name of a vector of such unions.
 const VECTOR_NAME: &str = "[union]";
 
-/// The place of a field, or of an item of 4 bytes as a reference is: a piece of a buffer and an offset in it. How it is read is chosen
+/// Where a field, or an item of 4 bytes as a reference is, is encoded: a piece of a buffer and an offset in it. How it is read is chosen
 /// later; until then nothing is tested.
 #[derive(Clone, Copy, Debug)]
 pub struct Place<'buf> {
@@ -20,7 +20,7 @@ pub struct Place<'buf> {
     offset: usize,
 }
 
-/// A union's tag, 0 for none, and the place of the reference to its value. Neither is tested.
+/// A union's tag, 0 for none, and where the reference to its value is encoded. Neither is tested.
 #[derive(Clone, Copy, Debug)]
 pub struct TaggedPlace<'buf> {
     tag: u8,
@@ -30,7 +30,7 @@ pub struct TaggedPlace<'buf> {
 impl<'buf> Place<'buf> {
     ghost use Rattle.planus_read.specs.Places.{place_bytes, place_start, place_offset};
 
-    /// The value of type `T` that stands here, or the error of `T` at this place.
+    /// Returns the value of type `T` that is encoded here, or the error of `T` for this offset.
     #[inline]
     pub fn read<T: TableRead<'buf>>(&self) -> Result<T, ErrorKind>
         ensures { T.reads (place_bytes self.now) (place_start self.now)
@@ -83,7 +83,7 @@ impl<'buf> VectorRead<'buf> for Place<'buf> {
 impl<'buf> TaggedPlace<'buf> {
     ghost use Rattle.planus_read.specs.Places.{tagged_tag, tagged_place};
 
-    /// The union's tag.
+    /// Returns the union's tag.
     #[inline]
     pub fn tag(&self) -> u8
         ensures { result ≡ tagged_tag self.now }
@@ -91,7 +91,7 @@ impl<'buf> TaggedPlace<'buf> {
         self.tag
     }
 
-    /// The place of the union's value.
+    /// Returns where the reference to the union's value is encoded.
     #[inline]
     pub fn place(&self) -> Place<'buf>
         ensures { result ≡ tagged_place self.now }

@@ -18,7 +18,7 @@ pub struct SignedBytes<'buf> {
 impl<'buf> SignedBytes<'buf> {
     ghost use Rattle.planus_read.specs.SignedBytes.{signed_bytes, signed_item};
 
-    /// The number of bytes.
+    /// Returns the number of bytes.
     #[inline]
     pub fn len(&self) -> usize
         ensures { result ≡ length (signed_bytes self.now) }
@@ -26,7 +26,7 @@ impl<'buf> SignedBytes<'buf> {
         self.bytes.len()
     }
 
-    /// Whether there are no bytes.
+    /// Returns `true` if there are no bytes.
     #[inline]
     pub fn is_empty(&self) -> bool
         ensures { result ≡ (length (signed_bytes self.now) == 0) }
@@ -34,7 +34,7 @@ impl<'buf> SignedBytes<'buf> {
         self.bytes.is_empty()
     }
 
-    /// The signed byte at an index, `None` where the index isn't below the length.
+    /// Returns the signed byte at an index, or `None` where the index isn't below the length.
     #[inline]
     pub fn get(&self, index: usize) -> Option<i8>
         ensures { result ≡ signed_item (signed_bytes self.now) index }
@@ -43,7 +43,7 @@ impl<'buf> SignedBytes<'buf> {
         Some(i8::from_le_bytes([*byte]))
     }
 
-    /// The same bytes, unsigned.
+    /// Returns the same bytes, unsigned.
     #[inline]
     pub fn as_bytes(&self) -> &'buf [u8]
         ensures { result.now ≡ signed_bytes self.now }

@@ -1,4 +1,4 @@
-//! Pieces of a buffer that know where in it they start.
+//! Pieces of a buffer, with their offset in it.
 
 ghost use Rattle.std.specs.Prelude.{◌≡◌, ◌+◌, ◌<◌, ◌≤◌, ◌^◌, ◌==◌, length, IfOk, IfErr};
 
@@ -37,7 +37,7 @@ impl<'buf, const N: usize> fmt::Debug for ArrayWithStartOffset<'buf, N> {
 impl<'buf> SliceWithStartOffset<'buf> {
     ghost use Rattle.planus_read.specs.Pieces.{slice_bytes, slice_start, IsAdvanced, IsArrayAt};
 
-    /// These bytes, which start at this offset in bytes from the start of a buffer.
+    /// Creates a piece of these bytes, which begin at this offset, in bytes from the start of a buffer.
     #[inline]
     pub fn new(buffer: &'buf [u8], offset_from_start: usize) -> Self
         requires { offset_from_start + length buffer.now < 2 ^ 64 }
@@ -50,7 +50,7 @@ impl<'buf> SliceWithStartOffset<'buf> {
         }
     }
 
-    /// The offset in bytes of the first byte from the buffer's start.
+    /// Returns the offset of the first byte, in bytes from the start of the buffer.
     #[inline]
     pub fn offset_from_start(&self) -> usize
         ensures { result ≡ slice_start self.now }
@@ -58,7 +58,7 @@ impl<'buf> SliceWithStartOffset<'buf> {
         self.offset_from_start
     }
 
-    /// The length in bytes.
+    /// Returns the length in bytes.
     #[inline]
     pub fn len(&self) -> usize
         ensures { result ≡ length (slice_bytes self.now) }
@@ -66,7 +66,7 @@ impl<'buf> SliceWithStartOffset<'buf> {
         self.buffer.len()
     }
 
-    /// Whether there are no bytes.
+    /// Returns `true` if there are no bytes.
     #[inline]
     pub fn is_empty(&self) -> bool
         ensures { result ≡ (length (slice_bytes self.now) == 0) }
@@ -74,7 +74,7 @@ impl<'buf> SliceWithStartOffset<'buf> {
         self.buffer.is_empty()
     }
 
-    /// The bytes.
+    /// Returns the bytes.
     #[inline]
     pub fn as_slice(&self) -> &'buf [u8]
         ensures { result.now ≡ slice_bytes self.now }
@@ -82,7 +82,7 @@ impl<'buf> SliceWithStartOffset<'buf> {
         self.buffer
     }
 
-    /// The piece that starts `amount` bytes further on; [`ErrorKind::InvalidOffset`] where that is past the end.
+    /// Returns the piece that begins `amount` bytes further on, or [`ErrorKind::InvalidOffset`] where that is past the end.
     #[inline]
     pub fn advance(&self, amount: usize) -> std::result::Result<Self, ErrorKind>
         ensures piece { IfOk result (λ piece. IsAdvanced self.now amount piece) }
@@ -98,7 +98,8 @@ impl<'buf> SliceWithStartOffset<'buf> {
         })
     }
 
-    /// The `N` bytes that start `amount` bytes further on; [`ErrorKind::InvalidOffset`] where they don't all lie in this piece.
+    /// Returns the `N` bytes that begin `amount` bytes further on, or [`ErrorKind::InvalidOffset`] where they don't all lie in this
+    /// piece.
     #[inline]
     pub fn advance_as_array<const N: usize>(
         &self,
@@ -117,7 +118,7 @@ impl<'buf> SliceWithStartOffset<'buf> {
         }
     }
 
-    /// The `N` bytes that start `amount` bytes further on, all of which lie in this piece.
+    /// Returns the `N` bytes that begin `amount` bytes further on, all of which lie in this piece.
     #[inline]
     pub fn unchecked_advance_as_array<const N: usize>(
         &self,
@@ -140,7 +141,7 @@ impl<'buf> SliceWithStartOffset<'buf> {
 impl<'buf, const N: usize> ArrayWithStartOffset<'buf, N> {
     ghost use Rattle.planus_read.specs.Pieces.{array_bytes, array_start, IsArrayAt};
 
-    /// These bytes, which start at this offset in bytes from the start of a buffer.
+    /// Creates a piece of these bytes, which begin at this offset, in bytes from the start of a buffer.
     #[inline]
     pub fn new(buffer: &'buf [u8; N], offset_from_start: usize) -> Self
         requires fits { offset_from_start + N < 2 ^ 64 }
@@ -154,7 +155,7 @@ impl<'buf, const N: usize> ArrayWithStartOffset<'buf, N> {
         }
     }
 
-    /// The offset in bytes of the first byte from the buffer's start.
+    /// Returns the offset of the first byte, in bytes from the start of the buffer.
     #[inline]
     pub fn offset_from_start(&self) -> usize
         ensures { result ≡ array_start self.now }
@@ -162,7 +163,7 @@ impl<'buf, const N: usize> ArrayWithStartOffset<'buf, N> {
         self.offset_from_start
     }
 
-    /// The bytes.
+    /// Returns the bytes.
     #[inline]
     pub fn as_array(&self) -> &'buf [u8; N]
         ensures { result.now ≡ array_bytes self.now }
@@ -170,7 +171,8 @@ impl<'buf, const N: usize> ArrayWithStartOffset<'buf, N> {
         self.buffer
     }
 
-    /// The `K` bytes that start `amount` bytes further on; [`ErrorKind::InvalidOffset`] where they don't all lie in this array.
+    /// Returns the `K` bytes that begin `amount` bytes further on, or [`ErrorKind::InvalidOffset`] where they don't all lie in this
+    /// array.
     #[inline]
     pub fn advance_as_array<const K: usize>(
         &self,

@@ -23,7 +23,7 @@ pub struct Table<'buf> {
     ghost small: { length vtable.now + 4 < 2 ^ 16 },
 }
 
-// Where the vtable of the object lies.
+// Returns the offset of the object's vtable.
 fn vtable_offset(buffer: SliceWithStartOffset<'_>, object_offset: usize) -> Result<usize, ErrorKind>
     ensures offset { IfOk result (λ t. t ≡ vtable_at (slice_bytes buffer.entry) object_offset) }
     ensures holds { IfOk result (λ _.
@@ -42,7 +42,7 @@ fn vtable_offset(buffer: SliceWithStartOffset<'_>, object_offset: usize) -> Resu
     Ok(object_offset - relative)
 }
 
-// The slots of the vtable of the object.
+// Returns the slots of the object's vtable.
 fn vtable_of<'buf>(
     buffer: SliceWithStartOffset<'buf>,
     object_offset: usize,
@@ -69,7 +69,7 @@ fn vtable_of<'buf>(
     Ok(&vtable[4..])
 }
 
-// The answer, `MissingRequired` in place of `None`.
+// Returns `MissingRequired` for `None`.
 #[inline]
 fn required<A>(answer: Result<Option<A>, ErrorKind>) -> Result<A, ErrorKind>
     ensures { Required (λ a. a ≡ answer) result }
@@ -83,8 +83,8 @@ impl<'buf> Table<'buf> {
     ghost use Rattle.planus_read.specs.Tables.{FieldAnswer, UnionAnswer, UnionVectorAnswer};
     ghost use Rattle.planus_read.specs.Tables.{UnionThere, UnionAbsent, UnionBroken};
 
-    /// The table to which the reference at the offset leads, in bytes from the start of the piece. Its vtable lies anywhere in the
-    /// piece. [`ErrorKind::InvalidOffset`] where a number or the table lies outside, or the vtable would begin in front of the piece;
+    /// Returns the table to which the reference at the offset leads, in bytes from the start of the piece. Its vtable may lie anywhere
+    /// in the piece. [`ErrorKind::InvalidOffset`] where a number or the table lies outside, or the vtable would begin in front of the piece;
     /// [`ErrorKind::InvalidVtableLength`] for a vtable whose size is odd or below 4; [`ErrorKind::InvalidLength`] where the vtable
     /// passes the end.
     pub fn from_buffer(buffer: SliceWithStartOffset<'buf>, offset: usize) -> Result<Self, ErrorKind>
@@ -100,7 +100,7 @@ impl<'buf> Table<'buf> {
         Ok(Table { object, vtable })
     }
 
-    // The distance in a slot, 0 past the vtable's end.
+    // Returns the number in a slot, 0 past the vtable's end.
     #[inline]
     fn slot(&self, slot: usize) -> usize
         ensures value { result ≡ Slot (table_slots self.now) slot }
@@ -119,7 +119,7 @@ impl<'buf> Table<'buf> {
         }
     }
 
-    // The distances in the slot and the next, `None` where these don't both lie in the vtable.
+    // Returns the numbers in a slot and the next, or `None` where these don't both lie in the vtable.
     #[inline]
     fn both_slots(&self, slot: usize) -> Option<(usize, usize)>
         ensures both { IfSome result (λ _. BothSlots self.now slot) }
@@ -135,7 +135,7 @@ impl<'buf> Table<'buf> {
         Some((self.slot(slot), self.slot(slot + 1)))
     }
 
-    // The answer, its error at this table.
+    // Gives an error the location of this table.
     #[inline]
     fn located<'n, A>(
         &self,
@@ -156,7 +156,7 @@ impl<'buf> Table<'buf> {
         }
     }
 
-    // The field of a slot, its error without a location.
+    // Returns the field of a slot; its error has no location.
     fn field<T: TableRead<'buf>>(&self, slot: usize) -> Result<Option<T>, ErrorKind>
         ensures { FieldAnswer T.reads self.now slot result }
     {
@@ -167,7 +167,7 @@ impl<'buf> Table<'buf> {
         Ok(Some(T::from_buffer(self.object, offset)?))
     }
 
-    // The tag and the value's distance of the union of a slot and the next, `None` where there is no union.
+    // Returns the tag of the union of a slot and the next, and the distance in the second, or `None` where there is no union.
     fn union_at(&self, slot: usize) -> Result<Option<(u8, usize)>, ErrorKind>
         ensures some { IfOk result (λ found.
             IfSome found (λ union. UnionThere self.now slot union.0)) }
@@ -192,7 +192,7 @@ impl<'buf> Table<'buf> {
         Ok(Some((tag, value_offset)))
     }
 
-    // The union of a slot and the next, its error without a location.
+    // Returns the union of a slot and the next; its error has no location.
     fn union_field<T: TableReadUnion<'buf>>(&self, slot: usize) -> Result<Option<T>, ErrorKind>
         ensures { UnionAnswer T.reads self.now slot result }
     {
@@ -202,7 +202,7 @@ impl<'buf> Table<'buf> {
         Ok(Some(T::from_buffer(self.object, tag, offset)?))
     }
 
-    // The vector of unions of a slot and the next, its error without a location.
+    // Returns the vector of unions of a slot and the next; its error has no location.
     fn union_vector_field<T: TableReadUnionVector<'buf>>(
         &self,
         slot: usize,
@@ -221,7 +221,7 @@ impl<'buf> Table<'buf> {
         Ok(Some(T::from_buffer(self.object, tags, values)?))
     }
 
-    /// The field of a slot, `None` where it is absent. Slots count from 0; one past the vtable is absent.
+    /// Returns the field of a slot, or `None` where it is absent. Slots count from 0; one past the vtable is absent.
     /// The errors are those of `T`. Every error has the location of this table under these names.
     pub fn access<'n, T: TableRead<'buf>>(
         &self,
@@ -250,8 +250,9 @@ impl<'buf> Table<'buf> {
         self.located(answer, type_, method)
     }
 
-    /// The union whose tag stands in a slot and whose value in the next, `None` where the tag or a slot is 0 or the vtable ends before.
-    /// The tag is read first, also at a slot that holds 0: [`ErrorKind::InvalidOffset`] where it isn't in the buffer.
+    /// Returns the union whose tag has its distance in a slot and whose reference in the next, or `None` where the tag or a slot is 0 or
+    /// the vtable ends in front of both.
+    /// The tag is read before it and the slots are tested for 0: [`ErrorKind::InvalidOffset`] where it isn't in the buffer.
     /// [`ErrorKind::InvalidVtableLength`] where the vtable ends between the two slots. And the errors of `T`.
     /// Every error has the location of this table under these names.
     pub fn access_union<'n, T: TableReadUnion<'buf>>(
@@ -281,8 +282,8 @@ impl<'buf> Table<'buf> {
         self.located(answer, type_, method)
     }
 
-    /// The vector of unions whose tags stand in a slot and whose values in the next, `None` where both slots are 0 or don't both lie in
-    /// the vtable.
+    /// Returns the vector of unions whose reference to its tags has its distance in a slot and whose reference to its values in the next,
+    /// or `None` where both slots are 0 or don't both lie in the vtable.
     /// [`ErrorKind::InvalidOffset`] where exactly one of them is 0. And the errors of `T`.
     /// Every error has the location of this table under these names.
     pub fn access_union_vector<'n, T: TableReadUnionVector<'buf>>(

@@ -13,10 +13,10 @@ use crate::slice_helpers::SliceWithStartOffset;
 
 /// What can be read as the root of a buffer. In the format the first 4 bytes of a buffer are a reference to its root.
 pub trait ReadAsRoot<'a>: Sized {
-    /// What the whole bytes of a buffer may be answered with.
+    /// What may be returned for these bytes, the whole bytes of a buffer.
     ghost reads_root: { List ℕ → std_result Self Error → Type 0 };
 
-    /// The view of the root of these bytes, the whole bytes of a buffer. Which errors come is the type's own.
+    /// Returns the view of the root of these bytes, the whole bytes of a buffer. Which errors come is the type's own.
     fn read_as_root(slice: &'a [u8]) -> Result<Self>
         ensures { reads_root slice.entry.now result };
 }
@@ -31,10 +31,10 @@ pub trait ReadAsRoot<'a>: Sized {
 /// | [`crate::table_reader::Table`] | [`ErrorKind::InvalidOffset`], [`ErrorKind::InvalidVtableLength`] and [`ErrorKind::InvalidLength`], as its own `from_buffer` says |
 /// | [`crate::Place`] | none |
 pub trait TableRead<'buf>: Sized {
-    /// What a piece with these bytes and this start may be answered with at this offset.
+    /// What may be returned for a piece with these bytes and this start at this offset.
     ghost reads: { List ℕ → ℕ → ℕ → std_result Self ErrorKind → Type 0 };
 
-    /// The value of the field that stands at the offset, in bytes from the start of the piece, or the error of the first thing that is
+    /// Returns the field that is encoded at the offset, in bytes from the start of the piece, or the error of the first thing that is
     /// wrong there.
     fn from_buffer(
         buffer: SliceWithStartOffset<'buf>,
@@ -46,10 +46,10 @@ pub trait TableRead<'buf>: Sized {
 /// What can be read as a union field of a table. Its errors are those of the variants' own reads, and
 /// [`ErrorKind::UnknownUnionTag`] for a tag that a type doesn't have; [`crate::TaggedPlace`] takes every tag and has no error.
 pub trait TableReadUnion<'buf>: Sized {
-    /// What a piece with these bytes and this start may be answered with for this tag at this offset.
+    /// What may be returned for a piece with these bytes and this start, and this tag, at this offset.
     ghost reads: { List ℕ → ℕ → ℕ → ℕ → std_result Self ErrorKind → Type 0 };
 
-    /// The value of the union field with this tag, whose reference stands at the offset, in bytes from the start of the piece.
+    /// Returns the union with this tag whose reference is encoded at the offset, in bytes from the start of the piece.
     fn from_buffer(
         buffer: SliceWithStartOffset<'buf>,
         tag: u8,
@@ -61,10 +61,10 @@ pub trait TableReadUnion<'buf>: Sized {
 /// What can be read as a field of a table that is a vector of unions. In the format that is two vectors of equal count, tags of one byte
 /// and references. Which errors come is the type's own.
 pub trait TableReadUnionVector<'buf>: Sized {
-    /// What a piece with these bytes and this start may be answered with at these two offsets.
+    /// What may be returned for a piece with these bytes and this start at these two offsets.
     ghost reads: { List ℕ → ℕ → ℕ → ℕ → std_result Self ErrorKind → Type 0 };
 
-    /// The vector of unions whose references to tags and values stand at the offsets, in bytes from the start of the piece.
+    /// Returns the vector of unions whose references to tags and values are encoded at the offsets, in bytes from the start of the piece.
     fn from_buffer(
         buffer: SliceWithStartOffset<'buf>,
         tags_offset: usize,
@@ -79,7 +79,7 @@ pub trait Stride: Sized {
     /// The size of an item in bytes.
     ghost STRIDE: { ℕ };
 
-    /// The size of an item in bytes.
+    /// Returns the size of an item in bytes.
     fn stride() -> usize
         ensures { result ≡ STRIDE };
 
@@ -90,10 +90,10 @@ pub trait Stride: Sized {
 /// What can be read as an item of a vector. Its bytes are there, so a number or a truth value has no error; `Result` has that of the
 /// [`VectorReadInner`] which it wraps, converted.
 pub trait VectorRead<'buf>: Stride {
-    /// Which item a piece with these bytes and this start gives at this offset.
+    /// What may be returned for a piece with these bytes and this start at this offset.
     ghost gives: { List ℕ → ℕ → ℕ → Self → Type 0 };
 
-    /// The item that stands at the offset, in bytes from the start of the piece. All of it lies in the piece.
+    /// Returns the item that is encoded at the offset, in bytes from the start of the piece. All of it lies in the piece.
     fn from_buffer(buffer: SliceWithStartOffset<'buf>, offset: usize) -> Self
         requires { offset + Self.STRIDE ≤ length (slice_bytes buffer) }
         ensures { gives (slice_bytes buffer.entry) (slice_start buffer.entry) offset result };
@@ -101,18 +101,17 @@ pub trait VectorRead<'buf>: Stride {
 
 /// The error of an item whose read may fail.
 pub trait ReadError {
-    /// The error.
     type Error;
 }
 
 /// What can be read as an item of a vector, and may fail. An item `&str` has the errors of a field `&str`, at the start of the piece
 /// under the names `[str]` and `get`.
 pub trait VectorReadInner<'buf>: Stride + ReadError {
-    /// What a piece with these bytes and this start may be answered with at this offset.
+    /// What may be returned for a piece with these bytes and this start at this offset.
     ghost gives: { List ℕ → ℕ → ℕ → std_result Self Self.Error → Type 0 };
 
-    /// The item that stands at the offset, in bytes from the start of the piece. Its own bytes, not those that it refers to, all lie in
-    /// the piece.
+    /// Returns the item that is encoded at the offset, in bytes from the start of the piece. Its own bytes, not those that it refers to,
+    /// all lie in the piece.
     fn from_buffer(
         buffer: SliceWithStartOffset<'buf>,
         offset: usize,
@@ -123,18 +122,18 @@ pub trait VectorReadInner<'buf>: Stride + ReadError {
 
 /// The name of the vector type of a union, for the location of an item's error.
 pub trait VectorName {
-    /// The bytes of the name.
+    /// The name, in bytes.
     ghost name: { List ℕ };
 
-    /// The name.
+    /// Returns the name.
     fn vector_name() -> &'static str
         ensures { result.now ≡ name };
 }
 
 /// What can be read as an item of a vector of unions: each union field with a [`VectorName`].
 pub trait VectorReadUnion<'buf>: TableReadUnion<'buf> + VectorName {
-    /// The union with this tag whose reference stands at the offset, in bytes from the start of the piece. Its errors are those of the
-    /// [`TableReadUnion`], at the start of the piece under the vector's name and the method `get`.
+    /// Returns the union with this tag whose reference is encoded at the offset, in bytes from the start of the piece. Its errors are those
+    /// of the [`TableReadUnion`], at the start of the piece under the vector's name and the method `get`.
     fn from_buffer<'n>(
         buffer: SliceWithStartOffset<'buf>,
         tag: u8,

@@ -22,11 +22,11 @@ pub trait Scalar: Sized {
     /// No scalar has size 0.
     ghost is_positive: { 1 ≤ byte_len width };
 
-    /// The size in bytes.
+    /// Returns the size in bytes.
     fn size() -> usize
         ensures { result ≡ byte_len width };
 
-    /// The scalar at the offset, in bytes from the start of the piece. All of it lies in the piece.
+    /// Returns the scalar at the offset, in bytes from the start of the piece. All of it lies in the piece.
     fn read(buffer: SliceWithStartOffset<'_>, offset: usize) -> Self
         requires { offset + byte_len width ≤ length (slice_bytes buffer) }
         ensures { There (slice_bytes buffer.entry) offset result };

@@ -17,7 +17,7 @@ use crate::traits::{ReadError, Stride, TableRead, VectorReadInner};
 // The name of a vector of texts, for the location of an item's error.
 const VECTOR_NAME: &str = "[str]";
 
-// The text of the first count items, with a zero byte behind it.
+// Returns the text of the first count items, behind which there is a zero byte.
 #[inline]
 fn text_of(items: &[u8], count: usize) -> Result<&str, ErrorKind>
     ensures text { IfOk result (λ text. IsTextOf items.now count text.now) }
