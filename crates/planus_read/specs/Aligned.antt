@@ -3,7 +3,9 @@
 use Rattle.std.specs.Prelude.{◌≡◌, ℕ, ◌+◌, ◌*◌, ◌≤◌, List, Some, None, Option, ⊤, pos, ◌-ℤ◌}
 use Rattle.std.specs.Int.{w16, ◌∣◌}
 use Rattle.planus_read.specs.Bytes.{Num, Int}
-use Rattle.planus_read.specs.Values.{Value, text, byte_list, plain_list, reference_list, union_list, table, Field, plain, reference, tags, values, field_at, vtable_size}
+use Rattle.planus_read.specs.Values.{Value, text, byte_list, plain_list, reference_list, union_list}
+use Rattle.planus_read.specs.Values.{table, Field, plain, reference, tags, values, field_at}
+use Rattle.planus_read.specs.Values.{vtable_size}
 use Rattle.planus_read.specs.Stands.{Position, at, at_both, ItemsStand}
 
 -- the alignment of a field: a plain item's own, and 4 of a reference
@@ -16,7 +18,8 @@ field_alignment (values distance) = 4
 -- a present field, by the two bytes of its slot at s
 abbrev pub SlotAligned : List ℕ → ℕ → ℕ → Option Field → Type 0
 SlotAligned B k s None = ⊤
-SlotAligned B k s (Some field) = (q : ℕ) × (Num B s w16 ≡ Some q) × (field_alignment field ∣ (k + q))
+SlotAligned B k s (Some field) =
+    (q : ℕ) × (Num B s w16 ≡ Some q) × (field_alignment field ∣ (k + q))
 
 -- The table at k stands at a multiple of 4, the vtable to which its first word leads at a multiple of 2, and each present field at
 -- a multiple of its own alignment.
@@ -25,11 +28,14 @@ pub record TableAligned (B : List ℕ) (k : ℕ) (entries : List (ℕ × Field))
   pub vtable : ℕ
   pub word : Int B k ≡ Some (pos k -ℤ pos vtable)
   pub vtable_aligned : 2 ∣ vtable
-  pub slots : (i : ℕ) → 2 * i + 6 ≤ vtable_size entries → SlotAligned B k (vtable + 4 + 2 * i) (field_at entries i)
+  pub slots :
+      (i : ℕ) → 2 * i + 6 ≤ vtable_size entries
+      → SlotAligned B k (vtable + 4 + 2 * i) (field_at entries i)
 
 -- the count of a list, and each of its items
 abbrev pub ListAligned : {X : Type 0} → ℕ → ℕ → ℕ → List X → Type 0
-ListAligned k size alignment items = (4 ∣ k) × ItemsStand (λ position item. alignment ∣ position) (k + 4) size items
+ListAligned k size alignment items =
+    (4 ∣ k) × ItemsStand (λ position item. alignment ∣ position) (k + 4) size items
 
 -- The value, which stands there, is aligned: counts and references at multiples of 4, items and fields at multiples of their own
 -- alignment, a table at a multiple of 4, and its vtable at a multiple of 2.

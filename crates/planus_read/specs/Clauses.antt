@@ -19,7 +19,8 @@ AllHold (first ∷ rest) = first.holds × AllHold rest
 -- the error is that of the first clause that fails
 abbrev pub FirstBroken : List Clause → ErrorKind → Type 0
 FirstBroken [] e = ⊥
-FirstBroken (first ∷ rest) e = ((first.holds → ⊥) × first.errors e) ⊎ (first.holds × FirstBroken rest e)
+FirstBroken (first ∷ rest) e =
+    ((first.holds → ⊥) × first.errors e) ⊎ (first.holds × FirstBroken rest e)
 
 -- A reading: which value stands, and what a reader tests for it, in order.
 pub record Reading (A : Type 0) : Type 1 where

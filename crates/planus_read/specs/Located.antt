@@ -12,11 +12,14 @@ pub record IsLocation (location : ErrorLocation) (type_ method : List ℕ) (offs
   pub byte_offset : location.byte_offset ≡ offset
 
 -- the value of an answer, or its error at this location
-abbrev pub Located : {A : Type 0} → (Result A ErrorKind → Type 0) → List ℕ → List ℕ → ℕ → Result A Error → Type 0
+abbrev pub Located :
+    {A : Type 0} → (Result A ErrorKind → Type 0) → List ℕ → List ℕ → ℕ → Result A Error → Type 0
 Located answers type_ method offset (Ok x) = answers (Ok x)
-Located answers type_ method offset (Err e) = answers (Err e.error_kind) × IsLocation e.source_location type_ method offset
+Located answers type_ method offset (Err e) =
+    answers (Err e.error_kind) × IsLocation e.source_location type_ method offset
 
 -- the value of an answer that has one, `MissingRequired` in place of none
-abbrev pub Required : {A : Type 0} → (Result (Option A) ErrorKind → Type 0) → Result A ErrorKind → Type 0
+abbrev pub Required :
+    {A : Type 0} → (Result (Option A) ErrorKind → Type 0) → Result A ErrorKind → Type 0
 Required answers (Ok x) = answers (Ok (Some x))
 Required answers (Err e) = answers (Err e) ⊎ (answers (Ok None) × (e ≡ MissingRequired))

@@ -1,8 +1,11 @@
 -- Where a value stands in a list of bytes, by the rules of the format.
-use Rattle.std.specs.Prelude.{◌≡◌, ℕ, ◌+◌, ◌*◌, ◌≤◌, ◌<◌, List, [], ◌∷◌, ◌++◌, length, map, Option, Some, None, ⊤, pos, ◌-ℤ◌}
+use Rattle.std.specs.Prelude.{◌≡◌, ℕ, ◌+◌, ◌*◌, ◌≤◌, ◌<◌, List, [], ◌∷◌, ◌++◌, length, map, Option}
+use Rattle.std.specs.Prelude.{Some, None, ⊤, pos, ◌-ℤ◌}
 use Rattle.std.specs.Int.{w16, w32}
 use Rattle.planus_read.specs.Bytes.{Num, Int, BytesStand}
-use Rattle.planus_read.specs.Values.{Value, text, byte_list, plain_list, reference_list, union_list, table, Field, plain, reference, tags, values, field_at, vtable_size}
+use Rattle.planus_read.specs.Values.{Value, text, byte_list, plain_list, reference_list, union_list}
+use Rattle.planus_read.specs.Values.{table, Field, plain, reference, tags, values, field_at}
+use Rattle.planus_read.specs.Values.{vtable_size}
 
 -- A reference at f leads to the distance: f plus its number is the position at that distance from the end.
 -- The format: a reference is an unsigned number of 4 bytes, which leads forward from where it stands.
@@ -12,12 +15,14 @@ ReferenceStands B f distance = (n : ℕ) × (Num B f w32 ≡ Some n) × (f + n +
 -- each item stands, the first at the position, and each further one behind it by the size
 abbrev pub ItemsStand : {X : Type 0} → (ℕ → X → Type 0) → ℕ → ℕ → List X → Type 0
 ItemsStand StandsAt position size [] = ⊤
-ItemsStand StandsAt position size (item ∷ items) = StandsAt position item × ItemsStand StandsAt (position + size) size items
+ItemsStand StandsAt position size (item ∷ items) =
+    StandsAt position item × ItemsStand StandsAt (position + size) size items
 
 -- a count, and then the items
 -- The format: a vector is a count of 4 bytes, and behind it its items.
 abbrev pub ListStands : {X : Type 0} → (List ℕ → ℕ → X → Type 0) → List ℕ → ℕ → ℕ → List X → Type 0
-ListStands StandsAt B k size items = (Num B k w32 ≡ Some (length items)) × ItemsStand (StandsAt B) (k + 4) size items
+ListStands StandsAt B k size items =
+    (Num B k w32 ≡ Some (length items)) × ItemsStand (StandsAt B) (k + 4) size items
 
 -- A plain item: it has the list's size in bytes, and its bytes stand at the position.
 abbrev pub PlainStands : ℕ → List ℕ → ℕ → List ℕ → Type 0
@@ -37,7 +42,8 @@ FieldStands B f (values distance) = ReferenceStands B f distance
 -- What the two bytes of a slot at s say of the table at k: 0 of an absent field, else the field's distance from k.
 abbrev pub SlotStands : List ℕ → ℕ → ℕ → Option Field → Type 0
 SlotStands B k s None = Num B s w16 ≡ Some 0
-SlotStands B k s (Some field) = (q : ℕ) × (Num B s w16 ≡ Some q) × (4 ≤ q) × FieldStands B (k + q) field
+SlotStands B k s (Some field) =
+    (q : ℕ) × (Num B s w16 ≡ Some q) × (4 ≤ q) × FieldStands B (k + q) field
 
 -- The format: a table begins with a signed number of 4 bytes, its own position less that of its vtable. A vtable is its own size in
 -- bytes, the object's size, and the slots.
@@ -47,7 +53,9 @@ pub record TableStands (B : List ℕ) (k : ℕ) (entries : List (ℕ × Field)) 
   pub word : Int B k ≡ Some (pos k -ℤ pos vtable)
   pub size : Num B vtable w16 ≡ Some (vtable_size entries)
   pub inside : vtable + vtable_size entries ≤ length B
-  pub slots : (i : ℕ) → 2 * i + 6 ≤ vtable_size entries → SlotStands B k (vtable + 4 + 2 * i) (field_at entries i)
+  pub slots :
+      (i : ℕ) → 2 * i + 6 ≤ vtable_size entries
+      → SlotStands B k (vtable + 4 + 2 * i) (field_at entries i)
 
 -- The positions of a value: one, or of a union list that of its tags and that of its references.
 pub data Position : Type 0 where
@@ -59,12 +67,14 @@ pub data Position : Type 0 where
 -- The format: a text is a vector of UTF-8 bytes with a zero byte behind it that the count leaves out; a byte list has no such byte;
 -- a union vector is two vectors, of tags and of references.
 abbrev pub Stands : List ℕ → Position → Value → Type 0
-Stands B (at k) (text bytes) = (Num B k w32 ≡ Some (length bytes)) × BytesStand B (k + 4) (bytes ++ 0 ∷ [])
+Stands B (at k) (text bytes) =
+    (Num B k w32 ≡ Some (length bytes)) × BytesStand B (k + 4) (bytes ++ 0 ∷ [])
 Stands B (at k) (byte_list bytes) = ByteListStands B k bytes
 Stands B (at k) (plain_list size alignment items) = ListStands (PlainStands size) B k size items
 Stands B (at k) (reference_list distances) = ListStands ReferenceStands B k 4 distances
 Stands B (at_both kt kv) (union_list items) =
-    ByteListStands B kt (map (λ item. item.0) items) × ListStands ReferenceStands B kv 4 (map (λ item. item.1) items)
+    ByteListStands B kt (map (λ item. item.0) items)
+    × ListStands ReferenceStands B kv 4 (map (λ item. item.1) items)
 Stands B (at k) (table entries) = TableStands B k entries
 Stands B (at k) (union_list items) = ⊥
 Stands B (at_both kt kv) _ = ⊥

@@ -1,9 +1,11 @@
 -- Tables as readers hold them, and the answers to their fields.
-use Rattle.std.specs.Prelude.{◌≡◌, ◌≢◌, ℕ, ◌+◌, ◌*◌, ◌≤◌, ◌<◌, ◌⊎◌, List, length, take, drop, Option, Some, None, Result, Ok, Err}
+use Rattle.std.specs.Prelude.{◌≡◌, ◌≢◌, ℕ, ◌+◌, ◌*◌, ◌≤◌, ◌<◌, ◌⊎◌, List, length, take, drop}
+use Rattle.std.specs.Prelude.{Option, Some, None, Result, Ok, Err}
 use Rattle.std.specs.Option.{unwrap_or}
 use Rattle.std.specs.Int.{w8, w16}
 use Rattle.planus_read.specs.declared.errors.ErrorKind.{ErrorKind}
-use Rattle.planus_read.specs.declared.errors.ErrorKind.TheVariants.{InvalidOffset, InvalidVtableLength}
+use Rattle.planus_read.specs.declared.errors.ErrorKind.TheVariants.{InvalidOffset}
+use Rattle.planus_read.specs.declared.errors.ErrorKind.TheVariants.{InvalidVtableLength}
 use Rattle.planus_read.specs.declared.table_reader.Table.{Table}
 use Rattle.planus_read.specs.Bytes.{Num}
 use Rattle.planus_read.specs.Pieces.{slice_bytes, slice_start}
@@ -31,12 +33,16 @@ abbrev pub Slot : List ℕ → ℕ → ℕ
 Slot V i = unwrap_or (Num V (2 * i) w16) 0
 
 -- The answer to the field of a slot, where reads is what its type answers: none where the field is absent, else the type's own answer.
-abbrev pub FieldAnswer : {T : Type 0} → (List ℕ → ℕ → ℕ → Result T ErrorKind → Type 0) → Table → ℕ → Result (Option T) ErrorKind → Type 0
+abbrev pub FieldAnswer :
+    {T : Type 0} → (List ℕ → ℕ → ℕ → Result T ErrorKind → Type 0) → Table → ℕ
+    → Result (Option T) ErrorKind → Type 0
 FieldAnswer reads table i (Ok None) = Slot (table_slots table) i ≡ 0
 FieldAnswer reads table i (Ok (Some x)) =
-    (Slot (table_slots table) i ≢ 0) × reads (table_object table) (table_start table) (Slot (table_slots table) i) (Ok x)
+    (Slot (table_slots table) i ≢ 0)
+    × reads (table_object table) (table_start table) (Slot (table_slots table) i) (Ok x)
 FieldAnswer reads table i (Err e) =
-    (Slot (table_slots table) i ≢ 0) × reads (table_object table) (table_start table) (Slot (table_slots table) i) (Err e)
+    (Slot (table_slots table) i ≢ 0)
+    × reads (table_object table) (table_start table) (Slot (table_slots table) i) (Err e)
 
 -- slots i and i + 1 both lie in the vtable
 abbrev pub BothSlots : Table → ℕ → Type 0
@@ -66,17 +72,22 @@ UnionAbsent table i =
 abbrev pub UnionBroken : Table → ℕ → ErrorKind → Type 0
 UnionBroken table i e =
     (BothSlots table i × (tag_of table i ≡ None) × (e ≡ InvalidOffset))
-    ⊎ ((2 * i < length (table_slots table)) × (length (table_slots table) < 2 * i + 4) × (e ≡ InvalidVtableLength (length (table_slots table) + 4)))
+    ⊎ ((2 * i < length (table_slots table)) × (length (table_slots table) < 2 * i + 4)
+    × (e ≡ InvalidVtableLength (length (table_slots table) + 4)))
 
 -- The answer to the union of slots i and i + 1, where reads is what its type answers: none where no union is there, an error where its
 -- slots are damaged, else the type's own answer for the tag and the value's distance.
-abbrev pub UnionAnswer : {T : Type 0} → (List ℕ → ℕ → ℕ → ℕ → Result T ErrorKind → Type 0) → Table → ℕ → Result (Option T) ErrorKind → Type 0
+abbrev pub UnionAnswer :
+    {T : Type 0} → (List ℕ → ℕ → ℕ → ℕ → Result T ErrorKind → Type 0) → Table → ℕ
+    → Result (Option T) ErrorKind → Type 0
 UnionAnswer reads table i (Ok None) = UnionAbsent table i
 UnionAnswer reads table i (Ok (Some x)) =
-    (tag : ℕ) × UnionThere table i tag × reads (table_object table) (table_start table) tag (Slot (table_slots table) (i + 1)) (Ok x)
+    (tag : ℕ) × UnionThere table i tag
+    × reads (table_object table) (table_start table) tag (Slot (table_slots table) (i + 1)) (Ok x)
 UnionAnswer reads table i (Err e) =
     UnionBroken table i e
-    ⊎ ((tag : ℕ) × UnionThere table i tag × reads (table_object table) (table_start table) tag (Slot (table_slots table) (i + 1)) (Err e))
+    ⊎ ((tag : ℕ) × UnionThere table i tag
+    × reads (table_object table) (table_start table) tag (Slot (table_slots table) (i + 1)) (Err e))
 
 -- A vector of unions is there: both slots lie in the vtable and hold a distance.
 -- The format: a vector of unions takes two slots, tags first.
@@ -89,17 +100,24 @@ pub record UnionVectorSlots (table : Table) (i : ℕ) : Type 0 where
 abbrev pub HalfVector : Table → ℕ → Type 0
 HalfVector table i =
     BothSlots table i
-    × (((Slot (table_slots table) i ≡ 0) × (Slot (table_slots table) (i + 1) ≢ 0)) ⊎ ((Slot (table_slots table) i ≢ 0) × (Slot (table_slots table) (i + 1) ≡ 0)))
+    × (((Slot (table_slots table) i ≡ 0) × (Slot (table_slots table) (i + 1) ≢ 0))
+    ⊎ ((Slot (table_slots table) i ≢ 0) × (Slot (table_slots table) (i + 1) ≡ 0)))
 
 -- The answer to the vector of unions of slots i and i + 1, where reads is what its type answers: none where both slots hold 0 or don't
 -- both lie in the vtable, an error where exactly one holds 0, else the type's own answer for both distances.
-abbrev pub UnionVectorAnswer : {T : Type 0} → (List ℕ → ℕ → ℕ → ℕ → Result T ErrorKind → Type 0) → Table → ℕ → Result (Option T) ErrorKind → Type 0
+abbrev pub UnionVectorAnswer :
+    {T : Type 0} → (List ℕ → ℕ → ℕ → ℕ → Result T ErrorKind → Type 0) → Table → ℕ
+    → Result (Option T) ErrorKind → Type 0
 UnionVectorAnswer reads table i (Ok None) =
-    (length (table_slots table) < 2 * i + 4) ⊎ (BothSlots table i × (Slot (table_slots table) i ≡ 0) × (Slot (table_slots table) (i + 1) ≡ 0))
+    (length (table_slots table) < 2 * i + 4)
+    ⊎ (BothSlots table i × (Slot (table_slots table) i ≡ 0)
+    × (Slot (table_slots table) (i + 1) ≡ 0))
 UnionVectorAnswer reads table i (Ok (Some x)) =
     UnionVectorSlots table i
-    × reads (table_object table) (table_start table) (Slot (table_slots table) i) (Slot (table_slots table) (i + 1)) (Ok x)
+    × reads (table_object table) (table_start table) (Slot (table_slots table) i)
+    (Slot (table_slots table) (i + 1)) (Ok x)
 UnionVectorAnswer reads table i (Err e) =
     (HalfVector table i × (e ≡ InvalidOffset))
     ⊎ (UnionVectorSlots table i
-    × reads (table_object table) (table_start table) (Slot (table_slots table) i) (Slot (table_slots table) (i + 1)) (Err e))
+    × reads (table_object table) (table_start table) (Slot (table_slots table) i)
+    (Slot (table_slots table) (i + 1)) (Err e))

@@ -1,9 +1,16 @@
 -- The texts that errors print.
-use Rattle.std.specs.Prelude.{ℕ, List, [], ◌++◌, ◌==◌, false, codes, Option, Some, None, if◌then◌else◌}
+use Rattle.std.specs.Prelude.{ℕ, List, [], ◌++◌, ◌==◌, false, codes, Option, Some, None}
+use Rattle.std.specs.Prelude.{if◌then◌else◌}
 use Rattle.std.specs.Fmt.{decimal, signed_decimal, digits}
 use Rattle.std.specs.Str.{valid_up_to, error_len}
 use Rattle.planus_read.specs.declared.errors.ErrorKind.{ErrorKind}
-use Rattle.planus_read.specs.declared.errors.ErrorKind.TheVariants.{InvalidOffset, InvalidLength, UnionVectorLengthsMismatched, UnknownEnumTag as unknown_enum_tag, UnknownUnionTag, InvalidVtableLength, InvalidUtf8, MissingRequired, MissingNullTerminator}
+use Rattle.planus_read.specs.declared.errors.ErrorKind.TheVariants.{InvalidOffset, InvalidLength}
+use Rattle.planus_read.specs.declared.errors.ErrorKind.TheVariants.{UnionVectorLengthsMismatched}
+use Rattle.planus_read.specs.declared.errors.ErrorKind.TheVariants.{UnknownEnumTag as unknown}
+use Rattle.planus_read.specs.declared.errors.ErrorKind.TheVariants.{UnknownUnionTag}
+use Rattle.planus_read.specs.declared.errors.ErrorKind.TheVariants.{InvalidVtableLength}
+use Rattle.planus_read.specs.declared.errors.ErrorKind.TheVariants.{InvalidUtf8, MissingRequired}
+use Rattle.planus_read.specs.declared.errors.ErrorKind.TheVariants.{MissingNullTerminator}
 use Rattle.planus_read.specs.declared.errors.UnknownEnumTagKind.{UnknownEnumTagKind}
 use Rattle.planus_read.specs.declared.located.TheConstants.{NO_OFFSET}
 use Rattle.planus_read.specs.declared.located.ErrorLocation.{ErrorLocation}
@@ -18,7 +25,8 @@ unknown_tag_text kind = codes "Unknown enum (tag = " ++ signed_decimal kind.tag 
 -- bytes end within a character.
 abbrev pub utf8_text : ℕ → Option ℕ → List ℕ
 utf8_text valid_len (Some error_len) =
-    codes "invalid utf-8 sequence of " ++ (decimal error_len ++ (codes " bytes from index " ++ decimal valid_len))
+    codes "invalid utf-8 sequence of "
+    ++ (decimal error_len ++ (codes " bytes from index " ++ decimal valid_len))
 utf8_text valid_len None = codes "incomplete utf-8 byte sequence from index " ++ decimal valid_len
 
 -- the text of a kind
@@ -28,10 +36,12 @@ kind_text InvalidLength = codes "Invalid length"
 kind_text (UnionVectorLengthsMismatched tags_len values_len) =
     codes "Mismatched lengths between tag and value vectors. Length of tags = "
     ++ (decimal tags_len ++ (codes ", length of values = " ++ decimal values_len))
-kind_text (unknown_enum_tag source) = unknown_tag_text source
+kind_text (unknown source) = unknown_tag_text source
 kind_text (UnknownUnionTag tag) = codes "Unknown union (tag = " ++ decimal tag ++ codes ")"
-kind_text (InvalidVtableLength size) = codes "Invalid vtable length (length = " ++ decimal size ++ codes ")"
-kind_text (InvalidUtf8 source) = codes "Invalid utf-8: " ++ utf8_text (valid_up_to source) (error_len source)
+kind_text (InvalidVtableLength size) =
+    codes "Invalid vtable length (length = " ++ decimal size ++ codes ")"
+kind_text (InvalidUtf8 source) =
+    codes "Invalid utf-8: " ++ utf8_text (valid_up_to source) (error_len source)
 kind_text MissingRequired = codes "Missing required field"
 kind_text MissingNullTerminator = codes "Missing null terminator"
 
@@ -39,7 +49,8 @@ kind_text MissingNullTerminator = codes "Missing null terminator"
 abbrev pub location_text : ErrorLocation → List ℕ
 location_text location =
     codes "<" ++ location.type_.now
-    ++ (if location.byte_offset == NO_OFFSET then [] else codes "@" ++ digits 16 false location.byte_offset)
+    ++ (if location.byte_offset == NO_OFFSET then []
+    else codes "@" ++ digits 16 false location.byte_offset)
     ++ codes ">::" ++ location.method.now ++ codes "()"
 
 -- a text at a location

@@ -1,6 +1,7 @@
 -- What a writer writes and a reader reads: the values of the format, one at a time. A reference in a value is the distance of an
 -- earlier value from the end of the bytes.
-use Rattle.std.specs.Prelude.{ℕ, ◌+◌, ◌*◌, ◌==◌, max, List, [], ◌∷◌, Option, Some, None, if◌then◌else◌}
+use Rattle.std.specs.Prelude.{ℕ, ◌+◌, ◌*◌, ◌==◌, max, List, [], ◌∷◌, Option, Some, None}
+use Rattle.std.specs.Prelude.{if◌then◌else◌}
 
 -- A plain item: the bytes of a number or a truth value, and the alignment of its type. A number of n bytes has alignment n.
 pub record Plain : Type 0 where
