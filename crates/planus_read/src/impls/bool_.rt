@@ -1,16 +1,16 @@
-//! Truth values as fields of tables and as items of vectors.
+//! Truth values.
 
 ghost use Rattle.std.specs.Int.{w8};
 ghost use Rattle.std.proofs.Common.{lit≤};
 ghost use Rattle.planus_read.specs.Reading.{TruthThere};
 
-use super::primitives::{Scalar, ScalarItem};
+use super::scalar::{Scalar, ScalarItem};
 use crate::slice_helpers::SliceWithStartOffset;
 
 impl Scalar for bool {
     ghost width = { w8 };
 
-    ghost There = { λ S f x. TruthThere S f x };
+    ghost there = { λ S f x. TruthThere S f x };
 
     ghost is_positive = { lit≤ tt };
 

@@ -4,4 +4,5 @@ mod bool_;
 mod byte_slice;
 mod primitives;
 mod result;
+mod scalar;
 mod str;

@@ -1,76 +1,16 @@
-//! Numbers as fields of tables and as items of vectors.
+//! Numbers.
 
-ghost use Rattle.std.specs.Prelude.{◌≤◌, ◌+◌, ◌≡◌, ℕ, List, length};
-ghost use Rattle.std.specs.Int.{Width, w8, w16, w32, w64, byte_len};
+ghost use Rattle.std.specs.Int.{w8, w16, w32, w64};
 ghost use Rattle.std.proofs.Common.{lit≤};
-ghost use Rattle.planus_read.specs.Clauses.{Answer};
-ghost use Rattle.planus_read.specs.Pieces.{slice_bytes};
-ghost use Rattle.planus_read.specs.Reading.{NumberThere, SignedThere, scalar_reading};
+ghost use Rattle.planus_read.specs.Reading.{NumberThere, SignedThere};
 
-use crate::errors::ErrorKind;
+use super::scalar::{Scalar, ScalarItem};
 use crate::slice_helpers::SliceWithStartOffset;
-use crate::traits::{Stride, TableRead, VectorRead};
-
-/// A scalar of the format: a number or a truth value. Its bytes are little-endian.
-pub trait Scalar: Sized {
-    /// The width of its bytes.
-    ghost width: { Width };
-
-    /// What stands at an offset of some bytes.
-    ghost There: { List ℕ → ℕ → Self → Type 0 };
-
-    /// No scalar has size 0.
-    ghost is_positive: { 1 ≤ byte_len width };
-
-    /// Returns the size in bytes.
-    fn size() -> usize
-        ensures { result ≡ byte_len width };
-
-    /// Returns the scalar at the offset, in bytes from the start of the piece. All of it lies in the piece.
-    fn read(buffer: SliceWithStartOffset<'_>, offset: usize) -> Self
-        requires { offset + byte_len width ≤ length (slice_bytes buffer) }
-        ensures { There (slice_bytes buffer.entry) offset result };
-}
-
-/// A scalar that is an item of vectors. One of a single byte is none, but for truth values: a vector of bytes is a byte list.
-pub trait ScalarItem: Scalar {}
-
-impl<'buf, T: Scalar> TableRead<'buf> for T {
-    ghost reads = { λ S start f r. Answer (scalar_reading T.width T.There S f) r };
-
-    #[inline]
-    fn from_buffer(buffer: SliceWithStartOffset<'buf>, offset: usize) -> Result<T, ErrorKind> {
-        match offset.checked_add(T::size()) {
-            Some(end) if end <= buffer.len() => Ok(T::read(buffer, offset)),
-            _ => Err(ErrorKind::InvalidOffset),
-        }
-    }
-}
-
-impl<T: ScalarItem> Stride for T {
-    ghost STRIDE = { byte_len T.width };
-
-    ghost is_positive = { T.is_positive };
-
-    #[inline]
-    fn stride() -> usize {
-        T::size()
-    }
-}
-
-impl<'buf, T: ScalarItem> VectorRead<'buf> for T {
-    ghost gives = { λ S start f x. T.There S f x };
-
-    #[inline]
-    fn from_buffer(buffer: SliceWithStartOffset<'buf>, offset: usize) -> T {
-        T::read(buffer, offset)
-    }
-}
 
 impl Scalar for u8 {
     ghost width = { w8 };
 
-    ghost There = { λ S f x. NumberThere S f w8 x };
+    ghost there = { λ S f x. NumberThere S f w8 x };
 
     ghost is_positive = { lit≤ tt };
 
@@ -88,7 +28,7 @@ impl Scalar for u8 {
 impl Scalar for u16 {
     ghost width = { w16 };
 
-    ghost There = { λ S f x. NumberThere S f w16 x };
+    ghost there = { λ S f x. NumberThere S f w16 x };
 
     ghost is_positive = { lit≤ tt };
 
@@ -106,7 +46,7 @@ impl Scalar for u16 {
 impl Scalar for u32 {
     ghost width = { w32 };
 
-    ghost There = { λ S f x. NumberThere S f w32 x };
+    ghost there = { λ S f x. NumberThere S f w32 x };
 
     ghost is_positive = { lit≤ tt };
 
@@ -124,7 +64,7 @@ impl Scalar for u32 {
 impl Scalar for u64 {
     ghost width = { w64 };
 
-    ghost There = { λ S f x. NumberThere S f w64 x };
+    ghost there = { λ S f x. NumberThere S f w64 x };
 
     ghost is_positive = { lit≤ tt };
 
@@ -142,7 +82,7 @@ impl Scalar for u64 {
 impl Scalar for i8 {
     ghost width = { w8 };
 
-    ghost There = { λ S f x. SignedThere S f w8 x };
+    ghost there = { λ S f x. SignedThere S f w8 x };
 
     ghost is_positive = { lit≤ tt };
 
@@ -160,7 +100,7 @@ impl Scalar for i8 {
 impl Scalar for i16 {
     ghost width = { w16 };
 
-    ghost There = { λ S f x. SignedThere S f w16 x };
+    ghost there = { λ S f x. SignedThere S f w16 x };
 
     ghost is_positive = { lit≤ tt };
 
@@ -178,7 +118,7 @@ impl Scalar for i16 {
 impl Scalar for i32 {
     ghost width = { w32 };
 
-    ghost There = { λ S f x. SignedThere S f w32 x };
+    ghost there = { λ S f x. SignedThere S f w32 x };
 
     ghost is_positive = { lit≤ tt };
 
@@ -196,7 +136,7 @@ impl Scalar for i32 {
 impl Scalar for i64 {
     ghost width = { w64 };
 
-    ghost There = { λ S f x. SignedThere S f w64 x };
+    ghost there = { λ S f x. SignedThere S f w64 x };
 
     ghost is_positive = { lit≤ tt };
 
