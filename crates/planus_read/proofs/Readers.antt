@@ -14,7 +14,7 @@ use Rattle.planus_read.specs.Utf8.{utf8_clause}
 use Rattle.planus_read.specs.Clauses.{AllHold, FirstBroken, Answer, shown}
 use Rattle.planus_read.specs.Pieces.{slice_bytes, ShowsBytes}
 use Rattle.planus_read.specs.Heads.{ShowsItems, IsTextOf, text_of_clauses}
-use Rattle.planus_read.specs.Reading.{number, Items, TablePlace, text_reading, table_reading, Leads, target, head_clauses, count_at, items_at, HeadThere, TextThere, ZeroByte, text_clauses, ByteListThere, byte_list_clauses, VectorThere, vector_clauses, UnionVectorThere, union_vector_clauses, TableThere, signed_number, vtable_at, vtable_size_at, object_clauses, table_clauses, slots_of}
+use Rattle.planus_read.specs.Reading.{number, Items, TableLayout, text_reading, table_reading, Leads, target, head_clauses, count_at, items_at, HeadThere, TextThere, ZeroByte, text_clauses, ByteListThere, byte_list_clauses, VectorThere, vector_clauses, UnionVectorThere, union_vector_clauses, TableThere, signed_number, vtable_at, vtable_size_at, object_clauses, table_clauses, slots_of}
 use Rattle.planus_read.specs.Tables.{ShowsTable, table_object, table_start, table_slots}
 use Rattle.planus_read.specs.declared.table_reader.Table.{Table}
 use Rattle.planus_read.proofs.Parts.{parts_stand, whole_stands}
@@ -286,6 +286,6 @@ table_holds S f object vtable size h =
 
 pub table_answer : (S : List ℕ) (start f : ℕ) (table : Table) → AllHold (table_clauses S f) → table_object table ≡ drop (target S f) S → table_start table ≡ start + target S f → table_slots table ≡ slots_of S (target S f) → Answer (shown (ShowsTable S start) (table_reading S f)) (Ok table)
 table_answer S start f table h bytes begin slots =
-    let place : TablePlace = record { object = target S f; vtable = vtable_at S (target S f); size = vtable_size_at S (target S f) } in
+    let place : TableLayout = record { object = target S f; vtable = vtable_at S (target S f); size = vtable_size_at S (target S f) } in
     let shows : ShowsTable S start place table = record { object_bytes = bytes; object_start = begin; slots = slots } in
     (place, table_there S f h, shows)

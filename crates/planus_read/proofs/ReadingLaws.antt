@@ -10,7 +10,7 @@ use Rattle.planus_read.specs.declared.errors.ErrorKind.TheVariants.{InvalidOffse
 use Rattle.planus_read.specs.Utf8.{IsUtf8Error}
 use Rattle.planus_read.specs.Bytes.{Num}
 use Rattle.planus_read.specs.Clauses.{Clause, AllHold, FirstBroken, Reading, Answer}
-use Rattle.planus_read.specs.Reading.{number, number_clauses, target, count_at, items_at, vtable_at, vtable_size_at, VectorThere, Items, UnionItems, TablePlace, number_reading, signed_reading, truth_reading, head_reading, text_reading, byte_list_reading, vector_reading, union_vector_reading, table_reading, vector_clauses, table_clauses}
+use Rattle.planus_read.specs.Reading.{number, number_clauses, target, count_at, items_at, vtable_at, vtable_size_at, VectorThere, Items, UnionItems, TableLayout, number_reading, signed_reading, truth_reading, head_reading, text_reading, byte_list_reading, vector_reading, union_vector_reading, table_reading, vector_clauses, table_clauses}
 use Rattle.planus_read.specs.ReadingLaws.{Decides, IsOne, IsAnswered, IsLawful, IsShown}
 use Rattle.planus_read.proofs.Readers.{num_inside, num_there, HeadFacts, head_facts, head_there, text_there, text_holds, byte_list_there, byte_list_holds, vector_there, vector_holds, union_vector_there, union_vector_holds, table_there, table_holds}
 
@@ -163,11 +163,11 @@ lawful_union_vector S f g = lawful (union_vector_reading S f g) (this_error Inva
         same_union_items x y tags.0 references.0 tags.1
 
 -- tables
-same_place : (a b : TablePlace) → a.object ≡ b.object → a.vtable ≡ b.vtable → a.size ≡ b.size → a ≡ b
+same_place : (a b : TableLayout) → a.object ≡ b.object → a.vtable ≡ b.vtable → a.size ≡ b.size → a ≡ b
 same_place a b o t z =
-    ap (λ n. let place : TablePlace = record { object = n; vtable = a.vtable; size = a.size } in place) o
-    ∙ ap (λ n. let place : TablePlace = record { object = b.object; vtable = n; size = a.size } in place) t
-    ∙ ap (λ n. let place : TablePlace = record { object = b.object; vtable = b.vtable; size = n } in place) z
+    ap (λ n. let place : TableLayout = record { object = n; vtable = a.vtable; size = a.size } in place) o
+    ∙ ap (λ n. let place : TableLayout = record { object = b.object; vtable = n; size = a.size } in place) t
+    ∙ ap (λ n. let place : TableLayout = record { object = b.object; vtable = b.vtable; size = n } in place) z
 
 pub lawful_table : (S : List ℕ) (f : ℕ) → IsLawful (table_reading S f)
 lawful_table S f = lawful (table_reading S f) (this_error InvalidOffset, (this_error InvalidOffset, (this_error InvalidOffset, (this_error InvalidOffset, (this_error InvalidOffset, (this_error (InvalidVtableLength (vtable_size_at S (target S f))), (this_error InvalidLength, tt))))))) (

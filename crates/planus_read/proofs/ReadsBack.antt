@@ -13,16 +13,16 @@ use Rattle.planus_read.specs.Clauses.{Answer, shown}
 use Rattle.planus_read.specs.Values.{Value, text, byte_list, plain_list, reference_list, union_list, table, Field, plain, reference, tags, values, field_at, vtable_size}
 use Rattle.planus_read.specs.Stands.{at, at_both, Stands, ReferenceStands, TableStands}
 use Rattle.planus_read.specs.Places.{IsPlace, LeadsOn, place_offset, tagged_place}
-use Rattle.planus_read.specs.Reading.{Leads, Items, UnionItems, TablePlace, text_reading, byte_list_reading, table_reading}
+use Rattle.planus_read.specs.Reading.{Leads, Items, UnionItems, TableLayout, text_reading, byte_list_reading, table_reading}
 use Rattle.planus_read.specs.ReadingLaws.{IsAnswered}
 use Rattle.planus_read.specs.Tables.{Slot, ShowsTable}
 use Rattle.planus_read.specs.TableReading.{SlotReads, HasFields}
-use Rattle.planus_read.specs.ReadsBack.{PlainReads, PlaceReads, FieldsReadBack, ListReads, UnionListReads, TableReads, WhatStandsReadsBack}
+use Rattle.planus_read.specs.ReadsBack.{PlainReads, ReferenceReads, FieldsReadBack, ListReads, UnionListReads, TableReads, WhatStandsReadsBack}
 use Rattle.planus_read.proofs.ReadingLaws.{lawful_number, lawful_signed, lawful_truth, lawful_text, lawful_byte_list, lawful_vector, lawful_union_vector, lawful_table}
 use Rattle.planus_read.proofs.Readers.{num_inside, number_of_signed}
 use Rattle.planus_read.proofs.PieceLaws.{references_lead, num_in_piece, leads_in_pieces, bytes_in_piece, stands_in_pieces}
 use Rattle.planus_read.proofs.ListItems.{num_of_bytes, plain_lists_read, reference_lists_read, union_lists_read, plain_items_stand, reference_items_stand, union_items_stand}
-use Rattle.planus_read.proofs.TableReading.{table_place, any_slot_reads, table_slot_bytes, slot_reads_whole}
+use Rattle.planus_read.proofs.TableReading.{table_there, any_slot_reads, table_slot_bytes, slot_reads_whole}
 
 plain_reads : (S : List ℕ) (f : ℕ) (bytes : List ℕ) → BytesStand S f bytes → PlainReads S f bytes
 plain_reads S f bytes h =
@@ -42,18 +42,19 @@ leads_on B start f distance h place is =
           (subst (λ o. Leads B (start + o) (position_of B distance)) (sym is.offset) (references_lead B (start + f) distance h));
     }
 
-place_reads : (B : List ℕ) (start f distance : ℕ) → ReferenceStands B (start + f) distance → PlaceReads B start f distance
-place_reads B start f distance h =
+reference_reads : (B : List ℕ) (start f distance : ℕ) → ReferenceStands B (start + f) distance → ReferenceReads B start f distance
+reference_reads B start f distance h =
     record {
+      leads = references_lead B (start + f) distance h;
       place = leads_on B start f distance h;
       tagged = λ tag tagged is. record { tag_is = is.tag_is; leads_on = leads_on B start f distance h (tagged_place tagged) is.place_is };
     }
 
 pub fields_read_back : FieldsReadBack
 fields_read_back B start f (plain item) h = plain_reads (drop start B) f item.bytes (bytes_in_piece B start f item.bytes h)
-fields_read_back B start f (reference distance) h = place_reads B start f distance h
-fields_read_back B start f (tags distance) h = place_reads B start f distance h
-fields_read_back B start f (values distance) h = place_reads B start f distance h
+fields_read_back B start f (reference distance) h = reference_reads B start f distance h
+fields_read_back B start f (tags distance) h = reference_reads B start f distance h
+fields_read_back B start f (values distance) h = reference_reads B start f distance h
 
 -- a value to which a reference of a piece leads lies in the piece
 record InPiece (B : List ℕ) (start f k : ℕ) : Type 0 where
@@ -94,7 +95,7 @@ plain_list_reads B k size alignment items h start f to =
       each = λ i item e. plain_reads (drop (k + 4) B) (i * size) item (bytes_in_piece B (k + 4) (i * size) item (plain_items_stand B k size alignment items h i item e).1);
     }
 
-reference_list_reads : (B : List ℕ) (k : ℕ) (distances : List ℕ) → Stands B (at k) (reference_list distances) → (start f : ℕ) → Leads B (start + f) k → ListReads (PlaceReads B) B k start f 4 distances
+reference_list_reads : (B : List ℕ) (k : ℕ) (distances : List ℕ) → Stands B (at k) (reference_list distances) → (start f : ℕ) → Leads B (start + f) k → ListReads (ReferenceReads B) B k start f 4 distances
 reference_list_reads B k distances h start f to =
     let here : InPiece B start f k = in_piece B start f k to in
     let vector : Items = record { position = k - start + 4; count = length distances } in
@@ -103,7 +104,7 @@ reference_list_reads B k distances h start f to =
       first = omega (arith, here.whole);
       vector = (lawful_vector (drop start B) f 4).answered vector
           (reference_lists_read (drop start B) f (k - start) distances here.leads (stands_here B start f k (reference_list distances) here h));
-      each = λ i distance e. place_reads B (k + 4) (i * 4) distance (reference_items_stand B k distances h i distance e);
+      each = λ i distance e. reference_reads B (k + 4) (i * 4) distance (reference_items_stand B k distances h i distance e);
     }
 
 union_list_reads : (B : List ℕ) (kt kv : ℕ) (items : List (ℕ × ℕ)) → Stands B (at_both kt kv) (union_list items) → (start f g : ℕ) → Leads B (start + f) kt → Leads B (start + g) kv → UnionListReads B kt kv start f g items
@@ -123,11 +124,11 @@ union_list_reads B kt kv items h start f g to_tags to_references =
       vector = (lawful_union_vector (drop start B) f g).answered vector
           (union_lists_read (drop start B) f g (kt - start) (kv - start) items tags_here.leads references_here.leads (stands_in_pieces B start (at_both (kt - start) (kv - start)) (union_list items) tags_here.inside moved_there));
       each_tag = λ i item e. (lawful_number (drop (kt + 4) B) i w8).answered item.0 (sym (num_in_piece B (kt + 4) i w8 count_inside) ∙ (union_items_stand B kt kv items h i item e).0);
-      each_reference = λ i item e. place_reads B (kv + 4) (i * 4) item.1 (union_items_stand B kt kv items h i item e).1;
+      each_reference = λ i item e. reference_reads B (kv + 4) (i * 4) item.1 (union_items_stand B kt kv items h i item e).1;
     }
 
 table_reads : (B : List ℕ) (k : ℕ) (entries : List (ℕ × Field)) → Stands B (at k) (table entries) → (start f : ℕ) → Leads B (start + f) k → TableReads B k start f entries
-table_reads B k entries h start f to = record { place = place; answered = answered; fields = fields }
+table_reads B k entries h start f to = record { layout = layout; answered = answered; fields = fields }
   where
     here : InPiece B start f k
     here = in_piece B start f k to
@@ -135,18 +136,18 @@ table_reads B k entries h start f to = record { place = place; answered = answer
     stands : TableStands (drop start B) (k - start) entries
     stands = stands_here B start f k (table entries) here h
 
-    place : TablePlace
-    place = record { object = k - start; vtable = stands.vtable; size = vtable_size entries }
+    layout : TableLayout
+    layout = record { object = k - start; vtable = stands.vtable; size = vtable_size entries }
 
-    answered : IsAnswered (table_reading (drop start B) f) place
-    answered = (lawful_table (drop start B) f).answered place (table_place (drop start B) f (k - start) entries here.leads stands)
+    answered : IsAnswered (table_reading (drop start B) f) layout
+    answered = (lawful_table (drop start B) f).answered layout (table_there (drop start B) f (k - start) entries here.leads stands)
 
     inside : k + 4 ≤ length B
     inside =
         let word : (n : ℕ) × (Num B k w32 ≡ Some n) = number_of_signed (Num B k w32) (pos k -ℤ pos h.vtable) h.word in
         num_inside B k w32 word.0 word.1
 
-    has_fields : (t : Table) → ShowsTable (drop start B) start place t → HasFields B k entries t
+    has_fields : (t : Table) → ShowsTable (drop start B) start layout t → HasFields B k entries t
     has_fields t shows =
         record {
           object = shows.object_bytes ∙ drop-drop (k - start) start B ∙ ap (λ n. drop n B) (sym here.whole);
@@ -161,7 +162,7 @@ table_reads B k entries h start f to = record { place = place; answered = answer
 
     fields : (r : Result Table ErrorKind) → Answer (shown (ShowsTable (drop start B) start) (table_reading (drop start B) f)) r → IsOkAnd r (HasFields B k entries)
     fields (Ok t) it = has_fields t (subst (λ p. ShowsTable (drop start B) start p t) (answered.alone it.0 it.1) it.2)
-    fields (Err e) it = absurd ((lawful_table (drop start B) f).nothing e it place answered.there)
+    fields (Err e) it = absurd ((lawful_table (drop start B) f).nothing e it layout answered.there)
 
 pub what_stands_reads_back : WhatStandsReadsBack
 what_stands_reads_back B (at k) (text bytes) well h = text_reads B k bytes well h

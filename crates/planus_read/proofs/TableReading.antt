@@ -4,7 +4,7 @@ use Rattle.std.proofs.lemmas.List.{drop-drop, drop-take, take-take, take-append-
 use Rattle.std.proofs.lemmas.Bool.Decides.{nat_tests}
 use Rattle.std.specs.Int.{w8, w16, byte_len, from_le_bytes}
 use Rattle.std.specs.Option.{unwrap_or}
-use Rattle.planus_read.specs.Bytes.{Num}
+use Rattle.planus_read.specs.Bytes.{Num, BytesStand}
 use Rattle.planus_read.specs.Values.{Field, plain, reference, tags, values, field_at, slot_count, vtable_size}
 use Rattle.planus_read.specs.Stands.{FieldStands, SlotStands, TableStands}
 use Rattle.planus_read.specs.Reading.{number, Leads, TableThere}
@@ -81,8 +81,8 @@ any_slot S k entries h i (inr past) =
     slot_absent S k h.vtable (vtable_size entries) i (field_at entries i) h.inside past (λ field e. let l : i + 1 ≤ slot_count entries = slot_below entries i field e in omega arith)
 
 -- the table that stands at k, read by a reference of the bytes themselves
-pub table_place : (S : List ℕ) (f k : ℕ) (entries : List (ℕ × Field)) → Leads S f k → (h : TableStands S k entries) → TableThere S f k h.vtable (vtable_size entries)
-table_place S f k entries to h =
+pub table_there : (S : List ℕ) (f k : ℕ) (entries : List (ℕ × Field)) → Leads S f k → (h : TableStands S k entries) → TableThere S f k h.vtable (vtable_size entries)
+table_there S f k entries to h =
     record { reference = to; word = h.word; size_word = h.size; least = omega arith; even = omega arith; inside = h.inside }
 
 pub any_slot_reads : (S : List ℕ) (k : ℕ) (entries : List (ℕ × Field)) (h : TableStands S k entries) (i : ℕ) → SlotReads S k (Slot (drop 4 (take (vtable_size entries) (drop h.vtable S))) i) (field_at entries i)
@@ -181,7 +181,7 @@ union_read reads B k entries table h i None hold (Err e) (inr it) = absurd (it.1
 union_read {T} reads B k entries table h i (Some union) hold r it = by_answer r it
   where
     tag_field : Field
-    tag_field = plain (record { bytes = union.0 ∷ []; alignment = hold.1.0 })
+    tag_field = plain hold.1.0
 
     tag_slot : SlotReads B k (Slot (table_slots table) i) (Some tag_field)
     tag_slot = present B k entries table h i tag_field hold.1.1
@@ -195,7 +195,7 @@ union_read {T} reads B k entries table h i (Some union) hold r it = by_answer r 
     tag_byte : tag_of table i ≡ Some union.0
     tag_byte =
         ap (λ o. Num o (Slot (table_slots table) i) w8) h.object
-        ∙ num_of_bytes (drop k B) (Slot (table_slots table) i) w8 (union.0 ∷ []) refl (bytes_in_piece B k (Slot (table_slots table) i) (union.0 ∷ []) tag_slot.1)
+        ∙ num_of_bytes (drop k B) (Slot (table_slots table) i) w8 (union.0 ∷ []) refl (subst (BytesStand (drop k B) (Slot (table_slots table) i)) hold.1.2 (bytes_in_piece B k (Slot (table_slots table) i) hold.1.0.bytes tag_slot.1))
 
     same_tag : (tag : ℕ) → tag_of table i ≡ Some tag → tag ≡ union.0
     same_tag tag e = let f : Some tag ≡ Some union.0 = sym e ∙ tag_byte in cc

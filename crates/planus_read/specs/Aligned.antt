@@ -1,11 +1,12 @@
 -- That a value stands aligned.
--- The format: a number stands at a multiple of its size from the buffer's start, and so do counts and references.
+-- The format: a number stands at a multiple of its size from the buffer's start, and so do counts
+-- and references.
 use Rattle.std.specs.Prelude.{◌≡◌, ℕ, ◌+◌, ◌*◌, ◌≤◌, List, Some, None, Option, ⊤, pos, ◌-ℤ◌}
 use Rattle.std.specs.Int.{w16, ◌∣◌}
 use Rattle.planus_read.specs.Bytes.{Num, Int}
 use Rattle.planus_read.specs.Values.{Value, text, byte_list, plain_list, reference_list, union_list}
-use Rattle.planus_read.specs.Values.{table, Field, plain, reference, tags, values, field_at}
-use Rattle.planus_read.specs.Values.{vtable_size}
+use Rattle.planus_read.specs.Values.{table, Field, plain, reference, tags, values}
+use Rattle.planus_read.specs.Values.{field_at, vtable_size}
 use Rattle.planus_read.specs.Stands.{Position, at, at_both, ItemsStand}
 
 -- the alignment of a field: a plain item's own, and 4 of a reference
@@ -21,8 +22,8 @@ SlotAligned B k s None = ⊤
 SlotAligned B k s (Some field) =
     (q : ℕ) × (Num B s w16 ≡ Some q) × (field_alignment field ∣ (k + q))
 
--- The table at k stands at a multiple of 4, the vtable to which its first word leads at a multiple of 2, and each present field at
--- a multiple of its own alignment.
+-- The table at k stands at a multiple of 4, the vtable to which its first word leads at a multiple
+-- of 2, and each present field at a multiple of its own alignment.
 pub record TableAligned (B : List ℕ) (k : ℕ) (entries : List (ℕ × Field)) : Type 0 where
   pub table : 4 ∣ k
   pub vtable : ℕ
@@ -37,8 +38,9 @@ abbrev pub ListAligned : {X : Type 0} → ℕ → ℕ → ℕ → List X → Typ
 ListAligned k size alignment items =
     (4 ∣ k) × ItemsStand (λ position item. alignment ∣ position) (k + 4) size items
 
--- The value, which stands there, is aligned: counts and references at multiples of 4, items and fields at multiples of their own
--- alignment, a table at a multiple of 4, and its vtable at a multiple of 2.
+-- The value, which stands there, is aligned: counts and references at multiples of 4, items and
+-- fields at multiples of their own alignment, a table at a multiple of 4, and its vtable at a
+-- multiple of 2.
 abbrev pub AlignedAt : List ℕ → Position → Value → Type 0
 AlignedAt B (at k) (text bytes) = 4 ∣ k
 AlignedAt B (at k) (byte_list bytes) = 4 ∣ k

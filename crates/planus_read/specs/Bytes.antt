@@ -1,6 +1,6 @@
 -- What stands at a position of a list of bytes. Positions count from the front, from 0.
-use Rattle.std.specs.Prelude.{◌≡◌, ℕ, ◌+◌, ◌-◌, List, length, take, drop, nat_le, if◌then◌else◌}
-use Rattle.std.specs.Prelude.{Option, Some, None, ℤ}
+use Rattle.std.specs.Prelude.{◌≡◌, ℕ, ◌+◌, ◌-◌, List, length, take, drop, nat_le}
+use Rattle.std.specs.Prelude.{if◌then◌else◌, Option, Some, None, ℤ}
 use Rattle.std.specs.Int.{Width, w32, byte_len, from_le_bytes, cast_signed}
 use Rattle.std.specs.Option.{option_map}
 
@@ -8,12 +8,14 @@ use Rattle.std.specs.Option.{option_map}
 abbrev pub position_of : List ℕ → ℕ → ℕ
 position_of B distance = length B - distance
 
--- The little-endian number of the width's bytes at the position. There is one exactly where these bytes lie in B.
+-- The little-endian number of the width's bytes at the position. There is one exactly where these
+-- bytes lie in B.
 -- The format: numbers are little-endian.
 abbrev pub Num : List ℕ → ℕ → Width → Option ℕ
 Num B position width =
     if nat_le (position + byte_len width) (length B)
-    then Some (from_le_bytes width (take (byte_len width) (drop position B))) else None
+    then Some (from_le_bytes width (take (byte_len width) (drop position B)))
+    else None
 
 -- the signed number of 4 bytes at the position
 -- The format: signed numbers are two's complement.

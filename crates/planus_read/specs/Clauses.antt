@@ -1,4 +1,5 @@
--- What a reader answers: a value where all its clauses hold, else the error of the first clause that fails.
+-- What a reader answers: a value where all its clauses hold, else the error of the first clause
+-- that fails.
 use Rattle.std.specs.Prelude.{◌≡◌, List, [], ◌∷◌, ◌⊎◌, ⊤, Result, Ok, Err}
 use Rattle.planus_read.specs.declared.errors.ErrorKind.{ErrorKind}
 

@@ -8,9 +8,10 @@ use Rattle.planus_read.specs.Utf8.{utf8_clause}
 use Rattle.planus_read.specs.declared.errors.ErrorKind.TheVariants.{MissingNullTerminator}
 use Rattle.std.specs.Str.{IsUtf8}
 
--- Items in a piece with the bytes S and this start: the piece from the first of them on, and their number.
-pub record ShowsItems (S : List ℕ) (start : ℕ) (items : Items) (head : SliceWithStartOffset × ℕ)
-    : Type 0 where
+-- Items in a piece with the bytes S and this start: the piece from the first of them on, and their
+-- number.
+pub record ShowsItems
+    (S : List ℕ) (start : ℕ) (items : Items) (head : SliceWithStartOffset × ℕ) : Type 0 where
   pub bytes : slice_bytes head.0 ≡ drop items.position S
   pub begin : slice_start head.0 ≡ start + items.position
   pub counted : head.1 ≡ items.count

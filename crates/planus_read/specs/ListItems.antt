@@ -8,16 +8,20 @@ use Rattle.planus_read.specs.Stands.{Stands, at, at_both, PlainStands, Reference
 -- Item i of a list of plain items stands behind the count and the i items before it.
 abbrev pub PlainItemsStand : Type 0
 PlainItemsStand =
-    (B : List ℕ) (k size alignment : ℕ) (items : List (List ℕ)) → Stands B (at k) (plain_list size alignment items)
-    → (i : ℕ) (item : List ℕ) → slice_get items i ≡ Some item → PlainStands size B (k + 4 + i * size) item
+    (B : List ℕ) (k size alignment : ℕ) (items : List (List ℕ))
+    → Stands B (at k) (plain_list size alignment items)
+    → (i : ℕ) (item : List ℕ) → slice_get items i ≡ Some item
+    → PlainStands size B (k + 4 + i * size) item
 
 -- So does reference i of a list of references.
 abbrev pub ReferenceItemsStand : Type 0
 ReferenceItemsStand =
     (B : List ℕ) (k : ℕ) (distances : List ℕ) → Stands B (at k) (reference_list distances)
-    → (i distance : ℕ) → slice_get distances i ≡ Some distance → ReferenceStands B (k + 4 + i * 4) distance
+    → (i distance : ℕ) → slice_get distances i ≡ Some distance
+    → ReferenceStands B (k + 4 + i * 4) distance
 
--- Tag i of a union list stands behind the count of the tags and i tags, its reference behind the count of the references and i references.
+-- Tag i of a union list stands behind the count of the tags and i tags, its reference behind the
+-- count of the references and i references.
 abbrev pub UnionItemsStand : Type 0
 UnionItemsStand =
     (B : List ℕ) (kt kv : ℕ) (items : List (ℕ × ℕ)) → Stands B (at_both kt kv) (union_list items)

@@ -8,7 +8,8 @@ abbrev pub moved : ℕ → Position → Position
 moved n (at k) = at (n + k)
 moved n (at_both kt kv) = at_both (n + kt) (n + kv)
 
--- What stands keeps standing behind whatever is put in front, at positions further on by its length.
+-- What stands keeps standing behind whatever is put in front, at positions further on by its
+-- length.
 abbrev pub KeepsStanding : Type 0
 KeepsStanding =
     (front B : List ℕ) (p : Position) (v : Value) → Stands B p v

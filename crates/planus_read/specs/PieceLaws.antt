@@ -8,11 +8,14 @@ use Rattle.planus_read.specs.Reading.{Leads}
 
 -- A reference that stands leads to the position of its distance.
 abbrev pub ReferencesLead : Type 0
-ReferencesLead = (B : List ℕ) (f distance : ℕ) → ReferenceStands B f distance → Leads B f (position_of B distance)
+ReferencesLead =
+    (B : List ℕ) (f distance : ℕ) → ReferenceStands B f distance
+    → Leads B f (position_of B distance)
 
--- A reference leads to the same place in the piece from start on.
+-- In the piece from start on a reference leads to the same byte.
 abbrev pub LeadsInPieces : Type 0
-LeadsInPieces = (B : List ℕ) (start f k : ℕ) → Leads B (start + f) (start + k) → Leads (drop start B) f k
+LeadsInPieces =
+    (B : List ℕ) (start f k : ℕ) → Leads B (start + f) (start + k) → Leads (drop start B) f k
 
 -- A field, and so a reference to a distance, stands in the piece from start on.
 abbrev pub FieldsStandInPieces : Type 0
@@ -23,4 +26,6 @@ FieldsStandInPieces =
 -- A value stands in the piece from start on.
 abbrev pub StandsInPieces : Type 0
 StandsInPieces =
-    (B : List ℕ) (start : ℕ) (p : Position) (v : Value) → start ≤ length B → Stands B (moved start p) v → Stands (drop start B) p v
+    (B : List ℕ) (start : ℕ) (p : Position) (v : Value) → start ≤ length B
+    → Stands B (moved start p) v
+    → Stands (drop start B) p v

@@ -19,15 +19,15 @@ abbrev pub array_start : {N : ℕ} → ArrayWithStartOffset N → ℕ
 array_start s = s.offset_from_start
 
 -- the piece is s from this amount of its bytes on
-pub record IsAdvanced (s : SliceWithStartOffset) (amount : ℕ) (piece : SliceWithStartOffset)
-    : Type 0 where
+pub record IsAdvanced
+    (s : SliceWithStartOffset) (amount : ℕ) (piece : SliceWithStartOffset) : Type 0 where
   pub inside : amount ≤ length (slice_bytes s)
   pub bytes : slice_bytes piece ≡ drop amount (slice_bytes s)
   pub start : slice_start piece ≡ slice_start s + amount
 
 -- the array has the N bytes from this amount on of a piece with these bytes and this start
-pub record IsArrayAt {N : ℕ} (bytes : List ℕ) (start amount : ℕ) (array : ArrayWithStartOffset N)
-    : Type 0 where
+pub record IsArrayAt
+    {N : ℕ} (bytes : List ℕ) (start amount : ℕ) (array : ArrayWithStartOffset N) : Type 0 where
   pub inside : amount + N ≤ length bytes
   pub items : array_bytes array ≡ take N (drop amount bytes)
   pub begin : array_start array ≡ start + amount

@@ -41,8 +41,8 @@ place_reading S start f = record { There = IsPlace S start f; clauses = [] }
 abbrev pub tagged_place_reading : List ℕ → ℕ → ℕ → ℕ → Reading TaggedPlace
 tagged_place_reading S start tag f = record { There = IsTaggedPlace S start tag f; clauses = [] }
 
--- Reading goes on from the place at the position k of B: the place is in the piece of B from its start on, and the reference there
--- leads to k.
+-- Reading goes on from the place at the position k of B: the place is in the piece of B from its
+-- start on, and the reference there leads to k.
 pub record LeadsOn (B : List ℕ) (k : ℕ) (place : Place) : Type 0 where
   pub piece : place_bytes place ≡ drop (place_start place) B
   pub leads : Leads B (place_start place + place_offset place) k

@@ -1,10 +1,15 @@
--- What stands for a reader at a field of some bytes, and the clauses that a reader tests there in order. S is the bytes, f the field's
--- offset in them. A value side is said by `Num` and `Stands` over all of S; the clauses are sums and limits.
-use Rattle.std.specs.Prelude.{◌≡◌, ℕ, ◌+◌, ◌*◌, ◌%◌, ◌<◌, ◌≤◌, ◌≤ℤ◌, ◌-ℤ◌, ℤ, pos, unsigned_abs, List, [], ◌∷◌, length, take, drop, slice_index, Some, Bool, not, ◌==◌}
+-- What stands for a reader at a field of some bytes, and the clauses that a reader tests there in
+-- order. S is the bytes, f the field's offset in them. A value side is said by `Num` and `Stands`
+-- over all of S; the clauses are sums and limits.
+use Rattle.std.specs.Prelude.{◌≡◌, ℕ, ◌+◌, ◌*◌, ◌%◌, ◌<◌, ◌≤◌, ◌≤ℤ◌, ◌-ℤ◌, ℤ, pos, unsigned_abs}
+use Rattle.std.specs.Prelude.{List, [], ◌∷◌, length, take, drop, slice_index, Some, Bool, not, ◌==◌}
 use Rattle.std.specs.Option.{option_map}
 use Rattle.std.specs.Str.{IsUtf8}
 use Rattle.std.specs.Int.{Width, w8, w16, w32, byte_len, from_le_bytes, cast_signed}
-use Rattle.planus_read.specs.declared.errors.ErrorKind.TheVariants.{InvalidOffset, InvalidLength, UnionVectorLengthsMismatched, InvalidVtableLength, MissingNullTerminator}
+use Rattle.planus_read.specs.declared.errors.ErrorKind.TheVariants.{InvalidOffset, InvalidLength}
+use Rattle.planus_read.specs.declared.errors.ErrorKind.TheVariants.{UnionVectorLengthsMismatched}
+use Rattle.planus_read.specs.declared.errors.ErrorKind.TheVariants.{InvalidVtableLength}
+use Rattle.planus_read.specs.declared.errors.ErrorKind.TheVariants.{MissingNullTerminator}
 use Rattle.planus_read.specs.Bytes.{Num, Int}
 use Rattle.planus_read.specs.Values.{text, byte_list}
 use Rattle.planus_read.specs.Stands.{Stands, at}
@@ -24,7 +29,8 @@ abbrev pub number_clauses : List ℕ → ℕ → Width → List Clause
 number_clauses S f width = number_clause S f width ∷ []
 
 -- The reference at f leads to the position.
--- The format: a reference is an unsigned number of 4 bytes, which leads forward from where it stands.
+-- The format: a reference is an unsigned number of 4 bytes, which leads forward from where it
+-- stands.
 abbrev pub Leads : List ℕ → ℕ → ℕ → Type 0
 Leads S f position = (n : ℕ) × (Num S f w32 ≡ Some n) × (position ≡ f + n)
 
@@ -32,10 +38,12 @@ Leads S f position = (n : ℕ) × (Num S f w32 ≡ Some n) × (position ≡ f + 
 abbrev pub target : List ℕ → ℕ → ℕ
 target S f = f + number S f w32
 
--- the clauses of a reference to a count: the reference lies in S, what it leads to, and the count there
+-- the clauses of a reference to a count: the reference lies in S, what it leads to, and the count
+-- there
 abbrev pub head_clauses : List ℕ → ℕ → List Clause → List Clause
 head_clauses S f rest =
-    number_clause S f w32 ∷ clause (target S f ≤ length S) InvalidOffset ∷ number_clause S (target S f) w32 ∷ rest
+    number_clause S f w32 ∷ clause (target S f ≤ length S) InvalidOffset
+    ∷ number_clause S (target S f) w32 ∷ rest
 
 -- the count to which the reference at f leads
 abbrev pub count_at : List ℕ → ℕ → ℕ
@@ -60,11 +68,15 @@ pub record Items : Type 0 where
 -- the reading of a head
 abbrev pub head_reading : List ℕ → ℕ → Reading Items
 head_reading S f =
-    record { There = λ items. HeadThere S f items.position items.count; clauses = head_clauses S f [] }
+    record {
+      There = λ items. HeadThere S f items.position items.count;
+      clauses = head_clauses S f [];
+    }
 
 -- a text, whose bytes are UTF-8
 abbrev pub TextThere : List ℕ → ℕ → List ℕ → Type 0
-TextThere S f content = (position : ℕ) × Leads S f position × Stands S (at position) (text content) × IsUtf8 content
+TextThere S f content =
+    (position : ℕ) × Leads S f position × Stands S (at position) (text content) × IsUtf8 content
 
 -- the byte at the count behind the items exists and is 0
 abbrev pub ZeroByte : List ℕ → ℕ → ℕ → Type 0
@@ -82,11 +94,13 @@ text_reading S f = record { There = TextThere S f; clauses = text_clauses S f }
 
 -- a byte list
 abbrev pub ByteListThere : List ℕ → ℕ → List ℕ → Type 0
-ByteListThere S f content = (position : ℕ) × Leads S f position × Stands S (at position) (byte_list content)
+ByteListThere S f content =
+    (position : ℕ) × Leads S f position × Stands S (at position) (byte_list content)
 
 -- the clauses of a byte list: those of its head, and that its bytes lie in S
 abbrev pub byte_list_clauses : List ℕ → ℕ → List Clause
-byte_list_clauses S f = head_clauses S f (clause (items_at S f + count_at S f ≤ length S) InvalidLength ∷ [])
+byte_list_clauses S f =
+    head_clauses S f (clause (items_at S f + count_at S f ≤ length S) InvalidLength ∷ [])
 
 -- the reading of a byte list
 abbrev pub byte_list_reading : List ℕ → ℕ → Reading (List ℕ)
@@ -99,24 +113,32 @@ pub record VectorThere (S : List ℕ) (f stride position count : ℕ) : Type 0 w
 
 -- the clauses of a vector: those of its head, and that its items lie in S
 abbrev pub vector_clauses : List ℕ → ℕ → ℕ → List Clause
-vector_clauses S f stride = head_clauses S f (clause (items_at S f + count_at S f * stride ≤ length S) InvalidLength ∷ [])
+vector_clauses S f stride =
+    head_clauses S f (clause (items_at S f + count_at S f * stride ≤ length S) InvalidLength ∷ [])
 
 -- the reading of a vector
 abbrev pub vector_reading : List ℕ → ℕ → ℕ → Reading Items
 vector_reading S f stride =
-    record { There = λ items. VectorThere S f stride items.position items.count; clauses = vector_clauses S f stride }
+    record {
+      There = λ items. VectorThere S f stride items.position items.count;
+      clauses = vector_clauses S f stride;
+    }
 
 -- a vector of unions: a vector of tags at f and one of references at g, of equal count
 pub record UnionVectorThere (S : List ℕ) (f g tags references count : ℕ) : Type 0 where
   pub tags_there : VectorThere S f 1 tags count
   pub references_there : VectorThere S g 4 references count
 
--- the clauses of a vector of unions: both heads, that the tags and the references lie in S, and equal counts
+-- the clauses of a vector of unions: both heads, that the tags and the references lie in S, and
+-- equal counts
 abbrev pub union_vector_clauses : List ℕ → ℕ → ℕ → List Clause
 union_vector_clauses S f g =
-    head_clauses S f (head_clauses S g (clause (items_at S f + count_at S f ≤ length S) InvalidLength
+    head_clauses S f (head_clauses S g
+    (clause (items_at S f + count_at S f ≤ length S) InvalidLength
     ∷ clause (items_at S g + count_at S g * 4 ≤ length S) InvalidLength
-    ∷ clause (count_at S f ≡ count_at S g) (UnionVectorLengthsMismatched (count_at S f) (count_at S g)) ∷ []))
+    ∷ clause (count_at S f ≡ count_at S g)
+    (UnionVectorLengthsMismatched (count_at S f) (count_at S g))
+    ∷ []))
 
 -- where tags and references begin, and how many of each there are
 pub record UnionItems : Type 0 where
@@ -132,9 +154,10 @@ union_vector_reading S f g =
       clauses = union_vector_clauses S f g;
     }
 
--- A table: the object begins at one position, its vtable, of this size in bytes, at the other. The vtable may lie anywhere in S.
--- The format: a table begins with a signed number of 4 bytes, its own position less that of its vtable. A vtable is its own size in
--- bytes, the object's size, and the slots, of two bytes each.
+-- A table: the object begins at one position, its vtable, of this size in bytes, at the other. The
+-- vtable may lie anywhere in S.
+-- The format: a table begins with a signed number of 4 bytes, its own position less that of its
+-- vtable. A vtable is its own size in bytes, the object's size, and the slots, of two bytes each.
 pub record TableThere (S : List ℕ) (f object vtable size : ℕ) : Type 0 where
   pub reference : Leads S f object
   pub word : Int S object ≡ Some (pos object -ℤ pos vtable)
@@ -161,31 +184,37 @@ slots_of S object = drop 4 (take (vtable_size_at S object) (drop (vtable_at S ob
 
 -- the clauses of the first word of the object at a position
 abbrev pub word_clauses : List ℕ → ℕ → List Clause → List Clause
-word_clauses S object rest = number_clause S object w32 ∷ clause (signed_number S object ≤ℤ pos object) InvalidOffset ∷ rest
+word_clauses S object rest =
+    number_clause S object w32 ∷ clause (signed_number S object ≤ℤ pos object) InvalidOffset ∷ rest
 
 -- the clauses of the object at a position
 abbrev pub object_clauses : List ℕ → ℕ → List Clause
 object_clauses S object =
     word_clauses S object (number_clause S (vtable_at S object) w16
-    ∷ clause ((4 ≤ vtable_size_at S object) × (vtable_size_at S object % 2 ≡ 0)) (InvalidVtableLength (vtable_size_at S object))
+    ∷ clause ((4 ≤ vtable_size_at S object) × (vtable_size_at S object % 2 ≡ 0))
+    (InvalidVtableLength (vtable_size_at S object))
     ∷ clause (vtable_at S object + vtable_size_at S object ≤ length S) InvalidLength
     ∷ [])
 
 -- the clauses of a table: the reference and what it leads to, then those of the object
 abbrev pub table_clauses : List ℕ → ℕ → List Clause
 table_clauses S f =
-    number_clause S f w32 ∷ clause (target S f ≤ length S) InvalidOffset ∷ object_clauses S (target S f)
+    number_clause S f w32 ∷ clause (target S f ≤ length S) InvalidOffset
+    ∷ object_clauses S (target S f)
 
 -- where an object and its vtable begin, and the vtable's size
-pub record TablePlace : Type 0 where
+pub record TableLayout : Type 0 where
   pub object : ℕ
   pub vtable : ℕ
   pub size : ℕ
 
 -- the reading of a table
-abbrev pub table_reading : List ℕ → ℕ → Reading TablePlace
+abbrev pub table_reading : List ℕ → ℕ → Reading TableLayout
 table_reading S f =
-    record { There = λ place. TableThere S f place.object place.vtable place.size; clauses = table_clauses S f }
+    record {
+      There = λ layout. TableThere S f layout.object layout.vtable layout.size;
+      clauses = table_clauses S f;
+    }
 
 -- The reading of a scalar of this width, where There says which one stands.
 abbrev pub scalar_reading : {A : Type 0} → Width → (List ℕ → ℕ → A → Type 0) → List ℕ → ℕ → Reading A
@@ -197,7 +226,8 @@ NumberThere S f width x = Num S f width ≡ Some x
 
 -- the reading of a number
 abbrev pub number_reading : List ℕ → ℕ → Width → Reading ℕ
-number_reading S f width = record { There = NumberThere S f width; clauses = number_clauses S f width }
+number_reading S f width =
+    record { There = NumberThere S f width; clauses = number_clauses S f width }
 
 -- a signed number of this width at f
 -- The format: signed numbers are two's complement.
@@ -206,7 +236,8 @@ SignedThere S f width x = option_map (cast_signed width) (Num S f width) ≡ Som
 
 -- the reading of a signed number
 abbrev pub signed_reading : List ℕ → ℕ → Width → Reading ℤ
-signed_reading S f width = record { There = SignedThere S f width; clauses = number_clauses S f width }
+signed_reading S f width =
+    record { There = SignedThere S f width; clauses = number_clauses S f width }
 
 -- a truth value at f
 -- The format: a truth value is one byte, true where it isn't 0.

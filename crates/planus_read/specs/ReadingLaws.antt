@@ -13,7 +13,8 @@ IsOne {A} reading = (x y : A) → reading.There x → reading.There y → x ≡ 
 
 -- Where an error is answered, no value stands.
 abbrev pub ErrorsMeanNothing : {A : Type 0} → Reading A → Type 0
-ErrorsMeanNothing {A} reading = (e : ErrorKind) → FirstBroken reading.clauses e → (x : A) → reading.There x → ⊥
+ErrorsMeanNothing {A} reading =
+    (e : ErrorKind) → FirstBroken reading.clauses e → (x : A) → reading.There x → ⊥
 
 -- The value stands, alone, and is the only answer.
 pub record IsAnswered {A : Type 0} (reading : Reading A) (x : A) : Type 0 where
@@ -21,8 +22,9 @@ pub record IsAnswered {A : Type 0} (reading : Reading A) (x : A) : Type 0 where
   pub alone : (y : A) → reading.There y → y ≡ x
   pub only : (r : Result A ErrorKind) → Answer reading r → r ≡ Ok x
 
--- What holds of a reading of any kind: its clauses decide whether a value stands, which is the only one; an error means that none
--- does; where one stands, it is the only answer; and there is at most one answer.
+-- What holds of a reading of any kind: its clauses decide whether a value stands, which is the only
+-- one; an error means that none does; where one stands, it is the only answer; and there is at most
+-- one answer.
 pub record IsLawful {A : Type 0} (reading : Reading A) : Type 0 where
   pub decides : Decides reading
   pub one : IsOne reading
@@ -33,4 +35,5 @@ pub record IsLawful {A : Type 0} (reading : Reading A) : Type 0 where
 -- Where a value stands, what shows it is answered.
 abbrev pub IsShown : {A B : Type 0} → Reading A → (A → B → Type 0) → Type 0
 IsShown {A} {B} reading Shows =
-    (x : A) → reading.There x → (r : Result B ErrorKind) → Answer (shown Shows reading) r → IsOkAnd r (Shows x)
+    (x : A) → reading.There x → (r : Result B ErrorKind) → Answer (shown Shows reading) r
+    → IsOkAnd r (Shows x)

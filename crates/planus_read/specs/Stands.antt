@@ -1,14 +1,16 @@
 -- Where a value stands in a list of bytes, by the rules of the format.
-use Rattle.std.specs.Prelude.{◌≡◌, ℕ, ◌+◌, ◌*◌, ◌≤◌, ◌<◌, List, [], ◌∷◌, ◌++◌, length, map, Option}
-use Rattle.std.specs.Prelude.{Some, None, ⊤, pos, ◌-ℤ◌}
+use Rattle.std.specs.Prelude.{◌≡◌, ℕ, ◌+◌, ◌*◌, ◌≤◌, ◌<◌, List, [], ◌∷◌, ◌++◌, length, map}
+use Rattle.std.specs.Prelude.{Option, Some, None, ⊤, pos, ◌-ℤ◌}
 use Rattle.std.specs.Int.{w16, w32}
 use Rattle.planus_read.specs.Bytes.{Num, Int, BytesStand}
 use Rattle.planus_read.specs.Values.{Value, text, byte_list, plain_list, reference_list, union_list}
-use Rattle.planus_read.specs.Values.{table, Field, plain, reference, tags, values, field_at}
-use Rattle.planus_read.specs.Values.{vtable_size}
+use Rattle.planus_read.specs.Values.{table, Field, plain, reference, tags, values}
+use Rattle.planus_read.specs.Values.{field_at, vtable_size}
 
--- A reference at f leads to the distance: f plus its number is the position at that distance from the end.
--- The format: a reference is an unsigned number of 4 bytes, which leads forward from where it stands.
+-- A reference at f leads to the distance: f plus its number is the position at that distance from
+-- the end.
+-- The format: a reference is an unsigned number of 4 bytes, which leads forward from where it
+-- stands.
 abbrev pub ReferenceStands : List ℕ → ℕ → ℕ → Type 0
 ReferenceStands B f distance = (n : ℕ) × (Num B f w32 ≡ Some n) × (f + n + distance ≡ length B)
 
@@ -39,14 +41,15 @@ FieldStands B f (reference distance) = ReferenceStands B f distance
 FieldStands B f (tags distance) = ReferenceStands B f distance
 FieldStands B f (values distance) = ReferenceStands B f distance
 
--- What the two bytes of a slot at s say of the table at k: 0 of an absent field, else the field's distance from k.
+-- What the two bytes of a slot at s say of the table at k: 0 of an absent field, else the field's
+-- distance from k.
 abbrev pub SlotStands : List ℕ → ℕ → ℕ → Option Field → Type 0
 SlotStands B k s None = Num B s w16 ≡ Some 0
 SlotStands B k s (Some field) =
     (q : ℕ) × (Num B s w16 ≡ Some q) × (4 ≤ q) × FieldStands B (k + q) field
 
--- The format: a table begins with a signed number of 4 bytes, its own position less that of its vtable. A vtable is its own size in
--- bytes, the object's size, and the slots.
+-- The format: a table begins with a signed number of 4 bytes, its own position less that of its
+-- vtable. A vtable is its own size in bytes, the object's size, and the slots.
 pub record TableStands (B : List ℕ) (k : ℕ) (entries : List (ℕ × Field)) : Type 0 where
   pub vtable : ℕ
   pub behind : k < vtable
@@ -62,10 +65,10 @@ pub data Position : Type 0 where
   at : ℕ → Position
   at_both : ℕ → ℕ → Position
 
--- The value stands there. Each item of a plain list has the list's size. That the bytes of a text are UTF-8 is not asked here; the
--- readers ask it.
--- The format: a text is a vector of UTF-8 bytes with a zero byte behind it that the count leaves out; a byte list has no such byte;
--- a union vector is two vectors, of tags and of references.
+-- The value stands there. Each item of a plain list has the list's size. That the bytes of a text
+-- are UTF-8 is not asked here; the readers ask it.
+-- The format: a text is a vector of UTF-8 bytes with a zero byte behind it that the count leaves
+-- out; a byte list has no such byte; a union vector is two vectors, of tags and of references.
 abbrev pub Stands : List ℕ → Position → Value → Type 0
 Stands B (at k) (text bytes) =
     (Num B k w32 ≡ Some (length bytes)) × BytesStand B (k + 4) (bytes ++ 0 ∷ [])

@@ -1,9 +1,10 @@
--- What a writer writes and a reader reads: the values of the format, one at a time. A reference in a value is the distance of an
--- earlier value from the end of the bytes.
-use Rattle.std.specs.Prelude.{ℕ, ◌+◌, ◌*◌, ◌==◌, max, List, [], ◌∷◌, Option, Some, None}
-use Rattle.std.specs.Prelude.{if◌then◌else◌}
+-- What a writer writes and a reader reads: the values of the format, one at a time. A reference in
+-- a value is the distance of an earlier value from the end of the bytes.
+use Rattle.std.specs.Prelude.{ℕ, ◌+◌, ◌*◌, ◌==◌, max, List, [], ◌∷◌}
+use Rattle.std.specs.Prelude.{Option, Some, None, if◌then◌else◌}
 
--- A plain item: the bytes of a number or a truth value, and the alignment of its type. A number of n bytes has alignment n.
+-- A plain item: the bytes of a number or a truth value, and the alignment of its type. A number of
+-- n bytes has alignment n.
 pub record Plain : Type 0 where
   pub bytes : List ℕ
   pub alignment : ℕ
@@ -39,6 +40,7 @@ abbrev pub slot_count : List (ℕ × Field) → ℕ
 slot_count [] = 0
 slot_count (entry ∷ entries) = max (entry.0 + 1) (slot_count entries)
 
--- The format: a vtable has its own size and the object's, two bytes each, and then two bytes a slot.
+-- The format: a vtable has its own size and the object's, two bytes each, and then two bytes a
+-- slot.
 abbrev pub vtable_size : List (ℕ × Field) → ℕ
 vtable_size entries = 4 + 2 * slot_count entries

@@ -1,38 +1,45 @@
-//! Laws over where values stand and what readers answer. Each function is a theorem; its body is empty.
+//! Laws over where values stand and what readers answer. Each function is a theorem; its body is
+//! empty.
 
 ghost use Rattle.std.specs.Int.{Width};
 ghost use Rattle.std.specs.Prelude.{ℕ, List};
-ghost use Rattle.planus_read.specs.ListItems.{PlainItemsStand, ReferenceItemsStand, UnionItemsStand};
-ghost use Rattle.planus_read.specs.Reading.{number_reading, signed_reading, truth_reading, head_reading};
-ghost use Rattle.planus_read.specs.Reading.{text_reading, byte_list_reading, vector_reading, union_vector_reading, table_reading};
+ghost use Rattle.planus_read.specs.ListItems.{PlainItemsStand, ReferenceItemsStand};
+ghost use Rattle.planus_read.specs.ListItems.{UnionItemsStand};
+ghost use Rattle.planus_read.specs.Reading.{number_reading, signed_reading, truth_reading};
+ghost use Rattle.planus_read.specs.Reading.{head_reading, text_reading, byte_list_reading};
+ghost use Rattle.planus_read.specs.Reading.{vector_reading, union_vector_reading, table_reading};
 ghost use Rattle.planus_read.specs.ReadingLaws.{IsLawful, IsShown};
 ghost use Rattle.planus_read.specs.Heads.{ShowsItems};
 ghost use Rattle.planus_read.specs.Pieces.{ShowsBytes};
 ghost use Rattle.planus_read.specs.SignedBytes.{ShowsSigned};
 ghost use Rattle.planus_read.specs.Tables.{ShowsTable};
-ghost use Rattle.planus_read.specs.PieceLaws.{ReferencesLead, LeadsInPieces, FieldsStandInPieces, StandsInPieces};
+ghost use Rattle.planus_read.specs.PieceLaws.{ReferencesLead, LeadsInPieces, FieldsStandInPieces};
+ghost use Rattle.planus_read.specs.PieceLaws.{StandsInPieces};
 ghost use Rattle.planus_read.specs.ReadsBack.{FieldsReadBack, WhatStandsReadsBack};
 ghost use Rattle.planus_read.specs.TableReading.{FieldsRead, UnionsRead, UnionVectorsRead};
 ghost use Rattle.planus_read.specs.Moves.{KeepsStanding, KeepsLeading, StandsAlone, LeadsAlone};
 
 use crate::traits::{TableRead, TableReadUnion, TableReadUnionVector};
 
-/// What stands in some bytes, of any kind, keeps standing behind whatever is put in front of them, at positions further on by the
-/// length of that, and so at the same distances from the end. A reference keeps leading to its distance.
+/// What stands in some bytes, of any kind, keeps standing behind whatever is put in front of them,
+/// at positions further on by the length of that, and so at the same distances from the end. A
+/// reference keeps leading to its distance.
 pub fn keeps_standing()
     ensures value { KeepsStanding }
     ensures reference { KeepsLeading }
 {}
 
-/// What stands in some bytes, of any kind, needs nothing in front of it: it stands as well where that is cut off, as in a piece that
-/// begins further on. A reference leads to its distance there too.
+/// What stands in some bytes, of any kind, needs nothing in front of it: it stands as well where
+/// that is cut off, as in a piece that begins further on. A reference leads to its distance there
+/// too.
 pub fn stands_alone()
     ensures value { StandsAlone }
     ensures reference { LeadsAlone }
 {}
 
-/// All clauses of a reading hold exactly where a value of its kind stands; at most one does; where the first clause that fails gives an
-/// error, none does; where one stands, it is the only answer; and there is at most one answer.
+/// All clauses of a reading hold exactly where a value of its kind stands; at most one does; where
+/// the first clause that fails gives an error, none does; where one stands, it is the only answer;
+/// and there is at most one answer.
 pub fn readings_are_lawful()
     ensures number { (S : List ℕ) (f : ℕ) (width : Width) → IsLawful (number_reading S f width) }
     ensures signed { (S : List ℕ) (f : ℕ) (width : Width) → IsLawful (signed_reading S f width) }
@@ -45,8 +52,8 @@ pub fn readings_are_lawful()
     ensures table { (S : List ℕ) (f : ℕ) → IsLawful (table_reading S f) }
 {}
 
-/// Where a value stands, its reader returns it: the text, the slice, the list of signed bytes, the items and their count, or the table
-/// that shows this value.
+/// Where a value stands, its reader returns what shows it: the text, the slice, the list of signed
+/// bytes, the piece of the items with their count, or the table.
 pub fn readers_show_values()
     ensures head { (S : List ℕ) (start f : ℕ) → IsShown (head_reading S f) (ShowsItems S start) }
     ensures text { (S : List ℕ) (f : ℕ) → IsShown (text_reading S f) ShowsBytes }
@@ -55,8 +62,9 @@ pub fn readers_show_values()
     ensures table { (S : List ℕ) (start f : ℕ) → IsShown (table_reading S f) (ShowsTable S start) }
 {}
 
-/// A reference that is encoded leads to the position of its distance. It leads there too in each piece of the bytes that begins no
-/// further on, and what stands in the bytes stands in that piece: fields and values of any kind.
+/// A reference that is encoded leads to the position of its distance. It leads there too in each
+/// piece of the bytes that begins no further on, and what stands in the bytes stands in that piece:
+/// fields and values of any kind.
 pub fn pieces_keep_what_stands()
     ensures reference { ReferencesLead }
     ensures leads { LeadsInPieces }
@@ -64,38 +72,45 @@ pub fn pieces_keep_what_stands()
     ensures value { StandsInPieces }
 {}
 
-/// Each item of a list that stands is encoded behind the count and the items before it: plain items, references, and the tags and
-/// references of unions.
+/// Each item of a list that stands is encoded behind the count and the items before it: plain
+/// items, references, and the tags and references of unions.
 pub fn items_stand()
     ensures plain { PlainItemsStand }
     ensures references { ReferenceItemsStand }
     ensures unions { UnionItemsStand }
 {}
 
-/// A field that is encoded is answered as its value, over each piece of the bytes that begins no further on: a plain item as the
-/// number, signed number or truth value of its bytes, a reference as the place from which reading goes on at its distance.
+/// A field that is encoded is read as its value, over each piece of the bytes that begins no
+/// further on: a plain item as the number, signed number or truth value of its bytes, a reference
+/// as the place from which reading goes on at its distance.
 pub fn fields_read_back()
     ensures { FieldsReadBack }
 {}
 
-/// What stands reads back, whatever it is, if its texts are UTF-8: by each reference that leads to it, over each piece of the bytes
-/// that begins no further on than the reference, it is the only answer.
+/// What stands reads back, whatever it is, if its texts are UTF-8: by each reference that leads to
+/// it, over each piece of the bytes that begins no further on than the reference, nothing but it is
+/// returned.
 pub fn what_stands_reads_back()
     ensures { WhatStandsReadsBack }
 {}
 
-/// The fields of a table that was written are answered, by `access` and `access_required`: of each slot, as what `T` answers where
-/// the field is encoded, and as absent where the table has none.
+/// `access` and `access_required` return the fields of a table that was written: of each slot what
+/// `T` returns where the field is encoded, and where the table has none, also past the vtable's end,
+/// `None` and `MissingRequired`.
 pub fn fields_are_answered<'buf, T: TableRead<'buf>>()
     ensures { FieldsRead T.reads }
 {}
 
-/// The unions of a table that was written are answered, by `access_union` and `access_union_required`.
+/// `access_union` and `access_union_required` return the unions of a table that was written: of two
+/// slots with a tag above 0 and a reference what `T` returns for that tag where the reference is
+/// encoded, and of two slots that aren't used `None` and `MissingRequired`.
 pub fn unions_are_answered<'buf, T: TableReadUnion<'buf>>()
     ensures { UnionsRead T.reads }
 {}
 
-/// The vectors of unions of a table that was written are answered, by `access_union_vector` and `access_union_vector_required`.
+/// `access_union_vector` and `access_union_vector_required` return the vectors of unions of a table
+/// that was written: of two slots with the tags and the values of union lists what `T` returns where
+/// both references are encoded, and of two slots that aren't used `None` and `MissingRequired`.
 pub fn union_vectors_are_answered<'buf, T: TableReadUnionVector<'buf>>()
     ensures { UnionVectorsRead T.reads }
 {}
