@@ -217,7 +217,8 @@ table_reading S f =
     }
 
 -- The reading of a scalar of this width, where There says which one stands.
-abbrev pub scalar_reading : {A : Type 0} → Width → (List ℕ → ℕ → A → Type 0) → List ℕ → ℕ → Reading A
+abbrev pub scalar_reading :
+    {A : Type 0} → Width → (List ℕ → ℕ → A → Type 0) → List ℕ → ℕ → Reading A
 scalar_reading width There S f = record { There = There S f; clauses = number_clauses S f width }
 
 -- a number of this width at f
