@@ -101,6 +101,7 @@ pub trait VectorRead<'buf>: Stride {
 
 /// The error of an item whose read may fail.
 pub trait ReadError {
+    /// What the read returns where it fails.
     type Error;
 }
 
