@@ -19,7 +19,7 @@ use Rattle.planus_demo.specs.Script.{Command, text, finish, clear}
 use Rattle.planus_demo.specs.Runs.{State, nothing_written, Advances, LeadsTo, cleared}
 use Rattle.planus_demo.specs.Replays.{is_clear, named_step}
 use Rattle.planus_demo.specs.Headline.{TextHolds, IsFewest, FinishHolds}
-use Rattle.planus_demo.proofs.ReadingBack.{reads_back}
+use Rattle.planus_read.proofs.ReadsBack.{what_stands_reads_back}
 use Rattle.planus_demo.proofs.Turns.{InTurn, turn_taken, fewest}
 use Rattle.planus_demo.proofs.Lists.{all_weaker, all_push, all_contain, get_last}
 use Rattle.planus_demo.proofs.Naming.{named_push, named_last}
@@ -163,7 +163,7 @@ value_holds all done written keep place v = record {
   inside = v.inside;
   stands = v.stands;
   aligned = (v.kept (length written.bytes) keep).aligns;
-  reads_back = reads_back written.bytes (position_of written.bytes place.1) v.content v.stands v.utf8;
+  reads_back = what_stands_reads_back written.bytes (at (position_of written.bytes place.1)) (value.text v.content) v.utf8 v.stands;
 }
 
 -- a finish that is placed holds

@@ -4,7 +4,6 @@ pub mod Words
 pub mod ReadOn
 pub mod Lists
 pub mod Naming
-pub mod ReadingBack
 pub mod Kept
 pub mod Turns
 pub mod Walking

@@ -1,5 +1,5 @@
 -- What is true of every finish of every run.
-use Rattle.std.specs.Prelude.{◌≡◌, ℕ, ◌+◌, ◌-◌, ◌≤◌, List, [], ◌∷◌, ◌++◌, length, take, drop, slice_get, Option, Some}
+use Rattle.std.specs.Prelude.{◌≡◌, ℕ, ◌+◌, ◌≤◌, List, [], ◌∷◌, ◌++◌, length, take, slice_get, Option, Some}
 use Rattle.std.specs.List.{AllByRecursion, Contains}
 use Rattle.planus_back.specs.Parts.{Part}
 use Rattle.planus_back.specs.Placings.{IsPlacing, NoneIsGreater}
@@ -7,15 +7,10 @@ use Rattle.planus_read.specs.Bytes.{position_of, BytesStand}
 use Rattle.planus_read.specs.Values as value
 use Rattle.planus_read.specs.Stands.{Stands, ReferenceStands, at}
 use Rattle.planus_read.specs.Aligned.{AlignedAt}
-use Rattle.planus_read.specs.Reading.{Leads, text_reading}
-use Rattle.planus_read.specs.ReadingLaws.{IsAnswered}
+use Rattle.planus_read.specs.ReadsBack.{ReadsBack}
 use Rattle.planus_write.specs.Parts.{identifier_bytes}
 use Rattle.planus_demo.specs.Script.{Command, text, finish}
 use Rattle.planus_demo.specs.Runs.{Finish, State, nothing_written, LeadsTo}
-
--- Whichever reference leads to k, over whichever slice of the bytes that holds it, the text is what a reader answers.
-abbrev pub ReadsBack : List ℕ → ℕ → List ℕ → Type 0
-ReadsBack B k content = (start f : ℕ) → start ≤ f → Leads B f k → IsAnswered (text_reading (drop start B) (f - start)) content
 
 -- The text of a step stands aligned at its distance in the bytes, and reads back.
 pub record TextHolds (steps : List Command) (bytes : List ℕ) (place : ℕ × ℕ) : Type 0 where
@@ -24,7 +19,7 @@ pub record TextHolds (steps : List Command) (bytes : List ℕ) (place : ℕ × �
   pub inside : place.1 ≤ length bytes
   pub stands : Stands bytes (at (position_of bytes place.1)) (value.text content)
   pub aligned : AlignedAt bytes (at (position_of bytes place.1)) (value.text content)
-  pub reads_back : ReadsBack bytes (position_of bytes place.1) content
+  pub reads_back : ReadsBack bytes (at (position_of bytes place.1)) (value.text content)
 
 -- The fewest bytes: among the placings of the parts since the last clear, none has a smaller place for any of them than this one, and
 -- the last one's place is the length of the bytes.
