@@ -1,6 +1,6 @@
 pub mod Moves
-pub mod Parts
-pub mod Readers
+pub mod Bytes
+pub mod Reading
 pub mod ReadingLaws
 pub mod TableReading
 pub mod ListItems

@@ -1,37 +1,48 @@
 -- A list that stands is read with its items.
-use Rattle.std.proofs.Common.{◌≡◌, ℕ, zero, suc, ◌+◌, ◌*◌, ◌≤◌, List, [], ◌∷◌, length, map, drop, take, refl, sym, ap, ◌∙◌, subst, arith, length-drop, Some, None, lit≤}
+use Rattle.std.proofs.Common.{◌≡◌, ℕ, zero, suc, ◌+◌, ◌*◌, ◌≤◌, List, [], ◌∷◌, length, map, drop}
+use Rattle.std.proofs.Common.{take, refl, sym, ap, ◌∙◌, subst, arith, length-drop, Some, None, lit≤}
 use Rattle.std.proofs.Math.Nat.{suc-mul}
 use Rattle.std.proofs.lemmas.List.{length-map}
 use Rattle.std.proofs.lemmas.Option.{slice_get-map}
 use Rattle.std.specs.Option.{option_map}
 use Rattle.std.specs.Prelude.{slice_get}
 use Rattle.std.specs.Int.{Width, w8, w16, w32, w64, w128, byte_len, from_le_bytes}
-use Rattle.planus_read.specs.Stands.{Stands, at, at_both, ReferenceStands, PlainStands, ItemsStand, ListStands}
+use Rattle.planus_read.specs.Stands.{Stands, at, at_both, ReferenceStands, PlainStands, ItemsStand}
+use Rattle.planus_read.specs.Stands.{ListStands}
 use Rattle.planus_read.specs.Values.{plain_list, reference_list, union_list}
 use Rattle.planus_read.specs.Bytes.{Num, BytesStand}
-use Rattle.planus_read.proofs.Parts.{parts_stand}
+use Rattle.planus_read.proofs.Bytes.{parts_stand}
 use Rattle.planus_read.specs.Reading.{Leads, VectorThere, UnionVectorThere}
 use Rattle.planus_read.specs.ListItems.{PlainItemsStand, ReferenceItemsStand, UnionItemsStand}
-use Rattle.planus_read.proofs.Readers.{num_inside, num_there, stood_inside}
+use Rattle.planus_read.proofs.Reading.{num_inside, num_there, stood_inside}
 
 -- items that stand one behind the other, each within the first n bytes, end within them
-items_inside : {X : Type 0} (A : ℕ → X → Type 0) (n size : ℕ) → ((p : ℕ) (x : X) → p ≤ n → A p x → p + size ≤ n) → (p : ℕ) (items : List X) → p ≤ n → ItemsStand A p size items → p + length items * size ≤ n
+items_inside :
+    {X : Type 0} (A : ℕ → X → Type 0) (n size : ℕ)
+    → ((p : ℕ) (x : X) → p ≤ n → A p x → p + size ≤ n) → (p : ℕ) (items : List X) → p ≤ n
+    → ItemsStand A p size items → p + length items * size ≤ n
 items_inside A n size step p [] here h = omega arith
 items_inside A n size step p (x ∷ xs) here h =
     let rest : p + size + length xs * size ≤ n = items_inside A n size step (p + size) xs (step p x here h.0) h.1 in
     omega (arith, suc-mul (length xs) size)
 
-plain_inside : (S : List ℕ) (size p : ℕ) (item : List ℕ) → p ≤ length S → PlainStands size S p item → p + size ≤ length S
+plain_inside :
+    (S : List ℕ) (size p : ℕ) (item : List ℕ) → p ≤ length S → PlainStands size S p item
+    → p + size ≤ length S
 plain_inside S size p item here h =
     let within : length item ≤ length (drop p S) = stood_inside (drop p S) item h.1 in
     let long : length item ≡ size = h.0 in
     omega (arith, length-drop p S)
 
-reference_inside : (S : List ℕ) (p distance : ℕ) → p ≤ length S → ReferenceStands S p distance → p + 4 ≤ length S
+reference_inside :
+    (S : List ℕ) (p distance : ℕ) → p ≤ length S → ReferenceStands S p distance → p + 4 ≤ length S
 reference_inside S p distance here h = num_inside S p w32 h.0 h.1
 
 -- a list whose items each lie in S is there as a vector
-list_there : {X : Type 0} (A : List ℕ → ℕ → X → Type 0) (S : List ℕ) (size : ℕ) → ((p : ℕ) (x : X) → p ≤ length S → A S p x → p + size ≤ length S) → (f k : ℕ) (items : List X) → Leads S f k → ListStands A S k size items → VectorThere S f size (k + 4) (length items)
+list_there :
+    {X : Type 0} (A : List ℕ → ℕ → X → Type 0) (S : List ℕ) (size : ℕ)
+    → ((p : ℕ) (x : X) → p ≤ length S → A S p x → p + size ≤ length S) → (f k : ℕ) (items : List X)
+    → Leads S f k → ListStands A S k size items → VectorThere S f size (k + 4) (length items)
 list_there A S size step f k items to h =
     let word : k + byte_len w32 ≤ length S = num_inside S k w32 (length items) h.0 in
     record {
@@ -39,13 +50,21 @@ list_there A S size step f k items to h =
       inside = items_inside (A S) (length S) size step (k + 4) items word h.1;
     }
 
-pub plain_lists_read : (S : List ℕ) (f k size alignment : ℕ) (items : List (List ℕ)) → Leads S f k → Stands S (at k) (plain_list size alignment items) → VectorThere S f size (k + 4) (length items)
+pub plain_lists_read :
+    (S : List ℕ) (f k size alignment : ℕ) (items : List (List ℕ)) → Leads S f k
+    → Stands S (at k) (plain_list size alignment items)
+    → VectorThere S f size (k + 4) (length items)
 plain_lists_read S f k size alignment items to h = list_there (PlainStands size) S size (plain_inside S size) f k items to h
 
-pub reference_lists_read : (S : List ℕ) (f k : ℕ) (distances : List ℕ) → Leads S f k → Stands S (at k) (reference_list distances) → VectorThere S f 4 (k + 4) (length distances)
+pub reference_lists_read :
+    (S : List ℕ) (f k : ℕ) (distances : List ℕ) → Leads S f k
+    → Stands S (at k) (reference_list distances) → VectorThere S f 4 (k + 4) (length distances)
 reference_lists_read S f k distances to h = list_there ReferenceStands S 4 (reference_inside S) f k distances to h
 
-pub union_lists_read : (S : List ℕ) (f g kt kv : ℕ) (items : List (ℕ × ℕ)) → Leads S f kt → Leads S g kv → Stands S (at_both kt kv) (union_list items) → UnionVectorThere S f g (kt + 4) (kv + 4) (length items)
+pub union_lists_read :
+    (S : List ℕ) (f g kt kv : ℕ) (items : List (ℕ × ℕ)) → Leads S f kt → Leads S g kv
+    → Stands S (at_both kt kv) (union_list items)
+    → UnionVectorThere S f g (kt + 4) (kv + 4) (length items)
 union_lists_read S f g kt kv items to_tags to_references h =
     let tags : List ℕ = map (λ item. item.0) items in
     let count : length tags ≡ length items = length-map items (λ item. item.0) in
@@ -61,7 +80,9 @@ union_lists_read S f g kt kv items to_tags to_references h =
     }
 
 -- the item at an index
-item_at : {X : Type 0} (A : ℕ → X → Type 0) (p size : ℕ) (items : List X) → ItemsStand A p size items → (i : ℕ) (item : X) → slice_get items i ≡ Some item → A (p + i * size) item
+item_at :
+    {X : Type 0} (A : ℕ → X → Type 0) (p size : ℕ) (items : List X) → ItemsStand A p size items
+    → (i : ℕ) (item : X) → slice_get items i ≡ Some item → A (p + i * size) item
 item_at A p size [] h i item e = absurd (let f : None ≡ Some item = e in cc)
 item_at A p size (x ∷ xs) h zero item e =
     let same : x ≡ item = let f : Some x ≡ Some item = e in cc in
@@ -78,7 +99,9 @@ some_bytes w64 = lit≤ tt
 some_bytes w128 = lit≤ tt
 
 -- the number of bytes that stand
-pub num_of_bytes : (S : List ℕ) (f : ℕ) (w : Width) (bytes : List ℕ) → length bytes ≡ byte_len w → BytesStand S f bytes → Num S f w ≡ Some (from_le_bytes w bytes)
+pub num_of_bytes :
+    (S : List ℕ) (f : ℕ) (w : Width) (bytes : List ℕ) → length bytes ≡ byte_len w
+    → BytesStand S f bytes → Num S f w ≡ Some (from_le_bytes w bytes)
 num_of_bytes S f w bytes long h =
     let within : length bytes ≤ length (drop f S) = stood_inside (drop f S) bytes h in
     let some : 1 ≤ byte_len w = some_bytes w in
@@ -86,7 +109,9 @@ num_of_bytes S f w bytes long h =
     ∙ ap (λ l. Some (from_le_bytes w l)) (ap (λ n. take n (drop f S)) (sym long) ∙ h)
 
 -- one byte of those that stand
-byte_stands : (B : List ℕ) (p : ℕ) (bytes : List ℕ) → BytesStand B p bytes → (i byte : ℕ) → slice_get bytes i ≡ Some byte → Num B (p + i) w8 ≡ Some byte
+byte_stands :
+    (B : List ℕ) (p : ℕ) (bytes : List ℕ) → BytesStand B p bytes → (i byte : ℕ)
+    → slice_get bytes i ≡ Some byte → Num B (p + i) w8 ≡ Some byte
 byte_stands B p [] h i byte e = absurd (let f : None ≡ Some byte = e in cc)
 byte_stands B p (x ∷ xs) h zero byte e =
     let here : Num B p w8 ≡ Some x = num_of_bytes B p w8 (x ∷ []) refl (parts_stand B (x ∷ []) xs p h).0 in

@@ -1,18 +1,22 @@
 -- The laws of `PieceLaws`: what stands in some bytes stands in their pieces.
-use Rattle.std.proofs.Common.{◌≡◌, ℕ, ◌+◌, ◌≤◌, List, ◌++◌, length, take, drop, sym, ap, ◌∙◌, subst, arith}
+use Rattle.std.proofs.Common.{◌≡◌, ℕ, ◌+◌, ◌≤◌, List, ◌++◌, length, take, drop, sym, ap, ◌∙◌, subst}
+use Rattle.std.proofs.Common.{arith}
 use Rattle.std.proofs.lemmas.List.{drop-drop, take-append-drop, length-take-le}
 use Rattle.std.specs.Int.{Width, w32, byte_len}
 use Rattle.planus_read.specs.Bytes.{Num, BytesStand}
 use Rattle.planus_read.specs.Stands.{Stands, FieldStands}
 use Rattle.planus_read.specs.Moves.{moved}
-use Rattle.planus_read.specs.PieceLaws.{ReferencesLead, LeadsInPieces, FieldsStandInPieces, StandsInPieces}
+use Rattle.planus_read.specs.PieceLaws.{ReferencesLead, LeadsInPieces, FieldsStandInPieces}
+use Rattle.planus_read.specs.PieceLaws.{StandsInPieces}
 use Rattle.planus_read.proofs.Moves.{num_moves, field_back, stands_alone}
-use Rattle.planus_read.proofs.Readers.{num_inside}
+use Rattle.planus_read.proofs.Reading.{num_inside}
 
 pub references_lead : ReferencesLead
 references_lead B f distance h = let whole : f + h.0 + distance ≡ length B = h.2 in (h.0, h.1, omega arith)
 
-pub num_in_piece : (B : List ℕ) (start f : ℕ) (w : Width) → start ≤ length B → Num B (start + f) w ≡ Num (drop start B) f w
+pub num_in_piece :
+    (B : List ℕ) (start f : ℕ) (w : Width) → start ≤ length B
+    → Num B (start + f) w ≡ Num (drop start B) f w
 num_in_piece B start f w inside =
     ap (λ l. Num l (start + f) w) (sym (take-append-drop start B))
     ∙ num_moves (take start B) (drop start B) f (start + f) w (ap (λ n. n + f) (sym (length-take-le start B inside)))
@@ -23,7 +27,9 @@ leads_in_pieces B start f k h =
     let to : start + k ≡ start + f + h.0 = h.2 in
     (h.0, sym (num_in_piece B start f w32 (omega arith)) ∙ h.1, omega arith)
 
-pub bytes_in_piece : (B : List ℕ) (start f : ℕ) (bytes : List ℕ) → BytesStand B (start + f) bytes → BytesStand (drop start B) f bytes
+pub bytes_in_piece :
+    (B : List ℕ) (start f : ℕ) (bytes : List ℕ) → BytesStand B (start + f) bytes
+    → BytesStand (drop start B) f bytes
 bytes_in_piece B start f bytes h = ap (take (length bytes)) (drop-drop f start B) ∙ h
 
 pub fields_stand_in_pieces : FieldsStandInPieces

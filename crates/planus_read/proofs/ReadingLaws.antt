@@ -1,18 +1,31 @@
 -- The laws of `ReadingLaws`: once over any reading, and then of each kind.
-use Rattle.std.proofs.Common.{subst, ◌≡◌, ℕ, ◌==◌, not, List, [], ◌∷◌, take, drop, refl, sym, ap, ◌∙◌, Option, Some, None, Result, Ok, Err, inl, inr}
+use Rattle.std.proofs.Common.{subst, ◌≡◌, ℕ, ◌==◌, not, List, [], ◌∷◌, take, drop, refl, sym, ap}
+use Rattle.std.proofs.Common.{◌∙◌, Option, Some, None, Result, Ok, Err, inl, inr}
 use Rattle.std.specs.Int.{Width, w8, cast_signed}
 use Rattle.std.specs.Option.{option_map}
 use Rattle.std.specs.Prelude.{⊤}
 use Rattle.std.specs.Str.{valid_up_to, error_len}
 use Rattle.std.specs.declared.str.Utf8Error.{Utf8Error}
 use Rattle.planus_read.specs.declared.errors.ErrorKind.{ErrorKind}
-use Rattle.planus_read.specs.declared.errors.ErrorKind.TheVariants.{InvalidOffset, InvalidLength, UnionVectorLengthsMismatched, InvalidVtableLength, InvalidUtf8, MissingNullTerminator}
+use Rattle.planus_read.specs.declared.errors.ErrorKind.TheVariants.{InvalidOffset, InvalidLength}
+use Rattle.planus_read.specs.declared.errors.ErrorKind.TheVariants.{UnionVectorLengthsMismatched}
+use Rattle.planus_read.specs.declared.errors.ErrorKind.TheVariants.{InvalidVtableLength}
+use Rattle.planus_read.specs.declared.errors.ErrorKind.TheVariants.{InvalidUtf8}
+use Rattle.planus_read.specs.declared.errors.ErrorKind.TheVariants.{MissingNullTerminator}
 use Rattle.planus_read.specs.Utf8.{IsUtf8Error}
 use Rattle.planus_read.specs.Bytes.{Num}
 use Rattle.planus_read.specs.Clauses.{Clause, AllHold, FirstBroken, Reading, Answer}
-use Rattle.planus_read.specs.Reading.{number, number_clauses, target, count_at, items_at, vtable_at, vtable_size_at, VectorThere, Items, UnionItems, TableLayout, number_reading, signed_reading, truth_reading, head_reading, text_reading, byte_list_reading, vector_reading, union_vector_reading, table_reading, vector_clauses, table_clauses}
+use Rattle.planus_read.specs.Reading.{number, number_clauses, target, count_at, items_at, vtable_at}
+use Rattle.planus_read.specs.Reading.{vtable_size_at, VectorThere, Items, UnionItems, TableLayout}
+use Rattle.planus_read.specs.Reading.{number_reading, signed_reading, truth_reading, head_reading}
+use Rattle.planus_read.specs.Reading.{text_reading, byte_list_reading, vector_reading}
+use Rattle.planus_read.specs.Reading.{union_vector_reading, table_reading, vector_clauses}
+use Rattle.planus_read.specs.Reading.{table_clauses}
 use Rattle.planus_read.specs.ReadingLaws.{Decides, IsOne, IsAnswered, IsLawful, IsShown}
-use Rattle.planus_read.proofs.Readers.{num_inside, num_there, HeadFacts, head_facts, head_there, text_there, text_holds, byte_list_there, byte_list_holds, vector_there, vector_holds, union_vector_there, union_vector_holds, table_there, table_holds}
+use Rattle.planus_read.proofs.Reading.{num_inside, num_there, HeadFacts, head_facts, head_there}
+use Rattle.planus_read.proofs.Reading.{text_there, text_holds, byte_list_there, byte_list_holds}
+use Rattle.planus_read.proofs.Reading.{vector_there, vector_holds, union_vector_there}
+use Rattle.planus_read.proofs.Reading.{union_vector_holds, table_there, table_holds}
 
 -- a clause is broken, so not all hold
 broken : (clauses : List Clause) (e : ErrorKind) → FirstBroken clauses e → AllHold clauses → ⊥
@@ -25,27 +38,35 @@ abbrev pub OneError : List Clause → Type 0
 OneError [] = ⊤
 OneError (first ∷ rest) = ((e other : ErrorKind) → first.errors e → first.errors other → e ≡ other) × OneError rest
 
-same_broken : (clauses : List Clause) → OneError clauses → (e other : ErrorKind) → FirstBroken clauses e → FirstBroken clauses other → e ≡ other
+same_broken :
+    (clauses : List Clause) → OneError clauses → (e other : ErrorKind) → FirstBroken clauses e
+    → FirstBroken clauses other → e ≡ other
 same_broken [] one e other h k = absurd h
 same_broken (first ∷ rest) one e other (inl h) (inl k) = one.0 e other h.1 k.1
 same_broken (first ∷ rest) one e other (inl h) (inr k) = absurd (h.0 k.0)
 same_broken (first ∷ rest) one e other (inr h) (inl k) = absurd (k.0 h.0)
 same_broken (first ∷ rest) one e other (inr h) (inr k) = same_broken rest one.1 e other h.1 k.1
 
-answered : {A : Type 0} (reading : Reading A) → Decides reading → IsOne reading → (x : A) → reading.There x → IsAnswered reading x
+answered :
+    {A : Type 0} (reading : Reading A) → Decides reading → IsOne reading → (x : A) → reading.There x
+    → IsAnswered reading x
 answered {A} reading decides one x there = record { there = there; alone = λ y h. one y x h there; only = by_answer }
   where
     by_answer : (r : Result A ErrorKind) → Answer reading r → r ≡ Ok x
     by_answer (Ok y) h = ap Ok (one y x h there)
     by_answer (Err e) h = absurd (broken reading.clauses e h (decides.1 (x, there)))
 
-same : {A : Type 0} (reading : Reading A) → Decides reading → IsOne reading → OneError reading.clauses → (r other : Result A ErrorKind) → Answer reading r → Answer reading other → r ≡ other
+same :
+    {A : Type 0} (reading : Reading A) → Decides reading → IsOne reading → OneError reading.clauses
+    → (r other : Result A ErrorKind) → Answer reading r → Answer reading other → r ≡ other
 same reading decides one errors (Ok x) (Ok y) h k = ap Ok (one x y h k)
 same reading decides one errors (Ok x) (Err e) h k = absurd (broken reading.clauses e k (decides.1 (x, h)))
 same reading decides one errors (Err e) (Ok x) h k = absurd (broken reading.clauses e h (decides.1 (x, k)))
 same reading decides one errors (Err e) (Err other) h k = ap Err (same_broken reading.clauses errors e other h k)
 
-pub lawful : {A : Type 0} (reading : Reading A) → OneError reading.clauses → Decides reading → IsOne reading → IsLawful reading
+pub lawful :
+    {A : Type 0} (reading : Reading A) → OneError reading.clauses → Decides reading → IsOne reading
+    → IsLawful reading
 lawful reading errors decides one =
     record {
       decides = decides;
@@ -55,7 +76,9 @@ lawful reading errors decides one =
       same = same reading decides one errors;
     }
 
-pub is_shown : {A B : Type 0} (reading : Reading A) (Shows : A → B → Type 0) → IsLawful reading → IsShown reading Shows
+pub is_shown :
+    {A B : Type 0} (reading : Reading A) (Shows : A → B → Type 0) → IsLawful reading
+    → IsShown reading Shows
 is_shown reading Shows law x there (Ok shows) h = subst (λ y. Shows y shows) (law.one h.0 x h.1 there) h.2
 is_shown reading Shows law x there (Err e) h = absurd (law.nothing e h x there)
 
@@ -68,7 +91,9 @@ same_fault a b v l =
     ap (λ n. let fault : Utf8Error = record { valid_up_to = n; error_len = error_len a } in fault) v
     ∙ ap (λ n. let fault : Utf8Error = record { valid_up_to = valid_up_to b; error_len = n } in fault) l
 
-utf8_error : (bytes : List ℕ) (e other : ErrorKind) → IsUtf8Error bytes e → IsUtf8Error bytes other → e ≡ other
+utf8_error :
+    (bytes : List ℕ) (e other : ErrorKind) → IsUtf8Error bytes e → IsUtf8Error bytes other
+    → e ≡ other
 utf8_error bytes (InvalidUtf8 a) (InvalidUtf8 b) h k =
     ap InvalidUtf8 (same_fault a b (h.valid_len ∙ sym k.valid_len) (h.fault_len ∙ sym k.fault_len))
 utf8_error bytes (InvalidUtf8 a) _ h k = absurd k
@@ -86,12 +111,16 @@ lawful_number S f width =
     lawful (number_reading S f width) (number_error S f width) ((λ h. (number S f width, num_there S f width h.0)), λ n. (num_inside S f width n.0 n.1, tt))
     (λ x y h k. same_some (Num S f width) x y h k)
 
-mapped_there : {A : Type 0} (g : ℕ → A) (m : Option ℕ) (x : A) → option_map g m ≡ Some x → (n : ℕ) × (m ≡ Some n)
+mapped_there :
+    {A : Type 0} (g : ℕ → A) (m : Option ℕ) (x : A) → option_map g m ≡ Some x
+    → (n : ℕ) × (m ≡ Some n)
 mapped_there g None x h = absurd (let f : None ≡ Some x = h in cc)
 mapped_there g (Some n) x h = (n, refl)
 
 -- a value that is computed of a number
-lawful_mapped : {A : Type 0} (g : ℕ → A) (S : List ℕ) (f : ℕ) (width : Width) → IsLawful (record { There = λ x. option_map g (Num S f width) ≡ Some x; clauses = number_clauses S f width })
+lawful_mapped :
+    {A : Type 0} (g : ℕ → A) (S : List ℕ) (f : ℕ) (width : Width)
+    → IsLawful (record { There = λ x. option_map g (Num S f width) ≡ Some x; clauses = number_clauses S f width })
 lawful_mapped {A} g S f width = lawful (record { There = λ x. option_map g (Num S f width) ≡ Some x; clauses = number_clauses S f width }) (number_error S f width) (
   (λ h. (g (number S f width), ap (option_map g) (num_there S f width h.0))),
   λ x. let n : (n : ℕ) × (Num S f width ≡ Some n) = mapped_there g (Num S f width) x.0 x.1 in (num_inside S f width n.0 n.1, tt),
@@ -132,7 +161,9 @@ lawful_byte_list S f =
     ((λ h. (take (count_at S f) (drop (items_at S f) S), byte_list_there S f h)), λ t. (byte_list_holds S f t.0 t.1).0)
     (λ x y h k. (byte_list_holds S f x h).1 ∙ sym (byte_list_holds S f y k).1)
 
-one_vector : (S : List ℕ) (f stride p c p' c' : ℕ) → VectorThere S f stride p c → VectorThere S f stride p' c' → (p ≡ p') × (c ≡ c')
+one_vector :
+    (S : List ℕ) (f stride p c p' c' : ℕ) → VectorThere S f stride p c
+    → VectorThere S f stride p' c' → (p ≡ p') × (c ≡ c')
 one_vector S f stride p c p' c' h k =
     let a : AllHold (vector_clauses S f stride) × (p ≡ items_at S f) × (c ≡ count_at S f) = vector_holds S f stride p c h in
     let b : AllHold (vector_clauses S f stride) × (p' ≡ items_at S f) × (c' ≡ count_at S f) = vector_holds S f stride p' c' k in
@@ -144,7 +175,8 @@ lawful_vector S f stride = lawful (vector_reading S f stride) (this_error Invali
   λ v. (vector_holds S f stride v.0.position v.0.count v.1).0,
 ) (λ x y h k. let e : (x.position ≡ y.position) × (x.count ≡ y.count) = one_vector S f stride x.position x.count y.position y.count h k in same_items x y e.0 e.1)
 
-same_union_items : (a b : UnionItems) → a.tags ≡ b.tags → a.references ≡ b.references → a.count ≡ b.count → a ≡ b
+same_union_items :
+    (a b : UnionItems) → a.tags ≡ b.tags → a.references ≡ b.references → a.count ≡ b.count → a ≡ b
 same_union_items a b t r c =
     ap (λ n. let items : UnionItems = record { tags = n; references = a.references; count = a.count } in items) t
     ∙ ap (λ n. let items : UnionItems = record { tags = b.tags; references = n; count = a.count } in items) r
@@ -163,7 +195,8 @@ lawful_union_vector S f g = lawful (union_vector_reading S f g) (this_error Inva
         same_union_items x y tags.0 references.0 tags.1
 
 -- tables
-same_place : (a b : TableLayout) → a.object ≡ b.object → a.vtable ≡ b.vtable → a.size ≡ b.size → a ≡ b
+same_place :
+    (a b : TableLayout) → a.object ≡ b.object → a.vtable ≡ b.vtable → a.size ≡ b.size → a ≡ b
 same_place a b o t z =
     ap (λ n. let place : TableLayout = record { object = n; vtable = a.vtable; size = a.size } in place) o
     ∙ ap (λ n. let place : TableLayout = record { object = b.object; vtable = n; size = a.size } in place) t

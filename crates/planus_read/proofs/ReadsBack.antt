@@ -1,5 +1,7 @@
 -- The laws of `ReadsBack`: what stands reads back.
-use Rattle.std.proofs.Common.{◌≡◌, ℕ, ◌+◌, ◌-◌, ◌*◌, ◌≤◌, ◌-ℤ◌, ◌==◌, not, pos, List, [], ◌∷◌, length, map, take, drop, refl, sym, ap, ◌∙◌, subst, arith, Some, Result, Ok, Err}
+use Rattle.std.proofs.Common.{◌≡◌, ℕ, ◌+◌, ◌-◌, ◌*◌, ◌≤◌, ◌-ℤ◌, ◌==◌, not, pos, List, [], ◌∷◌}
+use Rattle.std.proofs.Common.{length, map, take, drop, refl, sym, ap, ◌∙◌, subst, arith, Some}
+use Rattle.std.proofs.Common.{Result, Ok, Err}
 use Rattle.std.proofs.lemmas.List.{drop-drop}
 use Rattle.std.specs.Option.{option_map}
 use Rattle.std.specs.Prelude.{IsOkAnd}
@@ -10,19 +12,29 @@ use Rattle.planus_read.specs.declared.place.Place.{Place}
 use Rattle.planus_read.specs.declared.table_reader.Table.{Table}
 use Rattle.planus_read.specs.Bytes.{Num, BytesStand, position_of}
 use Rattle.planus_read.specs.Clauses.{Answer, shown}
-use Rattle.planus_read.specs.Values.{Value, text, byte_list, plain_list, reference_list, union_list, table, Field, plain, reference, tags, values, field_at, vtable_size}
+use Rattle.planus_read.specs.Values.{Value, text, byte_list, plain_list, reference_list, union_list}
+use Rattle.planus_read.specs.Values.{table, Field, plain, reference, tags, values, field_at}
+use Rattle.planus_read.specs.Values.{vtable_size}
 use Rattle.planus_read.specs.Stands.{at, at_both, Stands, ReferenceStands, TableStands}
 use Rattle.planus_read.specs.Places.{IsPlace, LeadsOn, place_offset, tagged_place}
-use Rattle.planus_read.specs.Reading.{Leads, Items, UnionItems, TableLayout, text_reading, byte_list_reading, table_reading}
+use Rattle.planus_read.specs.Reading.{Leads, Items, UnionItems, TableLayout, text_reading}
+use Rattle.planus_read.specs.Reading.{byte_list_reading, table_reading}
 use Rattle.planus_read.specs.ReadingLaws.{IsAnswered}
 use Rattle.planus_read.specs.Tables.{Slot, ShowsTable}
 use Rattle.planus_read.specs.TableReading.{SlotReads, HasFields}
-use Rattle.planus_read.specs.ReadsBack.{PlainReads, ReferenceReads, FieldsReadBack, ListReads, UnionListReads, TableReads, WhatStandsReadsBack}
-use Rattle.planus_read.proofs.ReadingLaws.{lawful_number, lawful_signed, lawful_truth, lawful_text, lawful_byte_list, lawful_vector, lawful_union_vector, lawful_table}
-use Rattle.planus_read.proofs.Readers.{num_inside, number_of_signed}
-use Rattle.planus_read.proofs.PieceLaws.{references_lead, num_in_piece, leads_in_pieces, bytes_in_piece, stands_in_pieces}
-use Rattle.planus_read.proofs.ListItems.{num_of_bytes, plain_lists_read, reference_lists_read, union_lists_read, plain_items_stand, reference_items_stand, union_items_stand}
-use Rattle.planus_read.proofs.TableReading.{table_there, any_slot_reads, table_slot_bytes, slot_reads_whole}
+use Rattle.planus_read.specs.ReadsBack.{PlainReads, ReferenceReads, FieldsReadBack, ListReads}
+use Rattle.planus_read.specs.ReadsBack.{UnionListReads, TableReads, WhatStandsReadsBack}
+use Rattle.planus_read.proofs.ReadingLaws.{lawful_number, lawful_signed, lawful_truth, lawful_text}
+use Rattle.planus_read.proofs.ReadingLaws.{lawful_byte_list, lawful_vector, lawful_union_vector}
+use Rattle.planus_read.proofs.ReadingLaws.{lawful_table}
+use Rattle.planus_read.proofs.Reading.{num_inside, number_of_signed}
+use Rattle.planus_read.proofs.PieceLaws.{references_lead, num_in_piece, leads_in_pieces}
+use Rattle.planus_read.proofs.PieceLaws.{bytes_in_piece, stands_in_pieces}
+use Rattle.planus_read.proofs.ListItems.{num_of_bytes, plain_lists_read, reference_lists_read}
+use Rattle.planus_read.proofs.ListItems.{union_lists_read, plain_items_stand, reference_items_stand}
+use Rattle.planus_read.proofs.ListItems.{union_items_stand}
+use Rattle.planus_read.proofs.TableReading.{table_there, any_slot_reads, table_slot_bytes}
+use Rattle.planus_read.proofs.TableReading.{slot_reads_whole}
 
 plain_reads : (S : List ℕ) (f : ℕ) (bytes : List ℕ) → BytesStand S f bytes → PlainReads S f bytes
 plain_reads S f bytes h =
@@ -34,7 +46,9 @@ plain_reads S f bytes h =
           (lawful_truth S f).answered (not (byte == 0)) (ap (option_map (λ n. not (n == 0))) (num_of_bytes S f w8 (byte ∷ []) refl one));
     }
 
-leads_on : (B : List ℕ) (start f distance : ℕ) → ReferenceStands B (start + f) distance → (place : Place) → IsPlace (drop start B) start f place → LeadsOn B (position_of B distance) place
+leads_on :
+    (B : List ℕ) (start f distance : ℕ) → ReferenceStands B (start + f) distance → (place : Place)
+    → IsPlace (drop start B) start f place → LeadsOn B (position_of B distance) place
 leads_on B start f distance h place is =
     record {
       piece = is.bytes ∙ ap (λ s. drop s B) (sym is.begin);
@@ -42,7 +56,9 @@ leads_on B start f distance h place is =
           (subst (λ o. Leads B (start + o) (position_of B distance)) (sym is.offset) (references_lead B (start + f) distance h));
     }
 
-reference_reads : (B : List ℕ) (start f distance : ℕ) → ReferenceStands B (start + f) distance → ReferenceReads B start f distance
+reference_reads :
+    (B : List ℕ) (start f distance : ℕ) → ReferenceStands B (start + f) distance
+    → ReferenceReads B start f distance
 reference_reads B start f distance h =
     record {
       leads = references_lead B (start + f) distance h;
@@ -69,21 +85,30 @@ in_piece B start f k h =
     let whole : k ≡ start + (k - start) = omega arith in
     record { inside = omega arith; whole = whole; leads = leads_in_pieces B start f (k - start) (subst (Leads B (start + f)) whole h) }
 
-stands_here : (B : List ℕ) (start f k : ℕ) (v : Value) → InPiece B start f k → Stands B (at k) v → Stands (drop start B) (at (k - start)) v
+stands_here :
+    (B : List ℕ) (start f k : ℕ) (v : Value) → InPiece B start f k → Stands B (at k) v
+    → Stands (drop start B) (at (k - start)) v
 stands_here B start f k v here h =
     stands_in_pieces B start (at (k - start)) v here.inside (subst (λ n. Stands B (at n) v) here.whole h)
 
-text_reads : (B : List ℕ) (k : ℕ) (bytes : List ℕ) → IsUtf8 bytes → Stands B (at k) (text bytes) → (start f : ℕ) → Leads B (start + f) k → IsAnswered (text_reading (drop start B) f) bytes
+text_reads :
+    (B : List ℕ) (k : ℕ) (bytes : List ℕ) → IsUtf8 bytes → Stands B (at k) (text bytes)
+    → (start f : ℕ) → Leads B (start + f) k → IsAnswered (text_reading (drop start B) f) bytes
 text_reads B k bytes utf8 h start f to =
     let here : InPiece B start f k = in_piece B start f k to in
     (lawful_text (drop start B) f).answered bytes (k - start, here.leads, stands_here B start f k (text bytes) here h, utf8)
 
-byte_list_reads : (B : List ℕ) (k : ℕ) (bytes : List ℕ) → Stands B (at k) (byte_list bytes) → (start f : ℕ) → Leads B (start + f) k → IsAnswered (byte_list_reading (drop start B) f) bytes
+byte_list_reads :
+    (B : List ℕ) (k : ℕ) (bytes : List ℕ) → Stands B (at k) (byte_list bytes) → (start f : ℕ)
+    → Leads B (start + f) k → IsAnswered (byte_list_reading (drop start B) f) bytes
 byte_list_reads B k bytes h start f to =
     let here : InPiece B start f k = in_piece B start f k to in
     (lawful_byte_list (drop start B) f).answered bytes (k - start, here.leads, stands_here B start f k (byte_list bytes) here h)
 
-plain_list_reads : (B : List ℕ) (k size alignment : ℕ) (items : List (List ℕ)) → Stands B (at k) (plain_list size alignment items) → (start f : ℕ) → Leads B (start + f) k → ListReads (λ s f item. PlainReads (drop s B) f item) B k start f size items
+plain_list_reads :
+    (B : List ℕ) (k size alignment : ℕ) (items : List (List ℕ))
+    → Stands B (at k) (plain_list size alignment items) → (start f : ℕ) → Leads B (start + f) k
+    → ListReads (λ s f item. PlainReads (drop s B) f item) B k start f size items
 plain_list_reads B k size alignment items h start f to =
     let here : InPiece B start f k = in_piece B start f k to in
     let vector : Items = record { position = k - start + 4; count = length items } in
@@ -95,7 +120,9 @@ plain_list_reads B k size alignment items h start f to =
       each = λ i item e. plain_reads (drop (k + 4) B) (i * size) item (bytes_in_piece B (k + 4) (i * size) item (plain_items_stand B k size alignment items h i item e).1);
     }
 
-reference_list_reads : (B : List ℕ) (k : ℕ) (distances : List ℕ) → Stands B (at k) (reference_list distances) → (start f : ℕ) → Leads B (start + f) k → ListReads (ReferenceReads B) B k start f 4 distances
+reference_list_reads :
+    (B : List ℕ) (k : ℕ) (distances : List ℕ) → Stands B (at k) (reference_list distances)
+    → (start f : ℕ) → Leads B (start + f) k → ListReads (ReferenceReads B) B k start f 4 distances
 reference_list_reads B k distances h start f to =
     let here : InPiece B start f k = in_piece B start f k to in
     let vector : Items = record { position = k - start + 4; count = length distances } in
@@ -107,7 +134,10 @@ reference_list_reads B k distances h start f to =
       each = λ i distance e. reference_reads B (k + 4) (i * 4) distance (reference_items_stand B k distances h i distance e);
     }
 
-union_list_reads : (B : List ℕ) (kt kv : ℕ) (items : List (ℕ × ℕ)) → Stands B (at_both kt kv) (union_list items) → (start f g : ℕ) → Leads B (start + f) kt → Leads B (start + g) kv → UnionListReads B kt kv start f g items
+union_list_reads :
+    (B : List ℕ) (kt kv : ℕ) (items : List (ℕ × ℕ)) → Stands B (at_both kt kv) (union_list items)
+    → (start f g : ℕ) → Leads B (start + f) kt → Leads B (start + g) kv
+    → UnionListReads B kt kv start f g items
 union_list_reads B kt kv items h start f g to_tags to_references =
     let tags_here : InPiece B start f kt = in_piece B start f kt to_tags in
     let references_here : InPiece B start g kv = in_piece B start g kv to_references in
@@ -127,7 +157,9 @@ union_list_reads B kt kv items h start f g to_tags to_references =
       each_reference = λ i item e. reference_reads B (kv + 4) (i * 4) item.1 (union_items_stand B kt kv items h i item e).1;
     }
 
-table_reads : (B : List ℕ) (k : ℕ) (entries : List (ℕ × Field)) → Stands B (at k) (table entries) → (start f : ℕ) → Leads B (start + f) k → TableReads B k start f entries
+table_reads :
+    (B : List ℕ) (k : ℕ) (entries : List (ℕ × Field)) → Stands B (at k) (table entries)
+    → (start f : ℕ) → Leads B (start + f) k → TableReads B k start f entries
 table_reads B k entries h start f to = record { layout = layout; answered = answered; fields = fields }
   where
     here : InPiece B start f k

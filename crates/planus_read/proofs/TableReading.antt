@@ -1,24 +1,35 @@
 -- A table that stands is read with its fields.
-use Rattle.std.proofs.Common.{◌≡◌, ℕ, ◌+◌, ◌-◌, ◌*◌, ◌≤◌, ◌<◌, ◌==◌, Bool, true, false, max, List, [], ◌∷◌, length, take, drop, refl, sym, ap, subst, ◌∙◌, arith, Option, Some, None, Result, Ok, Err, ◌≢◌, if◌then◌else◌, length-drop, ◌⊎◌, inl, inr}
-use Rattle.std.proofs.lemmas.List.{drop-drop, drop-take, take-take, take-append-drop, length-take-le}
+use Rattle.std.proofs.Common.{◌≡◌, ℕ, ◌+◌, ◌-◌, ◌*◌, ◌≤◌, ◌<◌, ◌==◌, Bool, true, false, max, List}
+use Rattle.std.proofs.Common.{[], ◌∷◌, length, take, drop, refl, sym, ap, subst, ◌∙◌, arith, Option}
+use Rattle.std.proofs.Common.{Some, None, Result, Ok, Err, ◌≢◌, if◌then◌else◌, length-drop, ◌⊎◌}
+use Rattle.std.proofs.Common.{inl, inr}
+use Rattle.std.proofs.lemmas.List.{drop-drop, drop-take, take-take, take-append-drop}
+use Rattle.std.proofs.lemmas.List.{length-take-le}
 use Rattle.std.proofs.lemmas.Bool.Decides.{nat_tests}
 use Rattle.std.specs.Int.{w8, w16, byte_len, from_le_bytes}
 use Rattle.std.specs.Option.{unwrap_or}
 use Rattle.planus_read.specs.Bytes.{Num, BytesStand}
-use Rattle.planus_read.specs.Values.{Field, plain, reference, tags, values, field_at, slot_count, vtable_size}
+use Rattle.planus_read.specs.Values.{Field, plain, reference, tags, values, field_at, slot_count}
+use Rattle.planus_read.specs.Values.{vtable_size}
 use Rattle.planus_read.specs.Stands.{FieldStands, SlotStands, TableStands}
 use Rattle.planus_read.specs.Reading.{number, Leads, TableThere}
-use Rattle.planus_read.specs.Tables.{Slot, table_object, table_start, table_slots, FieldAnswer, UnionAnswer, UnionVectorAnswer, UnionAbsent, BothSlots, tag_of}
-use Rattle.planus_read.specs.TableReading.{SlotReads, HasFields, FieldRead, FieldsRead, HoldUnion, UnionRead, UnionsRead, HoldUnionVector, UnionVectorRead, UnionVectorsRead}
+use Rattle.planus_read.specs.Tables.{Slot, table_object, table_start, table_slots, FieldAnswer}
+use Rattle.planus_read.specs.Tables.{UnionAnswer, UnionVectorAnswer, UnionAbsent, BothSlots, tag_of}
+use Rattle.planus_read.specs.TableReading.{SlotReads, HasFields, FieldRead, FieldsRead, HoldUnion}
+use Rattle.planus_read.specs.TableReading.{UnionRead, UnionsRead, HoldUnionVector, UnionVectorRead}
+use Rattle.planus_read.specs.TableReading.{UnionVectorsRead}
 use Rattle.planus_read.specs.Located.{Required}
 use Rattle.planus_read.specs.declared.errors.ErrorKind.{ErrorKind}
 use Rattle.planus_read.specs.declared.table_reader.Table.{Table}
 use Rattle.planus_read.proofs.ListItems.{num_of_bytes}
 use Rattle.planus_read.proofs.PieceLaws.{bytes_in_piece}
-use Rattle.planus_read.proofs.Readers.{num_inside, num_there, num_value}
+use Rattle.planus_read.proofs.Reading.{num_inside, num_there, num_value}
 use Rattle.planus_read.proofs.Moves.{field_moves}
 
-found : (b : Bool) (x : Field) (rest : Option Field) (field : Field) (a n i : ℕ) → (b ≡ true → a ≡ i) → (rest ≡ Some field → i + 1 ≤ n) → (if b then Some x else rest) ≡ Some field → i + 1 ≤ max (a + 1) n
+found :
+    (b : Bool) (x : Field) (rest : Option Field) (field : Field) (a n i : ℕ) → (b ≡ true → a ≡ i)
+    → (rest ≡ Some field → i + 1 ≤ n) → (if b then Some x else rest) ≡ Some field
+    → i + 1 ≤ max (a + 1) n
 found true x rest field a n i here later e = let same : a ≡ i = here refl in omega arith
 found false x rest field a n i here later e = let below : i + 1 ≤ n = later e in omega arith
 
@@ -26,18 +37,23 @@ same_slot : (a i : ℕ) → (a == i) ≡ true → a ≡ i
 same_slot a i e = grind (arith, nat_tests)
 
 -- a slot that holds a field is below the number of slots
-slot_below : (entries : List (ℕ × Field)) (i : ℕ) (field : Field) → field_at entries i ≡ Some field → i + 1 ≤ slot_count entries
+slot_below :
+    (entries : List (ℕ × Field)) (i : ℕ) (field : Field) → field_at entries i ≡ Some field
+    → i + 1 ≤ slot_count entries
 slot_below [] i field e = absurd (let f : None ≡ Some field = e in cc)
 slot_below (entry ∷ entries) i field e =
     found (entry.0 == i) entry.1 (field_at entries i) field entry.0 (slot_count entries) i (same_slot entry.0 i) (slot_below entries i field) e
 
 -- the slots of a vtable of size z at t
-slots_length : (S : List ℕ) (t z : ℕ) → t + z ≤ length S → length (drop 4 (take z (drop t S))) ≡ z - 4
+slots_length :
+    (S : List ℕ) (t z : ℕ) → t + z ≤ length S → length (drop 4 (take z (drop t S))) ≡ z - 4
 slots_length S t z h =
     let long : length (take z (drop t S)) ≡ z = length-take-le z (drop t S) (omega (arith, length-drop t S)) in
     length-drop 4 (take z (drop t S)) ∙ ap (λ n. n - 4) long
 
-slot_bytes : (S : List ℕ) (t z j : ℕ) → 4 + j + 2 ≤ z → take 2 (drop j (drop 4 (take z (drop t S)))) ≡ take 2 (drop (t + 4 + j) S)
+slot_bytes :
+    (S : List ℕ) (t z j : ℕ) → 4 + j + 2 ≤ z
+    → take 2 (drop j (drop 4 (take z (drop t S)))) ≡ take 2 (drop (t + 4 + j) S)
 slot_bytes S t z j h =
     let m : ℕ = z - (4 + j) in
     let whole : z ≡ 4 + j + m = omega arith in
@@ -45,7 +61,9 @@ slot_bytes S t z j h =
     ap (take 2) (drop-drop j 4 (take z (drop t S)) ∙ cut) ∙ take-take 2 m (drop (4 + j) (drop t S)) (omega arith)
     ∙ ap (take 2) (drop-drop (4 + j) t S ∙ ap (λ n. drop n S) (let e : t + (4 + j) ≡ t + 4 + j = omega arith in e))
 
-slot_inside : (S : List ℕ) (t z i q : ℕ) → t + z ≤ length S → 2 * i + 6 ≤ z → Num S (t + 4 + 2 * i) w16 ≡ Some q → Slot (drop 4 (take z (drop t S))) i ≡ q
+slot_inside :
+    (S : List ℕ) (t z i q : ℕ) → t + z ≤ length S → 2 * i + 6 ≤ z
+    → Num S (t + 4 + 2 * i) w16 ≡ Some q → Slot (drop 4 (take z (drop t S))) i ≡ q
 slot_inside S t z i q inside below e =
     let V : List ℕ = drop 4 (take z (drop t S)) in
     let fits : 2 * i + byte_len w16 ≤ length V = omega (arith, slots_length S t z inside) in
@@ -56,45 +74,63 @@ none_or : (m : Option ℕ) (k n : ℕ) → ((q : ℕ) → m ≡ Some q → k ≤
 none_or None k n h past = refl
 none_or (Some q) k n h past = absurd (let l : k ≤ n = h q refl in omega arith)
 
-slot_past : (S : List ℕ) (t z i : ℕ) → t + z ≤ length S → z < 2 * i + 6 → Slot (drop 4 (take z (drop t S))) i ≡ 0
+slot_past :
+    (S : List ℕ) (t z i : ℕ) → t + z ≤ length S → z < 2 * i + 6
+    → Slot (drop 4 (take z (drop t S))) i ≡ 0
 slot_past S t z i inside past =
     let V : List ℕ = drop 4 (take z (drop t S)) in
     none_or (Num V (2 * i) w16) (2 * i + byte_len w16) (length V) (num_inside V (2 * i) w16) (omega (arith, slots_length S t z inside))
 
-slot_reads : (S : List ℕ) (k t z i : ℕ) (o : Option Field) → t + z ≤ length S → 2 * i + 6 ≤ z → SlotStands S k (t + 4 + 2 * i) o → SlotReads S k (Slot (drop 4 (take z (drop t S))) i) o
+slot_reads :
+    (S : List ℕ) (k t z i : ℕ) (o : Option Field) → t + z ≤ length S → 2 * i + 6 ≤ z
+    → SlotStands S k (t + 4 + 2 * i) o → SlotReads S k (Slot (drop 4 (take z (drop t S))) i) o
 slot_reads S k t z i None inside below h = slot_inside S t z i 0 inside below h
 slot_reads S k t z i (Some field) inside below h =
     let is : h.0 ≡ Slot (drop 4 (take z (drop t S))) i = sym (slot_inside S t z i h.0 inside below h.1) in
     subst (λ q. (4 ≤ q) × FieldStands S (k + q) field) is (h.2, h.3)
 
-slot_absent : (S : List ℕ) (k t z i : ℕ) (o : Option Field) → t + z ≤ length S → z < 2 * i + 6 → ((field : Field) → o ≡ Some field → 2 * i + 6 ≤ z) → SlotReads S k (Slot (drop 4 (take z (drop t S))) i) o
+slot_absent :
+    (S : List ℕ) (k t z i : ℕ) (o : Option Field) → t + z ≤ length S → z < 2 * i + 6
+    → ((field : Field) → o ≡ Some field → 2 * i + 6 ≤ z)
+    → SlotReads S k (Slot (drop 4 (take z (drop t S))) i) o
 slot_absent S k t z i None inside past below = slot_past S t z i inside past
 slot_absent S k t z i (Some field) inside past below = absurd (let l : 2 * i + 6 ≤ z = below field refl in omega arith)
 
 below_or_past : (a b : ℕ) → (a ≤ b) ⊎ (b < a)
 below_or_past a b = grind arith
 
-any_slot : (S : List ℕ) (k : ℕ) (entries : List (ℕ × Field)) (h : TableStands S k entries) (i : ℕ) → (2 * i + 6 ≤ vtable_size entries) ⊎ (vtable_size entries < 2 * i + 6) → SlotReads S k (Slot (drop 4 (take (vtable_size entries) (drop h.vtable S))) i) (field_at entries i)
+any_slot :
+    (S : List ℕ) (k : ℕ) (entries : List (ℕ × Field)) (h : TableStands S k entries) (i : ℕ)
+    → (2 * i + 6 ≤ vtable_size entries) ⊎ (vtable_size entries < 2 * i + 6)
+    → SlotReads S k (Slot (drop 4 (take (vtable_size entries) (drop h.vtable S))) i) (field_at entries i)
 any_slot S k entries h i (inl below) =
     slot_reads S k h.vtable (vtable_size entries) i (field_at entries i) h.inside below (h.slots i below)
 any_slot S k entries h i (inr past) =
     slot_absent S k h.vtable (vtable_size entries) i (field_at entries i) h.inside past (λ field e. let l : i + 1 ≤ slot_count entries = slot_below entries i field e in omega arith)
 
 -- the table that stands at k, read by a reference of the bytes themselves
-pub table_there : (S : List ℕ) (f k : ℕ) (entries : List (ℕ × Field)) → Leads S f k → (h : TableStands S k entries) → TableThere S f k h.vtable (vtable_size entries)
+pub table_there :
+    (S : List ℕ) (f k : ℕ) (entries : List (ℕ × Field)) → Leads S f k
+    → (h : TableStands S k entries) → TableThere S f k h.vtable (vtable_size entries)
 table_there S f k entries to h =
     record { reference = to; word = h.word; size_word = h.size; least = omega arith; even = omega arith; inside = h.inside }
 
-pub any_slot_reads : (S : List ℕ) (k : ℕ) (entries : List (ℕ × Field)) (h : TableStands S k entries) (i : ℕ) → SlotReads S k (Slot (drop 4 (take (vtable_size entries) (drop h.vtable S))) i) (field_at entries i)
+pub any_slot_reads :
+    (S : List ℕ) (k : ℕ) (entries : List (ℕ × Field)) (h : TableStands S k entries) (i : ℕ)
+    → SlotReads S k (Slot (drop 4 (take (vtable_size entries) (drop h.vtable S))) i) (field_at entries i)
 any_slot_reads S k entries h i = any_slot S k entries h i (below_or_past (2 * i + 6) (vtable_size entries))
 
-pub table_slot_bytes : (S : List ℕ) (k : ℕ) (entries : List (ℕ × Field)) (h : TableStands S k entries) → length (drop 4 (take (vtable_size entries) (drop h.vtable S))) ≡ 2 * slot_count entries
+pub table_slot_bytes :
+    (S : List ℕ) (k : ℕ) (entries : List (ℕ × Field)) (h : TableStands S k entries)
+    → length (drop 4 (take (vtable_size entries) (drop h.vtable S))) ≡ 2 * slot_count entries
 table_slot_bytes S k entries h =
     slots_length S h.vtable (vtable_size entries) h.inside
     ∙ (let same : 4 + 2 * slot_count entries - 4 ≡ 2 * slot_count entries = omega arith in same)
 
 -- a field of a slice of the bytes is the bytes' own
-pub slot_reads_whole : (B : List ℕ) (start k q : ℕ) (o : Option Field) → start ≤ length B → SlotReads (drop start B) k q o → SlotReads B (start + k) q o
+pub slot_reads_whole :
+    (B : List ℕ) (start k q : ℕ) (o : Option Field) → start ≤ length B
+    → SlotReads (drop start B) k q o → SlotReads B (start + k) q o
 slot_reads_whole B start k q None inside h = h
 slot_reads_whole B start k q (Some field) inside h = (
   h.0,
@@ -103,7 +139,10 @@ slot_reads_whole B start k q (Some field) inside h = (
 )
 
 -- the last used slot holds a field
-last_used : (b : Bool) (x : Field) (rest : Option Field) (a n i : ℕ) → (b ≡ false → a ≡ i → ⊥) → max (a + 1) n ≡ i + 1 → (n ≡ i + 1 → rest ≡ None → ⊥) → (if b then Some x else rest) ≡ None → ⊥
+last_used :
+    (b : Bool) (x : Field) (rest : Option Field) (a n i : ℕ) → (b ≡ false → a ≡ i → ⊥)
+    → max (a + 1) n ≡ i + 1 → (n ≡ i + 1 → rest ≡ None → ⊥) → (if b then Some x else rest) ≡ None
+    → ⊥
 last_used true x rest a n i other most later e = let f : Some x ≡ None = e in cc
 last_used false x rest a n i other most later e = later (by_cases (below_or_past (i + 1) n)) e
   where
@@ -114,23 +153,35 @@ last_used false x rest a n i other most later e = later (by_cases (below_or_past
 other_slot : (a i : ℕ) → (a == i) ≡ false → a ≡ i → ⊥
 other_slot a i e = grind (arith, nat_tests)
 
-no_last : (entries : List (ℕ × Field)) (i : ℕ) → slot_count entries ≡ i + 1 → field_at entries i ≡ None → ⊥
+no_last :
+    (entries : List (ℕ × Field)) (i : ℕ) → slot_count entries ≡ i + 1 → field_at entries i ≡ None
+    → ⊥
 no_last [] i e h = absurd (omega arith)
 no_last (entry ∷ entries) i e h =
     last_used (entry.0 == i) entry.1 (field_at entries i) entry.0 (slot_count entries) i (other_slot entry.0 i) e (no_last entries i) h
 
 -- answers over the object of a table
-here_in : {T : Type 0} (reads : List ℕ → ℕ → ℕ → Result T ErrorKind → Type 0) (B : List ℕ) (k : ℕ) (entries : List (ℕ × Field)) (table : Table) → HasFields B k entries table → (q : ℕ) (r : Result T ErrorKind) → reads (table_object table) (table_start table) q r → reads (drop k B) k q r
+here_in :
+    {T : Type 0} (reads : List ℕ → ℕ → ℕ → Result T ErrorKind → Type 0) (B : List ℕ) (k : ℕ) (entries : List (ℕ × Field)) (table : Table)
+    → HasFields B k entries table → (q : ℕ) (r : Result T ErrorKind)
+    → reads (table_object table) (table_start table) q r → reads (drop k B) k q r
 here_in reads B k entries table h q r it =
     subst (λ s. reads (drop k B) s q r) h.begin (subst (λ o. reads o (table_start table) q r) h.object it)
 
 -- where an answer is one of these, the answer of the accessor of a field that must be there is one of those
-required_of : {T : Type 0} (answers others : Result (Option T) ErrorKind → Type 0) → ((r : Result (Option T) ErrorKind) → answers r → others r) → (r : Result T ErrorKind) → Required answers r → Required others r
+required_of :
+    {T : Type 0} (answers others : Result (Option T) ErrorKind → Type 0)
+    → ((r : Result (Option T) ErrorKind) → answers r → others r) → (r : Result T ErrorKind)
+    → Required answers r → Required others r
 required_of answers others step (Ok x) h = step (Ok (Some x)) h
 required_of answers others step (Err e) (inl h) = inl (step (Err e) h)
 required_of answers others step (Err e) (inr h) = inr (step (Ok None) h.0, h.1)
 
-field_read : {T : Type 0} (reads : List ℕ → ℕ → ℕ → Result T ErrorKind → Type 0) (B : List ℕ) (k : ℕ) (entries : List (ℕ × Field)) (table : Table) → HasFields B k entries table → (i : ℕ) (o : Option Field) → SlotReads B k (Slot (table_slots table) i) o → (r : Result (Option T) ErrorKind) → FieldAnswer reads table i r → FieldRead reads B k o r
+field_read :
+    {T : Type 0} (reads : List ℕ → ℕ → ℕ → Result T ErrorKind → Type 0) (B : List ℕ) (k : ℕ) (entries : List (ℕ × Field)) (table : Table)
+    → HasFields B k entries table → (i : ℕ) (o : Option Field)
+    → SlotReads B k (Slot (table_slots table) i) o → (r : Result (Option T) ErrorKind)
+    → FieldAnswer reads table i r → FieldRead reads B k o r
 field_read reads B k entries table h i None slot (Ok None) it = refl
 field_read reads B k entries table h i None slot (Ok (Some x)) it = absurd (it.0 slot)
 field_read reads B k entries table h i None slot (Err e) it = absurd (it.0 slot)
@@ -141,37 +192,53 @@ field_read reads B k entries table h i (Some field) slot (Ok (Some x)) it =
 field_read reads B k entries table h i (Some field) slot (Err e) it =
     (Slot (table_slots table) i, slot.1, here_in reads B k entries table h (Slot (table_slots table) i) (Err e) it.1)
 
-pub fields_read : {T : Type 0} (reads : List ℕ → ℕ → ℕ → Result T ErrorKind → Type 0) → FieldsRead reads
+pub fields_read :
+    {T : Type 0} (reads : List ℕ → ℕ → ℕ → Result T ErrorKind → Type 0) → FieldsRead reads
 fields_read {T} reads B k entries table h i = (all, required_of (FieldAnswer reads table i) (FieldRead reads B k (field_at entries i)) all)
   where
     all : (r : Result (Option T) ErrorKind) → FieldAnswer reads table i r → FieldRead reads B k (field_at entries i) r
     all = field_read reads B k entries table h i (field_at entries i) (h.slots i)
 
 -- what slots i and i + 1 are read as
-absent : (B : List ℕ) (k : ℕ) (entries : List (ℕ × Field)) (table : Table) → HasFields B k entries table → (i : ℕ) → field_at entries i ≡ None → Slot (table_slots table) i ≡ 0
+absent :
+    (B : List ℕ) (k : ℕ) (entries : List (ℕ × Field)) (table : Table) → HasFields B k entries table
+    → (i : ℕ) → field_at entries i ≡ None → Slot (table_slots table) i ≡ 0
 absent B k entries table h i e = subst (SlotReads B k (Slot (table_slots table) i)) e (h.slots i)
 
-present : (B : List ℕ) (k : ℕ) (entries : List (ℕ × Field)) (table : Table) → HasFields B k entries table → (i : ℕ) (field : Field) → field_at entries i ≡ Some field → SlotReads B k (Slot (table_slots table) i) (Some field)
+present :
+    (B : List ℕ) (k : ℕ) (entries : List (ℕ × Field)) (table : Table) → HasFields B k entries table
+    → (i : ℕ) (field : Field) → field_at entries i ≡ Some field
+    → SlotReads B k (Slot (table_slots table) i) (Some field)
 present B k entries table h i field e = subst (SlotReads B k (Slot (table_slots table) i)) e (h.slots i)
 
-both_fit : (B : List ℕ) (k : ℕ) (entries : List (ℕ × Field)) (table : Table) → HasFields B k entries table → (i : ℕ) (field : Field) → field_at entries (i + 1) ≡ Some field → BothSlots table i
+both_fit :
+    (B : List ℕ) (k : ℕ) (entries : List (ℕ × Field)) (table : Table) → HasFields B k entries table
+    → (i : ℕ) (field : Field) → field_at entries (i + 1) ≡ Some field → BothSlots table i
 both_fit B k entries table h i field e =
     let below : i + 1 + 1 ≤ slot_count entries = slot_below entries (i + 1) field e in omega (arith, h.slot_bytes)
 
 -- the vtable doesn't end between two slots that aren't used
-no_half : (B : List ℕ) (k : ℕ) (entries : List (ℕ × Field)) (table : Table) → HasFields B k entries table → (i : ℕ) → field_at entries i ≡ None → 2 * i < length (table_slots table) → length (table_slots table) < 2 * i + 4 → ⊥
+no_half :
+    (B : List ℕ) (k : ℕ) (entries : List (ℕ × Field)) (table : Table) → HasFields B k entries table
+    → (i : ℕ) → field_at entries i ≡ None → 2 * i < length (table_slots table)
+    → length (table_slots table) < 2 * i + 4 → ⊥
 no_half B k entries table h i e more less =
     let last : slot_count entries ≡ i + 1 = omega (arith, h.slot_bytes) in no_last entries i last e
 
 -- the byte at 0 of the object is there
-some_tag : (B : List ℕ) (k : ℕ) (entries : List (ℕ × Field)) (table : Table) → HasFields B k entries table → (i : ℕ) → Slot (table_slots table) i ≡ 0 → tag_of table i ≡ None → ⊥
+some_tag :
+    (B : List ℕ) (k : ℕ) (entries : List (ℕ × Field)) (table : Table) → HasFields B k entries table
+    → (i : ℕ) → Slot (table_slots table) i ≡ 0 → tag_of table i ≡ None → ⊥
 some_tag B k entries table h i zero none =
     let inside : k + 4 ≤ length B = h.inside in
     let there : Num (drop k B) 0 w8 ≡ Some (number (drop k B) 0 w8) = num_there (drop k B) 0 w8 (omega (arith, length-drop k B)) in
     let here : Num (drop k B) 0 w8 ≡ None = ap (λ q. Num (drop k B) q w8) (sym zero) ∙ ap (λ o. Num o (Slot (table_slots table) i) w8) (sym h.object) ∙ none in
     let f : None ≡ Some (number (drop k B) 0 w8) = sym here ∙ there in cc
 
-union_read : {T : Type 0} (reads : List ℕ → ℕ → ℕ → ℕ → Result T ErrorKind → Type 0) (B : List ℕ) (k : ℕ) (entries : List (ℕ × Field)) (table : Table) → HasFields B k entries table → (i : ℕ) (union : Option (ℕ × ℕ)) → HoldUnion entries i union → (r : Result (Option T) ErrorKind) → UnionAnswer reads table i r → UnionRead reads B k union r
+union_read :
+    {T : Type 0} (reads : List ℕ → ℕ → ℕ → ℕ → Result T ErrorKind → Type 0) (B : List ℕ) (k : ℕ) (entries : List (ℕ × Field)) (table : Table)
+    → HasFields B k entries table → (i : ℕ) (union : Option (ℕ × ℕ)) → HoldUnion entries i union
+    → (r : Result (Option T) ErrorKind) → UnionAnswer reads table i r → UnionRead reads B k union r
 union_read reads B k entries table h i None hold (Ok None) it = refl
 union_read reads B k entries table h i None hold (Ok (Some x)) it = absurd (it.1.tag_slot (absent B k entries table h i hold.0))
 union_read reads B k entries table h i None hold (Err e) (inl (inl it)) =
@@ -218,13 +285,18 @@ union_read {T} reads B k entries table h i (Some union) hold r it = by_answer r 
     by_answer (Err e) (inl (inr it)) = absurd (let l : length (table_slots table) < 2 * i + 4 = it.1 in let f : 2 * i + 4 ≤ length (table_slots table) = fit in omega arith)
     by_answer (Err e) (inr it) = (Slot (table_slots table) (i + 1), value_slot.1, found it.0 (Err e) it.1.tag_byte it.2)
 
-pub unions_read : {T : Type 0} (reads : List ℕ → ℕ → ℕ → ℕ → Result T ErrorKind → Type 0) → UnionsRead reads
+pub unions_read :
+    {T : Type 0} (reads : List ℕ → ℕ → ℕ → ℕ → Result T ErrorKind → Type 0) → UnionsRead reads
 unions_read {T} reads B k entries table h i union hold = (all, required_of (UnionAnswer reads table i) (UnionRead reads B k union) all)
   where
     all : (r : Result (Option T) ErrorKind) → UnionAnswer reads table i r → UnionRead reads B k union r
     all = union_read reads B k entries table h i union hold
 
-union_vector_read : {T : Type 0} (reads : List ℕ → ℕ → ℕ → ℕ → Result T ErrorKind → Type 0) (B : List ℕ) (k : ℕ) (entries : List (ℕ × Field)) (table : Table) → HasFields B k entries table → (i : ℕ) (both : Option (ℕ × ℕ)) → HoldUnionVector entries i both → (r : Result (Option T) ErrorKind) → UnionVectorAnswer reads table i r → UnionVectorRead reads B k both r
+union_vector_read :
+    {T : Type 0} (reads : List ℕ → ℕ → ℕ → ℕ → Result T ErrorKind → Type 0) (B : List ℕ) (k : ℕ) (entries : List (ℕ × Field)) (table : Table)
+    → HasFields B k entries table → (i : ℕ) (both : Option (ℕ × ℕ)) → HoldUnionVector entries i both
+    → (r : Result (Option T) ErrorKind) → UnionVectorAnswer reads table i r
+    → UnionVectorRead reads B k both r
 union_vector_read reads B k entries table h i None hold (Ok None) it = refl
 union_vector_read reads B k entries table h i None hold (Ok (Some x)) it = absurd (it.0.tags_slot (absent B k entries table h i hold.0))
 union_vector_read reads B k entries table h i None hold (Err e) (inl (half, is)) = absurd (no_one half.1)
@@ -259,7 +331,8 @@ union_vector_read {T} reads B k entries table h i (Some both) hold r it = by_ans
     by_answer (Err e) (inl (half, is)) = absurd (no_one half.1)
     by_answer (Err e) (inr it) = (Slot (table_slots table) i, tags_slot.1, (Slot (table_slots table) (i + 1), values_slot.1, found (Err e) it.1))
 
-pub union_vectors_read : {T : Type 0} (reads : List ℕ → ℕ → ℕ → ℕ → Result T ErrorKind → Type 0) → UnionVectorsRead reads
+pub union_vectors_read :
+    {T : Type 0} (reads : List ℕ → ℕ → ℕ → ℕ → Result T ErrorKind → Type 0) → UnionVectorsRead reads
 union_vectors_read {T} reads B k entries table h i both hold = (all, required_of (UnionVectorAnswer reads table i) (UnionVectorRead reads B k both) all)
   where
     all : (r : Result (Option T) ErrorKind) → UnionVectorAnswer reads table i r → UnionVectorRead reads B k both r

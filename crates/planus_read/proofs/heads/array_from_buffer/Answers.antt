@@ -3,7 +3,7 @@ use Rattle.std.specs.Int.{w32, byte_len}
 use Rattle.planus_read.specs.Pieces.{slice_bytes, slice_start}
 use Rattle.planus_read.specs.Reading.{Items, number, target, items_at, count_at}
 use Rattle.planus_read.specs.Heads.{ShowsItems}
-use Rattle.planus_read.proofs.Readers.{head_there, num_inside, num_value}
+use Rattle.planus_read.proofs.Reading.{head_there, num_inside, num_value}
 use Rattle.planus_read.proofs.heads.array_from_buffer.Goals as goal
 
 pub returns : goal.returns

@@ -1,4 +1,4 @@
-use Rattle.planus_read.proofs.Parts.{compared_at}
+use Rattle.planus_read.proofs.Bytes.{compared_at}
 use Rattle.planus_read.proofs.plain.bytes_stand_at.Goals as goal
 
 pub returns : goal.returns

@@ -3,7 +3,7 @@ use Rattle.std.specs.Int.{w32}
 use Rattle.planus_read.specs.Clauses.{AllHold}
 use Rattle.planus_read.specs.Pieces.{slice_bytes, slice_start}
 use Rattle.planus_read.specs.Reading.{target, object_clauses, slots_of}
-use Rattle.planus_read.proofs.Readers.{table_answer, num_inside, num_value}
+use Rattle.planus_read.proofs.Reading.{table_answer, num_inside, num_value}
 use Rattle.planus_read.proofs.table_reader.Table.from_buffer.Goals as goal
 
 pub returns : goal.returns

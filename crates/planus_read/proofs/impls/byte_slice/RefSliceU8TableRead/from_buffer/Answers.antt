@@ -1,6 +1,6 @@
 use Rattle.std.proofs.Common.{◌≤◌, length, arith}
 use Rattle.planus_read.specs.Pieces.{slice_bytes, slice_start}
-use Rattle.planus_read.proofs.Readers.{byte_list_answer}
+use Rattle.planus_read.proofs.Reading.{byte_list_answer}
 use Rattle.planus_read.proofs.impls.byte_slice.RefSliceU8TableRead.from_buffer.Goals as goal
 
 pub returns : goal.returns

@@ -1,5 +1,9 @@
 -- The clauses of a reader hold exactly where its value side stands.
-use Rattle.std.proofs.Common.{◌≡◌, ℕ, ◌+◌, ◌*◌, ◌%◌, ◌≤◌, ◌<◌, ◌≤ℤ◌, ◌-ℤ◌, ℤ, pos, Bool, true, false, List, [], ◌∷◌, ◌++◌, length, take, drop, refl, sym, ap, subst, ◌∙◌, arith, nat_le, Option, Some, None, Result, Ok, Err, inl, inr, if◌then◌else◌, length-drop, IfOk, IfErr, get_or, le-leb, leb-true, unsigned_abs}
+use Rattle.std.proofs.Common.{◌≡◌, ℕ, ◌+◌, ◌*◌, ◌%◌, ◌≤◌, ◌<◌, ◌≤ℤ◌, ◌-ℤ◌, ℤ, pos, Bool, true}
+use Rattle.std.proofs.Common.{false, List, [], ◌∷◌, ◌++◌, length, take, drop, refl, sym, ap, subst}
+use Rattle.std.proofs.Common.{◌∙◌, arith, nat_le, Option, Some, None, Result, Ok, Err, inl, inr}
+use Rattle.std.proofs.Common.{if◌then◌else◌, length-drop, IfOk, IfErr, get_or, le-leb, leb-true}
+use Rattle.std.proofs.Common.{unsigned_abs}
 use Rattle.std.proofs.Math.Seq.{drop-cons}
 use Rattle.std.proofs.lemmas.List.{length-take, length-take-le, get_or-drop}
 use Rattle.std.proofs.lemmas.Int.{ints}
@@ -14,23 +18,31 @@ use Rattle.planus_read.specs.Utf8.{utf8_clause}
 use Rattle.planus_read.specs.Clauses.{AllHold, FirstBroken, Answer, shown}
 use Rattle.planus_read.specs.Pieces.{slice_bytes, ShowsBytes}
 use Rattle.planus_read.specs.Heads.{ShowsItems, IsTextOf, text_of_clauses}
-use Rattle.planus_read.specs.Reading.{number, Items, TableLayout, text_reading, table_reading, Leads, target, head_clauses, count_at, items_at, HeadThere, TextThere, ZeroByte, text_clauses, ByteListThere, byte_list_clauses, VectorThere, vector_clauses, UnionVectorThere, union_vector_clauses, TableThere, signed_number, vtable_at, vtable_size_at, object_clauses, table_clauses, slots_of}
+use Rattle.planus_read.specs.Reading.{number, Items, TableLayout, text_reading, table_reading}
+use Rattle.planus_read.specs.Reading.{Leads, target, head_clauses, count_at, items_at, HeadThere}
+use Rattle.planus_read.specs.Reading.{TextThere, ZeroByte, text_clauses, ByteListThere}
+use Rattle.planus_read.specs.Reading.{byte_list_clauses, VectorThere, vector_clauses}
+use Rattle.planus_read.specs.Reading.{UnionVectorThere, union_vector_clauses, TableThere}
+use Rattle.planus_read.specs.Reading.{signed_number, vtable_at, vtable_size_at, object_clauses}
+use Rattle.planus_read.specs.Reading.{table_clauses, slots_of}
 use Rattle.planus_read.specs.Tables.{ShowsTable, table_object, table_start, table_slots}
 use Rattle.planus_read.specs.declared.table_reader.Table.{Table}
-use Rattle.planus_read.proofs.Parts.{parts_stand, whole_stands}
+use Rattle.planus_read.proofs.Bytes.{parts_stand, whole_stands}
 
 chosen : (b : Bool) (x n : ℕ) → (if b then Some x else None) ≡ Some n → (b ≡ true) × (n ≡ x)
 chosen true x n e = (refl, cc)
 chosen false x n e = absurd (let f : None ≡ Some n = e in cc)
 
 -- what a number tells: its bytes lie in S, and it is their value
-pub num_inside : (S : List ℕ) (k : ℕ) (w : Width) (n : ℕ) → Num S k w ≡ Some n → k + byte_len w ≤ length S
+pub num_inside :
+    (S : List ℕ) (k : ℕ) (w : Width) (n : ℕ) → Num S k w ≡ Some n → k + byte_len w ≤ length S
 num_inside S k w n e = leb-true (k + byte_len w) (length S) (chosen (nat_le (k + byte_len w) (length S)) (number S k w) n e).0
 
 pub num_value : (S : List ℕ) (k : ℕ) (w : Width) (n : ℕ) → Num S k w ≡ Some n → n ≡ number S k w
 num_value S k w n e = (chosen (nat_le (k + byte_len w) (length S)) (number S k w) n e).1
 
-pub num_there : (S : List ℕ) (k : ℕ) (w : Width) → k + byte_len w ≤ length S → Num S k w ≡ Some (number S k w)
+pub num_there :
+    (S : List ℕ) (k : ℕ) (w : Width) → k + byte_len w ≤ length S → Num S k w ≡ Some (number S k w)
 num_there S k w h = rw (le-leb (k + byte_len w) (length S) h) refl
 
 -- a reference and its target
@@ -44,7 +56,9 @@ pub leads_to : (S : List ℕ) (f k : ℕ) → Leads S f k → k ≡ target S f
 leads_to S f k h = h.2 ∙ ap (λ n. f + n) (num_value S f w32 h.0 h.1)
 
 -- a head
-pub head_there : (S : List ℕ) (f : ℕ) → f + byte_len w32 ≤ length S → target S f + byte_len w32 ≤ length S → HeadThere S f (items_at S f) (count_at S f)
+pub head_there :
+    (S : List ℕ) (f : ℕ) → f + byte_len w32 ≤ length S → target S f + byte_len w32 ≤ length S
+    → HeadThere S f (items_at S f) (count_at S f)
 head_there S f reference word =
     record { begin = target S f; reference = leads_there S f reference; word = num_there S (target S f) w32 word; behind = refl }
 
@@ -55,7 +69,9 @@ pub record HeadFacts (S : List ℕ) (f position count : ℕ) : Type 0 where
   pub position_is : position ≡ items_at S f
   pub count_is : count ≡ count_at S f
 
-pub head_facts : (S : List ℕ) (f position count : ℕ) → HeadThere S f position count → HeadFacts S f position count
+pub head_facts :
+    (S : List ℕ) (f position count : ℕ) → HeadThere S f position count
+    → HeadFacts S f position count
 head_facts S f position count h =
     let to : h.begin ≡ target S f = leads_to S f h.begin h.reference in
     let word : Num S (target S f) w32 ≡ Some count = ap (λ k. Num S k w32) (sym to) ∙ h.word in
@@ -79,7 +95,9 @@ record HeadRead (S : List ℕ) (f : ℕ) (items : SliceWithStartOffset) (count :
   bytes : slice_bytes items ≡ drop (items_at S f) S
   counted : count ≡ count_at S f
 
-head_read : (S : List ℕ) (start f : ℕ) (piece : SliceWithStartOffset) (count : ℕ) → Head S start f piece count → HeadRead S f piece count
+head_read :
+    (S : List ℕ) (start f : ℕ) (piece : SliceWithStartOffset) (count : ℕ)
+    → Head S start f piece count → HeadRead S f piece count
 head_read S start f piece count h =
     let facts : HeadFacts S f h.0.position h.0.count = head_facts S f h.0.position h.0.count h.1 in
     record {
@@ -103,7 +121,9 @@ zero_behind S k h =
       ap (λ i. get_or S i 0) (let e : k ≡ k + 0 = omega arith in e) ∙ sym (get_or-drop k S 0 0) ∙ stood.1,
     )
 
-pub text_there : (S : List ℕ) (f : ℕ) → AllHold (text_clauses S f) → TextThere S f (take (count_at S f) (drop (items_at S f) S))
+pub text_there :
+    (S : List ℕ) (f : ℕ) → AllHold (text_clauses S f)
+    → TextThere S f (take (count_at S f) (drop (items_at S f) S))
 text_there S f h =
     let content : List ℕ = take (count_at S f) (drop (items_at S f) S) in
     let zero : ZeroByte S (items_at S f) (count_at S f) = h.1.1.1.0 in
@@ -114,7 +134,9 @@ text_there S f h =
     (rw long (zero_there S (items_at S f + count_at S f) within zero.1)) in
     (target S f, leads_there S f h.0, (num_there S (target S f) w32 h.1.1.0 ∙ ap Some (sym long), whole), h.1.1.1.1.0)
 
-pub text_holds : (S : List ℕ) (f : ℕ) (content : List ℕ) → TextThere S f content → AllHold (text_clauses S f) × (content ≡ take (count_at S f) (drop (items_at S f) S))
+pub text_holds :
+    (S : List ℕ) (f : ℕ) (content : List ℕ) → TextThere S f content
+    → AllHold (text_clauses S f) × (content ≡ take (count_at S f) (drop (items_at S f) S))
 text_holds S f content h =
     let facts : HeadFacts S f (h.0 + 4) (length content) = head_facts S f (h.0 + 4) (length content) (record { begin = h.0; reference = h.1; word = h.2.0; behind = refl }) in
     let parts : BytesStand S (h.0 + 4) content × BytesStand S (h.0 + 4 + length content) (0 ∷ []) = parts_stand S content (0 ∷ []) (h.0 + 4) h.2.1 in
@@ -123,7 +145,9 @@ text_holds S f content h =
     ((facts.reference, (facts.inside, (facts.word, (zero_behind S (items_at S f + count_at S f) zero, (subst IsUtf8 bytes h.3, tt))))), bytes)
 
 -- a text, read of the items behind its count
-text_of_head : (S : List ℕ) (f : ℕ) (count : ℕ) (content : List ℕ) → AllHold (head_clauses S f []) → count ≡ count_at S f → IsTextOf (drop (items_at S f) S) count content → TextThere S f content
+text_of_head :
+    (S : List ℕ) (f : ℕ) (count : ℕ) (content : List ℕ) → AllHold (head_clauses S f [])
+    → count ≡ count_at S f → IsTextOf (drop (items_at S f) S) count content → TextThere S f content
 text_of_head S f count content head counted h =
     let items : ℕ = items_at S f in
     let zero : (0 + count < length (drop items S)) × (get_or (drop items S) (0 + count) 0 ≡ 0) = h.zero_byte in
@@ -133,15 +157,22 @@ text_of_head S f count content head counted h =
     let bytes : content ≡ take (count_at S f) (drop items S) = h.bytes ∙ ap (λ n. take n (drop items S)) counted in
     subst (TextThere S f) (sym bytes) (text_there S f (head.0, (head.1.0, (head.1.1.0, ((within, here), (subst IsUtf8 bytes h.is_utf8, tt))))))
 
-zero_moves : (S : List ℕ) (k count n : ℕ) → k ≤ length S → count ≡ n → ZeroByte S k n → ZeroByte (drop k S) 0 count
+zero_moves :
+    (S : List ℕ) (k count n : ℕ) → k ≤ length S → count ≡ n → ZeroByte S k n
+    → ZeroByte (drop k S) 0 count
 zero_moves S k count n inside same h =
     (let w : k + n < length S = h.0 in omega (arith, length-drop k S), get_or-drop k S (0 + count) 0 ∙ ap (λ i. get_or S i 0) (let e : k + (0 + count) ≡ k + n = omega arith in e) ∙ h.1)
 
-zero_moves_back : (S : List ℕ) (k count n : ℕ) → k ≤ length S → count ≡ n → ZeroByte (drop k S) 0 count → ZeroByte S k n
+zero_moves_back :
+    (S : List ℕ) (k count n : ℕ) → k ≤ length S → count ≡ n → ZeroByte (drop k S) 0 count
+    → ZeroByte S k n
 zero_moves_back S k count n inside same h =
     (let w : 0 + count < length (drop k S) = h.0 in omega (arith, length-drop k S), ap (λ i. get_or S i 0) (let e : k + n ≡ k + (0 + count) = omega arith in e) ∙ sym (get_or-drop k S (0 + count) 0) ∙ h.1)
 
-no_text_of_head : (S : List ℕ) (f count : ℕ) (e : ErrorKind) → AllHold (head_clauses S f []) → count ≡ count_at S f → FirstBroken (text_of_clauses (drop (items_at S f) S) count) e → FirstBroken (text_clauses S f) e
+no_text_of_head :
+    (S : List ℕ) (f count : ℕ) (e : ErrorKind) → AllHold (head_clauses S f [])
+    → count ≡ count_at S f → FirstBroken (text_of_clauses (drop (items_at S f) S) count) e
+    → FirstBroken (text_clauses S f) e
 no_text_of_head S f count e head counted (inl b) =
     inr (head.0, inr (head.1.0, inr (head.1.1.0, inl ((λ z. b.0 (zero_moves S (items_at S f) count (count_at S f) head.1.1.0 counted z)), b.1))))
 no_text_of_head S f count e head counted (inr (z, inl b)) =
@@ -160,7 +191,12 @@ no_text_of_head S f count e head counted (inr (z, inl b)) =
     )
 no_text_of_head S f count e head counted (inr (z, inr (u, none))) = absurd none
 
-pub text_answer : (S : List ℕ) (start f count : ℕ) (items : SliceWithStartOffset) (bytes : List ℕ) (r : Result (Bor (List ℕ)) ErrorKind) → Head S start f items count → bytes ≡ slice_bytes items → IfOk r (λ t. IsTextOf bytes count t.now) → IfErr r (λ e. FirstBroken (text_of_clauses bytes count) e) → Answer (shown ShowsBytes (text_reading S f)) r
+pub text_answer :
+    (S : List ℕ) (start f count : ℕ) (items : SliceWithStartOffset) (bytes : List ℕ) (r : Result (Bor (List ℕ)) ErrorKind)
+    → Head S start f items count → bytes ≡ slice_bytes items
+    → IfOk r (λ t. IsTextOf bytes count t.now)
+    → IfErr r (λ e. FirstBroken (text_of_clauses bytes count) e)
+    → Answer (shown ShowsBytes (text_reading S f)) r
 text_answer S start f count items bytes (Ok t) head same ok err =
     let read : HeadRead S f items count = head_read S start f items count head in
     (t.now, text_of_head S f count t.now read.holds read.counted (subst (λ l. IsTextOf l count t.now) (same ∙ read.bytes) ok), refl)
@@ -169,7 +205,9 @@ text_answer S start f count items bytes (Err e) head same ok err =
     no_text_of_head S f count e read.holds read.counted (subst (λ l. FirstBroken (text_of_clauses l count) e) (same ∙ read.bytes) err)
 
 -- a byte list
-pub byte_list_there : (S : List ℕ) (f : ℕ) → AllHold (byte_list_clauses S f) → ByteListThere S f (take (count_at S f) (drop (items_at S f) S))
+pub byte_list_there :
+    (S : List ℕ) (f : ℕ) → AllHold (byte_list_clauses S f)
+    → ByteListThere S f (take (count_at S f) (drop (items_at S f) S))
 byte_list_there S f h =
     let within : items_at S f + count_at S f ≤ length S = h.1.1.1.0 in
     let long : length (take (count_at S f) (drop (items_at S f) S)) ≡ count_at S f = length-take-le (count_at S f) (drop (items_at S f) S) (omega (arith, length-drop (items_at S f) S)) in
@@ -178,7 +216,9 @@ byte_list_there S f h =
 pub stood_inside : (l bytes : List ℕ) → take (length bytes) l ≡ bytes → length bytes ≤ length l
 stood_inside l bytes h = omega (arith, ap length h, length-take (length bytes) l)
 
-pub byte_list_holds : (S : List ℕ) (f : ℕ) (content : List ℕ) → ByteListThere S f content → AllHold (byte_list_clauses S f) × (content ≡ take (count_at S f) (drop (items_at S f) S))
+pub byte_list_holds :
+    (S : List ℕ) (f : ℕ) (content : List ℕ) → ByteListThere S f content
+    → AllHold (byte_list_clauses S f) × (content ≡ take (count_at S f) (drop (items_at S f) S))
 byte_list_holds S f content h =
     let facts : HeadFacts S f (h.0 + 4) (length content) = head_facts S f (h.0 + 4) (length content) (record { begin = h.0; reference = h.1; word = h.2.0; behind = refl }) in
     let stood : take (length content) (drop (items_at S f) S) ≡ content = ap (λ k. take (length content) (drop k S)) (sym facts.position_is) ∙ h.2.1 in
@@ -187,7 +227,10 @@ byte_list_holds S f content h =
     let counted : length content ≡ count_at S f = facts.count_is in
     ((facts.reference, (facts.inside, (facts.word, (omega (arith, length-drop (items_at S f) S), tt)))), sym stood ∙ ap (λ n. take n (drop (items_at S f) S)) counted)
 
-pub byte_list_answer : (S : List ℕ) (start f count : ℕ) (items : SliceWithStartOffset) (bytes : List ℕ) → Head S start f items count → bytes ≡ slice_bytes items → count ≤ length bytes → (content : List ℕ) × ByteListThere S f content × (take count bytes ≡ content)
+pub byte_list_answer :
+    (S : List ℕ) (start f count : ℕ) (items : SliceWithStartOffset) (bytes : List ℕ)
+    → Head S start f items count → bytes ≡ slice_bytes items → count ≤ length bytes
+    → (content : List ℕ) × ByteListThere S f content × (take count bytes ≡ content)
 byte_list_answer S start f count items bytes head same within =
     let read : HeadRead S f items count = head_read S start f items count head in
     let here : bytes ≡ drop (items_at S f) S = same ∙ read.bytes in
@@ -198,16 +241,22 @@ byte_list_answer S start f count items bytes head same within =
     (take (count_at S f) (drop (items_at S f) S), byte_list_there S f (read.holds.0, (read.holds.1.0, (read.holds.1.1.0, (fits, tt)))), ap (take count) here ∙ ap (λ n. take n (drop (items_at S f) S)) counted)
 
 -- vectors
-pub vector_there : (S : List ℕ) (f stride : ℕ) → AllHold (vector_clauses S f stride) → VectorThere S f stride (items_at S f) (count_at S f)
+pub vector_there :
+    (S : List ℕ) (f stride : ℕ) → AllHold (vector_clauses S f stride)
+    → VectorThere S f stride (items_at S f) (count_at S f)
 vector_there S f stride h = record { head = head_there S f h.0 h.1.1.0; inside = h.1.1.1.0 }
 
-pub vector_holds : (S : List ℕ) (f stride position count : ℕ) → VectorThere S f stride position count → AllHold (vector_clauses S f stride) × (position ≡ items_at S f) × (count ≡ count_at S f)
+pub vector_holds :
+    (S : List ℕ) (f stride position count : ℕ) → VectorThere S f stride position count
+    → AllHold (vector_clauses S f stride) × (position ≡ items_at S f) × (count ≡ count_at S f)
 vector_holds S f stride position count h =
     let facts : HeadFacts S f position count = head_facts S f position count h.head in
     let inside : items_at S f + count_at S f * stride ≤ length S = rw (← facts.position_is, ← facts.count_is) h.inside in
     ((facts.reference, (facts.inside, (facts.word, (inside, tt)))), facts.position_is, facts.count_is)
 
-pub union_vector_there : (S : List ℕ) (f g : ℕ) → AllHold (union_vector_clauses S f g) → UnionVectorThere S f g (items_at S f) (items_at S g) (count_at S f)
+pub union_vector_there :
+    (S : List ℕ) (f g : ℕ) → AllHold (union_vector_clauses S f g)
+    → UnionVectorThere S f g (items_at S f) (items_at S g) (count_at S f)
 union_vector_there S f g h =
     let second : AllHold (head_clauses S g []) = (h.1.1.1.0, (h.1.1.1.1.0, (h.1.1.1.1.1.0, tt))) in
     let limits : (items_at S f + count_at S f ≤ length S) × (items_at S g + count_at S g * 4 ≤ length S) × (count_at S f ≡ count_at S g) =
@@ -218,7 +267,9 @@ union_vector_there S f g h =
       references_there = subst (VectorThere S g 4 (items_at S g)) (sym same) (vector_there S g 4 (second.0, (second.1.0, (second.1.1.0, (limits.1, tt)))));
     }
 
-pub union_vector_holds : (S : List ℕ) (f g tags references count : ℕ) → UnionVectorThere S f g tags references count → AllHold (union_vector_clauses S f g)
+pub union_vector_holds :
+    (S : List ℕ) (f g tags references count : ℕ) → UnionVectorThere S f g tags references count
+    → AllHold (union_vector_clauses S f g)
 union_vector_holds S f g tags references count h =
     let a : AllHold (vector_clauses S f 1) × (tags ≡ items_at S f) × (count ≡ count_at S f) = vector_holds S f 1 tags count h.tags_there in
     let b : AllHold (vector_clauses S g 4) × (references ≡ items_at S g) × (count ≡ count_at S g) = vector_holds S g 4 references count h.references_there in
@@ -229,7 +280,9 @@ union_vector_holds S f g tags references count h =
 below_zero : (o : ℕ) (r : ℤ) → r ≤ℤ pos o → r ≡ pos o -ℤ pos (unsigned_abs (pos o -ℤ r))
 below_zero o r h = omega (arith, ints)
 
-pub table_there : (S : List ℕ) (f : ℕ) → AllHold (table_clauses S f) → TableThere S f (target S f) (vtable_at S (target S f)) (vtable_size_at S (target S f))
+pub table_there :
+    (S : List ℕ) (f : ℕ) → AllHold (table_clauses S f)
+    → TableThere S f (target S f) (vtable_at S (target S f)) (vtable_size_at S (target S f))
 table_there S f h =
     let o : ℕ = target S f in
     let object : AllHold (object_clauses S o) = h.1.1 in
@@ -245,14 +298,19 @@ table_there S f h =
 zero_from : (o t : ℕ) (r : ℤ) → r ≡ pos o -ℤ pos t → (r ≤ℤ pos o) × (t ≡ unsigned_abs (pos o -ℤ r))
 zero_from o t r e = (omega (arith, ints), omega (arith, ints))
 
-signed_chosen : (m : Option ℕ) (n : ℕ) (z : ℤ) → m ≡ Some n → option_map (cast_signed w32) m ≡ Some z → z ≡ cast_signed w32 n
+signed_chosen :
+    (m : Option ℕ) (n : ℕ) (z : ℤ) → m ≡ Some n → option_map (cast_signed w32) m ≡ Some z
+    → z ≡ cast_signed w32 n
 signed_chosen m n z e h = let f : Some (cast_signed w32 n) ≡ Some z = ap (option_map (cast_signed w32)) (sym e) ∙ h in cc
 
-pub number_of_signed : (m : Option ℕ) (z : ℤ) → option_map (cast_signed w32) m ≡ Some z → (n : ℕ) × (m ≡ Some n)
+pub number_of_signed :
+    (m : Option ℕ) (z : ℤ) → option_map (cast_signed w32) m ≡ Some z → (n : ℕ) × (m ≡ Some n)
 number_of_signed None z h = absurd (let f : None ≡ Some z = h in cc)
 number_of_signed (Some n) z h = (n, refl)
 
-pub table_holds : (S : List ℕ) (f object vtable size : ℕ) → TableThere S f object vtable size → AllHold (table_clauses S f) × (object ≡ target S f) × (vtable ≡ vtable_at S (target S f)) × (size ≡ vtable_size_at S (target S f))
+pub table_holds :
+    (S : List ℕ) (f object vtable size : ℕ) → TableThere S f object vtable size
+    → AllHold (table_clauses S f) × (object ≡ target S f) × (vtable ≡ vtable_at S (target S f)) × (size ≡ vtable_size_at S (target S f))
 table_holds S f object vtable size h =
     let o : ℕ = target S f in
     let to : object ≡ o = leads_to S f object h.reference in
@@ -284,7 +342,11 @@ table_holds S f object vtable size h =
       size_is,
     )
 
-pub table_answer : (S : List ℕ) (start f : ℕ) (table : Table) → AllHold (table_clauses S f) → table_object table ≡ drop (target S f) S → table_start table ≡ start + target S f → table_slots table ≡ slots_of S (target S f) → Answer (shown (ShowsTable S start) (table_reading S f)) (Ok table)
+pub table_answer :
+    (S : List ℕ) (start f : ℕ) (table : Table) → AllHold (table_clauses S f)
+    → table_object table ≡ drop (target S f) S → table_start table ≡ start + target S f
+    → table_slots table ≡ slots_of S (target S f)
+    → Answer (shown (ShowsTable S start) (table_reading S f)) (Ok table)
 table_answer S start f table h bytes begin slots =
     let place : TableLayout = record { object = target S f; vtable = vtable_at S (target S f); size = vtable_size_at S (target S f) } in
     let shows : ShowsTable S start place table = record { object_bytes = bytes; object_start = begin; slots = slots } in
