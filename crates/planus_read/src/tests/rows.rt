@@ -118,6 +118,23 @@ fn damaged_weapon(rt: HostRuntime) -> Result<(), Fail> {
 }
 
 #[test]
+fn names_of_any_lifetime(rt: HostRuntime) -> Result<(), Fail> {
+    let type_ = format!(in rt.alloc(); "Weapon{}", 2)?;
+    let table = table_at(&WEAPON)?;
+    match table.access_required::<u8>(2, type_.as_str(), "price") {
+        Ok(_) => assert!(rt; false, "a price"),
+        Err(e) => {
+            let text = format!(in rt.alloc(); "{e}")?;
+            assert_eq!(rt;
+                text.as_str(),
+                "In <Weapon2@4>::price(): Missing required field"
+            );
+        }
+    }
+    Ok(())
+}
+
+#[test]
 fn u16_table(rt: HostRuntime) -> Result<(), Fail> {
     let table = table_at(&U16_TABLE)?;
     assert_eq!(rt; table.access::<u16>(0, "T", "n")?, Some(24));
