@@ -3,7 +3,8 @@ use Rattle.planus_read.specs.Pieces.{ShowsBytes}
 use Rattle.planus_read.specs.Reading.{head_reading, text_reading, byte_list_reading, table_reading}
 use Rattle.planus_read.specs.SignedBytes.{ShowsSigned}
 use Rattle.planus_read.specs.Tables.{ShowsTable}
-use Rattle.planus_read.proofs.ReadingLaws.{is_shown, lawful_head, lawful_text, lawful_byte_list, lawful_table}
+use Rattle.planus_read.proofs.ReadingLaws.{is_shown, lawful_head, lawful_text, lawful_byte_list}
+use Rattle.planus_read.proofs.ReadingLaws.{lawful_table}
 use Rattle.planus_read.proofs.laws.readers_show_values.Goals as goal
 
 pub returns-clause-head : goal.returns-clause-head

@@ -8,7 +8,9 @@ use Rattle.planus_read.proofs.worked_rows.u16_table.Goals as goal
 pub returns-clause-root : goal.returns-clause-root
 returns-clause-root c = (4, refl, refl)
 
-slots : (i : ℕ) → 2 * i + 6 ≤ 6 → SlotAligned u16_table_bytes 4 (14 + 2 * i) (field_at u16_table_fields i)
+slots :
+    (i : ℕ) → 2 * i + 6 ≤ 6
+    → SlotAligned u16_table_bytes 4 (14 + 2 * i) (field_at u16_table_fields i)
 slots zero h = (4, refl, dvd-mul_left 2 4)
 slots (suc i) h = absurd (omega arith)
 

@@ -9,7 +9,8 @@ use Rattle.planus_read.proofs.worked_rows.weapon.Goals as goal
 pub returns-clause-root : goal.returns-clause-root
 returns-clause-root c = (4, refl, refl)
 
-slots_stand : (i : ℕ) → 2 * i + 6 ≤ 8 → SlotStands weapon_bytes 4 (20 + 2 * i) (field_at weapon_fields i)
+slots_stand :
+    (i : ℕ) → 2 * i + 6 ≤ 8 → SlotStands weapon_bytes 4 (20 + 2 * i) (field_at weapon_fields i)
 slots_stand zero h = (4, refl, lit≤ tt, (16, refl, refl))
 slots_stand (suc zero) h = (8, refl, lit≤ tt, refl)
 slots_stand (suc (suc i)) h = absurd (omega arith)
@@ -18,7 +19,8 @@ pub returns-clause-stands : goal.returns-clause-stands
 returns-clause-stands c =
     record { vtable = 16; behind = lit< tt; word = refl; size = refl; inside = lit≤ tt; slots = slots_stand }
 
-slots_aligned : (i : ℕ) → 2 * i + 6 ≤ 8 → SlotAligned weapon_bytes 4 (20 + 2 * i) (field_at weapon_fields i)
+slots_aligned :
+    (i : ℕ) → 2 * i + 6 ≤ 8 → SlotAligned weapon_bytes 4 (20 + 2 * i) (field_at weapon_fields i)
 slots_aligned zero h = (4, refl, dvd-mul_left 4 2)
 slots_aligned (suc zero) h = (8, refl, dvd-mul_left 2 6)
 slots_aligned (suc (suc i)) h = absurd (omega arith)
