@@ -1,5 +1,5 @@
-//! The errors, with names of any lifetime. Users see them at `'static`, under [`crate::errors`]; generic code of this library, which
-//! can't name `'static` beside a bound with a lifetime, returns these.
+//! The errors, with names of any lifetime, as the accessors of tables return them. With literal names they are those of
+//! [`crate::errors`].
 
 use crate::errors::{ErrorKind, UnknownEnumTagKind};
 use std::fmt;
