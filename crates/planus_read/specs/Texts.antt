@@ -24,9 +24,9 @@ unknown_tag_text kind = codes "Unknown enum (tag = " ++ signed_decimal kind.tag 
 -- The text of a fault in UTF-8 by its two numbers: the bytes in front of it that are UTF-8, and the bytes at fault, or none where the
 -- bytes end within a character.
 abbrev pub utf8_text : ℕ → Option ℕ → List ℕ
-utf8_text valid_len (Some error_len) =
+utf8_text valid_len (Some fault_len) =
     codes "invalid utf-8 sequence of "
-    ++ (decimal error_len ++ (codes " bytes from index " ++ decimal valid_len))
+    ++ (decimal fault_len ++ (codes " bytes from index " ++ decimal valid_len))
 utf8_text valid_len None = codes "incomplete utf-8 byte sequence from index " ++ decimal valid_len
 
 -- the text of a kind
