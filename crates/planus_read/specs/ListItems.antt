@@ -5,7 +5,7 @@ use Rattle.planus_read.specs.Bytes.{Num}
 use Rattle.planus_read.specs.Values.{plain_list, reference_list, union_list}
 use Rattle.planus_read.specs.Stands.{Stands, at, at_both, PlainStands, ReferenceStands}
 
--- Item i of a list of plain items stands behind the count and the i items before it.
+-- Item i of a list of plain items follows the count and i items.
 abbrev pub PlainItemsStand : Type 0
 PlainItemsStand =
     (B : List ℕ) (k size alignment : ℕ) (items : List (List ℕ))
@@ -20,8 +20,8 @@ ReferenceItemsStand =
     → (i distance : ℕ) → slice_get distances i ≡ Some distance
     → ReferenceStands B (k + 4 + i * 4) distance
 
--- Tag i of a union list stands behind the count of the tags and i tags, its reference behind the
--- count of the references and i references.
+-- Tag i of a union list follows the count of the tags and i tags; its reference follows the count of
+-- the references and i references.
 abbrev pub UnionItemsStand : Type 0
 UnionItemsStand =
     (B : List ℕ) (kt kv : ℕ) (items : List (ℕ × ℕ)) → Stands B (at_both kt kv) (union_list items)

@@ -1,6 +1,6 @@
--- What stands for a reader at a field of some bytes, and the clauses that a reader tests there in
--- order. S is the bytes, f the field's offset in them. A value side is said by `Num` and `Stands`
--- over all of S; the clauses are sums and limits.
+-- The values that stand at a field of some bytes, kind by kind, and the clauses that a reader tests
+-- there in order. S is the bytes, f the field's offset in them. A value side is said by `Num` and
+-- `Stands` over all of S; the clauses are sums and limits.
 use Rattle.std.specs.Prelude.{◌≡◌, ℕ, ◌+◌, ◌*◌, ◌%◌, ◌<◌, ◌≤◌, ◌≤ℤ◌, ◌-ℤ◌, ℤ, pos, unsigned_abs}
 use Rattle.std.specs.Prelude.{List, [], ◌∷◌, length, take, drop, slice_index, Some, Bool, not, ◌==◌}
 use Rattle.std.specs.Option.{option_map}
@@ -27,6 +27,37 @@ number_clause S position width = clause (position + byte_len width ≤ length S)
 -- the clauses of a number
 abbrev pub number_clauses : List ℕ → ℕ → Width → List Clause
 number_clauses S f width = number_clause S f width ∷ []
+
+-- The reading of a scalar of this width, where There says which one stands.
+abbrev pub scalar_reading :
+    {A : Type 0} → Width → (List ℕ → ℕ → A → Type 0) → List ℕ → ℕ → Reading A
+scalar_reading width There S f = record { There = There S f; clauses = number_clauses S f width }
+
+-- a number of this width at f
+abbrev pub NumberThere : List ℕ → ℕ → Width → ℕ → Type 0
+NumberThere S f width x = Num S f width ≡ Some x
+
+-- the reading of a number
+abbrev pub number_reading : List ℕ → ℕ → Width → Reading ℕ
+number_reading S f width = scalar_reading width (λ S f x. NumberThere S f width x) S f
+
+-- a signed number of this width at f
+-- The format: signed numbers are two's complement.
+abbrev pub SignedThere : List ℕ → ℕ → Width → ℤ → Type 0
+SignedThere S f width x = option_map (cast_signed width) (Num S f width) ≡ Some x
+
+-- the reading of a signed number
+abbrev pub signed_reading : List ℕ → ℕ → Width → Reading ℤ
+signed_reading S f width = scalar_reading width (λ S f x. SignedThere S f width x) S f
+
+-- a truth value at f
+-- The format: a truth value is one byte, true where it isn't 0.
+abbrev pub TruthThere : List ℕ → ℕ → Bool → Type 0
+TruthThere S f x = option_map (λ n. not (n == 0)) (Num S f w8) ≡ Some x
+
+-- the reading of a truth value
+abbrev pub truth_reading : List ℕ → ℕ → Reading Bool
+truth_reading S f = scalar_reading w8 TruthThere S f
 
 -- The reference at f leads to the position.
 -- The format: a reference is an unsigned number of 4 bytes, which leads forward from where it
@@ -215,36 +246,3 @@ table_reading S f =
       There = λ layout. TableThere S f layout.object layout.vtable layout.size;
       clauses = table_clauses S f;
     }
-
--- The reading of a scalar of this width, where There says which one stands.
-abbrev pub scalar_reading :
-    {A : Type 0} → Width → (List ℕ → ℕ → A → Type 0) → List ℕ → ℕ → Reading A
-scalar_reading width There S f = record { There = There S f; clauses = number_clauses S f width }
-
--- a number of this width at f
-abbrev pub NumberThere : List ℕ → ℕ → Width → ℕ → Type 0
-NumberThere S f width x = Num S f width ≡ Some x
-
--- the reading of a number
-abbrev pub number_reading : List ℕ → ℕ → Width → Reading ℕ
-number_reading S f width =
-    record { There = NumberThere S f width; clauses = number_clauses S f width }
-
--- a signed number of this width at f
--- The format: signed numbers are two's complement.
-abbrev pub SignedThere : List ℕ → ℕ → Width → ℤ → Type 0
-SignedThere S f width x = option_map (cast_signed width) (Num S f width) ≡ Some x
-
--- the reading of a signed number
-abbrev pub signed_reading : List ℕ → ℕ → Width → Reading ℤ
-signed_reading S f width =
-    record { There = SignedThere S f width; clauses = number_clauses S f width }
-
--- a truth value at f
--- The format: a truth value is one byte, true where it isn't 0.
-abbrev pub TruthThere : List ℕ → ℕ → Bool → Type 0
-TruthThere S f x = option_map (λ n. not (n == 0)) (Num S f w8) ≡ Some x
-
--- the reading of a truth value
-abbrev pub truth_reading : List ℕ → ℕ → Reading Bool
-truth_reading S f = record { There = TruthThere S f; clauses = number_clauses S f w8 }

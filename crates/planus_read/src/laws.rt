@@ -72,8 +72,8 @@ pub fn pieces_keep_what_stands()
     ensures value { StandsInPieces }
 {}
 
-/// Each item of a list that stands is encoded behind the count and the items before it: plain
-/// items, references, and the tags and references of unions.
+/// Item i of a list that stands follows the count and i items: a plain item, a reference, and the
+/// tag and the reference of a union.
 pub fn items_stand()
     ensures plain { PlainItemsStand }
     ensures references { ReferenceItemsStand }
