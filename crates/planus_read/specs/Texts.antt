@@ -21,8 +21,8 @@ use Rattle.planus_read.specs.declared.located.UnknownEnumTag.{UnknownEnumTag}
 abbrev pub unknown_tag_text : UnknownEnumTagKind → List ℕ
 unknown_tag_text kind = codes "Unknown enum (tag = " ++ signed_decimal kind.tag ++ codes ")"
 
--- The text of a fault in UTF-8 by its two numbers: the bytes in front of it that are UTF-8, and the bytes at fault, or none where the
--- bytes end within a character.
+-- The text of a fault in UTF-8 by its two numbers: the bytes in front of it that are UTF-8, and the
+-- bytes at fault, or none where the bytes end within a character.
 abbrev pub utf8_text : ℕ → Option ℕ → List ℕ
 utf8_text valid_len (Some fault_len) =
     codes "invalid utf-8 sequence of "

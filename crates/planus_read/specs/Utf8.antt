@@ -7,8 +7,8 @@ use Rattle.planus_read.specs.declared.errors.ErrorKind.{ErrorKind}
 use Rattle.planus_read.specs.declared.errors.ErrorKind.TheVariants.{InvalidUtf8}
 use Rattle.planus_read.specs.Clauses.{Clause}
 
--- The first fault of the bytes, behind the longest front of them that is UTF-8: as many bytes are at fault as can't begin a
--- character, or none where the bytes end within one.
+-- The first fault of the bytes, behind the longest front of them that is UTF-8: as many bytes are
+-- at fault as can't begin a character, or none where the bytes end within one.
 pub record IsFirstFault (bytes : List ℕ) (fault : Utf8Error) : Type 0 where
   pub valid_len : valid_up_to fault ≡ utf8_valid_len bytes
   pub fault_len : error_len fault ≡ utf8_error_len (drop (utf8_valid_len bytes) bytes)

@@ -9,7 +9,8 @@ use std::str::Utf8Error;
 /// The error of a read: what is wrong with the bytes, and where it was met.
 pub type Error = located::Error<'static>;
 
-/// Where an error was met: the names of the type and the method that read, and the offset in the buffer.
+/// Where an error was met: the names of the type and the method that read, and the offset in the
+/// buffer.
 pub type ErrorLocation = located::ErrorLocation<'static>;
 
 /// A value that its enum doesn't have, and where it was met.
@@ -18,10 +19,12 @@ pub type UnknownEnumTag = located::UnknownEnumTag<'static>;
 /// What can be wrong with bytes that are read.
 #[derive(Clone, Copy, Debug)]
 pub enum ErrorKind {
-    /// A reference leads past the end of the piece that is read, a number doesn't lie wholly in it, or a table's vtable would begin in
-    /// front of it. Also where exactly one of the two slots of a vector of unions holds 0.
+    /// A reference leads past the end of the piece that is read, a number doesn't lie wholly in it,
+    /// or a table's vtable would begin in front of it. Also where exactly one of the two slots of a
+    /// vector of unions holds 0.
     InvalidOffset,
-    /// The items of a vector, or the slots of a vtable, reach past the end of the piece that is read.
+    /// The items of a vector, or the slots of a vtable, reach past the end of the piece that is
+    /// read.
     InvalidLength,
     /// The two parts of a vector of unions have different counts.
     UnionVectorLengthsMismatched {
@@ -30,7 +33,8 @@ pub enum ErrorKind {
         /// The number of references to values, in items.
         values_len: usize,
     },
-    /// A value that its enum doesn't have. A writer by a later schema may have put it there, so it needn't be damage.
+    /// A value that its enum doesn't have. A writer by a later schema may have put it there, so it
+    /// needn't be damage.
     UnknownEnumTag {
         /// The value that was read.
         source: UnknownEnumTagKind,
@@ -63,8 +67,9 @@ pub struct UnknownEnumTagKind {
     pub tag: i128,
 }
 
-// The two numbers of a fault in UTF-8: the bytes in front of it that are UTF-8, and the bytes at fault, none where the text ends within
-// a character. They print as std prints the fault itself, whose own Display has no text in its contract.
+// The two numbers of a fault in UTF-8: the bytes in front of it that are UTF-8, and the bytes at
+// fault, none where the text ends within a character. They print as std prints the fault itself,
+// whose own Display has no text in its contract.
 #[derive(Clone, Copy)]
 struct Utf8Fault {
     valid_len: usize,
@@ -159,8 +164,8 @@ impl From<Utf8Error> for ErrorKind {
 }
 
 impl UnknownEnumTagKind {
-    /// Returns this error at a location: the names of the type and the method that read, and the offset in bytes from the start of
-    /// the buffer.
+    /// Returns this error at a location: the names of the type and the method that read, and the
+    /// offset in bytes from the start of the buffer.
     pub fn with_error_location<'n>(
         self,
         type_: &'n str,
@@ -183,8 +188,8 @@ impl UnknownEnumTagKind {
 }
 
 impl ErrorKind {
-    /// Returns this error at a location: the names of the type and the method that read, and the offset in bytes from the start of
-    /// the buffer.
+    /// Returns this error at a location: the names of the type and the method that read, and the
+    /// offset in bytes from the start of the buffer.
     pub fn with_error_location<'n>(
         self,
         type_: &'n str,

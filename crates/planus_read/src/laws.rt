@@ -95,8 +95,8 @@ pub fn what_stands_reads_back()
 {}
 
 /// `access` and `access_required` return the fields of a table that was written: of each slot what
-/// `T` returns where the field is encoded, and where the table has none, also past the vtable's end,
-/// `None` and `MissingRequired`.
+/// `T` returns where the field is encoded, and where the table has none, also past the vtable's
+/// end, `None` and `MissingRequired`.
 pub fn fields_are_answered<'buf, T: TableRead<'buf>>()
     ensures { FieldsRead T.reads }
 {}
@@ -109,8 +109,9 @@ pub fn unions_are_answered<'buf, T: TableReadUnion<'buf>>()
 {}
 
 /// `access_union_vector` and `access_union_vector_required` return the vectors of unions of a table
-/// that was written: of two slots with the tags and the values of union lists what `T` returns where
-/// both references are encoded, and of two slots that aren't used `None` and `MissingRequired`.
+/// that was written: of two slots with the tags and the values of union lists what `T` returns
+/// where both references are encoded, and of two slots that aren't used `None` and
+/// `MissingRequired`.
 pub fn union_vectors_are_answered<'buf, T: TableReadUnionVector<'buf>>()
     ensures { UnionVectorsRead T.reads }
 {}

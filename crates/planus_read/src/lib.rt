@@ -1,4 +1,5 @@
-//! Zero-copy readers of flatbuffers, and definitions of what is encoded at which position of their bytes.
+//! Zero-copy readers of flatbuffers, and definitions of what is encoded at which position of their
+//! bytes.
 #![tactic(auto)]
 
 pub mod errors;

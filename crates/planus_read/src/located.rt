@@ -1,5 +1,5 @@
-//! The errors, with names of any lifetime, as the accessors of tables return them. With literal names they are those of
-//! [`crate::errors`].
+//! The errors, with names of any lifetime, as the accessors of tables return them. With literal
+//! names they are those of [`crate::errors`].
 
 use crate::errors::{ErrorKind, UnknownEnumTagKind};
 use std::fmt;
@@ -19,19 +19,22 @@ pub struct Error<'n> {
     pub error_kind: ErrorKind,
 }
 
-/// Where an error was met: the names of the type and the method that read, and the offset in the buffer.
+/// Where an error was met: the names of the type and the method that read, and the offset in the
+/// buffer.
 #[derive(Clone, Copy, Debug)]
 pub struct ErrorLocation<'n> {
     /// The name of the type that was read.
     pub type_: &'n str,
     /// The name of the method that read it.
     pub method: &'n str,
-    /// The offset in bytes from the buffer's start, `usize::MAX` where there is none. Of a table's field it is that of the table's first
-    /// byte; of an item it is the start of the piece that holds the vector's items.
+    /// The offset in bytes from the buffer's start, `usize::MAX` where there is none. Of a table's
+    /// field it is that of the table's first byte; of an item it is the start of the piece that
+    /// holds the vector's items.
     pub byte_offset: usize,
 }
 
-/// A value that its enum doesn't have, and where it was met. A writer by a later schema may have put it there.
+/// A value that its enum doesn't have, and where it was met. A writer by a later schema may have
+/// put it there.
 #[derive(Clone, Debug, Drop)]
 pub struct UnknownEnumTag<'n> {
     /// Where the value was met.

@@ -12,8 +12,8 @@ use crate::traits::{Stride, TableRead, TableReadUnion, VectorName, VectorRead};
 // The name of a vector of such unions.
 const VECTOR_NAME: &str = "[union]";
 
-/// Where a field, or an item of 4 bytes as a reference is, is encoded: a piece of a buffer and an offset in it. How it is read is chosen
-/// later; until then nothing is tested.
+/// Where a field, or an item of 4 bytes as a reference is, is encoded: a piece of a buffer and an
+/// offset in it. How it is read is chosen later; until then nothing is tested.
 #[derive(Clone, Copy, Debug)]
 pub struct Place<'buf> {
     buffer: SliceWithStartOffset<'buf>,

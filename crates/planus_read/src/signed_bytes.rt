@@ -8,8 +8,8 @@ use crate::errors::ErrorKind;
 use crate::slice_helpers::SliceWithStartOffset;
 use crate::traits::TableRead;
 
-/// A list of signed bytes. In the format it is a byte list, a vector of bytes with no zero byte behind it; each byte is read in two's
-/// complement.
+/// A list of signed bytes. In the format it is a byte list, a vector of bytes with no zero byte
+/// behind it; each byte is read in two's complement.
 #[derive(Clone, Copy, Debug)]
 pub struct SignedBytes<'buf> {
     bytes: &'buf [u8],

@@ -37,7 +37,8 @@ impl<'buf, const N: usize> fmt::Debug for ArrayWithStartOffset<'buf, N> {
 impl<'buf> SliceWithStartOffset<'buf> {
     ghost use Rattle.planus_read.specs.Pieces.{slice_bytes, slice_start, IsAdvanced, IsArrayAt};
 
-    /// Creates a piece of these bytes, which begin at this offset, in bytes from the start of a buffer.
+    /// Creates a piece of these bytes, which begin at this offset, in bytes from the start of a
+    /// buffer.
     #[inline]
     pub fn new(buffer: &'buf [u8], offset_from_start: usize) -> Self
         requires { offset_from_start + length buffer.now < 2 ^ 64 }
@@ -82,7 +83,8 @@ impl<'buf> SliceWithStartOffset<'buf> {
         self.buffer
     }
 
-    /// Returns the piece that begins `amount` bytes further on, or [`ErrorKind::InvalidOffset`] where that is past the end.
+    /// Returns the piece that begins `amount` bytes further on, or [`ErrorKind::InvalidOffset`]
+    /// where that is past the end.
     #[inline]
     pub fn advance(&self, amount: usize) -> std::result::Result<Self, ErrorKind>
         ensures piece { IfOk result (λ piece. IsAdvanced self.now amount piece) }
@@ -98,8 +100,8 @@ impl<'buf> SliceWithStartOffset<'buf> {
         })
     }
 
-    /// Returns the `N` bytes that begin `amount` bytes further on, or [`ErrorKind::InvalidOffset`] where they don't all lie in this
-    /// piece.
+    /// Returns the `N` bytes that begin `amount` bytes further on, or [`ErrorKind::InvalidOffset`]
+    /// where they don't all lie in this piece.
     #[inline]
     pub fn advance_as_array<const N: usize>(
         &self,
@@ -141,7 +143,8 @@ impl<'buf> SliceWithStartOffset<'buf> {
 impl<'buf, const N: usize> ArrayWithStartOffset<'buf, N> {
     ghost use Rattle.planus_read.specs.Pieces.{array_bytes, array_start, IsArrayAt};
 
-    /// Creates a piece of these bytes, which begin at this offset, in bytes from the start of a buffer.
+    /// Creates a piece of these bytes, which begin at this offset, in bytes from the start of a
+    /// buffer.
     #[inline]
     pub fn new(buffer: &'buf [u8; N], offset_from_start: usize) -> Self
         requires fits { offset_from_start + N < 2 ^ 64 }
@@ -171,8 +174,8 @@ impl<'buf, const N: usize> ArrayWithStartOffset<'buf, N> {
         self.buffer
     }
 
-    /// Returns the `K` bytes that begin `amount` bytes further on, or [`ErrorKind::InvalidOffset`] where they don't all lie in this
-    /// array.
+    /// Returns the `K` bytes that begin `amount` bytes further on, or [`ErrorKind::InvalidOffset`]
+    /// where they don't all lie in this array.
     #[inline]
     pub fn advance_as_array<const K: usize>(
         &self,

@@ -13,9 +13,10 @@ use crate::located::Error;
 use crate::slice_helpers::SliceWithStartOffset;
 use crate::traits::{TableRead, TableReadUnion, TableReadUnionVector};
 
-/// A view of a table: its bytes from its first on, and the slots of its vtable. In the format a table begins with a signed number of
-/// 4 bytes that leads to its vtable, and the vtable has a slot of 2 bytes for each field: the field's distance from the table's first
-/// byte, or 0 where the field is absent.
+/// A view of a table: its bytes from its first on, and the slots of its vtable. In the format a
+/// table begins with a signed number of 4 bytes that leads to its vtable, and the vtable has a slot
+/// of 2 bytes for each field: the field's distance from the table's first byte, or 0 where the
+/// field is absent.
 #[derive(Clone, Copy, Debug)]
 pub struct Table<'buf> {
     object: SliceWithStartOffset<'buf>,
@@ -83,10 +84,11 @@ impl<'buf> Table<'buf> {
     ghost use Rattle.planus_read.specs.Tables.{FieldAnswer, UnionAnswer, UnionVectorAnswer};
     ghost use Rattle.planus_read.specs.Tables.{UnionThere, UnionAbsent, UnionBroken};
 
-    /// Returns the table to which the reference at the offset leads, in bytes from the start of the piece. Its vtable may lie anywhere
-    /// in the piece. [`ErrorKind::InvalidOffset`] where a number or the table lies outside, or the vtable would begin in front of the piece;
-    /// [`ErrorKind::InvalidVtableLength`] for a vtable whose size is odd or below 4; [`ErrorKind::InvalidLength`] where the vtable
-    /// passes the end.
+    /// Returns the table to which the reference at the offset leads, in bytes from the start of the
+    /// piece. Its vtable may lie anywhere in the piece. [`ErrorKind::InvalidOffset`] where a number
+    /// or the table lies outside, or the vtable would begin in front of the piece;
+    /// [`ErrorKind::InvalidVtableLength`] for a vtable whose size is odd or below 4;
+    /// [`ErrorKind::InvalidLength`] where the vtable passes the end.
     pub fn from_buffer(buffer: SliceWithStartOffset<'buf>, offset: usize) -> Result<Self, ErrorKind>
         ensures { let S = slice_bytes buffer.entry in let start = slice_start buffer.entry in
             Answer (shown (ShowsTable S start) (table_reading S offset)) result }
@@ -119,7 +121,8 @@ impl<'buf> Table<'buf> {
         }
     }
 
-    // Returns the numbers in a slot and the next, or `None` where these don't both lie in the vtable.
+    // Returns the numbers in a slot and the next, or `None` where these don't both lie in the
+    // vtable.
     #[inline]
     fn both_slots(&self, slot: usize) -> Option<(usize, usize)>
         ensures both { IfSome result (λ _. BothSlots self.now slot) }
@@ -167,7 +170,8 @@ impl<'buf> Table<'buf> {
         Ok(Some(T::from_buffer(self.object, offset)?))
     }
 
-    // Returns the tag of the union of a slot and the next, and the distance in the second, or `None` where there is no union.
+    // Returns the tag of the union of a slot and the next, and the distance in the second, or
+    // `None` where there is no union.
     fn union_at(&self, slot: usize) -> Result<Option<(u8, usize)>, ErrorKind>
         ensures some { IfOk result (λ found.
             IfSome found (λ union. UnionThere self.now slot union.0)) }
@@ -221,8 +225,9 @@ impl<'buf> Table<'buf> {
         Ok(Some(T::from_buffer(self.object, tags, values)?))
     }
 
-    /// Returns the field of a slot, or `None` where it is absent. Slots count from 0; one past the vtable is absent.
-    /// The errors are those of `T`. Every error has the location of this table under these names.
+    /// Returns the field of a slot, or `None` where it is absent. Slots count from 0; one past the
+    /// vtable is absent. The errors are those of `T`. Every error has the location of this table
+    /// under these names.
     pub fn access<'n, T: TableRead<'buf>>(
         &self,
         slot: usize,
@@ -236,7 +241,8 @@ impl<'buf> Table<'buf> {
         self.located(answer, type_, method)
     }
 
-    /// As [`Table::access`], with [`ErrorKind::MissingRequired`] in place of `None`, and the errors of `T`.
+    /// As [`Table::access`], with [`ErrorKind::MissingRequired`] in place of `None`, and the errors
+    /// of `T`.
     pub fn access_required<'n, T: TableRead<'buf>>(
         &self,
         slot: usize,
@@ -250,11 +256,11 @@ impl<'buf> Table<'buf> {
         self.located(answer, type_, method)
     }
 
-    /// Returns the union whose tag has its distance in a slot and whose reference in the next, or `None` where the tag or a slot is 0 or
-    /// the vtable ends in front of both.
-    /// The tag is read before it and the slots are tested for 0: [`ErrorKind::InvalidOffset`] where it isn't in the buffer.
-    /// [`ErrorKind::InvalidVtableLength`] where the vtable ends between the two slots. And the errors of `T`.
-    /// Every error has the location of this table under these names.
+    /// Returns the union whose tag has its distance in a slot and whose reference in the next, or
+    /// `None` where the tag or a slot is 0 or the vtable ends in front of both. The tag is read
+    /// before it and the slots are tested for 0: [`ErrorKind::InvalidOffset`] where it isn't in the
+    /// buffer. [`ErrorKind::InvalidVtableLength`] where the vtable ends between the two slots. And
+    /// the errors of `T`. Every error has the location of this table under these names.
     pub fn access_union<'n, T: TableReadUnion<'buf>>(
         &self,
         slot: usize,
@@ -268,7 +274,8 @@ impl<'buf> Table<'buf> {
         self.located(answer, type_, method)
     }
 
-    /// As [`Table::access_union`], with [`ErrorKind::MissingRequired`] in place of `None`, and the errors of `T`.
+    /// As [`Table::access_union`], with [`ErrorKind::MissingRequired`] in place of `None`, and the
+    /// errors of `T`.
     pub fn access_union_required<'n, T: TableReadUnion<'buf>>(
         &self,
         slot: usize,
@@ -282,10 +289,10 @@ impl<'buf> Table<'buf> {
         self.located(answer, type_, method)
     }
 
-    /// Returns the vector of unions whose reference to its tags has its distance in a slot and whose reference to its values in the next,
-    /// or `None` where both slots are 0 or don't both lie in the vtable.
-    /// [`ErrorKind::InvalidOffset`] where exactly one of them is 0. And the errors of `T`.
-    /// Every error has the location of this table under these names.
+    /// Returns the vector of unions whose reference to its tags has its distance in a slot and
+    /// whose reference to its values in the next, or `None` where both slots are 0 or don't both
+    /// lie in the vtable. [`ErrorKind::InvalidOffset`] where exactly one of them is 0. And the
+    /// errors of `T`. Every error has the location of this table under these names.
     pub fn access_union_vector<'n, T: TableReadUnionVector<'buf>>(
         &self,
         slot: usize,
@@ -299,7 +306,8 @@ impl<'buf> Table<'buf> {
         self.located(answer, type_, method)
     }
 
-    /// As [`Table::access_union_vector`], with [`ErrorKind::MissingRequired`] in place of `None`, and the errors of `T`.
+    /// As [`Table::access_union_vector`], with [`ErrorKind::MissingRequired`] in place of `None`,
+    /// and the errors of `T`.
     pub fn access_union_vector_required<'n, T: TableReadUnionVector<'buf>>(
         &self,
         slot: usize,

@@ -11,12 +11,14 @@ use crate::errors::ErrorKind;
 use crate::located::{self, ITEM_METHOD};
 use crate::slice_helpers::SliceWithStartOffset;
 
-/// What can be read as the root of a buffer. In the format the first 4 bytes of a buffer are a reference to its root.
+/// What can be read as the root of a buffer. In the format the first 4 bytes of a buffer are a
+/// reference to its root.
 pub trait ReadAsRoot<'a>: Sized {
     /// What may be returned for these bytes, the whole bytes of a buffer.
     ghost reads_root: { List ℕ → std_result Self Error → Type 0 };
 
-    /// Returns the view of the root of these bytes, the whole bytes of a buffer. Which errors come is the type's own.
+    /// Returns the view of the root of these bytes, the whole bytes of a buffer. Which errors come
+    /// is the type's own.
     fn read_as_root(slice: &'a [u8]) -> Result<Self>
         ensures { reads_root slice.entry.now result };
 }
@@ -34,8 +36,8 @@ pub trait TableRead<'buf>: Sized {
     /// What may be returned for a piece with these bytes and this start at this offset.
     ghost reads: { List ℕ → ℕ → ℕ → std_result Self ErrorKind → Type 0 };
 
-    /// Returns the field that is encoded at the offset, in bytes from the start of the piece, or the error of the first thing that is
-    /// wrong there.
+    /// Returns the field that is encoded at the offset, in bytes from the start of the piece, or
+    /// the error of the first thing that is wrong there.
     fn from_buffer(
         buffer: SliceWithStartOffset<'buf>,
         offset: usize,
@@ -43,13 +45,16 @@ pub trait TableRead<'buf>: Sized {
         ensures { reads (slice_bytes buffer.entry) (slice_start buffer.entry) offset result };
 }
 
-/// What can be read as a union field of a table. Its errors are those of the variants' own reads, and
-/// [`ErrorKind::UnknownUnionTag`] for a tag that a type doesn't have; [`crate::TaggedPlace`] takes every tag and has no error.
+/// What can be read as a union field of a table. Its errors are those of the variants' own reads,
+/// and [`ErrorKind::UnknownUnionTag`] for a tag that a type doesn't have; [`crate::TaggedPlace`]
+/// takes every tag and has no error.
 pub trait TableReadUnion<'buf>: Sized {
-    /// What may be returned for a piece with these bytes and this start, and this tag, at this offset.
+    /// What may be returned for a piece with these bytes and this start, and this tag, at this
+    /// offset.
     ghost reads: { List ℕ → ℕ → ℕ → ℕ → std_result Self ErrorKind → Type 0 };
 
-    /// Returns the union with this tag whose reference is encoded at the offset, in bytes from the start of the piece.
+    /// Returns the union with this tag whose reference is encoded at the offset, in bytes from the
+    /// start of the piece.
     fn from_buffer(
         buffer: SliceWithStartOffset<'buf>,
         tag: u8,
@@ -58,13 +63,14 @@ pub trait TableReadUnion<'buf>: Sized {
         ensures { reads (slice_bytes buffer.entry) (slice_start buffer.entry) tag offset result };
 }
 
-/// What can be read as a field of a table that is a vector of unions. In the format that is two vectors of equal count, tags of one byte
-/// and references. Which errors come is the type's own.
+/// What can be read as a field of a table that is a vector of unions. In the format that is two
+/// vectors of equal count, tags of one byte and references. Which errors come is the type's own.
 pub trait TableReadUnionVector<'buf>: Sized {
     /// What may be returned for a piece with these bytes and this start at these two offsets.
     ghost reads: { List ℕ → ℕ → ℕ → ℕ → std_result Self ErrorKind → Type 0 };
 
-    /// Returns the vector of unions whose references to tags and values are encoded at the offsets, in bytes from the start of the piece.
+    /// Returns the vector of unions whose references to tags and values are encoded at the offsets,
+    /// in bytes from the start of the piece.
     fn from_buffer(
         buffer: SliceWithStartOffset<'buf>,
         tags_offset: usize,
@@ -87,13 +93,14 @@ pub trait Stride: Sized {
     ghost is_positive: { 1 ≤ STRIDE };
 }
 
-/// What can be read as an item of a vector. Its bytes are there, so a number or a truth value has no error; `Result` has that of the
-/// [`VectorReadInner`] which it wraps, converted.
+/// What can be read as an item of a vector. Its bytes are there, so a number or a truth value has
+/// no error; `Result` has that of the [`VectorReadInner`] which it wraps, converted.
 pub trait VectorRead<'buf>: Stride {
     /// What may be returned for a piece with these bytes and this start at this offset.
     ghost gives: { List ℕ → ℕ → ℕ → Self → Type 0 };
 
-    /// Returns the item that is encoded at the offset, in bytes from the start of the piece. All of it lies in the piece.
+    /// Returns the item that is encoded at the offset, in bytes from the start of the piece. All of
+    /// it lies in the piece.
     fn from_buffer(buffer: SliceWithStartOffset<'buf>, offset: usize) -> Self
         requires { offset + Self.STRIDE ≤ length (slice_bytes buffer) }
         ensures { gives (slice_bytes buffer.entry) (slice_start buffer.entry) offset result };
@@ -105,14 +112,14 @@ pub trait ReadError {
     type Error;
 }
 
-/// What can be read as an item of a vector, and may fail. An item `&str` has the errors of a field `&str`, at the start of the piece
-/// under the names `[str]` and `get`.
+/// What can be read as an item of a vector, and may fail. An item `&str` has the errors of a field
+/// `&str`, at the start of the piece under the names `[str]` and `get`.
 pub trait VectorReadInner<'buf>: Stride + ReadError {
     /// What may be returned for a piece with these bytes and this start at this offset.
     ghost gives: { List ℕ → ℕ → ℕ → std_result Self Self.Error → Type 0 };
 
-    /// Returns the item that is encoded at the offset, in bytes from the start of the piece. Its own bytes, not those that it refers to,
-    /// all lie in the piece.
+    /// Returns the item that is encoded at the offset, in bytes from the start of the piece. Its
+    /// own bytes, not those that it refers to, all lie in the piece.
     fn from_buffer(
         buffer: SliceWithStartOffset<'buf>,
         offset: usize,
@@ -133,8 +140,9 @@ pub trait VectorName {
 
 /// What can be read as an item of a vector of unions: each union field with a [`VectorName`].
 pub trait VectorReadUnion<'buf>: TableReadUnion<'buf> + VectorName {
-    /// Returns the union with this tag whose reference is encoded at the offset, in bytes from the start of the piece. Its errors are those
-    /// of the [`TableReadUnion`], at the start of the piece under the vector's name and the method `get`.
+    /// Returns the union with this tag whose reference is encoded at the offset, in bytes from the
+    /// start of the piece. Its errors are those of the [`TableReadUnion`], at the start of the
+    /// piece under the vector's name and the method `get`.
     fn from_buffer<'n>(
         buffer: SliceWithStartOffset<'buf>,
         tag: u8,

@@ -1,5 +1,5 @@
-//! Small buffers, written out, whose values stand where the format says. Each function is a theorem over its bytes alone; its body is
-//! empty.
+//! Small buffers, written out, whose values stand where the format says. Each function is a theorem
+//! over its bytes alone; its body is empty.
 
 ghost use Rattle.planus_read.specs.Aligned.{AlignedAt};
 ghost use Rattle.planus_read.specs.Rows.{text_axe_bytes, u64_list_bytes, one_u64};
@@ -16,7 +16,8 @@ pub fn text_axe()
     ensures aligned { AlignedAt text_axe_bytes (at 4) (text (65 ∷ 120 ∷ 101 ∷ [])) }
 {}
 
-/// The text `Hi` and the list of the one number 1 of 8 bytes, finished: both stand, and the number stands at a multiple of 8.
+/// The text `Hi` and the list of the one number 1 of 8 bytes, finished: both stand, and the number
+/// stands at a multiple of 8.
 pub fn u64_list()
     ensures root { ReferenceStands u64_list_bytes 0 19 }
     ensures stands { Stands u64_list_bytes (at 4) (plain_list 8 8 one_u64) }

@@ -7,15 +7,17 @@ const WEAPON: [u8; 32] = [
     0, b'A', b'x', b'e', 0,
 ];
 
-// A table at 4 with its vtable at 24. Slots 0 and 1 hold a union, tag 1 and the text `Hi`. Slots 2 and 3 hold a vector of two
-// unions, of tags 1 and 2 and the texts `A` and `B`: its tags stand at 44 and its values at 52.
+// A table at 4 with its vtable at 24. Slots 0 and 1 hold a union, tag 1 and the text `Hi`. Slots 2
+// and 3 hold a vector of two unions, of tags 1 and 2 and the texts `A` and `B`: its tags stand at
+// 44 and its values at 52.
 const UNIONS: [u8; 78] = [
     4, 0, 0, 0, 0xec, 0xff, 0xff, 0xff, 28, 0, 0, 0, 32, 0, 0, 0, 36, 0, 0, 0, 1, 0, 0, 0, 12, 0,
     17, 0, 16, 0, 4, 0, 8, 0, 12, 0, 2, 0, 0, 0, b'H', b'i', 0, 0, 2, 0, 0, 0, 1, 2, 0, 0, 2, 0, 0,
     0, 16, 0, 0, 0, 4, 0, 0, 0, 1, 0, 0, 0, b'B', 0, 0, 0, 1, 0, 0, 0, b'A', 0,
 ];
 
-// Whether the readers and the plain reader agree at this offset, wherever the bytes start, and at all slots.
+// Whether the readers and the plain reader agree at this offset, wherever the bytes start, and at
+// all slots.
 fn all_agree(bytes: &[u8], f: usize) -> bool {
     for start in [0, 1000] {
         let agree = numbers_agree(bytes, f, start)

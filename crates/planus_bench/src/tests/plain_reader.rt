@@ -1,4 +1,5 @@
-//! A plain, slow reader, which computes values and clauses from their definitions, and is compared with the readers.
+//! A plain, slow reader, which computes values and clauses from their definitions, and is compared
+//! with the readers.
 
 use planus_read::errors::ErrorKind;
 use planus_read::located::{Error, ErrorLocation};
@@ -408,7 +409,8 @@ fn number_agrees<'buf, T: TableRead<'buf> + Into<i128>>(
     }
 }
 
-// Whether the readers of numbers and truth values and the plain reader agree at this offset of these bytes, which start here.
+// Whether the readers of numbers and truth values and the plain reader agree at this offset of
+// these bytes, which start here.
 pub fn numbers_agree(bytes: &[u8], f: usize, start: u32) -> bool {
     let piece = SliceWithStartOffset::new(bytes, start as usize);
     let unsigned = |width: usize| number(bytes, f, width).map(|number| number as i128);
@@ -449,8 +451,8 @@ fn heads_agree(piece: SliceWithStartOffset<'_>, f: usize) -> bool {
     )
 }
 
-// Whether the readers of lists and tables and the plain reader agree at this offset of these bytes, which start here, and at these
-// slots of the table.
+// Whether the readers of lists and tables and the plain reader agree at this offset of these bytes,
+// which start here, and at these slots of the table.
 pub fn fields_agree(bytes: &[u8], f: usize, start: u32, slots: &[usize]) -> bool {
     let piece = SliceWithStartOffset::new(bytes, start as usize);
     lists_agree(piece, f) && heads_agree(piece, f) && tables_agree(piece, f, slots)

@@ -25,13 +25,15 @@ pub trait Scalar: Sized {
     fn size() -> usize
         ensures { result ≡ byte_len width };
 
-    /// Returns the scalar at the offset, in bytes from the start of the piece. All of it lies in the piece.
+    /// Returns the scalar at the offset, in bytes from the start of the piece. All of it lies in
+    /// the piece.
     fn read(buffer: SliceWithStartOffset<'_>, offset: usize) -> Self
         requires { offset + byte_len width ≤ length (slice_bytes buffer) }
         ensures { there (slice_bytes buffer.entry) offset result };
 }
 
-/// A scalar that is an item of vectors. One of a single byte is none, but for truth values: a vector of bytes is a byte list.
+/// A scalar that is an item of vectors. One of a single byte is none, but for truth values: a
+/// vector of bytes is a byte list.
 pub trait ScalarItem: Scalar {}
 
 impl<'buf, T: Scalar> TableRead<'buf> for T {

@@ -21,7 +21,8 @@ const TAG_PAST_END: [u8; 16] = [
     4, 0, 0, 0, 0xfc, 0xff, 0xff, 0xff, 8, 0, 4, 0, 0xff, 0, 0, 0,
 ];
 
-// The items behind the counts of the tags and of the values of a vector of unions, and these counts.
+// The items behind the counts of the tags and of the values of a vector of unions, and these
+// counts.
 #[derive(Clone, Copy)]
 pub struct Heads<'buf> {
     pub tags: (SliceWithStartOffset<'buf>, u32),
