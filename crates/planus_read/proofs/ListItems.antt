@@ -23,7 +23,8 @@ items_inside :
     → ItemsStand A p size items → p + length items * size ≤ n
 items_inside A n size step p [] here h = omega arith
 items_inside A n size step p (x ∷ xs) here h =
-    let rest : p + size + length xs * size ≤ n = items_inside A n size step (p + size) xs (step p x here h.0) h.1 in
+    let rest : p + size + length xs * size ≤ n =
+    items_inside A n size step (p + size) xs (step p x here h.0) h.1 in
     omega (arith, suc-mul (length xs) size)
 
 plain_inside :
@@ -54,12 +55,14 @@ pub plain_lists_read :
     (S : List ℕ) (f k size alignment : ℕ) (items : List (List ℕ)) → Leads S f k
     → Stands S (at k) (plain_list size alignment items)
     → VectorThere S f size (k + 4) (length items)
-plain_lists_read S f k size alignment items to h = list_there (PlainStands size) S size (plain_inside S size) f k items to h
+plain_lists_read S f k size alignment items to h = list_there (PlainStands size) S size
+    (plain_inside S size) f k items to h
 
 pub reference_lists_read :
     (S : List ℕ) (f k : ℕ) (distances : List ℕ) → Leads S f k
     → Stands S (at k) (reference_list distances) → VectorThere S f 4 (k + 4) (length distances)
-reference_lists_read S f k distances to h = list_there ReferenceStands S 4 (reference_inside S) f k distances to h
+reference_lists_read S f k distances to h = list_there ReferenceStands S 4
+    (reference_inside S) f k distances to h
 
 pub union_lists_read :
     (S : List ℕ) (f g kt kv : ℕ) (items : List (ℕ × ℕ)) → Leads S f kt → Leads S g kv
@@ -68,15 +71,26 @@ pub union_lists_read :
 union_lists_read S f g kt kv items to_tags to_references h =
     let tags : List ℕ = map (λ item. item.0) items in
     let count : length tags ≡ length items = length-map items (λ item. item.0) in
-    let references : length (map (λ item. item.1) items) ≡ length items = length-map items (λ item. item.1) in
+    let references : length (map (λ item. item.1) items) ≡ length items =
+    length-map items (λ item. item.1) in
     let word : kt + byte_len w32 ≤ length S = num_inside S kt w32 (length tags) h.0.0 in
-    let within : length tags ≤ length (drop (kt + 4) S) = stood_inside (drop (kt + 4) S) tags h.0.1 in
+    let within : length tags ≤ length (drop (kt + 4) S) =
+    stood_inside (drop (kt + 4) S) tags h.0.1 in
     let inside : kt + 4 + length tags * 1 ≤ length S = omega (arith, length-drop (kt + 4) S) in
     record {
       tags_there = subst (VectorThere S f 1 (kt + 4)) count
-          (record { head = record { begin = kt; reference = to_tags; word = h.0.0; behind = refl }; inside = inside });
+          (record {
+            head = record {
+              begin = kt;
+              reference = to_tags;
+              word = h.0.0;
+              behind = refl;
+            };
+            inside = inside;
+          });
       references_there = subst (VectorThere S g 4 (kv + 4)) references
-          (list_there ReferenceStands S 4 (reference_inside S) g kv (map (λ item. item.1) items) to_references h.1);
+          (list_there ReferenceStands S 4 (reference_inside S) g kv
+          (map (λ item. item.1) items) to_references h.1);
     }
 
 -- the item at an index
@@ -86,9 +100,11 @@ item_at :
 item_at A p size [] h i item e = absurd (let f : None ≡ Some item = e in cc)
 item_at A p size (x ∷ xs) h zero item e =
     let same : x ≡ item = let f : Some x ≡ Some item = e in cc in
-    subst (λ n. A n item) (let here : p ≡ p + zero * size = omega arith in here) (subst (A p) same h.0)
+    subst (λ n. A n item) (let here : p ≡ p + zero * size = omega arith in here)
+    (subst (A p) same h.0)
 item_at A p size (x ∷ xs) h (suc i) item e =
-    subst (λ n. A n item) (let here : p + size + i * size ≡ p + suc i * size = omega (arith, suc-mul i size) in here)
+    subst (λ n. A n item) (let here : p + size + i * size ≡ p + suc i * size =
+    omega (arith, suc-mul i size) in here)
     (item_at A (p + size) size xs h.1 i item e)
 
 some_bytes : (w : Width) → 1 ≤ byte_len w
@@ -114,20 +130,25 @@ byte_stands :
     → slice_get bytes i ≡ Some byte → Num B (p + i) w8 ≡ Some byte
 byte_stands B p [] h i byte e = absurd (let f : None ≡ Some byte = e in cc)
 byte_stands B p (x ∷ xs) h zero byte e =
-    let here : Num B p w8 ≡ Some x = num_of_bytes B p w8 (x ∷ []) refl (parts_stand B (x ∷ []) xs p h).0 in
+    let here : Num B p w8 ≡ Some x = num_of_bytes B p w8 (x ∷ []) refl
+    (parts_stand B (x ∷ []) xs p h).0 in
     ap (λ n. Num B n w8) (let same : p + zero ≡ p = omega arith in same) ∙ here ∙ e
 byte_stands B p (x ∷ xs) h (suc i) byte e =
     ap (λ n. Num B n w8) (let same : p + suc i ≡ p + 1 + i = omega arith in same)
     ∙ byte_stands B (p + 1) xs (parts_stand B (x ∷ []) xs p h).1 i byte e
 
 pub plain_items_stand : PlainItemsStand
-plain_items_stand B k size alignment items h i item e = item_at (PlainStands size B) (k + 4) size items h.1 i item e
+plain_items_stand B k size alignment items h i item e = item_at (PlainStands size B)
+    (k + 4) size items h.1 i item e
 
 pub reference_items_stand : ReferenceItemsStand
-reference_items_stand B k distances h i distance e = item_at (ReferenceStands B) (k + 4) 4 distances h.1 i distance e
+reference_items_stand B k distances h i distance e = item_at (ReferenceStands B)
+    (k + 4) 4 distances h.1 i distance e
 
 pub union_items_stand : UnionItemsStand
 union_items_stand B kt kv items h i item e = (
-  byte_stands B (kt + 4) (map (λ pair. pair.0) items) h.0.1 i item.0 (slice_get-map (λ pair. pair.0) items i ∙ ap (option_map (λ pair. pair.0)) e),
-  item_at (ReferenceStands B) (kv + 4) 4 (map (λ pair. pair.1) items) h.1.1 i item.1 (slice_get-map (λ pair. pair.1) items i ∙ ap (option_map (λ pair. pair.1)) e),
+  byte_stands B (kt + 4) (map (λ pair. pair.0) items) h.0.1 i item.0
+      (slice_get-map (λ pair. pair.0) items i ∙ ap (option_map (λ pair. pair.0)) e),
+  item_at (ReferenceStands B) (kv + 4) 4 (map (λ pair. pair.1) items) h.1.1 i item.1
+      (slice_get-map (λ pair. pair.1) items i ∙ ap (option_map (λ pair. pair.1)) e),
 )

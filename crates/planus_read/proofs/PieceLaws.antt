@@ -12,14 +12,16 @@ use Rattle.planus_read.proofs.Moves.{num_moves, field_back, stands_alone}
 use Rattle.planus_read.proofs.Reading.{num_inside}
 
 pub references_lead : ReferencesLead
-references_lead B f distance h = let whole : f + h.0 + distance ≡ length B = h.2 in (h.0, h.1, omega arith)
+references_lead B f distance h = let whole : f + h.0 + distance ≡ length B = h.2 in
+    (h.0, h.1, omega arith)
 
 pub num_in_piece :
     (B : List ℕ) (start f : ℕ) (w : Width) → start ≤ length B
     → Num B (start + f) w ≡ Num (drop start B) f w
 num_in_piece B start f w inside =
     ap (λ l. Num l (start + f) w) (sym (take-append-drop start B))
-    ∙ num_moves (take start B) (drop start B) f (start + f) w (ap (λ n. n + f) (sym (length-take-le start B inside)))
+    ∙ num_moves (take start B) (drop start B) f (start + f) w
+    (ap (λ n. n + f) (sym (length-take-le start B inside)))
 
 pub leads_in_pieces : LeadsInPieces
 leads_in_pieces B start f k h =
@@ -34,11 +36,13 @@ bytes_in_piece B start f bytes h = ap (take (length bytes)) (drop-drop f start B
 
 pub fields_stand_in_pieces : FieldsStandInPieces
 fields_stand_in_pieces B start f field inside h =
-    field_back (take start B) (drop start B) f (start + f) field (ap (λ n. n + f) (sym (length-take-le start B inside)))
+    field_back (take start B) (drop start B) f (start + f) field
+    (ap (λ n. n + f) (sym (length-take-le start B inside)))
     (subst (λ l. FieldStands l (start + f) field) (sym (take-append-drop start B)) h)
 
 pub stands_in_pieces : StandsInPieces
 stands_in_pieces B start p v inside h =
     stands_alone (take start B) (drop start B) p v
-    (subst (λ n. Stands (take start B ++ drop start B) (moved n p) v) (sym (length-take-le start B inside))
+    (subst (λ n. Stands (take start B ++ drop start B) (moved n p) v)
+    (sym (length-take-le start B inside))
     (subst (λ l. Stands l (moved start p) v) (sym (take-append-drop start B)) h))

@@ -36,7 +36,8 @@ chosen false x n e = absurd (let f : None ≡ Some n = e in cc)
 -- what a number tells: its bytes lie in S, and it is their value
 pub num_inside :
     (S : List ℕ) (k : ℕ) (w : Width) (n : ℕ) → Num S k w ≡ Some n → k + byte_len w ≤ length S
-num_inside S k w n e = leb-true (k + byte_len w) (length S) (chosen (nat_le (k + byte_len w) (length S)) (number S k w) n e).0
+num_inside S k w n e = leb-true (k + byte_len w) (length S)
+    (chosen (nat_le (k + byte_len w) (length S)) (number S k w) n e).0
 
 pub num_value : (S : List ℕ) (k : ℕ) (w : Width) (n : ℕ) → Num S k w ≡ Some n → n ≡ number S k w
 num_value S k w n e = (chosen (nat_le (k + byte_len w) (length S)) (number S k w) n e).1
@@ -60,7 +61,12 @@ pub head_there :
     (S : List ℕ) (f : ℕ) → f + byte_len w32 ≤ length S → target S f + byte_len w32 ≤ length S
     → HeadThere S f (items_at S f) (count_at S f)
 head_there S f reference word =
-    record { begin = target S f; reference = leads_there S f reference; word = num_there S (target S f) w32 word; behind = refl }
+    record {
+      begin = target S f;
+      reference = leads_there S f reference;
+      word = num_there S (target S f) w32 word;
+      behind = refl;
+    }
 
 pub record HeadFacts (S : List ℕ) (f position count : ℕ) : Type 0 where
   pub reference : f + byte_len w32 ≤ length S
@@ -87,7 +93,8 @@ head_facts S f position count h =
 -- what the reader of heads hands on
 abbrev pub Head : List ℕ → ℕ → ℕ → SliceWithStartOffset → ℕ → Type 0
 Head S start f piece count =
-    (items : Items) × HeadThere S f items.position items.count × ShowsItems S start items (piece, count)
+    (items : Items) × HeadThere S f items.position items.count
+    × ShowsItems S start items (piece, count)
 
 -- the head of a piece, by its clauses
 record HeadRead (S : List ℕ) (f : ℕ) (items : SliceWithStartOffset) (count : ℕ) : Type 0 where
@@ -118,7 +125,8 @@ zero_behind : (S : List ℕ) (k : ℕ) → BytesStand S k (0 ∷ []) → (k < le
 zero_behind S k h =
     let stood : (0 < length (drop k S)) × (get_or (drop k S) 0 0 ≡ 0) = zero_stood (drop k S) h in (
       let more : 0 < length (drop k S) = stood.0 in omega (arith, length-drop k S),
-      ap (λ i. get_or S i 0) (let e : k ≡ k + 0 = omega arith in e) ∙ sym (get_or-drop k S 0 0) ∙ stood.1,
+      ap (λ i. get_or S i 0) (let e : k ≡ k + 0 = omega arith in e) ∙ sym (get_or-drop k S 0 0)
+          ∙ stood.1,
     )
 
 pub text_there :
@@ -128,21 +136,53 @@ text_there S f h =
     let content : List ℕ = take (count_at S f) (drop (items_at S f) S) in
     let zero : ZeroByte S (items_at S f) (count_at S f) = h.1.1.1.0 in
     let within : items_at S f + count_at S f < length S = zero.0 in
-    let long : length content ≡ count_at S f = length-take-le (count_at S f) (drop (items_at S f) S) (omega (arith, length-drop (items_at S f) S)) in
+    let long : length content ≡ count_at S f =
+    length-take-le (count_at S f) (drop (items_at S f) S)
+    (omega (arith, length-drop (items_at S f) S)) in
     let whole : BytesStand S (items_at S f) (content ++ 0 ∷ []) =
     whole_stands S content (0 ∷ []) (items_at S f) (ap (λ n. take n (drop (items_at S f) S)) long)
-    (rw long (zero_there S (items_at S f + count_at S f) within zero.1)) in
-    (target S f, leads_there S f h.0, (num_there S (target S f) w32 h.1.1.0 ∙ ap Some (sym long), whole), h.1.1.1.1.0)
+    (rw long (zero_there S (items_at S f + count_at S f) within zero.1)) in (
+      target S f,
+      leads_there S f h.0,
+      (
+        num_there S (target S f) w32 h.1.1.0
+            ∙ ap Some (sym long),
+        whole,
+      ),
+      h.1.1.1.1.0,
+    )
 
 pub text_holds :
     (S : List ℕ) (f : ℕ) (content : List ℕ) → TextThere S f content
     → AllHold (text_clauses S f) × (content ≡ take (count_at S f) (drop (items_at S f) S))
 text_holds S f content h =
-    let facts : HeadFacts S f (h.0 + 4) (length content) = head_facts S f (h.0 + 4) (length content) (record { begin = h.0; reference = h.1; word = h.2.0; behind = refl }) in
-    let parts : BytesStand S (h.0 + 4) content × BytesStand S (h.0 + 4 + length content) (0 ∷ []) = parts_stand S content (0 ∷ []) (h.0 + 4) h.2.1 in
-    let zero : BytesStand S (items_at S f + count_at S f) (0 ∷ []) = rw (← facts.position_is, ← facts.count_is) parts.1 in
-    let bytes : content ≡ take (count_at S f) (drop (items_at S f) S) = sym (ap (λ n. take n (drop (items_at S f) S)) (sym facts.count_is) ∙ ap (λ k. take (length content) (drop k S)) (sym facts.position_is) ∙ parts.0) in
-    ((facts.reference, (facts.inside, (facts.word, (zero_behind S (items_at S f + count_at S f) zero, (subst IsUtf8 bytes h.3, tt))))), bytes)
+    let facts : HeadFacts S f (h.0 + 4) (length content) =
+    head_facts S f (h.0 + 4) (length content)
+    (record { begin = h.0; reference = h.1; word = h.2.0; behind = refl }) in
+    let parts : BytesStand S (h.0 + 4) content
+    × BytesStand S (h.0 + 4 + length content) (0 ∷ []) =
+    parts_stand S content (0 ∷ []) (h.0 + 4) h.2.1 in
+    let zero : BytesStand S (items_at S f + count_at S f) (0 ∷ []) =
+    rw (← facts.position_is, ← facts.count_is) parts.1 in
+    let bytes : content ≡ take (count_at S f) (drop (items_at S f) S) =
+    sym (ap (λ n. take n (drop (items_at S f) S)) (sym facts.count_is)
+    ∙ ap (λ k. take (length content) (drop k S)) (sym facts.position_is) ∙ parts.0) in (
+      (
+        facts.reference,
+        (
+          facts.inside,
+          (
+            facts.word,
+            (
+              zero_behind S
+                  (items_at S f + count_at S f) zero,
+              (subst IsUtf8 bytes h.3, tt),
+            ),
+          ),
+        ),
+      ),
+      bytes,
+    )
 
 -- a text, read of the items behind its count
 text_of_head :
@@ -150,31 +190,59 @@ text_of_head :
     → count ≡ count_at S f → IsTextOf (drop (items_at S f) S) count content → TextThere S f content
 text_of_head S f count content head counted h =
     let items : ℕ = items_at S f in
-    let zero : (0 + count < length (drop items S)) × (get_or (drop items S) (0 + count) 0 ≡ 0) = h.zero_byte in
-    let within : items + count_at S f < length S = let w : 0 + count < length (drop items S) = zero.0 in omega (arith, length-drop items S, counted) in
+    let zero : (0 + count < length (drop items S))
+    × (get_or (drop items S) (0 + count) 0 ≡ 0) = h.zero_byte in
+    let within : items + count_at S f < length S = let w : 0 + count < length (drop items S) =
+    zero.0 in omega (arith, length-drop items S, counted) in
     let here : get_or S (items + count_at S f) 0 ≡ 0 =
-    ap (λ i. get_or S i 0) (let e : items + count_at S f ≡ items + (0 + count) = omega arith in e) ∙ sym (get_or-drop items S (0 + count) 0) ∙ zero.1 in
-    let bytes : content ≡ take (count_at S f) (drop items S) = h.bytes ∙ ap (λ n. take n (drop items S)) counted in
-    subst (TextThere S f) (sym bytes) (text_there S f (head.0, (head.1.0, (head.1.1.0, ((within, here), (subst IsUtf8 bytes h.is_utf8, tt))))))
+    ap (λ i. get_or S i 0) (let e : items + count_at S f ≡ items + (0 + count) = omega arith in e)
+    ∙ sym (get_or-drop items S (0 + count) 0) ∙ zero.1 in
+    let bytes : content ≡ take (count_at S f) (drop items S) = h.bytes
+    ∙ ap (λ n. take n (drop items S)) counted in
+    subst (TextThere S f) (sym bytes) (text_there S f (
+      head.0,
+      (head.1.0, (head.1.1.0, ((within, here), (subst IsUtf8 bytes h.is_utf8, tt)))),
+    ))
 
 zero_moves :
     (S : List ℕ) (k count n : ℕ) → k ≤ length S → count ≡ n → ZeroByte S k n
     → ZeroByte (drop k S) 0 count
-zero_moves S k count n inside same h =
-    (let w : k + n < length S = h.0 in omega (arith, length-drop k S), get_or-drop k S (0 + count) 0 ∙ ap (λ i. get_or S i 0) (let e : k + (0 + count) ≡ k + n = omega arith in e) ∙ h.1)
+zero_moves S k count n inside same h = (
+  let w : k + n < length S = h.0 in omega (arith, length-drop k S),
+  get_or-drop k S (0 + count) 0
+      ∙ ap (λ i. get_or S i 0) (let e : k + (0 + count) ≡ k + n = omega arith in e) ∙ h.1,
+)
 
 zero_moves_back :
     (S : List ℕ) (k count n : ℕ) → k ≤ length S → count ≡ n → ZeroByte (drop k S) 0 count
     → ZeroByte S k n
-zero_moves_back S k count n inside same h =
-    (let w : 0 + count < length (drop k S) = h.0 in omega (arith, length-drop k S), ap (λ i. get_or S i 0) (let e : k + n ≡ k + (0 + count) = omega arith in e) ∙ sym (get_or-drop k S (0 + count) 0) ∙ h.1)
+zero_moves_back S k count n inside same h = (
+  let w : 0 + count < length (drop k S) = h.0 in
+      omega (arith, length-drop k S),
+  ap (λ i. get_or S i 0)
+      (let e : k + n ≡ k + (0 + count) = omega arith in e) ∙ sym (get_or-drop k S (0 + count) 0)
+      ∙ h.1,
+)
 
 no_text_of_head :
     (S : List ℕ) (f count : ℕ) (e : ErrorKind) → AllHold (head_clauses S f [])
     → count ≡ count_at S f → FirstBroken (text_of_clauses (drop (items_at S f) S) count) e
     → FirstBroken (text_clauses S f) e
 no_text_of_head S f count e head counted (inl b) =
-    inr (head.0, inr (head.1.0, inr (head.1.1.0, inl ((λ z. b.0 (zero_moves S (items_at S f) count (count_at S f) head.1.1.0 counted z)), b.1))))
+    inr (
+      head.0,
+      inr (
+        head.1.0,
+        inr (
+          head.1.1.0,
+          inl (
+            (λ z. b.0
+                (zero_moves S (items_at S f) count (count_at S f) head.1.1.0 counted z)),
+            b.1,
+          ),
+        ),
+      ),
+    )
 no_text_of_head S f count e head counted (inr (z, inl b)) =
     inr (
       head.0,
@@ -184,7 +252,8 @@ no_text_of_head S f count e head counted (inr (z, inl b)) =
           head.1.1.0,
           inr (
             zero_moves_back S (items_at S f) count (count_at S f) head.1.1.0 counted z,
-            subst (λ n. FirstBroken (utf8_clause (take n (drop (items_at S f) S)) ∷ []) e) counted (inl b),
+            subst (λ n. FirstBroken (utf8_clause (take n (drop (items_at S f) S)) ∷ []) e) counted
+                (inl b),
           ),
         ),
       ),
@@ -192,17 +261,23 @@ no_text_of_head S f count e head counted (inr (z, inl b)) =
 no_text_of_head S f count e head counted (inr (z, inr (u, none))) = absurd none
 
 pub text_answer :
-    (S : List ℕ) (start f count : ℕ) (items : SliceWithStartOffset) (bytes : List ℕ) (r : Result (Bor (List ℕ)) ErrorKind)
+    (S : List ℕ) (start f count : ℕ) (items : SliceWithStartOffset) (bytes : List ℕ)
+    (r : Result (Bor (List ℕ)) ErrorKind)
     → Head S start f items count → bytes ≡ slice_bytes items
     → IfOk r (λ t. IsTextOf bytes count t.now)
     → IfErr r (λ e. FirstBroken (text_of_clauses bytes count) e)
     → Answer (shown ShowsBytes (text_reading S f)) r
 text_answer S start f count items bytes (Ok t) head same ok err =
-    let read : HeadRead S f items count = head_read S start f items count head in
-    (t.now, text_of_head S f count t.now read.holds read.counted (subst (λ l. IsTextOf l count t.now) (same ∙ read.bytes) ok), refl)
+    let read : HeadRead S f items count = head_read S start f items count head in (
+      t.now,
+      text_of_head S f count t.now read.holds read.counted
+          (subst (λ l. IsTextOf l count t.now) (same ∙ read.bytes) ok),
+      refl,
+    )
 text_answer S start f count items bytes (Err e) head same ok err =
     let read : HeadRead S f items count = head_read S start f items count head in
-    no_text_of_head S f count e read.holds read.counted (subst (λ l. FirstBroken (text_of_clauses l count) e) (same ∙ read.bytes) err)
+    no_text_of_head S f count e read.holds read.counted
+    (subst (λ l. FirstBroken (text_of_clauses l count) e) (same ∙ read.bytes) err)
 
 -- a byte list
 pub byte_list_there :
@@ -210,8 +285,17 @@ pub byte_list_there :
     → ByteListThere S f (take (count_at S f) (drop (items_at S f) S))
 byte_list_there S f h =
     let within : items_at S f + count_at S f ≤ length S = h.1.1.1.0 in
-    let long : length (take (count_at S f) (drop (items_at S f) S)) ≡ count_at S f = length-take-le (count_at S f) (drop (items_at S f) S) (omega (arith, length-drop (items_at S f) S)) in
-    (target S f, leads_there S f h.0, (num_there S (target S f) w32 h.1.1.0 ∙ ap Some (sym long), ap (λ n. take n (drop (items_at S f) S)) long))
+    let long : length (take (count_at S f) (drop (items_at S f) S)) ≡ count_at S f =
+    length-take-le (count_at S f) (drop (items_at S f) S)
+    (omega (arith, length-drop (items_at S f) S)) in (
+      target S f,
+      leads_there S f h.0,
+      (
+        num_there S (target S f) w32 h.1.1.0
+            ∙ ap Some (sym long),
+        ap (λ n. take n (drop (items_at S f) S)) long,
+      ),
+    )
 
 pub stood_inside : (l bytes : List ℕ) → take (length bytes) l ≡ bytes → length bytes ≤ length l
 stood_inside l bytes h = omega (arith, ap length h, length-take (length bytes) l)
@@ -220,12 +304,30 @@ pub byte_list_holds :
     (S : List ℕ) (f : ℕ) (content : List ℕ) → ByteListThere S f content
     → AllHold (byte_list_clauses S f) × (content ≡ take (count_at S f) (drop (items_at S f) S))
 byte_list_holds S f content h =
-    let facts : HeadFacts S f (h.0 + 4) (length content) = head_facts S f (h.0 + 4) (length content) (record { begin = h.0; reference = h.1; word = h.2.0; behind = refl }) in
-    let stood : take (length content) (drop (items_at S f) S) ≡ content = ap (λ k. take (length content) (drop k S)) (sym facts.position_is) ∙ h.2.1 in
-    let inside : length content ≤ length (drop (items_at S f) S) = stood_inside (drop (items_at S f) S) content stood in
+    let facts : HeadFacts S f (h.0 + 4) (length content) =
+    head_facts S f (h.0 + 4) (length content)
+    (record { begin = h.0; reference = h.1; word = h.2.0; behind = refl }) in
+    let stood : take (length content) (drop (items_at S f) S) ≡ content =
+    ap (λ k. take (length content) (drop k S)) (sym facts.position_is) ∙ h.2.1 in
+    let inside : length content ≤ length (drop (items_at S f) S) =
+    stood_inside (drop (items_at S f) S) content stood in
     let word : items_at S f ≤ length S = facts.word in
-    let counted : length content ≡ count_at S f = facts.count_is in
-    ((facts.reference, (facts.inside, (facts.word, (omega (arith, length-drop (items_at S f) S), tt)))), sym stood ∙ ap (λ n. take n (drop (items_at S f) S)) counted)
+    let counted : length content ≡ count_at S f = facts.count_is in (
+      (
+        facts.reference,
+        (
+          facts.inside,
+          (
+            facts.word,
+            (
+              omega (arith, length-drop (items_at S f) S),
+              tt,
+            ),
+          ),
+        ),
+      ),
+      sym stood ∙ ap (λ n. take n (drop (items_at S f) S)) counted,
+    )
 
 pub byte_list_answer :
     (S : List ℕ) (start f count : ℕ) (items : SliceWithStartOffset) (bytes : List ℕ)
@@ -236,9 +338,14 @@ byte_list_answer S start f count items bytes head same within =
     let here : bytes ≡ drop (items_at S f) S = same ∙ read.bytes in
     let counted : count ≡ count_at S f = read.counted in
     let inside : items_at S f ≤ length S = read.holds.1.1.0 in
-    let longer : count ≤ length (drop (items_at S f) S) = subst (λ l. count ≤ length l) here within in
-    let fits : items_at S f + count_at S f ≤ length S = omega (arith, length-drop (items_at S f) S) in
-    (take (count_at S f) (drop (items_at S f) S), byte_list_there S f (read.holds.0, (read.holds.1.0, (read.holds.1.1.0, (fits, tt)))), ap (take count) here ∙ ap (λ n. take n (drop (items_at S f) S)) counted)
+    let longer : count ≤ length (drop (items_at S f) S) =
+    subst (λ l. count ≤ length l) here within in
+    let fits : items_at S f + count_at S f ≤ length S =
+    omega (arith, length-drop (items_at S f) S) in (
+      take (count_at S f) (drop (items_at S f) S),
+      byte_list_there S f (read.holds.0, (read.holds.1.0, (read.holds.1.1.0, (fits, tt)))),
+      ap (take count) here ∙ ap (λ n. take n (drop (items_at S f) S)) counted,
+    )
 
 -- vectors
 pub vector_there :
@@ -251,30 +358,64 @@ pub vector_holds :
     → AllHold (vector_clauses S f stride) × (position ≡ items_at S f) × (count ≡ count_at S f)
 vector_holds S f stride position count h =
     let facts : HeadFacts S f position count = head_facts S f position count h.head in
-    let inside : items_at S f + count_at S f * stride ≤ length S = rw (← facts.position_is, ← facts.count_is) h.inside in
-    ((facts.reference, (facts.inside, (facts.word, (inside, tt)))), facts.position_is, facts.count_is)
+    let inside : items_at S f + count_at S f * stride ≤ length S =
+    rw (← facts.position_is, ← facts.count_is) h.inside in (
+      (facts.reference, (facts.inside, (facts.word, (inside, tt)))),
+      facts.position_is,
+      facts.count_is,
+    )
 
 pub union_vector_there :
     (S : List ℕ) (f g : ℕ) → AllHold (union_vector_clauses S f g)
     → UnionVectorThere S f g (items_at S f) (items_at S g) (count_at S f)
 union_vector_there S f g h =
     let second : AllHold (head_clauses S g []) = (h.1.1.1.0, (h.1.1.1.1.0, (h.1.1.1.1.1.0, tt))) in
-    let limits : (items_at S f + count_at S f ≤ length S) × (items_at S g + count_at S g * 4 ≤ length S) × (count_at S f ≡ count_at S g) =
+    let limits : (items_at S f + count_at S f ≤ length S)
+    × (items_at S g + count_at S g * 4 ≤ length S) × (count_at S f ≡ count_at S g) =
     (h.1.1.1.1.1.1.0, h.1.1.1.1.1.1.1.0, h.1.1.1.1.1.1.1.1.0) in
     let same : count_at S f ≡ count_at S g = limits.2 in
     record {
-      tags_there = vector_there S f 1 (h.0, (h.1.0, (h.1.1.0, (let l : items_at S f + count_at S f ≤ length S = limits.0 in omega arith, tt))));
-      references_there = subst (VectorThere S g 4 (items_at S g)) (sym same) (vector_there S g 4 (second.0, (second.1.0, (second.1.1.0, (limits.1, tt)))));
+      tags_there = vector_there S f 1 (
+        h.0,
+        (
+          h.1.0,
+          (
+            h.1.1.0,
+            (let l : items_at S f + count_at S f ≤ length S = limits.0 in omega arith, tt),
+          ),
+        ),
+      );
+      references_there = subst (VectorThere S g 4 (items_at S g)) (sym same)
+          (vector_there S g 4 (second.0, (second.1.0, (second.1.1.0, (limits.1, tt)))));
     }
 
 pub union_vector_holds :
     (S : List ℕ) (f g tags references count : ℕ) → UnionVectorThere S f g tags references count
     → AllHold (union_vector_clauses S f g)
 union_vector_holds S f g tags references count h =
-    let a : AllHold (vector_clauses S f 1) × (tags ≡ items_at S f) × (count ≡ count_at S f) = vector_holds S f 1 tags count h.tags_there in
-    let b : AllHold (vector_clauses S g 4) × (references ≡ items_at S g) × (count ≡ count_at S g) = vector_holds S g 4 references count h.references_there in
-    let l : items_at S f + count_at S f * 1 ≤ length S = a.0.1.1.1.0 in
-    (a.0.0, (a.0.1.0, (a.0.1.1.0, (b.0.0, (b.0.1.0, (b.0.1.1.0, (omega arith, (b.0.1.1.1.0, (sym a.2 ∙ b.2, tt)))))))))
+    let a : AllHold (vector_clauses S f 1) × (tags ≡ items_at S f)
+    × (count ≡ count_at S f) = vector_holds S f 1 tags count h.tags_there in
+    let b : AllHold (vector_clauses S g 4) × (references ≡ items_at S g)
+    × (count ≡ count_at S g) = vector_holds S g 4 references count h.references_there in
+    let l : items_at S f + count_at S f * 1 ≤ length S = a.0.1.1.1.0 in (
+      a.0.0,
+      (
+        a.0.1.0,
+        (
+          a.0.1.1.0,
+          (
+            b.0.0,
+            (
+              b.0.1.0,
+              (
+                b.0.1.1.0,
+                (omega arith, (b.0.1.1.1.0, (sym a.2 ∙ b.2, tt))),
+              ),
+            ),
+          ),
+        ),
+      ),
+    )
 
 -- tables
 below_zero : (o : ℕ) (r : ℤ) → r ≤ℤ pos o → r ≡ pos o -ℤ pos (unsigned_abs (pos o -ℤ r))
@@ -288,7 +429,8 @@ table_there S f h =
     let object : AllHold (object_clauses S o) = h.1.1 in
     record {
       reference = leads_there S f h.0;
-      word = ap (option_map (cast_signed w32)) (num_there S o w32 object.0) ∙ ap Some (below_zero o (signed_number S o) object.1.0);
+      word = ap (option_map (cast_signed w32)) (num_there S o w32 object.0)
+          ∙ ap Some (below_zero o (signed_number S o) object.1.0);
       size_word = num_there S (vtable_at S o) w16 object.1.1.0;
       least = object.1.1.1.0.0;
       even = object.1.1.1.0.1;
@@ -301,7 +443,8 @@ zero_from o t r e = (omega (arith, ints), omega (arith, ints))
 signed_chosen :
     (m : Option ℕ) (n : ℕ) (z : ℤ) → m ≡ Some n → option_map (cast_signed w32) m ≡ Some z
     → z ≡ cast_signed w32 n
-signed_chosen m n z e h = let f : Some (cast_signed w32 n) ≡ Some z = ap (option_map (cast_signed w32)) (sym e) ∙ h in cc
+signed_chosen m n z e h = let f : Some (cast_signed w32 n) ≡ Some z =
+    ap (option_map (cast_signed w32)) (sym e) ∙ h in cc
 
 pub number_of_signed :
     (m : Option ℕ) (z : ℤ) → option_map (cast_signed w32) m ≡ Some z → (n : ℕ) × (m ≡ Some n)
@@ -310,16 +453,23 @@ number_of_signed (Some n) z h = (n, refl)
 
 pub table_holds :
     (S : List ℕ) (f object vtable size : ℕ) → TableThere S f object vtable size
-    → AllHold (table_clauses S f) × (object ≡ target S f) × (vtable ≡ vtable_at S (target S f)) × (size ≡ vtable_size_at S (target S f))
+    → AllHold (table_clauses S f) × (object ≡ target S f) × (vtable ≡ vtable_at S (target S f))
+    × (size ≡ vtable_size_at S (target S f))
 table_holds S f object vtable size h =
     let o : ℕ = target S f in
     let to : object ≡ o = leads_to S f object h.reference in
-    let word : Int S o ≡ Some (pos o -ℤ pos vtable) = subst (λ k. Int S k ≡ Some (pos k -ℤ pos vtable)) to h.word in
-    let n : (n : ℕ) × (Num S o w32 ≡ Some n) = number_of_signed (Num S o w32) (pos o -ℤ pos vtable) word in
+    let word : Int S o ≡ Some (pos o -ℤ pos vtable) =
+    subst (λ k. Int S k ≡ Some (pos k -ℤ pos vtable)) to h.word in
+    let n : (n : ℕ) × (Num S o w32 ≡ Some n) = number_of_signed (Num S o w32)
+    (pos o -ℤ pos vtable) word in
     let inside : o + byte_len w32 ≤ length S = num_inside S o w32 n.0 n.1 in
-    let is : pos o -ℤ pos vtable ≡ signed_number S o = signed_chosen (Num S o w32) (number S o w32) (pos o -ℤ pos vtable) (num_there S o w32 inside) word in
-    let place : (signed_number S o ≤ℤ pos o) × (vtable ≡ vtable_at S o) = zero_from o vtable (signed_number S o) (sym is) in
-    let size_word : Num S (vtable_at S o) w16 ≡ Some size = ap (λ k. Num S k w16) (sym place.1) ∙ h.size_word in
+    let is : pos o -ℤ pos vtable ≡ signed_number S o =
+    signed_chosen (Num S o w32) (number S o w32) (pos o -ℤ pos vtable)
+    (num_there S o w32 inside) word in
+    let place : (signed_number S o ≤ℤ pos o)
+    × (vtable ≡ vtable_at S o) = zero_from o vtable (signed_number S o) (sym is) in
+    let size_word : Num S (vtable_at S o) w16 ≡ Some size = ap (λ k. Num S k w16) (sym place.1)
+    ∙ h.size_word in
     let size_is : size ≡ vtable_size_at S o = num_value S (vtable_at S o) w16 size size_word in (
       (
         leads_inside S f object h.reference,
@@ -331,7 +481,14 @@ table_holds S f object vtable size h =
               place.0,
               (
                 num_inside S (vtable_at S o) w16 size size_word,
-                ((subst (λ z. 4 ≤ z) size_is h.least, subst (λ z. z % 2 ≡ 0) size_is h.even), (subst (λ t. t + vtable_size_at S o ≤ length S) place.1 (subst (λ z. vtable + z ≤ length S) size_is h.inside), tt)),
+                (
+                  (subst (λ z. 4 ≤ z) size_is h.least, subst (λ z. z % 2 ≡ 0) size_is h.even),
+                  (
+                    subst (λ t. t + vtable_size_at S o ≤ length S) place.1
+                        (subst (λ z. vtable + z ≤ length S) size_is h.inside),
+                    tt,
+                  ),
+                ),
               ),
             ),
           ),
@@ -348,6 +505,11 @@ pub table_answer :
     → table_slots table ≡ slots_of S (target S f)
     → Answer (shown (ShowsTable S start) (table_reading S f)) (Ok table)
 table_answer S start f table h bytes begin slots =
-    let place : TableLayout = record { object = target S f; vtable = vtable_at S (target S f); size = vtable_size_at S (target S f) } in
-    let shows : ShowsTable S start place table = record { object_bytes = bytes; object_start = begin; slots = slots } in
+    let place : TableLayout = record {
+      object = target S f;
+      vtable = vtable_at S (target S f);
+      size = vtable_size_at S (target S f);
+    } in
+    let shows : ShowsTable S start place table =
+    record { object_bytes = bytes; object_start = begin; slots = slots } in
     (place, table_there S f h, shows)

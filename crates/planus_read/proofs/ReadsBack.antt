@@ -39,11 +39,15 @@ use Rattle.planus_read.proofs.TableReading.{slot_reads_whole}
 plain_reads : (S : List ℕ) (f : ℕ) (bytes : List ℕ) → BytesStand S f bytes → PlainReads S f bytes
 plain_reads S f bytes h =
     record {
-      number = λ width long. (lawful_number S f width).answered (from_le_bytes width bytes) (num_of_bytes S f width bytes long h);
-      signed = λ width long. (lawful_signed S f width).answered (cast_signed width (from_le_bytes width bytes)) (ap (option_map (cast_signed width)) (num_of_bytes S f width bytes long h));
+      number = λ width long. (lawful_number S f width).answered (from_le_bytes width bytes)
+          (num_of_bytes S f width bytes long h);
+      signed = λ width long. (lawful_signed S f width).answered
+          (cast_signed width (from_le_bytes width bytes))
+          (ap (option_map (cast_signed width)) (num_of_bytes S f width bytes long h));
       truth = λ byte e.
           let one : BytesStand S f (byte ∷ []) = subst (BytesStand S f) e h in
-          (lawful_truth S f).answered (not (byte == 0)) (ap (option_map (λ n. not (n == 0))) (num_of_bytes S f w8 (byte ∷ []) refl one));
+          (lawful_truth S f).answered (not (byte == 0))
+          (ap (option_map (λ n. not (n == 0))) (num_of_bytes S f w8 (byte ∷ []) refl one));
     }
 
 leads_on :
@@ -53,7 +57,8 @@ leads_on B start f distance h place is =
     record {
       piece = is.bytes ∙ ap (λ s. drop s B) (sym is.begin);
       leads = subst (λ s. Leads B (s + place_offset place) (position_of B distance)) (sym is.begin)
-          (subst (λ o. Leads B (start + o) (position_of B distance)) (sym is.offset) (references_lead B (start + f) distance h));
+          (subst (λ o. Leads B (start + o) (position_of B distance)) (sym is.offset)
+          (references_lead B (start + f) distance h));
     }
 
 reference_reads :
@@ -63,11 +68,15 @@ reference_reads B start f distance h =
     record {
       leads = references_lead B (start + f) distance h;
       place = leads_on B start f distance h;
-      tagged = λ tag tagged is. record { tag_is = is.tag_is; leads_on = leads_on B start f distance h (tagged_place tagged) is.place_is };
+      tagged = λ tag tagged is. record {
+        tag_is = is.tag_is;
+        leads_on = leads_on B start f distance h (tagged_place tagged) is.place_is;
+      };
     }
 
 pub fields_read_back : FieldsReadBack
-fields_read_back B start f (plain item) h = plain_reads (drop start B) f item.bytes (bytes_in_piece B start f item.bytes h)
+fields_read_back B start f (plain item) h = plain_reads (drop start B) f item.bytes
+    (bytes_in_piece B start f item.bytes h)
 fields_read_back B start f (reference distance) h = reference_reads B start f distance h
 fields_read_back B start f (tags distance) h = reference_reads B start f distance h
 fields_read_back B start f (values distance) h = reference_reads B start f distance h
@@ -83,27 +92,34 @@ in_piece B start f k h =
     let here : start + f + byte_len w32 ≤ length B = num_inside B (start + f) w32 h.0 h.1 in
     let to : k ≡ start + f + h.0 = h.2 in
     let whole : k ≡ start + (k - start) = omega arith in
-    record { inside = omega arith; whole = whole; leads = leads_in_pieces B start f (k - start) (subst (Leads B (start + f)) whole h) }
+    record {
+      inside = omega arith;
+      whole = whole;
+      leads = leads_in_pieces B start f (k - start) (subst (Leads B (start + f)) whole h);
+    }
 
 stands_here :
     (B : List ℕ) (start f k : ℕ) (v : Value) → InPiece B start f k → Stands B (at k) v
     → Stands (drop start B) (at (k - start)) v
 stands_here B start f k v here h =
-    stands_in_pieces B start (at (k - start)) v here.inside (subst (λ n. Stands B (at n) v) here.whole h)
+    stands_in_pieces B start (at (k - start)) v here.inside
+    (subst (λ n. Stands B (at n) v) here.whole h)
 
 text_reads :
     (B : List ℕ) (k : ℕ) (bytes : List ℕ) → IsUtf8 bytes → Stands B (at k) (text bytes)
     → (start f : ℕ) → Leads B (start + f) k → IsAnswered (text_reading (drop start B) f) bytes
 text_reads B k bytes utf8 h start f to =
     let here : InPiece B start f k = in_piece B start f k to in
-    (lawful_text (drop start B) f).answered bytes (k - start, here.leads, stands_here B start f k (text bytes) here h, utf8)
+    (lawful_text (drop start B) f).answered bytes
+    (k - start, here.leads, stands_here B start f k (text bytes) here h, utf8)
 
 byte_list_reads :
     (B : List ℕ) (k : ℕ) (bytes : List ℕ) → Stands B (at k) (byte_list bytes) → (start f : ℕ)
     → Leads B (start + f) k → IsAnswered (byte_list_reading (drop start B) f) bytes
 byte_list_reads B k bytes h start f to =
     let here : InPiece B start f k = in_piece B start f k to in
-    (lawful_byte_list (drop start B) f).answered bytes (k - start, here.leads, stands_here B start f k (byte_list bytes) here h)
+    (lawful_byte_list (drop start B) f).answered bytes
+    (k - start, here.leads, stands_here B start f k (byte_list bytes) here h)
 
 plain_list_reads :
     (B : List ℕ) (k size alignment : ℕ) (items : List (List ℕ))
@@ -116,8 +132,11 @@ plain_list_reads B k size alignment items h start f to =
       position = k - start + 4;
       first = omega (arith, here.whole);
       vector = (lawful_vector (drop start B) f size).answered vector
-          (plain_lists_read (drop start B) f (k - start) size alignment items here.leads (stands_here B start f k (plain_list size alignment items) here h));
-      each = λ i item e. plain_reads (drop (k + 4) B) (i * size) item (bytes_in_piece B (k + 4) (i * size) item (plain_items_stand B k size alignment items h i item e).1);
+          (plain_lists_read (drop start B) f (k - start) size alignment items here.leads
+          (stands_here B start f k (plain_list size alignment items) here h));
+      each = λ i item e. plain_reads (drop (k + 4) B) (i * size) item
+          (bytes_in_piece B (k + 4) (i * size) item
+          (plain_items_stand B k size alignment items h i item e).1);
     }
 
 reference_list_reads :
@@ -130,8 +149,10 @@ reference_list_reads B k distances h start f to =
       position = k - start + 4;
       first = omega (arith, here.whole);
       vector = (lawful_vector (drop start B) f 4).answered vector
-          (reference_lists_read (drop start B) f (k - start) distances here.leads (stands_here B start f k (reference_list distances) here h));
-      each = λ i distance e. reference_reads B (k + 4) (i * 4) distance (reference_items_stand B k distances h i distance e);
+          (reference_lists_read (drop start B) f (k - start) distances here.leads
+          (stands_here B start f k (reference_list distances) here h));
+      each = λ i distance e. reference_reads B (k + 4) (i * 4) distance
+          (reference_items_stand B k distances h i distance e);
     }
 
 union_list_reads :
@@ -141,26 +162,42 @@ union_list_reads :
 union_list_reads B kt kv items h start f g to_tags to_references =
     let tags_here : InPiece B start f kt = in_piece B start f kt to_tags in
     let references_here : InPiece B start g kv = in_piece B start g kv to_references in
-    let vector : UnionItems = record { tags = kt - start + 4; references = kv - start + 4; count = length items } in
-    let moved_there : Stands B (at_both (start + (kt - start)) (start + (kv - start))) (union_list items) =
+    let vector : UnionItems = record {
+      tags = kt - start + 4;
+      references = kv - start + 4;
+      count = length items;
+    } in
+    let moved_there : Stands B (at_both (start + (kt - start)) (start + (kv - start)))
+    (union_list items) =
     subst (λ n. Stands B (at_both n (start + (kv - start))) (union_list items)) tags_here.whole
     (subst (λ n. Stands B (at_both kt n) (union_list items)) references_here.whole h) in
-    let count_inside : kt + byte_len w32 ≤ length B = num_inside B kt w32 (length (map (λ item. item.0) items)) h.0.0 in
+    let count_inside : kt + byte_len w32 ≤ length B =
+    num_inside B kt w32 (length (map (λ item. item.0) items)) h.0.0 in
     record {
       tags_position = kt - start + 4;
       references_position = kv - start + 4;
       first_tag = omega (arith, tags_here.whole);
       first_reference = omega (arith, references_here.whole);
       vector = (lawful_union_vector (drop start B) f g).answered vector
-          (union_lists_read (drop start B) f g (kt - start) (kv - start) items tags_here.leads references_here.leads (stands_in_pieces B start (at_both (kt - start) (kv - start)) (union_list items) tags_here.inside moved_there));
-      each_tag = λ i item e. (lawful_number (drop (kt + 4) B) i w8).answered item.0 (sym (num_in_piece B (kt + 4) i w8 count_inside) ∙ (union_items_stand B kt kv items h i item e).0);
-      each_reference = λ i item e. reference_reads B (kv + 4) (i * 4) item.1 (union_items_stand B kt kv items h i item e).1;
+          (union_lists_read (drop start B) f g (kt - start)
+          (kv - start) items tags_here.leads references_here.leads
+          (stands_in_pieces B start (at_both (kt - start) (kv - start))
+          (union_list items) tags_here.inside moved_there));
+      each_tag = λ i item e. (lawful_number (drop (kt + 4) B) i w8).answered item.0
+          (sym (num_in_piece B (kt + 4) i w8 count_inside)
+          ∙ (union_items_stand B kt kv items h i item e).0);
+      each_reference = λ i item e. reference_reads B (kv + 4) (i * 4) item.1
+          (union_items_stand B kt kv items h i item e).1;
     }
 
 table_reads :
     (B : List ℕ) (k : ℕ) (entries : List (ℕ × Field)) → Stands B (at k) (table entries)
     → (start f : ℕ) → Leads B (start + f) k → TableReads B k start f entries
-table_reads B k entries h start f to = record { layout = layout; answered = answered; fields = fields }
+table_reads B k entries h start f to = record {
+  layout = layout;
+  answered = answered;
+  fields = fields;
+}
   where
     here : InPiece B start f k
     here = in_piece B start f k to
@@ -172,38 +209,53 @@ table_reads B k entries h start f to = record { layout = layout; answered = answ
     layout = record { object = k - start; vtable = stands.vtable; size = vtable_size entries }
 
     answered : IsAnswered (table_reading (drop start B) f) layout
-    answered = (lawful_table (drop start B) f).answered layout (table_there (drop start B) f (k - start) entries here.leads stands)
+    answered = (lawful_table (drop start B) f).answered layout
+        (table_there (drop start B) f (k - start) entries here.leads stands)
 
     inside : k + 4 ≤ length B
     inside =
-        let word : (n : ℕ) × (Num B k w32 ≡ Some n) = number_of_signed (Num B k w32) (pos k -ℤ pos h.vtable) h.word in
+        let word : (n : ℕ) × (Num B k w32 ≡ Some n) = number_of_signed (Num B k w32)
+        (pos k -ℤ pos h.vtable) h.word in
         num_inside B k w32 word.0 word.1
 
     has_fields : (t : Table) → ShowsTable (drop start B) start layout t → HasFields B k entries t
     has_fields t shows =
         record {
-          object = shows.object_bytes ∙ drop-drop (k - start) start B ∙ ap (λ n. drop n B) (sym here.whole);
+          object = shows.object_bytes ∙ drop-drop (k - start) start B
+              ∙ ap (λ n. drop n B) (sym here.whole);
           begin = shows.object_start ∙ sym here.whole;
           inside = inside;
-          slot_bytes = ap length shows.slots ∙ table_slot_bytes (drop start B) (k - start) entries stands;
+          slot_bytes = ap length shows.slots
+              ∙ table_slot_bytes (drop start B) (k - start) entries stands;
           slots = λ i.
               subst (λ V. SlotReads B k (Slot V i) (field_at entries i)) (sym shows.slots)
-              (subst (λ n. SlotReads B n (Slot (drop 4 (take (vtable_size entries) (drop stands.vtable (drop start B)))) i) (field_at entries i)) (sym here.whole)
-              (slot_reads_whole B start (k - start) (Slot (drop 4 (take (vtable_size entries) (drop stands.vtable (drop start B)))) i) (field_at entries i) here.inside (any_slot_reads (drop start B) (k - start) entries stands i)));
+              (subst (λ n. SlotReads B n
+              (Slot (drop 4 (take (vtable_size entries) (drop stands.vtable (drop start B)))) i)
+              (field_at entries i)) (sym here.whole)
+              (slot_reads_whole B start (k - start)
+              (Slot (drop 4 (take (vtable_size entries) (drop stands.vtable (drop start B)))) i)
+              (field_at entries i) here.inside
+              (any_slot_reads (drop start B) (k - start) entries stands i)));
         }
 
-    fields : (r : Result Table ErrorKind) → Answer (shown (ShowsTable (drop start B) start) (table_reading (drop start B) f)) r → IsOkAnd r (HasFields B k entries)
-    fields (Ok t) it = has_fields t (subst (λ p. ShowsTable (drop start B) start p t) (answered.alone it.0 it.1) it.2)
+    fields : (r : Result Table ErrorKind)
+        → Answer (shown (ShowsTable (drop start B) start) (table_reading (drop start B) f)) r
+        → IsOkAnd r (HasFields B k entries)
+    fields (Ok t) it = has_fields t (subst (λ p. ShowsTable (drop start B) start p t)
+        (answered.alone it.0 it.1) it.2)
     fields (Err e) it = absurd ((lawful_table (drop start B) f).nothing e it layout answered.there)
 
 pub what_stands_reads_back : WhatStandsReadsBack
 what_stands_reads_back B (at k) (text bytes) well h = text_reads B k bytes well h
 what_stands_reads_back B (at k) (byte_list bytes) well h = byte_list_reads B k bytes h
-what_stands_reads_back B (at k) (plain_list size alignment items) well h = plain_list_reads B k size alignment items h
-what_stands_reads_back B (at k) (reference_list distances) well h = reference_list_reads B k distances h
+what_stands_reads_back B (at k) (plain_list size alignment items) well h = plain_list_reads B k size
+    alignment items h
+what_stands_reads_back B (at k) (reference_list distances) well h = reference_list_reads B k
+    distances h
 what_stands_reads_back B (at k) (table entries) well h = table_reads B k entries h
 what_stands_reads_back B (at k) (union_list items) well h = h
-what_stands_reads_back B (at_both kt kv) (union_list items) well h = union_list_reads B kt kv items h
+what_stands_reads_back B (at_both kt kv) (union_list items) well h = union_list_reads B kt kv items
+    h
 what_stands_reads_back B (at_both kt kv) (text bytes) well h = h
 what_stands_reads_back B (at_both kt kv) (byte_list bytes) well h = h
 what_stands_reads_back B (at_both kt kv) (plain_list size alignment items) well h = h

@@ -17,7 +17,9 @@ pub returns-clause-byte_list : goal.returns-clause-byte_list
 returns-clause-byte_list c S f = is_shown (byte_list_reading S f) ShowsBytes (lawful_byte_list S f)
 
 pub returns-clause-signed_bytes : goal.returns-clause-signed_bytes
-returns-clause-signed_bytes c S f = is_shown (byte_list_reading S f) ShowsSigned (lawful_byte_list S f)
+returns-clause-signed_bytes c S f = is_shown (byte_list_reading S f) ShowsSigned
+    (lawful_byte_list S f)
 
 pub returns-clause-table : goal.returns-clause-table
-returns-clause-table c S start f = is_shown (table_reading S f) (ShowsTable S start) (lawful_table S f)
+returns-clause-table c S start f = is_shown (table_reading S f) (ShowsTable S start)
+    (lawful_table S f)

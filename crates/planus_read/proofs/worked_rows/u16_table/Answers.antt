@@ -16,4 +16,10 @@ slots (suc i) h = absurd (omega arith)
 
 pub returns-clause-aligned : goal.returns-clause-aligned
 returns-clause-aligned c =
-    record { table = dvd-mul_left 4 1; vtable = 10; word = refl; vtable_aligned = dvd-mul_left 2 5; slots = slots }
+    record {
+      table = dvd-mul_left 4 1;
+      vtable = 10;
+      word = refl;
+      vtable_aligned = dvd-mul_left 2 5;
+      slots = slots;
+    }

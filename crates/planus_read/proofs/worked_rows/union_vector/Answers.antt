@@ -6,7 +6,10 @@ pub returns-clause-stands : goal.returns-clause-stands
 returns-clause-stands c = ((refl, refl), (refl, ((16, refl, refl), ((4, refl, refl), tt))))
 
 pub returns-clause-aligned : goal.returns-clause-aligned
-returns-clause-aligned c = (dvd-mul_left 4 0, (dvd-mul_left 4 2, (dvd-mul_left 4 3, (dvd-mul_left 4 4, tt))))
+returns-clause-aligned c = (
+  dvd-mul_left 4 0,
+  (dvd-mul_left 4 2, (dvd-mul_left 4 3, (dvd-mul_left 4 4, tt))),
+)
 
 pub returns-clause-first_aligned : goal.returns-clause-first_aligned
 returns-clause-first_aligned c = dvd-mul_left 4 7

@@ -17,7 +17,14 @@ slots_stand (suc (suc i)) h = absurd (omega arith)
 
 pub returns-clause-stands : goal.returns-clause-stands
 returns-clause-stands c =
-    record { vtable = 16; behind = lit< tt; word = refl; size = refl; inside = lit≤ tt; slots = slots_stand }
+    record {
+      vtable = 16;
+      behind = lit< tt;
+      word = refl;
+      size = refl;
+      inside = lit≤ tt;
+      slots = slots_stand;
+    }
 
 slots_aligned :
     (i : ℕ) → 2 * i + 6 ≤ 8 → SlotAligned weapon_bytes 4 (20 + 2 * i) (field_at weapon_fields i)
@@ -27,7 +34,13 @@ slots_aligned (suc (suc i)) h = absurd (omega arith)
 
 pub returns-clause-aligned : goal.returns-clause-aligned
 returns-clause-aligned c =
-    record { table = dvd-mul_left 4 1; vtable = 16; word = refl; vtable_aligned = dvd-mul_left 2 8; slots = slots_aligned }
+    record {
+      table = dvd-mul_left 4 1;
+      vtable = 16;
+      word = refl;
+      vtable_aligned = dvd-mul_left 2 8;
+      slots = slots_aligned;
+    }
 
 pub returns-clause-text_aligned : goal.returns-clause-text_aligned
 returns-clause-text_aligned c = dvd-mul_left 4 6

@@ -9,9 +9,18 @@ use Rattle.planus_read.proofs.table_reader.Table.from_buffer.Goals as goal
 pub returns : goal.returns
 returns c =
     let S : List ℕ = slice_bytes c.args.buffer in let f : ℕ = c.args.offset in
-    let to : c.in-Some.object_offset ≡ target S f = omega (arith, c.in-Some.ensures, num_value S f w32 c.in_ok-value.value c.in_ok-value.ensures) in
+    let to : c.in-Some.object_offset ≡ target S f =
+    omega (
+      arith,
+      c.in-Some.ensures,
+      num_value S f w32 c.in_ok-value.value c.in_ok-value.ensures,
+    ) in
     let piece = c.in_ok-object.ensures.piece in
     let inside : target S f ≤ length S = subst (λ o. o ≤ length S) to piece.inside in
-    let object : AllHold (object_clauses S (target S f)) = subst (λ o. AllHold (object_clauses S o)) to c.in_ok-vtable.ensures.holds in
-    table_answer S (slice_start c.args.buffer) f _ (num_inside S f w32 c.in_ok-value.value c.in_ok-value.ensures, (inside, object)) (piece.bytes ∙ ap (λ o. drop o S) to) (piece.start ∙ ap (λ o. slice_start c.args.buffer + o) to)
+    let object : AllHold (object_clauses S (target S f)) =
+    subst (λ o. AllHold (object_clauses S o)) to c.in_ok-vtable.ensures.holds in
+    table_answer S (slice_start c.args.buffer) f _
+    (num_inside S f w32 c.in_ok-value.value c.in_ok-value.ensures, (inside, object))
+    (piece.bytes ∙ ap (λ o. drop o S) to)
+    (piece.start ∙ ap (λ o. slice_start c.args.buffer + o) to)
     (c.in_ok-vtable.ensures.slots ∙ ap (slots_of S) to)
