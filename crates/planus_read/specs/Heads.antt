@@ -16,13 +16,13 @@ pub record ShowsItems
   pub begin : slice_start head.0 ≡ start + items.position
   pub counted : head.1 ≡ items.count
 
--- The text of the first count items, with a zero byte behind it.
+-- The text of the first count items, followed by a zero byte.
 pub record IsTextOf (items : List ℕ) (count : ℕ) (content : List ℕ) : Type 0 where
   pub zero_byte : ZeroByte items 0 count
   pub bytes : content ≡ take count items
   pub is_utf8 : IsUtf8 content
 
--- the clauses of that text: a zero byte behind the first count items, and that these are UTF-8
+-- the clauses of that text: a zero byte follows the first count items, and these are UTF-8
 abbrev pub text_of_clauses : List ℕ → ℕ → List Clause
 text_of_clauses items count =
     clause (ZeroByte items 0 count) MissingNullTerminator ∷ utf8_clause (take count items) ∷ []

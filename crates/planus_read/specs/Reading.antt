@@ -80,7 +80,7 @@ head_clauses S f rest =
 abbrev pub count_at : List ℕ → ℕ → ℕ
 count_at S f = number S (target S f) w32
 
--- where the items behind that count begin
+-- where the items that follow that count begin
 abbrev pub items_at : List ℕ → ℕ → ℕ
 items_at S f = target S f + 4
 
@@ -109,7 +109,7 @@ abbrev pub TextThere : List ℕ → ℕ → List ℕ → Type 0
 TextThere S f content =
     (position : ℕ) × Leads S f position × Stands S (at position) (text content) × IsUtf8 content
 
--- the byte at the count behind the items exists and is 0
+-- the byte that follows count items exists and is 0
 abbrev pub ZeroByte : List ℕ → ℕ → ℕ → Type 0
 ZeroByte S first count = (first + count < length S) × (slice_index S (first + count) ≡ 0)
 

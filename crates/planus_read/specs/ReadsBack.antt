@@ -64,7 +64,7 @@ FieldsReadBack =
     → FieldReads B start f field
 
 -- The list at k, read at f of the piece of B from start on: a vector of as many items of this size,
--- each of which is answered over the piece that begins at the first item, behind the count.
+-- each of which is answered over the piece that begins at the first item.
 pub record ListReads
     {X : Type 0} (ItemReads : ℕ → ℕ → X → Type 0) (B : List ℕ) (k start f size : ℕ) (items : List X)
     : Type 0 where

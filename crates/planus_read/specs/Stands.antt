@@ -14,14 +14,14 @@ use Rattle.planus_read.specs.Values.{field_at, vtable_size}
 abbrev pub ReferenceStands : List ℕ → ℕ → ℕ → Type 0
 ReferenceStands B f distance = (n : ℕ) × (Num B f w32 ≡ Some n) × (f + n + distance ≡ length B)
 
--- each item stands, the first at the position, and each further one behind it by the size
+-- each item stands, the first at the position, and each next one further on by the size
 abbrev pub ItemsStand : {X : Type 0} → (ℕ → X → Type 0) → ℕ → ℕ → List X → Type 0
 ItemsStand StandsAt position size [] = ⊤
 ItemsStand StandsAt position size (item ∷ items) =
     StandsAt position item × ItemsStand StandsAt (position + size) size items
 
 -- a count, and then the items
--- The format: a vector is a count of 4 bytes, and behind it its items.
+-- The format: a vector is a count of 4 bytes, which its items follow.
 abbrev pub ListStands : {X : Type 0} → (List ℕ → ℕ → X → Type 0) → List ℕ → ℕ → ℕ → List X → Type 0
 ListStands StandsAt B k size items =
     (Num B k w32 ≡ Some (length items)) × ItemsStand (StandsAt B) (k + 4) size items
@@ -65,10 +65,10 @@ pub data Position : Type 0 where
   at : ℕ → Position
   at_both : ℕ → ℕ → Position
 
--- The value stands there. Each item of a plain list has the list's size. That the bytes of a text
--- are UTF-8 is not asked here; the readers ask it.
--- The format: a text is a vector of UTF-8 bytes with a zero byte behind it that the count leaves
--- out; a byte list has no such byte; a union vector is two vectors, of tags and of references.
+-- The value stands there. Each item of a plain list has the list's size. That the bytes of a text are
+-- UTF-8 is not asked here; `WellFormed` asks it of a value, and the readers of what they find.
+-- The format: a text is a vector of UTF-8 bytes followed by a zero byte that the count leaves out;
+-- a byte list has no such byte; a union vector is two vectors, of tags and of references.
 abbrev pub Stands : List ℕ → Position → Value → Type 0
 Stands B (at k) (text bytes) =
     (Num B k w32 ≡ Some (length bytes)) × BytesStand B (k + 4) (bytes ++ 0 ∷ [])
