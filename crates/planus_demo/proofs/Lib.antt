@@ -2,13 +2,6 @@ pub mod Splitting
 pub mod Numbers
 pub mod Words
 pub mod ReadOn
-pub mod Lists
-pub mod Naming
-pub mod Kept
-pub mod Turns
-pub mod Walking
-pub mod Stepping
-pub mod Replayed
 pub mod Printing
 pub mod Named
 pub mod Limited

@@ -2,28 +2,30 @@
 use Rattle.std.proofs.Common.{◌≡◌, ℕ, ◌+◌, ◌<◌, List, [], ◌∷◌, ◌++◌, Bool, true, false, length, map, refl, sym, ap, subst, arith, Option, Some, None, Result, Ok, Err, length-append}
 use Rattle.std.specs.Prelude.{if◌then◌else◌, Vec}
 use Rattle.std.specs.declared.alloc.Global.{Global}
-use Rattle.planus_demo.specs.Script.{Command, Read, read_lines, then_read, onto_read, is_skipped, command_of, script_of, lines_of}
-use Rattle.planus_demo.specs.Steps.{command_of_step, read_of}
-use Rattle.planus_demo.specs.Replays.{first_bad_after, first_bad_or, broken_check, Replays, given_by}
+use Rattle.planus.specs.Steps.{Step}
+use Rattle.planus_demo.specs.Script.{Read, read_lines, then_read, onto_read, is_skipped, command_of, script_of, lines_of}
+use Rattle.planus.specs.Steps.{bare_step}
+use Rattle.planus_demo.specs.Steps.{read_of}
+use Rattle.planus.specs.Replays.{first_bad_after, first_bad_or, broken_check, Replays, given_by}
 use Rattle.planus_demo.specs.Outputs.{NamesStep}
 use Rattle.planus_demo.specs.declared.script.ReadFault.{ReadFault}
 use Rattle.planus_demo.specs.declared.script.Script.{Script}
-use Rattle.planus_demo.specs.declared.step.Step.{Step}
-use Rattle.planus_demo.specs.declared.replay.Why.{Why}
-use Rattle.planus_demo.specs.declared.replay.Finished.{Finished}
-use Rattle.planus_demo.specs.declared.replay.ReplayError.{ReplayError}
-use Rattle.planus_demo.specs.declared.replay.ReplayError.TheVariants.{OutOfMemory, TooLarge, BadStep}
+use Rattle.planus.specs.declared.steps.Step as code
+use Rattle.planus.specs.declared.faults.Why.{Why}
+use Rattle.planus.specs.declared.finishes.Finished.{Finished}
+use Rattle.planus.specs.declared.faults.ReplayError.{ReplayError}
+use Rattle.planus.specs.declared.faults.ReplayError.TheVariants.{OutOfMemory, TooLarge, BadStep}
 
 -- as many numbers as steps
 abbrev AsMany : Result Read (ℕ × ReadFault) → Type 0
 AsMany (Ok read) = length read.numbers ≡ length read.commands
 AsMany (Err fault) = Unit {0}
 
-onto_as_many : (number : ℕ) (command : Command) (r : Result Read (ℕ × ReadFault)) → AsMany r → AsMany (onto_read number command r)
+onto_as_many : (number : ℕ) (command : Step) (r : Result Read (ℕ × ReadFault)) → AsMany r → AsMany (onto_read number command r)
 onto_as_many number command (Ok read) h = omega (arith, h)
 onto_as_many number command (Err fault) h = tt
 
-then_as_many : (number : ℕ) (line : Result Command ReadFault) (r : Result Read (ℕ × ReadFault)) → AsMany r → AsMany (then_read number line r)
+then_as_many : (number : ℕ) (line : Result Step ReadFault) (r : Result Read (ℕ × ReadFault)) → AsMany r → AsMany (then_read number line r)
 then_as_many number (Ok command) r h = onto_as_many number command r h
 then_as_many number (Err fault) r h = tt
 
@@ -42,7 +44,7 @@ number_of_bad None = 0
 number_of_bad (Some bad) = bad.0
 
 -- a bad step is one of the steps
-bad_within : (earlier steps : List Command) (n : ℕ) (why : Why) → first_bad_after earlier steps ≡ Some (n, why) → n < length earlier + length steps
+bad_within : (earlier steps : List Step) (n : ℕ) (why : Why) → first_bad_after earlier steps ≡ Some (n, why) → n < length earlier + length steps
 bad_within earlier [] n why h = (cc)
 bad_within earlier (step ∷ steps) n why h = at_check (broken_check earlier step) h (bad_within (earlier ++ step ∷ []) steps n why)
   where
@@ -52,16 +54,16 @@ bad_within earlier (step ∷ steps) n why h = at_check (broken_check earlier ste
     at_check None e later = let below : n < length (earlier ++ step ∷ []) + length steps = later e in omega (arith, length-append earlier (step ∷ []), below)
 
 bad_named : (input : List ℕ) (script : Script) (answer : Result (Vec Finished Global) ReplayError) → script_of input ≡ Ok (read_of script)
-    → Replays (map command_of_step script.steps.items) (given_by answer) → NamesStep (length script.numbers.items) answer
+    → Replays (map bare_step script.steps.items) (given_by answer) → NamesStep (length script.numbers.items) answer
 bad_named input script (Ok finished) e h = tt
 bad_named input script (Err OutOfMemory) e h = tt
 bad_named input script (Err TooLarge) e h = tt
 bad_named input script (Err (BadStep step why)) e h =
-    let many : length script.numbers.items ≡ length (map command_of_step script.steps.items) = subst AsMany e (lines_as_many 1 (lines_of input)) in
-    let below : step < 0 + length (map command_of_step script.steps.items) = bad_within [] (map command_of_step script.steps.items) step why h.0 in
+    let many : length script.numbers.items ≡ length (map bare_step script.steps.items) = subst AsMany e (lines_as_many 1 (lines_of input)) in
+    let below : step < 0 + length (map bare_step script.steps.items) = bad_within [] (map bare_step script.steps.items) step why h.0 in
     omega (arith, many, below)
 
-pub names_step : (input numbers : List ℕ) (steps : List Step) (script : Script) (answer : Result (Vec Finished Global) ReplayError) → numbers ≡ script.numbers.items → steps ≡ script.steps.items
-    → script_of input ≡ Ok (read_of script) → Replays (map command_of_step steps) (given_by answer) → NamesStep (length numbers) answer
+pub names_step : (input numbers : List ℕ) (steps : List code.Step) (script : Script) (answer : Result (Vec Finished Global) ReplayError) → numbers ≡ script.numbers.items → steps ≡ script.steps.items
+    → script_of input ≡ Ok (read_of script) → Replays (map bare_step steps) (given_by answer) → NamesStep (length numbers) answer
 names_step input numbers steps script answer n s e h =
-    subst (λ xs. NamesStep (length xs) answer) (sym n) (bad_named input script answer e (subst (λ xs. Replays (map command_of_step xs) (given_by answer)) s h))
+    subst (λ xs. NamesStep (length xs) answer) (sym n) (bad_named input script answer e (subst (λ xs. Replays (map bare_step xs) (given_by answer)) s h))

@@ -1,7 +1,8 @@
 -- Reading a script line by line: the steps so far, and the lines that are left.
 use Rattle.std.proofs.Common.{◌≡◌, ℕ, ◌+◌, List, [], ◌∷◌, ◌++◌, length, true, false, refl, ap, append_assoc, append-nil, Result, Ok, Err, Option, Some, None}
 use Rattle.std.specs.Borrow.{Bor}
-use Rattle.planus_demo.specs.Script.{Command, Read, read_lines, lines_of, command_of, is_skipped, onto_read}
+use Rattle.planus.specs.Steps.{Step}
+use Rattle.planus_demo.specs.Script.{Read, read_lines, lines_of, command_of, is_skipped, onto_read}
 use Rattle.planus_demo.specs.declared.script.ReadFault.{ReadFault}
 
 -- the lines of what is left, and how many bytes may follow
@@ -18,15 +19,15 @@ abbrev pub onto_front : Read → Result Read (ℕ × ReadFault) → Result Read 
 onto_front front (Ok more) = Ok (record { numbers = front.numbers ++ more.numbers; commands = front.commands ++ more.commands })
 onto_front front (Err fault) = Err fault
 
-abbrev pub and_then : Read → ℕ → Command → Read
+abbrev pub and_then : Read → ℕ → Step → Read
 and_then front number command = record { numbers = front.numbers ++ number ∷ []; commands = front.commands ++ command ∷ [] }
 
 pub onto_empty : (r : Result Read (ℕ × ReadFault)) → onto_front (record { numbers = []; commands = [] }) r ≡ r
 onto_empty (Ok more) = refl
 onto_empty (Err fault) = refl
 
-onto_onto : (front : Read) (number : ℕ) (command : Command) (r : Result Read (ℕ × ReadFault)) → onto_front front (onto_read number command r) ≡ onto_front (and_then front number command) r
-onto_onto front number command (Ok more) = ap (λ (p : List ℕ × List Command). Ok (record { numbers = p.0; commands = p.1 }))
+onto_onto : (front : Read) (number : ℕ) (command : Step) (r : Result Read (ℕ × ReadFault)) → onto_front front (onto_read number command r) ≡ onto_front (and_then front number command) r
+onto_onto front number command (Ok more) = ap (λ (p : List ℕ × List Step). Ok (record { numbers = p.0; commands = p.1 }))
     (rw (append_assoc front.numbers (number ∷ []) more.numbers, append_assoc front.commands (command ∷ []) more.commands) refl)
 onto_onto front number command (Err fault) = refl
 
@@ -34,7 +35,7 @@ pub after_skipped : (front : Read) (number : ℕ) (line : List ℕ) (lines : Lis
     → onto_front front (read_lines number (line ∷ lines)) ≡ onto_front front (read_lines (number + 1) lines)
 after_skipped front number line lines h = rw h refl
 
-pub after_step : (front : Read) (number : ℕ) (line : List ℕ) (lines : List (List ℕ)) (command : Command) → is_skipped line ≡ false → command_of line ≡ Ok command
+pub after_step : (front : Read) (number : ℕ) (line : List ℕ) (lines : List (List ℕ)) (command : Step) → is_skipped line ≡ false → command_of line ≡ Ok command
     → onto_front front (read_lines number (line ∷ lines)) ≡ onto_front (and_then front number command) (read_lines (number + 1) lines)
 after_step front number line lines command h e = rw (h, e) (onto_onto front number command (read_lines (number + 1) lines))
 

@@ -1,10 +1,6 @@
 pub mod Script
 pub mod Steps
 pub mod Texts
-pub mod Runs
-pub mod Replays
-pub mod Headline
-pub mod Replaying
 pub mod Printed
 pub mod Outputs
 pub mod Runner

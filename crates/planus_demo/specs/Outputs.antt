@@ -2,12 +2,12 @@
 use Rattle.std.specs.Prelude.{ℕ, ◌<◌, Bool, List, Result, Ok, Err, ⊤, Vec}
 use Rattle.std.specs.declared.alloc.Global.{Global}
 use Rattle.std.specs.String.{string_bytes}
-use Rattle.planus_demo.specs.Runs.{Finish}
+use Rattle.planus.specs.Runs.{Finish}
 use Rattle.planus_demo.specs.Printed.{PrintsAnswer, PrintsOutOfMemory}
 use Rattle.planus_demo.specs.declared.print.Output.{Output}
-use Rattle.planus_demo.specs.declared.replay.Finished.{Finished}
-use Rattle.planus_demo.specs.declared.replay.ReplayError.{ReplayError}
-use Rattle.planus_demo.specs.declared.replay.ReplayError.TheVariants.{OutOfMemory, TooLarge, BadStep}
+use Rattle.planus.specs.declared.finishes.Finished.{Finished}
+use Rattle.planus.specs.declared.faults.ReplayError.{ReplayError}
+use Rattle.planus.specs.declared.faults.ReplayError.TheVariants.{OutOfMemory, TooLarge, BadStep}
 
 -- whether the script was without a fault, and all of it was done
 abbrev pub is_clean : Output → Bool

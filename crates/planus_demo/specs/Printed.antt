@@ -5,12 +5,13 @@ use Rattle.std.specs.List.{flat_map, join_with_byte}
 use Rattle.std.specs.Char.{digit_char}
 use Rattle.std.specs.Fmt.{decimal}
 use Rattle.planus_demo.specs.Script.{Read, script_of}
-use Rattle.planus_demo.specs.Runs.{Finish}
-use Rattle.planus_demo.specs.Replays.{Replays}
-use Rattle.planus_demo.specs.Texts.{read_fault_text, why_text}
+use Rattle.planus.specs.Runs.{Finish}
+use Rattle.planus.specs.Replays.{Replays}
+use Rattle.planus.specs.Texts.{why_text}
+use Rattle.planus_demo.specs.Texts.{read_fault_text}
 use Rattle.planus_demo.specs.declared.script.ReadFault.{ReadFault}
-use Rattle.planus_demo.specs.declared.replay.ReplayError.{ReplayError}
-use Rattle.planus_demo.specs.declared.replay.ReplayError.TheVariants.{OutOfMemory, TooLarge, BadStep}
+use Rattle.planus.specs.declared.faults.ReplayError.{ReplayError}
+use Rattle.planus.specs.declared.faults.ReplayError.TheVariants.{OutOfMemory, TooLarge, BadStep}
 
 -- No script is longer, in bytes.
 abbrev pub greatest_script : ℕ

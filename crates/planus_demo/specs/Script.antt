@@ -5,14 +5,9 @@ use Rattle.std.specs.Char.{is_ascii_digit}
 use Rattle.std.specs.Int.{is_in_range}
 use Rattle.std.specs.Str.{is_utf8, bytes_eq}
 use Rattle.std.specs.Str.Parse.{digits_value}
+use Rattle.planus.specs.Steps.{Step, text, finish, clear}
 use Rattle.planus_demo.specs.declared.script.ReadFault.{ReadFault}
 use Rattle.planus_demo.specs.declared.script.ReadFault.TheVariants.{NotUtf8, UnknownCommand, BadNumber, BadIdentifier}
-
--- a step of a script: a text with its bytes; a finish with the number of its root's step, and a file identifier, if there is one; a clear
-pub data Command : Type 0 where
-  text : List ℕ → Command
-  finish : ℕ → Option (List ℕ) → Command
-  clear : Command
 
 -- the lines of an input, which line feeds separate
 abbrev pub lines_of : List ℕ → List (List ℕ)
@@ -44,34 +39,34 @@ abbrev pub identifier_of : List ℕ → Result (List ℕ) ReadFault
 identifier_of word = if is_identifier word then Ok word else Err BadIdentifier
 
 -- a finish without an identifier, or the fault of its number
-abbrev pub finish_at : Result ℕ ReadFault → Result Command ReadFault
+abbrev pub finish_at : Result ℕ ReadFault → Result Step ReadFault
 finish_at (Ok root) = Ok (finish root None)
 finish_at (Err fault) = Err fault
 
 -- a finish of this number with an identifier, or the identifier's fault
-abbrev pub finish_with : ℕ → Result (List ℕ) ReadFault → Result Command ReadFault
+abbrev pub finish_with : ℕ → Result (List ℕ) ReadFault → Result Step ReadFault
 finish_with root (Ok identifier) = Ok (finish root (Some identifier))
 finish_with root (Err fault) = Err fault
 
 -- the number first, and then the identifier
-abbrev pub identified_at : Result ℕ ReadFault → Result (List ℕ) ReadFault → Result Command ReadFault
+abbrev pub identified_at : Result ℕ ReadFault → Result (List ℕ) ReadFault → Result Step ReadFault
 identified_at (Ok root) identifier = finish_with root identifier
 identified_at (Err fault) identifier = Err fault
 
 -- `finish I` or `finish I ABCD`
-abbrev pub finish_of : List (List ℕ) → Result Command ReadFault
+abbrev pub finish_of : List (List ℕ) → Result Step ReadFault
 finish_of [] = Err UnknownCommand
 finish_of (root ∷ []) = finish_at (number_of root)
 finish_of (root ∷ identifier ∷ []) = identified_at (number_of root) (identifier_of identifier)
 finish_of (root ∷ identifier ∷ more ∷ words) = Err UnknownCommand
 
 -- `clear`
-abbrev pub clear_of : List (List ℕ) → Result Command ReadFault
+abbrev pub clear_of : List (List ℕ) → Result Step ReadFault
 clear_of [] = Ok clear
 clear_of (word ∷ words) = Err UnknownCommand
 
 -- what the words of a line say, and the bytes after its first space
-abbrev pub command_of_words : List ℕ → List (List ℕ) → Result Command ReadFault
+abbrev pub command_of_words : List ℕ → List (List ℕ) → Result Step ReadFault
 command_of_words line [] = Err UnknownCommand
 command_of_words line (word ∷ words) =
     if bytes_eq word (codes "text") then Ok (text (after_first (λ b. b == 32) line))
@@ -79,21 +74,21 @@ command_of_words line (word ∷ words) =
     else (if bytes_eq word (codes "clear") then clear_of words else Err UnknownCommand))
 
 -- The step that a line is, or its first fault of reading.
-abbrev pub command_of : List ℕ → Result Command ReadFault
+abbrev pub command_of : List ℕ → Result Step ReadFault
 command_of line = if is_utf8 line then command_of_words line (words_of line) else Err NotUtf8
 
 -- the steps of a script, each with the number of its line
 pub record Read : Type 0 where
   pub numbers : List ℕ
-  pub commands : List Command
+  pub commands : List Step
 
 -- one step more in front
-abbrev pub onto_read : ℕ → Command → Result Read (ℕ × ReadFault) → Result Read (ℕ × ReadFault)
+abbrev pub onto_read : ℕ → Step → Result Read (ℕ × ReadFault) → Result Read (ℕ × ReadFault)
 onto_read number command (Ok read) = Ok (record { numbers = number ∷ read.numbers; commands = command ∷ read.commands })
 onto_read number command (Err fault) = Err fault
 
 -- a line that is a step, or is at fault, and what follows it
-abbrev pub then_read : ℕ → Result Command ReadFault → Result Read (ℕ × ReadFault) → Result Read (ℕ × ReadFault)
+abbrev pub then_read : ℕ → Result Step ReadFault → Result Read (ℕ × ReadFault) → Result Read (ℕ × ReadFault)
 then_read number (Ok command) more = onto_read number command more
 then_read number (Err fault) more = Err (number, fault)
 

@@ -1,9 +1,9 @@
 -- The steps of the program, as the definitions see them, and what its readers of lines answer.
 use Rattle.std.specs.Prelude.{◌≡◌, ℕ, map, Result, Ok, Err, ⊤}
 use Rattle.std.specs.String.{string_bytes}
-use Rattle.planus_demo.specs.Script.{Command, text, finish, clear, Read}
-use Rattle.planus_demo.specs.declared.step.Step.{Step}
-use Rattle.planus_demo.specs.declared.step.Step.TheVariants.{Text, Finish, Clear}
+use Rattle.planus.specs.Steps.{Step, bare_step}
+use Rattle.planus_demo.specs.Script.{Read}
+use Rattle.planus.specs.declared.steps.Step as code
 use Rattle.planus_demo.specs.declared.script.ReadFault.{ReadFault}
 use Rattle.planus_demo.specs.declared.script.LineError.{LineError}
 use Rattle.planus_demo.specs.declared.script.LineError.TheVariants as line
@@ -11,24 +11,18 @@ use Rattle.planus_demo.specs.declared.script.ParseError.{ParseError}
 use Rattle.planus_demo.specs.declared.script.ParseError.TheVariants as parse
 use Rattle.planus_demo.specs.declared.script.Script.{Script}
 
--- a step, without where its text lies in memory
-abbrev pub command_of_step : Step → Command
-command_of_step (Text words) = text (string_bytes words)
-command_of_step (Finish root id) = finish root id
-command_of_step Clear = clear
-
 -- a script, without where it lies in memory
 abbrev pub read_of : Script → Read
-read_of script = record { numbers = script.numbers.items; commands = map command_of_step script.steps.items }
+read_of script = record { numbers = script.numbers.items; commands = map bare_step script.steps.items }
 
 -- the answer is this command or this fault
-abbrev pub AnswersCommand : Result Step ReadFault → Result Command ReadFault → Type 0
-AnswersCommand (Ok step) expected = expected ≡ Ok (command_of_step step)
+abbrev pub AnswersCommand : Result code.Step ReadFault → Result Step ReadFault → Type 0
+AnswersCommand (Ok step) expected = expected ≡ Ok (bare_step step)
 AnswersCommand (Err fault) expected = expected ≡ Err fault
 
 -- the same, unless memory was refused
-abbrev pub AnswersLine : Result Step LineError → Result Command ReadFault → Type 0
-AnswersLine (Ok step) expected = expected ≡ Ok (command_of_step step)
+abbrev pub AnswersLine : Result code.Step LineError → Result Step ReadFault → Type 0
+AnswersLine (Ok step) expected = expected ≡ Ok (bare_step step)
 AnswersLine (Err (line.Fault fault)) expected = expected ≡ Err fault
 AnswersLine (Err line.OutOfMemory) expected = ⊤
 

@@ -2,10 +2,8 @@
 #![tactic(auto)]
 
 mod print;
-mod replay;
 mod run;
 mod script;
-mod step;
 #[cfg(test)]
 mod tests;
 

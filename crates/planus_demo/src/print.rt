@@ -3,11 +3,11 @@ ghost use Rattle.std.specs.Prelude.{◌≡◌, ◌<◌, ◌/◌, ◌%◌, ◌++�
 ghost use Rattle.std.specs.List.{join_with_byte, flat_map};
 ghost use Rattle.std.specs.Char.{digit_char};
 ghost use Rattle.std.specs.String.{string_bytes};
-ghost use Rattle.planus_demo.specs.Replays.{finish_given, given_by};
+ghost use Rattle.planus.specs.Replays.{finish_given, given_by};
 ghost use Rattle.planus_demo.specs.Printed.{hex_of, hex_line, PrintedOrOutOfMemory};
 ghost use Rattle.planus_demo.specs.Outputs.{is_clean, printed_text, NamesStep, PrintsAnswerOr};
 
-use crate::replay::{Finished, ReplayError, replay};
+use planus::{Finished, ReplayError, replay};
 use crate::script::{ParseError, parse};
 use std::alloc::{AllocError, Global};
 

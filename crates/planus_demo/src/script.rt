@@ -6,9 +6,10 @@ ghost use Rattle.std.specs.Option.{option_copied};
 ghost use Rattle.std.specs.Char.{is_ascii_digit};
 ghost use Rattle.std.specs.Int.{is_in_range};
 ghost use Rattle.planus_demo.specs.Script.{lines_of, words_of, words_behind, number_of, identifier_of, finish_of, finish_at, identified_at, clear_of, command_of, command_of_words, script_of, is_skipped as is_skipped_lem};
-ghost use Rattle.planus_demo.specs.Steps.{AnswersCommand, AnswersLine, AnswersScript, command_of_step, read_of};
+ghost use Rattle.planus_demo.specs.Steps.{AnswersCommand, AnswersLine, AnswersScript, read_of};
+ghost use Rattle.planus.specs.Steps.{bare_step};
 
-use crate::step::Step;
+use planus::Step;
 use std::alloc::{AllocError, AllocFailed, Global};
 use std::fmt;
 
@@ -268,7 +269,7 @@ impl Script {
 
     /// One step more, which stands on the line of this number.
     fn push(&mut self, number: usize, step: Step) -> std::result::Result<(), AllocError>
-        ensures ok { OnOk result (read_of self.new ≡ record { numbers = self.old.numbers.items ++ number ∷ []; commands = map command_of_step (self.old.steps.items ++ step ∷ []) }) }
+        ensures ok { OnOk result (read_of self.new ≡ record { numbers = self.old.numbers.items ++ number ∷ []; commands = map bare_step (self.old.steps.items ++ step ∷ []) }) }
     {
         self.numbers.push(number)?;
         self.steps.push(step)?;

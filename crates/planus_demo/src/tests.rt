@@ -1,8 +1,7 @@
 //! Scripts as a user runs them, and readers and writers that fail.
 
-use crate::replay::{ReplayError, replay};
+use planus::{ReplayError, Step, replay};
 use crate::run::{RunError, run, status};
-use crate::step::Step;
 use planus_read::{SliceWithStartOffset, TableRead};
 use std::alloc::Global;
 use std::io;

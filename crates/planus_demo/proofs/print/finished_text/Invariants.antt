@@ -2,7 +2,7 @@ use Rattle.std.proofs.Common.{◌≡◌, map, take}
 use Rattle.std.specs.List.{flat_map}
 use Rattle.std.specs.String.{string_bytes}
 use Rattle.planus_demo.specs.Printed.{hex_line}
-use Rattle.planus_demo.specs.Replays.{finish_given}
+use Rattle.planus.specs.Replays.{finish_given}
 use Rattle.planus_demo.proofs.print.finished_text.Given as goal
 
 -- a line for each finish so far

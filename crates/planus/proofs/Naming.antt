@@ -1,0 +1,150 @@
+-- What a number names, and what a replay says of it.
+use Rattle.std.proofs.Common.{◌≡◌, ℕ, zero, suc, ◌+◌, ◌-◌, ◌≤◌, List, [], ◌∷◌, ◌++◌, length, map, drop, refl, sym, ap, ◌∙◌, subst, arith, Option, Some, None, Bool, true, false, inl, inr, length-append}
+use Rattle.std.specs.Prelude.{slice_get, nat_lt, if◌then◌else◌, ◌⊎◌}
+use Rattle.std.specs.List.{list_any}
+use Rattle.std.proofs.lemmas.Bool.Decides.{nat_tests}
+use Rattle.std.proofs.lemmas.List.{map_push}
+use Rattle.std.proofs.Math.Seq.{drop-length}
+use Rattle.planus_write.specs.declared.offset.Offset.{Offset}
+use Rattle.planus.specs.Steps.{Step, text, finish, clear}
+use Rattle.planus.specs.Replays.{is_clear, named_step, fault_of}
+use Rattle.planus.specs.Replaying.{distance_of, distances, distance_at, distance_fault, Wrote, AllWrote, HasTaken}
+use Rattle.planus.specs.declared.progress.Progress.{Progress}
+use Rattle.planus.proofs.Lists.{get_push, get_last, drop_push}
+
+-- one step more, which is no clear, leaves what is named
+named_from : (steps : List Step) (step c : Step) (any : Bool) → is_clear step ≡ false → list_any is_clear steps ≡ any → (got : Option Step)
+    → (if any then None else got) ≡ Some c → (if list_any is_clear (steps ++ step ∷ []) then None else got) ≡ Some c
+named_from steps step c true kind e got h = (cc)
+named_from steps step c false kind e got h = rw (none_pushed steps e) h
+  where
+    none_pushed : (xs : List Step) → list_any is_clear xs ≡ false → list_any is_clear (xs ++ step ∷ []) ≡ false
+    none_pushed [] e = rw kind refl
+    none_pushed (text bytes ∷ xs) e = none_pushed xs e
+    none_pushed (finish root identifier ∷ xs) e = none_pushed xs e
+    none_pushed (clear ∷ xs) e = (cc)
+
+pub named_push : (steps : List Step) (step c : Step) (n : ℕ) → is_clear step ≡ false → named_step steps n ≡ Some c → named_step (steps ++ step ∷ []) n ≡ Some c
+named_push [] step c zero kind h = (cc)
+named_push [] step c (suc n) kind h = (cc)
+named_push (x ∷ steps) step c zero kind h = named_from (x ∷ steps) step c (list_any is_clear (x ∷ steps)) kind refl (Some x) h
+named_push (x ∷ steps) step c (suc n) kind h = named_push steps step c n kind h
+
+pub named_last : (steps : List Step) (step : Step) → is_clear step ≡ false → named_step (steps ++ step ∷ []) (length steps) ≡ Some step
+named_last [] step kind = rw kind refl
+named_last (x ∷ steps) step kind = named_last steps step kind
+
+-- nothing is named at or before a clear
+clear_from : (steps : List Step) (n k : ℕ) → slice_get steps (n + k) ≡ Some clear → list_any is_clear (drop n steps) ≡ true
+clear_from [] zero k h = (cc)
+clear_from [] (suc n) k h = (cc)
+clear_from (x ∷ steps) (suc n) k h = clear_from steps n k (ap (slice_get (x ∷ steps)) (let e : suc (n + k) ≡ suc n + k = omega arith in e) ∙ h)
+clear_from (text bytes ∷ steps) zero zero h = (cc)
+clear_from (finish root identifier ∷ steps) zero zero h = (cc)
+clear_from (clear ∷ steps) zero k h = refl
+clear_from (text bytes ∷ steps) zero (suc k) h = clear_from steps zero k (ap (slice_get (text bytes ∷ steps)) (let e : suc (0 + k) ≡ 0 + suc k = omega arith in e) ∙ h)
+clear_from (finish root identifier ∷ steps) zero (suc k) h = clear_from steps zero k (ap (slice_get (finish root identifier ∷ steps)) (let e : suc (0 + k) ≡ 0 + suc k = omega arith in e) ∙ h)
+
+none_clear : (steps : List Step) (ds : List (Option ℕ)) (k : ℕ) → AllWrote steps ds → list_any is_clear (drop k steps) ≡ false
+none_clear [] ds zero h = refl
+none_clear [] ds (suc k) h = refl
+none_clear (x ∷ steps) [] k h = absurd h
+none_clear (x ∷ steps) (d ∷ ds) (suc k) h = none_clear steps ds k h.1
+none_clear (text bytes ∷ steps) (d ∷ ds) zero h = none_clear steps ds zero h.1
+none_clear (finish root identifier ∷ steps) (d ∷ ds) zero h = none_clear steps ds zero h.1
+none_clear (clear ∷ steps) (d ∷ ds) zero h = absurd h.0
+
+fault_of_kind : (step : Step) (d : Option ℕ) → Wrote step d → distance_fault (Some d) ≡ fault_of (Some step)
+fault_of_kind (text bytes) (Some d) h = refl
+fault_of_kind (text bytes) None h = absurd h
+fault_of_kind (finish root identifier) (Some d) h = absurd h
+fault_of_kind (finish root identifier) None h = refl
+fault_of_kind clear d h = absurd h
+
+same_fault : (steps : List Step) (ds : List (Option ℕ)) (i : ℕ) → AllWrote steps ds → distance_fault (slice_get ds i) ≡ fault_of (slice_get steps i)
+same_fault [] [] i h = refl
+same_fault (x ∷ steps) (d ∷ ds) zero h = fault_of_kind x d h.0
+same_fault (x ∷ steps) (d ∷ ds) (suc i) h = same_fault steps ds i h.1
+same_fault [] (d ∷ ds) i h = absurd h
+same_fault (x ∷ steps) [] i h = absurd h
+
+get_dropped : (n k : ℕ) (steps : List Step) → slice_get (drop n steps) k ≡ slice_get steps (n + k)
+get_dropped zero k steps = ap (slice_get steps) (let e : k ≡ 0 + k = omega arith in e)
+get_dropped (suc n) k [] = refl
+get_dropped (suc n) k (x ∷ steps) = get_dropped n k steps ∙ ap (slice_get (x ∷ steps)) (let e : suc (n + k) ≡ suc n + k = omega arith in e)
+
+drop_none : (n m : ℕ) → drop {A = Step} n [] ≡ drop {A = Step} m []
+drop_none zero zero = refl
+drop_none zero (suc m) = refl
+drop_none (suc n) zero = refl
+drop_none (suc n) (suc m) = refl
+
+drop_dropped : (n k : ℕ) (steps : List Step) → drop k (drop n steps) ≡ drop (n + k) steps
+drop_dropped zero k steps = ap (λ m. drop m steps) (let e : k ≡ 0 + k = omega arith in e)
+drop_dropped (suc n) k [] = drop_none k (suc n + k)
+drop_dropped (suc n) k (x ∷ steps) = drop_dropped n k steps ∙ ap (λ m. drop m (x ∷ steps)) (let e : suc (n + k) ≡ suc n + k = omega arith in e)
+
+-- what is wrong with a number shows in what the replay has
+module _ (replay : Progress) (steps : List Step) (h : HasTaken replay steps) (root : ℕ) where
+  before : root + 1 ≤ replay.first → None ≡ named_step steps root
+  before le = elim h.behind_clear as (λ _. None ≡ named_step steps root) [
+    | inl none ↦ absurd (omega (arith, none, le))
+    | inr there ↦
+        let at : slice_get steps (root + (replay.first - 1 - root)) ≡ Some clear = ap (slice_get steps) (let e : root + (replay.first - 1 - root) ≡ replay.first - 1 = omega (arith, le) in e) ∙ there in
+        sym (ap (λ any. if any then None else slice_get steps root) (clear_from steps root (replay.first - 1 - root) at))
+  ]
+
+  behind : replay.first ≤ root → distance_fault (slice_get (distances replay) (root - replay.first)) ≡ fault_of (named_step steps root)
+  behind le =
+      let k : ℕ = root - replay.first in
+      let at : replay.first + k ≡ root = omega (arith, le) in
+      let none : list_any is_clear (drop root steps) ≡ false
+      = ap (λ m. list_any is_clear (drop m steps)) (sym at) ∙ ap (list_any is_clear) (sym (drop_dropped replay.first k steps)) ∙ none_clear (drop replay.first steps) (distances replay) k h.wrote in
+      same_fault (drop replay.first steps) (distances replay) k h.wrote ∙ ap fault_of (get_dropped replay.first k steps ∙ ap (slice_get steps) at)
+      ∙ ap fault_of (sym (ap (λ any. if any then None else slice_get steps root) none))
+
+  by_test : (earlier : Bool) → nat_lt root replay.first ≡ earlier → distance_fault (if earlier then None else slice_get (distances replay) (root - replay.first)) ≡ fault_of (named_step steps root)
+  by_test true e = ap fault_of (before (let lt : root + 1 ≤ replay.first = grind (arith, nat_tests, e) in lt))
+  by_test false e = behind (let le : replay.first ≤ root = grind (arith, nat_tests, e) in le)
+
+  pub named_fault : distance_fault (distance_at replay.first (distances replay) root) ≡ fault_of (named_step steps root)
+  named_fault = by_test (nat_lt root replay.first) refl
+
+wrote_push : (steps : List Step) (ds : List (Option ℕ)) (step : Step) (d : Option ℕ) → Wrote step d → AllWrote steps ds → AllWrote (steps ++ step ∷ []) (ds ++ d ∷ [])
+wrote_push [] [] step d new h = (new, tt)
+wrote_push (x ∷ steps) (e ∷ ds) step d new h = (h.0, wrote_push steps ds step d new h.1)
+wrote_push [] (e ∷ ds) step d new h = absurd h
+wrote_push (x ∷ steps) [] step d new h = absurd h
+
+-- one step more, which is no clear
+pub took_one : (old new : Progress) (step : Step) (offset : Option (Offset (Unit {0}))) → Wrote step (distance_of offset) → new.first ≡ old.first → new.offsets.items ≡ old.offsets.items ++ offset ∷ []
+    → (steps : List Step) → HasTaken old steps → HasTaken new (steps ++ step ∷ [])
+took_one old new step offset wrote first pushed steps h =
+    let counted : old.first + length old.offsets.items ≡ length steps = h.counted in
+    let longer : length new.offsets.items ≡ length old.offsets.items + 1 = ap length pushed ∙ length-append old.offsets.items (offset ∷ []) in
+    let all : length (steps ++ step ∷ []) ≡ length steps + 1 = length-append steps (step ∷ []) in
+    let known : distances new ≡ distances old ++ distance_of offset ∷ [] = ap (map distance_of) pushed ∙ map_push distance_of old.offsets.items offset in
+    let rest : drop new.first (steps ++ step ∷ []) ≡ drop old.first steps ++ step ∷ [] = ap (λ n. drop n (steps ++ step ∷ [])) first ∙ drop_push old.first steps step (omega (arith, counted)) in
+    record {
+      counted = omega (arith, counted, longer, all, first);
+      behind_clear = elim h.behind_clear as (λ _. (new.first ≡ 0) ⊎ (slice_get (steps ++ step ∷ []) (new.first - 1) ≡ Some clear)) [
+        | inl none ↦ inl (first ∙ none)
+        | inr there ↦ inr (ap (λ n. slice_get (steps ++ step ∷ []) (n - 1)) first ∙ get_push steps step clear (old.first - 1) there)
+      ];
+      wrote = subst (λ xs. AllWrote xs (distances new)) (sym rest) (subst (λ ds. AllWrote (drop old.first steps ++ step ∷ []) ds) (sym known)
+          (wrote_push (drop old.first steps) (distances old) step (distance_of offset) wrote h.wrote));
+    }
+
+-- a clear
+pub took_clear : (old new : Progress) → new.first ≡ old.first + length old.offsets.items + 1 → new.offsets.items ≡ [] → (steps : List Step) → HasTaken old steps → HasTaken new (steps ++ clear ∷ [])
+took_clear old new first none steps h =
+    let counted : old.first + length old.offsets.items ≡ length steps = h.counted in
+    let empty : length new.offsets.items ≡ 0 = ap length none in
+    let all : length (steps ++ clear ∷ []) ≡ length steps + 1 = length-append steps (clear ∷ []) in
+    let whole : new.first ≡ length (steps ++ clear ∷ []) = omega (arith, counted, all, first) in
+    let last : new.first - 1 ≡ length steps = omega (arith, counted, first) in
+    record {
+      counted = omega (arith, whole, empty);
+      behind_clear = inr (ap (slice_get (steps ++ clear ∷ [])) last ∙ get_last steps clear []);
+      wrote = subst (λ xs. AllWrote xs (distances new)) (sym (ap (λ n. drop n (steps ++ clear ∷ [])) whole ∙ drop-length (steps ++ clear ∷ []))) (subst (λ xs. AllWrote [] (map distance_of xs)) (sym none) tt);
+    }

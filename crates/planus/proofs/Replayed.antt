@@ -1,0 +1,80 @@
+-- A replay's steps, as the definitions see them.
+use Rattle.std.proofs.Common.{◌≡◌, ℕ, suc, ◌+◌, ◌≤◌, ◌<◌, List, [], ◌∷◌, ◌++◌, length, take, drop, map, get_or, refl, sym, ap, ◌∙◌, subst, None, Err, drop-cons}
+use Rattle.std.specs.List.{AllByRecursion}
+use Rattle.std.proofs.lemmas.List.{take-append-drop, map-append, map_push, take_more, take_all, length-map, length-take-le}
+use Rattle.planus_write.specs.State.{StandsFor}
+use Rattle.planus.specs.Steps.{Step, text, finish, clear, bare_step}
+use Rattle.planus.specs.Runs.{nothing_written, LeadsTo}
+use Rattle.planus.specs.Replays.{first_bad, Replays, finish_given}
+use Rattle.planus.specs.Headline.{FinishHolds}
+use Rattle.planus.specs.Replaying.{Past, state_with, distances, HasTaken, Takes, Stopped, AreReached}
+use Rattle.planus.specs.declared.steps.Step as code
+use Rattle.planus.specs.declared.progress.Progress.{Progress}
+use Rattle.planus.specs.declared.faults.ReplayError.{ReplayError}
+use Rattle.planus.specs.declared.faults.ReplayError.TheVariants.{OutOfMemory, TooLarge, BadStep}
+use Rattle.planus.proofs.Kept.{leads_on, run_kept, run_value}
+use Rattle.planus.proofs.Lists.{listed}
+use Rattle.planus.proofs.Naming.{named_fault}
+use Rattle.planus.proofs.Walking.{all_utf8, still_clean, too_large, bad_step}
+
+-- the first i steps
+abbrev pub first_steps : List code.Step → ℕ → List Step
+first_steps steps i = map bare_step (take i steps)
+
+-- the replay is where the first i steps lead, and none of them is bad
+pub record Reaches (steps : List code.Step) (i : ℕ) (progress : Progress) : Type 0 where
+  pub run : (past : Past) × StandsFor progress.builder past.promises × LeadsTo nothing_written (first_steps steps i) (state_with progress past)
+  pub clean : first_bad (first_steps steps i) ≡ None
+  pub taken : HasTaken progress (first_steps steps i)
+
+pub are_reached : (steps : List code.Step) (i : ℕ) (progress : Progress) → Reaches steps i progress → AreReached progress
+are_reached steps i progress h step distance e =
+    (run_value (first_steps steps i) (all_utf8 (take i steps)) (state_with progress h.run.0) h.run.2 (progress.first + step) distance (listed progress.first (distances progress) step distance e)).inside
+
+pub number_is : (steps : List code.Step) (i : ℕ) (progress : Progress) → i ≤ length steps → Reaches steps i progress → progress.first + length progress.offsets.items ≡ i
+number_is steps i progress within h =
+    h.taken.counted ∙ length-map (take i steps) bare_step ∙ length-take-le i steps within
+
+module _ (steps : List code.Step) (i : ℕ) (item : code.Step) (inside : i < length steps) (there : item ≡ get_or steps i item) (progress : Progress) (h : Reaches steps i progress) where
+  whole : map bare_step steps ≡ first_steps steps i ++ bare_step item ∷ map bare_step (drop (suc i) steps)
+  whole = ap (map bare_step) (sym (take-append-drop i steps) ∙ ap (λ xs. take i steps ++ xs) (drop-cons steps i item inside ∙ ap (λ x. x ∷ drop (suc i) steps) (sym there)))
+      ∙ map-append bare_step (take i steps) (item ∷ drop (suc i) steps)
+
+  next : first_steps steps (i + 1) ≡ first_steps steps i ++ bare_step item ∷ []
+  next = ap (map bare_step) (take_more steps i item inside ∙ ap (λ x. take i steps ++ x ∷ []) (sym there)) ∙ map_push bare_step (take i steps) item
+
+  pub reaches_next : (after : Progress) → Takes progress (bare_step item) after → Reaches steps (i + 1) after
+  reaches_next after advanced =
+      let a = advanced.advances h.run.0 h.run.1 in
+      record {
+        run = (
+          a.0,
+          a.1,
+          subst (λ cs. LeadsTo nothing_written cs (state_with after a.0)) (sym next)
+              (leads_on nothing_written (state_with progress h.run.0) (state_with after a.0) (first_steps steps i) (bare_step item) h.run.2 a.2),
+        );
+        clean = ap first_bad next
+            ∙ still_clean (map bare_step steps) (first_steps steps i) (bare_step item) (map bare_step (drop (suc i) steps)) whole (state_with progress h.run.0) (all_utf8 (take i steps)) h.run.2 h.clean (state_with after a.0) a.2;
+        taken = subst (λ cs. HasTaken after cs) (sym next) (advanced.taken (first_steps steps i) h.taken);
+      }
+
+  stopped_at : (c : Step) → bare_step item ≡ c → (error : ReplayError) → Stopped progress c error → Replays (map bare_step steps) (Err error)
+  stopped_at c is OutOfMemory stopped = tt
+  stopped_at c is TooLarge stopped =
+      let s = stopped h.run.0 h.run.1 in
+      too_large (map bare_step steps) (first_steps steps i) c (map bare_step (drop (suc i) steps)) (subst (λ x. map bare_step steps ≡ first_steps steps i ++ x ∷ map bare_step (drop (suc i) steps)) is whole)
+      (state_with progress h.run.0) (all_utf8 (take i steps)) h.run.2 h.clean s.0 s.1 s.2
+  stopped_at (text bytes) is (BadStep number why) stopped = absurd stopped
+  stopped_at clear is (BadStep number why) stopped = absurd stopped
+  stopped_at (finish root identifier) is (BadStep number why) stopped =
+      bad_step (map bare_step steps) (first_steps steps i) (finish root identifier) (map bare_step (drop (suc i) steps)) (subst (λ x. map bare_step steps ≡ first_steps steps i ++ x ∷ map bare_step (drop (suc i) steps)) is whole)
+      (state_with progress h.run.0) (all_utf8 (take i steps)) h.run.2 h.clean root number identifier why refl (stopped.0 ∙ h.taken.counted) (sym (named_fault progress (first_steps steps i) h.taken root) ∙ stopped.1)
+
+  pub stops : (error : ReplayError) → Stopped progress (bare_step item) error → Replays (map bare_step steps) (Err error)
+  stops error stopped = stopped_at (bare_step item) refl error stopped
+
+pub all_hold : (steps : List code.Step) (i : ℕ) (progress : Progress) → length steps ≤ i → Reaches steps i progress → AllByRecursion (FinishHolds (map bare_step steps)) (map finish_given progress.finished.items)
+all_hold steps i progress past h =
+    let all : first_steps steps i ≡ map bare_step steps = ap (map bare_step) (take_all i steps past) in
+    subst (λ cs. AllByRecursion (FinishHolds cs) (map finish_given progress.finished.items)) all
+    (run_kept (first_steps steps i) (all_utf8 (take i steps)) (state_with progress h.run.0) h.run.2).finished

@@ -1,0 +1,5 @@
+use Rattle.planus.proofs.Replayed.{Reaches}
+use Rattle.planus.proofs.run.replay.Given as goal
+
+abbrev pub invariant-loop-step : goal.invariant-loop-step
+invariant-loop-step l = Reaches l.steps l.step-index l.progress

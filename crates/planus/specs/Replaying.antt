@@ -1,0 +1,110 @@
+-- A replay on its way, as the definitions see it.
+use Rattle.std.specs.Prelude.{◌≡◌, ℕ, ◌+◌, ◌-◌, ◌≤◌, nat_lt, List, [], ◌∷◌, ◌++◌, map, length, drop, slice_get, Option, Some, None, if◌then◌else◌, Result, Ok, Err, ⊤, ◌⊎◌}
+use Rattle.std.specs.Option.{option_map}
+use Rattle.planus_back.specs.Promises.{Promise}
+use Rattle.planus_back.specs.Parts.{Part, IsTooLarge}
+use Rattle.planus_write.specs.State.{StandsFor, written_with}
+use Rattle.planus_write.specs.declared.offset.Offset.{Offset}
+use Rattle.planus.specs.Steps.{Step, text, finish, clear}
+use Rattle.planus.specs.Runs.{State, PartOf, Advances}
+use Rattle.planus.specs.Replays.{finish_given}
+use Rattle.planus.specs.declared.faults.Why.{Why}
+use Rattle.planus.specs.declared.faults.Why.TheVariants.{NoSuchStep, WrongKind}
+use Rattle.planus.specs.declared.faults.ReplayError.{ReplayError}
+use Rattle.planus.specs.declared.faults.ReplayError.TheVariants.{OutOfMemory, TooLarge, BadStep}
+use Rattle.planus.specs.declared.progress.Progress.{Progress}
+
+-- the distance of a value's offset, if there is a value
+abbrev pub distance_of : Option (Offset (Unit {0})) → Option ℕ
+distance_of offset = option_map (λ o. o.distance) offset
+
+-- What the run knows beside what a replay keeps: the promises made since the last clear, and the parts and their places.
+pub record Past : Type 0 where
+  pub promises : List Promise
+  pub parts : List Part
+  pub places : List ℕ
+
+-- nothing was written
+abbrev pub no_past : Past
+no_past = record { promises = []; parts = []; places = [] }
+
+-- what each step since the last clear wrote: the distance of its value, if it wrote one
+abbrev pub distances : Progress → List (Option ℕ)
+distances replay = map distance_of replay.offsets.items
+
+-- the values among steps that are numbered from n on, with their distances
+abbrev pub values_from : ℕ → List (Option ℕ) → List (ℕ × ℕ)
+values_from n [] = []
+values_from n (None ∷ rest) = values_from (n + 1) rest
+values_from n (Some distance ∷ rest) = (n, distance) ∷ values_from (n + 1) rest
+
+-- what the step of a number wrote, where it stands behind the last clear; the steps since are numbered from `first` on
+abbrev pub distance_at : ℕ → List (Option ℕ) → ℕ → Option (Option ℕ)
+distance_at first since step = if nat_lt step first then None else slice_get since (step - first)
+
+-- the state of the run, if this is its past
+abbrev pub state_with : Progress → Past → State
+state_with replay past = record {
+  written = written_with replay.builder past.promises;
+  parts = past.parts;
+  places = past.places;
+  values = values_from replay.first (distances replay);
+  next = replay.first + length replay.offsets.items;
+  finished = map finish_given replay.finished.items;
+}
+
+-- what is wrong with naming the step that has this distance, or none
+abbrev pub distance_fault : Option (Option ℕ) → Option Why
+distance_fault None = Some NoSuchStep
+distance_fault (Some None) = Some WrongKind
+distance_fault (Some (Some distance)) = None
+
+-- the value of an earlier step, or what is wrong with naming it
+abbrev pub FindsValue : ℕ → List (Option ℕ) → ℕ → Result (Offset (Unit {0})) Why → Type 0
+FindsValue first since step (Ok offset) = distance_at first since step ≡ Some (Some offset.distance)
+FindsValue first since step (Err why) = distance_fault (distance_at first since step) ≡ Some why
+
+-- why a step was not taken
+abbrev pub Stopped : Progress → Step → ReplayError → Type 0
+Stopped old step OutOfMemory = ⊤
+Stopped old step TooLarge = (past : Past) → StandsFor old.builder past.promises → (part : Part) × PartOf (state_with old past) step part × IsTooLarge part (written_with old.builder past.promises)
+Stopped old (text bytes) (BadStep number why) = ⊥
+Stopped old clear (BadStep number why) = ⊥
+Stopped old (finish root identifier) (BadStep number why) =
+    (number ≡ old.first + length old.offsets.items) × (distance_fault (distance_at old.first (distances old) root) ≡ Some why)
+
+-- a step wrote what its kind says: a text its value, a finish none; a clear is no step since the last clear
+abbrev pub Wrote : Step → Option ℕ → Type 0
+Wrote (text bytes) (Some distance) = ⊤
+Wrote (text bytes) None = ⊥
+Wrote (finish root identifier) (Some distance) = ⊥
+Wrote (finish root identifier) None = ⊤
+Wrote clear distance = ⊥
+
+-- each step wrote what its kind says
+abbrev pub AllWrote : List Step → List (Option ℕ) → Type 0
+AllWrote [] [] = ⊤
+AllWrote (step ∷ steps) (distance ∷ rest) = Wrote step distance × AllWrote steps rest
+AllWrote [] (distance ∷ rest) = ⊥
+AllWrote (step ∷ steps) [] = ⊥
+
+-- The replay has taken these steps: it begins to count behind the last clear, and knows what each step since then wrote.
+pub record HasTaken (replay : Progress) (steps : List Step) : Type 0 where
+  pub counted : replay.first + length replay.offsets.items ≡ length steps
+  pub behind_clear : (replay.first ≡ 0) ⊎ (slice_get steps (replay.first - 1) ≡ Some clear)
+  pub wrote : AllWrote (drop replay.first steps) (distances replay)
+
+-- One step was taken, whatever the past.
+pub record Takes (old : Progress) (step : Step) (new : Progress) : Type 0 where
+  pub taken : (steps : List Step) → HasTaken old steps → HasTaken new (steps ++ step ∷ [])
+  pub advances : (past : Past) → StandsFor old.builder past.promises
+      → (after : Past) × StandsFor new.builder after.promises × Advances (state_with old past) step (state_with new after)
+
+-- One step was taken, or was not.
+abbrev pub Advanced : Progress → Step → Result (Unit {0}) ReplayError → Progress → Type 0
+Advanced old step (Ok done) new = Takes old step new
+Advanced old step (Err error) new = Stopped old step error
+
+-- every value since the last clear lies in the builder
+abbrev pub AreReached : Progress → Type 0
+AreReached replay = (step distance : ℕ) → slice_get (distances replay) step ≡ Some (Some distance) → distance ≤ length replay.builder.bytes

@@ -1,0 +1,78 @@
+-- What a replay of steps answers.
+use Rattle.std.specs.Prelude.{◌≡◌, ℕ, ◌+◌, List, [], ◌∷◌, ◌++◌, length, take, drop, slice_get, map, Bool, true, false, if◌then◌else◌, Option, Some, None, Result, Ok, Err, ⊤}
+use Rattle.std.specs.Prelude.{Vec}
+use Rattle.std.specs.List.{list_any}
+use Rattle.std.specs.declared.alloc.Global.{Global}
+use Rattle.planus.specs.Steps.{Step, text, finish, clear}
+use Rattle.planus.specs.Runs.{Finish, State, nothing_written, LeadsTo, Runs, ComesToTooLarge}
+use Rattle.planus.specs.declared.faults.Why.{Why}
+use Rattle.planus.specs.declared.faults.Why.TheVariants.{NoSuchStep, WrongKind}
+use Rattle.planus.specs.declared.faults.ReplayError.{ReplayError}
+use Rattle.planus.specs.declared.faults.ReplayError.TheVariants.{OutOfMemory, TooLarge, BadStep}
+use Rattle.planus.specs.declared.finishes.Finished.{Finished}
+use Rattle.planus_write.specs.declared.errors.BuildError.{BuildError}
+use Rattle.planus_write.specs.declared.errors.BuildError.TheVariants as build
+use Rattle.planus.specs.declared.finishes.StepPlace.{StepPlace}
+
+-- whether a step is a clear
+abbrev pub is_clear : Step → Bool
+is_clear (text bytes) = false
+is_clear (finish root identifier) = false
+is_clear clear = true
+
+-- the step that a number names: an earlier one, with no clear from it on
+abbrev pub named_step : List Step → ℕ → Option Step
+named_step earlier number = if list_any is_clear (drop number earlier) then None else slice_get earlier number
+
+-- what is wrong with naming it as a value
+abbrev pub fault_of : Option Step → Option Why
+fault_of None = Some NoSuchStep
+fault_of (Some (text bytes)) = None
+fault_of (Some (finish root identifier)) = Some WrongKind
+fault_of (Some clear) = Some WrongKind
+
+-- the first broken check of a step, by the steps before it: a root is an earlier step behind the last clear, and a value
+abbrev pub broken_check : List Step → Step → Option Why
+broken_check earlier (text bytes) = None
+broken_check earlier (finish root identifier) = fault_of (named_step earlier root)
+broken_check earlier clear = None
+
+-- the step of this number with its broken check, if it has one, or else a later one
+abbrev pub first_bad_or : ℕ → Option Why → Option (ℕ × Why) → Option (ℕ × Why)
+first_bad_or n (Some why) later = Some (n, why)
+first_bad_or n None later = later
+
+-- FirstBad: the first step with a broken check, and that check; it looks at the steps alone.
+abbrev pub first_bad_after : List Step → List Step → Option (ℕ × Why)
+first_bad_after earlier [] = None
+first_bad_after earlier (step ∷ steps) = first_bad_or (length earlier) (broken_check earlier step) (first_bad_after (earlier ++ step ∷ []) steps)
+
+-- the first bad step of a script
+abbrev pub first_bad : List Step → Option (ℕ × Why)
+first_bad steps = first_bad_after [] steps
+
+-- a value's place, as a pair of its step's number and its distance
+abbrev pub place_of : StepPlace → ℕ × ℕ
+place_of place = (place.step, place.distance)
+
+-- a finish, without where it lies in memory
+abbrev pub finish_given : Finished → Finish
+finish_given finished = record { bytes = finished.bytes.items; places = map place_of finished.places.items }
+
+-- The answer is that of the run: what each finish gives where no step is bad; the first bad step, if the run comes to it; a part that
+-- is too large, if the run comes to that before. Of a want of memory nothing is said.
+abbrev pub Replays : List Step → Result (List Finish) ReplayError → Type 0
+Replays steps (Ok finished) = (first_bad steps ≡ None) × Runs steps finished
+Replays steps (Err (BadStep step why)) = (first_bad steps ≡ Some (step, why)) × ((before : State) × LeadsTo nothing_written (take step steps) before)
+Replays steps (Err TooLarge) = (n : ℕ) × (first_bad (take (n + 1) steps) ≡ None) × ComesToTooLarge steps n
+Replays steps (Err OutOfMemory) = ⊤
+
+-- a refused write, as a replay's error
+abbrev pub replay_error : BuildError → ReplayError
+replay_error build.OutOfMemory = OutOfMemory
+replay_error build.TooLarge = TooLarge
+
+-- the answer, without where its finishes lie in memory
+abbrev pub given_by : Result (Vec Finished Global) ReplayError → Result (List Finish) ReplayError
+given_by (Ok finished) = Ok (map finish_given finished.items)
+given_by (Err error) = Err error

@@ -1,0 +1,75 @@
+//! Why a replay stops.
+
+use planus_write::BuildError;
+use std::alloc::{AllocError, AllocFailed};
+use std::fmt;
+
+/// What is wrong with a step.
+#[derive(Clone, Copy, Debug, PartialEq, Eq)]
+pub enum Why {
+    /// No earlier step behind the last clear has the number.
+    NoSuchStep,
+    /// The step with the number is no value.
+    WrongKind,
+}
+
+impl fmt::Display for Why {
+    ghost use Rattle.planus.specs.Texts.{why_text};
+    ghost use Rattle.std.specs.Prelude.{Some};
+
+    ghost output = { λ why. Some (why_text why) };
+
+    fn fmt<W: fmt::Write>(&self, f: &mut fmt::Formatter<W>) -> fmt::Result {
+        match self {
+            Why::NoSuchStep => write!(f, "no such step"),
+            Why::WrongKind => write!(f, "wrong kind"),
+        }
+    }
+}
+
+/// Why a replay stopped.
+#[derive(Clone, Copy, Debug, PartialEq, Eq)]
+pub enum ReplayError {
+    /// Memory was refused.
+    OutOfMemory,
+    /// The bytes would be more than 2147483647.
+    TooLarge,
+    /// The first bad step, by its number from 0.
+    BadStep { step: usize, why: Why },
+}
+
+impl From<BuildError> for ReplayError {
+    ghost use Rattle.std.specs.Prelude.{◌≡◌};
+    ghost use Rattle.planus.specs.Replays.{replay_error};
+
+    ghost from_gives = { λ error e. e ≡ replay_error error };
+
+    fn from(error: BuildError) -> ReplayError {
+        match error {
+            BuildError::OutOfMemory => ReplayError::OutOfMemory,
+            BuildError::TooLarge => ReplayError::TooLarge,
+        }
+    }
+}
+
+impl From<AllocError> for ReplayError {
+    ghost use Rattle.std.specs.Prelude.{◌≡◌};
+    ghost use Rattle.planus.specs.declared.faults.ReplayError.TheVariants.{OutOfMemory};
+
+    ghost from_gives = { λ _ e. e ≡ OutOfMemory };
+
+    fn from(_error: AllocError) -> ReplayError {
+        ReplayError::OutOfMemory
+    }
+}
+
+impl<T: Drop> From<AllocFailed<T>> for ReplayError {
+    ghost use Rattle.std.specs.Prelude.{◌≡◌};
+    ghost use Rattle.planus.specs.declared.faults.ReplayError.TheVariants.{OutOfMemory};
+
+    ghost from_gives = { λ _ e. e ≡ OutOfMemory };
+
+    fn from(_error: AllocFailed<T>) -> ReplayError {
+        ReplayError::OutOfMemory
+    }
+}

@@ -1,0 +1,19 @@
+//! What a finish gives.
+
+/// Where a step's value stands in finished bytes.
+#[derive(Clone, Copy, Debug, PartialEq, Eq)]
+pub struct StepPlace {
+    /// The step's number, from 0.
+    pub step: usize,
+    /// The distance in bytes from the end of the finished bytes to the value's first byte.
+    pub distance: u32,
+}
+
+/// What a finish gives: the bytes, and where each value since the last clear stands in them.
+#[derive(Debug, Drop)]
+pub struct Finished {
+    /// All of the buffer.
+    pub bytes: Vec<u8>,
+    /// The values in the order of their steps, referenced or not.
+    pub places: Vec<StepPlace>,
+}

@@ -1,0 +1,29 @@
+//! Steps to finished bytes.
+ghost use Rattle.std.specs.Prelude.{map, IfOk};
+ghost use Rattle.std.specs.List.{AllByRecursion};
+ghost use Rattle.planus.specs.Steps.{bare_step};
+ghost use Rattle.planus.specs.Replays.{finish_given, Replays, given_by};
+ghost use Rattle.planus.specs.Headline.{FinishHolds};
+
+use crate::faults::ReplayError;
+use crate::finishes::Finished;
+use crate::progress::Progress;
+use crate::steps::Step;
+use std::alloc::Global;
+
+/// What each finish of the steps gives, in order.
+///
+/// Each step is checked before it writes, so the first refused step decides: [`ReplayError::BadStep`] where its check is
+/// broken, [`ReplayError::TooLarge`] where its part's place would be above 2147483647 bytes from the end, and
+/// [`ReplayError::OutOfMemory`] where memory is refused.
+pub fn replay(alloc: Global, steps: &[Step]) -> std::result::Result<Vec<Finished>, ReplayError>
+    ensures run { Replays (map bare_step steps.now) (given_by result) }
+    ensures holds { IfOk result (λ finished. AllByRecursion (FinishHolds (map bare_step steps.now)) (map finish_given finished.items)) }
+{
+    let mut progress = Progress::new(alloc)?;
+    for step in steps {
+        progress.advance(alloc, step)?;
+    }
+    let Progress { finished, .. } = progress;
+    Ok(finished)
+}

@@ -1,5 +1,0 @@
-use Rattle.planus_demo.proofs.Replayed.{Reaches}
-use Rattle.planus_demo.proofs.replay.replay.Given as goal
-
-abbrev pub invariant-loop-step : goal.invariant-loop-step
-invariant-loop-step l = Reaches l.steps l.step-index l.progress
