@@ -1,4 +1,5 @@
-//! Steps to finished flatbuffers.
+//! The runtime under flatbuffers code: a builder that writes from the back, readers that take
+//! fields in place, and [`replay`], which takes a list of steps to finished buffers.
 #![tactic(auto)]
 
 mod faults;
@@ -6,8 +7,17 @@ mod finishes;
 mod progress;
 mod run;
 mod steps;
+mod version;
 
 pub use faults::{ReplayError, Why};
 pub use finishes::{Finished, StepPlace};
+pub use planus_back::Fill;
+pub use planus_read::{
+    ArrayWithStartOffset, Error, Place, ReadAsRoot, ReadError, Result, SignedBytes,
+    SliceWithStartOffset, Stride, TableRead, TableReadUnion, TableReadUnionVector, TaggedPlace,
+    VectorName, VectorRead, VectorReadInner, VectorReadUnion, Void, errors, table_reader,
+};
+pub use planus_write::{BuildError, Builder, Offset, Text, WriteAsOffset};
 pub use run::replay;
 pub use steps::Step;
+pub use version::check_version_compatibility;

@@ -1,8 +1,7 @@
 //! Scripts as a user runs them, and readers and writers that fail.
 
-use planus::{ReplayError, Step, replay};
 use crate::run::{RunError, run, status};
-use planus_read::{SliceWithStartOffset, TableRead};
+use planus::{ReplayError, SliceWithStartOffset, Step, TableRead, replay};
 use std::alloc::Global;
 use std::io;
 use std::io::{Error, ErrorKind, Read, Write};
