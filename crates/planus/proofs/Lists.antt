@@ -1,8 +1,12 @@
 -- Facts on lists.
-use Rattle.std.proofs.Common.{◌≡◌, ℕ, suc, zero, ◌+◌, ◌<◌, ◌≤◌, List, [], ◌∷◌, ◌++◌, length, drop, refl, ap, ◌∙◌, subst, arith, Option, Some, None}
-use Rattle.std.specs.Prelude.{slice_get, slice_index_or}
-use Rattle.std.specs.List.{AllByRecursion, Contains}
-use Rattle.planus.specs.Replaying.{values_from}
+use Rattle.std.proofs.Common.{◌≡◌, ℕ, suc, zero, ◌+◌, ◌≤◌, List, [], ◌∷◌, ◌++◌, length, drop, refl, ap, ◌∙◌, subst, arith, Option, Some, None, Bool, true, false}
+use Rattle.std.specs.Prelude.{slice_get, ◌==◌, if◌then◌else◌}
+use Rattle.std.specs.List.{AllByRecursion}
+use Rattle.std.specs.Option.{option_map}
+use Rattle.std.proofs.lemmas.Bool.Decides.{nat_tests}
+use Rattle.planus_write.specs.Parts.{Named}
+use Rattle.planus.specs.Runs.{Listed, named_at}
+use Rattle.planus.specs.Replaying.{listed_from, named}
 
 pub all_weaker : {X : Type 0} (P Q : X → Type 0) → ((x : X) → P x → Q x) → (xs : List X) → AllByRecursion P xs → AllByRecursion Q xs
 all_weaker P Q weaker [] h = h
@@ -12,24 +16,51 @@ pub all_push : {X : Type 0} (P : X → Type 0) (xs : List X) (y : X) → AllByRe
 all_push P [] y h new = (new, tt)
 all_push P (x ∷ xs) y h new = (h.0, all_push P xs y h.1 new)
 
-pub values_push_some : (n : ℕ) (ds : List (Option ℕ)) (d : ℕ) → values_from n (ds ++ Some d ∷ []) ≡ values_from n ds ++ (n + length ds, d) ∷ []
-values_push_some n [] d = ap (λ m. (m, d) ∷ []) (omega arith)
-values_push_some n (None ∷ ds) d = values_push_some (n + 1) ds d ∙ ap (λ m. values_from (n + 1) ds ++ (m, d) ∷ []) (omega arith)
-values_push_some n (Some e ∷ ds) d = ap (λ ps. (n, e) ∷ ps) (values_push_some (n + 1) ds d ∙ ap (λ m. values_from (n + 1) ds ++ (m, d) ∷ []) (omega arith))
+pub listed_push_some : (n : ℕ) (ds : List (Option ℕ)) (d : ℕ) → listed_from n (ds ++ Some d ∷ []) ≡ listed_from n ds ++ record { step = n + length ds; named = named d } ∷ []
+listed_push_some n [] d = ap (λ m. record { step = m; named = named d } ∷ []) (omega arith)
+listed_push_some n (None ∷ ds) d = listed_push_some (n + 1) ds d ∙ ap (λ m. listed_from (n + 1) ds ++ record { step = m; named = named d } ∷ []) (omega arith)
+listed_push_some n (Some e ∷ ds) d =
+    ap (λ ps. record { step = n; named = named e } ∷ ps) (listed_push_some (n + 1) ds d ∙ ap (λ m. listed_from (n + 1) ds ++ record { step = m; named = named d } ∷ []) (omega arith))
 
-pub values_push_none : (n : ℕ) (ds : List (Option ℕ)) → values_from n (ds ++ None ∷ []) ≡ values_from n ds
-values_push_none n [] = refl
-values_push_none n (None ∷ ds) = values_push_none (n + 1) ds
-values_push_none n (Some e ∷ ds) = ap (λ ps. (n, e) ∷ ps) (values_push_none (n + 1) ds)
+pub listed_push_none : (n : ℕ) (ds : List (Option ℕ)) → listed_from n (ds ++ None ∷ []) ≡ listed_from n ds
+listed_push_none n [] = refl
+listed_push_none n (None ∷ ds) = listed_push_none (n + 1) ds
+listed_push_none n (Some e ∷ ds) = ap (λ ps. record { step = n; named = named e } ∷ ps) (listed_push_none (n + 1) ds)
 
--- what holds of all holds of each
-all_at : {X : Type 0} (P : X → Type 0) (xs : List X) (x : X) (k : ℕ) → AllByRecursion P xs → k < length xs → slice_index_or xs k x ≡ x → P x
-all_at P [] x k h inside e = absurd (omega (arith, inside))
-all_at P (y ∷ xs) x zero h inside e = subst P e h.0
-all_at P (y ∷ xs) x (suc k) h inside e = all_at P xs x k h.1 (omega arith) e
+same_number : (n : ℕ) → (n == n + 0) ≡ true
+same_number n = grind (arith, nat_tests)
 
-pub all_contain : {X : Type 0} (P : X → Type 0) (xs : List X) (x : X) → AllByRecursion P xs → Contains xs x → P x
-all_contain P xs x h c = all_at P xs x c.0 h c.1 c.2
+later_number : (n i : ℕ) → (n == n + suc i) ≡ false
+later_number n i = grind (arith, nat_tests)
+
+-- the value of a step is found by the number of the step
+pub found_at : (n : ℕ) (ds : List (Option ℕ)) (i d : ℕ) → slice_get ds i ≡ Some (Some d) → named_at (listed_from n ds) (n + i) ≡ Some (named d)
+found_at n [] i d e = (cc)
+found_at n (None ∷ ds) zero d e = (cc)
+found_at n (None ∷ ds) (suc i) d e = subst (λ m. named_at (listed_from (n + 1) ds) m ≡ Some (named d)) (let same : n + 1 + i ≡ n + suc i = omega arith in same) (found_at (n + 1) ds i d e)
+found_at n (Some x ∷ ds) zero d e =
+    let same : x ≡ d = cc in
+    rw (same_number n) (ap (λ y. Some (named y)) same)
+found_at n (Some x ∷ ds) (suc i) d e =
+    rw (later_number n i) (subst (λ m. named_at (listed_from (n + 1) ds) m ≡ Some (named d)) (let same : n + 1 + i ≡ n + suc i = omega arith in same) (found_at (n + 1) ds i d e))
+
+-- what holds of all that are listed holds of what is found
+pub all_named : (P : Listed → Type 0) (xs : List Listed) (k : ℕ) (m : Named) → AllByRecursion P xs → named_at xs k ≡ Some m → P (record { step = k; named = m })
+all_named P [] k m h e = (cc)
+all_named P (one ∷ xs) k m h e = by_test (λ later. all_named P xs k m h.1 later) (one.step == k) refl e
+  where
+    by_test : (named_at xs k ≡ Some m → P (record { step = k; named = m })) → (equal : Bool) → (one.step == k) ≡ equal
+        → (if equal then Some one.named else named_at xs k) ≡ Some m → P (record { step = k; named = m })
+    by_test further true is e =
+        let number : one.step ≡ k = grind (arith, nat_tests, is) in
+        let same : one.named ≡ m = cc in
+        subst (λ (n : Named). P (record { step = k; named = n })) same (subst (λ n. P (record { step = n; named = one.named })) number h.0)
+    by_test further false is e = further e
+
+-- what is made of an option that is there
+pub made_of : {X Y : Type 0} (f : X → Y) (o : Option X) (y : Y) → option_map f o ≡ Some y → (x : X) × (o ≡ Some x) × (f x ≡ y)
+made_of f None y e = (cc)
+made_of f (Some x) y e = (x, refl, (let same : f x ≡ y = cc in same))
 
 pub get_push : {X : Type 0} (xs : List X) (y x : X) (k : ℕ) → slice_get xs k ≡ Some x → slice_get (xs ++ y ∷ []) k ≡ Some x
 get_push [] y x k h = (cc)
@@ -44,17 +75,3 @@ pub drop_push : {X : Type 0} (n : ℕ) (xs : List X) (y : X) → n ≤ length xs
 drop_push zero xs y h = refl
 drop_push (suc n) [] y h = absurd (omega arith)
 drop_push (suc n) (x ∷ xs) y h = drop_push n xs y (omega arith)
-
-contains_next : {X : Type 0} (x y : X) (xs : List X) → Contains xs y → Contains (x ∷ xs) y
-contains_next x y xs h = (suc h.0, omega (arith, h.1), h.2)
-
--- the value of a step is among the values
-pub listed : (n : ℕ) (ds : List (Option ℕ)) (i d : ℕ) → slice_get ds i ≡ Some (Some d) → Contains (values_from n ds) (n + i, d)
-listed n [] i d e = (cc)
-listed n (None ∷ ds) zero d e = (cc)
-listed n (None ∷ ds) (suc i) d e = subst (λ m. Contains (values_from (n + 1) ds) (m, d)) (omega arith) (listed (n + 1) ds i d e)
-listed n (Some x ∷ ds) zero d e =
-    let same : x ≡ d = cc in
-    (0, omega arith, ap (λ m. (n, m)) same ∙ ap (λ m. (m, d)) (omega arith))
-listed n (Some x ∷ ds) (suc i) d e =
-    contains_next (n, x) (n + suc i, d) (values_from (n + 1) ds) (subst (λ m. Contains (values_from (n + 1) ds) (m, d)) (omega arith) (listed (n + 1) ds i d e))

@@ -2,18 +2,20 @@
 use Rattle.std.proofs.Common.{◌≡◌, ℕ, suc, ◌+◌, ◌≤◌, ◌<◌, List, [], ◌∷◌, ◌++◌, length, take, drop, map, get_or, refl, sym, ap, ◌∙◌, subst, None, Err, drop-cons}
 use Rattle.std.specs.List.{AllByRecursion}
 use Rattle.std.proofs.lemmas.List.{take-append-drop, map-append, map_push, take_more, take_all, length-map, length-take-le}
-use Rattle.planus_write.specs.State.{StandsFor}
+use Rattle.planus_write.specs.Shared.{all_off}
+use Rattle.planus_write.specs.Past.{Past}
+use Rattle.planus_write.specs.State.{IsPast}
 use Rattle.planus.specs.Steps.{Step, text, finish, clear, bare_step}
-use Rattle.planus.specs.Runs.{nothing_written, LeadsTo}
+use Rattle.planus.specs.Runs.{nothing_written, LeadsTo, Advances, StepTooLarge}
 use Rattle.planus.specs.Replays.{first_bad, Replays, finish_given}
 use Rattle.planus.specs.Headline.{FinishHolds}
-use Rattle.planus.specs.Replaying.{Past, state_with, distances, HasTaken, Takes, Stopped, AreReached}
+use Rattle.planus.specs.Replaying.{named, state_with, distances, HasTaken, Takes, Stopped, AreReached}
 use Rattle.planus.specs.declared.steps.Step as code
 use Rattle.planus.specs.declared.progress.Progress.{Progress}
 use Rattle.planus.specs.declared.faults.ReplayError.{ReplayError}
 use Rattle.planus.specs.declared.faults.ReplayError.TheVariants.{OutOfMemory, TooLarge, BadStep}
 use Rattle.planus.proofs.Kept.{leads_on, run_kept, run_value}
-use Rattle.planus.proofs.Lists.{listed}
+use Rattle.planus.proofs.Lists.{found_at}
 use Rattle.planus.proofs.Naming.{named_fault}
 use Rattle.planus.proofs.Walking.{all_utf8, still_clean, too_large, bad_step}
 
@@ -23,13 +25,16 @@ first_steps steps i = map bare_step (take i steps)
 
 -- the replay is where the first i steps lead, and none of them is bad
 pub record Reaches (steps : List code.Step) (i : ℕ) (progress : Progress) : Type 0 where
-  pub run : (past : Past) × StandsFor progress.builder past.promises × LeadsTo nothing_written (first_steps steps i) (state_with progress past)
+  pub run : (past : Past) × IsPast progress.builder past × LeadsTo all_off nothing_written (first_steps steps i) (state_with progress past)
+  pub off : progress.builder.switches ≡ all_off
   pub clean : first_bad (first_steps steps i) ≡ None
   pub taken : HasTaken progress (first_steps steps i)
 
 pub are_reached : (steps : List code.Step) (i : ℕ) (progress : Progress) → Reaches steps i progress → AreReached progress
 are_reached steps i progress h step distance e =
-    (run_value (first_steps steps i) (all_utf8 (take i steps)) (state_with progress h.run.0) h.run.2 (progress.first + step) distance (listed progress.first (distances progress) step distance e)).inside
+    let v = run_value all_off (first_steps steps i) (all_utf8 (take i steps)) (state_with progress h.run.0) h.run.2 (progress.first + step) (named distance)
+        (found_at progress.first (distances progress) step distance e) in
+    subst (λ bytes. distance ≤ length bytes) h.run.1.bytes v.kept.reached
 
 pub number_is : (steps : List code.Step) (i : ℕ) (progress : Progress) → i ≤ length steps → Reaches steps i progress → progress.first + length progress.offsets.items ≡ i
 number_is steps i progress within h =
@@ -46,35 +51,37 @@ module _ (steps : List code.Step) (i : ℕ) (item : code.Step) (inside : i < len
   pub reaches_next : (after : Progress) → Takes progress (bare_step item) after → Reaches steps (i + 1) after
   reaches_next after advanced =
       let a = advanced.advances h.run.0 h.run.1 in
+      let on : Advances all_off (state_with progress h.run.0) (bare_step item) (state_with after a.0)
+      = subst (λ switches. Advances switches (state_with progress h.run.0) (bare_step item) (state_with after a.0)) h.off a.2 in
       record {
         run = (
           a.0,
           a.1,
-          subst (λ cs. LeadsTo nothing_written cs (state_with after a.0)) (sym next)
-              (leads_on nothing_written (state_with progress h.run.0) (state_with after a.0) (first_steps steps i) (bare_step item) h.run.2 a.2),
+          subst (λ cs. LeadsTo all_off nothing_written cs (state_with after a.0)) (sym next)
+              (leads_on all_off nothing_written (state_with progress h.run.0) (state_with after a.0) (first_steps steps i) (bare_step item) h.run.2 on),
         );
+        off = advanced.switches ∙ h.off;
         clean = ap first_bad next
-            ∙ still_clean (map bare_step steps) (first_steps steps i) (bare_step item) (map bare_step (drop (suc i) steps)) whole (state_with progress h.run.0) (all_utf8 (take i steps)) h.run.2 h.clean (state_with after a.0) a.2;
+            ∙ still_clean all_off (map bare_step steps) (first_steps steps i) (bare_step item) (map bare_step (drop (suc i) steps)) whole (state_with progress h.run.0) (all_utf8 (take i steps)) h.run.2 h.clean (state_with after a.0) on;
         taken = subst (λ cs. HasTaken after cs) (sym next) (advanced.taken (first_steps steps i) h.taken);
       }
 
-  stopped_at : (c : Step) → bare_step item ≡ c → (error : ReplayError) → Stopped progress c error → Replays (map bare_step steps) (Err error)
+  stopped_at : (c : Step) → bare_step item ≡ c → (error : ReplayError) → Stopped progress c error → Replays all_off (map bare_step steps) (Err error)
   stopped_at c is OutOfMemory stopped = tt
   stopped_at c is TooLarge stopped =
-      let s = stopped h.run.0 h.run.1 in
-      too_large (map bare_step steps) (first_steps steps i) c (map bare_step (drop (suc i) steps)) (subst (λ x. map bare_step steps ≡ first_steps steps i ++ x ∷ map bare_step (drop (suc i) steps)) is whole)
-      (state_with progress h.run.0) (all_utf8 (take i steps)) h.run.2 h.clean s.0 s.1 s.2
+      too_large all_off (map bare_step steps) (first_steps steps i) c (map bare_step (drop (suc i) steps)) (subst (λ x. map bare_step steps ≡ first_steps steps i ++ x ∷ map bare_step (drop (suc i) steps)) is whole)
+      (state_with progress h.run.0) (all_utf8 (take i steps)) h.run.2 h.clean (subst (λ switches. StepTooLarge switches (state_with progress h.run.0) c) h.off (stopped h.run.0 h.run.1))
   stopped_at (text bytes) is (BadStep number why) stopped = absurd stopped
   stopped_at clear is (BadStep number why) stopped = absurd stopped
   stopped_at (finish root identifier) is (BadStep number why) stopped =
-      bad_step (map bare_step steps) (first_steps steps i) (finish root identifier) (map bare_step (drop (suc i) steps)) (subst (λ x. map bare_step steps ≡ first_steps steps i ++ x ∷ map bare_step (drop (suc i) steps)) is whole)
+      bad_step all_off (map bare_step steps) (first_steps steps i) (finish root identifier) (map bare_step (drop (suc i) steps)) (subst (λ x. map bare_step steps ≡ first_steps steps i ++ x ∷ map bare_step (drop (suc i) steps)) is whole)
       (state_with progress h.run.0) (all_utf8 (take i steps)) h.run.2 h.clean root number identifier why refl (stopped.0 ∙ h.taken.counted) (sym (named_fault progress (first_steps steps i) h.taken root) ∙ stopped.1)
 
-  pub stops : (error : ReplayError) → Stopped progress (bare_step item) error → Replays (map bare_step steps) (Err error)
+  pub stops : (error : ReplayError) → Stopped progress (bare_step item) error → Replays all_off (map bare_step steps) (Err error)
   stops error stopped = stopped_at (bare_step item) refl error stopped
 
-pub all_hold : (steps : List code.Step) (i : ℕ) (progress : Progress) → length steps ≤ i → Reaches steps i progress → AllByRecursion (FinishHolds (map bare_step steps)) (map finish_given progress.finished.items)
+pub all_hold : (steps : List code.Step) (i : ℕ) (progress : Progress) → length steps ≤ i → Reaches steps i progress → AllByRecursion (FinishHolds all_off (map bare_step steps)) (map finish_given progress.finished.items)
 all_hold steps i progress past h =
     let all : first_steps steps i ≡ map bare_step steps = ap (map bare_step) (take_all i steps past) in
-    subst (λ cs. AllByRecursion (FinishHolds cs) (map finish_given progress.finished.items)) all
-    (run_kept (first_steps steps i) (all_utf8 (take i steps)) (state_with progress h.run.0) h.run.2).finished
+    subst (λ cs. AllByRecursion (FinishHolds all_off cs) (map finish_given progress.finished.items)) all
+    (run_kept all_off (first_steps steps i) (all_utf8 (take i steps)) (state_with progress h.run.0) h.run.2).finished

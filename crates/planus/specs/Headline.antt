@@ -1,25 +1,28 @@
 -- What is true of every finish of every run.
 use Rattle.std.specs.Prelude.{◌≡◌, ℕ, ◌+◌, ◌≤◌, List, [], ◌∷◌, ◌++◌, length, take, slice_get, Option, Some}
-use Rattle.std.specs.List.{AllByRecursion, Contains}
+use Rattle.std.specs.List.{AllByRecursion}
 use Rattle.planus_back.specs.Parts.{Part}
 use Rattle.planus_back.specs.Placings.{IsPlacing, NoneIsGreater}
-use Rattle.planus_read.specs.Bytes.{position_of, BytesStand}
-use Rattle.planus_read.specs.Values as value
-use Rattle.planus_read.specs.Stands.{Stands, ReferenceStands, at}
+use Rattle.planus_read.specs.Bytes.{BytesStand}
+use Rattle.planus_read.specs.Values.{Value}
+use Rattle.planus_read.specs.Stands.{Stands, ReferenceStands}
 use Rattle.planus_read.specs.Aligned.{AlignedAt}
 use Rattle.planus_read.specs.ReadsBack.{ReadsBack}
-use Rattle.planus_write.specs.Parts.{identifier_bytes}
-use Rattle.planus.specs.Steps.{Step, text, finish}
-use Rattle.planus.specs.Runs.{Finish, State, nothing_written, LeadsTo}
+use Rattle.planus_write.specs.Shared.{Switches}
+use Rattle.planus_write.specs.Parts.{identifier_bytes, Named, position_in}
+use Rattle.planus.specs.Steps.{Step, finish}
+use Rattle.planus.specs.Runs.{Finish, Listed, State, nothing_written, LeadsTo, named_at, value_of}
 
--- The text of a step stands aligned at its distance in the bytes, and reads back.
-pub record TextHolds (steps : List Step) (bytes : List ℕ) (place : ℕ × ℕ) : Type 0 where
-  pub content : List ℕ
-  pub step : slice_get steps place.0 ≡ Some (text content)
-  pub inside : place.1 ≤ length bytes
-  pub stands : Stands bytes (at (position_of bytes place.1)) (value.text content)
-  pub aligned : AlignedAt bytes (at (position_of bytes place.1)) (value.text content)
-  pub reads_back : ReadsBack bytes (at (position_of bytes place.1)) (value.text content)
+-- The value of a step stands aligned in the bytes, at what it is named by, and reads back.
+pub record ValueHolds (steps : List Step) (given : Finish) (one : Listed) : Type 0 where
+  pub step : Step
+  pub value : Value
+  pub there : slice_get steps one.step ≡ Some step
+  pub is_value : value_of given.places step ≡ Some value
+  pub reached : one.named.distance ≤ length given.bytes
+  pub stands : Stands given.bytes (position_in given.bytes one.named) value
+  pub aligned : AlignedAt given.bytes (position_in given.bytes one.named) value
+  pub reads_back : ReadsBack given.bytes (position_in given.bytes one.named) value
 
 -- The fewest bytes: among the placings of the parts since the last clear, none has a smaller place for any of them than this one, and
 -- the last one's place is the length of the bytes.
@@ -32,16 +35,16 @@ pub record IsFewest (parts : List Part) (places : List ℕ) (bytes : List ℕ) :
 -- its bytes; the reference at their front leads to the value of its root's step, and its identifier stands behind that; and its bytes are
 -- the fewest.
 -- The format: a buffer begins with a reference to its root; four bytes that identify the file may follow.
-pub record FinishHolds (steps : List Step) (given : Finish) : Type 0 where
+pub record FinishHolds (switches : Switches) (steps : List Step) (given : Finish) : Type 0 where
   pub number : ℕ
   pub root : ℕ
   pub identifier : Option (List ℕ)
   pub step : slice_get steps number ≡ Some (finish root identifier)
   pub state : State
-  pub run : LeadsTo nothing_written (take (number + 1) steps) state
-  pub bytes : given.bytes ≡ state.written.bytes
-  pub places : given.places ≡ state.values
-  pub values : AllByRecursion (TextHolds steps given.bytes) given.places
-  pub leads : (distance : ℕ) × Contains given.places (root, distance) × ReferenceStands given.bytes 0 distance
+  pub run : LeadsTo switches nothing_written (take (number + 1) steps) state
+  pub bytes : given.bytes ≡ state.past.written.bytes
+  pub places : given.places ≡ state.listed
+  pub values : AllByRecursion (ValueHolds steps given) given.places
+  pub leads : (named : Named) × (named_at given.places root ≡ Some named) × ReferenceStands given.bytes 0 named.distance
   pub identified : BytesStand given.bytes 4 (identifier_bytes identifier)
-  pub fewest : IsFewest state.parts state.places given.bytes
+  pub fewest : IsFewest state.past.parts state.past.places given.bytes

@@ -1,12 +1,12 @@
 -- A replay on its way, as the definitions see it.
 use Rattle.std.specs.Prelude.{◌≡◌, ℕ, ◌+◌, ◌-◌, ◌≤◌, nat_lt, List, [], ◌∷◌, ◌++◌, map, length, drop, slice_get, Option, Some, None, if◌then◌else◌, Result, Ok, Err, ⊤, ◌⊎◌}
 use Rattle.std.specs.Option.{option_map}
-use Rattle.planus_back.specs.Promises.{Promise}
-use Rattle.planus_back.specs.Parts.{Part, IsTooLarge}
-use Rattle.planus_write.specs.State.{StandsFor, written_with}
+use Rattle.planus_write.specs.Past.{Past}
+use Rattle.planus_write.specs.State.{IsPast}
+use Rattle.planus_write.specs.Parts.{Named}
 use Rattle.planus_write.specs.declared.offset.Offset.{Offset}
 use Rattle.planus.specs.Steps.{Step, text, finish, clear}
-use Rattle.planus.specs.Runs.{State, PartOf, Advances}
+use Rattle.planus.specs.Runs.{State, Listed, Advances, StepTooLarge}
 use Rattle.planus.specs.Replays.{finish_given}
 use Rattle.planus.specs.declared.faults.Why.{Why}
 use Rattle.planus.specs.declared.faults.Why.TheVariants.{NoSuchStep, WrongKind}
@@ -18,25 +18,19 @@ use Rattle.planus.specs.declared.progress.Progress.{Progress}
 abbrev pub distance_of : Option (Offset (Unit {0})) → Option ℕ
 distance_of offset = option_map (λ o. o.distance) offset
 
--- What the run knows beside what a replay keeps: the promises made since the last clear, and the parts and their places.
-pub record Past : Type 0 where
-  pub promises : List Promise
-  pub parts : List Part
-  pub places : List ℕ
-
--- nothing was written
-abbrev pub no_past : Past
-no_past = record { promises = []; parts = []; places = [] }
-
 -- what each step since the last clear wrote: the distance of its value, if it wrote one
 abbrev pub distances : Progress → List (Option ℕ)
 distances replay = map distance_of replay.offsets.items
 
--- the values among steps that are numbered from n on, with their distances
-abbrev pub values_from : ℕ → List (Option ℕ) → List (ℕ × ℕ)
-values_from n [] = []
-values_from n (None ∷ rest) = values_from (n + 1) rest
-values_from n (Some distance ∷ rest) = (n, distance) ∷ values_from (n + 1) rest
+-- what a value of one distance is named by
+abbrev pub named : ℕ → Named
+named distance = record { distance = distance; tags = None }
+
+-- the values among steps that are numbered from n on
+abbrev pub listed_from : ℕ → List (Option ℕ) → List Listed
+listed_from n [] = []
+listed_from n (None ∷ rest) = listed_from (n + 1) rest
+listed_from n (Some distance ∷ rest) = record { step = n; named = named distance } ∷ listed_from (n + 1) rest
 
 -- what the step of a number wrote, where it stands behind the last clear; the steps since are numbered from `first` on
 abbrev pub distance_at : ℕ → List (Option ℕ) → ℕ → Option (Option ℕ)
@@ -45,10 +39,8 @@ distance_at first since step = if nat_lt step first then None else slice_get sin
 -- the state of the run, if this is its past
 abbrev pub state_with : Progress → Past → State
 state_with replay past = record {
-  written = written_with replay.builder past.promises;
-  parts = past.parts;
-  places = past.places;
-  values = values_from replay.first (distances replay);
+  past = past;
+  listed = listed_from replay.first (distances replay);
   next = replay.first + length replay.offsets.items;
   finished = map finish_given replay.finished.items;
 }
@@ -67,7 +59,7 @@ FindsValue first since step (Err why) = distance_fault (distance_at first since 
 -- why a step was not taken
 abbrev pub Stopped : Progress → Step → ReplayError → Type 0
 Stopped old step OutOfMemory = ⊤
-Stopped old step TooLarge = (past : Past) → StandsFor old.builder past.promises → (part : Part) × PartOf (state_with old past) step part × IsTooLarge part (written_with old.builder past.promises)
+Stopped old step TooLarge = (past : Past) → IsPast old.builder past → StepTooLarge old.builder.switches (state_with old past) step
 Stopped old (text bytes) (BadStep number why) = ⊥
 Stopped old clear (BadStep number why) = ⊥
 Stopped old (finish root identifier) (BadStep number why) =
@@ -97,8 +89,9 @@ pub record HasTaken (replay : Progress) (steps : List Step) : Type 0 where
 -- One step was taken, whatever the past.
 pub record Takes (old : Progress) (step : Step) (new : Progress) : Type 0 where
   pub taken : (steps : List Step) → HasTaken old steps → HasTaken new (steps ++ step ∷ [])
-  pub advances : (past : Past) → StandsFor old.builder past.promises
-      → (after : Past) × StandsFor new.builder after.promises × Advances (state_with old past) step (state_with new after)
+  pub advances : (past : Past) → IsPast old.builder past
+      → (after : Past) × IsPast new.builder after × Advances old.builder.switches (state_with old past) step (state_with new after)
+  pub switches : new.builder.switches ≡ old.builder.switches
 
 -- One step was taken, or was not.
 abbrev pub Advanced : Progress → Step → Result (Unit {0}) ReplayError → Progress → Type 0

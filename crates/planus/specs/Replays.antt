@@ -4,7 +4,8 @@ use Rattle.std.specs.Prelude.{Vec}
 use Rattle.std.specs.List.{list_any}
 use Rattle.std.specs.declared.alloc.Global.{Global}
 use Rattle.planus.specs.Steps.{Step, text, finish, clear}
-use Rattle.planus.specs.Runs.{Finish, State, nothing_written, LeadsTo, Runs, ComesToTooLarge}
+use Rattle.planus_write.specs.Shared.{Switches}
+use Rattle.planus.specs.Runs.{Finish, Listed, State, nothing_written, LeadsTo, Runs, ComesToTooLarge}
 use Rattle.planus.specs.declared.faults.Why.{Why}
 use Rattle.planus.specs.declared.faults.Why.TheVariants.{NoSuchStep, WrongKind}
 use Rattle.planus.specs.declared.faults.ReplayError.{ReplayError}
@@ -51,9 +52,9 @@ first_bad_after earlier (step ∷ steps) = first_bad_or (length earlier) (broken
 abbrev pub first_bad : List Step → Option (ℕ × Why)
 first_bad steps = first_bad_after [] steps
 
--- a value's place, as a pair of its step's number and its distance
-abbrev pub place_of : StepPlace → ℕ × ℕ
-place_of place = (place.step, place.distance)
+-- a value's place: the number of its step, and the distances by which it is named
+abbrev pub place_of : StepPlace → Listed
+place_of place = record { step = place.step; named = record { distance = place.distance; tags = place.tags } }
 
 -- a finish, without where it lies in memory
 abbrev pub finish_given : Finished → Finish
@@ -61,11 +62,12 @@ finish_given finished = record { bytes = finished.bytes.items; places = map plac
 
 -- The answer is that of the run: what each finish gives where no step is bad; the first bad step, if the run comes to it; a part that
 -- is too large, if the run comes to that before. Of a want of memory nothing is said.
-abbrev pub Replays : List Step → Result (List Finish) ReplayError → Type 0
-Replays steps (Ok finished) = (first_bad steps ≡ None) × Runs steps finished
-Replays steps (Err (BadStep step why)) = (first_bad steps ≡ Some (step, why)) × ((before : State) × LeadsTo nothing_written (take step steps) before)
-Replays steps (Err TooLarge) = (n : ℕ) × (first_bad (take (n + 1) steps) ≡ None) × ComesToTooLarge steps n
-Replays steps (Err OutOfMemory) = ⊤
+abbrev pub Replays : Switches → List Step → Result (List Finish) ReplayError → Type 0
+Replays switches steps (Ok finished) = (first_bad steps ≡ None) × Runs switches steps finished
+Replays switches steps (Err (BadStep step why)) =
+    (first_bad steps ≡ Some (step, why)) × ((before : State) × LeadsTo switches nothing_written (take step steps) before)
+Replays switches steps (Err TooLarge) = (n : ℕ) × (first_bad (take (n + 1) steps) ≡ None) × ComesToTooLarge switches steps n
+Replays switches steps (Err OutOfMemory) = ⊤
 
 -- a refused write, as a replay's error
 abbrev pub replay_error : BuildError → ReplayError

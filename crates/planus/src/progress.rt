@@ -1,10 +1,12 @@
 //! A replay on its way.
 ghost use Rattle.std.specs.Prelude.{◌≡◌, [], ◌+◌, ◌<◌, ◌^◌, vec_len, length, map, IfOk, IfErr, Ok};
-ghost use Rattle.planus_write.specs.State.{StandsFor};
+ghost use Rattle.planus_write.specs.Shared.{all_off};
+ghost use Rattle.planus_write.specs.Past.{no_past};
+ghost use Rattle.planus_write.specs.State.{IsPast};
 ghost use Rattle.planus.specs.Steps.{bare_step};
 ghost use Rattle.planus.specs.Runs.{nothing_written};
 ghost use Rattle.planus.specs.Replays.{place_of};
-ghost use Rattle.planus.specs.Replaying.{distance_of, distances, values_from, no_past, state_with, FindsValue, HasTaken, Advanced, AreReached};
+ghost use Rattle.planus.specs.Replaying.{distance_of, distances, listed_from, state_with, FindsValue, HasTaken, Advanced, AreReached};
 ghost use Rattle.planus.specs.Steps as step;
 
 use crate::faults::{ReplayError, Why};
@@ -31,7 +33,7 @@ fn places_of(
     offsets: &[Option<Offset<()>>],
 ) -> std::result::Result<Vec<StepPlace>, AllocError>
     requires { first + length offsets.now < 2 ^ 64 }
-    ensures { IfOk result (λ places. map place_of places.items ≡ values_from first (map distance_of offsets.now)) }
+    ensures { IfOk result (λ places. map place_of places.items ≡ listed_from first (map distance_of offsets.now)) }
 {
     let mut places = Vec::with_capacity(alloc, offsets.len())?;
     for (index, offset) in offsets.iter().enumerate() {
@@ -39,6 +41,7 @@ fn places_of(
             places.push(StepPlace {
                 step: first + index,
                 distance: offset.distance(),
+                tags: None,
             })?;
         }
     }
@@ -47,7 +50,9 @@ fn places_of(
 
 impl Progress {
     pub(crate) fn new(alloc: Global) -> std::result::Result<Progress, ReplayError>
-        ensures ok { IfOk result (λ replay. StandsFor replay.builder [] × (state_with replay no_past ≡ nothing_written)) }
+        ensures past { IfOk result (λ replay. IsPast replay.builder no_past) }
+        ensures switches { IfOk result (λ replay. replay.builder.switches ≡ all_off) }
+        ensures nothing { IfOk result (λ replay. state_with replay no_past ≡ nothing_written) }
         ensures taken { IfOk result (λ replay. HasTaken replay []) }
         ensures error { IfErr result (λ error. error ≡ ReplayError.OutOfMemory) }
     {

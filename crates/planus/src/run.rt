@@ -2,6 +2,7 @@
 ghost use Rattle.std.specs.Prelude.{map, IfOk};
 ghost use Rattle.std.specs.List.{AllByRecursion};
 ghost use Rattle.planus.specs.Steps.{bare_step};
+ghost use Rattle.planus.specs.Runs.{nothing_shared};
 ghost use Rattle.planus.specs.Replays.{finish_given, Replays, given_by};
 ghost use Rattle.planus.specs.Headline.{FinishHolds};
 
@@ -17,8 +18,8 @@ use std::alloc::Global;
 /// broken, [`ReplayError::TooLarge`] where its part's place would be above 2147483647 bytes from the end, and
 /// [`ReplayError::OutOfMemory`] where memory is refused.
 pub fn replay(alloc: Global, steps: &[Step]) -> std::result::Result<Vec<Finished>, ReplayError>
-    ensures run { Replays (map bare_step steps.now) (given_by result) }
-    ensures holds { IfOk result (λ finished. AllByRecursion (FinishHolds (map bare_step steps.now)) (map finish_given finished.items)) }
+    ensures run { Replays nothing_shared (map bare_step steps.now) (given_by result) }
+    ensures holds { IfOk result (λ finished. AllByRecursion (FinishHolds nothing_shared (map bare_step steps.now)) (map finish_given finished.items)) }
 {
     let mut progress = Progress::new(alloc)?;
     for step in steps {

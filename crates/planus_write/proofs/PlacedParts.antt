@@ -1,113 +1,189 @@
--- A part that is put into the room made for it is placed.
-use Rattle.std.proofs.Common.{◌≡◌, ℕ, ◌+◌, ◌-◌, ◌≤◌, List, [], ◌∷◌, ◌++◌, length, replicate, refl, sym, ap, ◌∙◌, subst, arith, append_assoc, length-append}
+-- An entry whose part is put into the room made for it is put down, where nothing is shared.
+use Rattle.std.proofs.Common.{◌≡◌, ℕ, ◌+◌, ◌-◌, ◌*◌, ◌≤◌, ◌<◌, List, [], ◌∷◌, ◌++◌, length, replicate, refl, sym, ap, ◌∙◌, subst, arith, append_assoc, length-append, Option, Some, None}
 use Rattle.std.proofs.lemmas.List.{length-replicate}
 use Rattle.std.specs.Int.{w32, to_le_bytes}
-use Rattle.planus_write.specs.Parts.{text_part, finish_part, filled_part, identifier_bytes}
-use Rattle.planus_write.specs.Finishing.{Finishes}
-use Rattle.std.specs.Prelude.{Option}
 use Rattle.planus_back.specs.Promises.{Promise, Keep, greatest_alignment}
 use Rattle.planus_back.specs.Padding.{promise_of}
-use Rattle.planus_back.specs.Parts.{Part}
-use Rattle.planus_write.specs.State.{State, StandsFor, Puts}
-use Rattle.planus_write.specs.Placing.{Places, MakesRoom}
+use Rattle.planus_back.specs.Parts.{Part, Placed}
+use Rattle.planus_back.specs.Descriptions.{Describes}
+use Rattle.planus_write.specs.Shared.{Contents, Switches, all_off, texts, byte_lists, vtables, shared_as, found}
+use Rattle.planus_write.specs.Past.{Past, Entry, just, part_after, Adds, PutsAfter, Puts, found_before, PutsTooLarge}
+use Rattle.planus_write.specs.Parts.{text_part, text_entry, finish_part, finish_entry, filled_part, identifier_bytes}
+use Rattle.planus_write.specs.State.{State, IsPast, PutsBytes}
+use Rattle.planus_write.specs.Placing.{PutsDown, MakesRoom, DescribedBy, LacksRoom, MayWantMemory, RefusedMemory, RefusedFor, Refuses}
+use Rattle.planus_write.specs.Finishing.{Finishes}
+use Rattle.planus_write.specs.View.{IsSound}
+use Rattle.planus_write.specs.declared.builder.Builder.TheInside.{Inside}
+use Rattle.planus_write.specs.declared.errors.BuildError.{BuildError}
+use Rattle.planus_write.specs.declared.errors.BuildError.TheVariants.{OutOfMemory, TooLarge}
 
--- the part has this size and alignment, and these bytes at the place, whatever was promised
-pub record IsShaped (part : List Promise → Part) (old : State) (size alignment place : ℕ) (bytes : List ℕ) : Type 0 where
-  pub size_is : (promises : List Promise) → StandsFor old promises → (part promises).size ≡ size
-  pub alignment_is : (promises : List Promise) → StandsFor old promises → (part promises).alignment ≡ alignment
-  pub bytes_are : (promises : List Promise) → StandsFor old promises → (part promises).bytes_at place ≡ bytes
-  pub length_is : length bytes ≡ size
+-- with all switches off nothing is shared
+none_shared : (contents : Option Contents) → shared_as all_off contents ≡ None
+none_shared None = refl
+none_shared (Some contents) = by_kind contents.kind
+  where
+    by_kind : (kind : Rattle.planus_write.specs.Shared.Kind) → shared_as all_off (Some (record { kind = kind; bytes = contents.bytes })) ≡ None
+    by_kind texts = refl
+    by_kind byte_lists = refl
+    by_kind vtables = refl
 
-module _ (part : List Promise → Part) (size alignment place : ℕ) (old mid new : State) (bytes : List ℕ) (room : MakesRoom size alignment old place mid)
-    (shape : IsShaped part old size alignment place bytes) (put : Puts bytes mid new) where
+pub not_shared : (switches : Switches) (contents : Option Contents) → switches ≡ all_off → shared_as switches contents ≡ None
+not_shared switches contents off = subst (λ s. shared_as s contents ≡ None) (sym off) (none_shared contents)
+
+-- the entry's part has this size and alignment, whatever was written before
+pub record IsSized (entry : Entry) (got : List ℕ) (old : State) (size alignment : ℕ) : Type 0 where
+  pub size_is : (past : Past) → IsPast old past → (part_after entry got past).size ≡ size
+  pub alignment_is : (past : Past) → IsPast old past → (part_after entry got past).alignment ≡ alignment
+
+module _ (entry : Entry) (got : List ℕ) (size alignment place : ℕ) (old mid new : State) (bytes : List ℕ) (off : old.switches ≡ all_off)
+    (room : MakesRoom size alignment old place mid) (sized : IsSized entry got old size alignment)
+    (bytes_are : (past : Past) → IsPast old past → (part_after entry got past).bytes_at place ≡ bytes)
+    (length_is : length bytes ≡ size) (put : PutsBytes bytes mid new) where
   new_bytes : new.bytes ≡ (bytes ++ replicate room.padding 0) ++ old.bytes
   new_bytes = ap (λ state. state.bytes) put ∙ ap (λ xs. bytes ++ xs) room.bytes ∙ sym (append_assoc bytes (replicate room.padding 0) old.bytes)
 
   pub new_length : length new.bytes ≡ place
-  new_length = ap length new_bytes ∙ simp (length-append, length-replicate) (let h = shape.length_is in let g = room.is_place in omega arith)
+  new_length = ap length new_bytes ∙ simp (length-append, length-replicate) (let h = length_is in let g = room.is_place in omega arith)
 
   new_room : new.room ≡ mid.room - size
-  new_room = subst (λ n. new.room ≡ mid.room - n) shape.length_is (ap (λ state. state.room) put)
+  new_room = subst (λ n. new.room ≡ mid.room - n) length_is (ap (λ state. state.room) put)
 
-  pub places : Places part old new
-  places = record {
+  abbrev placed : (past : Past) → (h : IsPast old past) → Placed (part_after entry got past) past.written (record { bytes = new.bytes; promises = promise_of place (part_after entry got past).alignment ∷ past.written.promises })
+  placed past h = record {
+    padding = room.padding;
+    place = place;
+    is_least = rw (h.bytes, sized.size_is past h, sized.alignment_is past h) (room.least past.written.promises h.described);
+    is_place = rw (h.bytes, sized.size_is past h) room.is_place;
+    fits = room.fits;
+    bytes = rw (h.bytes, bytes_are past h) new_bytes;
+    promises = refl;
+  }
+
+  abbrev after_put : (past : Past) → Past
+  after_put past = record {
+    written = record { bytes = new.bytes; promises = promise_of place (part_after entry got past).alignment ∷ past.written.promises };
+    seen = past.seen;
+    parts = past.parts ++ part_after entry got past ∷ [];
+    places = past.places ++ place ∷ [];
+  }
+
+  puts_it : (past : Past) → IsPast old past → Puts old.switches entry got past place (after_put past)
+  puts_it past h =
+      let adds : Adds (part_after entry got past) None past place (after_put past) = record { placed = placed past h; at = refl; seen = refl; parts = refl; places = refl } in
+      subst (λ (shared : Option Contents). PutsAfter (found past.seen shared) (part_after entry got past) shared past place (after_put past)) (sym (not_shared old.switches entry.contents off)) adds
+
+  is_past : (past : Past) → IsPast old past → IsPast new (after_put past)
+  is_past past h = record {
+    bytes = refl;
+    described = rw (new_length, sized.alignment_is past h, ap (λ state. state.delayed) put, ap (λ state. state.mask) put) (room.described past.written.promises h.described);
+  }
+
+  pub puts_down : PutsDown entry got old place new
+  puts_down = record {
     grows = (bytes ++ replicate room.padding 0, new_bytes);
+    reached = rw new_length (let le : place ≤ place = omega arith in le);
     fits = rw new_length room.fits;
-    placed = λ promises stands. record {
-      padding = room.padding;
-      place = place;
-      is_least = rw (shape.size_is promises stands, shape.alignment_is promises stands) (room.least promises stands);
-      is_place = rw (shape.size_is promises stands) room.is_place;
-      fits = room.fits;
-      bytes = rw (shape.bytes_are promises stands) new_bytes;
-      promises = ap (λ n. promise_of n (part promises).alignment ∷ promises) new_length;
-    };
-    stands = λ promises stands.
-        rw (new_length, shape.alignment_is promises stands, ap (λ state. state.delayed) put, ap (λ state. state.mask) put) (room.stands promises stands);
+    puts = λ past h. (after_put past, puts_it past h, is_past past h);
     room = λ within.
         let h = new_length in let g = new_room in let i = room.is_place in let k = room.size_fits in let falls = room.room in omega arith;
+    switches = ap (λ state. state.switches) put ∙ room.switches;
   }
 
--- bytes that are put in front of bytes that were put in front
-pub puts_twice : (x y : List ℕ) (a b c : State) → Puts y a b → Puts x b c → Puts (x ++ y) a c
-puts_twice x y a b c first second =
-    second ∙ rw (first, append_assoc x y a.bytes, length-append x y) (ap (λ n. record a { bytes = x ++ (y ++ a.bytes); room = n }) (omega arith))
+-- an entry is refused where there is no room for its part
+module _ (entry : Entry) (got : List ℕ) (size alignment : ℕ) (old : State) (off : old.switches ≡ all_off) (sized : IsSized entry got old size alignment) where
+  is_new : (past : Past) → found_before old.switches entry past ≡ None
+  is_new past = ap (found past.seen) (not_shared old.switches entry.contents off)
 
--- a text, put into the room made for it
-module _ (text count : List ℕ) (place : ℕ) (old mid new : State)
-    (room : MakesRoom (length text + 5) 4 old place mid)
-    (put : Puts ((count ++ text) ++ 0 ∷ []) mid new)
-    (count_is : count ≡ to_le_bytes w32 (length text)) where
-  shape : IsShaped (λ promises. text_part text) old (length text + 5) 4 place ((count ++ text) ++ 0 ∷ [])
-  shape = record {
-    size_is = λ promises stands. refl;
-    alignment_is = λ promises stands. refl;
-    bytes_are = λ promises stands. rw count_is refl;
-    length_is = rw count_is (simp length-append (omega arith));
-  }
+  refused_for : (error : BuildError) → LacksRoom size alignment old error → RefusedFor entry got old error
+  refused_for TooLarge lacks = λ past h.
+      let far = lacks past.written.promises h.described in
+      record {
+        is_new = is_new past;
+        too_large = record {
+          padding = far.0;
+          is_least = rw (h.bytes, sized.size_is past h, sized.alignment_is past h) far.1;
+          too_great = rw (h.bytes, sized.size_is past h) far.2;
+        };
+      }
+  refused_for OutOfMemory lacks = λ past h.
+      let short = lacks past.written.promises h.described in
+      record {
+        is_new = is_new past;
+        wants = subst (λ (shared : Option Contents). MayWantMemory shared (part_after entry got past) old past.written.promises) (sym (not_shared old.switches entry.contents off))
+            (record {
+              padding = short.0;
+              is_least = rw (sized.size_is past h, sized.alignment_is past h) short.1;
+              fits = rw (sized.size_is past h) short.2;
+              short = rw (sized.size_is past h) short.3;
+            });
+      }
 
-  pub text_placed : Places (λ promises. text_part text) old new × (place ≡ length new.bytes)
-  text_placed = (
-    places (λ promises. text_part text) (length text + 5) 4 place old mid new _ room shape put,
-    sym (new_length (λ promises. text_part text) (length text + 5) 4 place old mid new _ room shape put),
-  )
+  pub refuses : (error : BuildError) (new : State) → new ≡ old → LacksRoom size alignment old error → Refuses entry got old error new
+  refuses error new same lacks = record { unchanged = same; cause = refused_for error lacks }
+
+-- a text
+pub text_sized : (text : List ℕ) (old : State) → IsSized (text_entry text) [] old (length text + 5) 4
+text_sized text old = record { size_is = λ past h. refl; alignment_is = λ past h. refl }
+
+pub text_put : (text count : List ℕ) (place : ℕ) (old mid new : State) → old.switches ≡ all_off → MakesRoom (length text + 5) 4 old place mid
+    → PutsBytes ((count ++ text) ++ 0 ∷ []) mid new → count ≡ to_le_bytes w32 (length text) → PutsDown (text_entry text) [] old place new
+text_put text count place old mid new off room put count_is =
+    puts_down (text_entry text) [] (length text + 5) 4 place old mid new ((count ++ text) ++ 0 ∷ []) off room (text_sized text old)
+    (λ past h. rw count_is refl) (rw count_is (simp length-append (omega arith))) put
+
+-- what a filler writes
+pub filled_sized : (leaves : ℕ → ℕ → List ℕ) (size alignment : ℕ) (old : State) → IsSized (just (filled_part size alignment leaves)) [] old size alignment
+filled_sized leaves size alignment old = record { size_is = λ past h. refl; alignment_is = λ past h. refl }
+
+pub filled_put : (leaves : ℕ → ℕ → List ℕ) (size alignment place : ℕ) (old mid new : State) → old.switches ≡ all_off → MakesRoom size alignment old place mid
+    → length (leaves place size) ≡ size → PutsBytes (leaves place size) mid new → PutsDown (just (filled_part size alignment leaves)) [] old (length new.bytes) new
+filled_put leaves size alignment place old mid new off room count put =
+    let there : length new.bytes ≡ place
+        = new_length (just (filled_part size alignment leaves)) [] size alignment place old mid new (leaves place size) off room (filled_sized leaves size alignment old) (λ past h. refl) count put in
+    subst (λ n. PutsDown (just (filled_part size alignment leaves)) [] old n new) (sym there)
+    (puts_down (just (filled_part size alignment leaves)) [] size alignment place old mid new (leaves place size) off room (filled_sized leaves size alignment old) (λ past h. refl) count put)
 
 -- a root word and an identifier, put in two pieces into the room made for them
-module _ (root : ℕ) (identifier : Option (List ℕ)) (word : List ℕ) (place alignment : ℕ) (old mid a new : State)
-    (room : MakesRoom (length (identifier_bytes identifier) + 4) alignment old place mid)
-    (name_put : Puts (identifier_bytes identifier) mid a) (word_put : Puts word a new) (word_is : word ≡ to_le_bytes w32 (place - root))
-    (greatest : (promises : List Promise) → StandsFor old promises → greatest_alignment 4 promises ≡ alignment)
-    (all : (promises : List Promise) → StandsFor old promises → greatest_alignment 1 promises ≤ alignment) where
-  root_put : Puts (word ++ identifier_bytes identifier) mid new
-  root_put = puts_twice word (identifier_bytes identifier) mid a new name_put word_put
+module _ (root : ℕ) (identifier : Option (List ℕ)) (alignment : ℕ) (old : State)
+    (greatest : (promises : List Promise) → DescribedBy old promises → greatest_alignment 4 promises ≡ alignment) where
+  pub finish_sized : IsSized (finish_entry root identifier) [] old (length (identifier_bytes identifier) + 4) alignment
+  finish_sized = record { size_is = λ past h. refl; alignment_is = λ past h. greatest past.written.promises h.described }
 
-  root_bytes_length : length (word ++ identifier_bytes identifier) ≡ length (identifier_bytes identifier) + 4
-  root_bytes_length = rw word_is (simp length-append (omega arith))
+  module _ (word : List ℕ) (place : ℕ) (mid a new : State) (off : old.switches ≡ all_off)
+      (room : MakesRoom (length (identifier_bytes identifier) + 4) alignment old place mid)
+      (name_put : PutsBytes (identifier_bytes identifier) mid a) (word_put : PutsBytes word a new) (word_is : word ≡ to_le_bytes w32 (place - root))
+      (all : (promises : List Promise) → DescribedBy old promises → greatest_alignment 1 promises ≤ alignment)
+      (some : (promises : List Promise) × DescribedBy old promises) where
+    both_put : PutsBytes (word ++ identifier_bytes identifier) mid new
+    both_put =
+        word_put ∙ rw (name_put, append_assoc word (identifier_bytes identifier) mid.bytes, length-append word (identifier_bytes identifier))
+        (ap (λ n. record mid { bytes = word ++ (identifier_bytes identifier ++ mid.bytes); room = n }) (omega arith))
 
-  root_shape : IsShaped (finish_part root identifier) old (length (identifier_bytes identifier) + 4) alignment place (word ++ identifier_bytes identifier)
-  root_shape = record {
-    size_is = λ promises stands. refl;
-    alignment_is = greatest;
-    bytes_are = λ promises stands. rw word_is refl;
-    length_is = root_bytes_length;
-  }
+    count : length (word ++ identifier_bytes identifier) ≡ length (identifier_bytes identifier) + 4
+    count = rw word_is (simp length-append (omega arith))
 
-  root_length : length new.bytes ≡ place
-  root_length = new_length (finish_part root identifier) _ alignment place old mid new _ room root_shape root_put
+    there : length new.bytes ≡ place
+    there = new_length (finish_entry root identifier) [] _ alignment place old mid new (word ++ identifier_bytes identifier) off room finish_sized (λ past h. rw word_is refl) count both_put
 
-  pub finishes : Finishes root identifier old new
-  finishes = record {
-    places = places (finish_part root identifier) _ alignment place old mid new _ room root_shape root_put;
-    kept = λ promises stands.
-        let kept_there : Keep (promise_of place alignment ∷ promises) place = room.kept promises stands (all promises stands) in
-        let kept_here : Keep (promise_of (length new.bytes) alignment ∷ promises) (length new.bytes)
-        = subst (λ n. Keep (promise_of n alignment ∷ promises) n) (sym root_length) kept_there in
-        subst (λ a. Keep (promise_of (length new.bytes) a ∷ promises) (length new.bytes)) (sym (greatest promises stands)) kept_here;
-  }
+    none_to_come : new.delayed ≡ 0
+    none_to_come =
+        let kept : Keep (promise_of place alignment ∷ some.0) place = room.kept some.0 some.1 (all some.0 some.1) in
+        let turns : (k : ℕ) × (place ≡ place + mid.delayed + k * (mid.mask + 1)) = ((room.described some.0 some.1).kept place (let le : place ≤ place = omega arith in le)).0 kept in
+        let same : new.delayed ≡ mid.delayed = ap (λ state. state.delayed) both_put in
+        omega (arith, same, turns.1)
 
--- a filler's bytes, put into the room made for them
-pub filled_places : (leaves : ℕ → ℕ → List ℕ) (size alignment place : ℕ) (old mid new : State) → MakesRoom size alignment old place mid → length (leaves place size) ≡ size
-    → Puts (leaves place size) mid new → Places (λ promises. filled_part size alignment leaves) old new
-filled_places leaves size alignment place old mid new room count put =
-    places (λ promises. filled_part size alignment leaves) size alignment place old mid new (leaves place size) room
-    (record { size_is = λ promises stands. refl; alignment_is = λ promises stands. refl; bytes_are = λ promises stands. refl; length_is = count }) put
+    pub finishes : Finishes root identifier old place new
+    finishes = record {
+      puts = puts_down (finish_entry root identifier) [] _ alignment place old mid new (word ++ identifier_bytes identifier) off room finish_sized (λ past h. rw word_is refl) count both_put;
+      whole = sym there;
+      kept = none_to_come;
+    }
+
+-- a builder whose fields were sound, and that put down an entry, is sound
+pub still_sound : (entry : Entry) (got : List ℕ) (old new : Inside) (distance : ℕ) → IsSound old → PutsDown entry got old.backing distance new.backing → IsSound new
+still_sound entry got old new distance sound put =
+    let some = sound.described in
+    let past : Past = record { written = record { bytes = old.backing.bytes; promises = some.0 }; seen = []; parts = []; places = [] } in
+    let is_past : IsPast old.backing past = record { bytes = refl; described = some.1 } in
+    let after = put.puts past is_past in
+    record { described = (after.0.written.promises, after.2.described); off = put.switches ∙ sound.off }

@@ -1,3 +1,5 @@
+pub mod Shared
+pub mod Past
 pub mod Parts
 pub mod State
 pub mod Placing

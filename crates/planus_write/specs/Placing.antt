@@ -1,25 +1,35 @@
--- How a builder places one part.
-use Rattle.std.specs.Prelude.{◌≡◌, ℕ, ◌+◌, ◌<◌, ◌≤◌, List, [], ◌∷◌, ◌++◌, length, replicate, Result, Ok, Err}
+-- How a builder puts down one entry.
+use Rattle.std.specs.Prelude.{◌≡◌, ℕ, ◌+◌, ◌<◌, ◌≤◌, List, [], ◌∷◌, ◌++◌, length, replicate, Option, Some, None, Result, Ok, Err, ⊤, ◌⊎◌}
 use Rattle.planus_back.specs.Descriptions.{Describes}
 use Rattle.planus_back.specs.Promises.{Promise, Keep, greatest_alignment}
 use Rattle.planus_back.specs.Padding.{greatest_place, promise_of, IsLeastPadding}
-use Rattle.planus_back.specs.Parts.{Part, Placed, IsTooLarge}
-use Rattle.planus_write.specs.State.{State, StandsFor, written_with}
+use Rattle.planus_back.specs.Parts.{Part}
+use Rattle.planus_write.specs.Shared.{Contents, shared_as}
+use Rattle.planus_write.specs.Past.{Past, Entry, part_after, found_before, Puts, PutsTooLarge}
+use Rattle.planus_write.specs.State.{State, IsPast}
 use Rattle.planus_write.specs.declared.errors.BuildError.{BuildError}
 use Rattle.planus_write.specs.declared.errors.BuildError.TheVariants.{OutOfMemory, TooLarge}
 
--- the promises after a part, which depends on those before, was placed
-abbrev pub and_promised : (List Promise → Part) → State → List Promise → List Promise
-and_promised part new promises = promise_of (length new.bytes) (part promises).alignment ∷ promises
+-- What a call does: the builder before, the answer, and the builder after.
+abbrev pub Outcome : Type 0 → Type 1
+Outcome A = State → Result A BuildError → State → Type 0
 
--- The part was placed, whatever the promises before: by least padding, and the builder stands for its promise too.
--- Where padding and part fit the room, the room falls by their bytes.
-pub record Places (part : List Promise → Part) (old new : State) : Type 0 where
+-- One call, and then another that is handed its answer. A refusal of the first is that of both; where the second is
+-- refused, the first is done.
+abbrev pub then_does : {A B : Type 0} → Outcome A → (A → Outcome B) → Outcome B
+then_does {A} {B} first second old (Ok b) new = (a : A) × (between : State) × first old (Ok a) between × second a between (Ok b) new
+then_does {A} {B} first second old (Err error) new =
+    first old (Err error) new ⊎ ((a : A) × (between : State) × first old (Ok a) between × second a between (Err error) new)
+
+-- The entry was put down, whatever was written before, and got this distance. Where padding and part fit the room,
+-- the room falls by their bytes.
+pub record PutsDown (entry : Entry) (got : List ℕ) (old : State) (distance : ℕ) (new : State) : Type 0 where
   pub grows : (front : List ℕ) × (new.bytes ≡ front ++ old.bytes)
+  pub reached : distance ≤ length new.bytes
   pub fits : length new.bytes ≤ greatest_place
-  pub placed : (promises : List Promise) → StandsFor old promises → Placed (part promises) (written_with old promises) (written_with new (and_promised part new promises))
-  pub stands : (promises : List Promise) → StandsFor old promises → StandsFor new (and_promised part new promises)
+  pub puts : (past : Past) → IsPast old past → (after : Past) × Puts old.switches entry got past distance after × IsPast new after
   pub room : length new.bytes ≤ length old.bytes + old.room → length new.bytes + new.room ≡ length old.bytes + old.room
+  pub switches : new.switches ≡ old.switches
 
 -- With the least padding the part isn't too large, but doesn't fit the room.
 pub record WantsMemory (part : Part) (old : State) (promises : List Promise) : Type 0 where
@@ -28,20 +38,39 @@ pub record WantsMemory (part : Part) (old : State) (promises : List Promise) : T
   pub fits : length old.bytes + padding + part.size ≤ greatest_place
   pub short : old.room < padding + part.size
 
--- why the part was refused
-abbrev pub RefusedFor : (List Promise → Part) → State → BuildError → Type 0
-RefusedFor part old TooLarge = (promises : List Promise) → StandsFor old promises → IsTooLarge (part promises) (written_with old promises)
-RefusedFor part old OutOfMemory = (promises : List Promise) → StandsFor old promises → WantsMemory (part promises) old promises
+-- Memory was wanted for padding and part; where the part is shared, it may also be the cache that wanted it.
+abbrev pub MayWantMemory : Option Contents → Part → State → List Promise → Type 0
+MayWantMemory None part old promises = WantsMemory part old promises
+MayWantMemory (Some contents) part old promises = ⊤
 
--- The part was refused, and nothing changed.
-pub record Refuses (part : List Promise → Part) (old : State) (error : BuildError) (new : State) : Type 0 where
+-- an entry that isn't found wants memory
+pub record RefusedMemory (entry : Entry) (got : List ℕ) (old : State) (past : Past) : Type 0 where
+  pub is_new : found_before old.switches entry past ≡ None
+  pub wants : MayWantMemory (shared_as old.switches entry.contents) (part_after entry got past) old past.written.promises
+
+-- why the entry was refused
+abbrev pub RefusedFor : Entry → List ℕ → State → BuildError → Type 0
+RefusedFor entry got old TooLarge = (past : Past) → IsPast old past → PutsTooLarge old.switches entry got past
+RefusedFor entry got old OutOfMemory = (past : Past) → IsPast old past → RefusedMemory entry got old past
+
+-- The entry was refused, and nothing changed.
+pub record Refuses (entry : Entry) (got : List ℕ) (old : State) (error : BuildError) (new : State) : Type 0 where
   pub unchanged : new ≡ old
-  pub cause : RefusedFor part old error
+  pub cause : RefusedFor entry got old error
 
--- The part was placed, or refused.
-abbrev pub WritesPart : (List Promise → Part) → State → Result (Unit {0}) BuildError → State → Type 0
-WritesPart part old (Ok done) new = Places part old new
-WritesPart part old (Err error) new = Refuses part old error new
+-- The entry was put down and got the distance that is answered, or it was refused.
+abbrev pub WritesEntry : Entry → List ℕ → Outcome ℕ
+WritesEntry entry got old (Ok distance) new = PutsDown entry got old distance new
+WritesEntry entry got old (Err error) new = Refuses entry got old error new
+
+-- The same where the answer doesn't tell the distance: it is the length afterwards.
+abbrev pub WritesPart : Entry → Outcome (Unit {0})
+WritesPart entry old (Ok done) new = WritesEntry entry [] old (Ok (length new.bytes)) new
+WritesPart entry old (Err error) new = WritesEntry entry [] old (Err error) new
+
+-- the promises are described at the length of the builder
+abbrev pub DescribedBy : State → List Promise → Type 0
+DescribedBy state promises = Describes (length state.bytes) state.delayed state.mask promises
 
 -- Padding was written, and there is room for a part of that size at the place that was answered.
 pub record MakesRoom (size alignment : ℕ) (old : State) (place : ℕ) (new : State) : Type 0 where
@@ -52,15 +81,22 @@ pub record MakesRoom (size alignment : ℕ) (old : State) (place : ℕ) (new : S
   pub bytes : new.bytes ≡ replicate padding 0 ++ old.bytes
   pub size_fits : size ≤ new.room
   pub room : padding + size ≤ old.room → new.room + padding ≡ old.room
-  pub least : (promises : List Promise) → StandsFor old promises → IsLeastPadding (length old.bytes) promises size alignment padding
-  pub kept : (promises : List Promise) → StandsFor old promises → greatest_alignment 1 promises ≤ alignment → Keep (promise_of place alignment ∷ promises) place
-  pub stands : (promises : List Promise) → StandsFor old promises → Describes place new.delayed new.mask (promise_of place alignment ∷ promises)
+  pub least : (promises : List Promise) → DescribedBy old promises → IsLeastPadding (length old.bytes) promises size alignment padding
+  pub kept : (promises : List Promise) → DescribedBy old promises → greatest_alignment 1 promises ≤ alignment
+      → Keep (promise_of place alignment ∷ promises) place
+  pub described : (promises : List Promise) → DescribedBy old promises
+      → Describes place new.delayed new.mask (promise_of place alignment ∷ promises)
+  pub switches : new.switches ≡ old.switches
 
--- a part of that size and alignment, whatever its bytes
-abbrev pub blank_part : ℕ → ℕ → Part
-blank_part size alignment = record { size = size; alignment = alignment; bytes_at = λ place. [] }
+-- why there is no room for a part of that size and alignment
+abbrev pub LacksRoom : ℕ → ℕ → State → BuildError → Type 0
+LacksRoom size alignment old TooLarge = (promises : List Promise) → DescribedBy old promises
+    → (padding : ℕ) × IsLeastPadding (length old.bytes) promises size alignment padding × (greatest_place < length old.bytes + padding + size)
+LacksRoom size alignment old OutOfMemory = (promises : List Promise) → DescribedBy old promises
+    → (padding : ℕ) × IsLeastPadding (length old.bytes) promises size alignment padding
+    × (length old.bytes + padding + size ≤ greatest_place) × (old.room < padding + size)
 
 -- Room was made for a part of that size and alignment, at the place that is answered, or it was refused.
-abbrev pub Reserves : ℕ → ℕ → State → Result ℕ BuildError → State → Type 0
+abbrev pub Reserves : ℕ → ℕ → Outcome ℕ
 Reserves size alignment old (Ok place) new = MakesRoom size alignment old place new
-Reserves size alignment old (Err error) new = Refuses (λ promises. blank_part size alignment) old error new
+Reserves size alignment old (Err error) new = (new ≡ old) × LacksRoom size alignment old error

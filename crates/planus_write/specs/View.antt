@@ -1,13 +1,32 @@
 -- What the fields of a builder say to its callers.
-use Rattle.std.specs.Prelude.{◌≤◌, length}
+use Rattle.std.specs.Prelude.{◌≡◌, ◌≤◌, length, List}
+use Rattle.planus_back.specs.Promises.{Promise}
 use Rattle.planus_back.specs.Padding.{greatest_place}
+use Rattle.planus_write.specs.Shared.{all_off}
 use Rattle.planus_write.specs.State.{State}
-use Rattle.planus_write.specs.declared.builder.Builder.TheInside.{Inside}
+use Rattle.planus_write.specs.Placing.{DescribedBy}
+use Rattle.planus_write.specs.declared.backing.Backing.TheInside as backing
+use Rattle.planus_write.specs.declared.builder.Builder.TheInside as builder
 
--- the state that the fields are
-abbrev pub state_of : Inside → State
-state_of a = record { bytes = a.inner.bytes; delayed = a.promises.delayed; mask = a.promises.mask; room = a.inner.room }
+-- the state that bytes and promises are; nothing is shared
+abbrev pub backing_state : backing.Inside → State
+backing_state a = record {
+  bytes = a.inner.bytes;
+  delayed = a.promises.delayed;
+  mask = a.promises.mask;
+  room = a.inner.room;
+  switches = all_off;
+}
 
 -- no builder has more bytes than a place may be
-abbrev pub IsSmall : Inside → Type 0
+abbrev pub IsSmall : backing.Inside → Type 0
 IsSmall a = length a.inner.bytes ≤ greatest_place
+
+-- a builder's state is that of its bytes and promises
+abbrev pub state_of : builder.Inside → State
+state_of a = a.backing
+
+-- Some promises are described, and nothing is shared.
+pub record IsSound (a : builder.Inside) : Type 0 where
+  pub described : (promises : List Promise) × DescribedBy a.backing promises
+  pub off : a.backing.switches ≡ all_off

@@ -1,24 +1,21 @@
 //! The builder.
-ghost use Rattle.std.specs.Prelude.{◌≡◌, ℕ, ◌+◌, ◌-◌, ◌≤◌, ◌<◌, ◌==◌, ◌^◌, ◌∷◌, [], ◌++◌, List, length, replicate, IsTrue, ◌↔◌, IfOk, IfErr, Ok, Err, Result, option_map};
-ghost use Rattle.planus_back.specs.Promises.{Promise, IsPowerOfTwo, greatest_alignment};
+ghost use Rattle.std.specs.Prelude.{◌≡◌, ◌+◌, ◌≤◌, ◌^◌, [], length, IsTrue, ◌↔◌, IfOk, IfErr, ℕ};
+ghost use Rattle.planus_back.specs.Promises.{IsPowerOfTwo};
+ghost use Rattle.planus_back.specs.Padding.{greatest_place};
 ghost use Rattle.planus_write.specs.Parts.{identifier_bytes};
-ghost use Rattle.planus_back.specs.Padding.{greatest_place, promise_of, IsLeastPadding};
 
+use crate::backing::{Backing, WORD_MASK};
 use crate::errors::BuildError;
 use crate::offset::{Offset, Text};
 use crate::traits::WriteAsOffset;
-use planus_back::{BackVec, Fill, Promises};
+use planus_back::Fill;
 use std::alloc::Global;
 use std::marker::Model;
-
-/// One less than the alignment of a count or a reference.
-const WORD_MASK: usize = 3;
 
 /// Writes flatbuffers from the back, and names each value by its distance from the end.
 #[derive(Debug, Drop)]
 pub struct Builder {
-    inner: BackVec,
-    promises: Promises,
+    backing: Backing,
 }
 
 impl Model for Builder {
@@ -26,25 +23,27 @@ impl Model for Builder {
 
     ghost Value = { State };
 
-    ghost use Rattle.planus_write.specs.View.{state_of, IsSmall};
+    ghost use Rattle.planus_write.specs.View.{state_of, IsSound};
 
     ghost view = { state_of };
 
-    ghost invariant = { IsSmall };
+    ghost invariant = { IsSound };
 }
 
 impl Builder {
     ghost use Rattle.std.specs.Borrow.{sem};
-    ghost use Rattle.planus_write.specs.Parts.{text_part, finish_part, filled_part};
-    ghost use Rattle.planus_write.specs.State.{State, StandsFor, Puts};
-    ghost use Rattle.planus_write.specs.Placing.{Reserves, Refuses, WritesPart};
+    ghost use Rattle.planus_write.specs.Shared.{all_off};
+    ghost use Rattle.planus_write.specs.Past.{Past, no_past, just};
+    ghost use Rattle.planus_write.specs.Parts.{filled_part};
+    ghost use Rattle.planus_write.specs.State.{IsPast};
+    ghost use Rattle.planus_write.specs.Placing.{WritesPart};
     ghost use Rattle.planus_write.specs.Preparing.{WritesText};
     ghost use Rattle.planus_write.specs.Finishing.{EndsAs, FinishGives, FinishLeaves, WritesRoot};
 
     /// An empty builder; [`BuildError::OutOfMemory`] where memory is refused.
     pub fn new(alloc: Global) -> std::result::Result<Builder, BuildError>
-        ensures bytes { IfOk result (λ builder. builder.bytes ≡ []) }
-        ensures stands { IfOk result (λ builder. StandsFor builder []) }
+        ensures past { IfOk result (λ builder. IsPast builder no_past) }
+        ensures switches { IfOk result (λ builder. builder.switches ≡ all_off) }
         ensures error { IfErr result (λ error. error ≡ BuildError.OutOfMemory) }
     {
         Builder::with_capacity(alloc, 0)
@@ -52,16 +51,13 @@ impl Builder {
 
     /// An empty builder with room for `capacity` bytes; [`BuildError::OutOfMemory`] where memory is refused.
     pub fn with_capacity(alloc: Global, capacity: usize) -> std::result::Result<Builder, BuildError>
-        ensures bytes { IfOk result (λ builder. builder.bytes ≡ []) }
+        ensures past { IfOk result (λ builder. IsPast builder no_past) }
         ensures room { IfOk result (λ builder. capacity ≤ builder.room) }
-        ensures stands { IfOk result (λ builder. StandsFor builder []) }
+        ensures switches { IfOk result (λ builder. builder.switches ≡ all_off) }
         ensures error { IfErr result (λ error. error ≡ BuildError.OutOfMemory) }
     {
-        let inner = BackVec::with_capacity(alloc, capacity)?;
-        Ok(Builder {
-            inner,
-            promises: Promises::new(),
-        })
+        let backing = Backing::with_capacity(alloc, capacity)?;
+        Ok(Builder { backing })
     }
 
     /// The number of bytes.
@@ -69,7 +65,7 @@ impl Builder {
     pub fn len(&self) -> usize
         ensures { result ≡ length self.now.bytes }
     {
-        self.inner.len()
+        self.backing.len()
     }
 
     /// Whether nothing is written.
@@ -85,7 +81,7 @@ impl Builder {
     pub fn as_slice(&self) -> &[u8]
         ensures { result.now ≡ self.now.bytes }
     {
-        self.inner.as_slice()
+        self.backing.as_slice()
     }
 
     /// How many more bytes fit in front without memory.
@@ -93,7 +89,7 @@ impl Builder {
     pub fn room(&self) -> usize
         ensures { result ≡ self.now.room }
     {
-        self.inner.room()
+        self.backing.room()
     }
 
     /// The offset of what was written last: it begins at the front of the bytes.
@@ -101,59 +97,36 @@ impl Builder {
     pub fn current_offset<T>(&self) -> Offset<T>
         ensures { result.distance ≡ length self.now.bytes }
     {
-        Offset::at(self.inner.len() as u32)
+        Offset::at(self.backing.len() as u32)
+    }
+
+    /// Says, to a caller who was handed a builder, that something may have been written: clauses that speak of every past
+    /// of a builder speak of one. It does nothing.
+    #[inline]
+    pub fn has_a_past(&self)
+        ensures { (past : Past) × IsPast self.now past }
+    {
+        let _backing = &self.backing;
     }
 
     /// Takes all bytes and promises away. The memory is kept, so that there is room for as many bytes more.
     pub fn clear(&mut self)
-        ensures bytes { self.new.bytes ≡ [] }
+        ensures past { IsPast self.new no_past }
         ensures room { self.new.room ≡ length self.old.bytes + self.old.room }
-        ensures stands { StandsFor self.new [] }
+        ensures switches { self.new.switches ≡ self.old.switches }
     {
-        self.inner.clear();
-        self.promises = Promises::new();
-    }
-
-    /// Room for a part of `size` bytes, and the padding behind it. Answers the part's place.
-    fn prepare_write(&mut self, size: usize, mask: usize) -> std::result::Result<u32, BuildError>
-        requires power { IsPowerOfTwo (mask + 1) }
-        requires bound { mask + 1 ≤ 2 ^ 30 }
-        ensures { Reserves size (mask + 1) self.old result self.new }
-    {
-        let len = self.inner.len();
-        let (promises, padding) = self.promises.request(len, size, mask)?;
-        self.inner.reserve(padding + size)?;
-        self.inner.put_zeros(padding);
-        self.promises = promises;
-        Ok((len + padding + size) as u32)
-    }
-
-    // Bytes for which there is room.
-    fn put(&mut self, bytes: &[u8])
-        requires room { length bytes.now ≤ self.old.room }
-        requires fits { length bytes.now + length self.old.bytes ≤ greatest_place }
-        ensures { Puts bytes.now self.old self.new }
-    {
-        self.inner.put_slice(bytes);
-    }
-
-    // The bytes of three slices, for which there is room.
-    #[inline]
-    fn put_three(&mut self, first: &[u8], second: &[u8], third: &[u8])
-        requires room { length (first.now ++ second.now ++ third.now) ≤ self.old.room }
-        requires fits { length (first.now ++ second.now ++ third.now) + length self.old.bytes ≤ greatest_place }
-        ensures { Puts (first.now ++ second.now ++ third.now) self.old self.new }
-    {
-        self.inner.put_three(first, second, third);
+        self.backing.clear();
     }
 
     // A text as one part.
+    #[inline]
     pub(crate) fn write_text(&mut self, text: &str) -> std::result::Result<Offset<Text>, BuildError>
         ensures { WritesText text.now self.old result self.new }
     {
         let bytes = text.as_bytes();
-        let place = self.prepare_write(bytes.len() + 5, WORD_MASK)?;
-        self.put_three(&(bytes.len() as u32).to_le_bytes(), bytes, &[0]);
+        let place = self.backing.make_room(bytes.len() + 5, WORD_MASK)?;
+        self.backing
+            .put_three(&(bytes.len() as u32).to_le_bytes(), bytes, &[0]);
         Ok(Offset::at(place))
     }
 
@@ -174,22 +147,11 @@ impl Builder {
         requires power { IsPowerOfTwo (alignment_mask + 1) }
         requires bound { alignment_mask + 1 ≤ 2 ^ 30 }
         requires fits { (place : ℕ) → length self.old.bytes + size ≤ place → place ≤ length self.old.bytes + size + alignment_mask → place ≤ greatest_place → F.fits filler.now place size }
-        ensures { WritesPart (λ promises. filled_part size (alignment_mask + 1) (F.leaves filler.now)) self.old result self.new }
+        ensures { WritesPart (just (filled_part size (alignment_mask + 1) (F.leaves filler.now))) self.old result self.new }
     {
-        let place = self.prepare_write(size, alignment_mask)?;
-        self.put_filled(place, size, filler);
+        let place = self.backing.make_room(size, alignment_mask)?;
+        self.backing.put_filled(place, size, filler);
         Ok(())
-    }
-
-    // The filler's bytes, for which there is room.
-    fn put_filled<F: Fill>(&mut self, place: u32, size: usize, filler: &F)
-        requires room { size ≤ self.old.room }
-        requires within { size + length self.old.bytes ≤ greatest_place }
-        requires fits { F.fits filler.now place size }
-        ensures put { Puts (F.leaves filler.now place size) self.old self.new }
-        ensures count { length (F.leaves filler.now place size) ≡ size }
-    {
-        self.inner.put_filled(place, size, filler);
     }
 
     /// Writes a text: one part of a count of 4 bytes, its bytes and a zero byte, aligned to 4 bytes. Answers its offset. Nothing
@@ -229,31 +191,21 @@ impl Builder {
         Ok(self.as_slice())
     }
 
-    // One less than the greatest of 4 and every alignment so far.
-    fn finish_mask(&self) -> usize
-        ensures power { IsPowerOfTwo (result + 1) }
-        ensures bound { result + 1 ≤ 2 ^ 30 }
-        ensures greatest { (promises : List Promise) → StandsFor self.now promises → greatest_alignment 4 promises ≡ result + 1 }
-        ensures all { (promises : List Promise) → StandsFor self.now promises → greatest_alignment 1 promises ≤ result + 1 }
-    {
-        self.promises.mask().max(WORD_MASK)
-    }
-
     // The root word, and the identifier behind it, as one part with the greatest alignment so far.
     fn write_root(
         &mut self,
         root: u32,
         identifier: Option<[u8; 4]>,
-    ) -> std::result::Result<(), BuildError>
+    ) -> std::result::Result<u32, BuildError>
         requires { root ≤ length self.old.bytes }
         ensures { WritesRoot root identifier self.old result self.new }
     {
-        let mask = self.finish_mask();
+        let mask = self.backing.finish_mask();
         let name = identifier_slice(&identifier);
-        let place = self.prepare_write(name.len() + 4, mask)?;
-        self.put(name);
-        self.put(&(place - root).to_le_bytes());
-        Ok(())
+        let place = self.backing.make_room(name.len() + 4, mask)?;
+        self.backing.put(name);
+        self.backing.put(&(place - root).to_le_bytes());
+        Ok(place)
     }
 }
 

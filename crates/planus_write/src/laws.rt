@@ -1,11 +1,12 @@
-//! Laws over what is written: the values stand whose parts were placed. The functions do nothing: each states a law by its contract.
+//! Laws over what is written. The functions do nothing: each states a law by its contract.
 
-ghost use Rattle.planus_write.specs.Standing.{TextsStand, TextsAreAligned, FinishesLead, FinishesAreIdentified};
+ghost use Rattle.planus_write.specs.Standing.{KeptStays, ValuesAreKept, FinishesLead, FinishesAreIdentified};
 
-/// A text that was placed stands at the front of what is written, and is aligned in all finished bytes that end in it.
-pub fn placed_texts_stand()
-    ensures stands { TextsStand }
-    ensures aligned { TextsAreAligned }
+/// A value whose entries are put down stands at what it is named by, and is aligned in all finished bytes that end in it,
+/// also where equal contents were found; and it stays so, whatever is written in front of it.
+pub fn written_values_are_kept()
+    ensures kept { ValuesAreKept }
+    ensures stays { KeptStays }
 {}
 
 /// The reference at the front of a finish that was placed leads to its root, and the file identifier stands behind it.

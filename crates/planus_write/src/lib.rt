@@ -1,6 +1,7 @@
 //! The builder of flatbuffers, and what it writes.
 #![tactic(auto)]
 
+mod backing;
 pub mod builder;
 pub mod errors;
 mod impls;

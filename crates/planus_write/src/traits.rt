@@ -27,9 +27,9 @@ pub trait WriteAsOffset<T> {
         requires { may self.now builder.old }
         ensures { outcome self.now builder.old result builder.new };
 
-    /// The bytes before are the end of the bytes after, and every promise stays.
+    /// The bytes before are the end of the bytes after, every promise stays, and the switches do.
     ghost grows: { (x : Self) (old : State) (answer : Result (Offset T) BuildError) (new : State) → may x old → outcome x old answer new → Grows old new };
 
-    /// The answer names a value that the builder has.
+    /// The distance that is answered is at most the builder's length.
     ghost reaches: { (x : Self) (old : State) (offset : Offset T) (new : State) → may x old → outcome x old (Ok offset) new → offset.distance ≤ length new.bytes };
 }

@@ -1,6 +1,6 @@
 use Rattle.std.proofs.Common.{arith, refl}
 use Rattle.std.proofs.lemmas.Result.{err_from_is_err_and}
-use Rattle.planus.specs.Replaying.{no_past}
+use Rattle.planus_write.specs.Past.{no_past}
 use Rattle.planus.proofs.Replayed.{are_reached, number_is, reaches_next, stops, all_hold}
 use Rattle.planus.proofs.run.replay.Goals as goal
 
@@ -24,7 +24,8 @@ advance-requires-clause-number c = let number = number_is c.args.steps.now c.loo
 
 pub loop-step-init : goal.loop-step-init
 loop-step-init c = record {
-  run = (no_past, c.in_ok-progress.ensures.ok.0, c.in_ok-progress.ensures.ok.1);
+  run = (no_past, c.in_ok-progress.ensures.past, c.in_ok-progress.ensures.nothing);
+  off = c.in_ok-progress.ensures.switches;
   clean = refl;
   taken = c.in_ok-progress.ensures.taken;
 }

@@ -1,5 +1,5 @@
-use Rattle.std.proofs.Common.{◌∙◌, ap, map, refl}
-use Rattle.planus.specs.Replaying.{distance_of, values_from}
+use Rattle.std.proofs.Common.{◌∙◌, ap, map, refl, length}
+use Rattle.planus.specs.Replaying.{distance_of, listed_from}
 use Rattle.std.proofs.lemmas.Result.{err_from_is_err_and}
 use Rattle.planus.proofs.Stepping.{finish_advances, finish_stopped, offset_finished}
 use Rattle.planus.proofs.progress.Progress.finish.Goals as goal
@@ -9,8 +9,8 @@ returns c =
     let done = offset_finished c.in-Ok.root c.args.id c.args.self.now.builder c.finish.follows.lender-at-none c.finish.result c.in_ok-finish.field-0 c.in_ok-finish.was c.finish.follows.holds-at-none in
     finish_advances c.args.root c.in-Ok.root.distance c.args.id c.args.self.now
     (record { builder = c.finish.follows.lender-at-none; first = c.args.self.now.first; offsets = c.push-2.new.self; finished = c.push.new.self })
-    (record { bytes = c.in_ok-bytes.bytes; places = c.in_ok-places.places }) c.in-Ok.ensures done.0 refl c.in_ok-push-2.ensures.items c.in_ok-push.ensures.items (c.in_ok-bytes.ensures.items ∙ done.1)
-    (c.in_ok-places.ensures ∙ ap (λ offsets. values_from c.args.self.now.first (map distance_of offsets)) c.as_slice.ensures.value)
+    (record { bytes = c.in_ok-bytes.bytes; places = c.in_ok-places.places }) (length c.finish.follows.lender-at-none.bytes) c.in-Ok.ensures done.0 refl c.in_ok-push-2.ensures.items c.in_ok-push.ensures.items (c.in_ok-bytes.ensures.items ∙ done.1)
+    (c.in_ok-places.ensures ∙ ap (λ offsets. listed_from c.args.self.now.first (map distance_of offsets)) c.as_slice.ensures.value)
 
 pub returns-in_err-finish : goal.returns-in_err-finish
 returns-in_err-finish c =

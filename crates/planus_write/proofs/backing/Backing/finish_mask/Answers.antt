@@ -1,7 +1,7 @@
 use Rattle.std.proofs.Common.{◌≡◌, ◌+◌, inl, inr, refl, arith, subst}
 use Rattle.std.proofs.lemmas.Bool.{cases_lt}
 use Rattle.planus_back.specs.Promises.{IsPowerOfTwo}
-use Rattle.planus_write.proofs.builder.Builder.finish_mask.Goals as goal
+use Rattle.planus_write.proofs.backing.Backing.finish_mask.Goals as goal
 
 pub returns-clause-power : goal.returns-clause-power
 returns-clause-power c =

@@ -1,0 +1,73 @@
+-- What was written since the last clear, and how one part more is put down.
+use Rattle.std.specs.Prelude.{◌≡◌, ℕ, List, [], ◌∷◌, ◌++◌, Option, Some, None, ◌⊎◌}
+use Rattle.planus_back.specs.Promises.{Promise}
+use Rattle.planus_back.specs.Parts.{Part, Written, Placed, IsTooLarge}
+use Rattle.planus_write.specs.Shared.{Contents, Switches, Seen, shared_as, found, and_seen}
+
+-- The bytes and what was promised of them; the contents that were written to be shared, and where; and the parts
+-- and their places, in the order in which they were placed.
+pub record Past : Type 0 where
+  pub written : Written
+  pub seen : List Seen
+  pub parts : List Part
+  pub places : List ℕ
+
+-- nothing was written
+abbrev pub no_past : Past
+no_past = record { written = record { bytes = []; promises = [] }; seen = []; parts = []; places = [] }
+
+-- One entry of a write: the contents by which it may be shared, if it may, and its part. That may depend on the
+-- distances that the write's entries before it got, and on the promises made before.
+pub record Entry : Type 0 where
+  pub contents : Option Contents
+  pub part : List ℕ → List Promise → Part
+
+-- an entry that isn't shared, and whose part depends on nothing
+abbrev pub just : Part → Entry
+just part = record { contents = None; part = λ got promises. part }
+
+abbrev pub part_after : Entry → List ℕ → Past → Part
+part_after entry got past = entry.part got past.written.promises
+
+-- The part is placed by least padding, and added to what was written.
+pub record Adds (part : Part) (shared : Option Contents) (before : Past) (distance : ℕ) (after : Past) : Type 0 where
+  pub placed : Placed part before.written after.written
+  pub at : distance ≡ placed.place
+  pub seen : after.seen ≡ and_seen shared distance before.seen
+  pub parts : after.parts ≡ before.parts ++ part ∷ []
+  pub places : after.places ≡ before.places ++ distance ∷ []
+
+-- The distance is that at which equal contents were found, and nothing is written; or else the part is added.
+abbrev pub PutsAfter : Option ℕ → Part → Option Contents → Past → ℕ → Past → Type 0
+PutsAfter (Some earlier) part shared before distance after = (distance ≡ earlier) × (after ≡ before)
+PutsAfter None part shared before distance after = Adds part shared before distance after
+
+-- where the contents of an entry were seen, if they were and it is shared
+abbrev pub found_before : Switches → Entry → Past → Option ℕ
+found_before switches entry past = found past.seen (shared_as switches entry.contents)
+
+-- One entry is put down, behind those that got these distances, and gets this distance.
+abbrev pub Puts : Switches → Entry → List ℕ → Past → ℕ → Past → Type 0
+Puts switches entry got before distance after =
+    PutsAfter (found_before switches entry before) (part_after entry got before) (shared_as switches entry.contents)
+    before distance after
+
+-- The entries are put down one after another, and all get these distances.
+abbrev pub PutsAll : Switches → List Entry → List ℕ → Past → List ℕ → Past → Type 0
+PutsAll switches [] got before all after = (all ≡ got) × (after ≡ before)
+PutsAll switches (entry ∷ entries) got before all after =
+    (distance : ℕ) × (between : Past) × Puts switches entry got before distance between
+    × PutsAll switches entries (got ++ distance ∷ []) between all after
+
+-- the entry isn't found, and its part is too large
+pub record PutsTooLarge (switches : Switches) (entry : Entry) (got : List ℕ) (before : Past) : Type 0 where
+  pub is_new : found_before switches entry before ≡ None
+  pub too_large : IsTooLarge (part_after entry got before) before.written
+
+-- Putting down the entries comes to one whose part is too large.
+abbrev pub ComesToTooLarge : Switches → List Entry → List ℕ → Past → Type 0
+ComesToTooLarge switches [] got before = ⊥
+ComesToTooLarge switches (entry ∷ entries) got before =
+    PutsTooLarge switches entry got before
+    ⊎ ((distance : ℕ) × (between : Past) × Puts switches entry got before distance between
+    × ComesToTooLarge switches entries (got ++ distance ∷ []) between)

@@ -1,0 +1,152 @@
+//! The bytes of a builder, and the promises made of them.
+ghost use Rattle.std.specs.Prelude.{◌≡◌, ◌+◌, ◌≤◌, ◌^◌, [], ◌++◌, List, length, IfOk};
+ghost use Rattle.planus_back.specs.Promises.{Promise, IsPowerOfTwo, greatest_alignment};
+ghost use Rattle.planus_back.specs.Padding.{greatest_place};
+
+use crate::errors::BuildError;
+use planus_back::{BackVec, Fill, Promises};
+use std::alloc::{AllocError, Global};
+use std::marker::Model;
+
+/// One less than the alignment of a count or a reference.
+pub(crate) const WORD_MASK: usize = 3;
+
+/// Bytes that grow at their front, and what was promised of them. While a part is put down, its promise is made before
+/// its bytes are there.
+#[derive(Debug, Drop)]
+pub(crate) struct Backing {
+    inner: BackVec,
+    promises: Promises,
+}
+
+impl Model for Backing {
+    ghost use Rattle.planus_write.specs.State.{State};
+
+    ghost Value = { State };
+
+    ghost use Rattle.planus_write.specs.View.{backing_state, IsSmall};
+
+    ghost view = { backing_state };
+
+    ghost invariant = { IsSmall };
+}
+
+impl Backing {
+    ghost use Rattle.planus_write.specs.Shared.{all_off};
+    ghost use Rattle.planus_write.specs.State.{PutsBytes};
+    ghost use Rattle.planus_write.specs.Placing.{DescribedBy, Reserves};
+
+    // No bytes, and room for so many.
+    pub(crate) fn with_capacity(
+        alloc: Global,
+        capacity: usize,
+    ) -> std::result::Result<Backing, AllocError>
+        ensures bytes { IfOk result (λ backing. backing.bytes ≡ []) }
+        ensures room { IfOk result (λ backing. capacity ≤ backing.room) }
+        ensures described { IfOk result (λ backing. DescribedBy backing []) }
+        ensures switches { IfOk result (λ backing. backing.switches ≡ all_off) }
+    {
+        let inner = BackVec::with_capacity(alloc, capacity)?;
+        Ok(Backing {
+            inner,
+            promises: Promises::new(),
+        })
+    }
+
+    // The number of bytes.
+    #[inline]
+    pub(crate) fn len(&self) -> usize
+        ensures number { result ≡ length self.now.bytes }
+        ensures small { result ≤ greatest_place }
+    {
+        self.inner.len()
+    }
+
+    // The bytes.
+    #[inline]
+    pub(crate) fn as_slice(&self) -> &[u8]
+        ensures { result.now ≡ self.now.bytes }
+    {
+        self.inner.as_slice()
+    }
+
+    // How many more bytes fit without memory.
+    #[inline]
+    pub(crate) fn room(&self) -> usize
+        ensures { result ≡ self.now.room }
+    {
+        self.inner.room()
+    }
+
+    // Takes all bytes and promises away.
+    pub(crate) fn clear(&mut self)
+        ensures bytes { self.new.bytes ≡ [] }
+        ensures room { self.new.room ≡ length self.old.bytes + self.old.room }
+        ensures described { DescribedBy self.new [] }
+        ensures switches { self.new.switches ≡ self.old.switches }
+    {
+        self.inner.clear();
+        self.promises = Promises::new();
+    }
+
+    // Room for a part of `size` bytes, and the padding behind it. Returns the part's place.
+    #[inline]
+    pub(crate) fn make_room(
+        &mut self,
+        size: usize,
+        mask: usize,
+    ) -> std::result::Result<u32, BuildError>
+        requires power { IsPowerOfTwo (mask + 1) }
+        requires bound { mask + 1 ≤ 2 ^ 30 }
+        ensures { Reserves size (mask + 1) self.old result self.new }
+    {
+        let len = self.inner.len();
+        let (promises, padding) = self.promises.request(len, size, mask)?;
+        self.inner.reserve(padding + size)?;
+        self.inner.put_zeros(padding);
+        self.promises = promises;
+        Ok((len + padding + size) as u32)
+    }
+
+    // Bytes for which there is room.
+    #[inline]
+    pub(crate) fn put(&mut self, bytes: &[u8])
+        requires room { length bytes.now ≤ self.old.room }
+        requires fits { length bytes.now + length self.old.bytes ≤ greatest_place }
+        ensures { PutsBytes bytes.now self.old self.new }
+    {
+        self.inner.put_slice(bytes);
+    }
+
+    // The bytes of three slices, for which there is room.
+    #[inline]
+    pub(crate) fn put_three(&mut self, first: &[u8], second: &[u8], third: &[u8])
+        requires room { length (first.now ++ second.now ++ third.now) ≤ self.old.room }
+        requires fits { length (first.now ++ second.now ++ third.now) + length self.old.bytes ≤ greatest_place }
+        ensures { PutsBytes (first.now ++ second.now ++ third.now) self.old self.new }
+    {
+        self.inner.put_three(first, second, third);
+    }
+
+    // The filler's bytes, for which there is room.
+    #[inline]
+    pub(crate) fn put_filled<F: Fill>(&mut self, place: u32, size: usize, filler: &F)
+        requires room { size ≤ self.old.room }
+        requires within { size + length self.old.bytes ≤ greatest_place }
+        requires fits { F.fits filler.now place size }
+        ensures put { PutsBytes (F.leaves filler.now place size) self.old self.new }
+        ensures count { length (F.leaves filler.now place size) ≡ size }
+    {
+        self.inner.put_filled(place, size, filler);
+    }
+
+    // One less than the greatest of 4 and every alignment so far.
+    pub(crate) fn finish_mask(&self) -> usize
+        ensures power { IsPowerOfTwo (result + 1) }
+        ensures bound { result + 1 ≤ 2 ^ 30 }
+        ensures greatest { (promises : List Promise) → DescribedBy self.now promises → greatest_alignment 4 promises ≡ result + 1 }
+        ensures all { (promises : List Promise) → DescribedBy self.now promises → greatest_alignment 1 promises ≤ result + 1 }
+    {
+        self.promises.mask().max(WORD_MASK)
+    }
+}
