@@ -5,3 +5,4 @@ pub mod Turns
 pub mod Walking
 pub mod Stepping
 pub mod Replayed
+pub mod OneAnswer

@@ -1,5 +1,5 @@
 -- What a replay of steps answers.
-use Rattle.std.specs.Prelude.{◌≡◌, ℕ, ◌+◌, List, [], ◌∷◌, ◌++◌, length, take, drop, slice_get, map, Bool, true, false, if◌then◌else◌, Option, Some, None, Result, Ok, Err, ⊤}
+use Rattle.std.specs.Prelude.{◌≡◌, ℕ, ◌+◌, List, [], ◌∷◌, ◌++◌, length, take, drop, slice_get, map, Bool, true, false, if◌then◌else◌, Option, Some, None, Result, Ok, Err, ⊤, ◌⊎◌}
 use Rattle.std.specs.Prelude.{Vec}
 use Rattle.std.specs.List.{list_any}
 use Rattle.std.specs.declared.alloc.Global.{Global}
@@ -78,3 +78,14 @@ replay_error build.TooLarge = TooLarge
 abbrev pub given_by : Result (Vec Finished Global) ReplayError → Result (List Finish) ReplayError
 given_by (Ok finished) = Ok (map finish_given finished.items)
 given_by (Err error) = Err error
+
+-- a want of memory, of which nothing is said
+abbrev pub WantsMemory : Result (List Finish) ReplayError → Type 0
+WantsMemory (Err OutOfMemory) = ⊤
+WantsMemory _ = ⊥
+
+-- Want of memory aside, there is one answer to a list of steps.
+abbrev pub AnswersAreOne : Type 0
+AnswersAreOne =
+    (switches : Switches) (steps : List Step) (a b : Result (List Finish) ReplayError) → Replays switches steps a → Replays switches steps b
+    → WantsMemory a ⊎ WantsMemory b ⊎ (a ≡ b)

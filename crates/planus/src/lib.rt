@@ -4,6 +4,7 @@
 
 mod faults;
 mod finishes;
+pub mod laws;
 mod progress;
 mod run;
 mod steps;

@@ -5,3 +5,4 @@ pub mod ReadOn
 pub mod Printing
 pub mod Named
 pub mod Limited
+pub mod OneText

@@ -62,3 +62,8 @@ PrintsOutOfMemory clean printed = (clean ≡ false) × (printed ≡ line_of (cod
 -- Of this input this is printed, or else it is a script whose replay was refused for memory.
 abbrev pub PrintedOrOutOfMemory : List ℕ → Bool → List ℕ → Type 0
 PrintedOrOutOfMemory input clean printed = Printed input clean printed ⊎ (IsScript input × PrintsOutOfMemory clean printed)
+
+-- What is printed of an input is one text, and says one thing of whether the script is clean.
+abbrev pub PrintedIsOne : Type 0
+PrintedIsOne =
+    (input : List ℕ) (a b : Bool) (x y : List ℕ) → Printed input a x → Printed input b y → (a ≡ b) × (x ≡ y)

@@ -1,6 +1,7 @@
 //! Reads a script from standard input, and prints each finished buffer as a line of hexadecimal bytes.
 #![tactic(auto)]
 
+mod laws;
 mod print;
 mod run;
 mod script;

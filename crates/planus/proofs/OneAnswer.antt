@@ -1,0 +1,233 @@
+-- There is one answer to a list of steps: each step leads to one state at most.
+use Rattle.std.proofs.Common.{◌≡◌, ℕ, zero, suc, ◌+◌, ◌<◌, ◌≤◌, List, [], ◌∷◌, ◌++◌, length, take, replicate, refl, sym, ap, ◌∙◌, subst, arith, Option, Some, None, inl, inr, Result, Ok, Err, length-append}
+use Rattle.std.specs.Prelude.{slice_get, ◌⊎◌}
+use Rattle.planus_back.specs.Padding.{promise_of}
+use Rattle.planus_back.specs.Parts.{Part, Written, Placed, IsTooLarge}
+use Rattle.planus_write.specs.Shared.{Contents, Switches, and_seen, shared_as}
+use Rattle.planus_write.specs.Past.{Past, Entry, Adds, PutsAfter, Puts, PutsAll, PutsTooLarge, ComesToTooLarge as ComesToTooLargeEntry, part_after, found_before}
+use Rattle.planus.specs.Steps.{Step, text, finish, clear}
+use Rattle.planus.specs.Runs.{Finish, State, Writes, Advances, LeadsTo, StepTooLarge, ComesToTooLarge, nothing_written, value_of, values_added, finishes_added}
+use Rattle.planus.specs.Replays.{first_bad, first_bad_after, first_bad_or, broken_check, Replays, WantsMemory, AnswersAreOne}
+use Rattle.planus.specs.declared.faults.ReplayError.{ReplayError}
+use Rattle.planus.specs.declared.faults.ReplayError.TheVariants.{OutOfMemory, TooLarge, BadStep}
+use Rattle.planus.specs.declared.faults.Why.{Why}
+
+written_of : (a b : Written) → a.bytes ≡ b.bytes → a.promises ≡ b.promises → a ≡ b
+written_of a b bytes promises = ap (λ xs. record { bytes = xs; promises = a.promises }) bytes ∙ ap (λ ps. record { bytes = b.bytes; promises = ps }) promises
+
+past_of : (a b : Past) → a.written ≡ b.written → a.seen ≡ b.seen → a.parts ≡ b.parts → a.places ≡ b.places → a ≡ b
+past_of a b written seen parts places =
+    ap (λ w. record { written = w; seen = a.seen; parts = a.parts; places = a.places }) written
+    ∙ ap (λ s. record { written = b.written; seen = s; parts = a.parts; places = a.places }) seen
+    ∙ ap (λ ps. record { written = b.written; seen = b.seen; parts = ps; places = a.places }) parts
+    ∙ ap (λ ps. record { written = b.written; seen = b.seen; parts = b.parts; places = ps }) places
+
+-- a part is placed in one way
+module _ (part : Part) (before a b : Written) (x : Placed part before a) (y : Placed part before b) where
+  same_padding : x.padding ≡ y.padding
+  same_padding =
+      let le = x.is_least.least y.padding y.is_least.holds in
+      let ge = y.is_least.least x.padding x.is_least.holds in
+      omega (arith, le, ge)
+
+  pub same_place : x.place ≡ y.place
+  same_place = let p = same_padding in let e = x.is_place in let f = y.is_place in omega (arith, p, e, f)
+
+  pub same_written : a ≡ b
+  same_written =
+      written_of a b
+      (x.bytes ∙ ap (λ place. part.bytes_at place ++ replicate x.padding 0 ++ before.bytes) same_place
+      ∙ ap (λ padding. part.bytes_at y.place ++ replicate padding 0 ++ before.bytes) same_padding ∙ sym y.bytes)
+      (x.promises ∙ ap (λ place. promise_of place part.alignment ∷ before.promises) same_place ∙ sym y.promises)
+
+-- an entry is put down in one way
+abbrev Same : ℕ → Past → ℕ → Past → Type 0
+Same d a e b = (d ≡ e) × (a ≡ b)
+
+added_once : (part : Part) (shared : Option Contents) (before : Past) (d e : ℕ) (a b : Past) → Adds part shared before d a → Adds part shared before e b → Same d a e b
+added_once part shared before d e a b x y =
+    let same : d ≡ e = x.at ∙ same_place part before.written a.written b.written x.placed y.placed ∙ sym y.at in (
+      same,
+      past_of a b (same_written part before.written a.written b.written x.placed y.placed)
+          (x.seen ∙ ap (λ n. and_seen shared n before.seen) same ∙ sym y.seen) (x.parts ∙ sym y.parts) (x.places ∙ ap (λ n. before.places ++ n ∷ []) same ∙ sym y.places),
+    )
+
+after_once : (earlier : Option ℕ) (part : Part) (shared : Option Contents) (before : Past) (d e : ℕ) (a b : Past) → PutsAfter earlier part shared before d a → PutsAfter earlier part shared before e b
+    → Same d a e b
+after_once (Some earlier) part shared before d e a b x y = (x.0 ∙ sym y.0, x.1 ∙ sym y.1)
+after_once None part shared before d e a b x y = added_once part shared before d e a b x y
+
+put_once : (switches : Switches) (entry : Entry) (got : List ℕ) (before : Past) (d e : ℕ) (a b : Past) → Puts switches entry got before d a → Puts switches entry got before e b → Same d a e b
+put_once switches entry got before d e a b x y =
+    after_once (found_before switches entry before) (part_after entry got before) (shared_as switches entry.contents) before d e a b x y
+
+-- so are entries
+all_once : (switches : Switches) (entries : List Entry) (got : List ℕ) (before : Past) (ds es : List ℕ) (a b : Past) → PutsAll switches entries got before ds a → PutsAll switches entries got before es b
+    → (ds ≡ es) × (a ≡ b)
+all_once switches [] got before ds es a b x y = (x.0 ∙ sym y.0, x.1 ∙ sym y.1)
+all_once switches (entry ∷ entries) got before ds es a b x y =
+    let first = put_once switches entry got before x.0 y.0 x.1 y.1 x.2 y.2 in
+    all_once switches entries (got ++ x.0 ∷ []) x.1 ds es a b x.3
+    (subst (λ n. PutsAll switches entries (got ++ n ∷ []) x.1 es b) (sym first.0) (subst (λ past. PutsAll switches entries (got ++ y.0 ∷ []) past es b) (sym first.1) y.3))
+
+-- a part that is too large isn't placed
+not_both : (part : Part) (before after : Written) → IsTooLarge part before → Placed part before after → ⊥
+not_both part before after far placed =
+    let le = far.is_least.least placed.padding placed.is_least.holds in
+    let fits = placed.fits in
+    let place = placed.is_place in
+    let great = far.too_great in
+    absurd (omega (arith, le, fits, place, great))
+
+not_put : (earlier : Option ℕ) (part : Part) (shared : Option Contents) (before : Past) (d : ℕ) (after : Past) → earlier ≡ None → IsTooLarge part before.written
+    → PutsAfter earlier part shared before d after → ⊥
+not_put None part shared before d after none far puts = not_both part before.written after.written far puts.placed
+not_put (Some earlier) part shared before d after none far puts = (cc)
+
+not_all : (switches : Switches) (entries : List Entry) (got : List ℕ) (before : Past) (ds : List ℕ) (after : Past) → ComesToTooLargeEntry switches entries got before
+    → PutsAll switches entries got before ds after → ⊥
+not_all switches [] got before ds after far puts = far
+not_all switches (entry ∷ entries) got before ds after far puts = elim far as (λ _. ⊥) [
+  | inl here ↦ not_put (found_before switches entry before) (part_after entry got before) (shared_as switches entry.contents) before puts.0 puts.1 here.is_new here.too_large puts.2
+  | inr later ↦
+      let first = put_once switches entry got before later.0 puts.0 later.1 puts.1 later.2 puts.2 in
+      not_all switches entries (got ++ puts.0 ∷ []) puts.1 ds after
+      (subst (λ n. ComesToTooLargeEntry switches entries (got ++ n ∷ []) puts.1) first.0 (subst (λ past. ComesToTooLargeEntry switches entries (got ++ later.0 ∷ []) past) first.1 later.3)) puts.3
+]
+
+-- a step leads to one state
+state_of : (a b : State) → a.past ≡ b.past → a.listed ≡ b.listed → a.next ≡ b.next → a.finished ≡ b.finished → a ≡ b
+state_of a b past listed next finished =
+    ap (λ p. record { past = p; listed = a.listed; next = a.next; finished = a.finished }) past
+    ∙ ap (λ l. record { past = b.past; listed = l; next = a.next; finished = a.finished }) listed
+    ∙ ap (λ n. record { past = b.past; listed = b.listed; next = n; finished = a.finished }) next
+    ∙ ap (λ fs. record { past = b.past; listed = b.listed; next = b.next; finished = fs }) finished
+
+module _ (switches : Switches) where
+  same_entries : (xs ys : List Entry) (o : Option (List Entry)) → o ≡ Some xs → o ≡ Some ys → xs ≡ ys
+  same_entries xs ys o e f = (let g : Some xs ≡ Some ys = sym e ∙ f in cc)
+
+  written_once : (before : State) (step : Step) (a b : State) → Writes switches before step a → Writes switches before step b → a ≡ b
+  written_once before step a b x y =
+      let entries : x.entries ≡ y.entries = same_entries x.entries y.entries _ x.are y.are in
+      let same = all_once switches y.entries [] before.past x.got y.got a.past b.past (subst (λ es. PutsAll switches es [] before.past x.got a.past) entries x.puts) y.puts in
+      state_of a b same.1
+      (x.listed ∙ ap (λ got. before.listed ++ values_added (value_of before.listed step) before.next got) same.0 ∙ sym y.listed)
+      (x.next ∙ sym y.next)
+      (x.finished ∙ ap (λ past. before.finished ++ finishes_added step before past) same.1 ∙ sym y.finished)
+
+  advanced_once : (before : State) (step : Step) (a b : State) → Advances switches before step a → Advances switches before step b → a ≡ b
+  advanced_once before (text bytes) a b x y = written_once before (text bytes) a b x y
+  advanced_once before (finish root identifier) a b x y = written_once before (finish root identifier) a b x y
+  advanced_once before clear a b x y = x ∙ sym y
+
+  led_once : (before : State) (steps : List Step) (a b : State) → LeadsTo switches before steps a → LeadsTo switches before steps b → a ≡ b
+  led_once before [] a b x y = x ∙ sym y
+  led_once before (step ∷ steps) a b x y =
+      led_once x.0 steps a b x.2 (subst (λ s. LeadsTo switches s steps b) (sym (advanced_once before step x.0 y.0 x.1 y.1)) y.2)
+
+  -- a step that comes to a part that is too large leads nowhere
+  stuck : (before : State) (step : Step) (after : State) → StepTooLarge switches before step → Writes switches before step after → ⊥
+  stuck before step after far writes =
+      not_all switches writes.entries [] before.past writes.got after.past
+      (subst (λ es. ComesToTooLargeEntry switches es [] before.past) (same_entries far.entries writes.entries _ far.are writes.are) far.too_large) writes.puts
+
+  leads_nowhere : (before : State) (step : Step) (after : State) → StepTooLarge switches before step → Advances switches before step after → ⊥
+  leads_nowhere before (text bytes) after far h = stuck before (text bytes) after far h
+  leads_nowhere before (finish root identifier) after far h = stuck before (finish root identifier) after far h
+  leads_nowhere before clear after far h = (let e : None ≡ Some far.entries = far.are in cc)
+
+  -- steps that lead on pass none of them
+  passed : (start : State) (steps : List Step) (n m : ℕ) (step : Step) (before end : State) → n < m → slice_get steps n ≡ Some step → LeadsTo switches start (take n steps) before
+      → StepTooLarge switches before step → LeadsTo switches start (take m steps) end → ⊥
+  passed start [] n m step before end lt there leads far run = (cc)
+  passed start (first ∷ steps) n zero step before end lt there leads far run = absurd (omega (arith, lt))
+  passed start (first ∷ steps) zero (suc m) step before end lt there leads far run =
+      let is_first : first ≡ step = cc in
+      leads_nowhere start first run.0 (subst (λ s. StepTooLarge switches start s) (sym is_first) (subst (λ s. StepTooLarge switches s step) leads far)) run.1
+  passed start (first ∷ steps) (suc n) (suc m) step before end lt there leads far run =
+      let same = advanced_once start first leads.0 run.0 leads.1 run.1 in
+      passed run.0 steps n m step before end (omega (arith, lt)) there (subst (λ s. LeadsTo switches s (take n steps) before) same leads.2) far run.2
+
+none_some : (o : Option (ℕ × Why)) (p : ℕ × Why) → o ≡ None → o ≡ Some p → ⊥
+none_some None p e f = (cc)
+none_some (Some q) p e f = (cc)
+
+take_whole : (steps : List Step) → take (length steps) steps ≡ steps
+take_whole [] = refl
+take_whole (step ∷ steps) = ap (λ xs. step ∷ xs) (take_whole steps)
+
+get_inside : (steps : List Step) (n : ℕ) (step : Step) → slice_get steps n ≡ Some step → n < length steps
+get_inside [] n step e = (cc)
+get_inside (first ∷ steps) zero step e = omega arith
+get_inside (first ∷ steps) (suc n) step e = let h = get_inside steps n step e in omega (arith, h)
+
+first_of : (p q : ℕ × Why) → Some p ≡ Some q → p.0 ≡ q.0
+first_of p q e = (let same : p ≡ q = cc in ap (λ r. r.0) same)
+
+-- the first bad step isn't before those that are looked at
+bad_from : (earlier steps : List Step) (m : ℕ) (why : Why) → first_bad_after earlier steps ≡ Some (m, why) → length earlier ≤ m
+bad_from earlier [] m why e = (cc)
+bad_from earlier (step ∷ steps) m why e = by_check (broken_check earlier step) (λ later. bad_from (earlier ++ step ∷ []) steps m why later) e
+  where
+    by_check : (check : Option Why) → (first_bad_after (earlier ++ step ∷ []) steps ≡ Some (m, why) → length (earlier ++ step ∷ []) ≤ m)
+        → first_bad_or (length earlier) check (first_bad_after (earlier ++ step ∷ []) steps) ≡ Some (m, why) → length earlier ≤ m
+    by_check (Some found) later e =
+        let same : length earlier ≡ m = first_of (length earlier, found) (m, why) e in omega (arith, same)
+    by_check None later e = let h = later e in omega (arith, h, length-append earlier (step ∷ []))
+
+-- and is that of as many steps as have it
+bad_among : (earlier steps : List Step) (k m : ℕ) (why : Why) → first_bad_after earlier steps ≡ Some (m, why) → m < length earlier + k → first_bad_after earlier (take k steps) ≡ Some (m, why)
+bad_among earlier [] k m why e lt = (cc)
+bad_among earlier (step ∷ steps) zero m why e lt = let ge = bad_from earlier (step ∷ steps) m why e in absurd (omega (arith, lt, ge))
+bad_among earlier (step ∷ steps) (suc k) m why e lt =
+    by_check (broken_check earlier step) (λ later. bad_among (earlier ++ step ∷ []) steps k m why later (omega (arith, lt, length-append earlier (step ∷ [])))) e
+  where
+    by_check : (check : Option Why)
+        → (first_bad_after (earlier ++ step ∷ []) steps ≡ Some (m, why) → first_bad_after (earlier ++ step ∷ []) (take k steps) ≡ Some (m, why))
+        → first_bad_or (length earlier) check (first_bad_after (earlier ++ step ∷ []) steps) ≡ Some (m, why)
+        → first_bad_or (length earlier) check (first_bad_after (earlier ++ step ∷ []) (take k steps)) ≡ Some (m, why)
+    by_check (Some found) later e = e
+    by_check None later e = later e
+
+module _ (switches : Switches) (steps : List Step) where
+  -- a run of all steps comes to none that is too large
+  ran : (finished : List Finish) → Replays switches steps (Ok finished) → Replays switches steps (Err TooLarge) → ⊥
+  ran finished x y =
+      passed switches nothing_written steps y.0 (length steps) y.2.step y.2.before x.1.0 (get_inside steps y.0 y.2.step y.2.there) y.2.there y.2.run y.2.too_large
+      (subst (λ xs. LeadsTo switches nothing_written xs x.1.0) (sym (take_whole steps)) x.1.1)
+
+  -- nor does a run up to the first bad step
+  ran_up_to : (step : ℕ) (why : Why) → Replays switches steps (Err (BadStep step why)) → Replays switches steps (Err TooLarge) → ⊥
+  ran_up_to step why x y = by_order (Rattle.std.proofs.lemmas.Bool.cases_lt y.0 step)
+    where
+      by_order : (y.0 < step) ⊎ (step ≤ y.0) → ⊥
+      by_order (inl lt) = passed switches nothing_written steps y.0 step y.2.step y.2.before x.1.0 lt y.2.there y.2.run y.2.too_large x.1.1
+      by_order (inr ge) =
+          let bad : first_bad (take (y.0 + 1) steps) ≡ Some (step, why) = bad_among [] steps (y.0 + 1) step why x.0 (omega (arith, ge)) in
+          none_some (first_bad (take (y.0 + 1) steps)) (step, why) y.1 bad
+
+abbrev bad_answer : ℕ × Why → Result (List Finish) ReplayError
+bad_answer p = Err (BadStep p.0 p.1)
+
+same_bad : (o : Option (ℕ × Why)) (p q : ℕ × Why) → o ≡ Some p → o ≡ Some q → bad_answer p ≡ bad_answer q
+same_bad o p q e f = (let g : Some p ≡ Some q = sym e ∙ f in let same : p ≡ q = cc in ap bad_answer same)
+
+pub answers_are_one : AnswersAreOne
+answers_are_one switches steps (Err OutOfMemory) b x y = inl tt
+answers_are_one switches steps (Ok fs) (Err OutOfMemory) x y = inr (inl tt)
+answers_are_one switches steps (Err TooLarge) (Err OutOfMemory) x y = inr (inl tt)
+answers_are_one switches steps (Err (BadStep step why)) (Err OutOfMemory) x y = inr (inl tt)
+answers_are_one switches steps (Ok fs) (Ok gs) x y =
+    inr (inr (ap Ok (x.1.2 ∙ ap (λ s. s.finished) (led_once switches nothing_written steps x.1.0 y.1.0 x.1.1 y.1.1) ∙ sym y.1.2)))
+answers_are_one switches steps (Ok fs) (Err TooLarge) x y = absurd (ran switches steps fs x y)
+answers_are_one switches steps (Err TooLarge) (Ok gs) x y = absurd (ran switches steps gs y x)
+answers_are_one switches steps (Ok fs) (Err (BadStep step why)) x y =
+    absurd (none_some (first_bad steps) (step, why) x.0 y.0)
+answers_are_one switches steps (Err (BadStep step why)) (Ok gs) x y =
+    absurd (none_some (first_bad steps) (step, why) y.0 x.0)
+answers_are_one switches steps (Err TooLarge) (Err TooLarge) x y = inr (inr refl)
+answers_are_one switches steps (Err (BadStep step why)) (Err TooLarge) x y = absurd (ran_up_to switches steps step why x y)
+answers_are_one switches steps (Err TooLarge) (Err (BadStep step why)) x y = absurd (ran_up_to switches steps step why y x)
+answers_are_one switches steps (Err (BadStep step why)) (Err (BadStep other what)) x y =
+    inr (inr (same_bad (first_bad steps) (step, why) (other, what) x.0 y.0))
