@@ -1,5 +1,7 @@
 -- What a number names, and what a replay says of it.
-use Rattle.std.proofs.Common.{◌≡◌, ℕ, zero, suc, ◌+◌, ◌-◌, ◌≤◌, List, [], ◌∷◌, ◌++◌, length, map, drop, refl, sym, ap, ◌∙◌, subst, arith, Option, Some, None, Bool, true, false, inl, inr, length-append}
+use Rattle.std.proofs.Common.{◌≡◌, ℕ, zero, suc, ◌+◌, ◌-◌, ◌≤◌, List, [], ◌∷◌, ◌++◌, length, map}
+use Rattle.std.proofs.Common.{drop, refl, sym, ap, ◌∙◌, subst, arith, Option, Some, None, Bool}
+use Rattle.std.proofs.Common.{true, false, inl, inr, length-append}
 use Rattle.std.specs.Prelude.{slice_get, nat_lt, if◌then◌else◌, ◌⊎◌}
 use Rattle.std.specs.List.{list_any}
 use Rattle.std.proofs.lemmas.Bool.Decides.{nat_tests}
@@ -8,7 +10,8 @@ use Rattle.std.proofs.Math.Seq.{drop-length}
 use Rattle.planus_write.specs.declared.offset.Offset.{Offset}
 use Rattle.planus.specs.Steps.{Step, text, finish, clear}
 use Rattle.planus.specs.Replays.{is_clear, named_step, fault_of}
-use Rattle.planus.specs.Replaying.{distance_of, distances, distance_at, distance_fault, Wrote, AllWrote, HasTaken}
+use Rattle.planus.specs.Replaying.{distance_of, distances, distance_at, distance_fault, Wrote}
+use Rattle.planus.specs.Replaying.{AllWrote, HasTaken}
 use Rattle.planus.specs.declared.progress.Progress.{Progress}
 use Rattle.planus.proofs.Lists.{get_push, get_last, drop_push}
 

@@ -1,7 +1,9 @@
 -- A replay's steps, as the definitions see them.
-use Rattle.std.proofs.Common.{◌≡◌, ℕ, suc, ◌+◌, ◌≤◌, ◌<◌, List, [], ◌∷◌, ◌++◌, length, take, drop, map, get_or, refl, sym, ap, ◌∙◌, subst, None, Err, drop-cons}
+use Rattle.std.proofs.Common.{◌≡◌, ℕ, suc, ◌+◌, ◌≤◌, ◌<◌, List, [], ◌∷◌, ◌++◌, length, take, drop}
+use Rattle.std.proofs.Common.{map, get_or, refl, sym, ap, ◌∙◌, subst, None, Err, drop-cons}
 use Rattle.std.specs.List.{AllByRecursion}
-use Rattle.std.proofs.lemmas.List.{take-append-drop, map-append, map_push, take_more, take_all, length-map, length-take-le}
+use Rattle.std.proofs.lemmas.List.{take-append-drop, map-append, map_push, take_more, take_all}
+use Rattle.std.proofs.lemmas.List.{length-map, length-take-le}
 use Rattle.planus_write.specs.Shared.{all_off}
 use Rattle.planus_write.specs.Past.{Past}
 use Rattle.planus_write.specs.State.{IsPast}
@@ -9,7 +11,8 @@ use Rattle.planus.specs.Steps.{Step, text, finish, clear, bare_step}
 use Rattle.planus.specs.Runs.{nothing_written, LeadsTo, Advances, StepTooLarge}
 use Rattle.planus.specs.Replays.{first_bad, Replays, finish_given}
 use Rattle.planus.specs.Headline.{FinishHolds}
-use Rattle.planus.specs.Replaying.{named, state_with, distances, HasTaken, Takes, Stopped, AreReached}
+use Rattle.planus.specs.Replaying.{named, state_with, distances, HasTaken, Takes, Stopped}
+use Rattle.planus.specs.Replaying.{AreReached}
 use Rattle.planus.specs.declared.steps.Step as code
 use Rattle.planus.specs.declared.progress.Progress.{Progress}
 use Rattle.planus.specs.declared.faults.ReplayError.{ReplayError}

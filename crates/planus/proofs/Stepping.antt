@@ -1,5 +1,7 @@
 -- What a builder's calls are to the run.
-use Rattle.std.proofs.Common.{◌≡◌, ℕ, ◌+◌, ◌-◌, ◌≤◌, List, [], ◌∷◌, ◌++◌, length, map, refl, sym, ap, ◌∙◌, arith, subst, Result, Some, Ok, Err, inl, inr, Option, None, Bool, true, false, append-nil, length-append}
+use Rattle.std.proofs.Common.{◌≡◌, ℕ, ◌+◌, ◌-◌, ◌≤◌, List, [], ◌∷◌, ◌++◌, length, map, refl, sym}
+use Rattle.std.proofs.Common.{ap, ◌∙◌, arith, subst, Result, Some, Ok, Err, inl, inr, Option, None}
+use Rattle.std.proofs.Common.{Bool, true, false, append-nil, length-append}
 use Rattle.std.specs.Prelude.{slice_get, nat_lt, if◌then◌else◌}
 use Rattle.std.specs.Borrow.{Bor}
 use Rattle.std.specs.Option.{option_map}
@@ -18,7 +20,8 @@ use Rattle.planus_write.specs.declared.offset.Offset.{Offset}
 use Rattle.planus.specs.Steps.{text, finish, clear}
 use Rattle.planus.specs.Runs.{Listed, StepTooLarge, named_at, entries_put, finish_of}
 use Rattle.planus.specs.Replays.{finish_given, place_of, replay_error}
-use Rattle.planus.specs.Replaying.{distance_of, distances, distance_at, named, listed_from, state_with, Advanced, Stopped}
+use Rattle.planus.specs.Replaying.{distance_of, distances, distance_at, named, listed_from}
+use Rattle.planus.specs.Replaying.{state_with, Advanced, Stopped}
 use Rattle.planus.specs.declared.finishes.Finished.{Finished}
 use Rattle.planus.specs.declared.progress.Progress.{Progress}
 use Rattle.planus.proofs.Lists.{listed_push_some, listed_push_none, found_at}

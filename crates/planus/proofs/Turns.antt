@@ -1,5 +1,6 @@
 -- The parts of a run are placed in turn, and so are the fewest bytes.
-use Rattle.std.proofs.Common.{◌≡◌, ℕ, ◌+◌, List, [], ◌∷◌, ◌++◌, length, refl, sym, ap, ◌∙◌, subst, arith}
+use Rattle.std.proofs.Common.{◌≡◌, ℕ, ◌+◌, List, [], ◌∷◌, ◌++◌, length, refl, sym, ap, ◌∙◌, subst}
+use Rattle.std.proofs.Common.{arith}
 use Rattle.std.specs.List.{AllByRecursion}
 use Rattle.planus_back.specs.Promises.{Promise, IsPowerOfTwo, Keep}
 use Rattle.planus_back.specs.Padding.{promise_of, IsLeastPadding}

@@ -1,5 +1,7 @@
 -- The steps of a replay one by one.
-use Rattle.std.proofs.Common.{◌≡◌, ℕ, zero, suc, ◌+◌, List, [], ◌∷◌, ◌++◌, length, take, map, refl, sym, ap, ◌∙◌, subst, arith, Option, Some, None, append_assoc, append-nil, length-append, Err}
+use Rattle.std.proofs.Common.{◌≡◌, ℕ, zero, suc, ◌+◌, List, [], ◌∷◌, ◌++◌, length, take, map, refl}
+use Rattle.std.proofs.Common.{sym, ap, ◌∙◌, subst, arith, Option, Some, None, append_assoc}
+use Rattle.std.proofs.Common.{append-nil, length-append, Err}
 use Rattle.std.specs.Prelude.{slice_get}
 use Rattle.std.specs.Str.{IsUtf8}
 use Rattle.std.specs.String.{string_bytes}
@@ -8,8 +10,10 @@ use Rattle.planus.specs.Steps.{Step, text, finish, clear, bare_step}
 use Rattle.planus_read.specs.Values.{Value}
 use Rattle.planus_write.specs.Shared.{Switches}
 use Rattle.planus_write.specs.Past.{Entry}
-use Rattle.planus.specs.Runs.{Listed, State, Advances, LeadsTo, StepTooLarge, nothing_written, named_at, value_of, entries_put, finish_of}
-use Rattle.planus.specs.Replays.{first_bad, first_bad_after, first_bad_or, broken_check, fault_of, named_step, Replays}
+use Rattle.planus.specs.Runs.{Listed, State, Advances, LeadsTo, StepTooLarge, nothing_written}
+use Rattle.planus.specs.Runs.{named_at, value_of, entries_put, finish_of}
+use Rattle.planus.specs.Replays.{first_bad, first_bad_after, first_bad_or, broken_check, fault_of}
+use Rattle.planus.specs.Replays.{named_step, Replays}
 use Rattle.planus.specs.declared.faults.ReplayError.TheVariants.{TooLarge, BadStep}
 use Rattle.planus.specs.declared.faults.Why.{Why}
 use Rattle.planus.specs.declared.steps.Step as code

@@ -1,5 +1,6 @@
 -- What is true of every finish of every run.
-use Rattle.std.specs.Prelude.{◌≡◌, ℕ, ◌+◌, ◌≤◌, List, [], ◌∷◌, ◌++◌, length, take, slice_get, Option, Some}
+use Rattle.std.specs.Prelude.{◌≡◌, ℕ, ◌+◌, ◌≤◌, List, [], ◌∷◌, ◌++◌, length, take, slice_get}
+use Rattle.std.specs.Prelude.{Option, Some}
 use Rattle.std.specs.List.{AllByRecursion}
 use Rattle.planus_back.specs.Parts.{Part}
 use Rattle.planus_back.specs.Placings.{IsPlacing, NoneIsGreater}
@@ -24,17 +25,18 @@ pub record ValueHolds (steps : List Step) (given : Finish) (one : Listed) : Type
   pub aligned : AlignedAt given.bytes (position_in given.bytes one.named) value
   pub reads_back : ReadsBack given.bytes (position_in given.bytes one.named) value
 
--- The fewest bytes: among the placings of the parts since the last clear, none has a smaller place for any of them than this one, and
--- the last one's place is the length of the bytes.
+-- The fewest bytes: among the placings of the parts since the last clear, none has a smaller place
+-- for any of them than this one, and the last one's place is the length of the bytes.
 pub record IsFewest (parts : List Part) (places : List ℕ) (bytes : List ℕ) : Type 0 where
   pub placing : IsPlacing parts places
   pub whole : (earlier : List ℕ) × (places ≡ earlier ++ length bytes ∷ [])
   pub least : (others : List ℕ) → IsPlacing parts others → NoneIsGreater places others
 
--- What is given by the finish of one step, to which the steps with it lead: it lists every value since the last clear, and each holds in
--- its bytes; the reference at their front leads to the value of its root's step, and its identifier stands behind that; and its bytes are
--- the fewest.
--- The format: a buffer begins with a reference to its root; four bytes that identify the file may follow.
+-- What is given by the finish of one step, to which the steps with it lead: it lists every value
+-- since the last clear, and each holds in its bytes; the reference at their front leads to the
+-- value of its root's step, and its identifier stands behind that; and its bytes are the fewest.
+-- The format: a buffer begins with a reference to its root; four bytes that identify the file may
+-- follow.
 pub record FinishHolds (switches : Switches) (steps : List Step) (given : Finish) : Type 0 where
   pub number : ℕ
   pub root : ℕ
@@ -45,6 +47,7 @@ pub record FinishHolds (switches : Switches) (steps : List Step) (given : Finish
   pub bytes : given.bytes ≡ state.past.written.bytes
   pub places : given.places ≡ state.listed
   pub values : AllByRecursion (ValueHolds steps given) given.places
-  pub leads : (named : Named) × (named_at given.places root ≡ Some named) × ReferenceStands given.bytes 0 named.distance
+  pub leads : (named : Named) × (named_at given.places root ≡ Some named)
+      × ReferenceStands given.bytes 0 named.distance
   pub identified : BytesStand given.bytes 4 (identifier_bytes identifier)
   pub fewest : IsFewest state.past.parts state.past.places given.bytes

@@ -1,5 +1,6 @@
 -- A replay on its way, as the definitions see it.
-use Rattle.std.specs.Prelude.{◌≡◌, ℕ, ◌+◌, ◌-◌, ◌≤◌, nat_lt, List, [], ◌∷◌, ◌++◌, map, length, drop, slice_get, Option, Some, None, if◌then◌else◌, Result, Ok, Err, ⊤, ◌⊎◌}
+use Rattle.std.specs.Prelude.{◌≡◌, ℕ, ◌+◌, ◌-◌, ◌≤◌, nat_lt, List, [], ◌∷◌, ◌++◌, map, length, drop}
+use Rattle.std.specs.Prelude.{slice_get, Option, Some, None, if◌then◌else◌, Result, Ok, Err, ⊤, ◌⊎◌}
 use Rattle.std.specs.Option.{option_map}
 use Rattle.planus_write.specs.Past.{Past}
 use Rattle.planus_write.specs.State.{IsPast}
@@ -30,9 +31,11 @@ named distance = record { distance = distance; tags = None }
 abbrev pub listed_from : ℕ → List (Option ℕ) → List Listed
 listed_from n [] = []
 listed_from n (None ∷ rest) = listed_from (n + 1) rest
-listed_from n (Some distance ∷ rest) = record { step = n; named = named distance } ∷ listed_from (n + 1) rest
+listed_from n (Some distance ∷ rest) =
+    record { step = n; named = named distance } ∷ listed_from (n + 1) rest
 
--- what the step of a number wrote, where it stands behind the last clear; the steps since are numbered from `first` on
+-- what the step of a number wrote, where it stands behind the last clear; the steps since are
+-- numbered from `first` on
 abbrev pub distance_at : ℕ → List (Option ℕ) → ℕ → Option (Option ℕ)
 distance_at first since step = if nat_lt step first then None else slice_get since (step - first)
 
@@ -59,13 +62,16 @@ FindsValue first since step (Err why) = distance_fault (distance_at first since 
 -- why a step was not taken
 abbrev pub Stopped : Progress → Step → ReplayError → Type 0
 Stopped old step OutOfMemory = ⊤
-Stopped old step TooLarge = (past : Past) → IsPast old.builder past → StepTooLarge old.builder.switches (state_with old past) step
+Stopped old step TooLarge = (past : Past) → IsPast old.builder past
+    → StepTooLarge old.builder.switches (state_with old past) step
 Stopped old (text bytes) (BadStep number why) = ⊥
 Stopped old clear (BadStep number why) = ⊥
 Stopped old (finish root identifier) (BadStep number why) =
-    (number ≡ old.first + length old.offsets.items) × (distance_fault (distance_at old.first (distances old) root) ≡ Some why)
+    (number ≡ old.first + length old.offsets.items)
+        × (distance_fault (distance_at old.first (distances old) root) ≡ Some why)
 
--- a step wrote what its kind says: a text its value, a finish none; a clear is no step since the last clear
+-- a step wrote what its kind says: a text its value, a finish none; a clear is no step since the
+-- last clear
 abbrev pub Wrote : Step → Option ℕ → Type 0
 Wrote (text bytes) (Some distance) = ⊤
 Wrote (text bytes) None = ⊥
@@ -80,7 +86,8 @@ AllWrote (step ∷ steps) (distance ∷ rest) = Wrote step distance × AllWrote 
 AllWrote [] (distance ∷ rest) = ⊥
 AllWrote (step ∷ steps) [] = ⊥
 
--- The replay has taken these steps: it begins to count behind the last clear, and knows what each step since then wrote.
+-- The replay has taken these steps: it begins to count behind the last clear, and knows what each
+-- step since then wrote.
 pub record HasTaken (replay : Progress) (steps : List Step) : Type 0 where
   pub counted : replay.first + length replay.offsets.items ≡ length steps
   pub behind_clear : (replay.first ≡ 0) ⊎ (slice_get steps (replay.first - 1) ≡ Some clear)
@@ -90,7 +97,8 @@ pub record HasTaken (replay : Progress) (steps : List Step) : Type 0 where
 pub record Takes (old : Progress) (step : Step) (new : Progress) : Type 0 where
   pub taken : (steps : List Step) → HasTaken old steps → HasTaken new (steps ++ step ∷ [])
   pub advances : (past : Past) → IsPast old.builder past
-      → (after : Past) × IsPast new.builder after × Advances old.builder.switches (state_with old past) step (state_with new after)
+      → (after : Past) × IsPast new.builder after
+          × Advances old.builder.switches (state_with old past) step (state_with new after)
   pub switches : new.builder.switches ≡ old.builder.switches
 
 -- One step was taken, or was not.
@@ -100,4 +108,5 @@ Advanced old step (Err error) new = Stopped old step error
 
 -- every value since the last clear lies in the builder
 abbrev pub AreReached : Progress → Type 0
-AreReached replay = (step distance : ℕ) → slice_get (distances replay) step ≡ Some (Some distance) → distance ≤ length replay.builder.bytes
+AreReached replay = (step distance : ℕ) → slice_get (distances replay) step ≡ Some (Some distance)
+    → distance ≤ length replay.builder.bytes

@@ -1,11 +1,14 @@
 -- What a replay of steps answers.
-use Rattle.std.specs.Prelude.{◌≡◌, ℕ, ◌+◌, List, [], ◌∷◌, ◌++◌, length, take, drop, slice_get, map, Bool, true, false, if◌then◌else◌, Option, Some, None, Result, Ok, Err, ⊤, ◌⊎◌}
+use Rattle.std.specs.Prelude.{◌≡◌, ℕ, ◌+◌, List, [], ◌∷◌, ◌++◌, length, take, drop, slice_get, map}
+use Rattle.std.specs.Prelude.{Bool, true, false, if◌then◌else◌, Option, Some, None, Result, Ok, Err}
+use Rattle.std.specs.Prelude.{⊤, ◌⊎◌}
 use Rattle.std.specs.Prelude.{Vec}
 use Rattle.std.specs.List.{list_any}
 use Rattle.std.specs.declared.alloc.Global.{Global}
 use Rattle.planus.specs.Steps.{Step, text, finish, clear}
 use Rattle.planus_write.specs.Shared.{Switches}
-use Rattle.planus.specs.Runs.{Finish, Listed, State, nothing_written, LeadsTo, Runs, ComesToTooLarge}
+use Rattle.planus.specs.Runs.{Finish, Listed, State, nothing_written, LeadsTo, Runs}
+use Rattle.planus.specs.Runs.{ComesToTooLarge}
 use Rattle.planus.specs.declared.faults.Why.{Why}
 use Rattle.planus.specs.declared.faults.Why.TheVariants.{NoSuchStep, WrongKind}
 use Rattle.planus.specs.declared.faults.ReplayError.{ReplayError}
@@ -23,7 +26,8 @@ is_clear clear = true
 
 -- the step that a number names: an earlier one, with no clear from it on
 abbrev pub named_step : List Step → ℕ → Option Step
-named_step earlier number = if list_any is_clear (drop number earlier) then None else slice_get earlier number
+named_step earlier number =
+    if list_any is_clear (drop number earlier) then None else slice_get earlier number
 
 -- what is wrong with naming it as a value
 abbrev pub fault_of : Option Step → Option Why
@@ -32,7 +36,8 @@ fault_of (Some (text bytes)) = None
 fault_of (Some (finish root identifier)) = Some WrongKind
 fault_of (Some clear) = Some WrongKind
 
--- the first broken check of a step, by the steps before it: a root is an earlier step behind the last clear, and a value
+-- the first broken check of a step, by the steps before it: a root is an earlier step behind the
+-- last clear, and a value
 abbrev pub broken_check : List Step → Step → Option Why
 broken_check earlier (text bytes) = None
 broken_check earlier (finish root identifier) = fault_of (named_step earlier root)
@@ -46,7 +51,9 @@ first_bad_or n None later = later
 -- FirstBad: the first step with a broken check, and that check; it looks at the steps alone.
 abbrev pub first_bad_after : List Step → List Step → Option (ℕ × Why)
 first_bad_after earlier [] = None
-first_bad_after earlier (step ∷ steps) = first_bad_or (length earlier) (broken_check earlier step) (first_bad_after (earlier ++ step ∷ []) steps)
+first_bad_after earlier (step ∷ steps) =
+    first_bad_or (length earlier) (broken_check earlier step)
+    (first_bad_after (earlier ++ step ∷ []) steps)
 
 -- the first bad step of a script
 abbrev pub first_bad : List Step → Option (ℕ × Why)
@@ -54,19 +61,24 @@ first_bad steps = first_bad_after [] steps
 
 -- a value's place: the number of its step, and the distances by which it is named
 abbrev pub place_of : StepPlace → Listed
-place_of place = record { step = place.step; named = record { distance = place.distance; tags = place.tags } }
+place_of place = record { step = place.step; named = record
+    { distance = place.distance; tags = place.tags } }
 
 -- a finish, without where it lies in memory
 abbrev pub finish_given : Finished → Finish
-finish_given finished = record { bytes = finished.bytes.items; places = map place_of finished.places.items }
+finish_given finished =
+    record { bytes = finished.bytes.items; places = map place_of finished.places.items }
 
--- The answer is that of the run: what each finish gives where no step is bad; the first bad step, if the run comes to it; a part that
--- is too large, if the run comes to that before. Of a want of memory nothing is said.
+-- The answer is that of the run: what each finish gives where no step is bad; the first bad step,
+-- if the run comes to it; a part that is too large, if the run comes to that before. Of a want of
+-- memory nothing is said.
 abbrev pub Replays : Switches → List Step → Result (List Finish) ReplayError → Type 0
 Replays switches steps (Ok finished) = (first_bad steps ≡ None) × Runs switches steps finished
 Replays switches steps (Err (BadStep step why)) =
-    (first_bad steps ≡ Some (step, why)) × ((before : State) × LeadsTo switches nothing_written (take step steps) before)
-Replays switches steps (Err TooLarge) = (n : ℕ) × (first_bad (take (n + 1) steps) ≡ None) × ComesToTooLarge switches steps n
+    (first_bad steps ≡ Some (step, why))
+        × ((before : State) × LeadsTo switches nothing_written (take step steps) before)
+Replays switches steps (Err TooLarge) = (n : ℕ) × (first_bad (take (n + 1) steps) ≡ None)
+    × ComesToTooLarge switches steps n
 Replays switches steps (Err OutOfMemory) = ⊤
 
 -- a refused write, as a replay's error
@@ -87,5 +99,6 @@ WantsMemory _ = ⊥
 -- Want of memory aside, there is one answer to a list of steps.
 abbrev pub AnswersAreOne : Type 0
 AnswersAreOne =
-    (switches : Switches) (steps : List Step) (a b : Result (List Finish) ReplayError) → Replays switches steps a → Replays switches steps b
+    (switches : Switches) (steps : List Step) (a b : Result (List Finish) ReplayError)
+        → Replays switches steps a → Replays switches steps b
     → WantsMemory a ⊎ WantsMemory b ⊎ (a ≡ b)

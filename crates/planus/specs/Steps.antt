@@ -4,7 +4,8 @@ use Rattle.std.specs.String.{string_bytes}
 use Rattle.planus.specs.declared.steps.Step as code
 use Rattle.planus.specs.declared.steps.Step.TheVariants.{Text, Finish, Clear}
 
--- a text with its bytes; a finish with the number of its root's step, and a file identifier, if there is one; a clear
+-- a text with its bytes; a finish with the number of its root's step, and a file identifier, if
+-- there is one; a clear
 pub data Step : Type 0 where
   text : List ℕ → Step
   finish : ℕ → Option (List ℕ) → Step

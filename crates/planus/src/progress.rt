@@ -6,7 +6,8 @@ ghost use Rattle.planus_write.specs.State.{IsPast};
 ghost use Rattle.planus.specs.Steps.{bare_step};
 ghost use Rattle.planus.specs.Runs.{nothing_written};
 ghost use Rattle.planus.specs.Replays.{place_of};
-ghost use Rattle.planus.specs.Replaying.{distance_of, distances, listed_from, state_with, FindsValue, HasTaken, Advanced, AreReached};
+ghost use Rattle.planus.specs.Replaying.{distance_of, distances, listed_from, state_with};
+ghost use Rattle.planus.specs.Replaying.{FindsValue, HasTaken, Advanced, AreReached};
 ghost use Rattle.planus.specs.Steps as step;
 
 use crate::faults::{ReplayError, Why};
@@ -33,7 +34,8 @@ fn places_of(
     offsets: &[Option<Offset<()>>],
 ) -> std::result::Result<Vec<StepPlace>, AllocError>
     requires { first + length offsets.now < 2 ^ 64 }
-    ensures { IfOk result (λ places. map place_of places.items ≡ listed_from first (map distance_of offsets.now)) }
+    ensures { IfOk result (λ places. map place_of places.items ≡ listed_from first
+        (map distance_of offsets.now)) }
 {
     let mut places = Vec::with_capacity(alloc, offsets.len())?;
     for (index, offset) in offsets.iter().enumerate() {

@@ -14,12 +14,14 @@ use std::alloc::Global;
 
 /// What each finish of the steps gives, in order.
 ///
-/// Each step is checked before it writes, so the first refused step decides: [`ReplayError::BadStep`] where its check is
-/// broken, [`ReplayError::TooLarge`] where its part's place would be above 2147483647 bytes from the end, and
-/// [`ReplayError::OutOfMemory`] where memory is refused.
+/// Each step is checked before it writes, so the first refused step decides:
+/// [`ReplayError::BadStep`] where its check is broken, [`ReplayError::TooLarge`] where its part's
+/// place would be above 2147483647 bytes from the end, and [`ReplayError::OutOfMemory`] where
+/// memory is refused.
 pub fn replay(alloc: Global, steps: &[Step]) -> std::result::Result<Vec<Finished>, ReplayError>
     ensures run { Replays nothing_shared (map bare_step steps.now) (given_by result) }
-    ensures holds { IfOk result (λ finished. AllByRecursion (FinishHolds nothing_shared (map bare_step steps.now)) (map finish_given finished.items)) }
+    ensures holds { IfOk result (λ finished. AllByRecursion
+        (FinishHolds nothing_shared (map bare_step steps.now)) (map finish_given finished.items)) }
 {
     let mut progress = Progress::new(alloc)?;
     for step in steps {

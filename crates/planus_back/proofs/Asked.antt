@@ -5,7 +5,7 @@ use Rattle.std.proofs.lemmas.Nat.{pow_pos, div-add-mod', and_mask}
 use Rattle.std.proofs.Math.Nat.{mod-lt, mod-mod_of_dvd}
 use Rattle.planus_back.specs.Promises.{Promise, IsPowerOfTwo}
 use Rattle.planus_back.specs.Padding.{promise_of, IsLeast, IsLeastPadding}
-use Rattle.planus_back.specs.Requests.{Delay, LeavesSome, DescribesThose, StandsFor}
+use Rattle.planus_back.specs.Requests.{Delay, LeavesSome, DescribesThose, DescribesAll}
 use Rattle.planus_back.specs.Sound.{IsSound}
 use Rattle.planus_back.proofs.Multiples.{multiple_of_divides}
 use Rattle.planus_back.proofs.Lengths.{Combined, combined, least_of_request, those_of_request}
@@ -54,9 +54,9 @@ combined_for delay len size asked sound fits power =
 pub record Asked (delay : Delay) (len size asked : ℕ) : Type 0 where
   pub least : IsLeast (LeavesSome delay len size (asked + 1)) (padding_for delay size asked)
   pub those : DescribesThose delay len (next_for delay size asked) (len + padding_for delay size asked + size) (asked + 1)
-  pub least_padding : (promises : List Promise) → StandsFor delay len promises → IsLeastPadding len promises size (asked + 1) (padding_for delay size asked)
-  pub stands : (promises : List Promise) → StandsFor delay len promises
-      → StandsFor (next_for delay size asked) (len + padding_for delay size asked + size) (promise_of (len + padding_for delay size asked + size) (asked + 1) ∷ promises)
+  pub least_padding : (promises : List Promise) → DescribesAll delay len promises → IsLeastPadding len promises size (asked + 1) (padding_for delay size asked)
+  pub described : (promises : List Promise) → DescribesAll delay len promises
+      → DescribesAll (next_for delay size asked) (len + padding_for delay size asked + size) (promise_of (len + padding_for delay size asked + size) (asked + 1) ∷ promises)
 
 pub asked_for : (delay : Delay) (len size asked : ℕ) → IsSound delay → size < 2 ^ 64 → IsPowerOfTwo (asked + 1) → Asked delay len size asked
 asked_for delay len size asked sound fits power =
@@ -68,5 +68,5 @@ asked_for delay len size asked sound fits power =
       least = least;
       those = those;
       least_padding = λ promises h. least_padding_of delay len size (asked + 1) p promises h least;
-      stands = λ promises h. described_after delay (next_for delay size asked) len (len + p + size) (asked + 1) promises (omega arith) power those h;
+      described = λ promises h. described_after delay (next_for delay size asked) len (len + p + size) (asked + 1) promises (omega arith) power those h;
     }

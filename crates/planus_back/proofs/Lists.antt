@@ -9,7 +9,7 @@ use Rattle.std.proofs.Math.Nat.{one-dvd, dvd-add, dvd-sub}
 use Rattle.planus_back.specs.Promises.{Promise, IsPowerOfTwo, Keep, greatest_alignment}
 use Rattle.planus_back.specs.Padding.{promise_of, IsLeast, IsLeastPadding}
 use Rattle.planus_back.specs.Descriptions.{Describes}
-use Rattle.planus_back.specs.Requests.{Delay, LeavesSome, DescribesThose, StandsFor}
+use Rattle.planus_back.specs.Requests.{Delay, LeavesSome, DescribesThose, DescribesAll}
 use Rattle.planus_back.proofs.Multiples.{smaller_power_divides, divides_multiple, times_le}
 
 abbrev pub AllPowers : List Promise → Type 0
@@ -25,7 +25,7 @@ reached_later n m (p ∷ promises) le h = (omega (arith, h.0, le), reached_later
 
 -- a request that is granted leads from described promises to described promises
 pub described_after : (delay after : Delay) (len x alignment : ℕ) (promises : List Promise) → len ≤ x → IsPowerOfTwo alignment
-    → DescribesThose delay len after x alignment → StandsFor delay len promises → StandsFor after x (promise_of x alignment ∷ promises)
+    → DescribesThose delay len after x alignment → DescribesAll delay len promises → DescribesAll after x (promise_of x alignment ∷ promises)
 described_after delay after len x alignment promises le power those old = record {
   powers = (power, old.powers);
   reached = (omega arith, reached_later len x promises le old.reached);
@@ -36,7 +36,7 @@ described_after delay after len x alignment promises le power those old = record
 }
 
 -- the least padding for the described lengths is the least for the promises
-pub least_padding_of : (delay : Delay) (len size alignment padding : ℕ) (promises : List Promise) → StandsFor delay len promises
+pub least_padding_of : (delay : Delay) (len size alignment padding : ℕ) (promises : List Promise) → DescribesAll delay len promises
     → IsLeast (LeavesSome delay len size alignment) padding → IsLeastPadding len promises size alignment padding
 least_padding_of delay len size alignment padding promises old h = record {
   holds = (let f = h.holds in let k = f.2 in let r : len + padding + size ≤ f.0 = k.reaches in (f.0, (f.2, (old.kept f.0 (omega (arith, r))).1 f.1)));

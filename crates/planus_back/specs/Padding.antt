@@ -11,7 +11,8 @@ greatest_place = 2147483647
 abbrev pub promise_of : ℕ → ℕ → Promise
 promise_of place alignment = record { distance = place; alignment = alignment }
 
--- In front of that many bytes, with this much padding, some length keeps the promises so far and that of the part.
+-- In front of that many bytes, with this much padding, some length keeps the promises so far and
+-- that of the part.
 abbrev pub CanPad : ℕ → List Promise → ℕ → ℕ → ℕ → Type 0
 CanPad length promises size alignment padding = CanBeKept (promise_of (length + padding + size) alignment ∷ promises)
 
@@ -20,6 +21,7 @@ pub record IsLeast (Holds : ℕ → Type 0) (n : ℕ) : Type 0 where
   pub holds : Holds n
   pub least : (m : ℕ) → Holds m → n ≤ m
 
--- With this padding and with none that is less, some length keeps the promises so far and that of the part.
+-- With this padding and with none that is less, some length keeps the promises so far and that of
+-- the part.
 abbrev pub IsLeastPadding : ℕ → List Promise → ℕ → ℕ → ℕ → Type 0
 IsLeastPadding length promises size alignment padding = IsLeast (CanPad length promises size alignment) padding

@@ -8,7 +8,8 @@ abbrev pub promises_of : List (ℕ × ℕ) → List Promise
 promises_of [] = []
 promises_of (pair ∷ pairs) = promise_of pair.0 pair.1 ∷ promises_of pairs
 
--- Whether a length keeps the promises is the same again after so many bytes: a common multiple of the alignments.
+-- Whether a length keeps the promises is the same again after so many bytes: a common multiple of
+-- the alignments.
 abbrev pub period : List (ℕ × ℕ) → ℕ
 period [] = 1
 period (pair ∷ pairs) = pair.1 * period pairs

@@ -14,7 +14,8 @@ pub record Written : Type 0 where
   pub bytes : List ℕ
   pub promises : List Promise
 
--- The part is placed: least padding, then the part in front of it, and its promise beside those before.
+-- The part is placed: least padding, then the part in front of it, and its promise beside those
+-- before.
 pub record Placed (part : Part) (before after : Written) : Type 0 where
   pub padding : ℕ
   pub place : ℕ

@@ -22,7 +22,8 @@ pub record IsPlacing (parts : List Part) (places : List ℕ) : Type 0 where
   pub in_order : LieInOrder 0 parts places
   pub kept : CanBeKept (promises_at parts places)
 
--- The places that the parts get one by one, each by the least padding, from that many bytes and these promises on.
+-- The places that the parts get one by one, each by the least padding, from that many bytes and
+-- these promises on.
 abbrev pub PlacedInTurn : ℕ → List Promise → List Part → List ℕ → Type 0
 PlacedInTurn length promises [] [] = ⊤
 PlacedInTurn length promises (part ∷ parts) (place ∷ places) =

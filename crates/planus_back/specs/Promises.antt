@@ -1,11 +1,13 @@
 -- Promises of alignment, and the finished lengths that keep them.
--- The format: a number stands at a multiple of its size from the buffer's start. A writer that works from the back
--- doesn't know the start before the end, so each part that it places is a promise on the finished length.
+-- The format: a number stands at a multiple of its size from the buffer's start. A writer that
+-- works from the back doesn't know the start before the end, so each part that it places is a
+-- promise on the finished length.
 use Rattle.std.specs.Prelude.{◌≡◌, ℕ, ◌-◌, ◌^◌, ◌≤◌, max, List, [], ◌∷◌}
 use Rattle.std.specs.Int.{◌∣◌}
 use Rattle.std.specs.List.{AllByRecursion}
 
--- What stands at this distance from the end is to stand at a multiple of the alignment from the start.
+-- What stands at this distance from the end is to stand at a multiple of the alignment from the
+-- start.
 pub record Promise : Type 0 where
   pub distance : ℕ
   pub alignment : ℕ
@@ -14,7 +16,8 @@ pub record Promise : Type 0 where
 abbrev pub IsPowerOfTwo : ℕ → Type 0
 IsPowerOfTwo a = (k : ℕ) × (a ≡ 2 ^ k)
 
--- A length keeps a promise where it reaches the distance, and the alignment divides what lies in front of it.
+-- A length keeps a promise where it reaches the distance, and the alignment divides what lies in
+-- front of it.
 pub record Keeps (length : ℕ) (promise : Promise) : Type 0 where
   pub reaches : promise.distance ≤ length
   pub aligns : promise.alignment ∣ (length - promise.distance)

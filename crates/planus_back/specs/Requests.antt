@@ -18,14 +18,15 @@ abbrev pub LeavesSome : Delay → ℕ → ℕ → ℕ → ℕ → Type 0
 LeavesSome delay length size alignment padding =
     (finished : ℕ) × IsDescribed delay length finished × Keeps finished (promise_of (length + padding + size) alignment)
 
--- In front of a part at this place, the later value describes exactly those described lengths that hold the part and align it.
+-- In front of a part at this place, the later value describes exactly those described lengths that
+-- hold the part and align it.
 abbrev pub DescribesThose : Delay → ℕ → Delay → ℕ → ℕ → Type 0
 DescribesThose before length after place alignment =
     (finished : ℕ) → IsDescribed after place finished ↔ (IsDescribed before length finished × Keeps finished (promise_of place alignment))
 
--- The value stands for these promises at this length.
-abbrev pub StandsFor : Delay → ℕ → List Promise → Type 0
-StandsFor delay length promises = Describes length delay.delayed delay.mask promises
+-- At this length, the value describes all of these promises.
+abbrev pub DescribesAll : Delay → ℕ → List Promise → Type 0
+DescribesAll delay length promises = Describes length delay.delayed delay.mask promises
 
 -- A least padding puts the part further from the end than any place may be.
 abbrev pub PassesGreatestPlace : (ℕ → Type 0) → ℕ → ℕ → Type 0

@@ -1,5 +1,6 @@
 //! A byte vector that grows towards its front.
-ghost use Rattle.std.specs.Prelude.{◌≡◌, ℕ, ◌+◌, ◌-◌, ◌≤◌, List, [], ◌++◌, length, take, drop, replicate, IfOk, OnOk, OnErr, IsOk};
+ghost use Rattle.std.specs.Prelude.{◌≡◌, ℕ, ◌+◌, ◌-◌, ◌≤◌, List, [], ◌++◌, length, take, drop};
+ghost use Rattle.std.specs.Prelude.{replicate, IfOk, OnOk, OnErr, IsOk};
 ghost use Rattle.std.specs.Prelude.{vec_len};
 
 use crate::fill::{Fill, Overwrite};
@@ -30,7 +31,8 @@ impl Model for BackVec {
     ghost invariant = { StartsInside };
 }
 
-/// A block of `room` zeros and then `bytes`, of `room + bytes.len()` bytes in all. Asks for memory once.
+/// A block of `room` zeros and then `bytes`, of `room + bytes.len()` bytes in all. Asks for memory
+/// once.
 fn block_behind(
     alloc: Global,
     room: usize,
@@ -132,8 +134,8 @@ fn put_overwritten<W: Overwrite>(block: &mut [u8], start: usize, place: u32, n: 
 }
 
 impl BackVec {
-    /// An empty vector, with room for `n` bytes and at least 16. Asks for that many bytes of memory, and is refused only
-    /// where the memory is.
+    /// An empty vector, with room for `n` bytes and at least 16. Asks for that many bytes of
+    /// memory, and is refused only where the memory is.
     pub fn with_capacity(alloc: Global, n: usize) -> Result<BackVec, AllocError>
         ensures bytes { IfOk result (λ v. v.bytes ≡ []) }
         ensures room { IfOk result (λ v. n ≤ v.room) }
@@ -183,8 +185,9 @@ impl BackVec {
         self.start = self.block.len();
     }
 
-    /// Makes room for `n` more bytes in front, and leaves the bytes as they are. Takes no memory where there is room
-    /// already. A refusal changes nothing; a number of bytes above `usize::MAX` counts as refused.
+    /// Makes room for `n` more bytes in front, and leaves the bytes as they are. Takes no memory
+    /// where there is room already. A refusal changes nothing; a number of bytes above `usize::MAX`
+    /// counts as refused.
     #[inline]
     pub fn reserve(&mut self, n: usize) -> Result<(), AllocError>
         ensures ok { OnOk result (n ≤ self.new.room) }
@@ -199,7 +202,8 @@ impl BackVec {
         self.grow(n)
     }
 
-    // Moves the bytes to the end of a block that is at least twice as large and has room for n more.
+    // Moves the bytes to the end of a block that is at least twice as large and has room for n
+    // more.
     #[cold]
     #[inline(never)]
     fn grow(&mut self, n: usize) -> Result<(), AllocError>
@@ -236,7 +240,8 @@ impl BackVec {
     pub fn put_three(&mut self, first: &[u8], second: &[u8], third: &[u8])
         requires { length (first.now ++ second.now ++ third.now) ≤ self.old.room }
         ensures bytes { self.new.bytes ≡ (first.now ++ second.now ++ third.now) ++ self.old.bytes }
-        ensures room { self.new.room + length (first.now ++ second.now ++ third.now) ≡ self.old.room }
+        ensures room { self.new.room + length
+            (first.now ++ second.now ++ third.now) ≡ self.old.room }
     {
         let block = self.block.as_mut_slice();
         let mut start = self.start;
@@ -294,7 +299,8 @@ impl BackVec {
         ensures ok { OnOk result (self.new.bytes ≡ bytes.now ++ self.old.bytes) }
         ensures err { OnErr result (self.new ≡ self.old) }
         ensures enough { length bytes.now ≤ self.old.room → IsOk result }
-        ensures room { length bytes.now ≤ self.old.room → self.new.room + length bytes.now ≡ self.old.room }
+        ensures room { length bytes.now ≤ self.old.room
+            → self.new.room + length bytes.now ≡ self.old.room }
     {
         self.reserve(bytes.len())?;
         self.put_slice(bytes);
@@ -314,9 +320,10 @@ impl BackVec {
         Ok(())
     }
 
-    /// Puts `n` bytes in front, which the filler writes over zeros. `place` is handed to it: the distance in bytes from
-    /// the end of the buffer to the first of them. The filler must be such that it may be called with `n` bytes at that
-    /// place. A refusal of memory changes nothing, and the filler isn't called.
+    /// Puts `n` bytes in front, which the filler writes over zeros. `place` is handed to it: the
+    /// distance in bytes from the end of the buffer to the first of them. The filler must be such
+    /// that it may be called with `n` bytes at that place. A refusal of memory changes nothing, and
+    /// the filler isn't called.
     #[inline]
     pub fn extend_write<F: Fill>(
         &mut self,

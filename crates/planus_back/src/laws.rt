@@ -1,4 +1,5 @@
-//! Laws of promises, padding and places. The functions do nothing: each states a law by its contract.
+//! Laws of promises, padding and places. The functions do nothing: each states a law by its
+//! contract.
 ghost use Rattle.std.specs.Prelude.{◌≡◌, ℕ, ◌+◌, ◌<◌, ◌≤◌, List, [], ◌∷◌};
 ghost use Rattle.std.specs.List.{AllByRecursion};
 ghost use Rattle.planus_back.specs.Promises.{Promise, IsPowerOfTwo, Keep, greatest_alignment};
@@ -25,8 +26,8 @@ pub fn least_padding_is_unique()
         → IsLeastPadding length promises size alignment b → a ≡ b }
 {}
 
-/// A part with the greatest alignment of all, as the first word of a finished buffer has it, ends at a length that keeps
-/// every promise, where all of them were made of what is written.
+/// A part with the greatest alignment of all, as the first word of a finished buffer has it, ends
+/// at a length that keeps every promise, where all of them were made of what is written.
 pub fn greatest_alignment_keeps_every_promise()
     ensures { (length : ℕ) (promises : List Promise) (size alignment padding : ℕ)
         → AllByRecursion (λ (p : Promise). IsPowerOfTwo p.alignment) promises → AllByRecursion (λ (p : Promise). p.distance ≤ length) promises
@@ -35,8 +36,9 @@ pub fn greatest_alignment_keeps_every_promise()
         → Keep (promise_of (length + padding + size) alignment ∷ promises) (length + padding + size) }
 {}
 
-/// The least padding in front of each part in turn gives every part the least place that it has in any placing of the same
-/// parts in the same order. So the finished length is the least that this order allows.
+/// The least padding in front of each part in turn gives every part the least place that it has in
+/// any placing of the same parts in the same order. So the finished length is the least that this
+/// order allows.
 pub fn least_padding_gives_the_least_places()
     ensures { (parts : List Part) (places others : List ℕ) → AllByRecursion (λ (part : Part). IsPowerOfTwo part.alignment) parts
         → PlacedInTurn 0 [] parts places → IsPlacing parts others → NoneIsGreater places others }

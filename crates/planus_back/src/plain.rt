@@ -2,7 +2,8 @@
 ghost use Rattle.std.specs.Prelude.{◌≡◌, ℕ, ◌+◌, ◌*◌, ◌^◌, ◌<◌, ◌≤◌, ◌↔◌, ◌∷◌, IsTrue, MatchOption};
 ghost use Rattle.planus_back.specs.Promises.{Keeps, Keep, CanBeKept};
 ghost use Rattle.planus_back.specs.Padding.{promise_of, CanPad, IsLeastPadding};
-ghost use Rattle.planus_back.specs.Pairs.{promises_of, period, AlignmentsAboveZero, DistancesWithin};
+ghost use Rattle.planus_back.specs.Pairs.{promises_of, period, AlignmentsAboveZero};
+ghost use Rattle.planus_back.specs.Pairs.{DistancesWithin};
 
 // Tells whether a finished length keeps one promise.
 fn keeps_one(length: usize, distance: usize, alignment: usize) -> bool
@@ -58,12 +59,13 @@ fn can_stand(place: usize, alignment: usize, promises: &[(usize, usize)], tries:
     false
 }
 
-/// The least padding for a part of `size` bytes with this alignment, in front of `len` bytes of which these promises were
-/// made; each promise is a pair of a distance from the end and an alignment, in bytes. None where no padding will do.
+/// The least padding for a part of `size` bytes with this alignment, in front of `len` bytes of
+/// which these promises were made; each promise is a pair of a distance from the end and an
+/// alignment, in bytes. None where no padding will do.
 ///
-/// It tries paddings from 0 on, and for each of them finished lengths. The alignments need not be powers of two, but are
-/// above 0; no distance is above `len`; and all numbers are small, since every length up to the product of the alignments
-/// is tried.
+/// It tries paddings from 0 on, and for each of them finished lengths. The alignments need not be
+/// powers of two, but are above 0; no distance is above `len`; and all numbers are small, since
+/// every length up to the product of the alignments is tried.
 pub fn least_padding(
     len: usize,
     promises: &[(usize, usize)],

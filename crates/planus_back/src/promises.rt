@@ -1,8 +1,10 @@
 //! The promises of alignment that the parts placed so far have made.
-ghost use Rattle.std.specs.Prelude.{◌≡◌, ℕ, ◌+◌, ◌*◌, ◌^◌, ◌<◌, ◌≤◌, max, List, [], ◌∷◌, IfOk, IfErr};
+ghost use Rattle.std.specs.Prelude.{◌≡◌, ℕ, ◌+◌, ◌*◌, ◌^◌, ◌<◌, ◌≤◌, max, List, [], ◌∷◌, IfOk};
+ghost use Rattle.std.specs.Prelude.{IfErr};
 ghost use Rattle.planus_back.specs.Promises.{Promise, IsPowerOfTwo, Keep, greatest_alignment};
 ghost use Rattle.planus_back.specs.Padding.{greatest_place, promise_of, IsLeast, IsLeastPadding};
-ghost use Rattle.planus_back.specs.Requests.{LeavesSome, DescribesThose, StandsFor, PassesGreatestPlace};
+ghost use Rattle.planus_back.specs.Requests.{LeavesSome, DescribesThose, DescribesAll};
+ghost use Rattle.planus_back.specs.Requests.{PassesGreatestPlace};
 
 use std::marker::Model;
 
@@ -15,9 +17,10 @@ pub struct TooLarge;
 
 /// The finished lengths at which every part placed so far stands aligned.
 ///
-/// In a flatbuffer each number stands at a multiple of its size from the buffer's start. A writer that works from the
-/// back doesn't know the start yet, so each part that it places is a promise on the finished length. All of them are kept
-/// by exactly the lengths `len + delayed() + k * (mask() + 1)`, where `len` is the number of bytes so far.
+/// In a flatbuffer each number stands at a multiple of its size from the buffer's start. A writer
+/// that works from the back doesn't know the start yet, so each part that it places is a promise on
+/// the finished length. All of them are kept by exactly the lengths `len + delayed() + k * (mask()
+/// + 1)`, where `len` is the number of bytes so far.
 #[derive(Clone, Copy, Debug)]
 pub struct Promises {
     delayed: usize,
@@ -42,7 +45,7 @@ impl Promises {
     pub const fn new() -> Promises
         ensures delayed { result.delayed ≡ 0 }
         ensures mask { result.mask ≡ 0 }
-        ensures stands { StandsFor result 0 [] }
+        ensures described { DescribesAll result 0 [] }
     {
         Promises {
             delayed: 0,
@@ -50,7 +53,8 @@ impl Promises {
         }
     }
 
-    /// How many bytes at least are still to come, in front of those so far, up to a length that keeps every promise.
+    /// How many bytes at least are still to come, in front of those so far, up to a length that
+    /// keeps every promise.
     #[inline]
     pub fn delayed(&self) -> usize
         ensures { result ≡ self.now.delayed }
@@ -64,19 +68,24 @@ impl Promises {
         ensures mask { result ≡ self.now.mask }
         ensures power { IsPowerOfTwo (result + 1) }
         ensures bound { result + 1 ≤ 2 ^ 30 }
-        ensures greatest { (len : ℕ) (promises : List Promise) → StandsFor self.now len promises → greatest_alignment 1 promises ≡ result + 1 }
-        ensures greatest_from { (len least : ℕ) (promises : List Promise) → StandsFor self.now len promises → 1 ≤ least → greatest_alignment least promises ≡ max (result + 1) least }
+        ensures greatest { (len : ℕ) (promises : List Promise) → DescribesAll self.now len promises
+            → greatest_alignment 1 promises ≡ result + 1 }
+        ensures greatest_from { (len least : ℕ) (promises : List Promise)
+            → DescribesAll self.now len promises → 1 ≤ least
+            → greatest_alignment least promises ≡ max (result + 1) least }
     {
         self.mask
     }
 
-    /// The least padding, in bytes, for a part of `size` bytes in front of the `len` bytes so far, such that every promise
-    /// and the part's own alignment `mask + 1` can still be kept; and the promises with that of the part, in front of it.
+    /// The least padding, in bytes, for a part of `size` bytes in front of the `len` bytes so far,
+    /// such that every promise and the part's own alignment `mask + 1` can still be kept; and the
+    /// promises with that of the part, in front of it.
     ///
-    /// `mask + 1` is a power of two up to 2^30, and `len` at most 2147483647. [`TooLarge`] where `len`, the padding and
-    /// `size` together are above 2147483647.
+    /// `mask + 1` is a power of two up to 2^30, and `len` at most 2147483647. [`TooLarge`] where
+    /// `len`, the padding and `size` together are above 2147483647.
     ///
-    /// Where no alignment so far is greater than the part's, the length with the part keeps every promise.
+    /// Where no alignment so far is greater than the part's, the length with the part keeps every
+    /// promise.
     #[inline]
     pub fn request(
         self,
@@ -90,12 +99,21 @@ impl Promises {
         ensures fits { IfOk result (λ r. len + r.1 + size ≤ greatest_place) }
         ensures below { IfOk result (λ r. r.1 ≤ mask) }
         ensures least { IfOk result (λ r. IsLeast (LeavesSome self len size (mask + 1)) r.1) }
-        ensures those { IfOk result (λ r. DescribesThose self len r.0 (len + r.1 + size) (mask + 1)) }
-        ensures least_padding { IfOk result (λ r. (promises : List Promise) → StandsFor self len promises → IsLeastPadding len promises size (mask + 1) r.1) }
-        ensures stands { IfOk result (λ r. (promises : List Promise) → StandsFor self len promises → StandsFor r.0 (len + r.1 + size) (promise_of (len + r.1 + size) (mask + 1) ∷ promises)) }
-        ensures kept { IfOk result (λ r. (promises : List Promise) → StandsFor self len promises → greatest_alignment 1 promises ≤ mask + 1 → Keep (promise_of (len + r.1 + size) (mask + 1) ∷ promises) (len + r.1 + size)) }
-        ensures too_large { IfErr result (λ _. PassesGreatestPlace (IsLeast (LeavesSome self len size (mask + 1))) len size) }
-        ensures too_large_padding { IfErr result (λ _. (promises : List Promise) → StandsFor self len promises → PassesGreatestPlace (IsLeastPadding len promises size (mask + 1)) len size) }
+        ensures those { IfOk result (λ r. DescribesThose self len r.0 (len + r.1 + size)
+            (mask + 1)) }
+        ensures least_padding { IfOk result (λ r. (promises : List Promise)
+            → DescribesAll self len promises → IsLeastPadding len promises size (mask + 1) r.1) }
+        ensures described { IfOk result (λ r. (promises : List Promise) → DescribesAll self len promises
+            → DescribesAll r.0 (len + r.1 + size)
+            (promise_of (len + r.1 + size) (mask + 1) ∷ promises)) }
+        ensures kept { IfOk result (λ r. (promises : List Promise) → DescribesAll self len promises
+            → greatest_alignment 1 promises ≤ mask + 1
+            → Keep (promise_of (len + r.1 + size) (mask + 1) ∷ promises) (len + r.1 + size)) }
+        ensures too_large { IfErr result
+            (λ _. PassesGreatestPlace (IsLeast (LeavesSome self len size (mask + 1))) len size) }
+        ensures too_large_padding { IfErr result (λ _. (promises : List Promise)
+            → DescribesAll self len promises
+            → PassesGreatestPlace (IsLeastPadding len promises size (mask + 1)) len size) }
     {
         let ahead = self.delayed.wrapping_sub(size) & self.mask;
         let padding = ahead & mask;

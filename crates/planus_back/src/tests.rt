@@ -74,7 +74,8 @@ fn plainly(
     least_padding(len, promises, size, alignment)
 }
 
-// The paddings of parts, each a size and an alignment, that follow one another; None where the two programs differ.
+// The paddings of parts, each a size and an alignment, that follow one another; None where the two
+// programs differ.
 fn paddings(alloc: Global, parts: &[(usize, usize)]) -> Result<Option<Vec<usize>>, AllocError> {
     let mut paddings = Vec::with_capacity(alloc, parts.len())?;
     let mut pairs: Vec<(usize, usize)> = Vec::with_capacity(alloc, parts.len())?;

@@ -1,5 +1,6 @@
 -- The script: what the bytes of an input say, line by line.
-use Rattle.std.specs.Prelude.{ℕ, ◌+◌, ◌^◌, ◌==◌, ◌&&◌, nat_le, nat_lt, Bool, true, List, [], ◌∷◌, length, Option, Some, None, Result, Ok, Err, if◌then◌else◌, codes}
+use Rattle.std.specs.Prelude.{ℕ, ◌+◌, ◌^◌, ◌==◌, ◌&&◌, nat_le, nat_lt, Bool, true, List, [], ◌∷◌}
+use Rattle.std.specs.Prelude.{length, Option, Some, None, Result, Ok, Err, if◌then◌else◌, codes}
 use Rattle.std.specs.List.{slice_split, after_first, list_all}
 use Rattle.std.specs.Char.{is_ascii_digit}
 use Rattle.std.specs.Int.{is_in_range}
@@ -7,7 +8,8 @@ use Rattle.std.specs.Str.{is_utf8, bytes_eq}
 use Rattle.std.specs.Str.Parse.{digits_value}
 use Rattle.planus.specs.Steps.{Step, text, finish, clear}
 use Rattle.planus_demo.specs.declared.script.ReadFault.{ReadFault}
-use Rattle.planus_demo.specs.declared.script.ReadFault.TheVariants.{NotUtf8, UnknownCommand, BadNumber, BadIdentifier}
+use Rattle.planus_demo.specs.declared.script.ReadFault.TheVariants.{NotUtf8, UnknownCommand}
+use Rattle.planus_demo.specs.declared.script.ReadFault.TheVariants.{BadNumber, BadIdentifier}
 
 -- the lines of an input, which line feeds separate
 abbrev pub lines_of : List ℕ → List (List ℕ)

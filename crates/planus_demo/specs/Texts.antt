@@ -1,7 +1,8 @@
 -- The texts of faults.
 use Rattle.std.specs.Prelude.{ℕ, List, codes}
 use Rattle.planus_demo.specs.declared.script.ReadFault.{ReadFault}
-use Rattle.planus_demo.specs.declared.script.ReadFault.TheVariants.{NotUtf8, UnknownCommand, BadNumber, BadIdentifier}
+use Rattle.planus_demo.specs.declared.script.ReadFault.TheVariants.{NotUtf8, UnknownCommand}
+use Rattle.planus_demo.specs.declared.script.ReadFault.TheVariants.{BadNumber, BadIdentifier}
 
 -- the words of a fault of reading
 abbrev pub read_fault_text : ReadFault → List ℕ

@@ -1,4 +1,5 @@
-//! Reads a script from standard input, and prints each finished buffer as a line of hexadecimal bytes.
+//! Reads a script from standard input, and prints each finished buffer as a line of hexadecimal
+//! bytes.
 #![tactic(auto)]
 
 mod laws;

@@ -1,5 +1,6 @@
 //! From a reader to a writer.
-ghost use Rattle.std.specs.Prelude.{◌≡◌, ◌+◌, ℕ, List, take, Bool, true, false, IfOk, IfErr, IfSome, OnOk, Result, Ok, Err};
+ghost use Rattle.std.specs.Prelude.{◌≡◌, ◌+◌, ℕ, List, take, Bool, true, false, IfOk, IfErr};
+ghost use Rattle.std.specs.Prelude.{IfSome, OnOk, Result, Ok, Err};
 ghost use Rattle.std.specs.Io.KnownBytes.{Appends, Keeps};
 ghost use Rattle.planus_demo.specs.Printed.{greatest_script};
 ghost use Rattle.planus_demo.specs.Runner.{WritesPrinted, LeavesUnwritten, IsReading, status_of};
@@ -59,8 +60,8 @@ fn write_out<W: Write>(writer: &mut W, bytes: &[u8]) -> std::result::Result<(), 
     }
 }
 
-/// Reads a script, and prints a line of bytes for each of its finishes, or its first fault alone. Answers whether it was
-/// clean.
+/// Reads a script, and prints a line of bytes for each of its finishes, or its first fault alone.
+/// Answers whether it was clean.
 pub fn run<R: Read, W: Write>(
     alloc: Global,
     reader: &mut R,
@@ -75,7 +76,8 @@ pub fn run<R: Read, W: Write>(
     Ok(output.clean)
 }
 
-/// The exit status: 0 for a clean script, 1 after a printed fault, 2 where reading or writing failed.
+/// The exit status: 0 for a clean script, 1 after a printed fault, 2 where reading or writing
+/// failed.
 pub fn status(answer: &std::result::Result<bool, RunError>) -> u8
     ensures { result ≡ status_of answer.now }
 {

@@ -1,11 +1,16 @@
 //! The script: lines of text to steps.
 
-ghost use Rattle.std.specs.Prelude.{◌≡◌, ℕ, ◌+◌, ◌-◌, ◌<◌, ◌≤◌, ◌==◌, List, [], ◌∷◌, length, IsTrue, ◌↔◌, Result, Ok, Err, MatchOption, MatchResult, unwrap_or, OnOk, ◌++◌, map, IfSome};
+ghost use Rattle.std.specs.Prelude.{◌≡◌, ℕ, ◌+◌, ◌-◌, ◌<◌, ◌≤◌, ◌==◌, List, [], ◌∷◌, length};
+ghost use Rattle.std.specs.Prelude.{IsTrue, ◌↔◌, Result, Ok, Err, MatchOption, MatchResult};
+ghost use Rattle.std.specs.Prelude.{unwrap_or, OnOk, ◌++◌, map, IfSome};
 ghost use Rattle.std.specs.List.{slice_split, position, list_all, after_first};
 ghost use Rattle.std.specs.Option.{option_copied};
 ghost use Rattle.std.specs.Char.{is_ascii_digit};
 ghost use Rattle.std.specs.Int.{is_in_range};
-ghost use Rattle.planus_demo.specs.Script.{lines_of, words_of, words_behind, number_of, identifier_of, finish_of, finish_at, identified_at, clear_of, command_of, command_of_words, script_of, is_skipped as is_skipped_lem};
+ghost use Rattle.planus_demo.specs.Script.{lines_of, words_of, words_behind, number_of};
+ghost use Rattle.planus_demo.specs.Script.{identifier_of, finish_of, finish_at, identified_at};
+ghost use Rattle.planus_demo.specs.Script.{clear_of, command_of, command_of_words, script_of};
+ghost use Rattle.planus_demo.specs.Script.{is_skipped as is_skipped_lem};
 ghost use Rattle.planus_demo.specs.Steps.{AnswersCommand, AnswersLine, AnswersScript, read_of};
 ghost use Rattle.planus.specs.Steps.{bare_step};
 

@@ -1,5 +1,8 @@
 -- Texts and finishes that were placed stand.
-use Rattle.std.proofs.Common.{◌≡◌, ℕ, suc, ◌+◌, ◌-◌, ◌<◌, ◌≤◌, ◌^◌, List, [], ◌∷◌, ◌++◌, length, take, drop, replicate, refl, sym, ap, ◌∙◌, subst, arith, Option, Some, None, append_assoc, length-append, Bool, true, false, inl, inr, bytes_eq}
+use Rattle.std.proofs.Common.{◌≡◌, ℕ, suc, ◌+◌, ◌-◌, ◌<◌, ◌≤◌, ◌^◌, List, [], ◌∷◌, ◌++◌, length}
+use Rattle.std.proofs.Common.{take, drop, replicate, refl, sym, ap, ◌∙◌, subst, arith, Option, Some}
+use Rattle.std.proofs.Common.{None, append_assoc, length-append, Bool, true, false, inl, inr}
+use Rattle.std.proofs.Common.{bytes_eq}
 use Rattle.std.specs.Prelude.{nat_le, ◌⊎◌, ◌&&◌, if◌then◌else◌}
 use Rattle.std.proofs.lemmas.Bool.Decides.{nat_tests}
 use Rattle.std.specs.Int.{w32, to_le_bytes, ◌∣◌}
@@ -18,12 +21,17 @@ use Rattle.planus_read.specs.Stands.{Stands, Position, at, at_both}
 use Rattle.planus_read.specs.Moves.{moved}
 use Rattle.planus_read.specs.Aligned.{AlignedAt}
 use Rattle.planus_read.proofs.Moves.{keeps_standing, rest_moves}
-use Rattle.planus_write.specs.Shared.{Kind, texts, byte_lists, vtables, same_kind, Contents, same_contents, Switches, is_on, shared_as, Seen, distance_seen, found, and_seen}
+use Rattle.planus_write.specs.Shared.{Kind, texts, byte_lists, vtables, same_kind, Contents}
+use Rattle.planus_write.specs.Shared.{same_contents, Switches, is_on, shared_as, Seen}
+use Rattle.planus_write.specs.Shared.{distance_seen, found, and_seen}
 use Rattle.planus_write.specs.Past.{Past, Adds, PutsAfter}
 use Rattle.planus_write.specs.State.{Extends}
 use Rattle.planus_write.specs.Laws.{added_extends, extends_itself}
-use Rattle.planus_write.specs.Parts.{text_part, finish_part, identifier_bytes, Named, last_of, named_by, position_with, position_in}
-use Rattle.planus_write.specs.Standing.{TagsReached, IsKept, KindIsKept, SeenIsKept, AllSeenKept, KeptStays, ValuesAreKept, FinishesLead, FinishesAreIdentified}
+use Rattle.planus_write.specs.Parts.{text_part, finish_part, identifier_bytes, Named, last_of}
+use Rattle.planus_write.specs.Parts.{named_by, position_with, position_in}
+use Rattle.planus_write.specs.Standing.{TagsReached, IsKept, KindIsKept, SeenIsKept, AllSeenKept}
+use Rattle.planus_write.specs.Standing.{KeptStays, ValuesAreKept, FinishesLead}
+use Rattle.planus_write.specs.Standing.{FinishesAreIdentified}
 
 -- the place of a part whose bytes are as many as its size is the length with it
 pub length_after : (part : Part) (before after : Written) (placed : Placed part before after) → length (part.bytes_at placed.place) ≡ part.size → length after.bytes ≡ placed.place

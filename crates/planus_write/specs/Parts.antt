@@ -13,21 +13,25 @@ use Rattle.planus_write.specs.Past.{Entry, just}
 -- The format: a text is a vector of bytes with a zero byte behind it that the count leaves out.
 abbrev pub text_part : List ℕ → Part
 text_part bytes =
-    record { size = length bytes + 5; alignment = 4; bytes_at = λ place. to_le_bytes w32 (length bytes) ++ bytes ++ 0 ∷ [] }
+    record { size = length bytes + 5; alignment = 4; bytes_at = λ place. to_le_bytes w32
+        (length bytes) ++ bytes ++ 0 ∷ [] }
 
 -- equal texts may be written once
 abbrev pub text_entry : List ℕ → Entry
 text_entry bytes =
-    record { contents = Some (record { kind = texts; bytes = bytes }); part = λ got promises. text_part bytes }
+    record { contents = Some (record
+        { kind = texts; bytes = bytes }); part = λ got promises. text_part bytes }
 
 -- the bytes of a file identifier, none where there is none
 abbrev pub identifier_bytes : Option (List ℕ) → List ℕ
 identifier_bytes None = []
 identifier_bytes (Some bytes) = bytes
 
--- A finish is one part: the root word, which is the part's place less the root's distance, and behind it the file
--- identifier, if there is one. Its alignment is the greatest of 4 and every alignment that was promised.
--- The format: a buffer begins with a reference to its root; four bytes that identify the file may follow.
+-- A finish is one part: the root word, which is the part's place less the root's distance, and
+-- behind it the file identifier, if there is one. Its alignment is the greatest of 4 and every
+-- alignment that was promised.
+-- The format: a buffer begins with a reference to its root; four bytes that identify the file may
+-- follow.
 abbrev pub finish_part : ℕ → Option (List ℕ) → List Promise → Part
 finish_part root identifier promises = record {
   size = length (identifier_bytes identifier) + 4;
@@ -36,11 +40,13 @@ finish_part root identifier promises = record {
 }
 
 abbrev pub finish_entry : ℕ → Option (List ℕ) → Entry
-finish_entry root identifier = record { contents = None; part = λ got promises. finish_part root identifier promises }
+finish_entry root identifier =
+    record { contents = None; part = λ got promises. finish_part root identifier promises }
 
 -- bytes that a filler leaves at the part's place
 abbrev pub filled_part : ℕ → ℕ → (ℕ → ℕ → List ℕ) → Part
-filled_part size alignment leaves = record { size = size; alignment = alignment; bytes_at = λ place. leaves place size }
+filled_part size alignment leaves =
+    record { size = size; alignment = alignment; bytes_at = λ place. leaves place size }
 
 -- the values that are written so far: texts
 abbrev pub IsWritten : Value → Type 0
@@ -52,7 +58,8 @@ abbrev pub entries_of : Value → List Entry
 entries_of (text bytes) = text_entry bytes ∷ []
 entries_of _ = []
 
--- The distances by which a value is named: its own, or of a union vector that of its references and that of its tags.
+-- The distances by which a value is named: its own, or of a union vector that of its references and
+-- that of its tags.
 pub record Named : Type 0 where
   pub distance : ℕ
   pub tags : Option ℕ

@@ -4,8 +4,8 @@ use Rattle.planus_back.specs.Promises.{Promise}
 use Rattle.planus_back.specs.Parts.{Part, Written, Placed, IsTooLarge}
 use Rattle.planus_write.specs.Shared.{Contents, Switches, Seen, shared_as, found, and_seen}
 
--- The bytes and what was promised of them; the contents that were written to be shared, and where; and the parts
--- and their places, in the order in which they were placed.
+-- The bytes and what was promised of them; the contents that were written to be shared, and where;
+-- and the parts and their places, in the order in which they were placed.
 pub record Past : Type 0 where
   pub written : Written
   pub seen : List Seen
@@ -14,10 +14,11 @@ pub record Past : Type 0 where
 
 -- nothing was written
 abbrev pub no_past : Past
-no_past = record { written = record { bytes = []; promises = [] }; seen = []; parts = []; places = [] }
+no_past = record { written = record { bytes = []; promises = [] }; seen = []; parts = []; places =
+    [] }
 
--- One entry of a write: the contents by which it may be shared, if it may, and its part. That may depend on the
--- distances that the write's entries before it got, and on the promises made before.
+-- One entry of a write: the contents by which it may be shared, if it may, and its part. That may
+-- depend on the distances that the write's entries before it got, and on the promises made before.
 pub record Entry : Type 0 where
   pub contents : Option Contents
   pub part : List ℕ → List Promise → Part
@@ -30,14 +31,16 @@ abbrev pub part_after : Entry → List ℕ → Past → Part
 part_after entry got past = entry.part got past.written.promises
 
 -- The part is placed by least padding, and added to what was written.
-pub record Adds (part : Part) (shared : Option Contents) (before : Past) (distance : ℕ) (after : Past) : Type 0 where
+pub record Adds (part : Part) (shared : Option Contents) (before : Past) (distance : ℕ)
+    (after : Past) : Type 0 where
   pub placed : Placed part before.written after.written
   pub at : distance ≡ placed.place
   pub seen : after.seen ≡ and_seen shared distance before.seen
   pub parts : after.parts ≡ before.parts ++ part ∷ []
   pub places : after.places ≡ before.places ++ distance ∷ []
 
--- The distance is that at which equal contents were found, and nothing is written; or else the part is added.
+-- The distance is that at which equal contents were found, and nothing is written; or else the part
+-- is added.
 abbrev pub PutsAfter : Option ℕ → Part → Option Contents → Past → ℕ → Past → Type 0
 PutsAfter (Some earlier) part shared before distance after = (distance ≡ earlier) × (after ≡ before)
 PutsAfter None part shared before distance after = Adds part shared before distance after
@@ -49,7 +52,8 @@ found_before switches entry past = found past.seen (shared_as switches entry.con
 -- One entry is put down, behind those that got these distances, and gets this distance.
 abbrev pub Puts : Switches → Entry → List ℕ → Past → ℕ → Past → Type 0
 Puts switches entry got before distance after =
-    PutsAfter (found_before switches entry before) (part_after entry got before) (shared_as switches entry.contents)
+    PutsAfter (found_before switches entry before) (part_after entry got before)
+        (shared_as switches entry.contents)
     before distance after
 
 -- The entries are put down one after another, and all get these distances.
@@ -60,7 +64,8 @@ PutsAll switches (entry ∷ entries) got before all after =
     × PutsAll switches entries (got ++ distance ∷ []) between all after
 
 -- the entry isn't found, and its part is too large
-pub record PutsTooLarge (switches : Switches) (entry : Entry) (got : List ℕ) (before : Past) : Type 0 where
+pub record PutsTooLarge (switches : Switches) (entry : Entry) (got : List ℕ)
+    (before : Past) : Type 0 where
   pub is_new : found_before switches entry before ≡ None
   pub too_large : IsTooLarge (part_after entry got before) before.written
 

@@ -1,5 +1,6 @@
 -- How a builder puts down one entry.
-use Rattle.std.specs.Prelude.{◌≡◌, ℕ, ◌+◌, ◌<◌, ◌≤◌, List, [], ◌∷◌, ◌++◌, length, replicate, Option, Some, None, Result, Ok, Err, ⊤, ◌⊎◌}
+use Rattle.std.specs.Prelude.{◌≡◌, ℕ, ◌+◌, ◌<◌, ◌≤◌, List, [], ◌∷◌, ◌++◌, length, replicate, Option}
+use Rattle.std.specs.Prelude.{Some, None, Result, Ok, Err, ⊤, ◌⊎◌}
 use Rattle.planus_back.specs.Descriptions.{Describes}
 use Rattle.planus_back.specs.Promises.{Promise, Keep, greatest_alignment}
 use Rattle.planus_back.specs.Padding.{greatest_place, promise_of, IsLeastPadding}
@@ -14,21 +15,27 @@ use Rattle.planus_write.specs.declared.errors.BuildError.TheVariants.{OutOfMemor
 abbrev pub Outcome : Type 0 → Type 1
 Outcome A = State → Result A BuildError → State → Type 0
 
--- One call, and then another that is handed its answer. A refusal of the first is that of both; where the second is
--- refused, the first is done.
+-- One call, and then another that is handed its answer. A refusal of the first is that of both;
+-- where the second is refused, the first is done.
 abbrev pub then_does : {A B : Type 0} → Outcome A → (A → Outcome B) → Outcome B
-then_does {A} {B} first second old (Ok b) new = (a : A) × (between : State) × first old (Ok a) between × second a between (Ok b) new
+then_does {A} {B} first second old (Ok b) new = (a : A) × (between : State)
+    × first old (Ok a) between × second a between (Ok b) new
 then_does {A} {B} first second old (Err error) new =
-    first old (Err error) new ⊎ ((a : A) × (between : State) × first old (Ok a) between × second a between (Err error) new)
+    first old (Err error) new
+        ⊎ ((a : A) × (between : State) × first old (Ok a) between
+        × second a between (Err error) new)
 
--- The entry was put down, whatever was written before, and got this distance. Where padding and part fit the room,
--- the room falls by their bytes.
-pub record PutsDown (entry : Entry) (got : List ℕ) (old : State) (distance : ℕ) (new : State) : Type 0 where
+-- The entry was put down, whatever was written before, and got this distance. Where padding and
+-- part fit the room, the room falls by their bytes.
+pub record PutsDown (entry : Entry) (got : List ℕ) (old : State) (distance : ℕ)
+    (new : State) : Type 0 where
   pub grows : (front : List ℕ) × (new.bytes ≡ front ++ old.bytes)
   pub reached : distance ≤ length new.bytes
   pub fits : length new.bytes ≤ greatest_place
-  pub puts : (past : Past) → IsPast old past → (after : Past) × Puts old.switches entry got past distance after × IsPast new after
-  pub room : length new.bytes ≤ length old.bytes + old.room → length new.bytes + new.room ≡ length old.bytes + old.room
+  pub puts : (past : Past) → IsPast old past → (after : Past)
+      × Puts old.switches entry got past distance after × IsPast new after
+  pub room : length new.bytes ≤ length old.bytes + old.room
+      → length new.bytes + new.room ≡ length old.bytes + old.room
   pub switches : new.switches ≡ old.switches
 
 -- With the least padding the part isn't too large, but doesn't fit the room.
@@ -38,7 +45,8 @@ pub record WantsMemory (part : Part) (old : State) (promises : List Promise) : T
   pub fits : length old.bytes + padding + part.size ≤ greatest_place
   pub short : old.room < padding + part.size
 
--- Memory was wanted for padding and part; where the part is shared, it may also be the cache that wanted it.
+-- Memory was wanted for padding and part; where the part is shared, it may also be the cache that
+-- wanted it.
 abbrev pub MayWantMemory : Option Contents → Part → State → List Promise → Type 0
 MayWantMemory None part old promises = WantsMemory part old promises
 MayWantMemory (Some contents) part old promises = ⊤
@@ -46,15 +54,19 @@ MayWantMemory (Some contents) part old promises = ⊤
 -- an entry that isn't found wants memory
 pub record RefusedMemory (entry : Entry) (got : List ℕ) (old : State) (past : Past) : Type 0 where
   pub is_new : found_before old.switches entry past ≡ None
-  pub wants : MayWantMemory (shared_as old.switches entry.contents) (part_after entry got past) old past.written.promises
+  pub wants : MayWantMemory (shared_as old.switches entry.contents)
+      (part_after entry got past) old past.written.promises
 
 -- why the entry was refused
 abbrev pub RefusedFor : Entry → List ℕ → State → BuildError → Type 0
-RefusedFor entry got old TooLarge = (past : Past) → IsPast old past → PutsTooLarge old.switches entry got past
-RefusedFor entry got old OutOfMemory = (past : Past) → IsPast old past → RefusedMemory entry got old past
+RefusedFor entry got old TooLarge = (past : Past) → IsPast old past
+    → PutsTooLarge old.switches entry got past
+RefusedFor entry got old OutOfMemory = (past : Past) → IsPast old past
+    → RefusedMemory entry got old past
 
 -- The entry was refused, and nothing changed.
-pub record Refuses (entry : Entry) (got : List ℕ) (old : State) (error : BuildError) (new : State) : Type 0 where
+pub record Refuses (entry : Entry) (got : List ℕ) (old : State) (error : BuildError)
+    (new : State) : Type 0 where
   pub unchanged : new ≡ old
   pub cause : RefusedFor entry got old error
 
@@ -81,8 +93,10 @@ pub record MakesRoom (size alignment : ℕ) (old : State) (place : ℕ) (new : S
   pub bytes : new.bytes ≡ replicate padding 0 ++ old.bytes
   pub size_fits : size ≤ new.room
   pub room : padding + size ≤ old.room → new.room + padding ≡ old.room
-  pub least : (promises : List Promise) → DescribedBy old promises → IsLeastPadding (length old.bytes) promises size alignment padding
-  pub kept : (promises : List Promise) → DescribedBy old promises → greatest_alignment 1 promises ≤ alignment
+  pub least : (promises : List Promise) → DescribedBy old promises
+      → IsLeastPadding (length old.bytes) promises size alignment padding
+  pub kept : (promises : List Promise) → DescribedBy old promises
+      → greatest_alignment 1 promises ≤ alignment
       → Keep (promise_of place alignment ∷ promises) place
   pub described : (promises : List Promise) → DescribedBy old promises
       → Describes place new.delayed new.mask (promise_of place alignment ∷ promises)
@@ -91,12 +105,14 @@ pub record MakesRoom (size alignment : ℕ) (old : State) (place : ℕ) (new : S
 -- why there is no room for a part of that size and alignment
 abbrev pub LacksRoom : ℕ → ℕ → State → BuildError → Type 0
 LacksRoom size alignment old TooLarge = (promises : List Promise) → DescribedBy old promises
-    → (padding : ℕ) × IsLeastPadding (length old.bytes) promises size alignment padding × (greatest_place < length old.bytes + padding + size)
+    → (padding : ℕ) × IsLeastPadding (length old.bytes) promises size alignment padding
+        × (greatest_place < length old.bytes + padding + size)
 LacksRoom size alignment old OutOfMemory = (promises : List Promise) → DescribedBy old promises
     → (padding : ℕ) × IsLeastPadding (length old.bytes) promises size alignment padding
     × (length old.bytes + padding + size ≤ greatest_place) × (old.room < padding + size)
 
--- Room was made for a part of that size and alignment, at the place that is answered, or it was refused.
+-- Room was made for a part of that size and alignment, at the place that is answered, or it was
+-- refused.
 abbrev pub Reserves : ℕ → ℕ → Outcome ℕ
 Reserves size alignment old (Ok place) new = MakesRoom size alignment old place new
 Reserves size alignment old (Err error) new = (new ≡ old) × LacksRoom size alignment old error

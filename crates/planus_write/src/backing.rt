@@ -11,8 +11,8 @@ use std::marker::Model;
 /// One less than the alignment of a count or a reference.
 pub(crate) const WORD_MASK: usize = 3;
 
-/// Bytes that grow at their front, and what was promised of them. While a part is put down, its promise is made before
-/// its bytes are there.
+/// Bytes that grow at their front, and what was promised of them. While a part is put down, its
+/// promise is made before its bytes are there.
 #[derive(Debug, Drop)]
 pub(crate) struct Backing {
     inner: BackVec,
@@ -144,8 +144,10 @@ impl Backing {
     pub(crate) fn finish_mask(&self) -> usize
         ensures power { IsPowerOfTwo (result + 1) }
         ensures bound { result + 1 ≤ 2 ^ 30 }
-        ensures greatest { (promises : List Promise) → DescribedBy self.now promises → greatest_alignment 4 promises ≡ result + 1 }
-        ensures all { (promises : List Promise) → DescribedBy self.now promises → greatest_alignment 1 promises ≤ result + 1 }
+        ensures greatest { (promises : List Promise) → DescribedBy self.now promises
+            → greatest_alignment 4 promises ≡ result + 1 }
+        ensures all { (promises : List Promise) → DescribedBy self.now promises
+            → greatest_alignment 1 promises ≤ result + 1 }
     {
         self.promises.mask().max(WORD_MASK)
     }

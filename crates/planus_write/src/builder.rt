@@ -49,7 +49,8 @@ impl Builder {
         Builder::with_capacity(alloc, 0)
     }
 
-    /// An empty builder with room for `capacity` bytes; [`BuildError::OutOfMemory`] where memory is refused.
+    /// An empty builder with room for `capacity` bytes; [`BuildError::OutOfMemory`] where memory is
+    /// refused.
     pub fn with_capacity(alloc: Global, capacity: usize) -> std::result::Result<Builder, BuildError>
         ensures past { IfOk result (λ builder. IsPast builder no_past) }
         ensures room { IfOk result (λ builder. capacity ≤ builder.room) }
@@ -100,8 +101,8 @@ impl Builder {
         Offset::at(self.backing.len() as u32)
     }
 
-    /// Says, to a caller who was handed a builder, that something may have been written: clauses that speak of every past
-    /// of a builder speak of one. It does nothing.
+    /// Says, to a caller who was handed a builder, that something may have been written: clauses
+    /// that speak of every past of a builder speak of one. It does nothing.
     #[inline]
     pub fn has_a_past(&self)
         ensures { (past : Past) × IsPast self.now past }
@@ -109,7 +110,8 @@ impl Builder {
         let _backing = &self.backing;
     }
 
-    /// Takes all bytes and promises away. The memory is kept, so that there is room for as many bytes more.
+    /// Takes all bytes and promises away. The memory is kept, so that there is room for as many
+    /// bytes more.
     pub fn clear(&mut self)
         ensures past { IsPast self.new no_past }
         ensures room { self.new.room ≡ length self.old.bytes + self.old.room }
@@ -130,14 +132,17 @@ impl Builder {
         Ok(Offset::at(place))
     }
 
-    /// Writes a part of `size` bytes, aligned to `alignment_mask + 1`, whose bytes the filler writes over zeros. It is
-    /// handed the part's place: the distance in bytes from the end of the buffer to the part's first byte.
+    /// Writes a part of `size` bytes, aligned to `alignment_mask + 1`, whose bytes the filler
+    /// writes over zeros. It is handed the part's place: the distance in bytes from the end of the
+    /// buffer to the part's first byte.
     ///
-    /// The filler may be called with `size` bytes at every place from `len() + size` to `len() + size + alignment_mask`
-    /// that is at most 2147483647, and `alignment_mask + 1` is a power of two up to 2^30.
+    /// The filler may be called with `size` bytes at every place from `len() + size` to `len() +
+    /// size + alignment_mask` that is at most 2147483647, and `alignment_mask + 1` is a power of
+    /// two up to 2^30.
     ///
-    /// [`BuildError::TooLarge`] where the part would begin more than 2147483647 bytes from the end, before memory is asked for;
-    /// [`BuildError::OutOfMemory`] where padding and part don't fit [`Builder::room`] and memory is refused. Nothing is changed then.
+    /// [`BuildError::TooLarge`] where the part would begin more than 2147483647 bytes from the end,
+    /// before memory is asked for; [`BuildError::OutOfMemory`] where padding and part don't fit
+    /// [`Builder::room`] and memory is refused. Nothing is changed then.
     pub fn write_with<F: Fill>(
         &mut self,
         size: usize,
@@ -146,19 +151,24 @@ impl Builder {
     ) -> std::result::Result<(), BuildError>
         requires power { IsPowerOfTwo (alignment_mask + 1) }
         requires bound { alignment_mask + 1 ≤ 2 ^ 30 }
-        requires fits { (place : ℕ) → length self.old.bytes + size ≤ place → place ≤ length self.old.bytes + size + alignment_mask → place ≤ greatest_place → F.fits filler.now place size }
-        ensures { WritesPart (just (filled_part size (alignment_mask + 1) (F.leaves filler.now))) self.old result self.new }
+        requires fits { (place : ℕ) → length self.old.bytes + size ≤ place
+            → place ≤ length self.old.bytes + size + alignment_mask → place ≤ greatest_place
+            → F.fits filler.now place size }
+        ensures { WritesPart (just (filled_part size (alignment_mask + 1)
+            (F.leaves filler.now))) self.old result self.new }
     {
         let place = self.backing.make_room(size, alignment_mask)?;
         self.backing.put_filled(place, size, filler);
         Ok(())
     }
 
-    /// Writes a text: one part of a count of 4 bytes, its bytes and a zero byte, aligned to 4 bytes. Answers its offset. Nothing
-    /// is written for an offset; it must be one that this builder answered since the last clear.
+    /// Writes a text: one part of a count of 4 bytes, its bytes and a zero byte, aligned to 4
+    /// bytes. Answers its offset. Nothing is written for an offset; it must be one that this
+    /// builder answered since the last clear.
     ///
-    /// [`BuildError::TooLarge`] where the part's place would be above 2147483647 bytes from the end; [`BuildError::OutOfMemory`]
-    /// where it doesn't fit [`Builder::room`] and memory is refused. Then nothing is changed.
+    /// [`BuildError::TooLarge`] where the part's place would be above 2147483647 bytes from the
+    /// end; [`BuildError::OutOfMemory`] where it doesn't fit [`Builder::room`] and memory is
+    /// refused. Then nothing is changed.
     pub fn create_string<X: WriteAsOffset<Text> + Drop>(
         &mut self,
         value: X,
@@ -169,22 +179,26 @@ impl Builder {
         value.prepare(self)
     }
 
-    /// Prepares the root, and puts in front of everything its reference, and behind that the file identifier, if there is
-    /// one. The length is then such that every part since the last clear stands aligned. Answers all bytes. An offset as the
-    /// root must be one that this builder answered since the last clear.
+    /// Prepares the root, and puts in front of everything its reference, and behind that the file
+    /// identifier, if there is one. The length is then such that every part since the last clear
+    /// stands aligned. Answers all bytes. An offset as the root must be one that this builder
+    /// answered since the last clear.
     ///
     /// Writing may go on afterwards, and finish again.
     ///
-    /// [`BuildError::TooLarge`] and [`BuildError::OutOfMemory`] as in [`Builder::write_with`]. A root that was written for this call
-    /// stays then; the reference and the identifier leave nothing behind.
+    /// [`BuildError::TooLarge`] and [`BuildError::OutOfMemory`] as in [`Builder::write_with`]. A
+    /// root that was written for this call stays then; the reference and the identifier leave
+    /// nothing behind.
     pub fn finish<T, X: WriteAsOffset<T> + Drop>(
         &mut self,
         root: X,
         identifier: Option<[u8; 4]>,
     ) -> std::result::Result<&[u8], BuildError>
         requires { X.may root self.old }
-        ensures bytes { IfOk result (λ bytes. FinishGives (X.outcome root) identifier self.old bytes.now) }
-        ensures* after { sem 𝓛 (EndsAs self.entry (FinishLeaves (X.outcome root) identifier self.old result)) }
+        ensures bytes { IfOk result (λ bytes. FinishGives
+            (X.outcome root) identifier self.old bytes.now) }
+        ensures* after { sem 𝓛 (EndsAs self.entry
+            (FinishLeaves (X.outcome root) identifier self.old result)) }
     {
         let root = root.prepare(self)?;
         self.write_root(root.distance(), identifier)?;

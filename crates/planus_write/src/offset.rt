@@ -6,7 +6,8 @@ use std::marker::PhantomData;
 /// The kind of an offset to a text.
 pub struct Text;
 
-/// A value of kind `T` that a builder has written, by its distance in bytes from the end of the buffer to its first byte.
+/// A value of kind `T` that a builder has written, by its distance in bytes from the end of the
+/// buffer to its first byte.
 pub struct Offset<T> {
     distance: u32,
     of: PhantomData<T>,
@@ -39,7 +40,8 @@ impl<T> Offset<T> {
         }
     }
 
-    /// The distance in bytes from the end of the buffer to the value's first byte; the last byte of a buffer has distance 1.
+    /// The distance in bytes from the end of the buffer to the value's first byte; the last byte of
+    /// a buffer has distance 1.
     #[inline]
     pub fn distance(&self) -> u32
         ensures { result ≡ self.now.distance }

@@ -354,7 +354,8 @@ fn write_parts(
     Ok(parts)
 }
 
-// Writes parts of the same sizes and alignments. Tells whether each filler was called at the length with its part.
+// Writes parts of the same sizes and alignments. Tells whether each filler was called at the length
+// with its part.
 fn fillers_know_their_places(alloc: Global, numbers: &mut Numbers) -> Result<bool, Fail> {
     let mut builder = Builder::new(alloc)?;
     for _ in 1..50 {

@@ -2,8 +2,8 @@ use Rattle.std.proofs.Common.{arith}
 use Rattle.planus_back.proofs.promises.Promises.new.Goals as goal
 
 -- with no promise every length is kept
-pub returns-clause-stands : goal.returns-clause-stands
-returns-clause-stands c = record {
+pub returns-clause-described : goal.returns-clause-described
+returns-clause-described c = record {
   powers = tt;
   reached = tt;
   kept = λ finished from. (λ _. (finished, omega arith), λ _. tt);

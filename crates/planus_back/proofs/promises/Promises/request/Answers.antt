@@ -16,8 +16,8 @@ returns-clause-those c = rw (← c.self.view_is, c.max.ensures) ((granted c).tho
 pub returns-clause-least_padding : goal.returns-clause-least_padding
 returns-clause-least_padding c = rw (← c.self.view_is) ((granted c).least_padding)
 
-pub returns-clause-stands : goal.returns-clause-stands
-returns-clause-stands c = rw (← c.self.view_is, c.max.ensures) ((granted c).stands)
+pub returns-clause-described : goal.returns-clause-described
+returns-clause-described c = rw (← c.self.view_is, c.max.ensures) ((granted c).described)
 
 pub returns-clause-kept : goal.returns-clause-kept
 returns-clause-kept c =
