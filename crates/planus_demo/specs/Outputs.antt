@@ -4,7 +4,7 @@ use Rattle.std.specs.declared.alloc.Global.{Global}
 use Rattle.std.specs.String.{string_bytes}
 use Rattle.planus.specs.Runs.{Finish}
 use Rattle.planus_demo.specs.Printed.{PrintsAnswer, PrintsOutOfMemory}
-use Rattle.planus_demo.specs.declared.print.Output.{Output}
+use Rattle.planus_demo.specs.declared.output.Output.{Output}
 use Rattle.planus.specs.declared.finishes.Finished.{Finished}
 use Rattle.planus.specs.declared.faults.ReplayError.{ReplayError}
 use Rattle.planus.specs.declared.faults.ReplayError.TheVariants.{OutOfMemory, TooLarge, BadStep}

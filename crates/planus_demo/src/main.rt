@@ -3,6 +3,7 @@
 #![tactic(auto)]
 
 mod laws;
+mod output;
 mod print;
 mod run;
 mod script;

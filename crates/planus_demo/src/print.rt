@@ -5,24 +5,11 @@ ghost use Rattle.std.specs.List.{join_with_byte, flat_map};
 ghost use Rattle.std.specs.Char.{digit_char};
 ghost use Rattle.std.specs.String.{string_bytes};
 ghost use Rattle.planus.specs.Replays.{finish_given, given_by};
-ghost use Rattle.planus_demo.specs.Printed.{hex_of, hex_line, PrintedOrOutOfMemory};
-ghost use Rattle.planus_demo.specs.Outputs.{is_clean, printed_text, NamesStep, PrintsAnswerOr};
+ghost use Rattle.planus_demo.specs.Printed.{hex_of, hex_line};
+ghost use Rattle.planus_demo.specs.Outputs.{NamesStep, PrintsAnswerOr};
 
-use planus::{Finished, ReplayError, replay};
-use crate::script::{ParseError, parse};
+use planus::{Finished, ReplayError};
 use std::alloc::{AllocError, Global};
-
-/// No script is longer, in bytes.
-pub const GREATEST_SCRIPT: usize = 1048576;
-
-/// What is printed, and whether the script is clean.
-#[derive(Debug, Drop)]
-pub struct Output {
-    /// Whether the script is without a fault, and all of it was done.
-    pub clean: bool,
-    /// The lines that are printed.
-    pub text: String,
-}
 
 fn push_hex(text: &mut String, byte: u8) -> std::result::Result<(), AllocError>
     ensures { OnOk result (string_bytes text.new ≡ string_bytes text.old ++ hex_of byte) }
@@ -70,7 +57,7 @@ fn finished_text(alloc: Global, finished: &[Finished]) -> std::result::Result<St
 }
 
 /// What is printed of a replay's answer. The steps stand on the lines of these numbers.
-fn answer_text(
+pub fn answer_text(
     alloc: Global,
     numbers: &[usize],
     answer: &std::result::Result<Vec<Finished>, ReplayError>,
@@ -85,31 +72,6 @@ fn answer_text(
         Err(ReplayError::BadStep { step, why }) => {
             let number = numbers[*step];
             format!(in alloc; "line {number}: {why}\n")
-        }
-    }
-}
-
-/// What is printed of an input.
-pub fn output_of(alloc: Global, input: &[u8]) -> std::result::Result<Output, AllocError>
-    ensures { IfOk result (λ output. PrintedOrOutOfMemory input.now (is_clean output) (printed_text output)) }
-{
-    if input.len() > GREATEST_SCRIPT {
-        let text = format!(in alloc; "script too long\n")?;
-        return Ok(Output { clean: false, text });
-    }
-    match parse(alloc, input) {
-        Err(ParseError::OutOfMemory) => Err(AllocError),
-        Err(ParseError::Line { number, fault }) => {
-            let text = format!(in alloc; "line {number}: {fault}\n")?;
-            Ok(Output { clean: false, text })
-        }
-        Ok(script) => {
-            let answer = replay(alloc, script.steps.as_slice());
-            let text = answer_text(alloc, script.numbers.as_slice(), &answer)?;
-            Ok(Output {
-                clean: answer.is_ok(),
-                text,
-            })
         }
     }
 }

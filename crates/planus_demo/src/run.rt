@@ -2,13 +2,20 @@
 ghost use Rattle.std.specs.Prelude.{◌≡◌, ◌+◌, ℕ, List, take, Bool, true, false, IfOk, IfErr};
 ghost use Rattle.std.specs.Prelude.{IfSome, OnOk, Result, Ok, Err};
 ghost use Rattle.std.specs.Io.KnownBytes.{Appends, Keeps};
-ghost use Rattle.planus_demo.specs.Printed.{greatest_script};
+ghost use Rattle.planus_demo.specs.Printed.{greatest_script, PrintedOrOutOfMemory};
+ghost use Rattle.planus_demo.specs.Outputs.{is_clean, printed_text};
 ghost use Rattle.planus_demo.specs.Runner.{WritesPrinted, LeavesUnwritten, IsReading, status_of};
 
-use crate::print::{GREATEST_SCRIPT, output_of};
+use crate::output::Output;
+use crate::print::answer_text;
+use crate::script::{ParseError, parse};
+use planus::replay;
 use std::alloc::{AllocError, Global};
 use std::io;
 use std::io::{ErrorKind, Read, Write};
+
+/// No script is longer, in bytes.
+pub const GREATEST_SCRIPT: usize = 1048576;
 
 /// Why a run failed.
 #[derive(Clone, Copy, Debug, PartialEq, Eq)]
@@ -43,6 +50,31 @@ fn read_script<R: Read>(alloc: Global, reader: &mut R) -> std::result::Result<Ve
         Ok(_) => Ok(input),
         Err(error) if error.kind() == ErrorKind::OutOfMemory => Err(RunError::OutOfMemory),
         Err(_) => Err(RunError::Read),
+    }
+}
+
+/// What is printed of an input: it is parsed, and its steps are replayed.
+fn output_of(alloc: Global, input: &[u8]) -> std::result::Result<Output, AllocError>
+    ensures { IfOk result (λ output. PrintedOrOutOfMemory input.now (is_clean output) (printed_text output)) }
+{
+    if input.len() > GREATEST_SCRIPT {
+        let text = format!(in alloc; "script too long\n")?;
+        return Ok(Output { clean: false, text });
+    }
+    match parse(alloc, input) {
+        Err(ParseError::OutOfMemory) => Err(AllocError),
+        Err(ParseError::Line { number, fault }) => {
+            let text = format!(in alloc; "line {number}: {fault}\n")?;
+            Ok(Output { clean: false, text })
+        }
+        Ok(script) => {
+            let answer = replay(alloc, script.steps.as_slice());
+            let text = answer_text(alloc, script.numbers.as_slice(), &answer)?;
+            Ok(Output {
+                clean: answer.is_ok(),
+                text,
+            })
+        }
     }
 }
 

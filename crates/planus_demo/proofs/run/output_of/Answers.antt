@@ -1,5 +1,5 @@
 use Rattle.planus_demo.proofs.Named.{names_step}
-use Rattle.planus_demo.proofs.print.output_of.Goals as goal
+use Rattle.planus_demo.proofs.run.output_of.Goals as goal
 
 pub answer_text-requires : goal.answer_text-requires
 answer_text-requires c =
