@@ -2,11 +2,9 @@
 
 ghost use Rattle.std.specs.Prelude.{◌≡◌, length};
 
-use planus_back::Fill;
-use planus_read::SliceWithStartOffset;
-use planus_read::errors::Error;
-use planus_read::table_reader::Table;
-use planus_write::{BuildError, Builder};
+use planus::errors::Error;
+use planus::table_reader::Table;
+use planus::{BuildError, Builder, Fill, SliceWithStartOffset};
 use std::alloc::{AllocError, Global};
 
 /// The number of operations in a round.
