@@ -8,6 +8,8 @@ pub mod laws;
 mod progress;
 mod run;
 mod steps;
+#[cfg(test)]
+mod tests;
 mod version;
 
 pub use faults::{ReplayError, Why};
