@@ -1,4 +1,4 @@
-//! Tests of the readers in large numbers, against a plain, slow reader.
+//! Tests in large numbers, against plain, slow programs, and tests with refused memory.
 #![tactic(auto)]
 
 #[cfg(test)]

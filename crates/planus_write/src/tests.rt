@@ -189,6 +189,32 @@ fn texts(rt: HostRuntime) -> Result<(), Fail> {
     Ok(())
 }
 
+// A text of `count` letters, one after another.
+fn letters(alloc: Global, count: usize) -> Result<String, AllocError> {
+    let mut text = String::with_capacity(alloc, count)?;
+    for index in 0..count {
+        text.push(char::from(b'a' + (index % 26) as u8))?;
+    }
+    Ok(text)
+}
+
+#[test]
+fn a_text_of_one_mebibyte(rt: HostRuntime) -> Result<(), Fail> {
+    let alloc = rt.alloc();
+    let text = letters(alloc, 1048576)?;
+    let mut want: Vec<u8> = Vec::new(alloc);
+    want.extend_from_slice(b"\x0c\0\0\0\x02\0\0\0Hi\0\0\0\0\x10\0")?;
+    want.extend_from_slice(text.as_bytes())?;
+    want.push(0)?;
+    let mut builder = Builder::new(alloc)?;
+    let root = builder.create_string(text.as_str())?;
+    builder.create_string("Hi")?;
+    let bytes = finish_with(&mut builder, root, None)?;
+    assert_eq!(rt; bytes.len(), 1048593);
+    assert!(rt; bytes == want.as_slice(), "the bytes");
+    Ok(())
+}
+
 #[test]
 fn a_text_twice(rt: HostRuntime) -> Result<(), Fail> {
     let mut builder = Builder::new(rt.alloc())?;
@@ -214,7 +240,7 @@ fn each_call(rt: HostRuntime) -> Result<(), Fail> {
     let text = format!(in rt.alloc(); "{builder:?}")?;
     assert!(rt;
         text.as_str()
-            .starts_with("Builder { inner: [7, 7, 7, 7, 7]"),
+            .starts_with("Builder { backing: Backing { inner: [7, 7, 7, 7, 7]"),
         "{text}"
     );
     assert_eq!(rt;
@@ -253,45 +279,6 @@ fn too_large(rt: HostRuntime) -> Result<(), Fail> {
     assert_eq!(rt; refused, Err(BuildError::TooLarge));
     assert_eq!(rt; (builder.len(), builder.room()), (22, 42));
     assert_eq!(rt; finish_last(&mut builder)?, FOUR_WRITES);
-    Ok(())
-}
-
-// Takes blocks until not even one byte is to be had.
-fn exhaust(alloc: Global, held: &mut Vec<Vec<u8>>) {
-    let mut size: usize = 1 << 40;
-    for _ in 0..41 {
-        for _ in 0..70000 {
-            let block: Vec<u8> = match Vec::with_capacity(alloc, size) {
-                Ok(block) => block,
-                Err(_) => break,
-            };
-            if held.push(block).is_err() {
-                return;
-            }
-        }
-        size = size / 2;
-    }
-}
-
-#[test]
-fn refused_memory(rt: HostRuntime) -> Result<(), Fail> {
-    let alloc = rt.alloc();
-    let text = "more bytes than are left of a room of 64";
-    let mut held: Vec<Vec<u8>> = Vec::with_capacity(alloc, 262144)?;
-    let mut builder = Builder::with_capacity(alloc, 64)?;
-    exhaust(alloc, &mut held);
-    let made = Builder::new(alloc).is_ok();
-    let written = put_four(&mut builder);
-    let finished = finish_last(&mut builder).is_ok();
-    let refused = builder.create_string(text).map(|_| ());
-    let room = builder.room();
-    drop(held);
-    assert!(rt; !made);
-    assert_eq!(rt; (written, finished), (Ok(()), true));
-    assert_eq!(rt; refused, Err(BuildError::OutOfMemory));
-    assert_eq!(rt; builder.as_slice(), FOUR_WRITES);
-    assert_eq!(rt; room, 37);
-    assert_eq!(rt; builder.create_string(text)?.distance(), 75);
     Ok(())
 }
 

@@ -1,4 +1,8 @@
+mod exhaust;
+mod no_memory;
 mod plain_reader;
+mod plain_run;
+mod runs;
 
 use plain_reader::{FAR_SLOTS, SLOTS, fields_agree, numbers_agree};
 

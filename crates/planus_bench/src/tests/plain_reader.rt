@@ -190,7 +190,7 @@ impl<'a> PlainTable<'a> {
 }
 
 // Whether two errors are of one kind, of those that the tests expect.
-fn same_kind(read: ErrorKind, plain: ErrorKind) -> bool {
+pub fn same_kind(read: ErrorKind, plain: ErrorKind) -> bool {
     match (read, plain) {
         (ErrorKind::InvalidOffset, ErrorKind::InvalidOffset)
         | (ErrorKind::InvalidLength, ErrorKind::InvalidLength)
@@ -275,9 +275,9 @@ fn position(place: Place<'_>) -> usize {
 
 // The two places of a vector of unions.
 #[derive(Clone, Copy)]
-struct Pair<'buf> {
-    tags: Place<'buf>,
-    values: Place<'buf>,
+pub struct Pair<'buf> {
+    pub tags: Place<'buf>,
+    pub values: Place<'buf>,
 }
 
 impl<'buf> TableReadUnionVector<'buf> for Pair<'buf> {

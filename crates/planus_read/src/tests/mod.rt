@@ -1,5 +1,4 @@
 mod errors;
-mod memory;
 mod rows;
 mod traits;
 

@@ -69,7 +69,7 @@ fn same_kind(read: ErrorKind, plain: ErrorKind) -> bool {
     }
 }
 
-pub fn fails_with<T: Drop>(answer: crate::Result<T>, kind: ErrorKind) -> bool {
+fn fails_with<T: Drop>(answer: crate::Result<T>, kind: ErrorKind) -> bool {
     match answer {
         Ok(_) => false,
         Err(e) => same_kind(e.error_kind, kind),

@@ -11,7 +11,7 @@ use crate::{
 };
 use std::test::Fail;
 
-pub const BYTES: [u8; 16] = [
+const BYTES: [u8; 16] = [
     0xff, 0xfe, 0xfd, 0xfc, 0xfb, 0xfa, 0xf9, 0xf8, 1, 0, 2, 0, 3, 0, 0, 0,
 ];
 
@@ -20,7 +20,7 @@ pub fn field<'buf, T: TableRead<'buf>>(bytes: &'buf [u8], offset: usize) -> Resu
 }
 
 // The item at an offset, where all of it is there.
-pub fn item<'buf, T: VectorRead<'buf>>(bytes: &'buf [u8], offset: usize) -> Option<T> {
+fn item<'buf, T: VectorRead<'buf>>(bytes: &'buf [u8], offset: usize) -> Option<T> {
     let stride = T::stride();
     if offset > bytes.len() || bytes.len() - offset < stride {
         return None;
@@ -28,7 +28,7 @@ pub fn item<'buf, T: VectorRead<'buf>>(bytes: &'buf [u8], offset: usize) -> Opti
     Some(T::from_buffer(SliceWithStartOffset::new(bytes, 0), offset))
 }
 
-pub fn inner_item<'buf, T: VectorReadInner<'buf>>(
+fn inner_item<'buf, T: VectorReadInner<'buf>>(
     bytes: &'buf [u8],
     offset: usize,
 ) -> Option<Result<T, T::Error>> {
@@ -56,7 +56,7 @@ fn union_vector_field<'buf, T: TableReadUnionVector<'buf>>(
 }
 
 // The union item at an offset of bytes that start at 1000.
-pub fn union_item<'buf, 'n, T: VectorReadUnion<'buf>>(
+fn union_item<'buf, 'n, T: VectorReadUnion<'buf>>(
     bytes: &'buf [u8],
     tag: u8,
     offset: usize,
@@ -106,7 +106,7 @@ fn numbers_are_items(rt: HostRuntime) {
 }
 
 // A reference to the text `Hi` at 0, and one to damage at 4.
-pub const TEXTS: [u8; 16] = [8, 0, 0, 0, 99, 0, 0, 0, 2, 0, 0, 0, 72, 105, 0, 0];
+const TEXTS: [u8; 16] = [8, 0, 0, 0, 99, 0, 0, 0, 2, 0, 0, 0, 72, 105, 0, 0];
 
 #[test]
 fn texts_and_byte_lists(rt: HostRuntime) -> Result<(), Fail> {
@@ -158,7 +158,7 @@ fn places_are_read_later(rt: HostRuntime) -> Result<(), Fail> {
 
 // A union with one variant, a text of tag 1.
 #[derive(Clone, Copy)]
-pub struct OneText<'a>(pub &'a str);
+struct OneText<'a>(&'a str);
 
 impl<'buf> TableReadUnion<'buf> for OneText<'buf> {
     ghost use Rattle.std.specs.Prelude.{⊤};

@@ -1,0 +1,103 @@
+//! A long run of steps, against the plain run.
+
+use super::plain_run::plain_run;
+use planus::{Step, replay};
+use std::alloc::{AllocError, Global};
+use std::test::Fail;
+
+// Numbers that look random, and are the same each time.
+#[derive(Drop)]
+struct Numbers {
+    last: u32,
+}
+
+impl Numbers {
+    fn draw(&mut self) -> usize {
+        self.last = self.last.wrapping_mul(1664525).wrapping_add(1013904223);
+        (self.last / 65536) as usize
+    }
+}
+
+// A text of `count` letters.
+fn text(alloc: Global, count: usize) -> Result<Step, AllocError> {
+    let mut text = String::new(alloc);
+    for index in 0..count {
+        text.push(char::from(b'a' + (index % 26) as u8))?;
+    }
+    Ok(Step::Text(text))
+}
+
+// One of these numbers.
+fn one_of(numbers: &[usize], draw: usize) -> Option<usize> {
+    let index = draw.checked_rem(numbers.len())?;
+    numbers.get(index).copied()
+}
+
+// Texts of mixed lengths, finishes with and without an identifier, and a clear now and then.
+fn mixed_steps(alloc: Global, count: usize) -> Result<Vec<Step>, Fail> {
+    let mut numbers = Numbers { last: 1 };
+    let mut steps = Vec::new(alloc);
+    let mut texts = Vec::new(alloc);
+    for number in 0..count {
+        let kind = numbers.draw() % 32;
+        let root = one_of(texts.as_slice(), numbers.draw());
+        match (kind, root) {
+            (0, _) => {
+                texts.clear();
+                steps.push(Step::Clear)?;
+            }
+            (1..=6, Some(root)) => steps.push(Step::Finish { root, id: None })?,
+            (7..=12, Some(root)) => {
+                let id = Some(*b"TEST");
+                steps.push(Step::Finish { root, id })?;
+            }
+            (13, _) => {
+                texts.push(number)?;
+                steps.push(text(alloc, numbers.draw() % 20000)?)?;
+            }
+            _ => {
+                texts.push(number)?;
+                steps.push(text(alloc, numbers.draw() % 50)?)?;
+            }
+        }
+    }
+    Ok(steps)
+}
+
+// The numbers of clears, of finishes without an identifier, and of those with one.
+fn counts(steps: &[Step]) -> (usize, usize, usize) {
+    let mut counts: (usize, usize, usize) = (0, 0, 0);
+    for step in steps {
+        match step {
+            Step::Text(_) => {}
+            Step::Clear => counts.0 = counts.0.wrapping_add(1),
+            Step::Finish { id: None, .. } => counts.1 = counts.1.wrapping_add(1),
+            Step::Finish { id: Some(_), .. } => counts.2 = counts.2.wrapping_add(1),
+        }
+    }
+    counts
+}
+
+#[test]
+fn three_hundred_steps(rt: HostRuntime) -> Result<(), Fail> {
+    let alloc = rt.alloc();
+    let steps = mixed_steps(alloc, 300)?;
+    let clears_and_finishes = counts(steps.as_slice());
+    assert_eq!(rt; steps.len(), 300);
+    assert_eq!(rt; clears_and_finishes, (14, 65, 50));
+    let want = plain_run(alloc, steps.as_slice())?;
+    let got = replay(alloc, steps.as_slice()).expect(&rt, "a clean run");
+    assert_eq!(rt; got.len(), want.len());
+    for (number, (got, want)) in got.iter().zip(want.iter()).enumerate() {
+        assert!(rt;
+            got.bytes.as_slice() == want.bytes.as_slice(),
+            "the bytes of finish {number}"
+        );
+        assert_eq!(rt;
+            got.places.as_slice(),
+            want.places.as_slice(),
+            "finish {number}"
+        );
+    }
+    Ok(())
+}
