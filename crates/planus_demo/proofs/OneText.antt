@@ -1,6 +1,6 @@
 -- Of each input one text is printed.
-use Rattle.std.proofs.Common.{◌≡◌, ℕ, ◌++◌, List, [], refl, sym, ap, ◌∙◌, subst, Option, Some, None, Result, Ok, Err, Bool, true, false, inl, inr}
-use Rattle.std.specs.Prelude.{slice_get, nat_lt, length, codes, ◌⊎◌}
+use Rattle.std.proofs.Common.{◌≡◌, ℕ, List, sym, ap, ◌∙◌, subst, Option, Some, Result, Ok, Err, Bool, true, false, inl, inr}
+use Rattle.std.specs.Prelude.{slice_get, nat_lt, length, codes}
 use Rattle.std.specs.Bool.{MatchBool}
 use Rattle.planus.specs.Runs.{Finish, nothing_shared}
 use Rattle.planus.specs.Replays.{WantsMemory}
@@ -9,7 +9,7 @@ use Rattle.planus.specs.declared.faults.ReplayError.{ReplayError}
 use Rattle.planus.specs.declared.faults.ReplayError.TheVariants.{OutOfMemory, TooLarge, BadStep}
 use Rattle.planus.proofs.OneAnswer.{answers_are_one}
 use Rattle.planus_demo.specs.Script.{Read, script_of}
-use Rattle.planus_demo.specs.Printed.{Printed, PrintsRead, PrintsAnswer, PrintedIsOne, greatest_script, line_of, fault_line}
+use Rattle.planus_demo.specs.Printed.{PrintsRead, PrintsAnswer, PrintedIsOne, greatest_script, line_of, fault_line}
 use Rattle.planus_demo.specs.declared.script.ReadFault.{ReadFault}
 
 same_number : (o : Option ℕ) (n m : ℕ) → o ≡ Some n → o ≡ Some m → n ≡ m

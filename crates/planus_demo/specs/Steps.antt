@@ -1,6 +1,5 @@
 -- The steps of the program, as the definitions see them, and what its readers of lines answer.
 use Rattle.std.specs.Prelude.{◌≡◌, ℕ, map, Result, Ok, Err, ⊤}
-use Rattle.std.specs.String.{string_bytes}
 use Rattle.planus.specs.Steps.{Step, bare_step}
 use Rattle.planus_demo.specs.Script.{Read}
 use Rattle.planus.specs.declared.steps.Step as code
