@@ -1,5 +1,5 @@
 -- What every run keeps, by the definitions alone.
-use Rattle.std.proofs.Common.{◌≡◌, ℕ, ◌+◌, ◌-◌, ◌≤◌, List, [], ◌∷◌, ◌++◌, length, take, replicate}
+use Rattle.std.proofs.Common.{◌≡◌, ℕ, ◌+◌, ◌≤◌, List, [], ◌∷◌, ◌++◌, length, take}
 use Rattle.std.proofs.Common.{refl, sym, ap, ◌∙◌, subst, arith, Option, Some, None, append_assoc}
 use Rattle.std.proofs.Common.{append-nil, length-append, max, inl, inr, lit≤, false}
 use Rattle.std.specs.Prelude.{slice_get}
@@ -21,7 +21,7 @@ use Rattle.planus_read.proofs.ReadsBack.{what_stands_reads_back}
 use Rattle.planus_write.specs.Shared.{Contents, Switches, shared_as}
 use Rattle.planus_write.specs.Past.{Past, Entry, Adds, PutsAfter, PutsAll, part_after, found_before}
 use Rattle.planus_write.specs.State.{Extends}
-use Rattle.planus_write.specs.Parts.{finish_part, finish_entry, text_entry, entries_of, IsWritten}
+use Rattle.planus_write.specs.Parts.{finish_part, text_entry, entries_of, IsWritten}
 use Rattle.planus_write.specs.Parts.{named_by, Named, position_in}
 use Rattle.planus_write.specs.Standing.{IsKept, AllSeenKept}
 use Rattle.planus_write.specs.Laws.{added_extends}
@@ -29,8 +29,8 @@ use Rattle.planus_write.proofs.Standing.{length_after, text_size, finish_size, k
 use Rattle.planus_write.proofs.Standing.{seen_stays, values_are_kept, finishes_lead}
 use Rattle.planus_write.proofs.Standing.{finishes_are_identified}
 use Rattle.planus.specs.Steps.{Step, text, finish, clear}
-use Rattle.planus.specs.Runs.{Listed, State, nothing_written, Writes, Advances, LeadsTo, cleared}
-use Rattle.planus.specs.Runs.{named_at, value_of, finish_of, values_added}
+use Rattle.planus.specs.Runs.{Listed, State, nothing_written, Advances, LeadsTo, cleared}
+use Rattle.planus.specs.Runs.{named_at, value_of, finish_of}
 use Rattle.planus.specs.Replays.{is_clear, named_step}
 use Rattle.planus.specs.Headline.{ValueHolds, IsFewest, FinishHolds}
 use Rattle.planus.proofs.Turns.{InTurn, turn_taken, fewest}

@@ -6,15 +6,15 @@ use Rattle.std.specs.Prelude.{slice_get, ◌⊎◌}
 use Rattle.planus_back.specs.Padding.{promise_of}
 use Rattle.planus_back.specs.Parts.{Part, Written, Placed, IsTooLarge}
 use Rattle.planus_write.specs.Shared.{Contents, Switches, and_seen, shared_as}
-use Rattle.planus_write.specs.Past.{Past, Entry, Adds, PutsAfter, Puts, PutsAll, PutsTooLarge}
+use Rattle.planus_write.specs.Past.{Past, Entry, Adds, PutsAfter, Puts, PutsAll}
 use Rattle.planus_write.specs.Past.{ComesToTooLarge as ComesToTooLargeEntry, part_after}
 use Rattle.planus_write.specs.Past.{found_before}
 use Rattle.planus.specs.Steps.{Step, text, finish, clear}
 use Rattle.planus.specs.Runs.{Finish, State, Writes, Advances, LeadsTo, StepTooLarge}
-use Rattle.planus.specs.Runs.{ComesToTooLarge, nothing_written, value_of, values_added}
+use Rattle.planus.specs.Runs.{nothing_written, value_of, values_added}
 use Rattle.planus.specs.Runs.{finishes_added}
 use Rattle.planus.specs.Replays.{first_bad, first_bad_after, first_bad_or, broken_check, Replays}
-use Rattle.planus.specs.Replays.{WantsMemory, AnswersAreOne}
+use Rattle.planus.specs.Replays.{AnswersAreOne}
 use Rattle.planus.specs.declared.faults.ReplayError.{ReplayError}
 use Rattle.planus.specs.declared.faults.ReplayError.TheVariants.{OutOfMemory, TooLarge, BadStep}
 use Rattle.planus.specs.declared.faults.Why.{Why}

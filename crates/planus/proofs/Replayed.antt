@@ -36,7 +36,7 @@ pub record Reaches (steps : List code.Step) (i : ℕ) (progress : Progress) : Ty
 pub are_reached : (steps : List code.Step) (i : ℕ) (progress : Progress) → Reaches steps i progress → AreReached progress
 are_reached steps i progress h step distance e =
     let v = run_value all_off (first_steps steps i) (all_utf8 (take i steps)) (state_with progress h.run.0) h.run.2 (progress.first + step) (named distance)
-        (found_at progress.first (distances progress) step distance e) in
+    (found_at progress.first (distances progress) step distance e) in
     subst (λ bytes. distance ≤ length bytes) h.run.1.bytes v.kept.reached
 
 pub number_is : (steps : List code.Step) (i : ℕ) (progress : Progress) → i ≤ length steps → Reaches steps i progress → progress.first + length progress.offsets.items ≡ i

@@ -7,7 +7,7 @@ use Rattle.std.specs.Borrow.{Bor}
 use Rattle.std.specs.Option.{option_map}
 use Rattle.std.proofs.lemmas.Bool.Decides.{nat_tests}
 use Rattle.std.proofs.lemmas.List.{map_push, length-map}
-use Rattle.planus_write.specs.Past.{Past, Entry, no_past}
+use Rattle.planus_write.specs.Past.{no_past}
 use Rattle.planus_write.specs.State as builder
 use Rattle.planus_write.specs.State.{IsPast}
 use Rattle.planus_write.specs.Placing.{PutsDown, Refuses}

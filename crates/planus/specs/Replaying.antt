@@ -68,7 +68,7 @@ Stopped old (text bytes) (BadStep number why) = ⊥
 Stopped old clear (BadStep number why) = ⊥
 Stopped old (finish root identifier) (BadStep number why) =
     (number ≡ old.first + length old.offsets.items)
-        × (distance_fault (distance_at old.first (distances old) root) ≡ Some why)
+    × (distance_fault (distance_at old.first (distances old) root) ≡ Some why)
 
 -- a step wrote what its kind says: a text its value, a finish none; a clear is no step since the
 -- last clear
@@ -98,7 +98,7 @@ pub record Takes (old : Progress) (step : Step) (new : Progress) : Type 0 where
   pub taken : (steps : List Step) → HasTaken old steps → HasTaken new (steps ++ step ∷ [])
   pub advances : (past : Past) → IsPast old.builder past
       → (after : Past) × IsPast new.builder after
-          × Advances old.builder.switches (state_with old past) step (state_with new after)
+      × Advances old.builder.switches (state_with old past) step (state_with new after)
   pub switches : new.builder.switches ≡ old.builder.switches
 
 -- One step was taken, or was not.

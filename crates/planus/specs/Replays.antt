@@ -61,8 +61,11 @@ first_bad steps = first_bad_after [] steps
 
 -- a value's place: the number of its step, and the distances by which it is named
 abbrev pub place_of : StepPlace → Listed
-place_of place = record { step = place.step; named = record
-    { distance = place.distance; tags = place.tags } }
+place_of place = record {
+  step = place.step;
+  named = record
+      { distance = place.distance; tags = place.tags };
+}
 
 -- a finish, without where it lies in memory
 abbrev pub finish_given : Finished → Finish
@@ -76,7 +79,7 @@ abbrev pub Replays : Switches → List Step → Result (List Finish) ReplayError
 Replays switches steps (Ok finished) = (first_bad steps ≡ None) × Runs switches steps finished
 Replays switches steps (Err (BadStep step why)) =
     (first_bad steps ≡ Some (step, why))
-        × ((before : State) × LeadsTo switches nothing_written (take step steps) before)
+    × ((before : State) × LeadsTo switches nothing_written (take step steps) before)
 Replays switches steps (Err TooLarge) = (n : ℕ) × (first_bad (take (n + 1) steps) ≡ None)
     × ComesToTooLarge switches steps n
 Replays switches steps (Err OutOfMemory) = ⊤
@@ -100,5 +103,5 @@ WantsMemory _ = ⊥
 abbrev pub AnswersAreOne : Type 0
 AnswersAreOne =
     (switches : Switches) (steps : List Step) (a b : Result (List Finish) ReplayError)
-        → Replays switches steps a → Replays switches steps b
+    → Replays switches steps a → Replays switches steps b
     → WantsMemory a ⊎ WantsMemory b ⊎ (a ≡ b)

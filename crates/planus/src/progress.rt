@@ -90,7 +90,11 @@ impl Progress {
     }
 
     /// Takes one step.
-    pub(crate) fn advance(&mut self, alloc: Global, step: &Step) -> std::result::Result<(), ReplayError>
+    pub(crate) fn advance(
+        &mut self,
+        alloc: Global,
+        step: &Step,
+    ) -> std::result::Result<(), ReplayError>
         requires reached { AreReached self.old }
         requires number { self.old.first + vec_len self.old.offsets + 1 < 2 ^ 64 }
         ensures { Advanced self.old (bare_step step.now) result self.new }

@@ -1,22 +1,21 @@
 -- An entry whose part is put into the room made for it is put down, where nothing is shared.
-use Rattle.std.proofs.Common.{◌≡◌, ℕ, ◌+◌, ◌-◌, ◌*◌, ◌≤◌, ◌<◌, List, [], ◌∷◌, ◌++◌, length}
+use Rattle.std.proofs.Common.{◌≡◌, ℕ, ◌+◌, ◌-◌, ◌*◌, ◌≤◌, List, [], ◌∷◌, ◌++◌, length}
 use Rattle.std.proofs.Common.{replicate, refl, sym, ap, ◌∙◌, subst, arith, append_assoc}
 use Rattle.std.proofs.Common.{length-append, Option, Some, None}
 use Rattle.std.proofs.lemmas.List.{length-replicate}
 use Rattle.std.specs.Int.{w32, to_le_bytes}
 use Rattle.planus_back.specs.Promises.{Promise, Keep, greatest_alignment}
 use Rattle.planus_back.specs.Padding.{promise_of}
-use Rattle.planus_back.specs.Parts.{Part, Placed}
-use Rattle.planus_back.specs.Descriptions.{Describes}
+use Rattle.planus_back.specs.Parts.{Placed}
 use Rattle.planus_write.specs.Shared.{Contents, Switches, all_off, texts, byte_lists, vtables}
 use Rattle.planus_write.specs.Shared.{shared_as, found}
 use Rattle.planus_write.specs.Past.{Past, Entry, just, part_after, Adds, PutsAfter, Puts}
-use Rattle.planus_write.specs.Past.{found_before, PutsTooLarge}
-use Rattle.planus_write.specs.Parts.{text_part, text_entry, finish_part, finish_entry, filled_part}
+use Rattle.planus_write.specs.Past.{found_before}
+use Rattle.planus_write.specs.Parts.{text_entry, finish_entry, filled_part}
 use Rattle.planus_write.specs.Parts.{identifier_bytes}
 use Rattle.planus_write.specs.State.{State, IsPast, PutsBytes}
 use Rattle.planus_write.specs.Placing.{PutsDown, MakesRoom, DescribedBy, LacksRoom, MayWantMemory}
-use Rattle.planus_write.specs.Placing.{RefusedMemory, RefusedFor, Refuses}
+use Rattle.planus_write.specs.Placing.{RefusedFor, Refuses}
 use Rattle.planus_write.specs.Finishing.{Finishes}
 use Rattle.planus_write.specs.View.{IsSound}
 use Rattle.planus_write.specs.declared.builder.Builder.TheInside.{Inside}
@@ -145,7 +144,7 @@ pub filled_put : (leaves : ℕ → ℕ → List ℕ) (size alignment place : ℕ
     → length (leaves place size) ≡ size → PutsBytes (leaves place size) mid new → PutsDown (just (filled_part size alignment leaves)) [] old (length new.bytes) new
 filled_put leaves size alignment place old mid new off room count put =
     let there : length new.bytes ≡ place
-        = new_length (just (filled_part size alignment leaves)) [] size alignment place old mid new (leaves place size) off room (filled_sized leaves size alignment old) (λ past h. refl) count put in
+    = new_length (just (filled_part size alignment leaves)) [] size alignment place old mid new (leaves place size) off room (filled_sized leaves size alignment old) (λ past h. refl) count put in
     subst (λ n. PutsDown (just (filled_part size alignment leaves)) [] old n new) (sym there)
     (puts_down (just (filled_part size alignment leaves)) [] size alignment place old mid new (leaves place size) off room (filled_sized leaves size alignment old) (λ past h. refl) count put)
 

@@ -1,10 +1,10 @@
 -- What a finish answers, and how it leaves the builder.
-use Rattle.std.specs.Prelude.{◌≡◌, ℕ, List, [], length, Result, Ok, Err, Option, ◌⊎◌, ⊤}
+use Rattle.std.specs.Prelude.{◌≡◌, ℕ, List, [], length, Result, Ok, Err, Option, ⊤}
 use Rattle.std.specs.Borrow.{follows_so, MutBor, Bor, Fml}
 use mathlib.Core.Option.{none}
 use Rattle.planus_write.specs.State.{State}
 use Rattle.planus_write.specs.Parts.{finish_entry}
-use Rattle.planus_write.specs.Placing.{Outcome, then_does, PutsDown, WritesEntry, Refuses}
+use Rattle.planus_write.specs.Placing.{Outcome, then_does, PutsDown, Refuses}
 use Rattle.planus_write.specs.declared.errors.BuildError.{BuildError}
 use Rattle.planus_write.specs.declared.offset.Offset.{Offset}
 use Rattle.planus_write.specs.contracts.builder.Builder.{the_row}
@@ -41,7 +41,7 @@ abbrev pub FinishGives : {T : Type 0} → Outcome (Offset T) → Option (List �
     → Type 0
 FinishGives {T} prepare identifier old bytes =
     (new : State) × FinishDoes prepare identifier old (Ok (length new.bytes)) new
-        × (bytes ≡ new.bytes)
+    × (bytes ≡ new.bytes)
 
 -- the builder is left so, once the bytes that are lent are given back
 abbrev pub EndsAs : MutBor State → (State → Type 0) → Fml

@@ -1,7 +1,7 @@
 -- The laws of what can be written.
 use Rattle.std.specs.Prelude.{◌≡◌, ℕ, ◌≤◌, List, [], ◌∷◌, ◌++◌, length, replicate, Option, Some}
 use Rattle.std.specs.Prelude.{None, Result, Ok, Err}
-use Rattle.std.proofs.Common.{ap, subst, sym, refl, arith}
+use Rattle.std.proofs.Common.{ap, subst, sym, refl}
 use Rattle.planus_back.specs.Parts.{Part}
 use Rattle.planus_back.specs.Padding.{promise_of}
 use Rattle.planus_write.specs.Shared.{Contents, Seen, Switches, and_seen, shared_as}
@@ -21,8 +21,12 @@ extends_itself past = record { bytes = ([], refl); promises = ([], refl); seen =
 pub unchanged_grows : (old new : State) → new ≡ old → Grows old new
 unchanged_grows old new same = record {
   bytes = ([], ap (λ state. state.bytes) same);
-  past = λ past is_past. (past, subst (λ state. IsPast state past)
-      (sym same) is_past, extends_itself past);
+  past = λ past is_past. (
+    past,
+    subst (λ state. IsPast state past)
+        (sym same) is_past,
+    extends_itself past,
+  );
   switches = ap (λ state. state.switches) same;
 }
 
@@ -56,7 +60,7 @@ pub put_extends : (switches : Switches) (entry : Entry) (got : List ℕ) (before
     → Puts switches entry got before distance after → Extends before after
 put_extends switches entry got before distance after put =
     put_after_extends (found_before switches entry before) (part_after entry got before)
-        (shared_as switches entry.contents)
+    (shared_as switches entry.contents)
     before distance after put
 
 -- one entry put down grows the builder by it
@@ -66,7 +70,7 @@ entry_grows entry got old distance new put = record {
   bytes = put.grows;
   past = λ past is_past.
       let after = put.puts past is_past in
-          (after.0, after.2, put_extends old.switches entry got past distance after.0 after.1);
+      (after.0, after.2, put_extends old.switches entry got past distance after.0 after.1);
   switches = put.switches;
 }
 

@@ -7,20 +7,27 @@ use Rattle.planus_read.specs.Values.{Value, text}
 use Rattle.planus_read.specs.Bytes.{position_of}
 use Rattle.planus_read.specs.Stands.{Position, at, at_both}
 use Rattle.planus_write.specs.Shared.{texts}
-use Rattle.planus_write.specs.Past.{Entry, just}
+use Rattle.planus_write.specs.Past.{Entry}
 
 -- A text is one part, aligned to 4: its count, its bytes and a zero byte.
 -- The format: a text is a vector of bytes with a zero byte behind it that the count leaves out.
 abbrev pub text_part : List ℕ → Part
 text_part bytes =
-    record { size = length bytes + 5; alignment = 4; bytes_at = λ place. to_le_bytes w32
-        (length bytes) ++ bytes ++ 0 ∷ [] }
+    record {
+      size = length bytes + 5;
+      alignment = 4;
+      bytes_at = λ place. to_le_bytes w32
+          (length bytes) ++ bytes ++ 0 ∷ [];
+    }
 
 -- equal texts may be written once
 abbrev pub text_entry : List ℕ → Entry
 text_entry bytes =
-    record { contents = Some (record
-        { kind = texts; bytes = bytes }); part = λ got promises. text_part bytes }
+    record {
+      contents = Some (record
+          { kind = texts; bytes = bytes });
+      part = λ got promises. text_part bytes;
+    }
 
 -- the bytes of a file identifier, none where there is none
 abbrev pub identifier_bytes : Option (List ℕ) → List ℕ

@@ -14,8 +14,13 @@ pub record Past : Type 0 where
 
 -- nothing was written
 abbrev pub no_past : Past
-no_past = record { written = record { bytes = []; promises = [] }; seen = []; parts = []; places =
-    [] }
+no_past = record {
+  written = record { bytes = []; promises = [] };
+  seen = [];
+  parts = [];
+  places =
+      [];
+}
 
 -- One entry of a write: the contents by which it may be shared, if it may, and its part. That may
 -- depend on the distances that the write's entries before it got, and on the promises made before.
@@ -53,7 +58,7 @@ found_before switches entry past = found past.seen (shared_as switches entry.con
 abbrev pub Puts : Switches → Entry → List ℕ → Past → ℕ → Past → Type 0
 Puts switches entry got before distance after =
     PutsAfter (found_before switches entry before) (part_after entry got before)
-        (shared_as switches entry.contents)
+    (shared_as switches entry.contents)
     before distance after
 
 -- The entries are put down one after another, and all get these distances.

@@ -22,8 +22,8 @@ then_does {A} {B} first second old (Ok b) new = (a : A) × (between : State)
     × first old (Ok a) between × second a between (Ok b) new
 then_does {A} {B} first second old (Err error) new =
     first old (Err error) new
-        ⊎ ((a : A) × (between : State) × first old (Ok a) between
-        × second a between (Err error) new)
+    ⊎ ((a : A) × (between : State) × first old (Ok a) between
+    × second a between (Err error) new)
 
 -- The entry was put down, whatever was written before, and got this distance. Where padding and
 -- part fit the room, the room falls by their bytes.
@@ -106,7 +106,7 @@ pub record MakesRoom (size alignment : ℕ) (old : State) (place : ℕ) (new : S
 abbrev pub LacksRoom : ℕ → ℕ → State → BuildError → Type 0
 LacksRoom size alignment old TooLarge = (promises : List Promise) → DescribedBy old promises
     → (padding : ℕ) × IsLeastPadding (length old.bytes) promises size alignment padding
-        × (greatest_place < length old.bytes + padding + size)
+    × (greatest_place < length old.bytes + padding + size)
 LacksRoom size alignment old OutOfMemory = (promises : List Promise) → DescribedBy old promises
     → (padding : ℕ) × IsLeastPadding (length old.bytes) promises size alignment padding
     × (length old.bytes + padding + size ≤ greatest_place) × (old.room < padding + size)

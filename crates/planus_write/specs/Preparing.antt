@@ -1,9 +1,7 @@
 -- What the preparing of a value may do.
-use Rattle.std.specs.Prelude.{◌≡◌, ℕ, List, [], Result, Ok, Err}
-use Rattle.planus_write.specs.State.{State}
+use Rattle.std.specs.Prelude.{◌≡◌, ℕ, List, [], Ok, Err}
 use Rattle.planus_write.specs.Parts.{text_entry}
 use Rattle.planus_write.specs.Placing.{Outcome, WritesEntry}
-use Rattle.planus_write.specs.declared.errors.BuildError.{BuildError}
 use Rattle.planus_write.specs.declared.offset.Offset.{Offset}
 
 -- the same, with the distance answered as an offset

@@ -28,7 +28,7 @@ pub record IsKept (past : Past) (value : Value) (named : Named) : Type 0 where
   pub stands : Stands past.written.bytes (position_in past.written.bytes named) value
   pub aligned : (front : List ℕ) → Keep past.written.promises (length (front ++ past.written.bytes))
       → AlignedAt (front ++ past.written.bytes)
-          (moved (length front) (position_in past.written.bytes named)) value
+      (moved (length front) (position_in past.written.bytes named)) value
 
 -- Contents that were seen: a text or a byte list of these bytes is kept at the distance; of a
 -- vtable its bytes stand, at a multiple of 2.
@@ -39,7 +39,7 @@ KindIsKept past byte_lists bytes distance =
     IsKept past (byte_list bytes) (record { distance = distance; tags = None })
 KindIsKept past vtables bytes distance =
     (distance ≤ length past.written.bytes)
-        × BytesStand past.written.bytes (position_of past.written.bytes distance) bytes
+    × BytesStand past.written.bytes (position_of past.written.bytes distance) bytes
     × ((L : ℕ) → Keep past.written.promises L → 2 ∣ (L - distance))
 
 abbrev pub SeenIsKept : Past → Seen → Type 0
@@ -58,9 +58,9 @@ KeptStays = (before after : Past) (value : Value) (named : Named) → Extends be
 abbrev pub ValuesAreKept : Type 0
 ValuesAreKept =
     (switches : Switches) (value : Value) (before : Past) (got : List ℕ) (after : Past)
-        → IsWritten value → AllSeenKept before
+    → IsWritten value → AllSeenKept before
     → PutsAll switches (entries_of value) [] before got after
-        → IsKept after value (named_by value got) × AllSeenKept after × Extends before after
+    → IsKept after value (named_by value got) × AllSeenKept after × Extends before after
 
 -- The reference of a finish that was placed leads to the root, if that lies in what was written
 -- before.
@@ -68,11 +68,11 @@ abbrev pub FinishesLead : Type 0
 FinishesLead =
     (root : ℕ) (identifier : Option (List ℕ)) (before after : Written) → root ≤ length before.bytes
     → Placed (finish_part root identifier before.promises) before after
-        → ReferenceStands after.bytes 0 root
+    → ReferenceStands after.bytes 0 root
 
 -- Its identifier stands behind that.
 abbrev pub FinishesAreIdentified : Type 0
 FinishesAreIdentified =
     (root : ℕ) (identifier : Option (List ℕ)) (before after : Written)
-        → Placed (finish_part root identifier before.promises) before after
+    → Placed (finish_part root identifier before.promises) before after
     → BytesStand after.bytes 4 (identifier_bytes identifier)

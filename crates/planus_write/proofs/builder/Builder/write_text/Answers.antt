@@ -1,4 +1,4 @@
-use Rattle.std.proofs.Common.{[], ◌+◌, length, refl, subst}
+use Rattle.std.proofs.Common.{[], ◌+◌, length, refl}
 use Rattle.std.proofs.lemmas.Result.{err_from_is_err_and}
 use Rattle.planus_write.specs.Parts.{text_entry}
 use Rattle.planus_write.specs.Placing.{PutsDown}
