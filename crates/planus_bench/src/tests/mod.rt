@@ -1,5 +1,8 @@
+mod alignments;
 mod exhaust;
 mod no_memory;
+mod padding;
+mod parts;
 mod plain_reader;
 mod plain_run;
 mod runs;

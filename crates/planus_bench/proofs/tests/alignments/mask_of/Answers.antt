@@ -1,5 +1,5 @@
 use Rattle.std.proofs.Common.{refl}
-use Rattle.planus_write.proofs.tests.mask_of.Goals as goal
+use Rattle.planus_bench.proofs.tests.alignments.mask_of.Goals as goal
 
 pub returns-in-4-clause-power : goal.returns-in-4-clause-power
 returns-in-4-clause-power c = (2, refl)

@@ -1,0 +1,158 @@
+//! The padding of `Promises` beside that of the plain program, which finds it by trying.
+ghost use Rattle.std.specs.Prelude.{◌≡◌, ◌+◌, ◌≤◌, IfSome};
+ghost use Rattle.planus_back.specs.Padding.{greatest_place};
+ghost use Rattle.planus_back.specs.Pairs.{period, AlignmentsAboveZero, DistancesWithin};
+
+use super::alignments::mask_of;
+use planus_back::Promises;
+use planus_back::plain::least_padding;
+use std::alloc::{AllocError, Global};
+use std::test::Fail;
+
+// None where the part is too large.
+fn request(
+    promises: Promises,
+    len: usize,
+    size: usize,
+    alignment: usize,
+) -> Option<(Promises, usize)>
+    ensures { IfSome result (λ r. len + r.1 + size ≤ greatest_place) }
+{
+    let mask = mask_of(alignment);
+    if len > 2147483647 {
+        return None;
+    }
+    match promises.request(len, size, mask) {
+        Ok(granted) => Some(granted),
+        Err(_) => None,
+    }
+}
+
+// The product of the alignments, where the plain program may be asked about such promises.
+fn checked_period(len: usize, promises: &[(usize, usize)]) -> Option<usize>
+    ensures { IfSome result (λ p. AlignmentsAboveZero promises.now × DistancesWithin len promises.now × (p ≡ period promises.now)) }
+{
+    match promises {
+        [] => Some(1),
+        [first, rest @ ..] => {
+            let after = checked_period(len, rest)?;
+            if first.0 > len || first.1 == 0 {
+                return None;
+            }
+            first.1.checked_mul(after)
+        }
+    }
+}
+
+// The plain program's answer, where the numbers are small enough to ask it.
+fn plainly(
+    len: usize,
+    promises: &[(usize, usize)],
+    size: usize,
+    alignment: usize,
+) -> Option<usize> {
+    let period = checked_period(len, promises)?;
+    let tries = alignment.checked_mul(period)?;
+    if alignment == 0 || alignment > 65536 || len > 65536 || size > 65536 || tries > 65536 {
+        return None;
+    }
+    least_padding(len, promises, size, alignment)
+}
+
+// The paddings of parts, each a size and an alignment, that follow one another; None where the two
+// programs differ.
+fn paddings(alloc: Global, parts: &[(usize, usize)]) -> Result<Option<Vec<usize>>, AllocError> {
+    let mut paddings = Vec::with_capacity(alloc, parts.len())?;
+    let mut pairs: Vec<(usize, usize)> = Vec::with_capacity(alloc, parts.len())?;
+    let mut promises = Promises::new();
+    let mut len = 0;
+    for (size, alignment) in parts {
+        let Some((next, padding)) = request(promises, len, *size, *alignment) else {
+            return Ok(None);
+        };
+        if plainly(len, pairs.as_slice(), *size, *alignment) != Some(padding) {
+            return Ok(None);
+        }
+        len += padding + *size;
+        pairs.push((len, *alignment))?;
+        paddings.push(padding)?;
+        promises = next;
+    }
+    Ok(Some(paddings))
+}
+
+fn pads(alloc: Global, parts: &[(usize, usize)], want: &[usize]) -> Result<bool, AllocError> {
+    match paddings(alloc, parts)? {
+        Some(got) => Ok(got.as_slice() == want),
+        None => Ok(false),
+    }
+}
+
+#[test]
+fn worked_rows(rt: HostRuntime) -> Result<(), Fail> {
+    let alloc = rt.alloc();
+    let four_writes = [(3, 1), (4, 2), (8, 4), (7, 1), (4, 4)];
+    assert!(rt; pads(alloc, &four_writes, &[0, 0, 0, 0, 1])?, "four writes");
+    let after_clear = [(4, 4), (1, 1), (1, 1), (8, 8), (4, 8)];
+    assert!(rt; pads(alloc, &after_clear, &[0, 0, 0, 2, 4])?, "after clear");
+    let text = [(8, 4), (4, 4), (4, 4)];
+    assert!(rt; pads(alloc, &text, &[0, 0, 0])?, "text Axe");
+    let list = [(7, 4), (8, 8), (4, 1), (4, 8)];
+    assert!(rt; pads(alloc, &list, &[0, 0, 0, 0])?, "u64 list");
+    let weapon = [(8, 4), (8, 2), (6, 4), (4, 1), (4, 4)];
+    assert!(rt; pads(alloc, &weapon, &[0, 0, 2, 0, 0])?, "weapon");
+    let unions = [(6, 4), (6, 4), (8, 4), (4, 1), (2, 4), (4, 1)];
+    assert!(rt; pads(alloc, &unions, &[0, 2, 0, 0, 2, 0])?, "union vector");
+    let table = [(6, 2), (2, 4), (4, 1), (4, 4)];
+    assert!(rt; pads(alloc, &table, &[0, 0, 0, 0])?, "u16 table");
+    Ok(())
+}
+
+#[test]
+fn values_after_each_part(rt: HostRuntime) {
+    let rows = [
+        (0, 5, 1, 0, 0, 0),
+        (5, 4, 16, 0, 0, 15),
+        (9, 1, 1, 0, 15, 15),
+        (10, 2, 8, 5, 8, 15),
+        (17, 4, 16, 4, 0, 15),
+    ];
+    let mut promises = Promises::new();
+    for (len, size, alignment, padding, delayed, mask) in rows {
+        let Some((next, got)) = request(promises, len, size, alignment) else {
+            assert!(rt; false, "too large at {len}");
+            return;
+        };
+        assert_eq!(rt; got, padding, "at {len}");
+        assert_eq!(rt; next.delayed(), delayed, "at {len}");
+        assert_eq!(rt; next.mask(), mask, "at {len}");
+        promises = next;
+    }
+}
+
+// Every list of three parts, and with it every shorter one.
+#[test]
+fn short_lists_as_the_plain_program_has_them(rt: HostRuntime) -> Result<(), Fail> {
+    let alloc = rt.alloc();
+    let mut parts: Vec<(usize, usize)> = Vec::new(alloc);
+    for size in 0..6 {
+        for alignment in [1, 2, 4, 8] {
+            parts.push((size, alignment))?;
+        }
+    }
+    for a in &parts {
+        for b in &parts {
+            for c in &parts {
+                let same = paddings(alloc, &[*a, *b, *c])?.is_some();
+                assert!(rt; same, "after {a:?}, {b:?}, {c:?}");
+            }
+        }
+    }
+    Ok(())
+}
+
+#[test]
+fn alignments_that_no_padding_meets(rt: HostRuntime) {
+    assert_eq!(rt; plainly(3, &[(1, 6), (2, 4)], 1, 1), None);
+    assert_eq!(rt; plainly(3, &[(1, 6)], 1, 4), Some(1));
+}

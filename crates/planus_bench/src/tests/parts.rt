@@ -1,0 +1,278 @@
+//! Parts of any size and alignment through the builder.
+ghost use Rattle.std.specs.Prelude.{◌≡◌, length, replicate, ⊤, ◌%◌};
+ghost use Rattle.std.specs.Int.{w32, to_le_bytes};
+
+use super::alignments::mask_of;
+use planus::{BuildError, Builder, Fill};
+use planus_back::Promises;
+use std::alloc::{AllocError, Global};
+use std::test::Fail;
+
+const FOUR_WRITES: &[u8] = b"\x05\0\0\0\x000123456ABCDEFGHIJKLMNO";
+
+// Leaves these very bytes, at any place.
+#[derive(Drop)]
+struct Same<'a> {
+    bytes: &'a [u8],
+}
+
+impl<'a> Fill for Same<'a> {
+    ghost fits = { λ filler _ n. n ≡ length filler.bytes.now };
+
+    ghost leaves = { λ filler _ _. filler.bytes.now };
+
+    fn fill(&self, _place: u32, bytes: &mut [u8]) {
+        bytes.copy_from_slice(self.bytes);
+    }
+}
+
+// Leaves one byte over and over, as often as there is room.
+#[derive(Drop)]
+struct Repeated {
+    byte: u8,
+}
+
+impl Fill for Repeated {
+    ghost fits = { λ _ _ _. ⊤ };
+
+    ghost leaves = { λ filler _ n. replicate n filler.byte };
+
+    fn fill(&self, _place: u32, bytes: &mut [u8]) {
+        bytes.fill(self.byte);
+    }
+}
+
+// Leaves the place at which it is called.
+#[derive(Drop)]
+struct OwnPlace;
+
+impl Fill for OwnPlace {
+    ghost fits = { λ _ _ n. n ≡ 4 };
+
+    ghost leaves = { λ _ place _. to_le_bytes w32 place };
+
+    fn fill(&self, place: u32, bytes: &mut [u8]) {
+        bytes.copy_from_slice(&place.to_le_bytes());
+    }
+}
+
+// Leaves the last byte of the place at which it is called, as often as there is room.
+#[derive(Drop)]
+struct PlaceByte;
+
+impl Fill for PlaceByte {
+    ghost fits = { λ _ _ _. ⊤ };
+
+    ghost leaves = { λ _ place n. replicate n (place % 256) };
+
+    fn fill(&self, place: u32, bytes: &mut [u8]) {
+        bytes.fill((place % 256) as u8);
+    }
+}
+
+// Writes the bytes as one part.
+fn put(builder: &mut Builder, bytes: &[u8], alignment: usize) -> Result<(), BuildError> {
+    builder.write_with(bytes.len(), mask_of(alignment), &Same { bytes })
+}
+
+fn put_four(builder: &mut Builder) -> Result<(), BuildError> {
+    put(builder, b"MNO", 1)?;
+    put(builder, b"IJKL", 2)?;
+    put(builder, b"ABCDEFGH", 4)?;
+    put(builder, b"0123456", 1)
+}
+
+// Finishes with the part that was written last as the root.
+fn finish_last(builder: &mut Builder) -> Result<&[u8], BuildError> {
+    let root = builder.current_offset::<()>();
+    builder.finish(root, None)
+}
+
+#[test]
+fn parts_and_clear(rt: HostRuntime) -> Result<(), Fail> {
+    let mut empty = Builder::new(rt.alloc())?;
+    assert_eq!(rt; finish_last(&mut empty)?, b"\x04\0\0\0".as_slice());
+    let mut builder = Builder::new(rt.alloc())?;
+    put_four(&mut builder)?;
+    assert_eq!(rt; finish_last(&mut builder)?, FOUR_WRITES);
+    builder.clear();
+    put(&mut builder, b"IJKL", 4)?;
+    put(&mut builder, b"X", 1)?;
+    put(&mut builder, b"Y", 1)?;
+    put(&mut builder, b"ABCDEFGH", 8)?;
+    let after_clear = b"\x08\0\0\0\0\0\0\0ABCDEFGH\0\0YXIJKL";
+    assert_eq!(rt; finish_last(&mut builder)?, after_clear.as_slice());
+    Ok(())
+}
+
+// None where the part is too large.
+fn request(promises: Promises, len: usize, size: usize, alignment: usize) -> Option<Promises> {
+    if len > 2147483647 {
+        return None;
+    }
+    match promises.request(len, size, mask_of(alignment)) {
+        Ok((next, _)) => Some(next),
+        Err(_) => None,
+    }
+}
+
+#[test]
+fn delays_after_clear(rt: HostRuntime) {
+    let mut promises = Promises::new();
+    for (len, size, alignment, delayed) in [
+        (0, 4, 4, 0),
+        (4, 1, 1, 3),
+        (5, 1, 1, 2),
+        (6, 8, 8, 0),
+    ] {
+        let Some(next) = request(promises, len, size, alignment) else {
+            assert!(rt; false, "too large at {len}");
+            return;
+        };
+        assert_eq!(rt; next.delayed(), delayed, "at {len}");
+        promises = next;
+    }
+}
+
+#[test]
+fn the_filler_is_told_its_place(rt: HostRuntime) -> Result<(), Fail> {
+    let mut builder = Builder::new(rt.alloc())?;
+    put(&mut builder, b"MNO", 1)?;
+    builder.write_with(4, mask_of(16), &OwnPlace)?;
+    assert_eq!(rt; builder.as_slice(), b"\x07\0\0\0MNO".as_slice());
+    put(&mut builder, b"X", 8)?;
+    builder.write_with(4, mask_of(16), &OwnPlace)?;
+    let bytes = b"\x17\0\0\0\0\0\0\0X\0\0\0\0\0\0\0\x07\0\0\0MNO".as_slice();
+    assert_eq!(rt; builder.as_slice(), bytes);
+    Ok(())
+}
+
+#[test]
+fn too_large(rt: HostRuntime) -> Result<(), Fail> {
+    let mut builder = Builder::with_capacity(rt.alloc(), 64)?;
+    put_four(&mut builder)?;
+    let refused = builder.write_with(2147483648, mask_of(1), &Repeated { byte: 7 });
+    assert_eq!(rt; refused, Err(BuildError::TooLarge));
+    assert_eq!(rt; (builder.len(), builder.room()), (22, 42));
+    assert_eq!(rt; finish_last(&mut builder)?, FOUR_WRITES);
+    Ok(())
+}
+
+// The numbers of the test with random sizes.
+#[derive(Drop)]
+struct Numbers {
+    last: u32,
+}
+
+impl Numbers {
+    fn draw(&mut self) -> u32 {
+        self.last = self.last.wrapping_mul(1664525).wrapping_add(1013904223);
+        self.last / 65536
+    }
+}
+
+// A part of equal bytes, and how far from the end it begins.
+#[derive(Clone, Copy)]
+struct Written {
+    byte: u8,
+    size: usize,
+    mask: usize,
+    distance: usize,
+}
+
+// Tells whether the part stands aligned in the finished bytes.
+fn stands(bytes: &[u8], part: Written) -> bool {
+    let Some(start) = bytes.len().checked_sub(part.distance) else {
+        return false;
+    };
+    let (_before, rest) = bytes.split_at(start);
+    match rest.get(..part.size) {
+        Some(found) => start & part.mask == 0 && found.iter().all(|b| *b == part.byte),
+        None => false,
+    }
+}
+
+// Writes 49 parts of random sizes and alignments.
+fn write_parts(
+    alloc: Global,
+    builder: &mut Builder,
+    numbers: &mut Numbers,
+) -> Result<Vec<Written>, Fail> {
+    let mut parts = Vec::new(alloc);
+    for byte in 1..50 {
+        let size = (numbers.draw() % 128) as usize;
+        let mask = mask_of(1 << (numbers.draw() % 5));
+        let before = builder.len();
+        builder.write_with(size, mask, &Repeated { byte })?;
+        if builder.len().wrapping_sub(before) > size + mask {
+            return Err(Fail::new("a padding of an alignment or more"));
+        }
+        parts.push(Written {
+            byte,
+            size,
+            mask,
+            distance: builder.len(),
+        })?;
+    }
+    Ok(parts)
+}
+
+// Writes parts of the same sizes and alignments. Tells whether each filler was called at the length
+// with its part.
+fn fillers_know_their_places(alloc: Global, numbers: &mut Numbers) -> Result<bool, Fail> {
+    let mut builder = Builder::new(alloc)?;
+    for _ in 1..50 {
+        let size = (numbers.draw() % 128) as usize;
+        let mask = mask_of(1 << (numbers.draw() % 5));
+        builder.write_with(size, mask, &PlaceByte)?;
+        let last = (builder.len() % 256) as u8;
+        match builder.as_slice().get(..size) {
+            Some(part) if part.iter().all(|b| *b == last) => {}
+            _ => return Ok(false),
+        }
+    }
+    Ok(true)
+}
+
+fn random_bytes(alloc: Global, numbers: &mut Numbers) -> Result<Vec<u8>, AllocError> {
+    let size = numbers.draw() % 128;
+    let mut bytes = Vec::new(alloc);
+    for _ in 0..size {
+        bytes.push((numbers.draw() % 256) as u8)?;
+    }
+    Ok(bytes)
+}
+
+#[test]
+fn random_parts_stand_aligned(rt: HostRuntime) -> Result<(), Fail> {
+    let alloc = rt.alloc();
+    let mut numbers = Numbers { last: 1 };
+    for round in 0..50 {
+        let mut again = Numbers { last: numbers.last };
+        assert!(rt;
+            fillers_know_their_places(alloc, &mut again)?,
+            "round {round}"
+        );
+        let mut builder = Builder::new(alloc)?;
+        let parts = write_parts(alloc, &mut builder, &mut numbers)?;
+        let root = random_bytes(alloc, &mut numbers)?;
+        put(&mut builder, root.as_slice(), 2)?;
+        let distance = builder.len();
+        let bytes = finish_last(&mut builder)?;
+        for part in &parts {
+            assert!(rt; stands(bytes, *part), "byte {} in round {round}", part.byte);
+        }
+        let Some(start) = bytes.len().checked_sub(distance) else {
+            assert!(rt; false, "no root in round {round}");
+            return Ok(());
+        };
+        let (front, rest) = bytes.split_at(start);
+        assert!(rt; start % 2 == 0, "round {round}");
+        assert!(rt; rest.starts_with(root.as_slice()), "round {round}");
+        assert!(rt;
+            front.starts_with(&(start as u64).to_le_bytes()[..4]),
+            "round {round}"
+        );
+    }
+    Ok(())
+}
