@@ -9,4 +9,5 @@ use Rattle.planus_back.specs.Promises.{Promise, IsPowerOfTwo, Keep}
 pub record Describes (length delayed mask : ℕ) (promises : List Promise) : Type 0 where
   pub powers : AllByRecursion (λ (p : Promise). IsPowerOfTwo p.alignment) promises
   pub reached : AllByRecursion (λ (p : Promise). p.distance ≤ length) promises
-  pub kept : (finished : ℕ) → length ≤ finished → Keep promises finished ↔ ((k : ℕ) × (finished ≡ length + delayed + k * (mask + 1)))
+  pub kept : (finished : ℕ) → length ≤ finished → Keep promises finished
+      ↔ ((k : ℕ) × (finished ≡ length + delayed + k * (mask + 1)))

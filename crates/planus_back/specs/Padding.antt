@@ -14,7 +14,8 @@ promise_of place alignment = record { distance = place; alignment = alignment }
 -- In front of that many bytes, with this much padding, some length keeps the promises so far and
 -- that of the part.
 abbrev pub CanPad : ℕ → List Promise → ℕ → ℕ → ℕ → Type 0
-CanPad length promises size alignment padding = CanBeKept (promise_of (length + padding + size) alignment ∷ promises)
+CanPad length promises size alignment padding =
+    CanBeKept (promise_of (length + padding + size) alignment ∷ promises)
 
 -- the least number for which a fact holds
 pub record IsLeast (Holds : ℕ → Type 0) (n : ℕ) : Type 0 where
@@ -24,4 +25,5 @@ pub record IsLeast (Holds : ℕ → Type 0) (n : ℕ) : Type 0 where
 -- With this padding and with none that is less, some length keeps the promises so far and that of
 -- the part.
 abbrev pub IsLeastPadding : ℕ → List Promise → ℕ → ℕ → ℕ → Type 0
-IsLeastPadding length promises size alignment padding = IsLeast (CanPad length promises size alignment) padding
+IsLeastPadding length promises size alignment padding =
+    IsLeast (CanPad length promises size alignment) padding

@@ -19,7 +19,8 @@ pub record Written : Type 0 where
 pub record Placed (part : Part) (before after : Written) : Type 0 where
   pub padding : ℕ
   pub place : ℕ
-  pub is_least : IsLeastPadding (length before.bytes) before.promises part.size part.alignment padding
+  pub is_least :
+      IsLeastPadding (length before.bytes) before.promises part.size part.alignment padding
   pub is_place : place ≡ length before.bytes + padding + part.size
   pub fits : place ≤ greatest_place
   pub bytes : after.bytes ≡ part.bytes_at place ++ replicate padding 0 ++ before.bytes
@@ -28,5 +29,6 @@ pub record Placed (part : Part) (before after : Written) : Type 0 where
 -- With the least padding its place would be too great.
 pub record IsTooLarge (part : Part) (before : Written) : Type 0 where
   pub padding : ℕ
-  pub is_least : IsLeastPadding (length before.bytes) before.promises part.size part.alignment padding
+  pub is_least :
+      IsLeastPadding (length before.bytes) before.promises part.size part.alignment padding
   pub too_great : greatest_place < length before.bytes + padding + part.size

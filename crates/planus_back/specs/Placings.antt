@@ -7,7 +7,8 @@ use Rattle.planus_back.specs.Parts.{Part}
 -- Each part lies in front of the one before it, and the first in front of this many bytes.
 abbrev pub LieInOrder : ℕ → List Part → List ℕ → Type 0
 LieInOrder length [] [] = ⊤
-LieInOrder length (part ∷ parts) (place ∷ places) = (length + part.size ≤ place) × LieInOrder place parts places
+LieInOrder length (part ∷ parts) (place ∷ places) = (length + part.size ≤ place)
+    × LieInOrder place parts places
 LieInOrder length [] (place ∷ places) = ⊥
 LieInOrder length (part ∷ parts) [] = ⊥
 
@@ -15,7 +16,8 @@ LieInOrder length (part ∷ parts) [] = ⊥
 abbrev pub promises_at : List Part → List ℕ → List Promise
 promises_at [] places = []
 promises_at (part ∷ parts) [] = []
-promises_at (part ∷ parts) (place ∷ places) = promise_of place part.alignment ∷ promises_at parts places
+promises_at (part ∷ parts) (place ∷ places) =
+    promise_of place part.alignment ∷ promises_at parts places
 
 -- Places of the parts: in order, and some length keeps what all of them promise.
 pub record IsPlacing (parts : List Part) (places : List ℕ) : Type 0 where
@@ -27,7 +29,8 @@ pub record IsPlacing (parts : List Part) (places : List ℕ) : Type 0 where
 abbrev pub PlacedInTurn : ℕ → List Promise → List Part → List ℕ → Type 0
 PlacedInTurn length promises [] [] = ⊤
 PlacedInTurn length promises (part ∷ parts) (place ∷ places) =
-    ((padding : ℕ) × (place ≡ length + padding + part.size) × IsLeastPadding length promises part.size part.alignment padding)
+    ((padding : ℕ) × (place ≡ length + padding + part.size)
+    × IsLeastPadding length promises part.size part.alignment padding)
     × PlacedInTurn place (promise_of place part.alignment ∷ promises) parts places
 PlacedInTurn length promises [] (place ∷ places) = ⊥
 PlacedInTurn length promises (part ∷ parts) [] = ⊥

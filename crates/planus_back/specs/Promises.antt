@@ -33,4 +33,5 @@ CanBeKept promises = (length : ℕ) × Keep promises length
 -- the greatest of a number and every alignment that was promised
 abbrev pub greatest_alignment : ℕ → List Promise → ℕ
 greatest_alignment least [] = least
-greatest_alignment least (promise ∷ promises) = max promise.alignment (greatest_alignment least promises)
+greatest_alignment least (promise ∷ promises) =
+    max promise.alignment (greatest_alignment least promises)

@@ -11,18 +11,21 @@ pub record Delay : Type 0 where
 
 -- The finished length is one of those that are described in front of that many bytes.
 abbrev pub IsDescribed : Delay → ℕ → ℕ → Type 0
-IsDescribed delay length finished = (k : ℕ) × (finished ≡ length + delay.delayed + k * (delay.mask + 1))
+IsDescribed delay length finished = (k : ℕ)
+    × (finished ≡ length + delay.delayed + k * (delay.mask + 1))
 
 -- With this much padding some described length holds the part, and aligns it.
 abbrev pub LeavesSome : Delay → ℕ → ℕ → ℕ → ℕ → Type 0
 LeavesSome delay length size alignment padding =
-    (finished : ℕ) × IsDescribed delay length finished × Keeps finished (promise_of (length + padding + size) alignment)
+    (finished : ℕ) × IsDescribed delay length finished
+    × Keeps finished (promise_of (length + padding + size) alignment)
 
 -- In front of a part at this place, the later value describes exactly those described lengths that
 -- hold the part and align it.
 abbrev pub DescribesThose : Delay → ℕ → Delay → ℕ → ℕ → Type 0
 DescribesThose before length after place alignment =
-    (finished : ℕ) → IsDescribed after place finished ↔ (IsDescribed before length finished × Keeps finished (promise_of place alignment))
+    (finished : ℕ) → IsDescribed after place finished
+    ↔ (IsDescribed before length finished × Keeps finished (promise_of place alignment))
 
 -- At this length, the value describes all of these promises.
 abbrev pub DescribesAll : Delay → ℕ → List Promise → Type 0
@@ -30,4 +33,5 @@ DescribesAll delay length promises = Describes length delay.delayed delay.mask p
 
 -- A least padding puts the part further from the end than any place may be.
 abbrev pub PassesGreatestPlace : (ℕ → Type 0) → ℕ → ℕ → Type 0
-PassesGreatestPlace IsPadding length size = (padding : ℕ) × IsPadding padding × (greatest_place < length + padding + size)
+PassesGreatestPlace IsPadding length size = (padding : ℕ) × IsPadding padding
+    × (greatest_place < length + padding + size)

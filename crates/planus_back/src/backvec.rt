@@ -110,7 +110,8 @@ fn put_filled<F: Fill>(block: &mut [u8], start: usize, place: u32, n: usize, fil
     requires inside { start ≤ length block.old }
     requires room { n ≤ start }
     requires fits { F.fits filler.now place n }
-    ensures bytes { drop (start - n) block.new ≡ F.leaves filler.now place n ++ drop start block.old }
+    ensures bytes { drop (start - n) block.new
+        ≡ F.leaves filler.now place n ++ drop start block.old }
     ensures count { length (F.leaves filler.now place n) ≡ n }
 {
     let (front, _back) = block.split_at_mut(start);
@@ -125,7 +126,8 @@ fn put_overwritten<W: Overwrite>(block: &mut [u8], start: usize, place: u32, n: 
     requires inside { start ≤ length block.old }
     requires room { n ≤ start }
     requires fits { W.fits writer.now place n }
-    ensures bytes { drop (start - n) block.new ≡ W.leaves writer.now place n ++ drop start block.old }
+    ensures bytes { drop (start - n) block.new
+        ≡ W.leaves writer.now place n ++ drop start block.old }
     ensures count { length (W.leaves writer.now place n) ≡ n }
 {
     let (front, _back) = block.split_at_mut(start);

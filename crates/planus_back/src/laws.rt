@@ -16,13 +16,16 @@ pub fn padding_is_below_alignment()
 
 /// There is a least padding in front of every part, as long as the promises before are described.
 pub fn least_padding_exists()
-    ensures { (length delayed mask : ℕ) (promises : List Promise) (size alignment : ℕ) → Describes length delayed mask promises
-        → IsPowerOfTwo alignment → (padding : ℕ) × IsLeastPadding length promises size alignment padding }
+    ensures { (length delayed mask : ℕ) (promises : List Promise) (size alignment : ℕ)
+        → Describes length delayed mask promises
+        → IsPowerOfTwo alignment → (padding : ℕ)
+        × IsLeastPadding length promises size alignment padding }
 {}
 
 /// There is one least padding.
 pub fn least_padding_is_unique()
-    ensures { (length : ℕ) (promises : List Promise) (size alignment a b : ℕ) → IsLeastPadding length promises size alignment a
+    ensures { (length : ℕ) (promises : List Promise) (size alignment a b : ℕ)
+        → IsLeastPadding length promises size alignment a
         → IsLeastPadding length promises size alignment b → a ≡ b }
 {}
 
@@ -30,16 +33,19 @@ pub fn least_padding_is_unique()
 /// at a length that keeps every promise, where all of them were made of what is written.
 pub fn greatest_alignment_keeps_every_promise()
     ensures { (length : ℕ) (promises : List Promise) (size alignment padding : ℕ)
-        → AllByRecursion (λ (p : Promise). IsPowerOfTwo p.alignment) promises → AllByRecursion (λ (p : Promise). p.distance ≤ length) promises
+        → AllByRecursion (λ (p : Promise). IsPowerOfTwo p.alignment) promises
+        → AllByRecursion (λ (p : Promise). p.distance ≤ length) promises
         → IsPowerOfTwo alignment → greatest_alignment 1 promises ≤ alignment
         → IsLeastPadding length promises size alignment padding
-        → Keep (promise_of (length + padding + size) alignment ∷ promises) (length + padding + size) }
+        → Keep (promise_of (length + padding + size) alignment ∷ promises)
+        (length + padding + size) }
 {}
 
 /// The least padding in front of each part in turn gives every part the least place that it has in
 /// any placing of the same parts in the same order. So the finished length is the least that this
 /// order allows.
 pub fn least_padding_gives_the_least_places()
-    ensures { (parts : List Part) (places others : List ℕ) → AllByRecursion (λ (part : Part). IsPowerOfTwo part.alignment) parts
+    ensures { (parts : List Part) (places others : List ℕ)
+        → AllByRecursion (λ (part : Part). IsPowerOfTwo part.alignment) parts
         → PlacedInTurn 0 [] parts places → IsPlacing parts others → NoneIsGreater places others }
 {}

@@ -76,7 +76,8 @@ pub fn least_padding(
     requires positive { AlignmentsAboveZero promises.now }
     requires within { DistancesWithin len promises.now }
     requires small { len + alignment + size + alignment * period promises.now < 2 ^ 32 }
-    ensures { MatchOption result ((padding : ℕ) → ¬ CanPad len (promises_of promises.now) size alignment padding)
+    ensures { MatchOption result ((padding : ℕ)
+        → ¬ CanPad len (promises_of promises.now) size alignment padding)
         (λ padding. IsLeastPadding len (promises_of promises.now) size alignment padding) }
 {
     let tries = alignment * period(promises);

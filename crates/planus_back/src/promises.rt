@@ -103,7 +103,8 @@ impl Promises {
             (mask + 1)) }
         ensures least_padding { IfOk result (λ r. (promises : List Promise)
             → DescribesAll self len promises → IsLeastPadding len promises size (mask + 1) r.1) }
-        ensures described { IfOk result (λ r. (promises : List Promise) → DescribesAll self len promises
+        ensures described { IfOk result (λ r. (promises : List Promise)
+            → DescribesAll self len promises
             → DescribesAll r.0 (len + r.1 + size)
             (promise_of (len + r.1 + size) (mask + 1) ∷ promises)) }
         ensures kept { IfOk result (λ r. (promises : List Promise) → DescribesAll self len promises

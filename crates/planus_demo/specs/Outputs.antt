@@ -26,7 +26,10 @@ NamesStep count (Ok finished) = ⊤
 
 -- what is printed of a replay's answer, a refusal for memory included
 abbrev pub PrintsAnswerOr : List ℕ → Result (List Finish) ReplayError → Bool → List ℕ → Type 0
-PrintsAnswerOr numbers (Ok finished) clean printed = PrintsAnswer numbers (Ok finished) clean printed
-PrintsAnswerOr numbers (Err (BadStep step why)) clean printed = PrintsAnswer numbers (Err (BadStep step why)) clean printed
-PrintsAnswerOr numbers (Err TooLarge) clean printed = PrintsAnswer numbers (Err TooLarge) clean printed
+PrintsAnswerOr numbers (Ok finished) clean printed =
+    PrintsAnswer numbers (Ok finished) clean printed
+PrintsAnswerOr numbers (Err (BadStep step why)) clean printed =
+    PrintsAnswer numbers (Err (BadStep step why)) clean printed
+PrintsAnswerOr numbers (Err TooLarge) clean printed =
+    PrintsAnswer numbers (Err TooLarge) clean printed
 PrintsAnswerOr numbers (Err OutOfMemory) clean printed = PrintsOutOfMemory clean printed

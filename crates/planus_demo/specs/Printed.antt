@@ -36,20 +36,28 @@ fault_line number fault = codes "line " ++ (decimal number ++ (codes ": " ++ lin
 
 -- what is printed of a replay's answer, where the steps stand on the lines of these numbers
 abbrev pub PrintsAnswer : List ℕ → Result (List Finish) ReplayError → Bool → List ℕ → Type 0
-PrintsAnswer numbers (Ok finished) clean printed = (clean ≡ true) × (printed ≡ flat_map (λ finish. hex_line finish.bytes) finished)
-PrintsAnswer numbers (Err (BadStep step why)) clean printed = (clean ≡ false) × ((number : ℕ) × (slice_get numbers step ≡ Some number) × (printed ≡ fault_line number (why_text why)))
-PrintsAnswer numbers (Err TooLarge) clean printed = (clean ≡ false) × (printed ≡ line_of (codes "too large"))
+PrintsAnswer numbers (Ok finished) clean printed = (clean ≡ true)
+    × (printed ≡ flat_map (λ finish. hex_line finish.bytes) finished)
+PrintsAnswer numbers (Err (BadStep step why)) clean printed = (clean ≡ false)
+    × ((number : ℕ) × (slice_get numbers step ≡ Some number)
+    × (printed ≡ fault_line number (why_text why)))
+PrintsAnswer numbers (Err TooLarge) clean printed = (clean ≡ false)
+    × (printed ≡ line_of (codes "too large"))
 PrintsAnswer numbers (Err OutOfMemory) clean printed = ⊥
 
 -- what is printed of what was read of a script
 abbrev pub PrintsRead : Result Read (ℕ × ReadFault) → Bool → List ℕ → Type 0
-PrintsRead (Err fault) clean printed = (clean ≡ false) × (printed ≡ fault_line fault.0 (read_fault_text fault.1))
-PrintsRead (Ok read) clean printed = (answer : Result (List Finish) ReplayError) × Replays nothing_shared read.commands answer × PrintsAnswer read.numbers answer clean printed
+PrintsRead (Err fault) clean printed = (clean ≡ false)
+    × (printed ≡ fault_line fault.0 (read_fault_text fault.1))
+PrintsRead (Ok read) clean printed = (answer : Result (List Finish) ReplayError)
+    × Replays nothing_shared read.commands answer × PrintsAnswer read.numbers answer clean printed
 
 -- Of this input this is printed, and the script is clean, or it is at fault.
 abbrev pub Printed : List ℕ → Bool → List ℕ → Type 0
 Printed input clean printed =
-    MatchBool (nat_lt greatest_script (length input)) ((clean ≡ false) × (printed ≡ line_of (codes "script too long"))) (PrintsRead (script_of input) clean printed)
+    MatchBool (nat_lt greatest_script (length input)) ((clean ≡ false)
+    × (printed ≡ line_of (codes "script too long")))
+    (PrintsRead (script_of input) clean printed)
 
 -- The input is a script: it isn't too long, and each of its lines can be read.
 pub record IsScript (input : List ℕ) : Type 0 where
@@ -62,9 +70,11 @@ PrintsOutOfMemory clean printed = (clean ≡ false) × (printed ≡ line_of (cod
 
 -- Of this input this is printed, or else it is a script whose replay was refused for memory.
 abbrev pub PrintedOrOutOfMemory : List ℕ → Bool → List ℕ → Type 0
-PrintedOrOutOfMemory input clean printed = Printed input clean printed ⊎ (IsScript input × PrintsOutOfMemory clean printed)
+PrintedOrOutOfMemory input clean printed = Printed input clean printed
+    ⊎ (IsScript input × PrintsOutOfMemory clean printed)
 
 -- What is printed of an input is one text, and says one thing of whether the script is clean.
 abbrev pub PrintedIsOne : Type 0
 PrintedIsOne =
-    (input : List ℕ) (a b : Bool) (x y : List ℕ) → Printed input a x → Printed input b y → (a ≡ b) × (x ≡ y)
+    (input : List ℕ) (a b : Bool) (x y : List ℕ) → Printed input a x → Printed input b y → (a ≡ b)
+    × (x ≡ y)

@@ -7,7 +7,8 @@ use Rattle.planus_demo.specs.declared.run.RunError.TheVariants.{OutOfMemory, Rea
 
 -- What is printed of the input was written, and nothing else.
 abbrev pub WritesPrinted : List ℕ → Bool → Option (List ℕ) → Option (List ℕ) → Type 0
-WritesPrinted input clean before after = (printed : List ℕ) × PrintedOrOutOfMemory input clean printed × Appends before after printed
+WritesPrinted input clean before after = (printed : List ℕ)
+    × PrintedOrOutOfMemory input clean printed × Appends before after printed
 
 -- Nothing was written, unless writing failed.
 abbrev pub LeavesUnwritten : RunError → Option (List ℕ) → Option (List ℕ) → Type 0

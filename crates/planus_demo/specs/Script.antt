@@ -26,7 +26,9 @@ is_skipped (b ∷ bs) = b == 35
 
 -- a number is one to twenty decimal digits, of at most 18446744073709551615
 abbrev pub is_number : List ℕ → Bool
-is_number word = nat_le 1 (length word) && (nat_le (length word) 20 && (list_all is_ascii_digit word && nat_lt (digits_value 10 word) (2 ^ 64)))
+is_number word = nat_le 1 (length word) &&
+    (nat_le (length word) 20 && (list_all is_ascii_digit word && nat_lt (digits_value 10 word)
+    (2 ^ 64)))
 
 -- the number that a word is, or the fault that it is none
 abbrev pub number_of : List ℕ → Result ℕ ReadFault
@@ -86,11 +88,13 @@ pub record Read : Type 0 where
 
 -- one step more in front
 abbrev pub onto_read : ℕ → Step → Result Read (ℕ × ReadFault) → Result Read (ℕ × ReadFault)
-onto_read number command (Ok read) = Ok (record { numbers = number ∷ read.numbers; commands = command ∷ read.commands })
+onto_read number command (Ok read) =
+    Ok (record { numbers = number ∷ read.numbers; commands = command ∷ read.commands })
 onto_read number command (Err fault) = Err fault
 
 -- a line that is a step, or is at fault, and what follows it
-abbrev pub then_read : ℕ → Result Step ReadFault → Result Read (ℕ × ReadFault) → Result Read (ℕ × ReadFault)
+abbrev pub then_read : ℕ → Result Step ReadFault → Result Read (ℕ × ReadFault)
+    → Result Read (ℕ × ReadFault)
 then_read number (Ok command) more = onto_read number command more
 then_read number (Err fault) more = Err (number, fault)
 
@@ -98,7 +102,8 @@ then_read number (Err fault) more = Err (number, fault)
 abbrev pub read_lines : ℕ → List (List ℕ) → Result Read (ℕ × ReadFault)
 read_lines number [] = Ok (record { numbers = []; commands = [] })
 read_lines number (line ∷ lines) =
-    if is_skipped line then read_lines (number + 1) lines else then_read number (command_of line) (read_lines (number + 1) lines)
+    if is_skipped line then read_lines (number + 1) lines else then_read number (command_of line)
+    (read_lines (number + 1) lines)
 
 -- Lines are numbered from 1, skipped ones included.
 abbrev pub script_of : List ℕ → Result Read (ℕ × ReadFault)

@@ -12,7 +12,8 @@ use Rattle.planus_demo.specs.declared.script.Script.{Script}
 
 -- a script, without where it lies in memory
 abbrev pub read_of : Script → Read
-read_of script = record { numbers = script.numbers.items; commands = map bare_step script.steps.items }
+read_of script =
+    record { numbers = script.numbers.items; commands = map bare_step script.steps.items }
 
 -- the answer is this command or this fault
 abbrev pub AnswersCommand : Result code.Step ReadFault → Result Step ReadFault → Type 0

@@ -47,7 +47,8 @@ fn push_line(text: &mut String, bytes: &[u8]) -> std::result::Result<(), AllocEr
 
 /// A line for each finish.
 fn finished_text(alloc: Global, finished: &[Finished]) -> std::result::Result<String, AllocError>
-    ensures { IfOk result (λ text. string_bytes text ≡ flat_map (λ finish. hex_line finish.bytes) (map finish_given finished.now)) }
+    ensures { IfOk result (λ text. string_bytes text ≡ flat_map (λ finish. hex_line finish.bytes)
+        (map finish_given finished.now)) }
 {
     let mut text = String::new(alloc);
     for finish in finished {
@@ -63,7 +64,8 @@ pub fn answer_text(
     answer: &std::result::Result<Vec<Finished>, ReplayError>,
 ) -> std::result::Result<String, AllocError>
     requires { NamesStep (length numbers.now) answer.now }
-    ensures { IfOk result (λ text. PrintsAnswerOr numbers.now (given_by answer.now) (is_ok answer.now) (string_bytes text)) }
+    ensures { IfOk result (λ text. PrintsAnswerOr numbers.now (given_by answer.now)
+        (is_ok answer.now) (string_bytes text)) }
 {
     match answer {
         Ok(finished) => finished_text(alloc, finished.as_slice()),

@@ -41,7 +41,8 @@ impl From<AllocError> for RunError {
 
 /// The bytes of a script, or the first bytes of one that is too long.
 fn read_script<R: Read>(alloc: Global, reader: &mut R) -> std::result::Result<Vec<u8>, RunError>
-    ensures bytes { IfOk result (λ input. IfSome (R.remaining reader.old) (λ bytes. input.items ≡ take (greatest_script + 1) bytes)) }
+    ensures bytes { IfOk result (λ input. IfSome (R.remaining reader.old)
+        (λ bytes. input.items ≡ take (greatest_script + 1) bytes)) }
     ensures error { IfErr result (λ error. IsReading error) }
 {
     let mut input = Vec::new(alloc);
@@ -55,7 +56,8 @@ fn read_script<R: Read>(alloc: Global, reader: &mut R) -> std::result::Result<Ve
 
 /// What is printed of an input: it is parsed, and its steps are replayed.
 fn output_of(alloc: Global, input: &[u8]) -> std::result::Result<Output, AllocError>
-    ensures { IfOk result (λ output. PrintedOrOutOfMemory input.now (is_clean output) (printed_text output)) }
+    ensures { IfOk result (λ output. PrintedOrOutOfMemory input.now (is_clean output)
+        (printed_text output)) }
 {
     if input.len() > GREATEST_SCRIPT {
         let text = format!(in alloc; "script too long\n")?;
@@ -80,7 +82,8 @@ fn output_of(alloc: Global, input: &[u8]) -> std::result::Result<Output, AllocEr
 
 /// Writes all bytes, and hands them on.
 fn write_out<W: Write>(writer: &mut W, bytes: &[u8]) -> std::result::Result<(), RunError>
-    ensures bytes { OnOk result (Appends (W.contents writer.old) (W.contents writer.new) bytes.now) }
+    ensures bytes { OnOk result (Appends (W.contents writer.old)
+        (W.contents writer.new) bytes.now) }
     ensures error { IfErr result (λ error. error ≡ RunError.Write) }
 {
     if writer.write_all(bytes).is_err() {
@@ -99,8 +102,10 @@ pub fn run<R: Read, W: Write>(
     reader: &mut R,
     writer: &mut W,
 ) -> std::result::Result<bool, RunError>
-    ensures printed { IfOk result (λ clean. IfSome (R.remaining reader.old) (λ input. WritesPrinted input clean (W.contents writer.old) (W.contents writer.new))) }
-    ensures unwritten { IfErr result (λ error. LeavesUnwritten error (W.contents writer.old) (W.contents writer.new)) }
+    ensures printed { IfOk result (λ clean. IfSome (R.remaining reader.old)
+        (λ input. WritesPrinted input clean (W.contents writer.old) (W.contents writer.new))) }
+    ensures unwritten { IfErr result
+        (λ error. LeavesUnwritten error (W.contents writer.old) (W.contents writer.new)) }
 {
     let input = read_script(alloc, reader)?;
     let output = output_of(alloc, input.as_slice())?;

@@ -126,7 +126,8 @@ fn line_end(text: &[u8]) -> Option<usize>
 fn first_line(text: &[u8]) -> (&[u8], Option<&[u8]>)
     ensures shorter { IfSome result.1 (λ more. length more.now < length text.now) }
     ensures lines { MatchOption result.1 (slice_split (λ b. b == 10) text.now ≡ result.0.now ∷ [])
-        (λ more. slice_split (λ b. b == 10) text.now ≡ result.0.now ∷ slice_split (λ b. b == 10) more.now) }
+        (λ more. slice_split (λ b. b == 10) text.now
+        ≡ result.0.now ∷ slice_split (λ b. b == 10) more.now) }
 {
     match line_end(text) {
         None => (text, None),
@@ -274,7 +275,10 @@ impl Script {
 
     /// One step more, which stands on the line of this number.
     fn push(&mut self, number: usize, step: Step) -> std::result::Result<(), AllocError>
-        ensures ok { OnOk result (read_of self.new ≡ record { numbers = self.old.numbers.items ++ number ∷ []; commands = map bare_step (self.old.steps.items ++ step ∷ []) }) }
+        ensures ok { OnOk result (read_of self.new ≡ record {
+          numbers = self.old.numbers.items ++ number ∷ [];
+          commands = map bare_step (self.old.steps.items ++ step ∷ []);
+        }) }
     {
         self.numbers.push(number)?;
         self.steps.push(step)?;

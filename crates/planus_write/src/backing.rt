@@ -122,7 +122,8 @@ impl Backing {
     #[inline]
     pub(crate) fn put_three(&mut self, first: &[u8], second: &[u8], third: &[u8])
         requires room { length (first.now ++ second.now ++ third.now) ≤ self.old.room }
-        requires fits { length (first.now ++ second.now ++ third.now) + length self.old.bytes ≤ greatest_place }
+        requires fits { length (first.now ++ second.now ++ third.now) + length self.old.bytes
+            ≤ greatest_place }
         ensures { PutsBytes (first.now ++ second.now ++ third.now) self.old self.new }
     {
         self.inner.put_three(first, second, third);

@@ -16,7 +16,8 @@ impl<T> WriteAsOffset<T> for Offset<T> {
 
     ghost grows = { λ offset old answer new may done. prepared_grows offset old answer new done };
 
-    ghost reaches = { λ offset old answer new may done. prepared_reaches offset old answer new may done };
+    ghost reaches = { λ offset old answer new may done.
+        prepared_reaches offset old answer new may done };
 
     #[inline]
     fn prepare(&self, _builder: &mut Builder) -> std::result::Result<Offset<T>, BuildError> {
