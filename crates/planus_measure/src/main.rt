@@ -31,7 +31,8 @@ fn rounds(rt: &HostRuntime) -> io::Result<u64> {
     }
 }
 
-/// Prints what one round does, and the nanoseconds that an operation takes, if rounds are asked for.
+/// Prints what one round does, and the nanoseconds that an operation takes, if rounds are asked
+/// for.
 fn measure(rt: &HostRuntime, works: &mut Works, work: Work, rounds: u64) -> io::Result<()> {
     let name = work.name();
     let Some(done) = works.round(work) else {
