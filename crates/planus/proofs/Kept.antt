@@ -275,6 +275,7 @@ module _ (switches : Switches) (all done : List Step) (root : ℕ) (named : Name
         there = v.there;
         is_value = v.is_value;
         reached = kept.reached;
+        tags_reached = kept.tags_reached;
         stands = kept.stands;
         aligned = subst (λ p. AlignedAt new.bytes p v.value) (moved_nowhere (position_in new.bytes one.named)) (kept.aligned [] keep);
         reads_back = what_stands_reads_back new.bytes (position_in new.bytes one.named) v.value v.well_formed kept.stands;

@@ -11,6 +11,7 @@ use Rattle.planus_read.specs.Aligned.{AlignedAt}
 use Rattle.planus_read.specs.ReadsBack.{ReadsBack}
 use Rattle.planus_write.specs.Shared.{Switches}
 use Rattle.planus_write.specs.Parts.{identifier_bytes, Named, position_in}
+use Rattle.planus_write.specs.Standing.{TagsReached}
 use Rattle.planus.specs.Steps.{Step, finish}
 use Rattle.planus.specs.Runs.{Finish, Listed, State, nothing_written, LeadsTo, named_at, value_of}
 
@@ -21,6 +22,7 @@ pub record ValueHolds (steps : List Step) (given : Finish) (one : Listed) : Type
   pub there : slice_get steps one.step ≡ Some step
   pub is_value : value_of given.places step ≡ Some value
   pub reached : one.named.distance ≤ length given.bytes
+  pub tags_reached : TagsReached (length given.bytes) one.named.tags
   pub stands : Stands given.bytes (position_in given.bytes one.named) value
   pub aligned : AlignedAt given.bytes (position_in given.bytes one.named) value
   pub reads_back : ReadsBack given.bytes (position_in given.bytes one.named) value
