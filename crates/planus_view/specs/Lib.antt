@@ -1,0 +1,4 @@
+pub mod Views
+pub mod SubViews
+pub mod VectorView
+pub mod Ranges

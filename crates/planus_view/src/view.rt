@@ -1,0 +1,45 @@
+//! Views of items, of which every range of positions is a view too.
+
+ghost use Rattle.std.specs.Prelude.{◌≡◌, ℕ, ◌+◌, ◌-◌, ◌<◌, ◌≤◌};
+
+/// A view of so many positions, of which every range is a view too.
+pub trait View: Copy {
+    /// The number of items.
+    ghost count: { Self → ℕ };
+
+    /// The last view is the sub-view of the first from one position up to another.
+    ghost is_sub_view: { Self → ℕ → ℕ → Self → Type 0 };
+
+    /// Returns the number of items.
+    fn len(&self) -> usize
+        ensures { result ≡ count self.now };
+
+    /// Returns the sub-view of the positions from `lo` up to `hi`.
+    fn sub_view(&self, lo: usize, hi: usize) -> Self
+        requires order { lo ≤ hi }
+        requires inside { hi ≤ count self.now }
+        ensures { is_sub_view self.now lo hi result };
+
+    /// A sub-view has as many items as positions.
+    ghost sub_view_count: {
+        (v u : Self) (lo hi : ℕ) → is_sub_view v lo hi u → count u ≡ hi - lo };
+
+    /// A sub-view of a sub-view is one of the whole.
+    ghost sub_view_twice: {
+        (v u w : Self) (lo hi a b : ℕ) → is_sub_view v lo hi u → is_sub_view u a b w
+        → is_sub_view v (lo + a) (lo + b) w };
+}
+
+/// A view whose items can be read.
+pub trait ReadView: View {
+    /// What an item is read as.
+    type Item;
+
+    /// What may be returned for the item at a position.
+    ghost is_item: { Self → ℕ → Self.Item → Type 0 };
+
+    /// Returns the item at the position.
+    fn item(&self, position: usize) -> Self::Item
+        requires { position < Self.count self.now }
+        ensures { is_item self.now position result };
+}
