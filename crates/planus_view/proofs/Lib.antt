@@ -1,1 +1,2 @@
 pub mod ItemsLie
+pub mod RangeLists

@@ -1,8 +1,10 @@
 //! Views of vectors in a buffer: their items and sub-views by index, and iterators from both ends.
 #![tactic(auto)]
 
+mod cuts;
 mod vector;
 mod view;
 
+pub use cuts::{ByChunks, ByChunksExact, ByRChunks, ByRChunksExact, ByWindows, Cut};
 pub use vector::Vector;
 pub use view::{ReadView, View};

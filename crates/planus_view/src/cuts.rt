@@ -1,0 +1,126 @@
+//! The ways to cut positions into ranges.
+
+ghost use Rattle.std.specs.Prelude.{◌≡◌, ℕ, ◌<◌, ◌≤◌, List, length, slice_get, Some};
+ghost use Rattle.planus_view.specs.Ranges.{chunks, rchunks, chunks_exact, rchunks_exact, windows};
+
+/// A way to cut positions into ranges, for a size above 0.
+pub trait Cut {
+    /// The ranges of so many positions for a size. A range goes from its first position up to its
+    /// second.
+    ghost ranges: { ℕ → ℕ → List (ℕ × ℕ) };
+
+    /// Returns the number of ranges of `len` positions.
+    fn count(len: usize, size: usize) -> usize
+        requires { 0 < size }
+        ensures { result ≡ length (ranges len size) };
+
+    /// Returns range `i` of `len` positions.
+    fn range(len: usize, size: usize, i: usize) -> (usize, usize)
+        requires positive { 0 < size }
+        requires inside { i < length (ranges len size) }
+        ensures range { slice_get (ranges len size) i ≡ Some result }
+        ensures order { result.0 ≤ result.1 }
+        ensures end { result.1 ≤ len };
+}
+
+/// Ranges of a size from the front on; the last may be shorter.
+pub struct ByChunks;
+
+/// Ranges of a size from the back on; the last, at the front, may be shorter.
+pub struct ByRChunks;
+
+/// Ranges of exactly a size from the front on.
+pub struct ByChunksExact;
+
+/// Ranges of exactly a size from the back on.
+pub struct ByRChunksExact;
+
+/// All ranges of exactly a size, which overlap.
+pub struct ByWindows;
+
+impl Cut for ByChunks {
+    ghost ranges = { chunks };
+
+    #[inline]
+    #[tactic(auto, using(crate::proofs::RangeLists::chunks_count))]
+    fn count(len: usize, size: usize) -> usize {
+        len.div_ceil(size)
+    }
+
+    #[inline]
+    fn range(len: usize, size: usize, i: usize) -> (usize, usize) {
+        let begin = i * size;
+        let end = if size < len - begin {
+            begin + size
+        } else {
+            len
+        };
+        (begin, end)
+    }
+}
+
+impl Cut for ByRChunks {
+    ghost ranges = { rchunks };
+
+    #[inline]
+    #[tactic(auto, using(crate::proofs::RangeLists::rchunks_count))]
+    fn count(len: usize, size: usize) -> usize {
+        len.div_ceil(size)
+    }
+
+    #[inline]
+    fn range(len: usize, size: usize, i: usize) -> (usize, usize) {
+        let end = len - i * size;
+        (end.saturating_sub(size), end)
+    }
+}
+
+impl Cut for ByChunksExact {
+    ghost ranges = { chunks_exact };
+
+    #[inline]
+    #[tactic(auto, using(crate::proofs::RangeLists::chunks_exact_count))]
+    fn count(len: usize, size: usize) -> usize {
+        len / size
+    }
+
+    #[inline]
+    fn range(_len: usize, size: usize, i: usize) -> (usize, usize) {
+        let begin = i * size;
+        (begin, begin + size)
+    }
+}
+
+impl Cut for ByRChunksExact {
+    ghost ranges = { rchunks_exact };
+
+    #[inline]
+    #[tactic(auto, using(crate::proofs::RangeLists::rchunks_exact_count))]
+    fn count(len: usize, size: usize) -> usize {
+        len / size
+    }
+
+    #[inline]
+    fn range(len: usize, size: usize, i: usize) -> (usize, usize) {
+        let end = len - i * size;
+        (end - size, end)
+    }
+}
+
+impl Cut for ByWindows {
+    ghost ranges = { windows };
+
+    #[inline]
+    #[tactic(auto, using(crate::proofs::RangeLists::windows_count))]
+    fn count(len: usize, size: usize) -> usize {
+        if size > len {
+            return 0;
+        }
+        len - size + 1
+    }
+
+    #[inline]
+    fn range(_len: usize, size: usize, i: usize) -> (usize, usize) {
+        (i, i + size)
+    }
+}
