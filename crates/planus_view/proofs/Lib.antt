@@ -1,2 +1,3 @@
 pub mod ItemsLie
 pub mod RangeLists
+pub mod LeftOf

@@ -2,3 +2,4 @@ pub mod Views
 pub mod SubViews
 pub mod VectorView
 pub mod Ranges
+pub mod RangesLeft

@@ -1,6 +1,6 @@
 -- The ranges into which n positions are cut for a size c above 0. A range goes from its first
 -- position up to its second.
-use Rattle.std.specs.Prelude.{ℕ, ◌+◌, ◌-◌, ◌*◌, min, Bool, nat_lt, nat_le}
+use Rattle.std.specs.Prelude.{ℕ, ◌+◌, ◌-◌, ◌*◌, ◌%◌, min, Bool, nat_lt, nat_le}
 use Rattle.std.specs.Prelude.{List, map, length, take, drop}
 use Rattle.std.specs.List.{filter, range_with_len}
 
@@ -44,3 +44,7 @@ windows n c = ranges_where n (λ i. nat_le (i + c) n) (window n c)
 -- more than both.
 abbrev pub ends : {X : Type 0} → List X → ℕ → ℕ → List X
 ends R a b = take (length R - (a + b)) (drop a R)
+
+-- how many positions remain beside all exact chunks
+abbrev pub remainder : ℕ → ℕ → ℕ
+remainder n c = n % c

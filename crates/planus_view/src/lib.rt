@@ -2,9 +2,11 @@
 #![tactic(auto)]
 
 mod cuts;
+mod sub_views;
 mod vector;
 mod view;
 
 pub use cuts::{ByChunks, ByChunksExact, ByRChunks, ByRChunksExact, ByWindows, Cut};
+pub use sub_views::SubViews;
 pub use vector::Vector;
 pub use view::{ReadView, View};

@@ -1,0 +1,221 @@
+//! Iterators over sub-views.
+
+ghost use Rattle.std.specs.Prelude.{◌≡◌, ℕ, ◌+◌, ◌-◌, ◌<◌, ◌≤◌, length, slice_get, Some, IfSome};
+ghost use Rattle.std.specs.Iterator.{at_most, UpTo};
+ghost use Rattle.std.specs.Iterator.SizeHint.{IsWithinCount};
+
+use crate::cuts::{ByChunksExact, ByRChunksExact, Cut};
+use crate::view::View;
+use std::alloc::AllocError;
+use std::iter::FusedIterator;
+use std::marker::PhantomData;
+
+/// An iterator over the sub-views of a view at the ranges into which its positions are cut.
+#[derive(Drop)]
+pub struct SubViews<V: View, C: Cut> {
+    whole: V,
+    size: usize,
+    front: usize,
+    back: usize,
+    of: PhantomData<C>,
+    ghost positive: { 0 < size },
+    ghost order: { front ≤ back },
+    ghost inside: { back ≤ length (C.ranges (V.count whole) size) },
+}
+
+impl<V: View, C: Cut> SubViews<V, C> {
+    ghost use Rattle.planus_view.specs.RangesLeft.{whole_of, size_of, ranges_of, left_of};
+
+    /// Creates an iterator over the sub-views at all ranges of the view for this size.
+    #[inline]
+    #[tactic(auto, using(crate::proofs::LeftOf::all_left))]
+    pub fn new(whole: V, size: usize) -> Self
+        requires { 0 < size }
+        ensures whole { whole_of result ≡ whole }
+        ensures size { size_of result ≡ size }
+        ensures left { left_of result ≡ C.ranges (V.count whole) size }
+    {
+        let back = C::count(whole.len(), size);
+        SubViews {
+            whole,
+            size,
+            front: 0,
+            back,
+            of: PhantomData,
+        }
+    }
+
+    // Returns the sub-view at range i.
+    #[inline]
+    fn at_range(&self, i: usize) -> V
+        requires { i < length (ranges_of self.now) }
+        ensures { (range : ℕ × ℕ) × (slice_get (ranges_of self.now) i ≡ Some range)
+            × V.is_sub_view (whole_of self.now) range.0 range.1 result }
+    {
+        let (begin, end) = C::range(self.whole.len(), self.size, i);
+        self.whole.sub_view(begin, end)
+    }
+}
+
+impl<V: View, C: Cut> Iterator for SubViews<V, C> {
+    type Item = V;
+
+    ghost use Rattle.planus_view.specs.RangesLeft.{left_of, TakesFirst};
+
+    ghost next_gives = { λ s r t. TakesFirst s r t };
+
+    ghost remaining = { λ s. at_most (length (left_of s)) };
+
+    #[inline]
+    fn next(&mut self) -> Option<V> {
+        if self.front == self.back {
+            return None;
+        }
+        let sub_view = self.at_range(self.front);
+        self.front += 1;
+        Some(sub_view)
+    }
+
+    #[inline]
+    fn size_hint(&self) -> (usize, Option<usize>)
+        ensures lower { IsWithinCount result.0 (at_most (length (left_of self.now))) }
+        ensures upper { IfSome result.1 (UpTo (at_most (length (left_of self.now)))) }
+        ensures exact { (result.0 ≡ length (left_of self.now))
+            × (result.1 ≡ Some (length (left_of self.now))) }
+    {
+        let len = self.len();
+        (len, Some(len))
+    }
+}
+
+impl<V: View, C: Cut> DoubleEndedIterator for SubViews<V, C> {
+    ghost use Rattle.planus_view.specs.RangesLeft.{TakesLast};
+
+    ghost next_back_gives = { λ s r t. TakesLast s r t };
+
+    #[inline]
+    fn next_back(&mut self) -> Option<V> {
+        if self.front == self.back {
+            return None;
+        }
+        let sub_view = self.at_range(self.back - 1);
+        self.back -= 1;
+        Some(sub_view)
+    }
+}
+
+impl<V: View, C: Cut> ExactSizeIterator for SubViews<V, C> {
+    #[inline]
+    #[tactic(auto, using(crate::proofs::LeftOf::left_length))]
+    fn len(&self) -> usize {
+        self.back - self.front
+    }
+}
+
+impl<V: View, C: Cut> FusedIterator for SubViews<V, C> {}
+
+impl<V: View, C: Cut> Clone for SubViews<V, C> {
+    ghost use Rattle.planus_view.specs.RangesLeft.{IsCopy};
+
+    ghost is_clone = { λ s t. IsCopy s t };
+
+    ghost is_infallible = { λ _. Unit {0} };
+
+    #[inline]
+    fn clone(&self) -> Result<Self, AllocError> {
+        Ok(SubViews {
+            whole: self.whole,
+            size: self.size,
+            front: self.front,
+            back: self.back,
+            of: self.of,
+        })
+    }
+}
+
+impl<V: View, C: Cut> SubViews<V, C> {
+    ghost use Rattle.planus_view.specs.RangesLeft.{left_of, TakesFirst, TakesLast};
+    ghost use Rattle.planus_view.specs.RangesLeft.{SkipsFront, SkipsBack};
+    ghost use Rattle.planus_view.specs.declared.sub_views.SubViews.{SubViews};
+
+    // Drops so many in front, or all.
+    #[inline]
+    #[tactic(auto, using(crate::proofs::LeftOf::front_skipped))]
+    fn skip_front(&mut self, skipped: usize)
+        ensures { SkipsFront skipped self.old self.new }
+    {
+        self.front += skipped.min(self.back - self.front);
+    }
+
+    // Drops so many at the back, or all.
+    #[inline]
+    #[tactic(auto, using(crate::proofs::LeftOf::back_skipped))]
+    fn skip_back(&mut self, skipped: usize)
+        ensures { SkipsBack skipped self.old self.new }
+    {
+        self.back -= skipped.min(self.back - self.front);
+    }
+
+    /// Drops the next `skipped` sub-views, or all, and returns the next one.
+    #[inline]
+    pub fn nth(&mut self, skipped: usize) -> Option<V>
+        ensures { (mid : SubViews V C V.View C.Cut) × SkipsFront skipped self.old mid
+            × TakesFirst mid result self.new }
+    {
+        self.skip_front(skipped);
+        self.next()
+    }
+
+    /// Drops the last `skipped` sub-views, or all, and returns the last one.
+    #[inline]
+    pub fn nth_back(&mut self, skipped: usize) -> Option<V>
+        ensures { (mid : SubViews V C V.View C.Cut) × SkipsBack skipped self.old mid
+            × TakesLast mid result self.new }
+    {
+        self.skip_back(skipped);
+        self.next_back()
+    }
+
+    /// Returns the last sub-view.
+    #[inline]
+    pub fn last(mut self) -> Option<V>
+        ensures { (after : SubViews V C V.View C.Cut) × TakesLast self result after }
+    {
+        self.next_back()
+    }
+
+    /// Returns the number of sub-views.
+    #[inline]
+    pub fn count(self) -> usize
+        ensures { result ≡ length (left_of self) }
+    {
+        self.len()
+    }
+}
+
+impl<V: View> SubViews<V, ByChunksExact> {
+    ghost use Rattle.planus_view.specs.RangesLeft.{whole_of, size_of};
+    ghost use Rattle.planus_view.specs.Ranges.{remainder};
+
+    /// Returns what remains of the view behind all exact chunks, whatever was taken of them.
+    pub fn remainder(&self) -> V
+        ensures { let whole = whole_of self.now in let n = V.count whole in
+            V.is_sub_view whole (n - remainder n (size_of self.now)) n result }
+    {
+        let len = self.whole.len();
+        self.whole.sub_view(len - len % self.size, len)
+    }
+}
+
+impl<V: View> SubViews<V, ByRChunksExact> {
+    ghost use Rattle.planus_view.specs.RangesLeft.{whole_of, size_of};
+    ghost use Rattle.planus_view.specs.Ranges.{remainder};
+
+    /// Returns what remains of the view in front of all exact chunks, whatever was taken of them.
+    pub fn remainder(&self) -> V
+        ensures { let whole = whole_of self.now in
+            V.is_sub_view whole 0 (remainder (V.count whole) (size_of self.now)) result }
+    {
+        self.whole.sub_view(0, self.whole.len() % self.size)
+    }
+}
