@@ -3,3 +3,5 @@ pub mod SubViews
 pub mod VectorView
 pub mod Ranges
 pub mod RangesLeft
+pub mod ItemsLeft
+pub mod Indexes

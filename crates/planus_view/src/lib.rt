@@ -2,11 +2,15 @@
 #![tactic(auto)]
 
 mod cuts;
+mod index;
+mod items;
 mod sub_views;
 mod vector;
 mod view;
 
 pub use cuts::{ByChunks, ByChunksExact, ByRChunks, ByRChunksExact, ByWindows, Cut};
+pub use index::ViewIndex;
+pub use items::Items;
 pub use sub_views::SubViews;
 pub use vector::Vector;
 pub use view::{ReadView, View};
