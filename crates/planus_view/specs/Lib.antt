@@ -5,3 +5,4 @@ pub mod Ranges
 pub mod RangesLeft
 pub mod ItemsLeft
 pub mod Indexes
+pub mod Splits

@@ -4,8 +4,10 @@
 mod cuts;
 mod index;
 mod items;
+pub mod splits;
 mod sub_views;
 mod vector;
+pub mod vectors;
 mod view;
 
 pub use cuts::{ByChunks, ByChunksExact, ByRChunks, ByRChunksExact, ByWindows, Cut};
