@@ -1,3 +1,4 @@
 pub mod ItemsLie
 pub mod RangeLists
 pub mod LeftOf
+pub mod Converted

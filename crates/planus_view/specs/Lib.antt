@@ -6,3 +6,4 @@ pub mod RangesLeft
 pub mod ItemsLeft
 pub mod Indexes
 pub mod Splits
+pub mod Copies

@@ -1,6 +1,7 @@
 //! Views of vectors in a buffer: their items and sub-views by index, and iterators from both ends.
 #![tactic(auto)]
 
+mod copies;
 mod cuts;
 mod index;
 mod items;
@@ -10,6 +11,7 @@ mod vector;
 pub mod vectors;
 mod view;
 
+pub use copies::{Conversion, CopyError, EachItem, EachRead, FromItem, copy_items};
 pub use cuts::{ByChunks, ByChunksExact, ByRChunks, ByRChunksExact, ByWindows, Cut};
 pub use index::ViewIndex;
 pub use items::Items;

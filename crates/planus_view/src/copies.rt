@@ -1,0 +1,110 @@
+//! The items of a view, converted, in a `Vec`.
+
+ghost use Rattle.std.specs.Prelude.{◌≡◌, IfOk, IfErr, Result as std_result};
+ghost use Rattle.planus_view.specs.declared.copies.CopyError.{CopyError};
+ghost use Rattle.planus_view.specs.Copies.{AllConverted, Refused};
+
+use crate::items::Items;
+use crate::view::ReadView;
+use planus_read::Error;
+use std::alloc::{AllocError, Global};
+
+/// Why items can't be copied.
+#[derive(Clone, Copy, Debug)]
+pub enum CopyError {
+    /// There is no memory.
+    OutOfMemory,
+    /// An item can't be read.
+    Read(Error),
+}
+
+impl From<AllocError> for CopyError {
+    ghost use Rattle.planus_view.specs.declared.copies.CopyError.TheVariants.{OutOfMemory};
+
+    ghost from_gives = { λ _ e. e ≡ OutOfMemory };
+
+    fn from(_: AllocError) -> CopyError {
+        CopyError::OutOfMemory
+    }
+}
+
+impl From<Error> for CopyError {
+    ghost use Rattle.planus_view.specs.declared.copies.CopyError.TheVariants.{Read};
+
+    ghost from_gives = { λ error e. e ≡ Read error };
+
+    fn from(error: Error) -> CopyError {
+        CopyError::Read(error)
+    }
+}
+
+/// What an item of a view can be converted to.
+pub trait FromItem<T>: Sized {
+    /// What may be returned for an item.
+    ghost converts: { T → std_result Self CopyError → Type 0 };
+
+    /// Returns the item, converted, or why it can't be.
+    fn from_item(alloc: Global, item: T) -> Result<Self, CopyError>
+        ensures { converts item result };
+}
+
+/// A way to convert items.
+pub trait Conversion<A, O> {
+    /// What may be returned for an item.
+    ghost gives: { A → std_result O CopyError → Type 0 };
+
+    /// Returns the item, converted, or why it can't be.
+    fn convert(alloc: Global, item: A) -> Result<O, CopyError>
+        ensures { gives item result };
+}
+
+/// Each item by its own conversion.
+pub struct EachItem;
+
+/// Each item that was read by its own conversion; an error of a read as it is.
+pub struct EachRead;
+
+impl<A, O: FromItem<A>> Conversion<A, O> for EachItem {
+    ghost gives = { λ item r. O.converts item r };
+
+    fn convert(alloc: Global, item: A) -> Result<O, CopyError> {
+        O::from_item(alloc, item)
+    }
+}
+
+impl<T, E: Into<Error>, O: FromItem<T>> Conversion<Result<T, E>, O> for EachRead {
+    ghost use Rattle.planus_view.specs.Copies.{ReadConverts};
+
+    ghost gives = { λ item r. ReadConverts O.converts E.converts item r };
+
+    fn convert(alloc: Global, item: Result<T, E>) -> Result<O, CopyError> {
+        match item {
+            Ok(value) => O::from_item(alloc, value),
+            Err(error) => Err(CopyError::Read(error.into())),
+        }
+    }
+}
+
+/// Returns all items of the view, converted in order, or the first refusal. Memory for them is asked
+/// for once, before the first is read.
+pub fn copy_items<V: ReadView, O: Drop, C: Conversion<V::Item, O>>(
+    alloc: Global,
+    view: &V,
+) -> Result<Vec<O>, CopyError>
+where
+    V::Item: Drop,
+    ensures all { IfOk result (λ copies. AllConverted V.is_sub_view V.is_item C.gives view.now
+        (V.count view.now) copies.items) }
+    ensures refused { IfErr result (λ e. Refused V.is_sub_view V.is_item C.gives view.now
+        (V.count view.now) e) }
+{
+    let mut copies = Vec::with_capacity(alloc, view.len())?;
+    for item in Items::new(*view) {
+        let copy = C::convert(alloc, item)?;
+        match copies.push(copy) {
+            Ok(()) => {}
+            Err(_) => unreachable!(),
+        }
+    }
+    Ok(copies)
+}
