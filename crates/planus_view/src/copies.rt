@@ -6,34 +6,35 @@ ghost use Rattle.planus_view.specs.Copies.{AllConverted, Refused};
 
 use crate::items::Items;
 use crate::view::ReadView;
-use planus_read::Error;
+use planus_read::located::Error;
 use std::alloc::{AllocError, Global};
 
-/// Why items can't be copied.
+/// Why items can't be copied, with names of any lifetime in the error of a read. With literal names
+/// it is [`crate::CopyError`].
 #[derive(Clone, Copy, Debug)]
-pub enum CopyError {
+pub enum CopyError<'n> {
     /// There is no memory.
     OutOfMemory,
     /// An item can't be read.
-    Read(Error),
+    Read(Error<'n>),
 }
 
-impl From<AllocError> for CopyError {
+impl<'n> From<AllocError> for CopyError<'n> {
     ghost use Rattle.planus_view.specs.declared.copies.CopyError.TheVariants.{OutOfMemory};
 
     ghost from_gives = { λ _ e. e ≡ OutOfMemory };
 
-    fn from(_: AllocError) -> CopyError {
+    fn from(_: AllocError) -> CopyError<'n> {
         CopyError::OutOfMemory
     }
 }
 
-impl From<Error> for CopyError {
+impl<'n> From<Error<'n>> for CopyError<'n> {
     ghost use Rattle.planus_view.specs.declared.copies.CopyError.TheVariants.{Read};
 
     ghost from_gives = { λ error e. e ≡ Read error };
 
-    fn from(error: Error) -> CopyError {
+    fn from(error: Error<'n>) -> CopyError<'n> {
         CopyError::Read(error)
     }
 }
@@ -44,8 +45,30 @@ pub trait FromItem<T>: Sized {
     ghost converts: { T → std_result Self CopyError → Type 0 };
 
     /// Returns the item, converted, or why it can't be.
-    fn from_item(alloc: Global, item: T) -> Result<Self, CopyError>
+    fn from_item(alloc: Global, item: T) -> Result<Self, CopyError<'static>>
         ensures { converts item result };
+}
+
+impl<T> FromItem<T> for T {
+    ghost use Rattle.std.specs.Prelude.{Ok};
+
+    ghost converts = { λ item r. r ≡ Ok item };
+
+    #[inline]
+    fn from_item(_alloc: Global, item: T) -> Result<T, CopyError<'static>> {
+        Ok(item)
+    }
+}
+
+impl<'buf> FromItem<&'buf str> for String {
+    ghost use Rattle.std.specs.Prelude.{MatchResult};
+    ghost use Rattle.planus_view.specs.declared.copies.CopyError.TheVariants.{OutOfMemory};
+
+    ghost converts = { λ item r. MatchResult r (λ text. text.bytes.items ≡ item.now) (λ e. e ≡ OutOfMemory) };
+
+    fn from_item(alloc: Global, item: &'buf str) -> Result<String, CopyError<'static>> {
+        Ok(String::from_str(alloc, item)?)
+    }
 }
 
 /// A way to convert items.
@@ -54,7 +77,7 @@ pub trait Conversion<A, O> {
     ghost gives: { A → std_result O CopyError → Type 0 };
 
     /// Returns the item, converted, or why it can't be.
-    fn convert(alloc: Global, item: A) -> Result<O, CopyError>
+    fn convert(alloc: Global, item: A) -> Result<O, CopyError<'static>>
         ensures { gives item result };
 }
 
@@ -67,17 +90,17 @@ pub struct EachRead;
 impl<A, O: FromItem<A>> Conversion<A, O> for EachItem {
     ghost gives = { λ item r. O.converts item r };
 
-    fn convert(alloc: Global, item: A) -> Result<O, CopyError> {
+    fn convert(alloc: Global, item: A) -> Result<O, CopyError<'static>> {
         O::from_item(alloc, item)
     }
 }
 
-impl<T, E: Into<Error>, O: FromItem<T>> Conversion<Result<T, E>, O> for EachRead {
+impl<T, E: Into<Error<'static>>, O: FromItem<T>> Conversion<Result<T, E>, O> for EachRead {
     ghost use Rattle.planus_view.specs.Copies.{ReadConverts};
 
     ghost gives = { λ item r. ReadConverts O.converts E.converts item r };
 
-    fn convert(alloc: Global, item: Result<T, E>) -> Result<O, CopyError> {
+    fn convert(alloc: Global, item: Result<T, E>) -> Result<O, CopyError<'static>> {
         match item {
             Ok(value) => O::from_item(alloc, value),
             Err(error) => Err(CopyError::Read(error.into())),
@@ -87,10 +110,10 @@ impl<T, E: Into<Error>, O: FromItem<T>> Conversion<Result<T, E>, O> for EachRead
 
 /// Returns all items of the view, converted in order, or the first refusal. Memory for them is asked
 /// for once, before the first is read.
-pub fn copy_items<V: ReadView, O: Drop, C: Conversion<V::Item, O>>(
+pub fn copy_items<'n, V: ReadView, O: Drop, C: Conversion<V::Item, O>>(
     alloc: Global,
     view: &V,
-) -> Result<Vec<O>, CopyError>
+) -> Result<Vec<O>, CopyError<'n>>
 where
     V::Item: Drop,
     ensures all { IfOk result (λ copies. AllConverted V.is_sub_view V.is_item C.gives view.now

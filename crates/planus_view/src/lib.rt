@@ -1,7 +1,7 @@
 //! Views of vectors in a buffer: their items and sub-views by index, and iterators from both ends.
 #![tactic(auto)]
 
-mod copies;
+pub mod copies;
 mod cuts;
 mod index;
 mod items;
@@ -11,10 +11,13 @@ mod vector;
 pub mod vectors;
 mod view;
 
-pub use copies::{Conversion, CopyError, EachItem, EachRead, FromItem, copy_items};
+pub use copies::{Conversion, EachItem, EachRead, FromItem, copy_items};
 pub use cuts::{ByChunks, ByChunksExact, ByRChunks, ByRChunksExact, ByWindows, Cut};
 pub use index::ViewIndex;
 pub use items::Items;
 pub use sub_views::SubViews;
 pub use vector::Vector;
 pub use view::{ReadView, View};
+
+/// Why items can't be copied.
+pub type CopyError = copies::CopyError<'static>;

@@ -1,8 +1,9 @@
 //! Vectors in a buffer.
 
-ghost use Rattle.std.specs.Prelude.{◌≡◌, ◌*◌, ◌<◌, ◌≤◌, ◌==◌, [], length};
+ghost use Rattle.std.specs.Prelude.{◌≡◌, ◌*◌, ◌<◌, ◌≤◌, ◌==◌, [], length, IfOk, IfErr};
 ghost use Rattle.planus_read.specs.Pieces.{slice_bytes};
 
+use crate::copies::{CopyError, EachItem, FromItem, copy_items};
 use crate::cuts::{ByChunks, ByChunksExact, ByRChunks, ByRChunksExact, ByWindows};
 use crate::index::ViewIndex;
 use crate::items::Items;
@@ -11,7 +12,7 @@ use crate::sub_views::SubViews;
 use crate::view::{ReadView, View};
 use planus_read::errors::ErrorKind;
 use planus_read::{SliceWithStartOffset, Stride, TableRead, VectorRead, array_from_buffer};
-use std::alloc::AllocError;
+use std::alloc::{AllocError, Global};
 use std::marker::PhantomData;
 
 /// A view of the items of a vector, which are read when they are asked for. In the format a vector
@@ -282,6 +283,25 @@ impl<'buf, T: VectorRead<'buf>> Vector<'buf, T> {
             self.now result }
     {
         splits::split_last(self)
+    }
+}
+
+impl<'buf, T: VectorRead<'buf> + Drop> Vector<'buf, T> {
+    ghost use Rattle.planus_view.specs.Copies.{AllConverted, Refused};
+    ghost use Rattle.planus_view.specs.VectorView.{count_of, IsSubVector, IsItemOf};
+
+    /// Returns all items, converted in order, or the first refusal. Memory for them is asked for
+    /// once, before the first is read: [`CopyError::OutOfMemory`] where there is none.
+    pub fn to_vec<'n, O: FromItem<T> + Drop>(
+        &self,
+        alloc: Global,
+    ) -> Result<Vec<O>, CopyError<'n>>
+        ensures all { IfOk result (λ copies. AllConverted (IsSubVector T.STRIDE)
+            (IsItemOf T.STRIDE T.gives) O.converts self.now (count_of self.now) copies.items) }
+        ensures refused { IfErr result (λ e. Refused (IsSubVector T.STRIDE)
+            (IsItemOf T.STRIDE T.gives) O.converts self.now (count_of self.now) e) }
+    {
+        copy_items::<Vector<'buf, T>, O, EachItem>(alloc, self)
     }
 }
 
