@@ -1,6 +1,7 @@
 //! The items of a view, converted, in a `Vec`.
 
 ghost use Rattle.std.specs.Prelude.{◌≡◌, IfOk, IfErr, Result as std_result};
+ghost use Rattle.planus_read.specs.declared.located.Error.{Error};
 ghost use Rattle.planus_view.specs.declared.copies.CopyError.{CopyError};
 ghost use Rattle.planus_view.specs.Copies.{AllConverted, Refused};
 
@@ -62,12 +63,42 @@ impl<T> FromItem<T> for T {
 
 impl<'buf> FromItem<&'buf str> for String {
     ghost use Rattle.std.specs.Prelude.{MatchResult};
+    ghost use Rattle.std.specs.String.{string_bytes};
     ghost use Rattle.planus_view.specs.declared.copies.CopyError.TheVariants.{OutOfMemory};
 
-    ghost converts = { λ item r. MatchResult r (λ text. text.bytes.items ≡ item.now) (λ e. e ≡ OutOfMemory) };
+    ghost converts = { λ item r. MatchResult r (λ text. string_bytes text ≡ item.now) (λ e. e ≡ OutOfMemory) };
 
     fn from_item(alloc: Global, item: &'buf str) -> Result<String, CopyError<'static>> {
         Ok(String::from_str(alloc, item)?)
+    }
+}
+
+/// What is read of an item whose read may fail: a `Result` whose error is that of a read.
+pub trait ItemResult {
+    /// The type of an item that was read.
+    type Value;
+
+    /// What may be returned of an item.
+    ghost is_read: { Self → std_result Self.Value Error → Type 0 };
+
+    /// Returns the item, its error converted to that of a read.
+    fn into_read(self) -> Result<Self::Value, Error<'static>>
+        ensures { is_read self result };
+}
+
+impl<T, E: Into<Error<'static>>> ItemResult for Result<T, E> {
+    type Value = T;
+
+    ghost use Rattle.planus_view.specs.Copies.{IsRead};
+
+    ghost is_read = { λ item read. IsRead E.converts item read };
+
+    #[inline]
+    fn into_read(self) -> Result<T, Error<'static>> {
+        match self {
+            Ok(value) => Ok(value),
+            Err(error) => Err(error.into()),
+        }
     }
 }
 
@@ -95,15 +126,15 @@ impl<A, O: FromItem<A>> Conversion<A, O> for EachItem {
     }
 }
 
-impl<T, E: Into<Error<'static>>, O: FromItem<T>> Conversion<Result<T, E>, O> for EachRead {
+impl<A: ItemResult, O: FromItem<A::Value>> Conversion<A, O> for EachRead {
     ghost use Rattle.planus_view.specs.Copies.{ReadConverts};
 
-    ghost gives = { λ item r. ReadConverts O.converts E.converts item r };
+    ghost gives = { λ item r. ReadConverts A.is_read O.converts item r };
 
-    fn convert(alloc: Global, item: Result<T, E>) -> Result<O, CopyError<'static>> {
-        match item {
+    fn convert(alloc: Global, item: A) -> Result<O, CopyError<'static>> {
+        match item.into_read() {
             Ok(value) => O::from_item(alloc, value),
-            Err(error) => Err(CopyError::Read(error.into())),
+            Err(error) => Err(CopyError::Read(error)),
         }
     }
 }

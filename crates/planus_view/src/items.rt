@@ -10,7 +10,7 @@ use std::iter::FusedIterator;
 
 /// An iterator over the items of a view. An item is read from the sub-view that is left when it is
 /// asked for: an item's error has the start of that.
-#[derive(Drop)]
+#[derive(Debug, Drop)]
 pub struct Items<V: View> {
     whole: V,
     front: usize,

@@ -11,7 +11,10 @@ mod vector;
 pub mod vectors;
 mod view;
 
-pub use copies::{Conversion, EachItem, EachRead, FromItem, copy_items};
+#[cfg(test)]
+mod tests;
+
+pub use copies::{Conversion, EachItem, EachRead, FromItem, ItemResult, copy_items};
 pub use cuts::{ByChunks, ByChunksExact, ByRChunks, ByRChunksExact, ByWindows, Cut};
 pub use index::ViewIndex;
 pub use items::Items;

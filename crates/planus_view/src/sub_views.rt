@@ -11,7 +11,7 @@ use std::iter::FusedIterator;
 use std::marker::PhantomData;
 
 /// An iterator over the sub-views of a view at the ranges into which its positions are cut.
-#[derive(Drop)]
+#[derive(Debug, Drop)]
 pub struct SubViews<V: View, C: Cut> {
     whole: V,
     size: usize,

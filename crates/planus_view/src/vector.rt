@@ -3,7 +3,7 @@
 ghost use Rattle.std.specs.Prelude.{◌≡◌, ◌*◌, ◌<◌, ◌≤◌, ◌==◌, [], length, IfOk, IfErr};
 ghost use Rattle.planus_read.specs.Pieces.{slice_bytes};
 
-use crate::copies::{CopyError, EachItem, FromItem, copy_items};
+use crate::copies::{CopyError, EachItem, EachRead, FromItem, ItemResult, copy_items};
 use crate::cuts::{ByChunks, ByChunksExact, ByRChunks, ByRChunksExact, ByWindows};
 use crate::index::ViewIndex;
 use crate::items::Items;
@@ -13,6 +13,7 @@ use crate::view::{ReadView, View};
 use planus_read::errors::ErrorKind;
 use planus_read::{SliceWithStartOffset, Stride, TableRead, VectorRead, array_from_buffer};
 use std::alloc::{AllocError, Global};
+use std::fmt;
 use std::marker::PhantomData;
 
 /// A view of the items of a vector, which are read when they are asked for. In the format a vector
@@ -305,6 +306,28 @@ impl<'buf, T: VectorRead<'buf> + Drop> Vector<'buf, T> {
     }
 }
 
+impl<'buf, T: VectorRead<'buf> + ItemResult + Drop> Vector<'buf, T> {
+    ghost use Rattle.planus_view.specs.Copies.{AllConverted, Refused, ReadConverts};
+    ghost use Rattle.planus_view.specs.VectorView.{count_of, IsSubVector, IsItemOf};
+
+    /// Returns the values of all items, converted in order, or the first refusal: that of a
+    /// conversion, or [`CopyError::Read`] of an item that can't be read. Memory for them is asked
+    /// for once, before the first is read: [`CopyError::OutOfMemory`] where there is none.
+    pub fn to_vec_result<'n, O: FromItem<T::Value> + Drop>(
+        &self,
+        alloc: Global,
+    ) -> Result<Vec<O>, CopyError<'n>>
+        ensures all { IfOk result (λ copies. AllConverted (IsSubVector T.STRIDE)
+            (IsItemOf T.STRIDE T.gives) (ReadConverts T.is_read O.converts) self.now
+            (count_of self.now) copies.items) }
+        ensures refused { IfErr result (λ e. Refused (IsSubVector T.STRIDE)
+            (IsItemOf T.STRIDE T.gives) (ReadConverts T.is_read O.converts) self.now
+            (count_of self.now) e) }
+    {
+        copy_items::<Vector<'buf, T>, O, EachRead>(alloc, self)
+    }
+}
+
 impl<'buf, T: VectorRead<'buf>> IntoIterator for Vector<'buf, T> {
     type Item = T;
 
@@ -313,5 +336,11 @@ impl<'buf, T: VectorRead<'buf>> IntoIterator for Vector<'buf, T> {
     #[inline]
     fn into_iter(self) -> Items<Vector<'buf, T>> {
         self.iter()
+    }
+}
+
+impl<'buf, T: VectorRead<'buf> + fmt::Debug + Drop> fmt::Debug for Vector<'buf, T> {
+    fn fmt<W: fmt::Write>(&self, f: &mut fmt::Formatter<W>) -> fmt::Result {
+        f.debug_list().entries(self.iter()).finish()
     }
 }
