@@ -1,11 +1,12 @@
 //! Truth values.
 
 ghost use Rattle.std.specs.Int.{w8};
-ghost use Rattle.std.proofs.Common.{lit≤};
+ghost use Rattle.std.proofs.Common.{lit≤, refl};
 ghost use Rattle.planus_read.specs.Reading.{TruthThere};
 
 use super::scalar::{Scalar, ScalarItem};
 use crate::slice_helpers::SliceWithStartOffset;
+use crate::traits::Stride;
 
 impl Scalar for bool {
     ghost width = { w8 };
@@ -26,4 +27,17 @@ impl Scalar for bool {
     }
 }
 
-impl ScalarItem for bool {}
+impl Stride for bool {
+    ghost STRIDE = { 1 };
+
+    ghost is_positive = { lit≤ tt };
+
+    #[inline]
+    fn stride() -> usize {
+        1
+    }
+}
+
+impl ScalarItem for bool {
+    ghost is_its_size = { refl };
+}

@@ -1,11 +1,12 @@
 //! Numbers.
 
 ghost use Rattle.std.specs.Int.{w8, w16, w32, w64};
-ghost use Rattle.std.proofs.Common.{lit≤};
+ghost use Rattle.std.proofs.Common.{lit≤, refl};
 ghost use Rattle.planus_read.specs.Reading.{NumberThere, SignedThere};
 
 use super::scalar::{Scalar, ScalarItem};
 use crate::slice_helpers::SliceWithStartOffset;
+use crate::traits::Stride;
 
 impl Scalar for u8 {
     ghost width = { w8 };
@@ -151,14 +152,92 @@ impl Scalar for i64 {
     }
 }
 
-impl ScalarItem for u16 {}
+impl Stride for u16 {
+    ghost STRIDE = { 2 };
 
-impl ScalarItem for u32 {}
+    ghost is_positive = { lit≤ tt };
 
-impl ScalarItem for u64 {}
+    #[inline]
+    fn stride() -> usize {
+        2
+    }
+}
 
-impl ScalarItem for i16 {}
+impl ScalarItem for u16 {
+    ghost is_its_size = { refl };
+}
 
-impl ScalarItem for i32 {}
+impl Stride for u32 {
+    ghost STRIDE = { 4 };
 
-impl ScalarItem for i64 {}
+    ghost is_positive = { lit≤ tt };
+
+    #[inline]
+    fn stride() -> usize {
+        4
+    }
+}
+
+impl ScalarItem for u32 {
+    ghost is_its_size = { refl };
+}
+
+impl Stride for u64 {
+    ghost STRIDE = { 8 };
+
+    ghost is_positive = { lit≤ tt };
+
+    #[inline]
+    fn stride() -> usize {
+        8
+    }
+}
+
+impl ScalarItem for u64 {
+    ghost is_its_size = { refl };
+}
+
+impl Stride for i16 {
+    ghost STRIDE = { 2 };
+
+    ghost is_positive = { lit≤ tt };
+
+    #[inline]
+    fn stride() -> usize {
+        2
+    }
+}
+
+impl ScalarItem for i16 {
+    ghost is_its_size = { refl };
+}
+
+impl Stride for i32 {
+    ghost STRIDE = { 4 };
+
+    ghost is_positive = { lit≤ tt };
+
+    #[inline]
+    fn stride() -> usize {
+        4
+    }
+}
+
+impl ScalarItem for i32 {
+    ghost is_its_size = { refl };
+}
+
+impl Stride for i64 {
+    ghost STRIDE = { 8 };
+
+    ghost is_positive = { lit≤ tt };
+
+    #[inline]
+    fn stride() -> usize {
+        8
+    }
+}
+
+impl ScalarItem for i64 {
+    ghost is_its_size = { refl };
+}

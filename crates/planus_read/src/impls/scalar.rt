@@ -34,7 +34,10 @@ pub trait Scalar: Sized {
 
 /// A scalar that is an item of vectors. One of a single byte is none, but for truth values: a
 /// vector of bytes is a byte list.
-pub trait ScalarItem: Scalar {}
+pub trait ScalarItem: Scalar + Stride {
+    /// Its size in a vector is that of its bytes.
+    ghost is_its_size: { Self.STRIDE ≡ byte_len Self.width };
+}
 
 impl<'buf, T: Scalar> TableRead<'buf> for T {
     ghost reads = { λ S start f r. Answer (scalar_reading T.width T.there S f) r };
@@ -45,17 +48,6 @@ impl<'buf, T: Scalar> TableRead<'buf> for T {
             Some(end) if end <= buffer.len() => Ok(T::read(buffer, offset)),
             _ => Err(ErrorKind::InvalidOffset),
         }
-    }
-}
-
-impl<T: ScalarItem> Stride for T {
-    ghost STRIDE = { byte_len T.width };
-
-    ghost is_positive = { T.is_positive };
-
-    #[inline]
-    fn stride() -> usize {
-        T::size()
     }
 }
 
