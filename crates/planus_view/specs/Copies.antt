@@ -22,21 +22,9 @@ module _ {V A O : Type 0} (is_sub_view : V → ℕ → ℕ → V → Type 0) (is
   abbrev pub Refused : V → ℕ → CopyError → Type 0
   Refused v n e = (e ≡ OutOfMemory) ⊎ ((out : List O) × FirstConverted v n out × (length out < n) × ItemConverts v n (length out) (Err e))
 
--- what was read of an item, with its error converted
-abbrev pub IsRead : {T E : Type 0} → (E → Error → Type 0) → Result T E → Result T Error → Type 0
-IsRead into (Ok x) read = read ≡ Ok x
-IsRead into (Err e) read = (error : Error) × into e error × (read ≡ Err error)
-
--- a value that was read is converted; the error of a read is the refusal
-abbrev pub ValueConverts :
-    {T O : Type 0} → (T → Result O CopyError → Type 0) → Result T Error → Result O CopyError
-    → Type 0
-ValueConverts converts (Ok x) r = converts x r
-ValueConverts converts (Err error) r = r ≡ Err (Read error)
-
--- what was read of an item is converted
+-- an item that was read is converted; the error of a read is the refusal, as it converts
 abbrev pub ReadConverts :
-    {A T O : Type 0} → (A → Result T Error → Type 0) → (T → Result O CopyError → Type 0) → A
+    {T E O : Type 0} → (T → Result O CopyError → Type 0) → (E → Error → Type 0) → Result T E
     → Result O CopyError → Type 0
-ReadConverts {A} {T} is_read converts item r =
-    (read : Result T Error) × is_read item read × ValueConverts converts read r
+ReadConverts converts into (Ok x) r = converts x r
+ReadConverts converts into (Err e) r = (error : Error) × into e error × (r ≡ Err (Read error))

@@ -1,7 +1,6 @@
 //! The items of a view, converted, in a `Vec`.
 
 ghost use Rattle.std.specs.Prelude.{◌≡◌, IfOk, IfErr, Result as std_result};
-ghost use Rattle.planus_read.specs.declared.located.Error.{Error};
 ghost use Rattle.planus_view.specs.declared.copies.CopyError.{CopyError};
 ghost use Rattle.planus_view.specs.Copies.{AllConverted, Refused};
 
@@ -73,35 +72,6 @@ impl<'buf> FromItem<&'buf str> for String {
     }
 }
 
-/// What is read of an item whose read may fail: a `Result` whose error is that of a read.
-pub trait ItemResult {
-    /// The type of an item that was read.
-    type Value;
-
-    /// What may be returned of an item.
-    ghost is_read: { Self → std_result Self.Value Error → Type 0 };
-
-    /// Returns the item, its error converted to that of a read.
-    fn into_read(self) -> Result<Self::Value, Error<'static>>
-        ensures { is_read self result };
-}
-
-impl<T, E: Into<Error<'static>>> ItemResult for Result<T, E> {
-    type Value = T;
-
-    ghost use Rattle.planus_view.specs.Copies.{IsRead};
-
-    ghost is_read = { λ item read. IsRead E.converts item read };
-
-    #[inline]
-    fn into_read(self) -> Result<T, Error<'static>> {
-        match self {
-            Ok(value) => Ok(value),
-            Err(error) => Err(error.into()),
-        }
-    }
-}
-
 /// A way to convert items.
 pub trait Conversion<A, O> {
     /// What may be returned for an item.
@@ -126,15 +96,15 @@ impl<A, O: FromItem<A>> Conversion<A, O> for EachItem {
     }
 }
 
-impl<A: ItemResult, O: FromItem<A::Value>> Conversion<A, O> for EachRead {
+impl<T, E: Into<Error<'static>>, O: FromItem<T>> Conversion<Result<T, E>, O> for EachRead {
     ghost use Rattle.planus_view.specs.Copies.{ReadConverts};
 
-    ghost gives = { λ item r. ReadConverts A.is_read O.converts item r };
+    ghost gives = { λ item r. ReadConverts O.converts E.converts item r };
 
-    fn convert(alloc: Global, item: A) -> Result<O, CopyError<'static>> {
-        match item.into_read() {
+    fn convert(alloc: Global, item: Result<T, E>) -> Result<O, CopyError<'static>> {
+        match item {
             Ok(value) => O::from_item(alloc, value),
-            Err(error) => Err(CopyError::Read(error)),
+            Err(error) => Err(CopyError::Read(error.into())),
         }
     }
 }

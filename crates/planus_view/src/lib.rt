@@ -14,7 +14,7 @@ mod view;
 #[cfg(test)]
 mod tests;
 
-pub use copies::{Conversion, EachItem, EachRead, FromItem, ItemResult, copy_items};
+pub use copies::{Conversion, EachItem, EachRead, FromItem, copy_items};
 pub use cuts::{ByChunks, ByChunksExact, ByRChunks, ByRChunksExact, ByWindows, Cut};
 pub use index::ViewIndex;
 pub use items::Items;

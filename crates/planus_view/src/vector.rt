@@ -3,7 +3,7 @@
 ghost use Rattle.std.specs.Prelude.{◌≡◌, ◌*◌, ◌<◌, ◌≤◌, ◌==◌, [], length, IfOk, IfErr};
 ghost use Rattle.planus_read.specs.Pieces.{slice_bytes};
 
-use crate::copies::{CopyError, EachItem, EachRead, FromItem, ItemResult, copy_items};
+use crate::copies::{CopyError, EachItem, EachRead, FromItem, copy_items};
 use crate::cuts::{ByChunks, ByChunksExact, ByRChunks, ByRChunksExact, ByWindows};
 use crate::index::ViewIndex;
 use crate::items::Items;
@@ -11,7 +11,8 @@ use crate::splits;
 use crate::sub_views::SubViews;
 use crate::view::{ReadView, View};
 use planus_read::errors::ErrorKind;
-use planus_read::{SliceWithStartOffset, Stride, TableRead, VectorRead, array_from_buffer};
+use planus_read::{Error, SliceWithStartOffset, Stride, TableRead, VectorRead, VectorReadInner};
+use planus_read::array_from_buffer;
 use std::alloc::{AllocError, Global};
 use std::fmt;
 use std::marker::PhantomData;
@@ -306,25 +307,28 @@ impl<'buf, T: VectorRead<'buf> + Drop> Vector<'buf, T> {
     }
 }
 
-impl<'buf, T: VectorRead<'buf> + ItemResult + Drop> Vector<'buf, T> {
+impl<'buf, T: VectorReadInner<'buf> + Drop, E: From<T::Error> + Into<Error> + Drop>
+    Vector<'buf, Result<T, E>>
+{
+    ghost use Rattle.planus_read.specs.Converted.{Converted};
     ghost use Rattle.planus_view.specs.Copies.{AllConverted, Refused, ReadConverts};
     ghost use Rattle.planus_view.specs.VectorView.{count_of, IsSubVector, IsItemOf};
 
     /// Returns the values of all items, converted in order, or the first refusal: that of a
     /// conversion, or [`CopyError::Read`] of an item that can't be read. Memory for them is asked
     /// for once, before the first is read: [`CopyError::OutOfMemory`] where there is none.
-    pub fn to_vec_result<'n, O: FromItem<T::Value> + Drop>(
+    pub fn to_vec_result<'n, O: FromItem<T> + Drop>(
         &self,
         alloc: Global,
     ) -> Result<Vec<O>, CopyError<'n>>
         ensures all { IfOk result (λ copies. AllConverted (IsSubVector T.STRIDE)
-            (IsItemOf T.STRIDE T.gives) (ReadConverts T.is_read O.converts) self.now
-            (count_of self.now) copies.items) }
+            (IsItemOf T.STRIDE (λ S start f r. Converted (T.gives S start f) E.from_gives r))
+            (ReadConverts O.converts E.converts) self.now (count_of self.now) copies.items) }
         ensures refused { IfErr result (λ e. Refused (IsSubVector T.STRIDE)
-            (IsItemOf T.STRIDE T.gives) (ReadConverts T.is_read O.converts) self.now
-            (count_of self.now) e) }
+            (IsItemOf T.STRIDE (λ S start f r. Converted (T.gives S start f) E.from_gives r))
+            (ReadConverts O.converts E.converts) self.now (count_of self.now) e) }
     {
-        copy_items::<Vector<'buf, T>, O, EachRead>(alloc, self)
+        copy_items::<Vector<'buf, Result<T, E>>, O, EachRead>(alloc, self)
     }
 }
 
