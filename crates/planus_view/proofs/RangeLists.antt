@@ -180,3 +180,26 @@ windows_at n c i p h =
 
 pub suc_times : (i c : ℕ) → (i + 1) * c ≡ i * c + c
 suc_times i c = let e : 1 * c ≡ c = omega arith in add-mul i 1 c ∙ ap (λ k. i * c + k) e
+
+-- every number of which the condition holds has a range
+pub chunks_one : (n c i : ℕ) → 0 < c → i * c < n → i < length (chunks n c)
+chunks_one n c i p h =
+    ⊎_elim (λ (k : i < div_ceil n c). omega (arith, k, chunks_count n c p))
+    (λ (k : div_ceil n c ≤ i). absurd (omega (arith, h, chunk_past n c i p k)))
+    (cases_lt i (div_ceil n c))
+
+pub rchunks_one : (n c i : ℕ) → 0 < c → i * c < n → i < length (rchunks n c)
+rchunks_one n c i p h =
+    omega (arith, chunks_one n c i p h, chunks_count n c p, rchunks_count n c p)
+
+pub chunks_exact_one : (n c i : ℕ) → 0 < c → (i + 1) * c ≤ n → i < length (chunks_exact n c)
+chunks_exact_one n c i p h =
+    ⊎_elim (λ (k : i < n / c). omega (arith, k, chunks_exact_count n c p))
+    (λ (k : n / c ≤ i). absurd (omega (arith, h, exact_past n c i p k))) (cases_lt i (n / c))
+
+pub rchunks_exact_one : (n c i : ℕ) → 0 < c → (i + 1) * c ≤ n → i < length (rchunks_exact n c)
+rchunks_exact_one n c i p h =
+    omega (arith, chunks_exact_one n c i p h, chunks_exact_count n c p, rchunks_exact_count n c p)
+
+pub windows_one : (n c i : ℕ) → 0 < c → i + c ≤ n → i < length (windows n c)
+windows_one n c i p h = omega (arith, h, windows_count n c p)

@@ -7,3 +7,5 @@ pub mod ItemsLeft
 pub mod Indexes
 pub mod Splits
 pub mod Copies
+pub mod Laws
+pub mod ReadBack

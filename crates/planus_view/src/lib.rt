@@ -6,6 +6,7 @@ mod cuts;
 mod index;
 mod items;
 pub mod splits;
+pub mod laws;
 mod sub_views;
 mod vector;
 pub mod vectors;
