@@ -2,9 +2,9 @@
 //! test's own.
 
 ghost use Rattle.std.proofs.Common.{lit≤};
-ghost use Rattle.std.specs.Prelude.{⊤};
+ghost use Rattle.std.specs.Prelude.{⊤, ◌<◌, ◌^◌, length};
 
-use super::{FIVE, numbers};
+use super::FIVE;
 use crate::{Cut, SubViews, Vector};
 use planus_read::errors::ErrorKind;
 use planus_read::{Error, SliceWithStartOffset, Stride, TableRead, VectorRead};
@@ -53,12 +53,20 @@ fn item_calls<'buf, T: VectorRead<'buf> + Drop>(v: Vector<'buf, T>) -> ItemCalls
     }
     let mut back = v.iter();
     let _last = back.next_back();
+    let split_first = match v.split_first() {
+        Some((_first, rest)) => Some(rest.len()),
+        None => None,
+    };
+    let split_last = match v.split_last() {
+        Some((_last, rest)) => Some(rest.len()),
+        None => None,
+    };
     ItemCalls {
         first: v.first().is_some(),
         last: v.last().is_some(),
         get: v.get(0).is_some(),
-        split_first: v.split_first().map(|(_first, rest)| rest.len()),
-        split_last: v.split_last().map(|(_last, rest)| rest.len()),
+        split_first,
+        split_last,
         iter: v.iter().count(),
         rest,
         back: back.len(),
@@ -107,35 +115,82 @@ fn part_calls<'buf, T: Stride>(v: Vector<'buf, T>) -> PartCalls {
     }
 }
 
-#[test]
-fn calls_of_none(rt: HostRuntime) {
+// What these calls answer of `len` items, where the parts are of two.
+fn expected(len: usize) -> (ItemCalls, PartCalls) {
+    let rest = match len.checked_sub(1) {
+        Some(rest) => rest,
+        None => 0,
+    };
+    let some = len > 0;
     let items = ItemCalls {
-        first: false,
-        last: false,
-        get: false,
-        split_first: None,
-        split_last: None,
-        iter: 0,
-        rest: 0,
-        back: 0,
+        first: some,
+        last: some,
+        get: some,
+        split_first: if some { Some(rest) } else { None },
+        split_last: if some { Some(rest) } else { None },
+        iter: len,
+        rest: len,
+        back: rest,
     };
     let parts = PartCalls {
-        len: 0,
-        is_empty: true,
-        range: 0,
+        len,
+        is_empty: !some,
+        range: len,
         unchecked: 0,
-        split_at: None,
-        split_at_unchecked: (0, 0),
-        chunks: 0,
-        rchunks: 0,
-        chunks_exact: (0, 0),
-        rchunks_exact: (0, 0),
-        windows: 0,
+        split_at: if some { Some((1, rest)) } else { None },
+        split_at_unchecked: (0, len),
+        chunks: len,
+        rchunks: len,
+        chunks_exact: (len - len % 2, len % 2),
+        rchunks_exact: (len - len % 2, len % 2),
+        windows: rest.wrapping_mul(2),
     };
-    assert_eq!(rt; item_calls(Vector::<'_, u16>::new_empty()), items);
-    assert_eq!(rt; part_calls(Vector::<'_, u16>::new_empty()), parts);
-    assert_eq!(rt; item_calls(Vector::<'_, Second>::new_empty()), items);
-    assert_eq!(rt; part_calls(Vector::<'_, Second>::new_empty()), parts);
-    assert_eq!(rt; item_calls(Vector::<'_, Result<&str, Error>>::new_empty()), items);
-    assert_eq!(rt; part_calls(Vector::<'_, Result<&str, Error>>::new_empty()), parts);
+    (items, parts)
+}
+
+fn vector<'buf, T: Stride>(bytes: &'buf [u8]) -> Result<Vector<'buf, T>, ErrorKind>
+    requires { length bytes.now < 2 ^ 63 }
+{
+    Vector::from_buffer(SliceWithStartOffset::new(bytes, 0), 0)
+}
+
+// One text and five, each of them empty.
+const ONE_TEXT: [u8; 17] = [4, 0, 0, 0, 1, 0, 0, 0, 4, 0, 0, 0, 0, 0, 0, 0, 0];
+
+const FIVE_TEXTS: [u8; 33] = [
+    4, 0, 0, 0, 5, 0, 0, 0, 20, 0, 0, 0, 16, 0, 0, 0, 12, 0, 0, 0, 8, 0, 0, 0, 4, 0, 0, 0, 0, 0, 0,
+    0, 0,
+];
+
+const ONE: [u8; 10] = [4, 0, 0, 0, 1, 0, 0, 0, 1, 0];
+
+fn calls_agree<'buf, T: VectorRead<'buf> + Drop>(v: Vector<'buf, T>, len: usize) -> bool {
+    let (items, parts) = expected(len);
+    item_calls(v) == items && part_calls(v) == parts
+}
+
+#[test]
+fn calls_of_numbers(rt: HostRuntime) -> Result<(), Fail> {
+    assert!(rt; calls_agree(Vector::<'_, u16>::new_empty(), 0));
+    assert!(rt; calls_agree(vector::<u16>(&ONE).map_err(|_| "one")?, 1));
+    assert!(rt; calls_agree(vector::<u16>(&FIVE).map_err(|_| "five")?, 5));
+    Ok(())
+}
+
+#[test]
+fn calls_of_texts(rt: HostRuntime) -> Result<(), Fail> {
+    assert!(rt; calls_agree(Vector::<'_, Result<&str, Error>>::new_empty(), 0));
+    assert!(rt; calls_agree(vector::<Result<&str, Error>>(&ONE_TEXT).map_err(|_| "one")?, 1));
+    assert!(rt; calls_agree(vector::<Result<&str, Error>>(&FIVE_TEXTS).map_err(|_| "five")?, 5));
+    Ok(())
+}
+
+#[test]
+fn calls_of_a_type_of_the_tests(rt: HostRuntime) -> Result<(), Fail> {
+    assert!(rt; calls_agree(Vector::<'_, Second>::new_empty(), 0));
+    assert!(rt; calls_agree(vector::<Second>(&ONE).map_err(|_| "one")?, 1));
+    let five = vector::<Second>(&FIVE).map_err(|_| "five")?;
+    assert!(rt; calls_agree(five, 5));
+    assert_eq!(rt; five.get(4).map(|item| item.0), Some(0));
+    Ok(())
 }

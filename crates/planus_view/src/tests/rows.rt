@@ -8,7 +8,7 @@ use std::ops::Bound;
 use std::test::Fail;
 
 // The list of the texts `A` and `B`, finished.
-const TEXTS: [u8; 30] = [
+pub const TEXTS: [u8; 30] = [
     4, 0, 0, 0, 2, 0, 0, 0, 16, 0, 0, 0, 4, 0, 0, 0, 1, 0, 0, 0, 66, 0, 0, 0, 1, 0, 0, 0, 65, 0,
 ];
 
@@ -24,7 +24,7 @@ fn printed<'buf>(
     }
 }
 
-fn texts<'buf>(bytes: &'buf [u8]) -> Result<Vector<'buf, Result<&'buf str, Error>>, ErrorKind> {
+pub fn texts<'buf>(bytes: &'buf [u8]) -> Result<Vector<'buf, Result<&'buf str, Error>>, ErrorKind> {
     Vector::from_buffer(SliceWithStartOffset::new(bytes, 0), 0)
 }
 
