@@ -94,10 +94,19 @@ impl<'buf> SliceWithStartOffset<'buf> {
         if amount > self.buffer.len() {
             return Err(ErrorKind::InvalidOffset);
         }
-        Ok(SliceWithStartOffset {
+        Ok(self.unchecked_advance(amount))
+    }
+
+    /// Returns the piece that begins `amount` bytes further on, at its end at most.
+    #[inline]
+    pub fn unchecked_advance(&self, amount: usize) -> Self
+        requires { amount ≤ length (slice_bytes self.now) }
+        ensures { IsAdvanced self.now amount result }
+    {
+        Self {
             buffer: &self.buffer[amount..],
             offset_from_start: self.offset_from_start + amount,
-        })
+        }
     }
 
     /// Returns the `N` bytes that begin `amount` bytes further on, or [`ErrorKind::InvalidOffset`]
@@ -129,8 +138,8 @@ impl<'buf> SliceWithStartOffset<'buf> {
         requires { amount + N ≤ length (slice_bytes self.now) }
         ensures { IsArrayAt (slice_bytes self.now) (slice_start self.now) amount result }
     {
-        let rest = &self.buffer[amount..];
-        match rest.first_chunk::<N>() {
+        let items = &self.buffer[amount..amount + N];
+        match items.first_chunk::<N>() {
             Some(buffer) => ArrayWithStartOffset {
                 buffer,
                 offset_from_start: self.offset_from_start + amount,
