@@ -1,6 +1,6 @@
 -- How many ranges there are, and which is range i.
 use Rattle.std.proofs.Common.{◌≡◌, ℕ, zero, suc, ◌+◌, ◌-◌, ◌*◌, ◌/◌, ◌<◌, ◌≤◌, min, Bool, true, false}
-use Rattle.std.proofs.Common.{nat_lt, nat_le, List, [], ◌∷◌, map, length, Some, refl, ap, ◌∙◌, ⊎_elim, arith, slice_get, cond}
+use Rattle.std.proofs.Common.{nat_lt, nat_le, map, length, Some, refl, ap, ◌∙◌, ⊎_elim, arith, slice_get}
 use Rattle.std.proofs.lemmas.Bool.{cases_lt, lt-ltb, le-ltb, le-leb, lt-leb}
 use Rattle.std.proofs.lemmas.Grind.{div_ceil_times}
 use Rattle.std.proofs.lemmas.List.FromFn.{length-map-range_with_len, get_or-map-range_with_len}

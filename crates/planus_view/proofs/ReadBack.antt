@@ -1,5 +1,5 @@
 -- A list that stands is answered as its vector.
-use Rattle.std.proofs.Common.{◌≡◌, ℕ, ◌+◌, List, length, drop, refl, sym, ap, ◌∙◌, subst, Result, Ok, Err, slice_get, Some}
+use Rattle.std.proofs.Common.{◌≡◌, ℕ, ◌+◌, List, length, drop, ap, ◌∙◌, Result, Ok, Err}
 use Rattle.std.specs.Prelude.{IsOkAnd}
 use Rattle.std.proofs.lemmas.List.{drop-drop}
 use Rattle.planus_read.specs.declared.errors.ErrorKind.{ErrorKind}

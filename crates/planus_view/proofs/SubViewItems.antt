@@ -1,5 +1,5 @@
 -- Where the numbers of a sub-view stand in the view.
-use Rattle.std.proofs.Common.{refl, ◌==◌, not, ◌≡◌, ℕ, ◌+◌, ◌*◌, ◌<◌, ◌≤◌, List, length, drop, sym, ap, ◌∙◌, arith, ⊎_elim, Option, None}
+use Rattle.std.proofs.Common.{refl, ◌==◌, not, ◌≡◌, ℕ, ◌+◌, ◌*◌, ◌<◌, ◌≤◌, List, length, drop, sym, ap, ◌∙◌, arith, ⊎_elim, None}
 use Rattle.std.proofs.Math.Nat.{add-mul}
 use Rattle.std.proofs.lemmas.Bool.{cases_lt, lt-leb}
 use Rattle.std.proofs.lemmas.List.{length-drop}

@@ -1,5 +1,6 @@
 -- The state of an iterator over sub-views: the view, and the ranges that are left.
-use Rattle.std.specs.Prelude.{◌≡◌, ℕ, ◌-◌, List, [], ◌∷◌, ◌++◌, length, take, drop, Option, Some, None}
+use Rattle.std.specs.Prelude.{◌≡◌, ℕ, ◌-◌, List, [], ◌∷◌, ◌++◌, length, take, drop}
+use Rattle.std.specs.Prelude.{Option, Some, None}
 use Rattle.planus_view.specs.declared.cuts.Cut.{Ghosts as CutGhosts}
 use Rattle.planus_view.specs.declared.sub_views.SubViews.{SubViews}
 use Rattle.planus_view.specs.declared.view.View.{Ghosts as ViewGhosts}

@@ -24,7 +24,8 @@ abbrev pub count_of : {T : _} {stride : _} → Vector T stride → ℕ
 count_of v = (view_of v).count
 
 -- the last vector is the sub-view of the first at these positions; the size of an item is given
-abbrev pub IsSubVector : {T : _} {stride : _} → ℕ → Vector T stride → ℕ → ℕ → Vector T stride → Type 0
+abbrev pub IsSubVector :
+    {T : _} {stride : _} → ℕ → Vector T stride → ℕ → ℕ → Vector T stride → Type 0
 IsSubVector size v lo hi u = IsSubView size (view_of v) lo hi (view_of u)
 
 -- x may be answered for the item at the position; the size of an item and what its type may answer

@@ -65,7 +65,8 @@ impl<'buf> FromItem<&'buf str> for String {
     ghost use Rattle.std.specs.String.{string_bytes};
     ghost use Rattle.planus_view.specs.declared.copies.CopyError.TheVariants.{OutOfMemory};
 
-    ghost converts = { λ item r. MatchResult r (λ text. string_bytes text ≡ item.now) (λ e. e ≡ OutOfMemory) };
+    ghost converts = { λ item r.
+        MatchResult r (λ text. string_bytes text ≡ item.now) (λ e. e ≡ OutOfMemory) };
 
     fn from_item(alloc: Global, item: &'buf str) -> Result<String, CopyError<'static>> {
         Ok(String::from_str(alloc, item)?)
@@ -109,8 +110,8 @@ impl<T, E: Into<Error<'static>>, O: FromItem<T>> Conversion<Result<T, E>, O> for
     }
 }
 
-/// Returns all items of the view, converted in order, or the first refusal. Memory for them is asked
-/// for once, before the first is read.
+/// Returns all items of the view, converted in order, or the first refusal. Memory for them is
+/// asked for once, before the first is read.
 pub fn copy_items<'n, V: ReadView, O: Drop, C: Conversion<V::Item, O>>(
     alloc: Global,
     view: &V,

@@ -199,9 +199,11 @@ impl<V: View> ViewIndex<V> for RangeToInclusive<usize> {
 impl<V: View> ViewIndex<V> for (Bound<usize>, Bound<usize>) {
     type Output = V;
 
-    ghost gets = { λ v i r. GetsSubView V.count V.is_sub_view v (start_of i.0) (end_of (V.count v) i.1) r };
+    ghost gets = { λ v i r.
+        GetsSubView V.count V.is_sub_view v (start_of i.0) (end_of (V.count v) i.1) r };
 
-    ghost fits = { λ v i. (start_of i.0 ≤ end_of (V.count v) i.1) × (end_of (V.count v) i.1 ≤ V.count v) };
+    ghost fits = { λ v i.
+        (start_of i.0 ≤ end_of (V.count v) i.1) × (end_of (V.count v) i.1 ≤ V.count v) };
 
     ghost is_there = { λ v i u. V.is_sub_view v (start_of i.0) (end_of (V.count v) i.1) u };
 

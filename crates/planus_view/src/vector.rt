@@ -80,13 +80,10 @@ impl<'buf, T: Stride> View for Vector<'buf, T> {
 
     #[inline]
     fn sub_view(&self, lo: usize, hi: usize) -> Vector<'buf, T> {
-        match self.buffer.advance(lo * T::stride()) {
-            Ok(buffer) => Vector {
-                buffer,
-                count: hi - lo,
-                of: PhantomData,
-            },
-            Err(_) => unreachable!(),
+        Vector {
+            buffer: self.buffer.unchecked_advance(lo * T::stride()),
+            count: hi - lo,
+            of: PhantomData,
         }
     }
 }

@@ -27,8 +27,8 @@ fn step(kind: u8, front: usize, back: usize) -> (Option<usize>, usize, usize) {
     }
 }
 
-// Returns whether there is a vector exactly where there is a position, and it has the numbers of the
-// slice there.
+// Returns whether there is a vector exactly where there is a position, and it has the numbers of
+// the slice there.
 fn same(ours: Option<Vector<'_, u16>>, theirs: &[&[u16]], at: Option<usize>) -> bool {
     match (ours, at) {
         (Some(ours), Some(at)) => at < theirs.len() && has(ours, theirs[at]),

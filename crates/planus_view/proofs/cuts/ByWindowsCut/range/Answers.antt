@@ -1,5 +1,5 @@
 use Rattle.std.proofs.Common.{arith}
-use Rattle.planus_view.proofs.RangeLists.{suc_times, windows_at}
+use Rattle.planus_view.proofs.RangeLists.{windows_at}
 use Rattle.planus_view.proofs.cuts.ByWindowsCut.range.Goals as goal
 
 pub overflow_add-result : goal.overflow_add-result
