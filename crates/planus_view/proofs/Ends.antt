@@ -101,13 +101,14 @@ last_taken R a b range left e =
 pub ends_step : EndsStep
 ends_step R a b = record {
   all = take_all (length R - 0) R (omega arith);
-  first = λ range left e. (first_taken R a b range left e, sym (ap (drop 1) e) ∙ dropped_front R a b 1);
+  first =
+      λ range left e. (first_taken R a b range left e, sym (ap (drop 1) e) ∙ dropped_front R a b 1);
   last = λ range left e. (
     last_taken R a b range left e,
     let one : length (left ++ range ∷ []) - 1 ≡ length left =
-    omega (arith, length_push left range) in
-    sym (take-append_seam left (range ∷ [])) ∙ ap (λ n. take n (left ++ range ∷ [])) (sym one)
-    ∙ sym (ap (λ l. take (length l - 1) l) e) ∙ dropped_back R a b 1,
+        omega (arith, length_push left range) in
+        sym (take-append_seam left (range ∷ [])) ∙ ap (λ n. take n (left ++ range ∷ [])) (sym one)
+        ∙ sym (ap (λ l. take (length l - 1) l) e) ∙ dropped_back R a b 1,
   );
   dropped_front = dropped_front R a b;
   dropped_back = dropped_back R a b;

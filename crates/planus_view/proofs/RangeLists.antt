@@ -1,6 +1,8 @@
 -- How many ranges there are, and which is range i.
-use Rattle.std.proofs.Common.{◌≡◌, ℕ, zero, suc, ◌+◌, ◌-◌, ◌*◌, ◌/◌, ◌<◌, ◌≤◌, min, Bool, true, false}
-use Rattle.std.proofs.Common.{nat_lt, nat_le, map, length, Some, refl, ap, ◌∙◌, ⊎_elim, arith, slice_get}
+use Rattle.std.proofs.Common.{◌≡◌, ℕ, zero, suc, ◌+◌, ◌-◌, ◌*◌, ◌/◌, ◌<◌, ◌≤◌, min, Bool, true}
+use Rattle.std.proofs.Common.{false}
+use Rattle.std.proofs.Common.{nat_lt, nat_le, map, length, Some, refl, ap, ◌∙◌, ⊎_elim, arith}
+use Rattle.std.proofs.Common.{slice_get}
 use Rattle.std.proofs.lemmas.Bool.{cases_lt, lt-ltb, le-ltb, le-leb, lt-leb}
 use Rattle.std.proofs.lemmas.Grind.{div_ceil_times}
 use Rattle.std.proofs.lemmas.List.FromFn.{length-map-range_with_len, get_or-map-range_with_len}
@@ -93,7 +95,8 @@ exact_lies n c i h =
 exact_past : (n c i : ℕ) → 0 < c → n / c ≤ i → n < (i + 1) * c
 exact_past n c i p h =
     ⊎_elim (λ (k : n < (i + 1) * c). k)
-    (λ (k : (i + 1) * c ≤ n). absurd (let m : i + 1 ≤ n / c = le-div (i + 1) n c p k in omega arith))
+    (λ (k : (i + 1) * c ≤ n). absurd (let m : i + 1 ≤ n / c =
+    le-div (i + 1) n c p k in omega arith))
     (cases_lt n ((i + 1) * c))
 
 exact_few : (n c : ℕ) → 0 < c → n / c ≤ n

@@ -29,7 +29,8 @@ module _ {T : Type 0} (stride : StrideGhosts T) where
   -- what is answered for a list that reads back
   vector_of :
       {X : Type 0} (ItemReads : ℕ → ℕ → X → Type 0) (B : List ℕ) (k start f : ℕ) (items : List X)
-      → ListReads ItemReads B k start f stride.STRIDE items → (r : Result (Vector T stride) ErrorKind)
+      → ListReads ItemReads B k start f stride.STRIDE items
+      → (r : Result (Vector T stride) ErrorKind)
       → Answer
       (shown (ShowsVector (drop start B) start) (vector_reading (drop start B) f stride.STRIDE)) r
       → IsOkAnd r (IsVectorOf stride ItemReads B k items)
@@ -38,8 +39,8 @@ module _ {T : Type 0} (stride : StrideGhosts T) where
       reads.vector.alone h.0 h.1 in
       record {
         view = view_moves B start h.0.position h.0.count (k + 4) (length items)
-        (ap (λ (l : Items). start + l.position) found ∙ reads.first)
-        (ap (λ (l : Items). l.count) found) (view_of v) h.2;
+            (ap (λ (l : Items). start + l.position) found ∙ reads.first)
+            (ap (λ (l : Items). l.count) found) (view_of v) h.2;
         each = reads.each;
       }
   vector_of ItemReads B k start f items reads (Err e) h =

@@ -1,5 +1,6 @@
 -- Where the numbers of a sub-view stand in the view.
-use Rattle.std.proofs.Common.{refl, ◌==◌, not, ◌≡◌, ℕ, ◌+◌, ◌*◌, ◌<◌, ◌≤◌, List, length, drop, sym, ap, ◌∙◌, arith, ⊎_elim, None}
+use Rattle.std.proofs.Common.{refl, ◌==◌, not, ◌≡◌, ℕ, ◌+◌, ◌*◌, ◌<◌, ◌≤◌, List, length, drop, sym}
+use Rattle.std.proofs.Common.{ap, ◌∙◌, arith, ⊎_elim, None}
 use Rattle.std.proofs.Math.Nat.{add-mul}
 use Rattle.std.proofs.lemmas.Bool.{cases_lt, lt-leb}
 use Rattle.std.proofs.lemmas.List.{length-drop}
@@ -15,7 +16,8 @@ none_past : (S : List ℕ) (f : ℕ) (w : Width) → length S < f + byte_len w �
 none_past S f w h = rw (lt-leb (f + byte_len w) (length S) h) refl
 
 -- a number of the bytes from a position on
-num_behind : (S : List ℕ) (p f : ℕ) (w : Width) → 1 ≤ byte_len w → Num S (p + f) w ≡ Num (drop p S) f w
+num_behind :
+    (S : List ℕ) (p f : ℕ) (w : Width) → 1 ≤ byte_len w → Num S (p + f) w ≡ Num (drop p S) f w
 num_behind S p f w one =
     ⊎_elim
     (λ (h : length S < p).
@@ -51,4 +53,5 @@ pub items_of_sub_views : ItemsOfSubViews
 items_of_sub_views stride v u lo hi i is =
     let bytes : u.bytes ≡ drop (lo * stride) v.bytes = ap (λ (s : View). s.bytes) is.same in
     rw bytes
-    (same_scalars v.bytes (lo * stride) (i * stride) ((lo + i) * stride) (sym (add-mul lo i stride)))
+    (same_scalars v.bytes (lo * stride) (i * stride) ((lo + i) * stride) (sym (add-mul lo i
+    stride)))

@@ -1,5 +1,6 @@
 -- The ranges of each kind are those of the table.
-use Rattle.std.proofs.Common.{◌≡◌, ℕ, ◌+◌, ◌*◌, ◌/◌, ◌%◌, ◌<◌, List, length, slice_get, Some, ap, ◌∙◌}
+use Rattle.std.proofs.Common.{◌≡◌, ℕ, ◌+◌, ◌*◌, ◌/◌, ◌%◌, ◌<◌, List, length, slice_get, Some, ap}
+use Rattle.std.proofs.Common.{◌∙◌}
 use Rattle.std.proofs.lemmas.Nat.{div-add-mod'}
 use Rattle.std.proofs.lemmas.Option.{slice_get_within}
 use Rattle.planus_view.proofs.RangeLists.{chunks_at, rchunks_at, chunks_exact_at, rchunks_exact_at}
@@ -23,7 +24,8 @@ pub table_holds : TableHolds
 table_holds n c p = record {
   chunks_are = ranges_are _ _ _ (λ i. chunks_at n c i p) (λ i. chunks_one n c i p);
   rchunks_are = ranges_are _ _ _ (λ i. rchunks_at n c i p) (λ i. rchunks_one n c i p);
-  chunks_exact_are = ranges_are _ _ _ (λ i. chunks_exact_at n c i p) (λ i. chunks_exact_one n c i p);
+  chunks_exact_are =
+      ranges_are _ _ _ (λ i. chunks_exact_at n c i p) (λ i. chunks_exact_one n c i p);
   rchunks_exact_are =
       ranges_are _ _ _ (λ i. rchunks_exact_at n c i p) (λ i. rchunks_exact_one n c i p);
   windows_are = ranges_are _ _ _ (λ i. windows_at n c i p) (λ i. windows_one n c i p);

@@ -7,27 +7,27 @@ use Rattle.planus_view.specs.declared.copies.CopyError.TheVariants.{OutOfMemory,
 module _
     {V A O : Type 0} (is_sub_view : V → ℕ → ℕ → V → Type 0) (is_item : V → ℕ → A → Type 0)
     (converts : A → Result O CopyError → Type 0)
-    where
-  -- the item at position i of n, read from the sub-view from there on, is converted so
-  abbrev pub ItemConverts : V → ℕ → ℕ → Result O CopyError → Type 0
-  ItemConverts v n i r =
-      (left : V) × (x : A) × is_sub_view v i n left × is_item left 0 x × converts x r
+  where
+    -- the item at position i of n, read from the sub-view from there on, is converted so
+    abbrev pub ItemConverts : V → ℕ → ℕ → Result O CopyError → Type 0
+    ItemConverts v n i r =
+        (left : V) × (x : A) × is_sub_view v i n left × is_item left 0 x × converts x r
 
-  -- these are the first of n items, converted in order
-  pub record FirstConverted (v : V) (n : ℕ) (out : List O) : Type 0 where
-    pub each : (i : ℕ) (y : O) → slice_get out i ≡ Some y → ItemConverts v n i (Ok y)
+    -- these are the first of n items, converted in order
+    pub record FirstConverted (v : V) (n : ℕ) (out : List O) : Type 0 where
+      pub each : (i : ℕ) (y : O) → slice_get out i ≡ Some y → ItemConverts v n i (Ok y)
 
-  -- these are all n items, converted in order
-  pub record AllConverted (v : V) (n : ℕ) (out : List O) : Type 0 where
-    pub count : length out ≡ n
-    pub converted : FirstConverted v n out
+    -- these are all n items, converted in order
+    pub record AllConverted (v : V) (n : ℕ) (out : List O) : Type 0 where
+      pub count : length out ≡ n
+      pub converted : FirstConverted v n out
 
-  -- The first refusal: no memory for the list, or that of an item behind items that were converted.
-  abbrev pub Refused : V → ℕ → CopyError → Type 0
-  Refused v n e =
-      (e ≡ OutOfMemory)
-      ⊎ ((out : List O) × FirstConverted v n out × (length out < n)
-      × ItemConverts v n (length out) (Err e))
+    -- The first refusal: no memory for the list, or that of an item behind converted ones.
+    abbrev pub Refused : V → ℕ → CopyError → Type 0
+    Refused v n e =
+        (e ≡ OutOfMemory)
+        ⊎ ((out : List O) × FirstConverted v n out × (length out < n)
+        × ItemConverts v n (length out) (Err e))
 
 -- an item that was read is converted; the error of a read is the refusal, as it converts
 abbrev pub ReadConverts :

@@ -5,15 +5,14 @@ pub mod copies;
 mod cuts;
 mod index;
 mod items;
-pub mod splits;
 pub mod laws;
+pub mod splits;
 mod sub_views;
+#[cfg(test)]
+mod tests;
 mod vector;
 pub mod vectors;
 mod view;
-
-#[cfg(test)]
-mod tests;
 
 pub use copies::{Conversion, EachItem, EachRead, FromItem, copy_items};
 pub use cuts::{ByChunks, ByChunksExact, ByRChunks, ByRChunksExact, ByWindows, Cut};

@@ -11,8 +11,9 @@ use crate::splits;
 use crate::sub_views::SubViews;
 use crate::view::{ReadView, View};
 use planus_read::errors::ErrorKind;
-use planus_read::{Error, SliceWithStartOffset, Stride, TableRead, VectorRead, VectorReadInner};
-use planus_read::array_from_buffer;
+use planus_read::{
+    Error, SliceWithStartOffset, Stride, TableRead, VectorRead, VectorReadInner, array_from_buffer,
+};
 use std::alloc::{AllocError, Global};
 use std::fmt;
 use std::marker::PhantomData;
@@ -291,10 +292,7 @@ impl<'buf, T: VectorRead<'buf> + Drop> Vector<'buf, T> {
 
     /// Returns all items, converted in order, or the first refusal. Memory for them is asked for
     /// once, before the first is read: [`CopyError::OutOfMemory`] where there is none.
-    pub fn to_vec<'n, O: FromItem<T> + Drop>(
-        &self,
-        alloc: Global,
-    ) -> Result<Vec<O>, CopyError<'n>>
+    pub fn to_vec<'n, O: FromItem<T> + Drop>(&self, alloc: Global) -> Result<Vec<O>, CopyError<'n>>
         ensures all { IfOk result (λ copies. AllConverted (IsSubVector T.STRIDE)
             (IsItemOf T.STRIDE T.gives) O.converts self.now (count_of self.now) copies.items) }
         ensures refused { IfErr result (λ e. Refused (IsSubVector T.STRIDE)
@@ -304,9 +302,10 @@ impl<'buf, T: VectorRead<'buf> + Drop> Vector<'buf, T> {
     }
 }
 
-impl<'buf, T: VectorReadInner<'buf> + Drop, E: From<T::Error> + Into<Error> + Drop>
-    Vector<'buf, Result<T, E>>
-{
+impl<'buf, T: VectorReadInner<'buf> + Drop, E: From<T::Error> + Into<Error> + Drop> Vector<
+    'buf,
+    Result<T, E>,
+> {
     ghost use Rattle.planus_read.specs.Converted.{Converted};
     ghost use Rattle.planus_view.specs.Copies.{AllConverted, Refused, ReadConverts};
     ghost use Rattle.planus_view.specs.VectorView.{count_of, IsSubVector, IsItemOf};

@@ -3,7 +3,6 @@
 use crate::cuts::{ByChunks, ByChunksExact, ByRChunks, ByRChunksExact, ByWindows};
 use crate::items::Items;
 use crate::sub_views::SubViews;
-
 pub use crate::vector::Vector;
 
 /// An iterator over the items of a vector.

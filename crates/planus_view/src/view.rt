@@ -21,13 +21,11 @@ pub trait View: Copy {
         ensures { is_sub_view self.now lo hi result };
 
     /// A sub-view has as many items as positions.
-    ghost sub_view_count: {
-        (v u : Self) (lo hi : ℕ) → is_sub_view v lo hi u → count u ≡ hi - lo };
+    ghost sub_view_count: { (v u : Self) (lo hi : ℕ) → is_sub_view v lo hi u → count u ≡ hi - lo };
 
     /// A sub-view of a sub-view is one of the whole.
-    ghost sub_view_twice: {
-        (v u w : Self) (lo hi a b : ℕ) → is_sub_view v lo hi u → is_sub_view u a b w
-        → is_sub_view v (lo + a) (lo + b) w };
+    ghost sub_view_twice: { (v u w : Self) (i j a b : ℕ) → is_sub_view v i j u → is_sub_view u a b w
+        → is_sub_view v (i + a) (i + b) w };
 }
 
 /// A view whose items can be read.

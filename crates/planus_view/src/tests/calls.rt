@@ -109,8 +109,14 @@ fn part_calls<'buf, T: Stride>(v: Vector<'buf, T>) -> PartCalls {
         split_at_unchecked: (front.len(), back.len()),
         chunks: taken(v.chunks(2)),
         rchunks: taken(v.rchunks(2)),
-        chunks_exact: (taken(v.chunks_exact(2)), v.chunks_exact(2).remainder().len()),
-        rchunks_exact: (taken(v.rchunks_exact(2)), v.rchunks_exact(2).remainder().len()),
+        chunks_exact: (
+            taken(v.chunks_exact(2)),
+            v.chunks_exact(2).remainder().len(),
+        ),
+        rchunks_exact: (
+            taken(v.rchunks_exact(2)),
+            v.rchunks_exact(2).remainder().len(),
+        ),
         windows: taken(v.windows(2)),
     }
 }
@@ -180,8 +186,18 @@ fn calls_of_numbers(rt: HostRuntime) -> Result<(), Fail> {
 #[test]
 fn calls_of_texts(rt: HostRuntime) -> Result<(), Fail> {
     assert!(rt; calls_agree(Vector::<'_, Result<&str, Error>>::new_empty(), 0));
-    assert!(rt; calls_agree(vector::<Result<&str, Error>>(&ONE_TEXT).map_err(|_| "one")?, 1));
-    assert!(rt; calls_agree(vector::<Result<&str, Error>>(&FIVE_TEXTS).map_err(|_| "five")?, 5));
+    assert!(rt;
+        calls_agree(
+            vector::<Result<&str, Error>>(&ONE_TEXT).map_err(|_| "one")?,
+            1
+        )
+    );
+    assert!(rt;
+        calls_agree(
+            vector::<Result<&str, Error>>(&FIVE_TEXTS).map_err(|_| "five")?,
+            5
+        )
+    );
     Ok(())
 }
 

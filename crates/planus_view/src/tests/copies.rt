@@ -2,8 +2,8 @@
 
 ghost use Rattle.std.specs.Prelude.{⊤};
 
-use super::{FIVE, numbers};
 use super::rows::{TEXTS, texts};
+use super::{FIVE, numbers};
 use crate::{CopyError, FromItem, Vector};
 use planus_read::Error;
 use planus_read::errors::ErrorKind;
@@ -19,9 +19,11 @@ impl FromItem<u16> for Small {
 
     fn from_item(_alloc: Global, item: u16) -> Result<Small, CopyError> {
         if item > 4 {
-            return Err(CopyError::Read(
-                ErrorKind::InvalidLength.with_error_location("Small", "from_item", 0),
-            ));
+            return Err(CopyError::Read(ErrorKind::InvalidLength.with_error_location(
+                "Small",
+                "from_item",
+                0,
+            )));
         }
         Ok(Small(item))
     }

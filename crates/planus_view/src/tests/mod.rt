@@ -8,14 +8,10 @@ use planus_read::errors::ErrorKind;
 use planus_read::{SliceWithStartOffset, TableRead};
 
 // The list of the numbers 1 to 6 of two bytes each, and a reference to it in front.
-const SIX: [u8; 20] = [
-    4, 0, 0, 0, 6, 0, 0, 0, 1, 0, 2, 0, 3, 0, 4, 0, 5, 0, 6, 0,
-];
+const SIX: [u8; 20] = [4, 0, 0, 0, 6, 0, 0, 0, 1, 0, 2, 0, 3, 0, 4, 0, 5, 0, 6, 0];
 
 // The same list of 1 to 5.
-const FIVE: [u8; 18] = [
-    4, 0, 0, 0, 5, 0, 0, 0, 1, 0, 2, 0, 3, 0, 4, 0, 5, 0,
-];
+const FIVE: [u8; 18] = [4, 0, 0, 0, 5, 0, 0, 0, 1, 0, 2, 0, 3, 0, 4, 0, 5, 0];
 
 // Returns the vector of these numbers, to which the first four bytes lead.
 fn numbers(bytes: &[u8]) -> Result<Vector<'_, u16>, ErrorKind> {

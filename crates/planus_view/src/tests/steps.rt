@@ -114,8 +114,13 @@ fn all_agree(
         }
     }
     Ok(
-        has(ours.chunks_exact(size).remainder(), theirs.chunks_exact(size).remainder())
-            && has(ours.rchunks_exact(size).remainder(), theirs.rchunks_exact(size).remainder()),
+        has(
+            ours.chunks_exact(size).remainder(),
+            theirs.chunks_exact(size).remainder(),
+        ) && has(
+            ours.rchunks_exact(size).remainder(),
+            theirs.rchunks_exact(size).remainder(),
+        ),
     )
 }
 
@@ -125,7 +130,10 @@ fn iterators_are_those_of_slices(rt: HostRuntime) -> Result<(), Fail> {
     for len in 0..=6usize {
         let ours = six.get(..len).ok_or("a sub-vector")?;
         for size in 1..=7usize {
-            assert!(rt; all_agree(rt.alloc(), ours, &ITEMS[..len], size)?, "{len} by {size}");
+            assert!(rt;
+                all_agree(rt.alloc(), ours, &ITEMS[..len], size)?,
+                "{len} by {size}"
+            );
         }
     }
     Ok(())

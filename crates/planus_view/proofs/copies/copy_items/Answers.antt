@@ -19,6 +19,6 @@ loop-item-preserved g c =
       back = grind (arith, common_steps);
       room = grind (arith, common_steps);
       converted = rw c.in-Ok.ensures.items
-      (one_more g.V.View.is_sub_view g.V.ReadView.is_item g.C.Conversion.gives view n done
-      c.in_ok-copy.copy was.converted this);
+          (one_more g.V.View.is_sub_view g.V.ReadView.is_item g.C.Conversion.gives view n done
+          c.in_ok-copy.copy was.converted this);
     }

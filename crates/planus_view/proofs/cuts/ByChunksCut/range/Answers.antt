@@ -4,15 +4,18 @@ use Rattle.planus_view.proofs.cuts.ByChunksCut.range.Goals as goal
 
 pub overflow_mul-begin : goal.overflow_mul-begin
 overflow_mul-begin c =
-    let at = chunks_at c.args.len c.args.size c.args.i c.requires.positive c.requires.inside in omega (arith, at.1)
+    let at = chunks_at c.args.len c.args.size c.args.i c.requires.positive c.requires.inside in
+    omega (arith, at.1)
 
 pub overflow_sub-len : goal.overflow_sub-len
 overflow_sub-len c =
-    let at = chunks_at c.args.len c.args.size c.args.i c.requires.positive c.requires.inside in omega (arith, at.1)
+    let at = chunks_at c.args.len c.args.size c.args.i c.requires.positive c.requires.inside in
+    omega (arith, at.1)
 
 pub returns-else-size-len-clause-order : goal.returns-else-size-len-clause-order
 returns-else-size-len-clause-order c =
-    let at = chunks_at c.args.len c.args.size c.args.i c.requires.positive c.requires.inside in omega (arith, at.1)
+    let at = chunks_at c.args.len c.args.size c.args.i c.requires.positive c.requires.inside in
+    omega (arith, at.1)
 
 pub returns-then-size-len-clause-range : goal.returns-then-size-len-clause-range
 returns-then-size-len-clause-range c =

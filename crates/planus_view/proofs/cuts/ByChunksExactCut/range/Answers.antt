@@ -4,17 +4,24 @@ use Rattle.planus_view.proofs.cuts.ByChunksExactCut.range.Goals as goal
 
 pub overflow_mul-begin : goal.overflow_mul-begin
 overflow_mul-begin c =
-    let at = chunks_exact_at c.args._len c.args.size c.args.i c.requires.positive c.requires.inside in omega (arith, at.1, suc_times c.args.i c.args.size)
+    let at =
+    chunks_exact_at c.args._len c.args.size c.args.i c.requires.positive c.requires.inside in
+    omega (arith, at.1, suc_times c.args.i c.args.size)
 
 pub overflow_add-result : goal.overflow_add-result
 overflow_add-result c =
-    let at = chunks_exact_at c.args._len c.args.size c.args.i c.requires.positive c.requires.inside in omega (arith, at.1, suc_times c.args.i c.args.size)
+    let at =
+    chunks_exact_at c.args._len c.args.size c.args.i c.requires.positive c.requires.inside in
+    omega (arith, at.1, suc_times c.args.i c.args.size)
 
 pub returns-clause-end : goal.returns-clause-end
 returns-clause-end c =
-    let at = chunks_exact_at c.args._len c.args.size c.args.i c.requires.positive c.requires.inside in omega (arith, at.1, suc_times c.args.i c.args.size)
+    let at =
+    chunks_exact_at c.args._len c.args.size c.args.i c.requires.positive c.requires.inside in
+    omega (arith, at.1, suc_times c.args.i c.args.size)
 
 pub returns-clause-range : goal.returns-clause-range
 returns-clause-range c =
-    let at = chunks_exact_at c.args._len c.args.size c.args.i c.requires.positive c.requires.inside in
+    let at =
+    chunks_exact_at c.args._len c.args.size c.args.i c.requires.positive c.requires.inside in
     at.0 ∙ ap (λ k. Some (c.args.i * c.args.size, k)) (suc_times c.args.i c.args.size)

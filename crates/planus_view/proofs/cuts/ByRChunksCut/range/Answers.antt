@@ -4,11 +4,13 @@ use Rattle.planus_view.proofs.cuts.ByRChunksCut.range.Goals as goal
 
 pub overflow_mul-end : goal.overflow_mul-end
 overflow_mul-end c =
-    let at = rchunks_at c.args.len c.args.size c.args.i c.requires.positive c.requires.inside in omega (arith, at.1)
+    let at = rchunks_at c.args.len c.args.size c.args.i c.requires.positive c.requires.inside in
+    omega (arith, at.1)
 
 pub overflow_sub-end : goal.overflow_sub-end
 overflow_sub-end c =
-    let at = rchunks_at c.args.len c.args.size c.args.i c.requires.positive c.requires.inside in omega (arith, at.1)
+    let at = rchunks_at c.args.len c.args.size c.args.i c.requires.positive c.requires.inside in
+    omega (arith, at.1)
 
 pub returns-clause-range : goal.returns-clause-range
 returns-clause-range c =

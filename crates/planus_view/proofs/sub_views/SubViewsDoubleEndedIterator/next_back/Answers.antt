@@ -8,7 +8,7 @@ returns-clause-steps g c =
     let s = c.args.self.now in let at = c.at_range-sub_view.ensures in (
       at.0,
       left_last (ranges_of s) s.front s.back (s.back - 1) at.0 (omega (arith, s.order))
-      (omega (arith, s.order)) at.1,
+          (omega (arith, s.order)) at.1,
       at.2,
       record { whole = refl; size = refl },
     )
