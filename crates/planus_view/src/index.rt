@@ -1,6 +1,6 @@
 //! Items and parts of a view by an index.
 
-ghost use Rattle.std.specs.Prelude.{◌≡◌, ℕ, ◌+◌, ◌<◌, ◌≤◌, Option};
+ghost use Rattle.std.specs.Prelude.{◌≡◌, ℕ, ◌+◌, ◌<◌, ◌≤◌, ⊤, Option};
 ghost use Rattle.std.specs.declared.ops.Bound.TheVariants.{Included};
 ghost use Rattle.planus_view.specs.Indexes.{GetsSubView, GetsItem, start_of, end_of};
 
@@ -34,26 +34,27 @@ pub trait ViewIndex<V: View>: Sealed {
     /// What stands at the index.
     type Output;
 
-    /// What the index answers.
+    /// What may be returned for the index.
     ghost gets: { V → Self → Option Self.Output → Type 0 };
 
-    /// The index is one of the view.
+    /// The view has the index.
     ghost fits: { V → Self → Type 0 };
 
-    /// What is there.
+    /// What may be returned for an index that the view has.
     ghost is_there: { V → Self → Self.Output → Type 0 };
 
-    /// What stands at the index, if the view has it.
+    /// Returns what stands at the index, or `None` where the view doesn't have it.
     fn get(self, view: &V) -> Option<Self::Output>
         ensures { gets view.now self result };
 
-    /// What stands at the index.
+    /// Returns what stands at the index, which the view has.
     fn get_unchecked(self, view: &V) -> Self::Output
         requires { fits view.now self }
         ensures { is_there view.now self result };
 }
 
-// The part from `lo` up to `hi`, where it is one.
+// Returns the sub-view of the positions from `lo` up to `hi`, where the view has them.
+#[inline]
 fn sub_view_between<V: View>(view: &V, lo: usize, hi: usize) -> Option<V>
     ensures { GetsSubView V.count V.is_sub_view view.now lo hi result }
 {
@@ -72,6 +73,7 @@ impl<V: ReadView> ViewIndex<V> for usize {
 
     ghost is_there = { λ v i x. V.is_item v i x };
 
+    #[inline]
     fn get(self, view: &V) -> Option<V::Item> {
         if self >= view.len() {
             return None;
@@ -79,6 +81,7 @@ impl<V: ReadView> ViewIndex<V> for usize {
         Some(view.item(self))
     }
 
+    #[inline]
     fn get_unchecked(self, view: &V) -> V::Item {
         view.item(self)
     }
@@ -93,10 +96,12 @@ impl<V: View> ViewIndex<V> for Range<usize> {
 
     ghost is_there = { λ v i u. V.is_sub_view v i.start i.end u };
 
+    #[inline]
     fn get(self, view: &V) -> Option<V> {
         sub_view_between(view, self.start, self.end)
     }
 
+    #[inline]
     fn get_unchecked(self, view: &V) -> V {
         view.sub_view(self.start, self.end)
     }
@@ -107,14 +112,16 @@ impl<V: View> ViewIndex<V> for RangeFull {
 
     ghost gets = { λ v i r. GetsSubView V.count V.is_sub_view v 0 (V.count v) r };
 
-    ghost fits = { λ v i. Unit {0} };
+    ghost fits = { λ v i. ⊤ };
 
     ghost is_there = { λ v i u. V.is_sub_view v 0 (V.count v) u };
 
+    #[inline]
     fn get(self, view: &V) -> Option<V> {
         sub_view_between(view, 0, view.len())
     }
 
+    #[inline]
     fn get_unchecked(self, view: &V) -> V {
         view.sub_view(0, view.len())
     }
@@ -129,10 +136,12 @@ impl<V: View> ViewIndex<V> for RangeFrom<usize> {
 
     ghost is_there = { λ v i u. V.is_sub_view v i.start (V.count v) u };
 
+    #[inline]
     fn get(self, view: &V) -> Option<V> {
         sub_view_between(view, self.start, view.len())
     }
 
+    #[inline]
     fn get_unchecked(self, view: &V) -> V {
         view.sub_view(self.start, view.len())
     }
@@ -147,10 +156,12 @@ impl<V: View> ViewIndex<V> for RangeTo<usize> {
 
     ghost is_there = { λ v i u. V.is_sub_view v 0 i.end u };
 
+    #[inline]
     fn get(self, view: &V) -> Option<V> {
         sub_view_between(view, 0, self.end)
     }
 
+    #[inline]
     fn get_unchecked(self, view: &V) -> V {
         view.sub_view(0, self.end)
     }
@@ -165,11 +176,13 @@ impl<V: View> ViewIndex<V> for RangeInclusive<usize> {
 
     ghost is_there = { λ v i u. V.is_sub_view v i.start (i.end + 1) u };
 
+    #[inline]
     fn get(self, view: &V) -> Option<V> {
         let _len = view.len();
         sub_view_between(view, *self.start(), self.end().checked_add(1)?)
     }
 
+    #[inline]
     fn get_unchecked(self, view: &V) -> V {
         let _len = view.len();
         view.sub_view(*self.start(), *self.end() + 1)
@@ -185,11 +198,13 @@ impl<V: View> ViewIndex<V> for RangeToInclusive<usize> {
 
     ghost is_there = { λ v i u. V.is_sub_view v 0 (i.end + 1) u };
 
+    #[inline]
     fn get(self, view: &V) -> Option<V> {
         let _len = view.len();
         sub_view_between(view, 0, self.end.checked_add(1)?)
     }
 
+    #[inline]
     fn get_unchecked(self, view: &V) -> V {
         let _len = view.len();
         view.sub_view(0, self.end + 1)
@@ -207,6 +222,7 @@ impl<V: View> ViewIndex<V> for (Bound<usize>, Bound<usize>) {
 
     ghost is_there = { λ v i u. V.is_sub_view v (start_of i.0) (end_of (V.count v) i.1) u };
 
+    #[inline]
     fn get(self, view: &V) -> Option<V> {
         let count = view.len();
         let start = match self.0 {
@@ -222,6 +238,7 @@ impl<V: View> ViewIndex<V> for (Bound<usize>, Bound<usize>) {
         sub_view_between(view, start, end)
     }
 
+    #[inline]
     fn get_unchecked(self, view: &V) -> V {
         let count = view.len();
         let start = match self.0 {

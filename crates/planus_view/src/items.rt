@@ -1,6 +1,6 @@
 //! Iterators over the items of a view.
 
-ghost use Rattle.std.specs.Prelude.{◌≡◌, ℕ, ◌+◌, ◌-◌, ◌<◌, ◌≤◌, min, Some, IfSome};
+ghost use Rattle.std.specs.Prelude.{◌≡◌, ℕ, ◌+◌, ◌-◌, ◌<◌, ◌≤◌, min, Some, IfSome, ⊤};
 ghost use Rattle.std.specs.Iterator.{at_most, UpTo};
 ghost use Rattle.std.specs.Iterator.SizeHint.{IsWithinCount};
 
@@ -118,7 +118,7 @@ impl<V: View> Clone for Items<V> {
 
     ghost is_clone = { λ s t. IsLeft s (front_of s) (back_of s) t };
 
-    ghost is_infallible = { λ _. Unit {0} };
+    ghost is_infallible = { λ _. ⊤ };
 
     #[inline]
     fn clone(&self) -> Result<Self, AllocError> {

@@ -1,6 +1,7 @@
 //! Iterators over sub-views.
 
 ghost use Rattle.std.specs.Prelude.{◌≡◌, ℕ, ◌+◌, ◌-◌, ◌<◌, ◌≤◌, length, slice_get, Some, IfSome};
+ghost use Rattle.std.specs.Prelude.{⊤};
 ghost use Rattle.std.specs.Iterator.{at_most, UpTo};
 ghost use Rattle.std.specs.Iterator.SizeHint.{IsWithinCount};
 
@@ -119,7 +120,7 @@ impl<V: View, C: Cut> Clone for SubViews<V, C> {
 
     ghost is_clone = { λ s t. IsCopy s t };
 
-    ghost is_infallible = { λ _. Unit {0} };
+    ghost is_infallible = { λ _. ⊤ };
 
     #[inline]
     fn clone(&self) -> Result<Self, AllocError> {

@@ -28,6 +28,13 @@ pub struct Vector<'buf, T: Stride> {
 }
 
 impl<'buf, T: Stride> Clone for Vector<'buf, T> {
+    ghost use Rattle.std.specs.Prelude.{⊤};
+
+    ghost is_clone = { λ vector copy. copy ≡ vector };
+
+    ghost is_infallible = { λ _. ⊤ };
+
+    #[inline]
     fn clone(&self) -> Result<Self, AllocError> {
         Ok(*self)
     }
@@ -43,6 +50,7 @@ impl<'buf, T: Stride> TableRead<'buf> for Vector<'buf, T> {
     ghost reads = { λ S start f r.
         Answer (shown (ShowsVector S start) (vector_reading S f T.STRIDE)) r };
 
+    #[inline]
     fn from_buffer(
         buffer: SliceWithStartOffset<'buf>,
         offset: usize,
