@@ -20,6 +20,12 @@ module _ {V : Type 0} {view : ViewGhosts V} where
   abbrev pub count_left : Items V view → ℕ
   count_left s = back_of s - front_of s
 
+  -- the iterator is over the view v, with all its items left
+  pub record IsOverAll (v : V) (s : Items V view) : Type 0 where
+    pub whole : items_of s ≡ v
+    pub front_is : front_of s ≡ 0
+    pub back_is : back_of s ≡ view.count v
+
   -- t is over the view of s, with these positions left
   pub record IsLeft (s : Items V view) (front back : ℕ) (t : Items V view) : Type 0 where
     pub same : items_of t ≡ items_of s

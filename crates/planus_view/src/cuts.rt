@@ -86,8 +86,9 @@ impl Cut for ByChunksExact {
 
     #[inline]
     fn range(_len: usize, size: usize, i: usize) -> (usize, usize) {
-        let begin = i * size;
-        (begin, begin + size)
+        let first = i * size;
+        let past = first + size;
+        (first, past)
     }
 }
 

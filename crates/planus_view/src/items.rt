@@ -20,15 +20,13 @@ pub struct Items<V: View> {
 }
 
 impl<V: View> Items<V> {
-    ghost use Rattle.planus_view.specs.ItemsLeft.{items_of, front_of, back_of, count_left};
-    ghost use Rattle.planus_view.specs.ItemsLeft.{IsLeft};
+    ghost use Rattle.planus_view.specs.ItemsLeft.{front_of, back_of, count_left, IsLeft};
+    ghost use Rattle.planus_view.specs.ItemsLeft.{IsOverAll};
 
     /// Creates an iterator over all items of the view.
     #[inline]
     pub fn new(whole: V) -> Self
-        ensures whole { items_of result ≡ whole }
-        ensures front { front_of result ≡ 0 }
-        ensures back { back_of result ≡ V.count whole }
+        ensures { IsOverAll whole result }
     {
         let back = whole.len();
         Items {

@@ -112,7 +112,7 @@ impl<'buf, T: VectorRead<'buf>> ReadView for Vector<'buf, T> {
 }
 
 impl<'buf, T: Stride> Vector<'buf, T> {
-    ghost use Rattle.planus_view.specs.ItemsLeft.{items_of, front_of, back_of};
+    ghost use Rattle.planus_view.specs.ItemsLeft.{IsOverAll};
     ghost use Rattle.planus_view.specs.Ranges.{chunks, rchunks, chunks_exact, rchunks_exact};
     ghost use Rattle.planus_view.specs.Ranges.{windows};
     ghost use Rattle.planus_view.specs.RangesLeft.{whole_of, size_of, left_of};
@@ -187,9 +187,7 @@ impl<'buf, T: Stride> Vector<'buf, T> {
     /// Returns an iterator over the items.
     #[inline]
     pub fn iter(&self) -> Items<Vector<'buf, T>>
-        ensures whole { items_of result ≡ self.now }
-        ensures front { front_of result ≡ 0 }
-        ensures back { back_of result ≡ count_of self.now }
+        ensures { IsOverAll self.now result }
     {
         Items::new(*self)
     }
@@ -340,6 +338,10 @@ impl<'buf, T: VectorRead<'buf>> IntoIterator for Vector<'buf, T> {
     type Item = T;
 
     type IntoIter = Items<Vector<'buf, T>>;
+
+    ghost use Rattle.planus_view.specs.ItemsLeft.{IsOverAll};
+
+    ghost into_iter_gives = { λ vector items. IsOverAll vector items };
 
     #[inline]
     fn into_iter(self) -> Items<Vector<'buf, T>> {

@@ -2,14 +2,14 @@ use Rattle.std.proofs.Common.{◌*◌, Some, ap, ◌∙◌, arith}
 use Rattle.planus_view.proofs.RangeLists.{suc_times, chunks_exact_at}
 use Rattle.planus_view.proofs.cuts.ByChunksExactCut.range.Goals as goal
 
-pub overflow_mul-begin : goal.overflow_mul-begin
-overflow_mul-begin c =
+pub overflow_mul-first : goal.overflow_mul-first
+overflow_mul-first c =
     let at =
     chunks_exact_at c.args._len c.args.size c.args.i c.requires.positive c.requires.inside in
     omega (arith, at.1, suc_times c.args.i c.args.size)
 
-pub overflow_add-result : goal.overflow_add-result
-overflow_add-result c =
+pub overflow_add-past : goal.overflow_add-past
+overflow_add-past c =
     let at =
     chunks_exact_at c.args._len c.args.size c.args.i c.requires.positive c.requires.inside in
     omega (arith, at.1, suc_times c.args.i c.args.size)
