@@ -16,7 +16,7 @@ mod view;
 
 pub use copies::{Conversion, EachItem, EachRead, FromItem, copy_items};
 pub use cuts::{ByChunks, ByChunksExact, ByRChunks, ByRChunksExact, ByWindows, Cut};
-pub use index::ViewIndex;
+pub use index::{ViewIndex, ViewIndex as VectorIndex};
 pub use items::Items;
 pub use sub_views::SubViews;
 pub use vector::Vector;

@@ -96,6 +96,21 @@ fn five_u16_at_the_limits(rt: HostRuntime) -> Result<(), Fail> {
 }
 
 #[test]
+fn five_u16_by_each_index(rt: HostRuntime) -> Result<(), Fail> {
+    let five = numbers(&FIVE).map_err(|_| "a vector")?;
+    let bounds = (Bound::Excluded(0), Bound::Included(2));
+    assert_eq!(rt; five.get(2), Some(3));
+    assert!(rt; some_has(five.get(1..3), &[2, 3]));
+    assert!(rt; some_has(five.get(3..), &[4, 5]));
+    assert!(rt; some_has(five.get(..), &[1, 2, 3, 4, 5]));
+    assert!(rt; some_has(five.get(1..=2), &[2, 3]));
+    assert!(rt; some_has(five.get(..2), &[1, 2]));
+    assert!(rt; some_has(five.get(..=1), &[1, 2]));
+    assert!(rt; some_has(five.get(bounds), &[2, 3]));
+    Ok(())
+}
+
+#[test]
 fn list_of_texts(rt: HostRuntime) -> Result<(), Fail> {
     let alloc = rt.alloc();
     let whole = texts(&TEXTS).map_err(|_| "a vector")?;
