@@ -20,6 +20,7 @@ pub use planus_read::{
     SliceWithStartOffset, Stride, TableRead, TableReadUnion, TableReadUnionVector, TaggedPlace,
     VectorName, VectorRead, VectorReadInner, VectorReadUnion, Void, errors, table_reader,
 };
+pub use planus_view::{CopyError, FromItem, Vector, vectors};
 pub use planus_write::{BuildError, Builder, Offset, Text, WriteAsOffset};
 pub use run::replay;
 pub use steps::Step;
