@@ -1,11 +1,11 @@
 -- What every run keeps, by the definitions alone.
 use Rattle.std.proofs.Common.{◌≡◌, ℕ, ◌+◌, ◌≤◌, List, [], ◌∷◌, ◌++◌, length, take}
 use Rattle.std.proofs.Common.{refl, sym, ap, ◌∙◌, subst, arith, Option, Some, None, append_assoc}
-use Rattle.std.proofs.Common.{append-nil, length-append, max, inl, inr, lit≤, false}
+use Rattle.std.proofs.Common.{append-nil, length-append, lit≤, false}
 use Rattle.std.specs.Prelude.{slice_get}
+use Rattle.std.specs.Option.{option_map}
 use Rattle.std.specs.List.{AllByRecursion}
 use Rattle.std.specs.Str.{IsUtf8}
-use Rattle.std.proofs.lemmas.Bool.{cases_lt}
 use Rattle.std.proofs.Math.Seq.{take-append_seam}
 use Rattle.planus_back.specs.Promises.{Promise, IsPowerOfTwo, Keep, greatest_alignment}
 use Rattle.planus_back.specs.Padding.{promise_of}
@@ -18,23 +18,32 @@ use Rattle.planus_read.specs.Moves.{moved}
 use Rattle.planus_read.specs.Aligned.{AlignedAt}
 use Rattle.planus_read.specs.ReadsBack.{WellFormed}
 use Rattle.planus_read.proofs.ReadsBack.{what_stands_reads_back}
-use Rattle.planus_write.specs.Shared.{Contents, Switches, shared_as}
-use Rattle.planus_write.specs.Past.{Past, Entry, Adds, PutsAfter, PutsAll, part_after, found_before}
+use Rattle.planus_write.specs.Shared.{Switches}
+use Rattle.planus_write.specs.Past.{Past, Adds, PutsAll}
 use Rattle.planus_write.specs.State.{Extends}
-use Rattle.planus_write.specs.Parts.{finish_part, text_entry, entries_of, IsWritten}
+use Rattle.planus_write.specs.Parts.{finish_part, entries_of, IsWritten}
 use Rattle.planus_write.specs.Parts.{named_by, Named, position_in}
 use Rattle.planus_write.specs.Standing.{IsKept, AllSeenKept}
 use Rattle.planus_write.specs.Laws.{added_extends}
-use Rattle.planus_write.proofs.Standing.{length_after, text_size, finish_size, kept_stays}
-use Rattle.planus_write.proofs.Standing.{seen_stays, values_are_kept, finishes_lead}
+use Rattle.planus_write.proofs.PartBytes.{length_after, finish_size}
+use Rattle.planus_write.proofs.Staying.{kept_stays, seen_stays}
+use Rattle.planus_write.proofs.Standing.{values_are_kept, finishes_lead}
 use Rattle.planus_write.proofs.Standing.{finishes_are_identified}
-use Rattle.planus.specs.Steps.{Step, text, finish, clear}
+use Rattle.planus.specs.Steps.{Step, text, bytes, numbers, refs, table, finish, clear}
 use Rattle.planus.specs.Runs.{Listed, State, nothing_written, Advances, LeadsTo, cleared}
-use Rattle.planus.specs.Runs.{named_at, value_of, finish_of}
+use Rattle.planus.specs.Runs.{named_at, value_of, finish_of, Writes, values_added, finishes_added}
+use Rattle.planus.specs.Runs.{distances_of, width_of, fields_of}
+use Rattle.planus.specs.Slots.{greatest_field}
 use Rattle.planus.specs.Replays.{is_clear, named_step}
 use Rattle.planus.specs.Headline.{ValueHolds, IsFewest, FinishHolds}
-use Rattle.planus.proofs.Turns.{InTurn, turn_taken, fewest}
+use Rattle.planus.proofs.Turns.{InTurn, fewest}
+use Rattle.planus.proofs.Placed.{IsPlacedInTurn, nothing_in_turn, added_in_turn, all_in_turn}
+use Rattle.planus.proofs.Placed.{values_are_fit, greatest_power}
+use Rattle.planus.proofs.WrittenValues.{numbers_are_written, references_behind}
+use Rattle.planus.proofs.TableFields.{fields_more}
+use Rattle.planus.proofs.WrittenTables.{tables_are_written}
 use Rattle.planus.proofs.Lists.{all_weaker, all_push, all_named, get_last, made_of}
+use Rattle.planus.proofs.Lists.{distances_more}
 use Rattle.planus.proofs.Naming.{named_push, named_last}
 
 -- A value is kept under what it is named by, and no clear is behind its step.
@@ -47,12 +56,6 @@ pub record ValueKept (all done : List Step) (past : Past) (listed : List Listed)
   pub well_formed : WellFormed value
   pub kept : IsKept past value one.named
 
--- What was written was placed part by part from nothing, with alignments that are powers of two.
-pub record IsPlacedInTurn (past : Past) : Type 0 where
-  pub powers : AllByRecursion (λ (p : Promise). IsPowerOfTwo p.alignment) past.written.promises
-  pub reached : AllByRecursion (λ (p : Promise). p.distance ≤ length past.written.bytes) past.written.promises
-  pub turns : InTurn past.written past.parts past.places
-
 pub record Kept (switches : Switches) (all done : List Step) (state : State) : Type 0 where
   pub numbered : state.next ≡ length done
   pub placed : IsPlacedInTurn state.past
@@ -63,81 +66,12 @@ pub record Kept (switches : Switches) (all done : List Step) (state : State) : T
 
 -- every text of the steps is UTF-8
 abbrev pub AllUtf8 : List Step → Type 0
-AllUtf8 all = (i : ℕ) (bytes : List ℕ) → slice_get all i ≡ Some (text bytes) → IsUtf8 bytes
+AllUtf8 all = (i : ℕ) (content : List ℕ) → slice_get all i ≡ Some (text content) → IsUtf8 content
 
 pub leads_on : (switches : Switches) (before between after : State) (steps : List Step) (step : Step) → LeadsTo switches before steps between → Advances switches between step after
     → LeadsTo switches before (steps ++ step ∷ []) after
 leads_on switches before between after [] step leads advances = (after, subst (λ s. Advances switches s step after) leads advances, refl)
 leads_on switches before between after (first ∷ steps) step leads advances = (leads.0, leads.1, leads_on switches leads.0 between after steps step leads.2 advances)
-
--- one part placed
-module _ (part : Part) (before after : Written) (placed : Placed part before after) (sized : length (part.bytes_at placed.place) ≡ part.size) where
-  length_is : length after.bytes ≡ placed.place
-  length_is = length_after part before after placed sized
-
-  grown : length before.bytes + part.size ≤ length after.bytes
-  grown = let h = length_is in let g = placed.is_place in omega arith
-
-  powers_after : AllByRecursion (λ (p : Promise). IsPowerOfTwo p.alignment) before.promises → IsPowerOfTwo part.alignment → AllByRecursion (λ (p : Promise). IsPowerOfTwo p.alignment) after.promises
-  powers_after h power = subst (λ ps. AllByRecursion (λ (p : Promise). IsPowerOfTwo p.alignment) ps) (sym placed.promises) (power, h)
-
-  reached_after : AllByRecursion (λ (p : Promise). p.distance ≤ length before.bytes) before.promises → AllByRecursion (λ (p : Promise). p.distance ≤ length after.bytes) after.promises
-  reached_after h =
-      let longer : length before.bytes + part.size ≤ length after.bytes = grown in
-      let here : placed.place ≤ length after.bytes = let e = length_is in omega arith in
-      subst (λ ps. AllByRecursion (λ (p : Promise). p.distance ≤ length after.bytes) ps) (sym placed.promises)
-      (here, all_weaker (λ (p : Promise). p.distance ≤ length before.bytes) (λ (p : Promise). p.distance ≤ length after.bytes) (λ p le. omega arith) before.promises h)
-
--- one part more of a run is placed in turn
-module _ (part : Part) (shared : Option Contents) (before : Past) (distance : ℕ) (after : Past) (adds : Adds part shared before distance after)
-    (sized : length (part.bytes_at adds.placed.place) ≡ part.size) (power : IsPowerOfTwo part.alignment) (h : IsPlacedInTurn before) where
-  turned : InTurn after.written after.parts after.places
-  turned =
-      let taken : InTurn after.written (before.parts ++ part ∷ []) (before.places ++ adds.placed.place ∷ [])
-      = turn_taken part before.written after.written adds.placed (length_after part before.written after.written adds.placed sized) before.parts before.places h.turns power in
-      subst (λ ps. InTurn after.written ps after.places) (sym adds.parts)
-      (subst (λ ps. InTurn after.written (before.parts ++ part ∷ []) ps) (sym adds.places)
-      (subst (λ n. InTurn after.written (before.parts ++ part ∷ []) (before.places ++ n ∷ [])) (sym adds.at) taken))
-
-  pub added_in_turn : IsPlacedInTurn after
-  added_in_turn = record {
-    powers = powers_after part before.written after.written adds.placed sized h.powers power;
-    reached = reached_after part before.written after.written adds.placed sized h.reached;
-    turns = turned;
-  }
-
--- The part of the entry has as many bytes as its size, and an alignment that is a power of two.
-pub record IsFit (entry : Entry) (got : List ℕ) (past : Past) : Type 0 where
-  pub sized : (place : ℕ) → length ((part_after entry got past).bytes_at place) ≡ (part_after entry got past).size
-  pub power : IsPowerOfTwo (part_after entry got past).alignment
-
--- so it is of each entry, whatever was written in turn before
-abbrev pub AreFit : List Entry → Type 0
-AreFit entries = AllByRecursion (λ entry. (got : List ℕ) (past : Past) → IsPlacedInTurn past → IsFit entry got past) entries
-
-put_in_turn : (earlier : Option ℕ) (part : Part) (shared : Option Contents) (before : Past) (distance : ℕ) (after : Past) → PutsAfter earlier part shared before distance after
-    → ((place : ℕ) → length (part.bytes_at place) ≡ part.size) → IsPowerOfTwo part.alignment → IsPlacedInTurn before → IsPlacedInTurn after
-put_in_turn (Some d) part shared before distance after put sized power h = subst IsPlacedInTurn (sym put.1) h
-put_in_turn None part shared before distance after put sized power h = added_in_turn part shared before distance after put (sized put.placed.place) power h
-
--- entries that are put down are placed in turn
-pub all_in_turn : (switches : Switches) (entries : List Entry) (got : List ℕ) (before : Past) (all : List ℕ) (after : Past) → AreFit entries
-    → PutsAll switches entries got before all after → IsPlacedInTurn before → IsPlacedInTurn after
-all_in_turn switches [] got before all after fit puts h = subst IsPlacedInTurn (sym puts.1) h
-all_in_turn switches (entry ∷ entries) got before all after fit puts h =
-    let here : IsFit entry got before = fit.0 got before h in
-    let between : IsPlacedInTurn puts.1
-    = put_in_turn (found_before switches entry before) (part_after entry got before) (shared_as switches entry.contents) before puts.0 puts.1 puts.2 here.sized here.power h in
-    all_in_turn switches entries (got ++ puts.0 ∷ []) puts.1 all after fit.1 puts.3 between
-
--- the entries of a value are fit
-pub values_are_fit : (v : Value) → IsWritten v → AreFit (entries_of v)
-values_are_fit (value.text bytes) written = ((λ got past h. record { sized = λ place. text_size bytes place; power = (2, refl) }), tt)
-values_are_fit (value.byte_list bytes) written = absurd written
-values_are_fit (value.plain_list size alignment items) written = absurd written
-values_are_fit (value.reference_list distances) written = absurd written
-values_are_fit (value.union_list items) written = absurd written
-values_are_fit (value.table entries) written = absurd written
 
 -- one step more
 counted : (done : List Step) (step : Step) (before after : ℕ) → after ≡ before + 1 → before ≡ length done → after ≡ length (done ++ step ∷ [])
@@ -145,7 +79,15 @@ counted done step before after next h = omega (arith, next, h, length-append don
 
 -- the value of a step stays so where more values are listed
 value_stays : (listed more : List Listed) (step : Step) (v : Value) → value_of listed step ≡ Some v → value_of (listed ++ more) step ≡ Some v
-value_stays listed more (text bytes) v e = e
+value_stays listed more (text content) v e = e
+value_stays listed more (bytes content) v e = e
+value_stays listed more (numbers width items) v e = e
+value_stays listed more (refs steps) v e =
+    let made = made_of value.reference_list (distances_of listed steps) v e in
+    rw (distances_more listed more steps made.0 made.1) (ap Some made.2)
+value_stays listed more (table fields) v e =
+    let made = made_of value.table (fields_of listed [] greatest_field fields) v e in
+    rw (fields_more listed more [] greatest_field fields made.0 made.1) (ap Some made.2)
 value_stays listed more (finish root identifier) v e = (cc)
 value_stays listed more clear v e = (cc)
 
@@ -163,7 +105,7 @@ value_moves all done step before after listed more kind extends one v = record {
 
 -- a value that a step puts down is kept
 module _ (switches : Switches) (all done : List Step) (step : Step) (v : Value) (before after : State) (kind : is_clear step ≡ false) (there : slice_get all (length done) ≡ Some step)
-    (is_value : value_of before.listed step ≡ Some v) (written : IsWritten v) (well_formed : WellFormed v) (got : List ℕ)
+    (is_value : value_of before.listed step ≡ Some v) (written : IsWritten (length before.past.written.bytes) v) (well_formed : WellFormed v) (got : List ℕ)
     (puts : PutsAll switches (entries_of v) [] before.past got after.past) (listed : after.listed ≡ before.listed ++ record { step = before.next; named = named_by v got } ∷ [])
     (next : after.next ≡ before.next + 1) (finished : after.finished ≡ before.finished ++ []) (run : LeadsTo switches nothing_written (done ++ step ∷ []) after)
     (h : Kept switches all done before) where
@@ -193,22 +135,12 @@ module _ (switches : Switches) (all done : List Step) (step : Step) (v : Value) 
   pub value_kept : Kept switches all (done ++ step ∷ []) after
   value_kept = record {
     numbered = counted done step before.next after.next next h.numbered;
-    placed = all_in_turn switches (entries_of v) [] before.past got after.past (values_are_fit v written) puts h.placed;
+    placed = all_in_turn switches (entries_of v) [] before.past got after.past (values_are_fit (length before.past.written.bytes) v written) puts h.placed;
     seen = law.1;
     values = subst (λ vs. AllByRecursion (ValueKept all (done ++ step ∷ []) after.past vs) vs) (sym listed) all_values;
     run = run;
     finished = subst (λ fs. AllByRecursion (FinishHolds switches all) fs) (sym (finished ∙ append-nil before.finished)) h.finished;
   }
-
-greatest_power : (least : ℕ) (promises : List Promise) → IsPowerOfTwo least → AllByRecursion (λ (p : Promise). IsPowerOfTwo p.alignment) promises → IsPowerOfTwo (greatest_alignment least promises)
-greatest_power least [] power h = power
-greatest_power least (p ∷ promises) power h =
-    let g : ℕ = greatest_alignment least promises in
-    let rest : IsPowerOfTwo g = greatest_power least promises power h.1 in
-    elim (cases_lt p.alignment g) as (λ _. IsPowerOfTwo (max p.alignment g)) [
-      | inl lt ↦ (let f : g ≡ max p.alignment g = omega (arith, lt) in subst IsPowerOfTwo f rest)
-      | inr le ↦ (let f : p.alignment ≡ max p.alignment g = omega (arith, le) in subst IsPowerOfTwo f h.0)
-    ]
 
 greatest_rises : (promises : List Promise) → greatest_alignment 1 promises ≤ greatest_alignment 4 promises
 greatest_rises [] = lit≤ tt
@@ -312,10 +244,6 @@ module _ (switches : Switches) (all done : List Step) (root : ℕ) (named : Name
     finished = subst (λ fs. AllByRecursion (FinishHolds switches all) fs) (sym finished) (all_push (FinishHolds switches all) before.finished _ h.finished holds);
   }
 
--- nothing that is written is in turn
-nothing_in_turn : IsPlacedInTurn (nothing_written.past)
-nothing_in_turn = record { powers = tt; reached = tt; turns = record { powers = tt; turns = tt; ended = refl; promised = refl } }
-
 -- a clear keeps what was given
 clear_kept : (switches : Switches) (all done : List Step) (before : State) → Kept switches all done before → Kept switches all (done ++ clear ∷ []) (cleared before)
 clear_kept switches all done before h = record {
@@ -327,13 +255,53 @@ clear_kept switches all done before h = record {
   finished = h.finished;
 }
 
+-- a value that a step writes can be written, and reads back
+values_are_written : (switches : Switches) (all done : List Step) (step : Step) (before : State) → Kept switches all done before → ((content : List ℕ) → step ≡ text content → IsUtf8 content)
+    → (v : Value) → value_of before.listed step ≡ Some v → IsWritten (length before.past.written.bytes) v × WellFormed v
+values_are_written switches all done (text content) before h utf8 v e =
+    let same : value.text content ≡ v = cc in
+    subst (λ v. IsWritten (length before.past.written.bytes) v × WellFormed v) same (tt, utf8 content refl)
+values_are_written switches all done (bytes content) before h utf8 v e =
+    let same : value.byte_list content ≡ v = cc in
+    subst (λ v. IsWritten (length before.past.written.bytes) v × WellFormed v) same (tt, tt)
+values_are_written switches all done (numbers width items) before h utf8 v e = numbers_are_written (length before.past.written.bytes) (width_of width) items v e
+values_are_written switches all done (refs steps) before h utf8 v e =
+    let made = made_of value.reference_list (distances_of before.listed steps) v e in
+    subst (λ v. IsWritten (length before.past.written.bytes) v × WellFormed v) made.2
+    (references_behind (ValueKept all done before.past before.listed) (length before.past.written.bytes) (λ one kept. kept.kept.reached) before.listed h.values steps made.0 made.1, tt)
+values_are_written switches all done (table fields) before h utf8 v e =
+    let made = made_of value.table (fields_of before.listed [] greatest_field fields) v e in
+    subst (λ v. IsWritten (length before.past.written.bytes) v × WellFormed v) made.2
+    (tables_are_written (ValueKept all done before.past before.listed) (length before.past.written.bytes) (λ one kept. kept.kept.reached) before.listed h.values fields made.0 made.1, tt)
+values_are_written switches all done (finish root identifier) before h utf8 v e = (cc)
+values_are_written switches all done clear before h utf8 v e = (cc)
+
+-- a step that writes a value
+written_kept : (switches : Switches) (all done : List Step) (step : Step) (before after : State) → is_clear step ≡ false
+    → ((s : State) (past : Past) → finishes_added step s past ≡ []) → (writes : Writes switches before step after) → Advances switches before step after
+    → option_map entries_of (value_of before.listed step) ≡ Some writes.entries → slice_get all (length done) ≡ Some step → AllUtf8 all
+    → Kept switches all done before → Kept switches all (done ++ step ∷ []) after
+written_kept switches all done step before after kind gives writes advances are there utf8 h =
+    let run = leads_on switches nothing_written before after done step h.run advances in
+    let made = made_of entries_of (value_of before.listed step) writes.entries are in
+    let good = values_are_written switches all done step before h (λ content is. utf8 (length done) content (there ∙ ap Some is)) made.0 made.1 in
+    value_kept switches all done step made.0 before after kind there made.1 good.0 good.1 writes.got
+    (subst (λ entries. PutsAll switches entries [] before.past writes.got after.past) (sym made.2) writes.puts)
+    (writes.listed ∙ ap (λ v. before.listed ++ values_added v before.next writes.got) made.1) writes.next
+    (writes.finished ∙ ap (λ fs. before.finished ++ fs) (gives before after.past)) run h
+
 step_kept : (switches : Switches) (all done : List Step) (step : Step) (before after : State) → slice_get all (length done) ≡ Some step → take (length done + 1) all ≡ done ++ step ∷ [] → AllUtf8 all
     → Advances switches before step after → Kept switches all done before → Kept switches all (done ++ step ∷ []) after
-step_kept switches all done (text bytes) before after there up_to utf8 writes h =
-    let run = leads_on switches nothing_written before after done (text bytes) h.run writes in
-    let same : writes.entries ≡ text_entry bytes ∷ [] = (let e : Some (text_entry bytes ∷ []) ≡ Some writes.entries = writes.are in cc) in
-    value_kept switches all done (text bytes) (value.text bytes) before after refl there refl tt (utf8 (length done) bytes there) writes.got
-    (subst (λ entries. PutsAll switches entries [] before.past writes.got after.past) same writes.puts) writes.listed writes.next writes.finished run h
+step_kept switches all done (text content) before after there up_to utf8 writes h =
+    written_kept switches all done (text content) before after refl (λ s past. refl) writes writes writes.are there utf8 h
+step_kept switches all done (bytes content) before after there up_to utf8 writes h =
+    written_kept switches all done (bytes content) before after refl (λ s past. refl) writes writes writes.are there utf8 h
+step_kept switches all done (numbers width items) before after there up_to utf8 writes h =
+    written_kept switches all done (numbers width items) before after refl (λ s past. refl) writes writes writes.are there utf8 h
+step_kept switches all done (refs steps) before after there up_to utf8 writes h =
+    written_kept switches all done (refs steps) before after refl (λ s past. refl) writes writes writes.are there utf8 h
+step_kept switches all done (table fields) before after there up_to utf8 writes h =
+    written_kept switches all done (table fields) before after refl (λ s past. refl) writes writes writes.are there utf8 h
 step_kept switches all done (finish root identifier) before after there up_to utf8 writes h =
     let run = leads_on switches nothing_written before after done (finish root identifier) h.run writes in
     let made = made_of (finish_of identifier) (named_at before.listed root) writes.entries writes.are in

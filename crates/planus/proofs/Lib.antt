@@ -1,8 +1,15 @@
 pub mod Lists
+pub mod FieldFaults
+pub mod TableFields
 pub mod Naming
+pub mod Placed
+pub mod WrittenValues
+pub mod WrittenTables
 pub mod Kept
 pub mod Turns
 pub mod Walking
 pub mod Stepping
+pub mod SteppingTables
 pub mod Replayed
 pub mod OneAnswer
+pub mod Found

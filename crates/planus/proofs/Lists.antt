@@ -6,7 +6,7 @@ use Rattle.std.specs.List.{AllByRecursion}
 use Rattle.std.specs.Option.{option_map}
 use Rattle.std.proofs.lemmas.Bool.Decides.{nat_tests}
 use Rattle.planus_write.specs.Parts.{Named}
-use Rattle.planus.specs.Runs.{Listed, named_at}
+use Rattle.planus.specs.Runs.{Listed, named_at, with_distance, distances_of}
 use Rattle.planus.specs.Replaying.{listed_from, named}
 
 pub all_weaker : {X : Type 0} (P Q : X → Type 0) → ((x : X) → P x → Q x) → (xs : List X) → AllByRecursion P xs → AllByRecursion Q xs
@@ -62,6 +62,28 @@ all_named P (one ∷ xs) k m h e = by_test (λ later. all_named P xs k m h.1 lat
 pub made_of : {X Y : Type 0} (f : X → Y) (o : Option X) (y : Y) → option_map f o ≡ Some y → (x : X) × (o ≡ Some x) × (f x ≡ y)
 made_of f None y e = (cc)
 made_of f (Some x) y e = (x, refl, (let same : f x ≡ y = cc in same))
+
+-- what the distances of steps are made of
+pub distances_made : (first : Option Named) (rest : Option (List ℕ)) (distances : List ℕ) → with_distance first rest ≡ Some distances
+    → (named : Named) × (more : List ℕ) × (first ≡ Some named) × (rest ≡ Some more) × (named.distance ∷ more ≡ distances)
+distances_made None rest distances h = (cc)
+distances_made (Some named) None distances h = (cc)
+distances_made (Some named) (Some more) distances h = (named, more, refl, refl, (let same : named.distance ∷ more ≡ distances = cc in same))
+
+-- what is listed stays so where more is
+pub named_more : (listed more : List Listed) (step : ℕ) (named : Named) → named_at listed step ≡ Some named → named_at (listed ++ more) step ≡ Some named
+named_more [] more step named h = (cc)
+named_more (one ∷ listed) more step named h = by_test (named_more listed more step named) (one.step == step) h
+  where
+    by_test : (named_at listed step ≡ Some named → named_at (listed ++ more) step ≡ Some named) → (equal : Bool) → (if equal then Some one.named else named_at listed step) ≡ Some named → (if equal then Some one.named else named_at (listed ++ more) step) ≡ Some named
+    by_test further true h = h
+    by_test further false h = further h
+
+pub distances_more : (listed more : List Listed) (steps distances : List ℕ) → distances_of listed steps ≡ Some distances → distances_of (listed ++ more) steps ≡ Some distances
+distances_more listed more [] distances h = h
+distances_more listed more (step ∷ steps) distances h =
+    let both = distances_made (named_at listed step) (distances_of listed steps) distances h in
+    rw (named_more listed more step both.0 both.2, distances_more listed more steps both.1 both.3) (ap Some both.4)
 
 pub get_push : {X : Type 0} (xs : List X) (y x : X) (k : ℕ) → slice_get xs k ≡ Some x → slice_get (xs ++ y ∷ []) k ≡ Some x
 get_push [] y x k h = (cc)

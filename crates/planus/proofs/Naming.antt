@@ -2,17 +2,23 @@
 use Rattle.std.proofs.Common.{◌≡◌, ℕ, zero, suc, ◌+◌, ◌-◌, ◌≤◌, List, [], ◌∷◌, ◌++◌, length, map}
 use Rattle.std.proofs.Common.{drop, refl, sym, ap, ◌∙◌, subst, arith, Option, Some, None, Bool}
 use Rattle.std.proofs.Common.{true, false, inl, inr, length-append}
-use Rattle.std.specs.Prelude.{slice_get, nat_lt, if◌then◌else◌, ◌⊎◌}
+use Rattle.std.specs.Prelude.{slice_get, nat_lt, if◌then◌else◌, ◌⊎◌, ◌||◌}
+use Rattle.std.specs.Option.{option_or}
+use Rattle.planus.specs.declared.faults.Why.{Why}
 use Rattle.std.specs.List.{list_any}
 use Rattle.std.proofs.lemmas.Bool.Decides.{nat_tests}
 use Rattle.std.proofs.lemmas.List.{map_push}
 use Rattle.std.proofs.Math.Seq.{drop-length}
 use Rattle.planus_write.specs.declared.offset.Offset.{Offset}
-use Rattle.planus.specs.Steps.{Step, text, finish, clear}
-use Rattle.planus.specs.Replays.{is_clear, named_step, fault_of}
-use Rattle.planus.specs.Replaying.{distance_of, distances, distance_at, distance_fault, Wrote}
+use Rattle.planus.specs.Steps.{Step, text, bytes, numbers, refs, table, finish, clear}
+use Rattle.planus.specs.Replays.{is_clear, named_step, fault_of, first_fault, check_by}
+use Rattle.planus.specs.Replays.{broken_check}
+use Rattle.planus.specs.Slots.{greatest_field}
+use Rattle.planus.specs.Replaying.{distance_of, distances, distance_fault, name_fault}
+use Rattle.planus.specs.Replaying.{Wrote}
 use Rattle.planus.specs.Replaying.{AllWrote, HasTaken}
 use Rattle.planus.specs.declared.progress.Progress.{Progress}
+use Rattle.planus.proofs.FieldFaults.{same_fields}
 use Rattle.planus.proofs.Lists.{get_push, get_last, drop_push}
 
 -- one step more, which is no clear, leaves what is named
@@ -23,7 +29,11 @@ named_from steps step c false kind e got h = rw (none_pushed steps e) h
   where
     none_pushed : (xs : List Step) → list_any is_clear xs ≡ false → list_any is_clear (xs ++ step ∷ []) ≡ false
     none_pushed [] e = rw kind refl
-    none_pushed (text bytes ∷ xs) e = none_pushed xs e
+    none_pushed (text content ∷ xs) e = none_pushed xs e
+    none_pushed (bytes content ∷ xs) e = none_pushed xs e
+    none_pushed (numbers width items ∷ xs) e = none_pushed xs e
+    none_pushed (refs named ∷ xs) e = none_pushed xs e
+    none_pushed (table fields ∷ xs) e = none_pushed xs e
     none_pushed (finish root identifier ∷ xs) e = none_pushed xs e
     none_pushed (clear ∷ xs) e = (cc)
 
@@ -42,24 +52,41 @@ clear_from : (steps : List Step) (n k : ℕ) → slice_get steps (n + k) ≡ Som
 clear_from [] zero k h = (cc)
 clear_from [] (suc n) k h = (cc)
 clear_from (x ∷ steps) (suc n) k h = clear_from steps n k (ap (slice_get (x ∷ steps)) (let e : suc (n + k) ≡ suc n + k = omega arith in e) ∙ h)
-clear_from (text bytes ∷ steps) zero zero h = (cc)
-clear_from (finish root identifier ∷ steps) zero zero h = (cc)
-clear_from (clear ∷ steps) zero k h = refl
-clear_from (text bytes ∷ steps) zero (suc k) h = clear_from steps zero k (ap (slice_get (text bytes ∷ steps)) (let e : suc (0 + k) ≡ 0 + suc k = omega arith in e) ∙ h)
-clear_from (finish root identifier ∷ steps) zero (suc k) h = clear_from steps zero k (ap (slice_get (finish root identifier ∷ steps)) (let e : suc (0 + k) ≡ 0 + suc k = omega arith in e) ∙ h)
+clear_from (x ∷ steps) zero zero h = (let same : x ≡ clear = cc in subst (λ y. list_any is_clear (y ∷ steps) ≡ true) (sym same) refl)
+clear_from (x ∷ steps) zero (suc k) h = in_rest (is_clear x) (clear_from steps zero k (ap (slice_get (x ∷ steps)) (let e : suc (0 + k) ≡ 0 + suc k = omega arith in e) ∙ h))
+  where
+    in_rest : (first : Bool) → list_any is_clear steps ≡ true → (first || list_any is_clear steps) ≡ true
+    in_rest true further = refl
+    in_rest false further = further
+
+-- a step since the last clear is none
+not_clear : (step : Step) (d : Option ℕ) → Wrote step d → is_clear step ≡ false
+not_clear (text content) d h = refl
+not_clear (bytes content) d h = refl
+not_clear (numbers width items) d h = refl
+not_clear (refs named) d h = refl
+not_clear (table fields) d h = refl
+not_clear (finish root identifier) d h = refl
+not_clear clear d h = absurd h
 
 none_clear : (steps : List Step) (ds : List (Option ℕ)) (k : ℕ) → AllWrote steps ds → list_any is_clear (drop k steps) ≡ false
 none_clear [] ds zero h = refl
 none_clear [] ds (suc k) h = refl
 none_clear (x ∷ steps) [] k h = absurd h
 none_clear (x ∷ steps) (d ∷ ds) (suc k) h = none_clear steps ds k h.1
-none_clear (text bytes ∷ steps) (d ∷ ds) zero h = none_clear steps ds zero h.1
-none_clear (finish root identifier ∷ steps) (d ∷ ds) zero h = none_clear steps ds zero h.1
-none_clear (clear ∷ steps) (d ∷ ds) zero h = absurd h.0
+none_clear (x ∷ steps) (d ∷ ds) zero h = rw (not_clear x d h.0) (none_clear steps ds zero h.1)
 
 fault_of_kind : (step : Step) (d : Option ℕ) → Wrote step d → distance_fault (Some d) ≡ fault_of (Some step)
-fault_of_kind (text bytes) (Some d) h = refl
-fault_of_kind (text bytes) None h = absurd h
+fault_of_kind (text content) (Some d) h = refl
+fault_of_kind (text content) None h = absurd h
+fault_of_kind (bytes content) (Some d) h = refl
+fault_of_kind (bytes content) None h = absurd h
+fault_of_kind (numbers width items) (Some d) h = refl
+fault_of_kind (numbers width items) None h = absurd h
+fault_of_kind (refs named) (Some d) h = refl
+fault_of_kind (refs named) None h = absurd h
+fault_of_kind (table fields) (Some d) h = refl
+fault_of_kind (table fields) None h = absurd h
 fault_of_kind (finish root identifier) (Some d) h = absurd h
 fault_of_kind (finish root identifier) None h = refl
 fault_of_kind clear d h = absurd h
@@ -110,14 +137,36 @@ module _ (replay : Progress) (steps : List Step) (h : HasTaken replay steps) (ro
   by_test true e = ap fault_of (before (let lt : root + 1 ≤ replay.first = grind (arith, nat_tests, e) in lt))
   by_test false e = behind (let le : replay.first ≤ root = grind (arith, nat_tests, e) in le)
 
-  pub named_fault : distance_fault (distance_at replay.first (distances replay) root) ≡ fault_of (named_step steps root)
+  named_fault : name_fault replay root ≡ fault_of (named_step steps root)
   named_fault = by_test (nat_lt root replay.first) refl
+
+-- the first fault is the same by what is the same of each
+same_first : (f g : ℕ → Option Why) → ((n : ℕ) → f n ≡ g n) → (ns : List ℕ) → first_fault f ns ≡ first_fault g ns
+same_first f g same [] = refl
+same_first f g same (n ∷ ns) = ap (λ o. option_or o (first_fault f ns)) (same n) ∙ ap (option_or (g n)) (same_first f g same ns)
+
+same_check : (f g : ℕ → Option Why) → ((n : ℕ) → f n ≡ g n) → (step : Step) → check_by f step ≡ check_by g step
+same_check f g same (text content) = refl
+same_check f g same (bytes content) = refl
+same_check f g same (numbers width items) = refl
+same_check f g same (refs named) = same_first f g same named
+same_check f g same (table fields) = same_fields f g same [] greatest_field fields
+same_check f g same (finish root identifier) = same root
+same_check f g same clear = refl
+
+-- what is wrong with a step shows in what the replay has
+pub checked : (replay : Progress) (steps : List Step) → HasTaken replay steps → (step : Step) → check_by (name_fault replay) step ≡ broken_check steps step
+checked replay steps h step = same_check (name_fault replay) (λ n. fault_of (named_step steps n)) (λ n. named_fault replay steps h n) step
 
 wrote_push : (steps : List Step) (ds : List (Option ℕ)) (step : Step) (d : Option ℕ) → Wrote step d → AllWrote steps ds → AllWrote (steps ++ step ∷ []) (ds ++ d ∷ [])
 wrote_push [] [] step d new h = (new, tt)
 wrote_push (x ∷ steps) (e ∷ ds) step d new h = (h.0, wrote_push steps ds step d new h.1)
 wrote_push [] (e ∷ ds) step d new h = absurd h
 wrote_push (x ∷ steps) [] step d new h = absurd h
+
+pub one_more : (old new : Progress) (offset : Option (Offset (Unit {0}))) → new.first ≡ old.first → new.offsets.items ≡ old.offsets.items ++ offset ∷ []
+    → new.first + length new.offsets.items ≡ old.first + length old.offsets.items + 1
+one_more old new offset first pushed = let longer : length new.offsets.items ≡ length old.offsets.items + 1 = ap length pushed ∙ length-append old.offsets.items (offset ∷ []) in omega (arith, first, longer)
 
 -- one step more, which is no clear
 pub took_one : (old new : Progress) (step : Step) (offset : Option (Offset (Unit {0}))) → Wrote step (distance_of offset) → new.first ≡ old.first → new.offsets.items ≡ old.offsets.items ++ offset ∷ []

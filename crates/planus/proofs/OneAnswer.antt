@@ -9,7 +9,7 @@ use Rattle.planus_write.specs.Shared.{Contents, Switches, and_seen, shared_as}
 use Rattle.planus_write.specs.Past.{Past, Entry, Adds, PutsAfter, Puts, PutsAll}
 use Rattle.planus_write.specs.Past.{ComesToTooLarge as ComesToTooLargeEntry, part_after}
 use Rattle.planus_write.specs.Past.{found_before}
-use Rattle.planus.specs.Steps.{Step, text, finish, clear}
+use Rattle.planus.specs.Steps.{Step, text, bytes, numbers, refs, table, finish, clear}
 use Rattle.planus.specs.Runs.{Finish, State, Writes, Advances, LeadsTo, StepTooLarge}
 use Rattle.planus.specs.Runs.{nothing_written, value_of, values_added}
 use Rattle.planus.specs.Runs.{finishes_added}
@@ -20,7 +20,7 @@ use Rattle.planus.specs.declared.faults.ReplayError.TheVariants.{OutOfMemory, To
 use Rattle.planus.specs.declared.faults.Why.{Why}
 
 written_of : (a b : Written) → a.bytes ≡ b.bytes → a.promises ≡ b.promises → a ≡ b
-written_of a b bytes promises = ap (λ xs. record { bytes = xs; promises = a.promises }) bytes ∙ ap (λ ps. record { bytes = b.bytes; promises = ps }) promises
+written_of a b same_bytes promises = ap (λ xs. record { bytes = xs; promises = a.promises }) same_bytes ∙ ap (λ ps. record { bytes = b.bytes; promises = ps }) promises
 
 past_of : (a b : Past) → a.written ≡ b.written → a.seen ≡ b.seen → a.parts ≡ b.parts → a.places ≡ b.places → a ≡ b
 past_of a b written seen parts places =
@@ -124,7 +124,11 @@ module _ (switches : Switches) where
       (x.finished ∙ ap (λ past. before.finished ++ finishes_added step before past) same.1 ∙ sym y.finished)
 
   advanced_once : (before : State) (step : Step) (a b : State) → Advances switches before step a → Advances switches before step b → a ≡ b
-  advanced_once before (text bytes) a b x y = written_once before (text bytes) a b x y
+  advanced_once before (text content) a b x y = written_once before (text content) a b x y
+  advanced_once before (bytes content) a b x y = written_once before (bytes content) a b x y
+  advanced_once before (numbers width items) a b x y = written_once before (numbers width items) a b x y
+  advanced_once before (refs steps) a b x y = written_once before (refs steps) a b x y
+  advanced_once before (table fields) a b x y = written_once before (table fields) a b x y
   advanced_once before (finish root identifier) a b x y = written_once before (finish root identifier) a b x y
   advanced_once before clear a b x y = x ∙ sym y
 
@@ -140,7 +144,11 @@ module _ (switches : Switches) where
       (subst (λ es. ComesToTooLargeEntry switches es [] before.past) (same_entries far.entries writes.entries _ far.are writes.are) far.too_large) writes.puts
 
   leads_nowhere : (before : State) (step : Step) (after : State) → StepTooLarge switches before step → Advances switches before step after → ⊥
-  leads_nowhere before (text bytes) after far h = stuck before (text bytes) after far h
+  leads_nowhere before (text content) after far h = stuck before (text content) after far h
+  leads_nowhere before (bytes content) after far h = stuck before (bytes content) after far h
+  leads_nowhere before (numbers width items) after far h = stuck before (numbers width items) after far h
+  leads_nowhere before (refs steps) after far h = stuck before (refs steps) after far h
+  leads_nowhere before (table fields) after far h = stuck before (table fields) after far h
   leads_nowhere before (finish root identifier) after far h = stuck before (finish root identifier) after far h
   leads_nowhere before clear after far h = (let e : None ≡ Some far.entries = far.are in cc)
 

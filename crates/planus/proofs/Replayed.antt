@@ -7,7 +7,7 @@ use Rattle.std.proofs.lemmas.List.{length-map, length-take-le}
 use Rattle.planus_write.specs.Shared.{all_off}
 use Rattle.planus_write.specs.Past.{Past}
 use Rattle.planus_write.specs.State.{IsPast}
-use Rattle.planus.specs.Steps.{Step, text, finish, clear, bare_step}
+use Rattle.planus.specs.Steps.{Step, bare_step}
 use Rattle.planus.specs.Runs.{nothing_written, LeadsTo, Advances, StepTooLarge}
 use Rattle.planus.specs.Replays.{first_bad, Replays, finish_given}
 use Rattle.planus.specs.Headline.{FinishHolds}
@@ -19,7 +19,7 @@ use Rattle.planus.specs.declared.faults.ReplayError.{ReplayError}
 use Rattle.planus.specs.declared.faults.ReplayError.TheVariants.{OutOfMemory, TooLarge, BadStep}
 use Rattle.planus.proofs.Kept.{leads_on, run_kept, run_value}
 use Rattle.planus.proofs.Lists.{found_at}
-use Rattle.planus.proofs.Naming.{named_fault}
+use Rattle.planus.proofs.Naming.{checked}
 use Rattle.planus.proofs.Walking.{all_utf8, still_clean, too_large, bad_step}
 
 -- the first i steps
@@ -74,11 +74,9 @@ module _ (steps : List code.Step) (i : ℕ) (item : code.Step) (inside : i < len
   stopped_at c is TooLarge stopped =
       too_large all_off (map bare_step steps) (first_steps steps i) c (map bare_step (drop (suc i) steps)) (subst (λ x. map bare_step steps ≡ first_steps steps i ++ x ∷ map bare_step (drop (suc i) steps)) is whole)
       (state_with progress h.run.0) (all_utf8 (take i steps)) h.run.2 h.clean (subst (λ switches. StepTooLarge switches (state_with progress h.run.0) c) h.off (stopped h.run.0 h.run.1))
-  stopped_at (text bytes) is (BadStep number why) stopped = absurd stopped
-  stopped_at clear is (BadStep number why) stopped = absurd stopped
-  stopped_at (finish root identifier) is (BadStep number why) stopped =
-      bad_step all_off (map bare_step steps) (first_steps steps i) (finish root identifier) (map bare_step (drop (suc i) steps)) (subst (λ x. map bare_step steps ≡ first_steps steps i ++ x ∷ map bare_step (drop (suc i) steps)) is whole)
-      (state_with progress h.run.0) (all_utf8 (take i steps)) h.run.2 h.clean root number identifier why refl (stopped.0 ∙ h.taken.counted) (sym (named_fault progress (first_steps steps i) h.taken root) ∙ stopped.1)
+  stopped_at c is (BadStep number why) stopped =
+      bad_step all_off (map bare_step steps) (first_steps steps i) c (map bare_step (drop (suc i) steps)) (subst (λ x. map bare_step steps ≡ first_steps steps i ++ x ∷ map bare_step (drop (suc i) steps)) is whole)
+      (state_with progress h.run.0) (all_utf8 (take i steps)) h.run.2 h.clean number why (stopped.0 ∙ h.taken.counted) (sym (checked progress (first_steps steps i) h.taken c) ∙ stopped.1)
 
   pub stops : (error : ReplayError) → Stopped progress (bare_step item) error → Replays all_off (map bare_step steps) (Err error)
   stops error stopped = stopped_at (bare_step item) refl error stopped

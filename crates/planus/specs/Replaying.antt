@@ -1,14 +1,21 @@
 -- A replay on its way, as the definitions see it.
 use Rattle.std.specs.Prelude.{◌≡◌, ℕ, ◌+◌, ◌-◌, ◌≤◌, nat_lt, List, [], ◌∷◌, ◌++◌, map, length, drop}
 use Rattle.std.specs.Prelude.{slice_get, Option, Some, None, if◌then◌else◌, Result, Ok, Err, ⊤, ◌⊎◌}
+use Rattle.std.specs.Prelude.{Vec, true, false}
+use Rattle.std.specs.Int.{Width}
+use Rattle.std.specs.List.{list_all}
+use Rattle.std.specs.declared.alloc.Global.{Global}
 use Rattle.std.specs.Option.{option_map}
 use Rattle.planus_write.specs.Past.{Past}
+use Rattle.planus_write.specs.State as builder
 use Rattle.planus_write.specs.State.{IsPast}
+use Rattle.planus_write.specs.Placing.{Outcome}
+use Rattle.planus_write.specs.declared.errors.BuildError.TheVariants as build
 use Rattle.planus_write.specs.Parts.{Named}
 use Rattle.planus_write.specs.declared.offset.Offset.{Offset}
-use Rattle.planus.specs.Steps.{Step, text, finish, clear}
-use Rattle.planus.specs.Runs.{State, Listed, Advances, StepTooLarge}
-use Rattle.planus.specs.Replays.{finish_given}
+use Rattle.planus.specs.Steps.{Step, finish, clear}
+use Rattle.planus.specs.Runs.{State, Listed, Advances, StepTooLarge, fits_width}
+use Rattle.planus.specs.Replays.{finish_given, check_by, first_fault}
 use Rattle.planus.specs.declared.faults.Why.{Why}
 use Rattle.planus.specs.declared.faults.Why.TheVariants.{NoSuchStep, WrongKind}
 use Rattle.planus.specs.declared.faults.ReplayError.{ReplayError}
@@ -59,25 +66,63 @@ abbrev pub FindsValue : ℕ → List (Option ℕ) → ℕ → Result (Offset (Un
 FindsValue first since step (Ok offset) = distance_at first since step ≡ Some (Some offset.distance)
 FindsValue first since step (Err why) = distance_fault (distance_at first since step) ≡ Some why
 
+-- what is wrong with naming the step of a number, or none
+abbrev pub name_fault : Progress → ℕ → Option Why
+name_fault replay step = distance_fault (distance_at replay.first (distances replay) step)
+
+-- the values of earlier steps, or the first of them that can't be named
+abbrev pub FindsValues : Progress → List ℕ → Result (Vec (Offset (Unit {0})) Global) ReplayError
+    → Type 0
+FindsValues replay steps (Ok offsets) =
+    map (λ o. Some (Some o.distance)) offsets.items
+    ≡ map (distance_at replay.first (distances replay)) steps
+FindsValues replay steps (Err OutOfMemory) = ⊤
+FindsValues replay steps (Err TooLarge) = ⊥
+FindsValues replay steps (Err (BadStep number why)) =
+    (number ≡ replay.first + length replay.offsets.items)
+    × (first_fault (name_fault replay) steps ≡ Some why)
+
+-- the numbers, if all of them fit the width; none, if one doesn't
+abbrev pub Narrowed : Width → List ℕ → Option (Vec ℕ Global) → Type 0
+Narrowed width items (Some numbers) =
+    (list_all (fits_width width) items ≡ true) × (numbers.items ≡ items)
+Narrowed width items None = list_all (fits_width width) items ≡ false
+
+-- A value was written, and its offset noted.
+pub record Noted {T : Type 0} (outcome : Outcome (Offset T)) (old new : Progress) : Type 0 where
+  pub offset : Offset T
+  pub noted : Offset (Unit {0})
+  pub done : outcome old.builder (Ok offset) new.builder
+  pub same : noted.distance ≡ offset.distance
+  pub first : new.first ≡ old.first
+  pub pushed : new.offsets.items ≡ old.offsets.items ++ Some noted ∷ []
+  pub finished : new.finished.items ≡ old.finished.items
+
+-- A value was written by this outcome, or refused.
+abbrev pub WritesValue : {T : Type 0} → Outcome (Offset T) → Progress
+    → Result (Unit {0}) ReplayError → Progress → Type 0
+WritesValue {T} outcome old (Ok done) new = Noted outcome old new
+WritesValue {T} outcome old (Err OutOfMemory) new = ⊤
+WritesValue {T} outcome old (Err TooLarge) new =
+    (after : builder.State) × outcome old.builder (Err build.TooLarge) after
+WritesValue {T} outcome old (Err (BadStep number why)) new = ⊥
+
 -- why a step was not taken
 abbrev pub Stopped : Progress → Step → ReplayError → Type 0
 Stopped old step OutOfMemory = ⊤
 Stopped old step TooLarge = (past : Past) → IsPast old.builder past
     → StepTooLarge old.builder.switches (state_with old past) step
-Stopped old (text bytes) (BadStep number why) = ⊥
-Stopped old clear (BadStep number why) = ⊥
-Stopped old (finish root identifier) (BadStep number why) =
-    (number ≡ old.first + length old.offsets.items)
-    × (distance_fault (distance_at old.first (distances old) root) ≡ Some why)
+Stopped old step (BadStep number why) =
+    (number ≡ old.first + length old.offsets.items) × (check_by (name_fault old) step ≡ Some why)
 
--- a step wrote what its kind says: a text its value, a finish none; a clear is no step since the
--- last clear
+-- a step wrote what its kind says: a finish no value, and each other its own; a clear is no step
+-- since the last clear
 abbrev pub Wrote : Step → Option ℕ → Type 0
-Wrote (text bytes) (Some distance) = ⊤
-Wrote (text bytes) None = ⊥
-Wrote (finish root identifier) (Some distance) = ⊥
-Wrote (finish root identifier) None = ⊤
 Wrote clear distance = ⊥
+Wrote (finish root identifier) None = ⊤
+Wrote (finish root identifier) (Some distance) = ⊥
+Wrote _ (Some distance) = ⊤
+Wrote _ None = ⊥
 
 -- each step wrote what its kind says
 abbrev pub AllWrote : List Step → List (Option ℕ) → Type 0

@@ -3,13 +3,17 @@ use Rattle.std.specs.Prelude.{◌≡◌, ℕ, ◌+◌, List, [], ◌∷◌, ◌+
 use Rattle.std.specs.Prelude.{Bool, true, false, if◌then◌else◌, Option, Some, None, Result, Ok, Err}
 use Rattle.std.specs.Prelude.{⊤, ◌⊎◌}
 use Rattle.std.specs.Prelude.{Vec}
-use Rattle.std.specs.List.{list_any}
+use Rattle.std.specs.List.{list_any, list_all}
+use Rattle.std.specs.Option.{option_or}
+use Rattle.std.specs.Int.{Width}
 use Rattle.std.specs.declared.alloc.Global.{Global}
-use Rattle.planus.specs.Steps.{Step, text, finish, clear}
+use Rattle.planus.specs.Steps.{Step, numbers, refs, table, finish, clear}
 use Rattle.planus_write.specs.Shared.{Switches}
 use Rattle.planus.specs.Runs.{Finish, Listed, State, nothing_written, LeadsTo, Runs}
-use Rattle.planus.specs.Runs.{ComesToTooLarge}
+use Rattle.planus.specs.Runs.{ComesToTooLarge, width_of, fits_width}
+use Rattle.planus.specs.TableChecks.{table_fault}
 use Rattle.planus.specs.declared.faults.Why.{Why}
+use Rattle.planus.specs.declared.faults.Why.TheVariants.{WidthUnknown, ValueTooBig}
 use Rattle.planus.specs.declared.faults.Why.TheVariants.{NoSuchStep, WrongKind}
 use Rattle.planus.specs.declared.faults.ReplayError.{ReplayError}
 use Rattle.planus.specs.declared.faults.ReplayError.TheVariants.{OutOfMemory, TooLarge, BadStep}
@@ -20,9 +24,8 @@ use Rattle.planus.specs.declared.finishes.StepPlace.{StepPlace}
 
 -- whether a step is a clear
 abbrev pub is_clear : Step → Bool
-is_clear (text bytes) = false
-is_clear (finish root identifier) = false
 is_clear clear = true
+is_clear _ = false
 
 -- the step that a number names: an earlier one, with no clear from it on
 abbrev pub named_step : List Step → ℕ → Option Step
@@ -32,16 +35,34 @@ named_step earlier number =
 -- what is wrong with naming it as a value
 abbrev pub fault_of : Option Step → Option Why
 fault_of None = Some NoSuchStep
-fault_of (Some (text bytes)) = None
 fault_of (Some (finish root identifier)) = Some WrongKind
 fault_of (Some clear) = Some WrongKind
+fault_of (Some _) = None
 
--- the first broken check of a step, by the steps before it: a root is an earlier step behind the
--- last clear, and a value
+-- the fault of the first step that has one
+abbrev pub first_fault : (ℕ → Option Why) → List ℕ → Option Why
+first_fault fault [] = None
+first_fault fault (step ∷ steps) = option_or (fault step) (first_fault fault steps)
+
+-- what is wrong with numbers of a width, or of none that is known
+abbrev pub numbers_fault : Option Width → List ℕ → Option Why
+numbers_fault None items = Some WidthUnknown
+numbers_fault (Some width) items =
+    if list_all (fits_width width) items then None else Some ValueTooBig
+
+-- the first broken check of a step, if this is what is wrong with naming each step: numbers have a
+-- known width and fit it; what is referred to, and a root, can be named; the checks of a table
+abbrev pub check_by : (ℕ → Option Why) → Step → Option Why
+check_by fault (numbers width items) = numbers_fault (width_of width) items
+check_by fault (refs steps) = first_fault fault steps
+check_by fault (table fields) = table_fault fault fields
+check_by fault (finish root identifier) = fault root
+check_by fault _ = None
+
+-- the first broken check of a step, by the steps before it: what it names is an earlier step behind
+-- the last clear, and a value
 abbrev pub broken_check : List Step → Step → Option Why
-broken_check earlier (text bytes) = None
-broken_check earlier (finish root identifier) = fault_of (named_step earlier root)
-broken_check earlier clear = None
+broken_check earlier step = check_by (λ number. fault_of (named_step earlier number)) step
 
 -- the step of this number with its broken check, if it has one, or else a later one
 abbrev pub first_bad_or : ℕ → Option Why → Option (ℕ × Why) → Option (ℕ × Why)

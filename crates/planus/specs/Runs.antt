@@ -1,14 +1,19 @@
 -- Runs: what steps come to, by the definitions of entries and of how they are put down alone.
 use Rattle.std.specs.Prelude.{◌≡◌, ℕ, ◌+◌, ◌==◌, List, [], ◌∷◌, ◌++◌, take, slice_get, Option, Some}
-use Rattle.std.specs.Prelude.{None, if◌then◌else◌}
+use Rattle.std.specs.Prelude.{None, if◌then◌else◌, Bool, nat_lt, ◌^◌, map}
 use Rattle.std.specs.Option.{option_map}
+use Rattle.std.specs.List.{list_all}
+use Rattle.std.specs.Int.{Width, w8, w16, w32, w64, byte_len, to_le_bytes}
 use Rattle.planus_read.specs.Values as value
-use Rattle.planus_read.specs.Values.{Value}
+use Rattle.planus_read.specs.Values.{Value, Field}
 use Rattle.planus_write.specs.Shared.{Switches, all_off}
 use Rattle.planus_write.specs.Past.{Past, Entry, no_past, PutsAll}
 use Rattle.planus_write.specs.Past.{ComesToTooLarge as ComesToTooLargeEntry}
 use Rattle.planus_write.specs.Parts.{Named, named_by, entries_of, finish_entry}
-use Rattle.planus.specs.Steps.{Step, text, finish, clear}
+use Rattle.planus.specs.Steps.{Step, text, bytes, numbers, refs, table, finish, clear}
+use Rattle.planus.specs.Steps.{FieldStep, number_field, ref_field}
+use Rattle.planus.specs.Slots.{place_fault, alignment_of, greatest_field}
+use Rattle.planus.specs.declared.faults.Why.{Why}
 
 -- the switches of a builder that shares nothing
 abbrev pub nothing_shared : Switches
@@ -24,9 +29,83 @@ abbrev pub named_at : List Listed → ℕ → Option Named
 named_at [] step = None
 named_at (one ∷ rest) step = if one.step == step then Some one.named else named_at rest step
 
+-- the width of numbers of so many bytes, if they can be the items of a list
+abbrev pub width_of : ℕ → Option Width
+width_of size =
+    if size == 2 then Some w16
+    else if size == 4 then Some w32 else if size == 8 then Some w64 else None
+
+-- whether a number fits the width
+abbrev pub fits_width : Width → ℕ → Bool
+fits_width width number = nat_lt number (256 ^ byte_len width)
+
+-- the list of numbers of a width, if there is such a width, and all of them fit it
+-- The format: numbers are little-endian.
+abbrev pub numbers_value : Option Width → List ℕ → Option Value
+numbers_value None items = None
+numbers_value (Some width) items =
+    if list_all (fits_width width) items
+    then Some (value.plain_list (byte_len width) (byte_len width) (map (to_le_bytes width) items))
+    else None
+
+-- one distance more, if what it is of is named
+abbrev pub with_distance : Option Named → Option (List ℕ) → Option (List ℕ)
+with_distance None rest = None
+with_distance (Some named) rest = option_map (λ distances. named.distance ∷ distances) rest
+
+-- the distances of the values of these steps, if all are listed
+abbrev pub distances_of : List Listed → List ℕ → Option (List ℕ)
+distances_of listed [] = Some []
+distances_of listed (step ∷ steps) =
+    with_distance (named_at listed step) (distances_of listed steps)
+
+-- the width of a number of so many bytes, if it can be a field
+abbrev pub field_width : ℕ → Option Width
+field_width size = if size == 1 then Some w8 else width_of size
+
+-- the number of a width as a field, if there is such a width, and it fits it
+-- The format: a number of n bytes has alignment n.
+abbrev pub plain_field : Option Width → ℕ → Option Field
+plain_field None number = None
+plain_field (Some width) number =
+    if fits_width width number
+    then Some (value.plain
+    (record { bytes = to_le_bytes width number; alignment = byte_len width }))
+    else None
+
+-- a reference to what is named
+abbrev pub reference_to : Named → Field
+reference_to named = value.reference named.distance
+
+-- the field that holds this, if there is one
+abbrev pub field_of : List Listed → FieldStep → Option Field
+field_of listed (number_field width number) = plain_field (field_width width) number
+field_of listed (ref_field step) = option_map reference_to (named_at listed step)
+
+-- one field more in a slot, if nothing is wrong with its place
+abbrev pub with_field : ℕ → Option Why → Option Field → Option (List (ℕ × Field))
+    → Option (List (ℕ × Field))
+with_field slot None (Some field) rest = option_map (λ fields. (slot, field) ∷ fields) rest
+with_field slot None None rest = None
+with_field slot (Some why) field rest = None
+
+-- the fields behind those of these slots, the last of which has this alignment, if each is one and
+-- has its place
+abbrev pub fields_of : List Listed → List ℕ → ℕ → List (ℕ × FieldStep)
+    → Option (List (ℕ × Field))
+fields_of listed slots before [] = Some []
+fields_of listed slots before (entry ∷ fields) =
+    with_field entry.0 (place_fault slots before entry) (field_of listed entry.1)
+    (fields_of listed (slots ++ entry.0 ∷ []) (alignment_of entry.1) fields)
+
 -- The value that a step writes, if it writes one, by the values of the steps before it.
 abbrev pub value_of : List Listed → Step → Option Value
-value_of listed (text bytes) = Some (value.text bytes)
+value_of listed (text content) = Some (value.text content)
+value_of listed (bytes content) = Some (value.byte_list content)
+value_of listed (numbers width items) = numbers_value (width_of width) items
+value_of listed (refs steps) = option_map value.reference_list (distances_of listed steps)
+value_of listed (table fields) =
+    option_map value.table (fields_of listed [] greatest_field fields)
 value_of listed (finish root identifier) = None
 value_of listed clear = None
 
@@ -37,10 +116,9 @@ finish_of identifier root = finish_entry root.distance identifier ∷ []
 -- What a step puts down, if it puts down anything: the entries of its value, or a finish of the
 -- value of an earlier step.
 abbrev pub entries_put : List Listed → Step → Option (List Entry)
-entries_put listed (text bytes) = option_map entries_of (value_of listed (text bytes))
 entries_put listed (finish root identifier) =
     option_map (finish_of identifier) (named_at listed root)
-entries_put listed clear = None
+entries_put listed step = option_map entries_of (value_of listed step)
 
 -- what one finish gives: the bytes, and each value since the last clear
 pub record Finish : Type 0 where
@@ -71,10 +149,9 @@ values_added (Some value) number got = record { step = number; named = named_by 
 
 -- what it adds to what was given: the bytes, and all values since the last clear
 abbrev pub finishes_added : Step → State → Past → List Finish
-finishes_added (text bytes) before after = []
 finishes_added (finish root identifier) before after =
     record { bytes = after.written.bytes; places = before.listed } ∷ []
-finishes_added clear before after = []
+finishes_added _ before after = []
 
 -- One step that writes: its entries are put down.
 pub record Writes (switches : Switches) (before : State) (step : Step)
@@ -94,10 +171,8 @@ cleared before = nothing_since (before.next + 1) before.finished
 
 -- One step leads from one state to the next.
 abbrev pub Advances : Switches → State → Step → State → Type 0
-Advances switches before (text bytes) after = Writes switches before (text bytes) after
-Advances switches before (finish root identifier) after =
-    Writes switches before (finish root identifier) after
 Advances switches before clear after = after ≡ cleared before
+Advances switches before step after = Writes switches before step after
 
 -- the steps lead from one state to the other, one after another
 abbrev pub LeadsTo : Switches → State → List Step → State → Type 0

@@ -1,18 +1,33 @@
--- The steps of a run, without where their texts lie in memory.
+-- The steps of a run, without where their texts and lists lie in memory.
 use Rattle.std.specs.Prelude.{ℕ, List, Option}
 use Rattle.std.specs.String.{string_bytes}
 use Rattle.planus.specs.declared.steps.Step as code
-use Rattle.planus.specs.declared.steps.Step.TheVariants.{Text, Finish, Clear}
+use Rattle.planus.specs.declared.steps.Step.TheVariants.{Text, Bytes, Numbers, Refs}
+use Rattle.planus.specs.declared.steps.Step.TheVariants.{Finish, Clear}
 
--- a text with its bytes; a finish with the number of its root's step, and a file identifier, if
--- there is one; a clear
+-- what a field of a table holds: a number, and of how many bytes it is; a reference to the value of
+-- an earlier step, by the number of that
+pub data FieldStep : Type 0 where
+  number_field : (width : ℕ) → ℕ → FieldStep
+  ref_field : ℕ → FieldStep
+
+-- a text with its bytes; a list of bytes; numbers, and of how many bytes each is; references to the
+-- values of earlier steps, by the numbers of these; a table of fields with their slots; a finish with
+-- the number of its root's step, and a file identifier, if there is one; a clear
 pub data Step : Type 0 where
   text : List ℕ → Step
+  bytes : List ℕ → Step
+  numbers : (width : ℕ) → List ℕ → Step
+  refs : List ℕ → Step
+  table : List (ℕ × FieldStep) → Step
   finish : ℕ → Option (List ℕ) → Step
   clear : Step
 
--- a step, without where its text lies in memory
+-- a step, without where its text or its list lies in memory
 abbrev pub bare_step : code.Step → Step
 bare_step (Text words) = text (string_bytes words)
+bare_step (Bytes content) = bytes content.items
+bare_step (Numbers width items) = numbers width items.items
+bare_step (Refs steps) = refs steps.items
 bare_step (Finish root id) = finish root id
 bare_step Clear = clear

@@ -7,10 +7,20 @@ use std::fmt;
 /// What is wrong with a step.
 #[derive(Clone, Copy, Debug, PartialEq, Eq)]
 pub enum Why {
+    /// Numbers can't have this many bytes.
+    WidthUnknown,
+    /// A number doesn't fit its bytes.
+    ValueTooBig,
     /// No earlier step behind the last clear has the number.
     NoSuchStep,
     /// The step with the number is no value.
     WrongKind,
+    /// A slot is above 255.
+    SlotTooBig,
+    /// A field before it has the slot.
+    SlotTwice,
+    /// The alignment of a field is greater than that of the field before it.
+    RisingAlignment,
 }
 
 impl fmt::Display for Why {
@@ -21,8 +31,13 @@ impl fmt::Display for Why {
 
     fn fmt<W: fmt::Write>(&self, f: &mut fmt::Formatter<W>) -> fmt::Result {
         match self {
+            Why::WidthUnknown => write!(f, "width unknown"),
+            Why::ValueTooBig => write!(f, "value too big"),
             Why::NoSuchStep => write!(f, "no such step"),
             Why::WrongKind => write!(f, "wrong kind"),
+            Why::SlotTooBig => write!(f, "slot too big"),
+            Why::SlotTwice => write!(f, "slot twice"),
+            Why::RisingAlignment => write!(f, "rising alignment"),
         }
     }
 }

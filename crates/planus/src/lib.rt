@@ -15,13 +15,18 @@ mod version;
 pub use faults::{ReplayError, Why};
 pub use finishes::{Finished, StepPlace};
 pub use planus_back::Fill;
+pub use planus_fields::{DefaultValue, WriteAs, WriteAsDefault, WriteAsOptional};
 pub use planus_read::{
     ArrayWithStartOffset, Error, Place, ReadAsRoot, ReadError, Result, SignedBytes,
     SliceWithStartOffset, Stride, TableRead, TableReadUnion, TableReadUnionVector, TaggedPlace,
     VectorName, VectorRead, VectorReadInner, VectorReadUnion, Void, errors, table_reader,
 };
 pub use planus_view::{CopyError, FromItem, Vector, vectors};
-pub use planus_write::{BuildError, Builder, Offset, Text, WriteAsOffset};
+pub use planus_write::{
+    BuildError, Builder, ByRef, ByteList, Initialized, List, ObjectFill, ObjectWriter, Offset,
+    Primitive, SignedList, TableWriter, Text, Uninitialized, VectorWrite, WriteAsOffset,
+    WriteAsPrimitive, table_writer,
+};
 pub use run::replay;
 pub use steps::Step;
 pub use version::check_version_compatibility;

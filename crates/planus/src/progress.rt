@@ -7,13 +7,19 @@ ghost use Rattle.planus.specs.Steps.{bare_step};
 ghost use Rattle.planus.specs.Runs.{nothing_written};
 ghost use Rattle.planus.specs.Replays.{place_of};
 ghost use Rattle.planus.specs.Replaying.{distance_of, distances, listed_from, state_with};
-ghost use Rattle.planus.specs.Replaying.{FindsValue, HasTaken, Advanced, AreReached};
+ghost use Rattle.planus.specs.Replaying.{FindsValue, FindsValues, HasTaken, Advanced, AreReached};
+ghost use Rattle.planus.specs.Replaying.{Narrowed, WritesValue};
+ghost use Rattle.planus.specs.declared.faults.ReplayError.TheVariants.{BadStep};
+ghost use Rattle.std.specs.Int.{w16, w32, w64};
+ghost use Rattle.std.specs.List.{list_all};
+ghost use Rattle.std.specs.Prelude.{true};
+ghost use Rattle.planus.specs.Runs.{fits_width};
 ghost use Rattle.planus.specs.Steps as step;
 
 use crate::faults::{ReplayError, Why};
 use crate::finishes::{Finished, StepPlace};
 use crate::steps::Step;
-use planus_write::{Builder, Offset};
+use planus_write::{Builder, ByteList, Offset, WriteAsOffset};
 use std::alloc::{AllocError, Global};
 
 /// A replay on its way.
@@ -50,6 +56,34 @@ fn places_of(
     Ok(places)
 }
 
+/// The numbers as those of 2 bytes, if all of them fit.
+fn u16s(alloc: Global, items: &[u64]) -> std::result::Result<Option<Vec<u16>>, AllocError>
+    ensures { IfOk result (Narrowed w16 items.now) }
+{
+    let mut numbers = Vec::with_capacity(alloc, items.len())?;
+    for item in items {
+        match u16::try_from(*item) {
+            Ok(number) => numbers.push(number)?,
+            Err(_) => return Ok(None),
+        }
+    }
+    Ok(Some(numbers))
+}
+
+/// The numbers as those of 4 bytes, if all of them fit.
+fn u32s(alloc: Global, items: &[u64]) -> std::result::Result<Option<Vec<u32>>, AllocError>
+    ensures { IfOk result (Narrowed w32 items.now) }
+{
+    let mut numbers = Vec::with_capacity(alloc, items.len())?;
+    for item in items {
+        match u32::try_from(*item) {
+            Ok(number) => numbers.push(number)?,
+            Err(_) => return Ok(None),
+        }
+    }
+    Ok(Some(numbers))
+}
+
 impl Progress {
     pub(crate) fn new(alloc: Global) -> std::result::Result<Progress, ReplayError>
         ensures past { IfOk result (λ replay. IsPast replay.builder no_past) }
@@ -80,13 +114,84 @@ impl Progress {
         }
     }
 
-    /// Writes a text.
-    fn text(&mut self, text: &str) -> std::result::Result<(), ReplayError>
-        ensures { Advanced self.old (step.text text.now) result self.new }
+    /// The values of earlier steps, by their numbers.
+    fn values(
+        &self,
+        alloc: Global,
+        steps: &[usize],
+    ) -> std::result::Result<Vec<Offset<()>>, ReplayError>
+        requires { self.now.first + vec_len self.now.offsets < 2 ^ 64 }
+        ensures { FindsValues self.now steps.now result }
     {
-        let offset = self.builder.create_string(text)?;
+        let mut offsets = Vec::with_capacity(alloc, steps.len())?;
+        for step in steps {
+            match self.value(*step) {
+                Ok(offset) => offsets.push(offset)?,
+                Err(why) => return Err(self.bad_step(why)),
+            }
+        }
+        Ok(offsets)
+    }
+
+    /// What is wrong with this step.
+    fn bad_step(&self, why: Why) -> ReplayError
+        requires { self.now.first + vec_len self.now.offsets < 2 ^ 64 }
+        ensures { result ≡ BadStep (self.now.first + length self.now.offsets.items) why }
+    {
+        let step = self.first + self.offsets.len();
+        ReplayError::BadStep { step, why }
+    }
+
+    /// Writes a value.
+    fn write<T, X: WriteAsOffset<T>>(&mut self, value: &X) -> std::result::Result<(), ReplayError>
+        requires { X.may value.now self.old.builder }
+        ensures { WritesValue (X.outcome value.now) self.old result self.new }
+    {
+        let offset = value.prepare(&mut self.builder)?;
         self.offsets.push(Some(offset.downcast()))?;
         Ok(())
+    }
+
+    /// Writes numbers of `width` bytes each.
+    fn numbers(
+        &mut self,
+        alloc: Global,
+        width: u8,
+        items: &[u64],
+    ) -> std::result::Result<(), ReplayError>
+        requires { self.old.first + vec_len self.old.offsets < 2 ^ 64 }
+        ensures { Advanced self.old (step.numbers width items.now) result self.new }
+    {
+        match width {
+            2 => match u16s(alloc, items)? {
+                Some(items) => self.write(&items),
+                None => Err(self.bad_step(Why::ValueTooBig)),
+            },
+            4 => match u32s(alloc, items)? {
+                Some(items) => self.write(&items),
+                None => Err(self.bad_step(Why::ValueTooBig)),
+            },
+            8 => self.u64s(items),
+            _ => Err(self.bad_step(Why::WidthUnknown)),
+        }
+    }
+
+    /// Writes numbers of 8 bytes each, which all fit.
+    fn u64s(&mut self, items: &[u64]) -> std::result::Result<(), ReplayError>
+        requires { list_all (fits_width w64) items.now ≡ true }
+        ensures { Advanced self.old (step.numbers 8 items.now) result self.new }
+    {
+        self.write(&items)
+    }
+
+    /// Writes references to the values of earlier steps.
+    fn refs(&mut self, alloc: Global, steps: &[usize]) -> std::result::Result<(), ReplayError>
+        requires reached { AreReached self.old }
+        requires number { self.old.first + vec_len self.old.offsets < 2 ^ 64 }
+        ensures { Advanced self.old (step.refs steps.now) result self.new }
+    {
+        let offsets = self.values(alloc, steps)?;
+        self.write(&offsets)
     }
 
     /// Takes one step.
@@ -100,7 +205,10 @@ impl Progress {
         ensures { Advanced self.old (bare_step step.now) result self.new }
     {
         match step {
-            Step::Text(text) => self.text(text.as_str()),
+            Step::Text(text) => self.write(&text.as_str()),
+            Step::Bytes(bytes) => self.write(&ByteList(bytes.as_slice())),
+            Step::Numbers { width, items } => self.numbers(alloc, *width, items.as_slice()),
+            Step::Refs(steps) => self.refs(alloc, steps.as_slice()),
             Step::Finish { root, id } => self.finish(alloc, *root, *id),
             Step::Clear => {
                 self.clear();
@@ -132,10 +240,7 @@ impl Progress {
     {
         let root = match self.value(root) {
             Ok(root) => root,
-            Err(why) => {
-                let step = self.first + self.offsets.len();
-                return Err(ReplayError::BadStep { step, why });
-            }
+            Err(why) => return Err(self.bad_step(why)),
         };
         let bytes = Vec::from_slice(alloc, self.builder.finish(root, id)?)?;
         let places = places_of(alloc, self.first, self.offsets.as_slice())?;

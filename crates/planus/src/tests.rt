@@ -1,6 +1,9 @@
-//! The version, and what is exported again.
+//! The version, what is exported again, and a step that no script has.
 
-use crate::{Builder, SliceWithStartOffset, TableRead, check_version_compatibility};
+use crate::{
+    Builder, ReplayError, SliceWithStartOffset, Step, TableRead, Why, check_version_compatibility,
+    replay,
+};
 use std::test::Fail;
 
 #[test]
@@ -23,5 +26,23 @@ fn a_text_is_written_and_read_back(rt: HostRuntime) -> Result<(), Fail> {
     assert_eq!(rt; bytes, b"\x08\0\0\0TEST\x03\0\0\0Axe\0".as_slice());
     let buffer = SliceWithStartOffset::new(bytes, 0);
     assert_eq!(rt; <&str as TableRead>::from_buffer(buffer, 0)?, "Axe");
+    Ok(())
+}
+
+#[test]
+fn a_width_that_numbers_cannot_have(rt: HostRuntime) -> Result<(), Fail> {
+    let mut steps = Vec::new(rt.alloc());
+    steps.push(Step::Text(String::from_str(rt.alloc(), "Axe")?))?;
+    let mut items = Vec::new(rt.alloc());
+    items.push(1)?;
+    steps.push(Step::Numbers { width: 3, items })?;
+    let why = Why::WidthUnknown;
+    let answer = replay(rt.alloc(), steps.as_slice());
+    assert!(rt;
+        answer.err() == Some(ReplayError::BadStep { step: 1, why }),
+        "the fault"
+    );
+    let text = format!(in rt.alloc(); "{why}")?;
+    assert_eq!(rt; text.as_str(), "width unknown");
     Ok(())
 }

@@ -6,3 +6,4 @@ pub mod Printing
 pub mod Named
 pub mod Limited
 pub mod OneText
+pub mod Lists

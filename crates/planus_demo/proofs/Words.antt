@@ -1,14 +1,13 @@
 -- The words of a line.
-use Rattle.std.proofs.Common.{◌≡◌, ℕ, ◌<◌, ◌≤◌, List, [], ◌∷◌, length, Bool, true, false, refl, ap, ◌∙◌, arith, Ok, Err}
-use Rattle.std.specs.Prelude.{◌==◌, codes, if◌then◌else◌}
+use Rattle.std.proofs.Common.{◌≡◌, ℕ, ◌<◌, ◌≤◌, List, [], ◌∷◌, length, Bool, true, false, refl, arith, Err}
+use Rattle.std.specs.Prelude.{◌==◌, if◌then◌else◌}
 use Rattle.std.specs.List.{after_first, before_first, position_or_len}
 use Rattle.std.proofs.lemmas.List.Splits.{length-slice_split, slice_split_none, slice_split_first}
 use Rattle.std.proofs.lemmas.List.Sums.{fails_before_first}
-use Rattle.std.specs.Str.{bytes_eq, is_utf8, IsUtf8}
+use Rattle.std.specs.Str.{is_utf8, IsUtf8}
 use Rattle.std.proofs.lemmas.Str.{IsUtf8-from_is_utf8, is_utf8-from_IsUtf8}
-use Rattle.planus.specs.Steps.{text}
-use Rattle.planus_demo.specs.Script.{finish_of, words_of, command_of, command_of_words, clear_of}
-use Rattle.planus_demo.specs.declared.script.ReadFault.TheVariants.{NotUtf8, UnknownCommand}
+use Rattle.planus_demo.specs.Script.{bytes_of, finish_of, words_of, command_of, command_of_words, clear_of}
+use Rattle.planus_demo.specs.declared.script.ReadFault.TheVariants.{NotUtf8, UnknownCommand, BadHex}
 
 -- what the words of a line come to
 pub not_utf8 : (line : List ℕ) → ¬ (IsUtf8 line) → command_of line ≡ Err NotUtf8
@@ -20,17 +19,6 @@ not_utf8 line h = by_test (is_utf8 line) refl
 
 pub utf8 : (line : List ℕ) → IsUtf8 line → command_of line ≡ command_of_words line (words_of line)
 utf8 line h = rw (is_utf8-from_IsUtf8 line h) refl
-
-module _ (line word : List ℕ) (words : List (List ℕ)) (split : words_of line ≡ word ∷ words) where
-  pub text_line : bytes_eq word (codes "text") ≡ true → command_of_words line (words_of line) ≡ Ok (text (after_first (λ b. b == 32) line))
-  text_line t = ap (command_of_words line) split ∙ rw t refl
-
-  pub finish_line : bytes_eq word (codes "text") ≡ false → bytes_eq word (codes "finish") ≡ true → command_of_words line (words_of line) ≡ finish_of words
-  finish_line t f = ap (command_of_words line) split ∙ rw (t, f) refl
-
-  pub unknown_line : bytes_eq word (codes "text") ≡ false → bytes_eq word (codes "finish") ≡ false → bytes_eq word (codes "clear") ≡ false
-      → command_of_words line (words_of line) ≡ Err UnknownCommand
-  unknown_line t f n = ap (command_of_words line) split ∙ rw (t, f, n) refl
 
 -- where `split_once` cuts
 pub uncut : (line : List ℕ) → position_or_len (λ b. b == 32) line ≡ length line → words_of line ≡ line ∷ []
@@ -56,3 +44,10 @@ finish_three root name (w ∷ ws) h = refl
 
 pub finish_followed : (root name rest : List ℕ) → finish_of (root ∷ name ∷ words_of rest) ≡ Err UnknownCommand
 finish_followed root name rest = finish_three root name (words_of rest) (some_words rest)
+
+bytes_two : (word : List ℕ) (words : List (List ℕ)) → 1 ≤ length words → bytes_of (word ∷ words) ≡ Err BadHex
+bytes_two word [] h = absurd (omega arith)
+bytes_two word (w ∷ ws) h = refl
+
+pub bytes_followed : (word rest : List ℕ) → bytes_of (word ∷ words_of rest) ≡ Err BadHex
+bytes_followed word rest = bytes_two word (words_of rest) (some_words rest)

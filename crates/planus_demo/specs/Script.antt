@@ -1,15 +1,16 @@
 -- The script: what the bytes of an input say, line by line.
-use Rattle.std.specs.Prelude.{ℕ, ◌+◌, ◌^◌, ◌==◌, ◌&&◌, nat_le, nat_lt, Bool, true, List, [], ◌∷◌}
+use Rattle.std.specs.Prelude.{ℕ, ◌+◌, ◌*◌, ◌^◌, ◌==◌, ◌&&◌, nat_le, nat_lt, Bool, true, List, [], ◌∷◌}
 use Rattle.std.specs.Prelude.{length, Option, Some, None, Result, Ok, Err, if◌then◌else◌, codes}
 use Rattle.std.specs.List.{slice_split, after_first, list_all}
-use Rattle.std.specs.Char.{is_ascii_digit}
+use Rattle.std.specs.Char.{is_ascii_digit, is_digit, digit_value}
+use Rattle.std.specs.Option.{option_map}
 use Rattle.std.specs.Int.{is_in_range}
 use Rattle.std.specs.Str.{is_utf8, bytes_eq}
 use Rattle.std.specs.Str.Parse.{digits_value}
-use Rattle.planus.specs.Steps.{Step, text, finish, clear}
+use Rattle.planus.specs.Steps.{Step, text, bytes, numbers, refs, finish, clear}
 use Rattle.planus_demo.specs.declared.script.ReadFault.{ReadFault}
 use Rattle.planus_demo.specs.declared.script.ReadFault.TheVariants.{NotUtf8, UnknownCommand}
-use Rattle.planus_demo.specs.declared.script.ReadFault.TheVariants.{BadNumber, BadIdentifier}
+use Rattle.planus_demo.specs.declared.script.ReadFault.TheVariants.{BadNumber, BadHex, BadIdentifier}
 
 -- the lines of an input, which line feeds separate
 abbrev pub lines_of : List ℕ → List (List ℕ)
@@ -69,13 +70,68 @@ abbrev pub clear_of : List (List ℕ) → Result Step ReadFault
 clear_of [] = Ok clear
 clear_of (word ∷ words) = Err UnknownCommand
 
+-- the byte of two hexadecimal digits, of either case
+abbrev pub byte_of : ℕ → ℕ → Option ℕ
+byte_of high low =
+    if is_digit high 16 && is_digit low 16 then Some (digit_value high * 16 + digit_value low)
+    else None
+
+-- one byte in front, if there is one
+abbrev pub onto_bytes : Option ℕ → Option (List ℕ) → Option (List ℕ)
+onto_bytes None more = None
+onto_bytes (Some byte) more = option_map (λ bytes. byte ∷ bytes) more
+
+-- the bytes of an even number of hexadecimal digits
+abbrev pub hex_bytes : List ℕ → Option (List ℕ)
+hex_bytes [] = Some []
+hex_bytes (digit ∷ []) = None
+hex_bytes (high ∷ low ∷ digits) = onto_bytes (byte_of high low) (hex_bytes digits)
+
+-- the step of these bytes, or the fault that there are none
+abbrev pub bytes_step : Option (List ℕ) → Result Step ReadFault
+bytes_step None = Err BadHex
+bytes_step (Some content) = Ok (bytes content)
+
+-- the bytes of a word, which has some digits
+abbrev pub bytes_in : List ℕ → Option (List ℕ)
+bytes_in [] = None
+bytes_in (digit ∷ digits) = hex_bytes (digit ∷ digits)
+
+-- `bytes` or `bytes HEX`
+abbrev pub bytes_of : List (List ℕ) → Result Step ReadFault
+bytes_of [] = Ok (bytes [])
+bytes_of (word ∷ []) = bytes_step (bytes_in word)
+bytes_of (word ∷ more ∷ words) = Err BadHex
+
+-- one number in front of others, or the fault that it is none
+abbrev pub onto_numbers : Result ℕ ReadFault → Result (List ℕ) ReadFault
+    → Result (List ℕ) ReadFault
+onto_numbers (Err fault) more = Err fault
+onto_numbers (Ok number) (Ok more) = Ok (number ∷ more)
+onto_numbers (Ok number) (Err fault) = Err fault
+
+-- the numbers that words are, or the first fault
+abbrev pub numbers_of : List (List ℕ) → Result (List ℕ) ReadFault
+numbers_of [] = Ok []
+numbers_of (word ∷ words) = onto_numbers (number_of word) (numbers_of words)
+
+-- the step of a list of numbers
+abbrev pub list_step : (List ℕ → Step) → Result (List ℕ) ReadFault → Result Step ReadFault
+list_step step (Ok items) = Ok (step items)
+list_step step (Err fault) = Err fault
+
 -- what the words of a line say, and the bytes after its first space
 abbrev pub command_of_words : List ℕ → List (List ℕ) → Result Step ReadFault
 command_of_words line [] = Err UnknownCommand
 command_of_words line (word ∷ words) =
     if bytes_eq word (codes "text") then Ok (text (after_first (λ b. b == 32) line))
-    else (if bytes_eq word (codes "finish") then finish_of words
-    else (if bytes_eq word (codes "clear") then clear_of words else Err UnknownCommand))
+    else if bytes_eq word (codes "bytes") then bytes_of words
+    else if bytes_eq word (codes "u16") then list_step (numbers 2) (numbers_of words)
+    else if bytes_eq word (codes "u32") then list_step (numbers 4) (numbers_of words)
+    else if bytes_eq word (codes "u64") then list_step (numbers 8) (numbers_of words)
+    else if bytes_eq word (codes "refs") then list_step refs (numbers_of words)
+    else if bytes_eq word (codes "finish") then finish_of words
+    else if bytes_eq word (codes "clear") then clear_of words else Err UnknownCommand
 
 -- The step that a line is, or its first fault of reading.
 abbrev pub command_of : List ℕ → Result Step ReadFault

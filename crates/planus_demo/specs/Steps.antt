@@ -1,5 +1,7 @@
 -- The steps of the program, as the definitions see them, and what its readers of lines answer.
-use Rattle.std.specs.Prelude.{◌≡◌, ℕ, map, Result, Ok, Err, ⊤}
+use Rattle.std.specs.Prelude.{◌≡◌, ℕ, List, map, Vec, Option, Some, None, Result, Ok, Err, ⊤}
+use Rattle.std.specs.declared.alloc.Global.{Global}
+use Rattle.planus_demo.specs.declared.script.ReadFault.TheVariants.{BadHex}
 use Rattle.planus.specs.Steps.{Step, bare_step}
 use Rattle.planus_demo.specs.Script.{Read}
 use Rattle.planus.specs.declared.steps.Step as code
@@ -25,6 +27,17 @@ abbrev pub AnswersLine : Result code.Step LineError → Result Step ReadFault �
 AnswersLine (Ok step) expected = expected ≡ Ok (bare_step step)
 AnswersLine (Err (line.Fault fault)) expected = expected ≡ Err fault
 AnswersLine (Err line.OutOfMemory) expected = ⊤
+
+-- the answer is these numbers or this fault, unless memory was refused
+abbrev pub AnswersList : Result (Vec ℕ Global) LineError → Result (List ℕ) ReadFault → Type 0
+AnswersList (Ok numbers) expected = expected ≡ Ok numbers.items
+AnswersList (Err (line.Fault fault)) expected = expected ≡ Err fault
+AnswersList (Err line.OutOfMemory) expected = ⊤
+
+-- bytes, or the fault that digits are none
+abbrev pub bytes_or_fault : Option (List ℕ) → Result (List ℕ) ReadFault
+bytes_or_fault None = Err BadHex
+bytes_or_fault (Some bytes) = Ok bytes
 
 -- the answer is this script, or this line's fault, unless memory was refused
 abbrev pub AnswersScript : Result Script ParseError → Result Read (ℕ × ReadFault) → Type 0

@@ -2,16 +2,21 @@
 
 ghost use Rattle.std.specs.Prelude.{◌≡◌, ℕ, ◌+◌, ◌-◌, ◌<◌, ◌≤◌, ◌==◌, List, [], ◌∷◌, length};
 ghost use Rattle.std.specs.Prelude.{IsTrue, ◌↔◌, Result, Ok, Err, MatchOption, MatchResult};
-ghost use Rattle.std.specs.Prelude.{unwrap_or, OnOk, ◌++◌, map, IfSome};
+ghost use Rattle.std.specs.Prelude.{unwrap_or, OnOk, ◌++◌, map, IfOk, IfSome};
 ghost use Rattle.std.specs.List.{slice_split, position, list_all, after_first};
 ghost use Rattle.std.specs.Option.{option_copied};
 ghost use Rattle.std.specs.Char.{is_ascii_digit};
 ghost use Rattle.std.specs.Int.{is_in_range};
 ghost use Rattle.planus_demo.specs.Script.{lines_of, words_of, words_behind, number_of};
 ghost use Rattle.planus_demo.specs.Script.{identifier_of, finish_of, finish_at, identified_at};
+ghost use Rattle.planus_demo.specs.Script.{byte_of as byte_of_lem, hex_bytes as hex_bytes_lem};
+ghost use Rattle.planus_demo.specs.Script.{bytes_of, bytes_step, bytes_in as bytes_in_lem};
+ghost use Rattle.planus_demo.specs.Script.{numbers_of, list_step};
 ghost use Rattle.planus_demo.specs.Script.{clear_of, command_of, command_of_words, script_of};
 ghost use Rattle.planus_demo.specs.Script.{is_skipped as is_skipped_lem};
 ghost use Rattle.planus_demo.specs.Steps.{AnswersCommand, AnswersLine, AnswersScript, read_of};
+ghost use Rattle.planus_demo.specs.Steps.{AnswersList, bytes_or_fault};
+ghost use Rattle.planus.specs.Steps as step;
 ghost use Rattle.planus.specs.Steps.{bare_step};
 
 use planus::Step;
@@ -27,6 +32,8 @@ pub enum ReadFault {
     UnknownCommand,
     /// A word that should be a number isn't one to twenty decimal digits, or is too great.
     BadNumber,
+    /// A word that should be bytes isn't an even number of hexadecimal digits, or a word follows it.
+    BadHex,
     /// A word that should be a file identifier isn't four bytes from `!` to `~`.
     BadIdentifier,
 }
@@ -42,6 +49,7 @@ impl fmt::Display for ReadFault {
             ReadFault::NotUtf8 => write!(f, "not utf-8"),
             ReadFault::UnknownCommand => write!(f, "unknown command"),
             ReadFault::BadNumber => write!(f, "bad number"),
+            ReadFault::BadHex => write!(f, "bad hex"),
             ReadFault::BadIdentifier => write!(f, "bad identifier"),
         }
     }
@@ -105,6 +113,17 @@ impl From<AllocError> for LineError {
     }
 }
 
+impl<T: Drop> From<AllocFailed<T>> for LineError {
+    ghost use Rattle.std.specs.Prelude.{◌≡◌};
+    ghost use Rattle.planus_demo.specs.declared.script.LineError.TheVariants.{OutOfMemory};
+
+    ghost from_gives = { λ _ e. e ≡ OutOfMemory };
+
+    fn from(_error: AllocFailed<T>) -> LineError {
+        LineError::OutOfMemory
+    }
+}
+
 impl From<ReadFault> for LineError {
     ghost use Rattle.std.specs.Prelude.{◌≡◌};
     ghost use Rattle.planus_demo.specs.declared.script.LineError.TheVariants.{Fault};
@@ -156,6 +175,7 @@ fn number(word: &str) -> std::result::Result<u64, ReadFault>
 
 /// The first word of a line, and what stands behind the space behind it, if there is one.
 fn first_word(line: &str) -> (&str, Option<&str>)
+    ensures shorter { IfSome (option_copied result.1) (λ more. length more < length line.now) }
     ensures words { words_of line.now ≡ result.0.now ∷ words_behind (option_copied result.1) }
     ensures rest { after_first (λ b. b == 32) line.now ≡ unwrap_or (option_copied result.1) [] }
 {
@@ -217,6 +237,101 @@ fn finish_named(root: &str, name: &str) -> std::result::Result<Step, ReadFault>
     Ok(Step::Finish { root, id })
 }
 
+/// The byte of two hexadecimal digits.
+fn byte_of(high: u8, low: u8) -> Option<u8>
+    ensures { result ≡ byte_of_lem high low }
+{
+    let high = char::from(high).to_digit(16)?;
+    let low = char::from(low).to_digit(16)?;
+    Some((high * 16 + low) as u8)
+}
+
+/// The bytes of an even number of hexadecimal digits.
+fn hex_bytes(alloc: Global, digits: &[u8]) -> std::result::Result<Vec<u8>, LineError>
+    ensures { AnswersList result (bytes_or_fault (hex_bytes_lem digits.now)) }
+{
+    let mut bytes = Vec::with_capacity(alloc, digits.len() / 2)?;
+    let mut rest = digits;
+    while let [high, low, more @ ..] = rest {
+        match byte_of(*high, *low) {
+            Some(byte) => bytes.push(byte)?,
+            None => return Err(LineError::Fault(ReadFault::BadHex)),
+        }
+        rest = more;
+    }
+    match rest {
+        [] => Ok(bytes),
+        _ => Err(LineError::Fault(ReadFault::BadHex)),
+    }
+}
+
+/// `bytes` or `bytes HEX`, from what stands behind the first word.
+fn bytes(alloc: Global, words: Option<&str>) -> std::result::Result<Step, LineError>
+    ensures { AnswersLine result (bytes_of (words_behind (option_copied words.entry))) }
+{
+    let Some(words) = words else {
+        return Ok(Step::Bytes(Vec::new(alloc)));
+    };
+    let (digits, words) = first_word(words);
+    match words {
+        None => bytes_in(alloc, digits),
+        Some(_) => Err(LineError::Fault(ReadFault::BadHex)),
+    }
+}
+
+/// The bytes of a word, which has some digits.
+fn bytes_in(alloc: Global, digits: &str) -> std::result::Result<Step, LineError>
+    ensures { AnswersLine result (bytes_step (bytes_in_lem digits.now)) }
+{
+    if digits.is_empty() {
+        return Err(LineError::Fault(ReadFault::BadHex));
+    }
+    Ok(Step::Bytes(hex_bytes(alloc, digits.as_bytes())?))
+}
+
+/// The numbers that the words behind the first one are.
+fn numbers(alloc: Global, words: Option<&str>) -> std::result::Result<Vec<u64>, LineError>
+    ensures { AnswersList result (numbers_of (words_behind (option_copied words.entry))) }
+{
+    let mut items = Vec::new(alloc);
+    let mut rest = words;
+    while let Some(text) = rest {
+        let (word, more) = first_word(text);
+        items.push(number(word)?)?;
+        rest = more;
+    }
+    Ok(items)
+}
+
+/// The numbers as those of steps.
+fn indexes(alloc: Global, numbers: &[u64]) -> std::result::Result<Vec<usize>, AllocError>
+    ensures { IfOk result (λ indexes. indexes.items ≡ numbers.now) }
+{
+    let mut indexes = Vec::with_capacity(alloc, numbers.len())?;
+    for number in numbers {
+        indexes.push(*number as usize)?;
+    }
+    Ok(indexes)
+}
+
+/// Numbers of `width` bytes each, from what stands behind the first word.
+fn list(alloc: Global, width: u8, words: Option<&str>) -> std::result::Result<Step, LineError>
+    ensures { AnswersLine result (list_step (step.numbers width)
+        (numbers_of (words_behind (option_copied words.entry)))) }
+{
+    let items = numbers(alloc, words)?;
+    Ok(Step::Numbers { width, items })
+}
+
+/// References to steps, from what stands behind the first word.
+fn refs(alloc: Global, words: Option<&str>) -> std::result::Result<Step, LineError>
+    ensures { AnswersLine result (list_step step.refs
+        (numbers_of (words_behind (option_copied words.entry)))) }
+{
+    let items = numbers(alloc, words)?;
+    Ok(Step::Refs(indexes(alloc, items.as_slice())?))
+}
+
 /// `clear`, from what stands behind the first word.
 fn clear(words: Option<&str>) -> std::result::Result<Step, ReadFault>
     ensures { AnswersCommand result (clear_of (words_behind (option_copied words.entry))) }
@@ -244,6 +359,16 @@ fn step_of_text(alloc: Global, line: &str) -> std::result::Result<Step, LineErro
     let (word, rest) = first_word(line);
     if word == "text" {
         Ok(Step::Text(String::from_str(alloc, rest.unwrap_or(""))?))
+    } else if word == "bytes" {
+        bytes(alloc, rest)
+    } else if word == "u16" {
+        list(alloc, 2, rest)
+    } else if word == "u32" {
+        list(alloc, 4, rest)
+    } else if word == "u64" {
+        list(alloc, 8, rest)
+    } else if word == "refs" {
+        refs(alloc, rest)
     } else if word == "finish" {
         Ok(finish(rest)?)
     } else if word == "clear" {

@@ -8,7 +8,7 @@ use std::io::{Error, ErrorKind, Read, Write};
 use std::test::Fail;
 
 /// Scripts, what they print, and whether they are clean.
-const ROWS: [(&[u8], &[u8], bool); 28] = [
+const ROWS: [(&[u8], &[u8], bool); 46] = [
     (b"", b"", true),
     (
         b"text Axe\nfinish 0\n",
@@ -93,6 +93,53 @@ const ROWS: [(&[u8], &[u8], bool); 28] = [
     (b"text A\nfinish x TES\n", b"line 2: bad number\n", false),
     (b"text \xff\n", b"line 1: not utf-8\n", false),
     (b"finish 0\ntexts\n", b"line 2: unknown command\n", false),
+    (
+        b"u16 1 2\nfinish 0\n",
+        b"04 00 00 00 02 00 00 00 01 00 02 00\n",
+        true,
+    ),
+    (
+        b"text Hi\nu64 1\nfinish 1\n",
+        b"04 00 00 00 01 00 00 00 01 00 00 00 00 00 00 00 02 00 00 00 48 69 00\n",
+        true,
+    ),
+    (
+        b"u32 4294967295\nfinish 0\n",
+        b"04 00 00 00 01 00 00 00 ff ff ff ff\n",
+        true,
+    ),
+    (
+        b"bytes 417865\nfinish 0\n",
+        b"04 00 00 00 03 00 00 00 41 78 65\n",
+        true,
+    ),
+    (b"bytes\nfinish 0\n", b"04 00 00 00 00 00 00 00\n", true),
+    (
+        b"text A\ntext B\nrefs 0 1\nfinish 2\n",
+        b"04 00 00 00 02 00 00 00 10 00 00 00 04 00 00 00 \
+        01 00 00 00 42 00 00 00 01 00 00 00 41 00\n",
+        true,
+    ),
+    (b"u16 65536\n", b"line 1: value too big\n", false),
+    (
+        b"u16 65535 65536\ntext\n",
+        b"line 1: value too big\n",
+        false,
+    ),
+    (b"u32 4294967296\n", b"line 1: value too big\n", false),
+    (b"u16 1  2\n", b"line 1: bad number\n", false),
+    (b"u16 1 \n", b"line 1: bad number\n", false),
+    (b"bytes 0\n", b"line 1: bad hex\n", false),
+    (b"bytes 0g\n", b"line 1: bad hex\n", false),
+    (b"bytes 00 \n", b"line 1: bad hex\n", false),
+    (b"bytes \n", b"line 1: bad hex\n", false),
+    (b"bytes 00 11\n", b"line 1: bad hex\n", false),
+    (b"refs 5\n", b"line 1: no such step\n", false),
+    (
+        b"text A\nfinish 0\nrefs 0 1 7\n",
+        b"line 3: wrong kind\n",
+        false,
+    ),
 ];
 
 #[test]

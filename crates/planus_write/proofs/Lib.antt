@@ -1,2 +1,14 @@
 pub mod PlacedParts
+pub mod PartBytes
+pub mod Staying
+pub mod KeptContents
+pub mod KeptLists
+pub mod TableBytes
+pub mod KeptTables
 pub mod Standing
+pub mod Items
+pub mod PreparedItems
+pub mod WrittenLists
+pub mod PutEntries
+pub mod ToldTables
+pub mod WrittenTables

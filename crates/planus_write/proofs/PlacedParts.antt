@@ -6,12 +6,13 @@ use Rattle.std.proofs.lemmas.List.{length-replicate}
 use Rattle.std.specs.Int.{w32, to_le_bytes}
 use Rattle.planus_back.specs.Promises.{Promise, Keep, greatest_alignment}
 use Rattle.planus_back.specs.Padding.{promise_of}
-use Rattle.planus_back.specs.Parts.{Placed}
+use Rattle.planus_back.specs.Parts.{Part, Placed}
 use Rattle.planus_write.specs.Shared.{Contents, Switches, all_off, texts, byte_lists, vtables}
 use Rattle.planus_write.specs.Shared.{shared_as, found}
 use Rattle.planus_write.specs.Past.{Past, Entry, just, part_after, Adds, PutsAfter, Puts}
 use Rattle.planus_write.specs.Past.{found_before}
-use Rattle.planus_write.specs.Parts.{text_entry, finish_entry, filled_part}
+use Rattle.planus_write.specs.Parts.{text_entry, byte_list_entry, finish_entry}
+use Rattle.planus_write.specs.Tables.{vtable_entry}
 use Rattle.planus_write.specs.Parts.{identifier_bytes}
 use Rattle.planus_write.specs.State.{State, IsPast, PutsBytes}
 use Rattle.planus_write.specs.Placing.{PutsDown, MakesRoom, DescribedBy, LacksRoom, MayWantMemory}
@@ -136,17 +137,45 @@ text_put text count place old mid new off room put count_is =
     puts_down (text_entry text) [] (length text + 5) 4 place old mid new ((count ++ text) ++ 0 ∷ []) off room (text_sized text old)
     (λ past h. rw count_is refl) (rw count_is (simp length-append (omega arith))) put
 
--- what a filler writes
-pub filled_sized : (leaves : ℕ → ℕ → List ℕ) (size alignment : ℕ) (old : State) → IsSized (just (filled_part size alignment leaves)) [] old size alignment
-filled_sized leaves size alignment old = record { size_is = λ past h. refl; alignment_is = λ past h. refl }
+-- a part that isn't shared
+pub part_sized : (part : Part) (old : State) → IsSized (just part) [] old part.size part.alignment
+part_sized part old = record { size_is = λ past h. refl; alignment_is = λ past h. refl }
 
-pub filled_put : (leaves : ℕ → ℕ → List ℕ) (size alignment place : ℕ) (old mid new : State) → old.switches ≡ all_off → MakesRoom size alignment old place mid
-    → length (leaves place size) ≡ size → PutsBytes (leaves place size) mid new → PutsDown (just (filled_part size alignment leaves)) [] old (length new.bytes) new
-filled_put leaves size alignment place old mid new off room count put =
-    let there : length new.bytes ≡ place
-    = new_length (just (filled_part size alignment leaves)) [] size alignment place old mid new (leaves place size) off room (filled_sized leaves size alignment old) (λ past h. refl) count put in
-    subst (λ n. PutsDown (just (filled_part size alignment leaves)) [] old n new) (sym there)
-    (puts_down (just (filled_part size alignment leaves)) [] size alignment place old mid new (leaves place size) off room (filled_sized leaves size alignment old) (λ past h. refl) count put)
+module _ (part : Part) (place : ℕ) (old mid new : State) (off : old.switches ≡ all_off) (room : MakesRoom part.size part.alignment old place mid)
+    (count : length (part.bytes_at place) ≡ part.size) (put : PutsBytes (part.bytes_at place) mid new) where
+  pub part_put : PutsDown (just part) [] old place new
+  part_put = puts_down (just part) [] part.size part.alignment place old mid new (part.bytes_at place) off room (part_sized part old) (λ past h. refl) count put
+
+  pub part_ends : length new.bytes ≡ place
+  part_ends = new_length (just part) [] part.size part.alignment place old mid new (part.bytes_at place) off room (part_sized part old) (λ past h. refl) count put
+
+  pub part_put_last : PutsDown (just part) [] old (length new.bytes) new
+  part_put_last = subst (λ n. PutsDown (just part) [] old n new) (sym part_ends) part_put
+
+-- a vtable
+pub vtable_sized : (bytes : List ℕ) (old : State) → IsSized (vtable_entry bytes) [] old (length bytes) 2
+vtable_sized bytes old = record { size_is = λ past h. refl; alignment_is = λ past h. refl }
+
+pub vtable_put : (bytes : List ℕ) (place : ℕ) (old mid new : State) → old.switches ≡ all_off → MakesRoom (length bytes) 2 old place mid
+    → PutsBytes bytes mid new → PutsDown (vtable_entry bytes) [] old place new
+vtable_put bytes place old mid new off room put =
+    puts_down (vtable_entry bytes) [] (length bytes) 2 place old mid new bytes off room (vtable_sized bytes old) (λ past h. refl) refl put
+
+-- what is put in two pieces is put
+pub both_put : (front back : List ℕ) (mid between new : State) → PutsBytes back mid between → PutsBytes front between new → PutsBytes (front ++ back) mid new
+both_put front back mid between new first second =
+    second ∙ rw (first, append_assoc front back mid.bytes, length-append front back)
+    (ap (λ n. record mid { bytes = front ++ (back ++ mid.bytes); room = n }) (omega arith))
+
+-- a byte list
+pub byte_list_sized : (bytes : List ℕ) (old : State) → IsSized (byte_list_entry bytes) [] old (length bytes + 4) 4
+byte_list_sized bytes old = record { size_is = λ past h. refl; alignment_is = λ past h. refl }
+
+pub byte_list_put : (bytes count : List ℕ) (place : ℕ) (old mid between new : State) → old.switches ≡ all_off → MakesRoom (length bytes + 4) 4 old place mid
+    → PutsBytes bytes mid between → PutsBytes count between new → count ≡ to_le_bytes w32 (length bytes) → PutsDown (byte_list_entry bytes) [] old place new
+byte_list_put bytes count place old mid between new off room items_put count_put count_is =
+    puts_down (byte_list_entry bytes) [] (length bytes + 4) 4 place old mid new (count ++ bytes) off room (byte_list_sized bytes old)
+    (λ past h. rw count_is refl) (rw count_is (simp length-append (omega arith))) (both_put count bytes mid between new items_put count_put)
 
 -- a root word and an identifier, put in two pieces into the room made for them
 module _ (root : ℕ) (identifier : Option (List ℕ)) (alignment : ℕ) (old : State)
@@ -159,27 +188,25 @@ module _ (root : ℕ) (identifier : Option (List ℕ)) (alignment : ℕ) (old : 
       (name_put : PutsBytes (identifier_bytes identifier) mid a) (word_put : PutsBytes word a new) (word_is : word ≡ to_le_bytes w32 (place - root))
       (all : (promises : List Promise) → DescribedBy old promises → greatest_alignment 1 promises ≤ alignment)
       (some : (promises : List Promise) × DescribedBy old promises) where
-    both_put : PutsBytes (word ++ identifier_bytes identifier) mid new
-    both_put =
-        word_put ∙ rw (name_put, append_assoc word (identifier_bytes identifier) mid.bytes, length-append word (identifier_bytes identifier))
-        (ap (λ n. record mid { bytes = word ++ (identifier_bytes identifier ++ mid.bytes); room = n }) (omega arith))
+    whole_put : PutsBytes (word ++ identifier_bytes identifier) mid new
+    whole_put = both_put word (identifier_bytes identifier) mid a new name_put word_put
 
     count : length (word ++ identifier_bytes identifier) ≡ length (identifier_bytes identifier) + 4
     count = rw word_is (simp length-append (omega arith))
 
     there : length new.bytes ≡ place
-    there = new_length (finish_entry root identifier) [] _ alignment place old mid new (word ++ identifier_bytes identifier) off room finish_sized (λ past h. rw word_is refl) count both_put
+    there = new_length (finish_entry root identifier) [] _ alignment place old mid new (word ++ identifier_bytes identifier) off room finish_sized (λ past h. rw word_is refl) count whole_put
 
     none_to_come : new.delayed ≡ 0
     none_to_come =
         let kept : Keep (promise_of place alignment ∷ some.0) place = room.kept some.0 some.1 (all some.0 some.1) in
         let turns : (k : ℕ) × (place ≡ place + mid.delayed + k * (mid.mask + 1)) = ((room.described some.0 some.1).kept place (let le : place ≤ place = omega arith in le)).0 kept in
-        let same : new.delayed ≡ mid.delayed = ap (λ state. state.delayed) both_put in
+        let same : new.delayed ≡ mid.delayed = ap (λ state. state.delayed) whole_put in
         omega (arith, same, turns.1)
 
     pub finishes : Finishes root identifier old place new
     finishes = record {
-      puts = puts_down (finish_entry root identifier) [] _ alignment place old mid new (word ++ identifier_bytes identifier) off room finish_sized (λ past h. rw word_is refl) count both_put;
+      puts = puts_down (finish_entry root identifier) [] _ alignment place old mid new (word ++ identifier_bytes identifier) off room finish_sized (λ past h. rw word_is refl) count whole_put;
       whole = sym there;
       kept = none_to_come;
     }

@@ -1,17 +1,39 @@
 -- The laws of what can be written.
-use Rattle.std.specs.Prelude.{◌≡◌, ℕ, ◌≤◌, List, [], ◌∷◌, ◌++◌, length, replicate, Option, Some}
-use Rattle.std.specs.Prelude.{None, Result, Ok, Err}
-use Rattle.std.proofs.Common.{ap, subst, sym, refl}
+use Rattle.std.specs.Prelude.{◌≡◌, ℕ, ◌+◌, ◌≤◌, List, [], ◌∷◌, ◌++◌, length, replicate, Option}
+use Rattle.std.specs.Prelude.{Some, None, Result, Ok, Err, ⊤}
+use Rattle.std.proofs.Common.{ap, subst, sym, refl, ◌∙◌, arith, append_assoc, length-append}
+use Rattle.std.proofs.Common.{lit<, lit≤}
+use Rattle.planus_back.proofs.Multiples.{divides_multiple}
 use Rattle.planus_back.specs.Parts.{Part}
 use Rattle.planus_back.specs.Padding.{promise_of}
 use Rattle.planus_write.specs.Shared.{Contents, Seen, Switches, and_seen, shared_as}
 use Rattle.planus_write.specs.Past.{Past, Entry, Adds, PutsAfter, Puts, found_before, part_after}
 use Rattle.planus_write.specs.State.{State, IsPast, Extends, Grows}
-use Rattle.planus_write.specs.Placing.{PutsDown}
-use Rattle.planus_write.specs.Preparing.{WritesText, IsPrepared}
-use Rattle.planus_write.specs.Parts.{text_entry}
+use Rattle.planus_write.specs.Placing.{Outcome, PutsDown, WritesEntry}
+use Rattle.planus_write.specs.Preparing.{IsLawful, IsLayout, Answers, AsOffset, IsPrepared}
 use Rattle.planus_write.specs.declared.errors.BuildError.{BuildError}
 use Rattle.planus_write.specs.declared.offset.Offset.{Offset}
+
+-- what extends twice extends
+pub extends_on : (before between after : Past) → Extends before between → Extends between after
+    → Extends before after
+extends_on before between after first second = record {
+  bytes = (
+    second.bytes.0 ++ first.bytes.0,
+    second.bytes.1 ∙ ap (λ bytes. second.bytes.0 ++ bytes) first.bytes.1
+        ∙ sym (append_assoc second.bytes.0 first.bytes.0 before.written.bytes),
+  );
+  promises = (
+    second.promises.0 ++ first.promises.0,
+    second.promises.1 ∙ ap (λ promises. second.promises.0 ++ promises) first.promises.1
+        ∙ sym (append_assoc second.promises.0 first.promises.0 before.written.promises),
+  );
+  seen = (
+    second.seen.0 ++ first.seen.0,
+    second.seen.1 ∙ ap (λ seen. second.seen.0 ++ seen) first.seen.1
+        ∙ sym (append_assoc second.seen.0 first.seen.0 before.seen),
+  );
+}
 
 -- what was written extends itself
 pub extends_itself : (past : Past) → Extends past past
@@ -74,28 +96,97 @@ entry_grows entry got old distance new put = record {
   switches = put.switches;
 }
 
--- an offset's preparing grows the builder by nothing
-pub prepared_grows : {T : Type 0} (offset : Offset T) (old : State)
-    (answer : Result (Offset T) BuildError) (new : State) → IsPrepared offset old answer new
+-- what grows twice grows
+pub grows_on : (old mid new : State) → Grows old mid → Grows mid new → Grows old new
+grows_on old mid new first second = record {
+  bytes = (
+    second.bytes.0 ++ first.bytes.0,
+    second.bytes.1 ∙ ap (λ bytes. second.bytes.0 ++ bytes) first.bytes.1
+        ∙ sym (append_assoc second.bytes.0 first.bytes.0 old.bytes),
+  );
+  past = λ past is_past.
+      let between = first.past past is_past in
+      let after = second.past between.0 between.1 in
+      (after.0, after.1, extends_on past between.0 after.0 between.2 after.2);
+  switches = second.switches ∙ first.switches;
+}
+
+-- what an old state reaches, a grown one does
+pub reached_still : (distance : ℕ) (old new : State) → Grows old new → distance ≤ length old.bytes
+    → distance ≤ length new.bytes
+reached_still distance old new grows reached =
+    let e : length new.bytes ≡ length grows.bytes.0 + length old.bytes
+    = ap length grows.bytes.1 ∙ length-append grows.bytes.0 old.bytes in
+    omega (arith, e, reached)
+
+-- an entry that is put down, or refused, grows the builder
+pub writes_entry_grows : (entry : Entry) (got : List ℕ) (old : State) (answer : Result ℕ BuildError)
+    (new : State) → WritesEntry entry got old answer new → Grows old new
+writes_entry_grows entry got old (Ok distance) new done = entry_grows entry got old distance new done
+writes_entry_grows entry got old (Err error) new done = unchanged_grows old new done.unchanged
+
+-- so it is with the distance as an offset
+pub as_offset_grows : {T : Type 0} (writes : Outcome ℕ) (old : State)
+    → ((answer : Result ℕ BuildError) (new : State) → writes old answer new → Grows old new)
+    → (answer : Result (Offset T) BuildError) (new : State) → AsOffset writes old answer new
     → Grows old new
-prepared_grows offset old answer new done = unchanged_grows old new done.1
+as_offset_grows writes old each (Ok offset) new done = each (Ok offset.distance) new done
+as_offset_grows writes old each (Err error) new done = each (Err error) new done
 
--- an offset that the builder had is one that it has
-pub prepared_reaches : {T : Type 0} (offset : Offset T) (old : State) (answer : Offset T)
-    (new : State) → offset.distance ≤ length old.bytes → IsPrepared offset old (Ok answer) new
-    → answer.distance ≤ length new.bytes
-prepared_reaches offset old answer new within done = let same : answer ≡ offset = cc in
-    subst (λ state. answer.distance ≤ length state.bytes) (sym done.1)
-    (subst (λ o. o.distance ≤ length old.bytes) (sym same) within)
+-- an offset is lawful
+pub offset_is_lawful : {T : Type 0}
+    → IsLawful {X = Offset T} (λ offset old. offset.distance ≤ length old.bytes) IsPrepared
+    (λ offset. offset.distance)
+offset_is_lawful {T} = record {
+  grows = λ offset old answer new may done. unchanged_grows old new done.1;
+  reaches = λ offset old answer new may done.
+      let same : answer ≡ offset = cc in
+      subst (λ state. answer.distance ≤ length state.bytes) (sym done.1)
+      (subst (λ o. o.distance ≤ length old.bytes) (sym same) may);
+  stays = λ offset old new grows may. reached_still offset.distance old new grows may;
+}
 
--- a text grows the builder by its part, or by nothing where it is refused
-pub text_grows : {T : Type 0} (text : List ℕ) (old : State) (answer : Result (Offset T) BuildError)
-    (new : State) → WritesText text old answer new → Grows old new
-text_grows text old (Ok offset) new done =
-    entry_grows (text_entry text) [] old offset.distance new done
-text_grows text old (Err error) new done = unchanged_grows old new done.unchanged
+-- what writes one entry is lawful, if it may always be prepared
+pub entry_is_lawful : {X T : Type 0} (entry : X → Entry)
+    → IsLawful {X = X} {A = Offset T} (λ x old. ⊤)
+    (λ x old answer new. AsOffset (WritesEntry (entry x) []) old answer new)
+    (λ offset. offset.distance)
+entry_is_lawful entry = record {
+  grows = λ x old answer new may done.
+      as_offset_grows (WritesEntry (entry x) []) old (writes_entry_grows (entry x) [] old) answer
+      new done;
+  reaches = λ x old answer new may done. done.reached;
+  stays = λ x old new grows may. tt;
+}
 
--- a text that was written is one that the builder has
-pub text_reaches : {T : Type 0} (text : List ℕ) (old : State) (offset : Offset T) (new : State)
-    → WritesText text old (Ok offset) new → offset.distance ≤ length new.bytes
-text_reaches text old offset new done = done.reached
+-- what is answered as it is, and refers to nothing, is lawful
+pub ready_is_lawful : {A : Type 0} → IsLawful {X = A} (λ x old. ⊤) Answers (λ answer. 0)
+ready_is_lawful {A} = record {
+  grows = λ x old answer new may done. unchanged_grows old new done.1;
+  reaches = λ x old answer new may done. omega arith;
+  stays = λ x old new grows may. tt;
+}
+
+-- the layouts of numbers
+pub layout_of_one : IsLayout 1 1
+layout_of_one = record { power = (0, lit≤ tt, refl); positive = lit< tt; multiple = divides_multiple _ 1 _ refl }
+
+pub layout_of_two : IsLayout 2 2
+layout_of_two = record { power = (1, lit≤ tt, refl); positive = lit< tt; multiple = divides_multiple _ 1 _ refl }
+
+pub layout_of_four : IsLayout 4 4
+layout_of_four = record { power = (2, lit≤ tt, refl); positive = lit< tt; multiple = divides_multiple _ 1 _ refl }
+
+pub layout_of_eight : IsLayout 8 8
+layout_of_eight = record { power = (3, lit≤ tt, refl); positive = lit< tt; multiple = divides_multiple _ 1 _ refl }
+
+-- what is prepared as something else is lawful where that is
+pub lawful_of : {X Y A : Type 0} {may : X → State → Type 0} {outcome : X → Outcome A}
+    {reach : A → ℕ}
+    (of : Y → X) → IsLawful may outcome reach
+    → IsLawful (λ y old. may (of y) old) (λ y old answer new. outcome (of y) old answer new) reach
+lawful_of of lawful = record {
+  grows = λ y. lawful.grows (of y);
+  reaches = λ y. lawful.reaches (of y);
+  stays = λ y. lawful.stays (of y);
+}

@@ -1,10 +1,14 @@
 pub mod Shared
 pub mod Past
+pub mod Items
+pub mod Tables
 pub mod Parts
 pub mod State
 pub mod Placing
 pub mod View
 pub mod Preparing
+pub mod TableWriting
 pub mod Laws
 pub mod Finishing
 pub mod Standing
+pub mod ListLaws

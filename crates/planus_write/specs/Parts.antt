@@ -1,13 +1,17 @@
 -- The parts of each value, in the order in which they are written.
-use Rattle.std.specs.Prelude.{ℕ, ◌+◌, ◌-◌, List, [], ◌∷◌, ◌++◌, length, Option, Some, None, ⊤}
-use Rattle.std.specs.Int.{w32, to_le_bytes}
+use Rattle.std.specs.Prelude.{◌≡◌, ℕ, ◌+◌, ◌-◌, ◌*◌, ◌<◌, ◌≤◌, ◌^◌, max, List, [], ◌∷◌, ◌++◌, length}
+use Rattle.std.specs.Prelude.{map, Option, Some, None, ⊤}
+use Rattle.std.specs.List.{AllByRecursion}
+use Rattle.std.specs.Int.{w32, to_le_bytes, ◌∣◌}
 use Rattle.planus_back.specs.Promises.{Promise, greatest_alignment}
 use Rattle.planus_back.specs.Parts.{Part}
-use Rattle.planus_read.specs.Values.{Value, text}
+use Rattle.planus_read.specs.Values.{Value, text, byte_list, plain_list, reference_list, table}
 use Rattle.planus_read.specs.Bytes.{position_of}
 use Rattle.planus_read.specs.Stands.{Position, at, at_both}
-use Rattle.planus_write.specs.Shared.{texts}
-use Rattle.planus_write.specs.Past.{Entry}
+use Rattle.planus_write.specs.Shared.{texts, byte_lists}
+use Rattle.planus_write.specs.Past.{Entry, just}
+use Rattle.planus_write.specs.Items.{Item, plain_item, reference_item}
+use Rattle.planus_write.specs.Tables.{IsTable, table_entries}
 
 -- A text is one part, aligned to 4: its count, its bytes and a zero byte.
 -- The format: a text is a vector of bytes with a zero byte behind it that the count leaves out.
@@ -28,6 +32,46 @@ text_entry bytes =
           { kind = texts; bytes = bytes });
       part = λ got promises. text_part bytes;
     }
+
+-- A byte list is one part, aligned to 4: its count and its bytes.
+abbrev pub byte_list_part : List ℕ → Part
+byte_list_part bytes = record {
+  size = length bytes + 4;
+  alignment = 4;
+  bytes_at = λ place. to_le_bytes w32 (length bytes) ++ bytes;
+}
+
+-- equal byte lists may be written once
+abbrev pub byte_list_entry : List ℕ → Entry
+byte_list_entry bytes = record {
+  contents = Some (record { kind = byte_lists; bytes = bytes });
+  part = λ got promises. byte_list_part bytes;
+}
+
+-- The bytes of items, one after another: the first at the place, and each next one nearer to the
+-- end by the size.
+abbrev pub items_bytes : ℕ → ℕ → List Item → List ℕ
+items_bytes size place [] = []
+items_bytes size place (item ∷ items) = item place ++ items_bytes size (place - size) items
+
+-- the items of a list as one part, aligned as they are, but at least to 4
+abbrev pub items_part : (size alignment : ℕ) → List Item → Part
+items_part size alignment items = record {
+  size = length items * size;
+  alignment = max alignment 4;
+  bytes_at = λ place. items_bytes size place items;
+}
+
+-- the count of a list
+abbrev pub count_part : ℕ → Part
+count_part count =
+    record { size = 4; alignment = 1; bytes_at = λ place. to_le_bytes w32 count }
+
+-- A list: its items, and then its count in front of them.
+-- The format: a vector is a count of 4 bytes, which its items follow.
+abbrev pub list_entries : (size alignment : ℕ) → List Item → List Entry
+list_entries size alignment items =
+    just (items_part size alignment items) ∷ just (count_part (length items)) ∷ []
 
 -- the bytes of a file identifier, none where there is none
 abbrev pub identifier_bytes : Option (List ℕ) → List ℕ
@@ -55,14 +99,33 @@ abbrev pub filled_part : ℕ → ℕ → (ℕ → ℕ → List ℕ) → Part
 filled_part size alignment leaves =
     record { size = size; alignment = alignment; bytes_at = λ place. leaves place size }
 
--- the values that are written so far: texts
-abbrev pub IsWritten : Value → Type 0
-IsWritten (text bytes) = ⊤
-IsWritten _ = ⊥
+-- The items of a plain list have its size, which is above 0 and a multiple of their alignment; and
+-- that is a power of two.
+pub record IsPlainList (size alignment : ℕ) (items : List (List ℕ)) : Type 0 where
+  pub sizes : AllByRecursion (λ item. length item ≡ size) items
+  pub positive : 0 < size
+  pub multiple : alignment ∣ size
+  pub power : (k : ℕ) × (alignment ≡ 2 ^ k)
+
+-- The values that are written so far, in front of so many bytes: texts, byte lists, and lists of
+-- plain items, and of references to what lies in these bytes, and tables.
+abbrev pub IsWritten : ℕ → Value → Type 0
+IsWritten before (text bytes) = ⊤
+IsWritten before (byte_list bytes) = ⊤
+IsWritten before (plain_list size alignment items) = IsPlainList size alignment items
+IsWritten before (reference_list distances) =
+    AllByRecursion (λ distance. distance ≤ before) distances
+IsWritten before (table entries) = IsTable before entries
+IsWritten before _ = ⊥
 
 -- The entries of a value, in the order in which they are put down.
 abbrev pub entries_of : Value → List Entry
 entries_of (text bytes) = text_entry bytes ∷ []
+entries_of (byte_list bytes) = byte_list_entry bytes ∷ []
+entries_of (plain_list size alignment items) =
+    list_entries size alignment (map plain_item items)
+entries_of (reference_list distances) = list_entries 4 4 (map reference_item distances)
+entries_of (table entries) = table_entries entries
 entries_of _ = []
 
 -- The distances by which a value is named: its own, or of a union vector that of its references and

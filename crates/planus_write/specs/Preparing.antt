@@ -1,18 +1,109 @@
 -- What the preparing of a value may do.
-use Rattle.std.specs.Prelude.{◌≡◌, ℕ, List, [], Ok, Err}
-use Rattle.planus_write.specs.Parts.{text_entry}
-use Rattle.planus_write.specs.Placing.{Outcome, WritesEntry}
+use Rattle.std.specs.Prelude.{◌≡◌, ℕ, ◌+◌, ◌*◌, ◌<◌, ◌≤◌, ◌^◌, List, [], ◌∷◌, ◌++◌, length, map}
+use Rattle.std.specs.Prelude.{slice_get, Some, Result, Ok, Err, Vec}
+use Rattle.std.specs.declared.alloc.Global.{Global}
+use Rattle.std.specs.Int.{◌∣◌}
+use Rattle.std.specs.List.{AllByRecursion}
+use Rattle.planus_write.specs.Past.{Entry}
+use Rattle.planus_write.specs.Parts.{text_entry, byte_list_entry, list_entries, last_of}
+use Rattle.planus_write.specs.Items.{Item}
+use Rattle.planus_write.specs.State.{State, Grows}
+use Rattle.planus_write.specs.Placing.{Outcome, then_does, WritesEntry}
+use Rattle.planus_write.specs.declared.errors.BuildError.{BuildError}
+use Rattle.planus_write.specs.declared.errors.BuildError.TheVariants.{OutOfMemory}
 use Rattle.planus_write.specs.declared.offset.Offset.{Offset}
 
--- the same, with the distance answered as an offset
+-- The layout of a primitive: its alignment in bytes is a power of two up to 2^30, and its size a
+-- positive multiple of that.
+pub record IsLayout (size alignment : ℕ) : Type 0 where
+  pub power : (k : ℕ) × (k ≤ 30) × (alignment ≡ 2 ^ k)
+  pub positive : 0 < size
+  pub multiple : alignment ∣ size
+
+-- What is asked of everything that can be prepared, by when it may be, what that does, and how far
+-- from the end of the bytes the answer refers.
+pub record IsLawful {X A : Type 0} (may : X → State → Type 0) (outcome : X → Outcome A)
+    (reach : A → ℕ) : Type 0 where
+  -- the bytes before are the end of the bytes after, and every promise stays
+  pub grows : (x : X) (old : State) (answer : Result A BuildError) (new : State) → may x old
+      → outcome x old answer new → Grows old new
+  -- what is answered refers to what lies in the bytes
+  pub reaches : (x : X) (old : State) (answer : A) (new : State) → may x old
+      → outcome x old (Ok answer) new → reach answer ≤ length new.bytes
+  -- what may be prepared may also be prepared later
+  pub stays : (x : X) (old new : State) → Grows old new → may x old → may x new
+
+-- this is answered, and nothing is done
+abbrev pub Answers : {A : Type 0} → A → Outcome A
+Answers {A} answered old answer new = (answer ≡ Ok answered) × (new ≡ old)
+
+-- the distance is answered as an offset
 abbrev pub AsOffset : {T : Type 0} → Outcome ℕ → Outcome (Offset T)
 AsOffset {T} writes old (Ok offset) new = writes old (Ok offset.distance) new
 AsOffset {T} writes old (Err error) new = writes old (Err error) new
+
+-- an offset is prepared already
+abbrev pub IsPrepared : {T : Type 0} → Offset T → Outcome (Offset T)
+IsPrepared offset = Answers offset
 
 -- a text was written, or refused
 abbrev pub WritesText : {T : Type 0} → List ℕ → Outcome (Offset T)
 WritesText text old answer new = AsOffset (WritesEntry (text_entry text) []) old answer new
 
--- an offset is prepared already
-abbrev pub IsPrepared : {T : Type 0} → Offset T → Outcome (Offset T)
-IsPrepared offset old answer new = (answer ≡ Ok offset) × (new ≡ old)
+-- a byte list was written, or refused
+abbrev pub WritesByteList : {T : Type 0} → List ℕ → Outcome (Offset T)
+WritesByteList bytes old answer new =
+    AsOffset (WritesEntry (byte_list_entry bytes) []) old answer new
+
+-- Memory was had, or it was refused; the builder is as it was.
+abbrev pub TakesMemory : Outcome (Unit {0})
+TakesMemory old (Ok done) new = new ≡ old
+TakesMemory old (Err error) new = (error ≡ OutOfMemory) × (new ≡ old)
+
+-- The items were prepared, one after another.
+abbrev pub PreparesAll : {X A : Type 0} → (X → Outcome A) → List X → Outcome (List A)
+PreparesAll {X} {A} prepare [] = Answers []
+PreparesAll {X} {A} prepare (x ∷ xs) =
+    then_does (prepare x)
+    (λ first. then_does (PreparesAll prepare xs) (λ others. Answers (first ∷ others)))
+
+-- The entries were put down, one after another, behind those that got these distances; all
+-- distances are answered.
+abbrev pub WritesEntries : List Entry → List ℕ → Outcome (List ℕ)
+WritesEntries [] got = Answers got
+WritesEntries (entry ∷ entries) got =
+    then_does (WritesEntry entry got)
+    (λ distance. WritesEntries entries (got ++ distance ∷ []))
+
+-- the last of the distances is answered
+abbrev pub AnswersLast : Outcome (List ℕ) → Outcome ℕ
+AnswersLast writes = then_does writes (λ got. Answers (last_of got))
+
+-- Memory for prepared items, and then the items, prepared one after another.
+abbrev pub PreparesItems : {X A : Type 0} → (X → Outcome A) → List X → Outcome (List A)
+PreparesItems {X} {A} prepare xs = then_does TakesMemory (λ had. PreparesAll prepare xs)
+
+-- A list was written, or refused: its items are prepared, and then its entries are put down, whose
+-- items leave these bytes.
+abbrev pub WritesList : {X A T : Type 0} → (X → Outcome A) → (A → Item) → (size alignment : ℕ)
+    → List X → Outcome (Offset T)
+WritesList {X} {A} {T} prepare leaves size alignment xs old answer new =
+    AsOffset
+    (then_does (PreparesItems prepare xs)
+    (λ items. AnswersLast (WritesEntries (list_entries size alignment (map leaves items)) [])))
+    old answer new
+
+-- prepared items, without where they lie in memory
+abbrev pub listed : {A : Type 0} → Result (Vec A Global) BuildError → Result (List A) BuildError
+listed {A} (Ok items) = Ok items.items
+listed {A} (Err error) = Err error
+
+-- each of the values may be prepared
+abbrev pub AllMay : {X : Type 0} → (X → State → Type 0) → List X → State → Type 0
+AllMay {X} may xs state = AllByRecursion (λ x. may x state) xs
+
+-- Items of this size may stand one after another from the place on: what each refers to lies
+-- behind it.
+pub record MayStand {A : Type 0} (reach : A → ℕ) (size place : ℕ) (items : List A) : Type 0 where
+  pub inside : length items * size ≤ place
+  pub reached : (i : ℕ) (item : A) → slice_get items i ≡ Some item → reach item + i * size ≤ place

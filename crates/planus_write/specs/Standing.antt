@@ -1,5 +1,5 @@
 -- What entries that were put down come to: the values that they are the entries of stand.
-use Rattle.std.specs.Prelude.{ℕ, ◌-◌, ◌≤◌, List, [], ◌++◌, length, Option, Some, None, ⊤}
+use Rattle.std.specs.Prelude.{ℕ, ◌-◌, ◌≤◌, List, [], ◌++◌, length, Option, Some, None, ⊤, Ok, Err}
 use Rattle.std.specs.List.{AllByRecursion}
 use Rattle.std.specs.Int.{◌∣◌}
 use Rattle.planus_back.specs.Promises.{Keep}
@@ -10,8 +10,10 @@ use Rattle.planus_read.specs.Stands.{Stands, ReferenceStands}
 use Rattle.planus_read.specs.Moves.{moved}
 use Rattle.planus_read.specs.Aligned.{AlignedAt}
 use Rattle.planus_write.specs.Shared.{Kind, texts, byte_lists, vtables, Switches, Seen}
-use Rattle.planus_write.specs.Past.{Past, PutsAll}
-use Rattle.planus_write.specs.State.{Extends}
+use Rattle.planus_write.specs.Past.{Past, Entry, PutsAll, ComesToTooLarge}
+use Rattle.planus_write.specs.State.{State, IsPast, Extends}
+use Rattle.planus_write.specs.Preparing.{WritesEntries}
+use Rattle.planus_write.specs.declared.errors.BuildError.TheVariants.{TooLarge}
 use Rattle.planus_write.specs.Parts.{finish_part, identifier_bytes, IsWritten, entries_of, Named}
 use Rattle.planus_write.specs.Parts.{named_by, position_in}
 
@@ -54,13 +56,28 @@ KeptStays = (before after : Past) (value : Value) (named : Named) → Extends be
     → IsKept before value named → IsKept after value named
 
 -- Once the entries of a value are put down, and all that was seen is kept, the value is kept by
--- what it is named by, and still all that was seen is.
+-- what it is named by, and still all that was seen is. What it refers to lies in what was written
+-- before.
 abbrev pub ValuesAreKept : Type 0
 ValuesAreKept =
     (switches : Switches) (value : Value) (before : Past) (got : List ℕ) (after : Past)
-    → IsWritten value → AllSeenKept before
+    → IsWritten (length before.written.bytes) value → AllSeenKept before
     → PutsAll switches (entries_of value) [] before got after
     → IsKept after value (named_by value got) × AllSeenKept after × Extends before after
+
+-- Entries that a builder put down are put down in every past that it may have; and where it was
+-- refused one that is too large, so they come to that.
+abbrev pub EntriesArePut : Type 0
+EntriesArePut =
+    (entries : List Entry) (got : List ℕ) (old : State) (all : List ℕ) (new : State) (past : Past)
+    → WritesEntries entries got old (Ok all) new → IsPast old past
+    → (after : Past) × PutsAll old.switches entries got past all after × IsPast new after
+
+abbrev pub EntriesAreTooLarge : Type 0
+EntriesAreTooLarge =
+    (entries : List Entry) (got : List ℕ) (old : State) (new : State) (past : Past)
+    → WritesEntries entries got old (Err TooLarge) new → IsPast old past
+    → ComesToTooLarge old.switches entries got past
 
 -- The reference of a finish that was placed leads to the root, if that lies in what was written
 -- before.

@@ -1,5 +1,5 @@
 -- What the fields of a builder say to its callers.
-use Rattle.std.specs.Prelude.{◌≡◌, ◌≤◌, length, List}
+use Rattle.std.specs.Prelude.{◌≡◌, ℕ, ◌+◌, ◌≤◌, ◌^◌, length, List}
 use Rattle.planus_back.specs.Promises.{Promise}
 use Rattle.planus_back.specs.Padding.{greatest_place}
 use Rattle.planus_write.specs.Shared.{all_off}
@@ -7,6 +7,9 @@ use Rattle.planus_write.specs.State.{State}
 use Rattle.planus_write.specs.Placing.{DescribedBy}
 use Rattle.planus_write.specs.declared.backing.Backing.TheInside as backing
 use Rattle.planus_write.specs.declared.builder.Builder.TheInside as builder
+use Rattle.planus_write.specs.declared.table_writer.TableWriter.TheInside as table_writer
+use Rattle.planus_write.specs.TableWriting.{Writer}
+use Rattle.planus_back.specs.Promises.{IsPowerOfTwo}
 
 -- the state that bytes and promises are; nothing is shared
 abbrev pub backing_state : backing.Inside → State
@@ -30,3 +33,21 @@ state_of a = a.backing
 pub record IsSound (a : builder.Inside) : Type 0 where
   pub described : (promises : List Promise) × DescribedBy a.backing promises
   pub off : a.backing.switches ≡ all_off
+
+-- a writer of a table is its fields
+abbrev pub writer_of : {N : ℕ} → table_writer.Inside N → Writer
+writer_of a = record {
+  vtable = a.vtable;
+  vtable_size = a.vtable_size;
+  object_size = a.object_size;
+  mask = a.mask;
+}
+
+-- Its sizes are those of a vtable and an object, and its alignment is one of a part.
+pub record IsWriter {N : ℕ} (a : table_writer.Inside N) : Type 0 where
+  pub small : a.object_size ≤ 65535
+  pub vtable_small : a.vtable_size ≤ 65534
+  pub power : IsPowerOfTwo (a.mask + 1)
+  pub bound : a.mask + 1 ≤ 2 ^ 30
+  pub whole : 4 ≤ a.object_size
+  pub inside : 4 ≤ N → a.vtable_size ≤ N

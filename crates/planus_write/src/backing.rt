@@ -4,7 +4,7 @@ ghost use Rattle.planus_back.specs.Promises.{Promise, IsPowerOfTwo, greatest_ali
 ghost use Rattle.planus_back.specs.Padding.{greatest_place};
 
 use crate::errors::BuildError;
-use planus_back::{BackVec, Fill, Promises};
+use planus_back::{BackVec, Fill, Overwrite, Promises};
 use std::alloc::{AllocError, Global};
 use std::marker::Model;
 
@@ -139,6 +139,23 @@ impl Backing {
         ensures count { length (F.leaves filler.now place size) ≡ size }
     {
         self.inner.put_filled(place, size, filler);
+    }
+
+    // The writer's bytes, for which there is room.
+    #[inline]
+    pub(crate) fn put_overwritten<W: Overwrite>(&mut self, place: u32, size: usize, writer: &W)
+        requires room { size ≤ self.old.room }
+        requires within { size + length self.old.bytes ≤ greatest_place }
+        requires fits { W.fits writer.now place size }
+        ensures put { PutsBytes (W.leaves writer.now place size) self.old self.new }
+        ensures count { length (W.leaves writer.now place size) ≡ size }
+    {
+        self.inner.put_overwritten(place, size, writer);
+    }
+
+    // The allocator of the bytes.
+    pub(crate) fn alloc(&self) -> Global {
+        self.inner.alloc()
     }
 
     // One less than the greatest of 4 and every alignment so far.

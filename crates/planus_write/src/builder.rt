@@ -1,14 +1,17 @@
 //! The builder.
 ghost use Rattle.std.specs.Prelude.{◌≡◌, ◌+◌, ◌≤◌, ◌^◌, [], length, IsTrue, ◌↔◌, IfOk, IfErr, ℕ};
+ghost use Rattle.std.specs.Prelude.{pos, ◌-ℤ◌};
+ghost use Rattle.std.specs.Int.{w32, to_le_bytes, cast_unsigned};
 ghost use Rattle.planus_back.specs.Promises.{IsPowerOfTwo};
 ghost use Rattle.planus_back.specs.Padding.{greatest_place};
 ghost use Rattle.planus_write.specs.Parts.{identifier_bytes};
 
 use crate::backing::{Backing, WORD_MASK};
+use crate::byte_lists::{ByteItems, Copied};
 use crate::errors::BuildError;
-use crate::offset::{Offset, Text};
-use crate::traits::WriteAsOffset;
-use planus_back::Fill;
+use crate::offset::{List, Offset, Text};
+use crate::traits::{Primitive, WriteAsOffset};
+use planus_back::{Fill, Overwrite};
 use std::alloc::Global;
 use std::marker::Model;
 
@@ -34,10 +37,11 @@ impl Builder {
     ghost use Rattle.std.specs.Borrow.{sem};
     ghost use Rattle.planus_write.specs.Shared.{all_off};
     ghost use Rattle.planus_write.specs.Past.{Past, no_past, just};
-    ghost use Rattle.planus_write.specs.Parts.{filled_part};
+    ghost use Rattle.planus_write.specs.Parts.{filled_part, count_part};
+    ghost use Rattle.planus_write.specs.Tables.{vtable_entry, word_part};
     ghost use Rattle.planus_write.specs.State.{IsPast};
-    ghost use Rattle.planus_write.specs.Placing.{WritesPart};
-    ghost use Rattle.planus_write.specs.Preparing.{WritesText};
+    ghost use Rattle.planus_write.specs.Placing.{WritesEntry, WritesPart};
+    ghost use Rattle.planus_write.specs.Preparing.{WritesText, WritesByteList};
     ghost use Rattle.planus_write.specs.Finishing.{EndsAs, FinishGives, FinishLeaves, WritesRoot};
 
     /// An empty builder; [`BuildError::OutOfMemory`] where memory is refused.
@@ -132,6 +136,79 @@ impl Builder {
         Ok(Offset::at(place))
     }
 
+    // One part of `size` bytes, all of which the writer writes. Answers its place.
+    #[inline]
+    pub(crate) fn write_over<W: Overwrite>(
+        &mut self,
+        size: usize,
+        alignment_mask: usize,
+        writer: &W,
+    ) -> std::result::Result<u32, BuildError>
+        requires power { IsPowerOfTwo (alignment_mask + 1) }
+        requires bound { alignment_mask + 1 ≤ 2 ^ 30 }
+        requires fits { (place : ℕ) → length self.old.bytes + size ≤ place
+            → place ≤ greatest_place → W.fits writer.now place size }
+        ensures entry { WritesEntry (just (filled_part size (alignment_mask + 1)
+            (W.leaves writer.now))) [] self.old result self.new }
+        ensures inside { IfOk result (λ place. size ≤ place) }
+    {
+        let place = self.backing.make_room(size, alignment_mask)?;
+        self.backing.put_overwritten(place, size, writer);
+        Ok(place)
+    }
+
+    // A byte list as one part.
+    #[inline]
+    pub(crate) fn write_byte_list<T, L: ByteItems>(
+        &mut self,
+        list: &L,
+    ) -> std::result::Result<Offset<T>, BuildError>
+        ensures { WritesByteList (L.bytes_of list.now) self.old result self.new }
+    {
+        let count = list.count();
+        let place = self.backing.make_room(count + 4, WORD_MASK)?;
+        self.backing
+            .put_overwritten(place - 4, count, &Copied { items: list });
+        self.backing.put(&(count as u32).to_le_bytes());
+        Ok(Offset::at(place))
+    }
+
+    // The count of a list, right in front of its items.
+    #[inline]
+    pub(crate) fn write_count(&mut self, count: u32) -> std::result::Result<u32, BuildError>
+        ensures { WritesEntry (just (count_part count)) [] self.old result self.new }
+    {
+        let place = self.backing.make_room(4, 0)?;
+        self.backing.put(&count.to_le_bytes());
+        Ok(place)
+    }
+
+    // A vtable as one part.
+    pub(crate) fn write_vtable(&mut self, bytes: &[u8]) -> std::result::Result<u32, BuildError>
+        ensures { WritesEntry (vtable_entry bytes.now) [] self.old result self.new }
+    {
+        let place = self.backing.make_room(bytes.len(), 1)?;
+        self.backing.put(bytes);
+        Ok(place)
+    }
+
+    // The word of a table, right in front of its body, which leads to the vtable at this distance.
+    #[inline]
+    pub(crate) fn write_word(&mut self, vtable: u32) -> std::result::Result<u32, BuildError>
+        requires { vtable ≤ greatest_place }
+        ensures entry { WritesEntry (just (word_part vtable)) [] self.old result self.new }
+        ensures last { IfOk result (λ place. place ≡ length self.new.bytes) }
+    {
+        let place = self.backing.make_room(4, 0)?;
+        self.backing.put(&word_between(vtable, place));
+        Ok(place)
+    }
+
+    // The allocator of the bytes.
+    pub(crate) fn alloc(&self) -> Global {
+        self.backing.alloc()
+    }
+
     /// Writes a part of `size` bytes, aligned to `alignment_mask + 1`, whose bytes the filler
     /// writes over zeros. It is handed the part's place: the distance in bytes from the end of the
     /// buffer to the part's first byte.
@@ -177,6 +254,25 @@ impl Builder {
         ensures { X.outcome value self.old result self.new }
     {
         value.prepare(self)
+    }
+
+    /// Writes a list: the items are prepared in order and written as one part, aligned as they are
+    /// but at least to 4 bytes, and then the count of 4 bytes in front of them; or a byte list, as
+    /// one part of a count and the bytes. Answers its offset. Nothing is written for an offset; each
+    /// offset that is handed in must be one that this builder answered since the last clear.
+    ///
+    /// [`BuildError::TooLarge`] where a part's place would be above 2147483647 bytes from the end;
+    /// [`BuildError::OutOfMemory`] where memory for the prepared items is refused, or a part doesn't
+    /// fit [`Builder::room`] and memory is refused. What was written before the refused write stays,
+    /// and nothing after it is begun.
+    pub fn create_vector<P: Primitive, X: WriteAsOffset<List<P>> + Drop>(
+        &mut self,
+        list: X,
+    ) -> std::result::Result<Offset<List<P>>, BuildError>
+        requires { X.may list self.old }
+        ensures { X.outcome list self.old result self.new }
+    {
+        list.prepare(self)
     }
 
     /// Prepares the root, and puts in front of everything its reference, and behind that the file
@@ -232,4 +328,15 @@ fn identifier_slice(identifier: &Option<[u8; 4]>) -> &[u8]
         None => &[],
         Some(bytes) => bytes,
     }
+}
+
+// The word of a table at a distance from the end, whose vtable is at another one.
+fn word_between(vtable: u32, table: u32) -> [u8; 4]
+    requires vtable { vtable ≤ greatest_place }
+    requires table { table ≤ greatest_place }
+    ensures { result ≡ to_le_bytes w32 (cast_unsigned w32 (pos vtable -ℤ pos table)) }
+{
+    let vtable = vtable as i32;
+    let table = table as i32;
+    (vtable - table).to_le_bytes()
 }

@@ -1,4 +1,15 @@
 //! The types that can be written.
 
+mod array;
+mod bool_;
+mod box_;
+mod by_ref;
+mod byte_lists;
 mod offset;
+mod primitives;
+mod scalar;
+mod slice;
 mod str;
+mod string;
+mod vec;
+mod void;

@@ -1,7 +1,15 @@
 //! Laws over what is written. The functions do nothing: each states a law by its contract.
 
 ghost use Rattle.planus_write.specs.Standing.{KeptStays, ValuesAreKept, FinishesLead};
-ghost use Rattle.planus_write.specs.Standing.{FinishesAreIdentified};
+ghost use Rattle.planus_write.specs.Standing.{FinishesAreIdentified, EntriesArePut};
+ghost use Rattle.planus_write.specs.Standing.{EntriesAreTooLarge};
+
+/// What a call put down, as its contract says, is put down in every past of the builder, so that
+/// the laws of pasts speak of it; and where a call was refused what is too large, so it is there.
+pub fn entries_are_put()
+    ensures put { EntriesArePut }
+    ensures too_large { EntriesAreTooLarge }
+{}
 
 /// A value whose entries are put down stands at what it is named by, and is aligned in all finished
 /// bytes that end in it, also where equal contents were found; and it stays so, whatever is written

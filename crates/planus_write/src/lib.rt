@@ -3,16 +3,27 @@
 
 mod backing;
 pub mod builder;
+mod by_ref;
+mod byte_lists;
 pub mod errors;
 mod impls;
 pub mod laws;
+mod lists;
+mod markers;
+mod object_writer;
 pub mod offset;
+pub mod table_writer;
 pub mod traits;
 
 pub use builder::Builder;
+pub use by_ref::ByRef;
+pub use byte_lists::{ByteList, SignedList};
 pub use errors::BuildError;
-pub use offset::{Offset, Text};
-pub use traits::WriteAsOffset;
+pub use markers::{Initialized, Uninitialized};
+pub use object_writer::{ObjectFill, ObjectWriter};
+pub use offset::{List, Offset, Text};
+pub use table_writer::TableWriter;
+pub use traits::{Primitive, VectorWrite, WriteAsOffset, WriteAsPrimitive};
 
 #[cfg(test)]
 mod tests;

@@ -6,6 +6,11 @@ use std::marker::PhantomData;
 /// The kind of an offset to a text.
 pub struct Text;
 
+/// The kind of an offset to a list of `P`.
+pub struct List<P> {
+    of: PhantomData<P>,
+}
+
 /// A value of kind `T` that a builder has written, by its distance in bytes from the end of the
 /// buffer to its first byte.
 pub struct Offset<T> {

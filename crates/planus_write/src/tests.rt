@@ -1,9 +1,15 @@
-ghost use Rattle.std.specs.Prelude.{replicate, ⊤};
+ghost use Rattle.std.specs.Prelude.{◌≡◌, ◌≤◌, ◌-◌, ◌++◌, [], length, replicate, ⊤};
+ghost use Rattle.std.specs.Int.{w8, w16, w32, w64, to_le_bytes, cast_unsigned};
+ghost use Rattle.planus_write.specs.Preparing.{AllMay};
 
 use crate::builder::Builder;
+use crate::by_ref::ByRef;
+use crate::byte_lists::{ByteList, SignedList};
 use crate::errors::BuildError;
-use crate::offset::{Offset, Text};
-use crate::traits::WriteAsOffset;
+use crate::object_writer::{ObjectFill, ObjectWriter};
+use crate::offset::{List, Offset, Text};
+use crate::table_writer::TableWriter;
+use crate::traits::{Primitive, VectorWrite, WriteAsOffset, WriteAsPrimitive};
 use planus_back::Fill;
 use std::alloc::{AllocError, Global};
 use std::test::Fail;
@@ -129,5 +135,269 @@ fn each_call(rt: HostRuntime) -> Result<(), Fail> {
         (builder.len(), builder.is_empty(), builder.room()),
         (0, true, 64)
     );
+    Ok(())
+}
+
+// Writes a value in place at distance 20, of which only the bound is known.
+fn in_place<P: Primitive, T: WriteAsPrimitive<P>>(value: &T, bytes: &mut [u8])
+    requires size { length bytes.old ≡ P.SIZE }
+    requires reach { T.reach value.now ≤ 20 }
+{
+    value.write(bytes, 20);
+}
+
+// The finished bytes of a list of the items, of which only the bound is known.
+fn list_of<'b, P: Primitive, T: VectorWrite<P>>(
+    builder: &'b mut Builder,
+    items: &[T],
+) -> Result<&'b [u8], BuildError>
+    requires { AllMay T.may items.now builder.old }
+{
+    let list = builder.create_vector::<P, &[T]>(items)?;
+    builder.finish(list, None)
+}
+
+#[test]
+fn scalars_in_place(rt: HostRuntime) -> Result<(), Fail> {
+    let mut one = [9u8; 1];
+    in_place::<u8, u8>(&7, &mut one);
+    assert_eq!(rt; one, [7]);
+    in_place::<i8, i8>(&-2, &mut one);
+    assert_eq!(rt; one, [0xfe]);
+    in_place::<bool, bool>(&true, &mut one);
+    assert_eq!(rt; one, [1]);
+    let mut two = [9u8; 2];
+    in_place::<u16, u16>(&0x102, &mut two);
+    assert_eq!(rt; two, [2, 1]);
+    in_place::<i16, i16>(&-2, &mut two);
+    assert_eq!(rt; two, [0xfe, 0xff]);
+    let mut four = [9u8; 4];
+    in_place::<u32, u32>(&0x1020304, &mut four);
+    assert_eq!(rt; four, [4, 3, 2, 1]);
+    in_place::<i32, i32>(&-3, &mut four);
+    assert_eq!(rt; four, [0xfd, 0xff, 0xff, 0xff]);
+    in_place::<i32, ByRef<'_, i32>>(&ByRef(&-4), &mut four);
+    assert_eq!(rt; four, [0xfc, 0xff, 0xff, 0xff]);
+    let mut eight = [9u8; 8];
+    in_place::<u64, u64>(&0x102030405060708, &mut eight);
+    assert_eq!(rt; eight, [8, 7, 6, 5, 4, 3, 2, 1]);
+    in_place::<i64, i64>(&-1, &mut eight);
+    assert_eq!(rt; eight, [0xff; 8]);
+    Ok(())
+}
+
+#[test]
+fn masks_are_one_less_than_alignments(rt: HostRuntime) -> Result<(), Fail> {
+    assert_eq!(rt; (u8::ALIGNMENT_MASK, u16::ALIGNMENT_MASK), (0, 1));
+    assert_eq!(rt; (u32::ALIGNMENT_MASK, u64::ALIGNMENT_MASK), (3, 7));
+    assert_eq!(rt; <Offset<Text> as Primitive>::ALIGNMENT_MASK, 3);
+    Ok(())
+}
+
+#[test]
+fn lists_of_numbers(rt: HostRuntime) -> Result<(), Fail> {
+    let mut builder = Builder::new(rt.alloc())?;
+    let bytes = list_of::<bool, bool>(&mut builder, &[true, false, true])?;
+    assert_eq!(rt; bytes, [4u8, 0, 0, 0, 3, 0, 0, 0, 1, 0, 1].as_slice());
+    builder.clear();
+    let bytes = list_of::<i16, i16>(&mut builder, &[-2])?;
+    assert_eq!(rt; bytes, [4u8, 0, 0, 0, 1, 0, 0, 0, 0xfe, 0xff].as_slice());
+    builder.clear();
+    let bytes = list_of::<i32, ByRef<'_, i32>>(&mut builder, &[ByRef(&-2)])?;
+    assert_eq!(rt;
+        bytes,
+        [4u8, 0, 0, 0, 1, 0, 0, 0, 0xfe, 0xff, 0xff, 0xff].as_slice()
+    );
+    builder.clear();
+    builder.create_string("Hi")?;
+    let wide = b"\x04\0\0\0\x01\0\0\0\x01\0\0\0\0\0\0\0\x02\0\0\0Hi\0".as_slice();
+    assert_eq!(rt; list_of::<u64, u64>(&mut builder, &[1])?, wide);
+    builder.clear();
+    builder.create_string("Hi")?;
+    let array = builder.create_vector::<u64, [u64; 1]>([1])?;
+    assert_eq!(rt; finish_with(&mut builder, array, None)?, wide);
+    builder.clear();
+    let none = list_of::<u32, u32>(&mut builder, &[])?;
+    assert_eq!(rt; none, [4u8, 0, 0, 0, 0, 0, 0, 0].as_slice());
+    Ok(())
+}
+
+#[test]
+fn a_list_of_a_thousand_numbers(rt: HostRuntime) -> Result<(), Fail> {
+    let alloc = rt.alloc();
+    let mut items: Vec<u16> = Vec::new(alloc);
+    let mut want: Vec<u8> = Vec::new(alloc);
+    want.extend_from_slice(b"\x04\0\0\0\xe8\x03\0\0")?;
+    for index in 0..1000u16 {
+        items.push(index)?;
+        want.push((index % 256) as u8)?;
+        want.push((index / 256) as u8)?;
+    }
+    let mut builder = Builder::new(alloc)?;
+    let list = builder.create_vector::<u16, Vec<u16>>(items)?;
+    let bytes = finish_with(&mut builder, list, None)?;
+    assert!(rt; bytes == want.as_slice(), "the bytes");
+    Ok(())
+}
+
+#[test]
+fn lists_of_texts(rt: HostRuntime) -> Result<(), Fail> {
+    let alloc = rt.alloc();
+    let texts =
+        b"\x04\0\0\0\x02\0\0\0\x10\0\0\0\x04\0\0\0\x01\0\0\0B\0\0\0\x01\0\0\0A\0".as_slice();
+    let mut builder = Builder::new(alloc)?;
+    assert_eq!(rt;
+        list_of::<Offset<Text>, &str>(&mut builder, &["A", "B"])?,
+        texts
+    );
+    builder.clear();
+    let owned = [String::from_str(alloc, "A")?, String::from_str(alloc, "B")?];
+    assert_eq!(rt;
+        list_of::<Offset<Text>, String>(&mut builder, &owned)?,
+        texts
+    );
+    Ok(())
+}
+
+#[test]
+fn lists_of_bytes(rt: HostRuntime) -> Result<(), Fail> {
+    let mut builder = Builder::new(rt.alloc())?;
+    let bytes = builder.create_vector::<u8, ByteList<'_>>(ByteList(b"Axe"))?;
+    let text = builder.create_string("Axe")?;
+    assert_eq!(rt; (bytes.distance(), text.distance()), (7, 15));
+    assert_eq!(rt;
+        builder.as_slice(),
+        b"\x03\0\0\0Axe\0\x03\0\0\0Axe".as_slice()
+    );
+    builder.clear();
+    let bytes = prepared::<List<u8>, ByteList<'_>>(&mut builder, &ByteList(&[72, 105]))?;
+    let signed = prepared::<List<i8>, SignedList<'_>>(&mut builder, &SignedList(&[72, -2]))?;
+    assert_eq!(rt; (bytes.distance(), signed.distance()), (6, 14));
+    assert_eq!(rt;
+        builder.as_slice(),
+        b"\x02\0\0\0H\xfe\0\0\x02\0\0\0Hi".as_slice()
+    );
+    Ok(())
+}
+
+#[test]
+fn wrapped_values(rt: HostRuntime) -> Result<(), Fail> {
+    let alloc = rt.alloc();
+    let mut builder = Builder::new(alloc)?;
+    let boxed = Box::new(alloc, "Hi")?;
+    assert_eq!(rt;
+        prepared::<Text, Box<&str>>(&mut builder, &boxed)?.distance(),
+        7
+    );
+    assert_eq!(rt;
+        prepared::<Text, ByRef<'_, &str>>(&mut builder, &ByRef(&"Hi"))?.distance(),
+        15
+    );
+    let owned = String::from_str(alloc, "Hi")?;
+    assert_eq!(rt;
+        prepared::<Text, String>(&mut builder, &owned)?.distance(),
+        23
+    );
+    Ok(())
+}
+
+// A number of eight bytes, and one of one byte.
+#[derive(Drop)]
+struct Wide {
+    first: u64,
+    second: u8,
+}
+
+impl ObjectFill for Wide {
+    ghost size = { λ wide. 9 };
+
+    ghost reach = { λ wide. 0 };
+
+    ghost leaves = { λ wide place. to_le_bytes w64 wide.first ++ to_le_bytes w8 wide.second };
+
+    fn fill(&self, writer: &mut ObjectWriter<'_>) {
+        writer.write::<u64, u64>(&self.first);
+        writer.write::<u8, u8>(&self.second);
+    }
+}
+
+// A reference and a number of two bytes.
+#[derive(Drop)]
+struct Named {
+    name: Offset<Text>,
+    damage: i16,
+}
+
+impl ObjectFill for Named {
+    ghost size = { λ named. 6 };
+
+    ghost reach = { λ named. named.name.distance };
+
+    ghost leaves = { λ named place.
+        to_le_bytes w32 (place - named.name.distance) ++ to_le_bytes w16 (cast_unsigned w16 named.damage) };
+
+    fn fill(&self, writer: &mut ObjectWriter<'_>) {
+        writer.write::<Offset<Text>, Offset<Text>>(&self.name);
+        writer.write::<i16, i16>(&self.damage);
+    }
+}
+
+// Nothing.
+#[derive(Drop)]
+struct Nothing;
+
+impl ObjectFill for Nothing {
+    ghost size = { λ nothing. 0 };
+
+    ghost reach = { λ nothing. 0 };
+
+    ghost leaves = { λ nothing place. [] };
+
+    fn fill(&self, writer: &mut ObjectWriter<'_>) {
+        let _remaining = writer.remaining();
+    }
+}
+
+#[test]
+fn tables(rt: HostRuntime) -> Result<(), Fail> {
+    let mut builder = Builder::new(rt.alloc())?;
+    let empty: TableWriter<4> = TableWriter::default();
+    empty.finish(&mut builder, &Nothing)?;
+    let root = builder.current_offset::<()>();
+    let bytes = finish_with(&mut builder, root, None)?;
+    assert_eq!(rt;
+        bytes,
+        [4u8, 0, 0, 0, 0xfc, 0xff, 0xff, 0xff, 4, 0, 4, 0].as_slice()
+    );
+    builder.clear();
+    let mut writer: TableWriter<10> = TableWriter::default();
+    writer.write_entry::<u64>(0);
+    writer.write_entry::<u8>(2);
+    let wide = Wide {
+        first: 1,
+        second: 2,
+    };
+    writer.finish(&mut builder, &wide)?;
+    let root = builder.current_offset::<()>();
+    let bytes = finish_with(&mut builder, root, None)?;
+    let want = b"\x04\0\0\0\xf2\xff\xff\xff\x01\0\0\0\0\0\0\0\x02\0\x0a\0\x0d\0\x04\0\0\0\x0c\0";
+    assert_eq!(rt; bytes, want.as_slice());
+    Ok(())
+}
+
+#[test]
+fn a_table_with_a_text(rt: HostRuntime) -> Result<(), Fail> {
+    let mut builder = Builder::new(rt.alloc())?;
+    let name = builder.create_string("Axe")?;
+    let mut writer: TableWriter<8> = TableWriter::default();
+    writer.write_entry::<Offset<Text>>(0);
+    writer.write_entry::<i16>(1);
+    let named = Named { name, damage: 24 };
+    writer.finish(&mut builder, &named)?;
+    let root = builder.current_offset::<()>();
+    let bytes = finish_with(&mut builder, root, None)?;
+    let want =
+        b"\x04\0\0\0\xf4\xff\xff\xff\x10\0\0\0\x18\0\0\0\x08\0\x0a\0\x04\0\x08\0\x03\0\0\0Axe\0";
+    assert_eq!(rt; bytes, want.as_slice());
     Ok(())
 }

@@ -1,8 +1,55 @@
 //! What can be written.
+ghost use Rattle.std.specs.Prelude.{◌≡◌, ◌≤◌, ◌*◌, ℕ, length, map, Result};
+ghost use Rattle.planus_write.specs.Parts.{items_bytes};
+ghost use Rattle.planus_write.specs.Items.{Item};
+ghost use Rattle.planus_write.specs.Preparing.{IsLayout, IsLawful, MayStand};
+ghost use Rattle.planus_write.specs.State.{State};
+ghost use Rattle.planus_write.specs.declared.errors.BuildError.{BuildError};
+ghost use Rattle.planus_write.specs.declared.offset.Offset.{Offset};
 
 use crate::builder::Builder;
 use crate::errors::BuildError;
 use crate::offset::Offset;
+
+/// What stands in a table or in a list with a fixed size: a number, a truth value or a reference.
+pub trait Primitive: Sized {
+    ghost ALIGNMENT: { ℕ };
+
+    ghost SIZE: { ℕ };
+
+    /// Its first byte stands at a multiple of so many bytes from the start of a buffer.
+    const ALIGNMENT: usize;
+
+    /// One less than [`Primitive::ALIGNMENT`].
+    const ALIGNMENT_MASK: usize = Self::ALIGNMENT - 1;
+
+    /// Its size in bytes.
+    const SIZE: usize;
+
+    /// The alignment is a power of two up to 2^30, and the size a positive multiple of it.
+    ghost is_layout: { IsLayout SIZE ALIGNMENT };
+
+    /// The alignment is small.
+    ghost is_small: { ALIGNMENT ≤ 1073741824 };
+}
+
+/// What is written in place as a `P`.
+///
+/// The ghost member `reach` is how far from the end of the buffer it refers, in bytes: 0 for a
+/// number or a truth value, the distance for an offset. `leaves` names the bytes that it writes, by
+/// their place.
+pub trait WriteAsPrimitive<P: Primitive> {
+    ghost reach: { Self → ℕ };
+
+    ghost leaves: { Self → Item };
+
+    /// Writes all of `bytes`, of which there are exactly `P::SIZE`. `place` is the distance in
+    /// bytes from the end of the buffer to the first of them; what is referred to lies behind it.
+    fn write(&self, bytes: &mut [u8], place: u32)
+        requires size { length bytes.old ≡ P.SIZE }
+        requires reach { reach self.now ≤ place }
+        ensures { bytes.new ≡ leaves self.now place };
+}
 
 /// What a builder can write as a value of kind `T`.
 ///
@@ -10,11 +57,6 @@ use crate::offset::Offset;
 /// distance of at most the builder's length. `outcome` names what preparing it does: the builder
 /// before, the answer, and the builder after.
 pub trait WriteAsOffset<T> {
-    ghost use Rattle.std.specs.Prelude.{◌≤◌, length, Result, Ok};
-    ghost use Rattle.planus_write.specs.State.{State, Grows};
-    ghost use Rattle.planus_write.specs.declared.offset.Offset.{Offset};
-    ghost use Rattle.planus_write.specs.declared.errors.BuildError.{BuildError};
-
     ghost may: { Self → State → Type 0 };
 
     ghost outcome: { Self → State → Result (Offset T) BuildError → State → Type 0 };
@@ -28,11 +70,45 @@ pub trait WriteAsOffset<T> {
         requires { may self.now builder.old }
         ensures { outcome self.now builder.old result builder.new };
 
-    /// The bytes before are the end of the bytes after, every promise stays, and the switches do.
-    ghost grows: { (x : Self) (old : State) (answer : Result (Offset T) BuildError) (new : State)
-        → may x old → outcome x old answer new → Grows old new };
+    /// The bytes before are the end of the bytes after, every promise stays, and the switches do;
+    /// the distance that is answered is at most the builder's length.
+    ghost is_lawful: { IsLawful may outcome (λ offset. offset.distance) };
+}
 
-    /// The distance that is answered is at most the builder's length.
-    ghost reaches: { (x : Self) (old : State) (offset : Offset T) (new : State) → may x old
-        → outcome x old (Ok offset) new → offset.distance ≤ length new.bytes };
+/// What a builder can write as an item of a list of `P`.
+///
+/// The ghost members `may` and `outcome` are as those of [`WriteAsOffset`].
+pub trait VectorWrite<P: Primitive> {
+    /// What stands in the list: the item, prepared.
+    type Value: WriteAsPrimitive<P> + Drop;
+
+    ghost STRIDE: { ℕ };
+
+    ghost may: { Self → State → Type 0 };
+
+    ghost outcome: { Self → State → Result Self.Value BuildError → State → Type 0 };
+
+    /// Returns the number of bytes from one item to the next.
+    fn stride() -> usize
+        ensures { result ≡ STRIDE };
+
+    /// Writes what the item refers to, if that isn't written already. A refusal is that of
+    /// [`WriteAsOffset::prepare`].
+    fn prepare(&self, builder: &mut Builder) -> std::result::Result<Self::Value, BuildError>
+        requires { may self.now builder.old }
+        ensures { outcome self.now builder.old result builder.new };
+
+    /// Writes all of `bytes`: the items one after another, each [`VectorWrite::stride`] bytes
+    /// behind the one before. `place` is the distance in bytes from the end of the buffer to the
+    /// first of them.
+    fn write_values(values: &[Self::Value], bytes: &mut [u8], place: u32)
+        requires size { length bytes.old ≡ length values.now * STRIDE }
+        requires may { MayStand Self.Value.reach STRIDE place values.now }
+        ensures { bytes.new ≡ items_bytes STRIDE place (map Self.Value.leaves values.now) };
+
+    /// Items stand one behind the other without a gap.
+    ghost is_size: { STRIDE ≡ P.SIZE };
+
+    /// As [`WriteAsOffset`]'s, with the reach of the prepared item as the distance.
+    ghost is_lawful: { IsLawful may outcome Self.Value.reach };
 }

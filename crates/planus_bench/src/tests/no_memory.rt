@@ -238,6 +238,7 @@ fn a_builder_with_refused_memory(rt: HostRuntime) -> Result<(), Fail> {
     let made = Builder::new(alloc).map(|_| ());
     let finished = builder.finish("Axe", None).is_ok();
     let refused = builder.create_string(text).map(|_| ());
+    let unprepared = builder.create_vector::<u16, &[u16]>(&[1, 2]).map(|_| ());
     let room = builder.room();
     drop(held);
     if !exhausted {
@@ -247,8 +248,12 @@ fn a_builder_with_refused_memory(rt: HostRuntime) -> Result<(), Fail> {
     assert_eq!(rt; made, Err(BuildError::OutOfMemory));
     assert!(rt; finished, "a finish in its room");
     assert_eq!(rt; refused, Err(BuildError::OutOfMemory));
+    // There is room for the list, and no memory for its prepared items.
+    assert_eq!(rt; unprepared, Err(BuildError::OutOfMemory));
     assert_eq!(rt; (builder.as_slice(), room), (axe, 52));
     assert_eq!(rt; builder.create_string(text)?.distance(), 80);
+    let list = builder.create_vector::<u16, &[u16]>(&[1, 2])?;
+    assert_eq!(rt; list.distance(), 88);
     Ok(())
 }
 

@@ -10,8 +10,8 @@ use std::test::Fail;
 struct Written {
     // The bytes, the last one first.
     reversed: Vec<u8>,
-    // The distance of each part from the end. All of them are aligned to 4 bytes.
-    parts: Vec<usize>,
+    // The distance of each part from the end, and its alignment: 4 or 8.
+    parts: Vec<(usize, usize)>,
     values: Vec<StepPlace>,
 }
 
@@ -24,28 +24,50 @@ impl Written {
         }
     }
 
-    // Whether all parts and one more at this distance can be aligned at once.
-    fn can_stand(&self, distance: usize) -> bool {
-        for part in &self.parts {
-            if distance.wrapping_sub(*part) % 4 != 0 {
+    // Whether all parts are aligned in so many bytes.
+    fn keeps(&self, length: usize) -> bool {
+        for (distance, alignment) in &self.parts {
+            if length.wrapping_sub(*distance).checked_rem(*alignment) != Some(0) {
                 return false;
             }
         }
         true
     }
 
+    // Whether all parts and one more at this distance can be aligned at once.
+    fn can_stand(&self, distance: usize, alignment: usize) -> bool {
+        for length in 0..8usize {
+            if length.wrapping_sub(distance).checked_rem(alignment) == Some(0)
+                && self.keeps(length)
+            {
+                return true;
+            }
+        }
+        false
+    }
+
     // Puts down the fewest zeros with which a part of this size can stand in front of them. Answers
     // the part's distance.
-    fn pad(&mut self, size: usize) -> Result<usize, AllocError> {
-        for _ in 0..3 {
-            if self.can_stand(self.reversed.len().wrapping_add(size)) {
+    fn pad(&mut self, size: usize, alignment: usize) -> Result<usize, AllocError> {
+        for _ in 0..7 {
+            if self.can_stand(self.reversed.len().wrapping_add(size), alignment) {
                 break;
             }
             self.reversed.push(0)?;
         }
         let distance = self.reversed.len().wrapping_add(size);
-        self.parts.push(distance)?;
+        self.parts.push((distance, alignment))?;
         Ok(distance)
+    }
+
+    // The greatest alignment so far, at least 4.
+    fn greatest(&self) -> usize {
+        for (_, alignment) in &self.parts {
+            if *alignment == 8 {
+                return 8;
+            }
+        }
+        4
     }
 
     // Puts bytes in front.
@@ -60,17 +82,55 @@ impl Written {
         self.put(&(word as u64).to_le_bytes()[..4])
     }
 
-    fn text(&mut self, step: usize, text: &[u8]) -> Result<(), Fail> {
-        let distance = self.pad(text.len().wrapping_add(5))?;
-        self.put(&[0])?;
-        self.put(text)?;
-        self.put_word(text.len())?;
+    // The value of this step begins at the front of the bytes.
+    fn add(&mut self, step: usize) -> Result<(), Fail> {
         self.values.push(StepPlace {
             step,
-            distance: u32::try_from(distance)?,
+            distance: u32::try_from(self.reversed.len())?,
             tags: None,
         })?;
         Ok(())
+    }
+
+    fn text(&mut self, step: usize, text: &[u8]) -> Result<(), Fail> {
+        self.pad(text.len().wrapping_add(5), 4)?;
+        self.put(&[0])?;
+        self.put(text)?;
+        self.put_word(text.len())?;
+        self.add(step)
+    }
+
+    fn bytes(&mut self, step: usize, bytes: &[u8]) -> Result<(), Fail> {
+        self.pad(bytes.len().wrapping_add(4), 4)?;
+        self.put(bytes)?;
+        self.put_word(bytes.len())?;
+        self.add(step)
+    }
+
+    fn numbers(&mut self, step: usize, width: u8, items: &[u64]) -> Result<(), Fail> {
+        let alignment = if width == 8 { 8 } else { 4 };
+        self.pad(items.len().wrapping_mul(width as usize), alignment)?;
+        for item in items.iter().rev() {
+            let bytes = item.to_le_bytes();
+            match width {
+                2 => self.put(&bytes[..2])?,
+                4 => self.put(&bytes[..4])?,
+                _ => self.put(&bytes)?,
+            }
+        }
+        self.put_word(items.len())?;
+        self.add(step)
+    }
+
+    fn refs(&mut self, step: usize, steps: &[usize]) -> Result<(), Fail> {
+        self.pad(steps.len().wrapping_mul(4), 4)?;
+        for named in steps.iter().rev() {
+            let root = self.distance(*named).ok_or("no such value")?;
+            let place = self.reversed.len().wrapping_add(4);
+            self.put_word(place.wrapping_sub(root))?;
+        }
+        self.put_word(steps.len())?;
+        self.add(step)
     }
 
     // The distance of the value of a step.
@@ -84,13 +144,14 @@ impl Written {
     }
 
     fn finish(&mut self, root: usize, id: Option<[u8; 4]>) -> Result<(), AllocError> {
+        let alignment = self.greatest();
         match id {
             Some(id) => {
-                self.pad(8)?;
+                self.pad(8, alignment)?;
                 self.put(&id)?;
             }
             None => {
-                self.pad(4)?;
+                self.pad(4, alignment)?;
             }
         }
         let distance = self.reversed.len().wrapping_add(4);
@@ -114,6 +175,9 @@ pub fn plain_run(alloc: Global, steps: &[Step]) -> Result<Vec<Finished>, Fail> {
     for (number, step) in steps.iter().enumerate() {
         match step {
             Step::Text(text) => written.text(number, text.as_bytes())?,
+            Step::Bytes(bytes) => written.bytes(number, bytes.as_slice())?,
+            Step::Numbers { width, items } => written.numbers(number, *width, items.as_slice())?,
+            Step::Refs(steps) => written.refs(number, steps.as_slice())?,
             Step::Finish { root, id } => {
                 let root = written.distance(*root).ok_or("no such value")?;
                 written.finish(root, *id)?;

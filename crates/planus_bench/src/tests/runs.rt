@@ -27,23 +27,51 @@ fn text(alloc: Global, count: usize) -> Result<Step, AllocError> {
     Ok(Step::Text(text))
 }
 
+// A list of `count` numbers of 2, 4 or 8 bytes.
+fn list(alloc: Global, width: u8, count: usize) -> Result<Step, AllocError> {
+    let mut items = Vec::new(alloc);
+    for index in 0..count {
+        items.push(index as u64)?;
+    }
+    Ok(Step::Numbers { width, items })
+}
+
+// A list of `count` references to one value.
+fn refs(alloc: Global, root: usize, count: usize) -> Result<Step, AllocError> {
+    let mut steps = Vec::new(alloc);
+    for _ in 0..count {
+        steps.push(root)?;
+    }
+    Ok(Step::Refs(steps))
+}
+
+// A byte list of `count` bytes.
+fn bytes(alloc: Global, count: usize) -> Result<Step, AllocError> {
+    let mut bytes = Vec::new(alloc);
+    for index in 0..count {
+        bytes.push((index % 256) as u8)?;
+    }
+    Ok(Step::Bytes(bytes))
+}
+
 // One of these numbers.
 fn one_of(numbers: &[usize], draw: usize) -> Option<usize> {
     let index = draw.checked_rem(numbers.len())?;
     numbers.get(index).copied()
 }
 
-// Texts of mixed lengths, finishes with and without an identifier, and a clear now and then.
+// Texts and lists of mixed lengths, finishes with and without an identifier, and a clear now and
+// then.
 fn mixed_steps(alloc: Global, count: usize) -> Result<Vec<Step>, Fail> {
     let mut numbers = Numbers { last: 1 };
     let mut steps = Vec::new(alloc);
-    let mut texts = Vec::new(alloc);
+    let mut values = Vec::new(alloc);
     for number in 0..count {
         let kind = numbers.draw() % 32;
-        let root = one_of(texts.as_slice(), numbers.draw());
+        let root = one_of(values.as_slice(), numbers.draw());
         match (kind, root) {
             (0, _) => {
-                texts.clear();
+                values.clear();
                 steps.push(Step::Clear)?;
             }
             (1..=6, Some(root)) => steps.push(Step::Finish { root, id: None })?,
@@ -52,11 +80,28 @@ fn mixed_steps(alloc: Global, count: usize) -> Result<Vec<Step>, Fail> {
                 steps.push(Step::Finish { root, id })?;
             }
             (13, _) => {
-                texts.push(number)?;
+                values.push(number)?;
                 steps.push(text(alloc, numbers.draw() % 20000)?)?;
             }
+            (14..=16, _) => {
+                values.push(number)?;
+                steps.push(bytes(alloc, numbers.draw() % 50)?)?;
+            }
+            (17..=22, _) => {
+                let width = match kind {
+                    17 | 18 => 2,
+                    19 | 20 => 4,
+                    _ => 8,
+                };
+                values.push(number)?;
+                steps.push(list(alloc, width, numbers.draw() % 20)?)?;
+            }
+            (23..=25, Some(root)) => {
+                values.push(number)?;
+                steps.push(refs(alloc, root, numbers.draw() % 20)?)?;
+            }
             _ => {
-                texts.push(number)?;
+                values.push(number)?;
                 steps.push(text(alloc, numbers.draw() % 50)?)?;
             }
         }
@@ -69,10 +114,10 @@ fn counts(steps: &[Step]) -> (usize, usize, usize) {
     let mut counts: (usize, usize, usize) = (0, 0, 0);
     for step in steps {
         match step {
-            Step::Text(_) => {}
             Step::Clear => counts.0 = counts.0.wrapping_add(1),
             Step::Finish { id: None, .. } => counts.1 = counts.1.wrapping_add(1),
             Step::Finish { id: Some(_), .. } => counts.2 = counts.2.wrapping_add(1),
+            _ => {}
         }
     }
     counts

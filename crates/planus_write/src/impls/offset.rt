@@ -1,23 +1,76 @@
 //! Offsets: values that are written already.
+ghost use Rattle.std.specs.Prelude.{◌≤◌, length, refl};
+ghost use Rattle.std.proofs.Common.{lit≤};
+ghost use Rattle.planus_write.specs.Items.{reference_item};
+ghost use Rattle.planus_write.specs.Preparing.{IsPrepared};
+ghost use Rattle.planus_write.specs.Laws.{layout_of_four, offset_is_lawful};
 
 use crate::builder::Builder;
 use crate::errors::BuildError;
+use crate::lists::write_each;
 use crate::offset::Offset;
-use crate::traits::WriteAsOffset;
+use crate::traits::{Primitive, VectorWrite, WriteAsOffset, WriteAsPrimitive};
 
-impl<T> WriteAsOffset<T> for Offset<T> {
-    ghost use Rattle.std.specs.Prelude.{◌≤◌, length};
-    ghost use Rattle.planus_write.specs.Preparing.{IsPrepared};
-    ghost use Rattle.planus_write.specs.Laws.{prepared_grows, prepared_reaches};
+impl<T> Primitive for Offset<T> {
+    ghost ALIGNMENT = { 4 };
+
+    ghost SIZE = { 4 };
+
+    ghost is_layout = { layout_of_four };
+
+    ghost is_small = { lit≤ tt };
+
+    const ALIGNMENT: usize = 4;
+
+    const SIZE: usize = 4;
+}
+
+impl<T> WriteAsPrimitive<Offset<T>> for Offset<T> {
+    ghost reach = { λ offset. offset.distance };
+
+    ghost leaves = { λ offset. reference_item offset.distance };
+
+    #[inline]
+    fn write(&self, bytes: &mut [u8], place: u32) {
+        bytes.copy_from_slice(&(place - self.distance()).to_le_bytes());
+    }
+}
+
+impl<T> VectorWrite<Offset<T>> for Offset<T> {
+    type Value = Offset<T>;
+
+    ghost STRIDE = { 4 };
 
     ghost may = { λ offset old. offset.distance ≤ length old.bytes };
 
-    ghost outcome = { λ offset old answer new. IsPrepared offset old answer new };
+    ghost outcome = { IsPrepared };
 
-    ghost grows = { λ offset old answer new may done. prepared_grows offset old answer new done };
+    #[inline]
+    fn stride() -> usize {
+        4
+    }
 
-    ghost reaches = { λ offset old answer new may done.
-        prepared_reaches offset old answer new may done };
+    #[inline]
+    fn prepare(&self, builder: &mut Builder) -> std::result::Result<Offset<T>, BuildError> {
+        WriteAsOffset::<T>::prepare(self, builder)
+    }
+
+    #[inline]
+    fn write_values(values: &[Offset<T>], bytes: &mut [u8], place: u32) {
+        write_each::<Offset<T>, Offset<T>>(values, bytes, place);
+    }
+
+    ghost is_size = { refl };
+
+    ghost is_lawful = { offset_is_lawful };
+}
+
+impl<T> WriteAsOffset<T> for Offset<T> {
+    ghost may = { λ offset old. offset.distance ≤ length old.bytes };
+
+    ghost outcome = { IsPrepared };
+
+    ghost is_lawful = { offset_is_lawful };
 
     #[inline]
     fn prepare(&self, _builder: &mut Builder) -> std::result::Result<Offset<T>, BuildError> {

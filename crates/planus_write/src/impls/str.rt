@@ -1,26 +1,62 @@
-//! Texts.
+//! Texts that lie in a slice.
+ghost use Rattle.std.specs.Prelude.{◌≡◌, ◌*◌, length, map, ⊤, refl};
+ghost use Rattle.planus_write.specs.Parts.{text_entry, items_bytes};
+ghost use Rattle.planus_write.specs.Items.{reference_item};
+ghost use Rattle.planus_write.specs.Preparing.{WritesText, MayStand};
+ghost use Rattle.planus_write.specs.Laws.{entry_is_lawful};
 
 use crate::builder::Builder;
 use crate::errors::BuildError;
+use crate::lists::write_each;
 use crate::offset::{Offset, Text};
-use crate::traits::WriteAsOffset;
+use crate::traits::{VectorWrite, WriteAsOffset};
 
 impl<'a> WriteAsOffset<Text> for &'a str {
-    ghost use Rattle.std.specs.Prelude.{⊤};
-    ghost use Rattle.planus_write.specs.Preparing.{WritesText};
-    ghost use Rattle.planus_write.specs.Laws.{text_grows, text_reaches};
-
     ghost may = { λ text old. ⊤ };
 
     ghost outcome = { λ text old answer new. WritesText text.now old answer new };
-
-    ghost grows = { λ text old answer new may done. text_grows text.now old answer new done };
-
-    ghost reaches = { λ text old answer new may done. text_reaches text.now old answer new done };
 
     #[inline]
     fn prepare(&self, builder: &mut Builder) -> std::result::Result<Offset<Text>, BuildError> {
         let text = *self;
         builder.write_text(text)
     }
+
+    ghost is_lawful = { entry_is_lawful (λ text. text_entry text.now) };
+}
+
+impl<'a> VectorWrite<Offset<Text>> for &'a str {
+    type Value = Offset<Text>;
+
+    ghost STRIDE = { 4 };
+
+    ghost may = { λ text old. ⊤ };
+
+    ghost outcome = { λ text old answer new. WritesText text.now old answer new };
+
+    #[inline]
+    fn stride() -> usize
+        ensures { result ≡ 4 }
+    {
+        4
+    }
+
+    #[inline]
+    fn prepare(&self, builder: &mut Builder) -> std::result::Result<Offset<Text>, BuildError> {
+        WriteAsOffset::prepare(self, builder)
+    }
+
+    #[inline]
+    fn write_values(values: &[Offset<Text>], bytes: &mut [u8], place: u32)
+        requires size { length bytes.old ≡ length values.now * 4 }
+        requires may { MayStand (λ offset. offset.distance) 4 place values.now }
+        ensures { bytes.new ≡ items_bytes 4 place
+            (map (λ offset. reference_item offset.distance) values.now) }
+    {
+        write_each::<Offset<Text>, Offset<Text>>(values, bytes, place);
+    }
+
+    ghost is_size = { refl };
+
+    ghost is_lawful = { entry_is_lawful (λ text. text_entry text.now) };
 }

@@ -1,0 +1,141 @@
+-- Parts that are placed in turn, and the entries that come to them.
+use Rattle.std.proofs.Common.{◌≡◌, ℕ, ◌+◌, ◌≤◌, List, [], ◌∷◌, ◌++◌, length}
+use Rattle.std.proofs.Common.{refl, sym, ap, ◌∙◌, subst, arith, Option, Some, None}
+use Rattle.std.proofs.Common.{max, inl, inr}
+use Rattle.std.specs.Prelude.{◌*◌, map}
+use Rattle.std.proofs.lemmas.List.{length-map}
+use Rattle.std.specs.List.{AllByRecursion}
+use Rattle.std.proofs.lemmas.Bool.{cases_lt}
+use Rattle.planus_back.specs.Promises.{Promise, IsPowerOfTwo, greatest_alignment}
+use Rattle.planus_back.specs.Parts.{Part, Written, Placed}
+use Rattle.planus_read.specs.Values as value
+use Rattle.planus_read.specs.Values.{Value}
+use Rattle.planus_write.specs.Shared.{Contents, Switches, shared_as}
+use Rattle.planus_write.specs.Past.{Past, Entry, Adds, PutsAfter, PutsAll, part_after, found_before}
+use Rattle.planus_write.specs.Parts.{entries_of, IsWritten, list_entries}
+use Rattle.planus_write.specs.Items.{Item, plain_item, reference_item}
+use Rattle.planus_write.proofs.PartBytes.{length_after, text_size, byte_list_size}
+use Rattle.planus_write.proofs.TableBytes.{body_length, body_power}
+use Rattle.planus_write.proofs.KeptLists.{IsListOf, plain_items, reference_items}
+use Rattle.planus.specs.Runs.{nothing_written}
+use Rattle.planus.proofs.Turns.{InTurn, turn_taken}
+use Rattle.planus.proofs.Lists.{all_weaker}
+
+-- What was written was placed part by part from nothing, with alignments that are powers of two.
+pub record IsPlacedInTurn (past : Past) : Type 0 where
+  pub powers : AllByRecursion (λ (p : Promise). IsPowerOfTwo p.alignment) past.written.promises
+  pub reached : AllByRecursion (λ (p : Promise). p.distance ≤ length past.written.bytes) past.written.promises
+  pub turns : InTurn past.written past.parts past.places
+
+-- nothing that is written is in turn
+pub nothing_in_turn : IsPlacedInTurn (nothing_written.past)
+nothing_in_turn = record { powers = tt; reached = tt; turns = record { powers = tt; turns = tt; ended = refl; promised = refl } }
+
+-- one part placed
+module _ (part : Part) (before after : Written) (placed : Placed part before after)
+    (sized : length (part.bytes_at placed.place) ≡ part.size) where
+  length_is : length after.bytes ≡ placed.place
+  length_is = length_after part before after placed sized
+
+  grown : length before.bytes + part.size ≤ length after.bytes
+  grown = let h = length_is in let g = placed.is_place in omega arith
+
+  powers_after : AllByRecursion (λ (p : Promise). IsPowerOfTwo p.alignment) before.promises
+      → IsPowerOfTwo part.alignment
+      → AllByRecursion (λ (p : Promise). IsPowerOfTwo p.alignment) after.promises
+  powers_after h power = subst (λ ps. AllByRecursion (λ (p : Promise). IsPowerOfTwo p.alignment) ps) (sym placed.promises) (power, h)
+
+  reached_after : AllByRecursion (λ (p : Promise). p.distance ≤ length before.bytes) before.promises
+      → AllByRecursion (λ (p : Promise). p.distance ≤ length after.bytes) after.promises
+  reached_after h =
+      let longer : length before.bytes + part.size ≤ length after.bytes = grown in
+      let here : placed.place ≤ length after.bytes = let e = length_is in omega arith in
+      subst (λ ps. AllByRecursion (λ (p : Promise). p.distance ≤ length after.bytes) ps) (sym placed.promises)
+      (here, all_weaker (λ (p : Promise). p.distance ≤ length before.bytes) (λ (p : Promise). p.distance ≤ length after.bytes) (λ p le. omega arith) before.promises h)
+
+-- one part more of a run is placed in turn
+module _ (part : Part) (shared : Option Contents) (before : Past) (distance : ℕ) (after : Past)
+    (adds : Adds part shared before distance after)
+    (sized : length (part.bytes_at adds.placed.place) ≡ part.size) (power : IsPowerOfTwo part.alignment) (h : IsPlacedInTurn before) where
+  turned : InTurn after.written after.parts after.places
+  turned =
+      let taken : InTurn after.written (before.parts ++ part ∷ []) (before.places ++ adds.placed.place ∷ [])
+      = turn_taken part before.written after.written adds.placed (length_after part before.written after.written adds.placed sized) before.parts before.places h.turns power in
+      subst (λ ps. InTurn after.written ps after.places) (sym adds.parts)
+      (subst (λ ps. InTurn after.written (before.parts ++ part ∷ []) ps) (sym adds.places)
+      (subst (λ n. InTurn after.written (before.parts ++ part ∷ []) (before.places ++ n ∷ [])) (sym adds.at) taken))
+
+  pub added_in_turn : IsPlacedInTurn after
+  added_in_turn = record {
+    powers = powers_after part before.written after.written adds.placed sized h.powers power;
+    reached = reached_after part before.written after.written adds.placed sized h.reached;
+    turns = turned;
+  }
+
+-- The part of the entry has as many bytes as its size, and an alignment that is a power of two.
+pub record IsFit (entry : Entry) (got : List ℕ) (past : Past) : Type 0 where
+  pub sized : (place : ℕ)
+      → length ((part_after entry got past).bytes_at place) ≡ (part_after entry got past).size
+  pub power : IsPowerOfTwo (part_after entry got past).alignment
+
+-- so it is of each entry, whatever was written in turn before
+abbrev pub AreFit : List Entry → Type 0
+AreFit entries = AllByRecursion (λ entry. (got : List ℕ) (past : Past) → IsPlacedInTurn past → IsFit entry got past) entries
+
+put_in_turn : (earlier : Option ℕ) (part : Part) (shared : Option Contents) (before : Past)
+    (distance : ℕ) (after : Past) → PutsAfter earlier part shared before distance after
+    → ((place : ℕ) → length (part.bytes_at place) ≡ part.size) → IsPowerOfTwo part.alignment
+    → IsPlacedInTurn before → IsPlacedInTurn after
+put_in_turn (Some d) part shared before distance after put sized power h = subst IsPlacedInTurn (sym put.1) h
+put_in_turn None part shared before distance after put sized power h = added_in_turn part shared before distance after put (sized put.placed.place) power h
+
+-- entries that are put down are placed in turn
+pub all_in_turn : (switches : Switches) (entries : List Entry) (got : List ℕ) (before : Past)
+    (all : List ℕ) (after : Past) → AreFit entries
+    → PutsAll switches entries got before all after → IsPlacedInTurn before → IsPlacedInTurn after
+all_in_turn switches [] got before all after fit puts h = subst IsPlacedInTurn (sym puts.1) h
+all_in_turn switches (entry ∷ entries) got before all after fit puts h =
+    let here : IsFit entry got before = fit.0 got before h in
+    let between : IsPlacedInTurn puts.1
+    = put_in_turn (found_before switches entry before) (part_after entry got before) (shared_as switches entry.contents) before puts.0 puts.1 puts.2 here.sized here.power h in
+    all_in_turn switches entries (got ++ puts.0 ∷ []) puts.1 all after fit.1 puts.3 between
+
+-- the greater of two powers of two is one
+greater_power : (a b : ℕ) → IsPowerOfTwo a → IsPowerOfTwo b → IsPowerOfTwo (max a b)
+greater_power a b h k =
+    elim (cases_lt a b) as (λ _. IsPowerOfTwo (max a b)) [
+      | inl lt ↦ (let f : b ≡ max a b = omega (arith, lt) in subst IsPowerOfTwo f k)
+      | inr le ↦ (let f : a ≡ max a b = omega (arith, le) in subst IsPowerOfTwo f h)
+    ]
+
+-- the entries of a list are fit
+list_fit : {X : Type 0} (item_of : X → Item) (size alignment before : ℕ) (xs : List X) (v : Value)
+    → IsListOf item_of size alignment before xs v
+    → AreFit (list_entries size alignment (map item_of xs))
+list_fit item_of size alignment before xs v list = (
+  (λ got past h. record { sized = λ place. list.sized place ∙ ap (λ n. n * size) (sym (length-map xs item_of)); power = greater_power alignment 4 list.power (2, refl) }),
+  ((λ got past h. record { sized = λ place. refl; power = (0, refl) }), tt),
+)
+
+-- the entries of a value are fit
+pub values_are_fit : (before : ℕ) (v : Value) → IsWritten before v → AreFit (entries_of v)
+values_are_fit before (value.text content) written = ((λ got past h. record { sized = λ place. text_size content place; power = (2, refl) }), tt)
+values_are_fit before (value.byte_list content) written = ((λ got past h. record { sized = λ place. byte_list_size content place; power = (2, refl) }), tt)
+values_are_fit before (value.plain_list size alignment items) written =
+    list_fit plain_item size alignment before items (value.plain_list size alignment items) (plain_items size alignment before items written)
+values_are_fit before (value.reference_list distances) written =
+    list_fit reference_item 4 4 before distances (value.reference_list distances) (reference_items before distances written)
+values_are_fit before (value.union_list items) written = absurd written
+values_are_fit before (value.table entries) written = (
+  (λ got past h. record { sized = λ place. refl; power = (1, refl) }),
+  (
+    (λ got past h. record { sized = λ place. body_length entries place; power = (body_power before entries written.fields).0 }),
+    ((λ got past h. record { sized = λ place. refl; power = (0, refl) }), tt),
+  ),
+)
+
+pub greatest_power : (least : ℕ) (promises : List Promise) → IsPowerOfTwo least
+    → AllByRecursion (λ (p : Promise). IsPowerOfTwo p.alignment) promises
+    → IsPowerOfTwo (greatest_alignment least promises)
+greatest_power least [] power h = power
+greatest_power least (p ∷ promises) power h = greater_power p.alignment (greatest_alignment least promises) h.0 (greatest_power least promises power h.1)

@@ -1,0 +1,76 @@
+-- The values of lists can be written.
+use Rattle.std.proofs.Common.{◌≡◌, ℕ, ◌≤◌, List, [], ◌∷◌, length}
+use Rattle.std.proofs.Common.{refl, subst, Option, Some, None}
+use Rattle.std.proofs.Common.{false}
+use Rattle.std.specs.Prelude.{Bool, true, if◌then◌else◌, ◌<◌, map}
+use Rattle.std.specs.Int.{Width, w8, w16, w32, w64, w128, byte_len, to_le_bytes}
+use Rattle.std.proofs.Common.{lit<}
+use Rattle.std.proofs.lemmas.Nat.Gcd.{dvd_refl}
+use Rattle.std.specs.List.{AllByRecursion, list_all}
+use Rattle.planus_back.specs.Promises.{IsPowerOfTwo}
+use Rattle.planus_read.specs.Values as value
+use Rattle.planus_read.specs.Values.{Value}
+use Rattle.planus_read.specs.ReadsBack.{WellFormed}
+use Rattle.planus_write.specs.Parts.{IsWritten, IsPlainList}
+use Rattle.planus.specs.Runs.{Listed}
+use Rattle.planus.specs.Runs.{named_at}
+use Rattle.planus.specs.Runs.{distances_of, numbers_value, fits_width}
+use Rattle.planus.proofs.Lists.{all_named}
+use Rattle.planus.proofs.Lists.{distances_made}
+
+-- a width has a power of two of bytes
+pub width_power : (width : Width) → IsPowerOfTwo (byte_len width)
+width_power w8 = (0, refl)
+width_power w16 = (1, refl)
+width_power w32 = (2, refl)
+width_power w64 = (3, refl)
+width_power w128 = (4, refl)
+
+pub width_positive : (width : Width) → 0 < byte_len width
+width_positive w8 = lit< tt
+width_positive w16 = lit< tt
+width_positive w32 = lit< tt
+width_positive w64 = lit< tt
+width_positive w128 = lit< tt
+
+pub width_sized : (width : Width) (n : ℕ) → length (to_le_bytes width n) ≡ byte_len width
+width_sized w8 n = refl
+width_sized w16 n = refl
+width_sized w32 n = refl
+width_sized w64 n = refl
+width_sized w128 n = refl
+
+-- the numbers of a list are plain items of its width
+numbers_sized : (width : Width) (items : List ℕ)
+    → AllByRecursion (λ item. length item ≡ byte_len width) (map (to_le_bytes width) items)
+numbers_sized width [] = tt
+numbers_sized width (item ∷ items) = (width_sized width item, numbers_sized width items)
+
+pub numbers_are_written : (before : ℕ) (width : Option Width) (items : List ℕ) (v : Value)
+    → numbers_value width items ≡ Some v → IsWritten before v × WellFormed v
+numbers_are_written before None items v e = (cc)
+numbers_are_written before (Some width) items v e = by_test (list_all (fits_width width) items) e
+  where
+    list : IsPlainList (byte_len width) (byte_len width) (map (to_le_bytes width) items)
+    list = record { sizes = numbers_sized width items; positive = width_positive width; multiple = dvd_refl (byte_len width); power = width_power width }
+
+    by_test : (fit : Bool)
+        → (if fit then Some (value.plain_list (byte_len width) (byte_len width) (map (to_le_bytes width) items)) else None) ≡ Some v
+        → IsWritten before v × WellFormed v
+    by_test true e =
+        let same : value.plain_list (byte_len width) (byte_len width) (map (to_le_bytes width) items) ≡ v = cc in
+        subst (λ v. IsWritten before v × WellFormed v) same (list, tt)
+    by_test false e = (cc)
+
+-- what is referred to was written
+pub references_behind : (P : Listed → Type 0) (before : ℕ)
+    → ((one : Listed) → P one → one.named.distance ≤ before) → (listed : List Listed)
+    → AllByRecursion P listed
+    → (steps distances : List ℕ) → distances_of listed steps ≡ Some distances
+    → AllByRecursion (λ distance. distance ≤ before) distances
+references_behind P before reached listed all [] distances e =
+    let none : [] ≡ distances = cc in subst (AllByRecursion (λ distance. distance ≤ before)) none tt
+references_behind P before reached listed all (step ∷ steps) distances e =
+    let both = distances_made (named_at listed step) (distances_of listed steps) distances e in
+    subst (AllByRecursion (λ distance. distance ≤ before)) both.4
+    (reached (record { step = step; named = both.0 }) (all_named P listed step both.0 all both.2), references_behind P before reached listed all steps both.1 both.3)

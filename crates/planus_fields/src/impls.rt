@@ -1,0 +1,16 @@
+//! The types that can be written as fields.
+
+mod array;
+mod box_;
+mod by_ref;
+mod byte_list;
+mod default_value;
+mod offset;
+mod option;
+mod scalar;
+mod signed_list;
+mod slice;
+mod str;
+mod string;
+mod unit;
+mod vec;

@@ -1,0 +1,40 @@
+//! Lists of items that lie in an array.
+ghost use Rattle.planus_write.specs.Preparing.{AllMay, WritesList};
+ghost use Rattle.planus_write.specs.ListLaws.{list_is_lawful};
+ghost use Rattle.planus_fields.specs.Fields.{AlwaysWritten, left_out_is_lawful};
+
+use crate::traits::{WriteAs, WriteAsOptional};
+use planus_write::{BuildError, Builder, List, Offset, Primitive, VectorWrite, WriteAsOffset};
+
+impl<P: Primitive, T: VectorWrite<P>, const N: usize> WriteAs<Offset<List<P>>> for [T; N] {
+    type Prepared = Offset<List<P>>;
+
+    ghost may = { λ items old. AllMay T.may items old };
+
+    ghost outcome = { λ items old answer new. WritesList T.outcome T.Value.leaves P.SIZE P.ALIGNMENT items old answer new };
+
+    #[inline]
+    fn prepare(&self, builder: &mut Builder) -> std::result::Result<Offset<List<P>>, BuildError> {
+        WriteAsOffset::prepare(self, builder)
+    }
+
+    ghost is_lawful = { list_is_lawful T.may T.outcome T.Value.reach T.is_lawful T.Value.leaves P.SIZE P.ALIGNMENT (λ items. items) };
+}
+
+impl<P: Primitive, T: VectorWrite<P>, const N: usize> WriteAsOptional<Offset<List<P>>> for [T; N] {
+    type Prepared = Offset<List<P>>;
+
+    ghost may = { λ items old. AllMay T.may items old };
+
+    ghost outcome = { λ items old answer new. AlwaysWritten (WritesList T.outcome T.Value.leaves P.SIZE P.ALIGNMENT items) old answer new };
+
+    #[inline]
+    fn prepare(
+        &self,
+        builder: &mut Builder,
+    ) -> std::result::Result<Option<Offset<List<P>>>, BuildError> {
+        Ok(Some(WriteAsOffset::prepare(self, builder)?))
+    }
+
+    ghost is_lawful = { left_out_is_lawful (λ items. ⊥) (list_is_lawful T.may T.outcome T.Value.reach T.is_lawful T.Value.leaves P.SIZE P.ALIGNMENT (λ items. items)) };
+}

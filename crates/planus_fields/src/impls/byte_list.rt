@@ -1,0 +1,66 @@
+//! Lists of `u8`.
+ghost use Rattle.std.specs.Prelude.{◌≡◌, [], ⊤};
+ghost use Rattle.planus_write.specs.Parts.{byte_list_entry};
+ghost use Rattle.planus_write.specs.Preparing.{WritesByteList};
+ghost use Rattle.planus_write.specs.Laws.{entry_is_lawful};
+ghost use Rattle.planus_fields.specs.Fields.{AlwaysWritten, LeftOutWhere, left_out_is_lawful};
+
+use crate::traits::{WriteAs, WriteAsDefault, WriteAsOptional};
+use planus_write::{BuildError, Builder, ByteList, List, Offset, WriteAsOffset};
+
+impl<'a> WriteAs<Offset<List<u8>>> for ByteList<'a> {
+    type Prepared = Offset<List<u8>>;
+
+    ghost may = { λ list old. ⊤ };
+
+    ghost outcome = { λ list old answer new. WritesByteList list.0.now old answer new };
+
+    #[inline]
+    fn prepare(&self, builder: &mut Builder) -> std::result::Result<Offset<List<u8>>, BuildError> {
+        WriteAsOffset::prepare(self, builder)
+    }
+
+    ghost is_lawful = { entry_is_lawful (λ list. byte_list_entry list.0.now) };
+}
+
+impl<'a> WriteAsOptional<Offset<List<u8>>> for ByteList<'a> {
+    type Prepared = Offset<List<u8>>;
+
+    ghost may = { λ list old. ⊤ };
+
+    ghost outcome = { λ list old answer new. AlwaysWritten (WritesByteList list.0.now) old answer new };
+
+    #[inline]
+    fn prepare(
+        &self,
+        builder: &mut Builder,
+    ) -> std::result::Result<Option<Offset<List<u8>>>, BuildError> {
+        Ok(Some(WriteAsOffset::prepare(self, builder)?))
+    }
+
+    ghost is_lawful = { left_out_is_lawful (λ list. ⊥) (entry_is_lawful (λ list. byte_list_entry list.0.now)) };
+}
+
+impl<'a> WriteAsDefault<Offset<List<u8>>, ()> for ByteList<'a> {
+    type Prepared = Offset<List<u8>>;
+
+    ghost may = { λ list old. ⊤ };
+
+    ghost outcome = { λ list default old answer new.
+        LeftOutWhere (list.0.now ≡ []) (WritesByteList list.0.now) old answer new };
+
+    #[inline]
+    fn prepare(
+        &self,
+        builder: &mut Builder,
+        _default: &(),
+    ) -> std::result::Result<Option<Offset<List<u8>>>, BuildError> {
+        if self.0.is_empty() {
+            return Ok(None);
+        }
+        Ok(Some(WriteAsOffset::prepare(self, builder)?))
+    }
+
+    ghost is_lawful = { λ default.
+        left_out_is_lawful (λ list. list.0.now ≡ []) (entry_is_lawful (λ list. byte_list_entry list.0.now)) };
+}

@@ -1,0 +1,28 @@
+//! Fields that have their default.
+ghost use Rattle.std.specs.Prelude.{None, ⊤};
+ghost use Rattle.planus_write.specs.Preparing.{Answers};
+ghost use Rattle.planus_fields.specs.Fields.{left_out_always_is_lawful};
+
+use crate::default_value::DefaultValue;
+use crate::traits::WriteAsDefault;
+use planus_read::Void;
+use planus_write::{BuildError, Builder, Primitive};
+
+impl<P: Primitive, D> WriteAsDefault<P, D> for DefaultValue {
+    type Prepared = Void;
+
+    ghost may = { λ value old. ⊤ };
+
+    ghost outcome = { λ value default old answer new. Answers None old answer new };
+
+    #[inline]
+    fn prepare(
+        &self,
+        _builder: &mut Builder,
+        _default: &D,
+    ) -> std::result::Result<Option<Void>, BuildError> {
+        Ok(None)
+    }
+
+    ghost is_lawful = { λ default. left_out_always_is_lawful };
+}

@@ -1,0 +1,153 @@
+//! Numbers and truth values: one implementation for all of them.
+ghost use Rattle.std.specs.Prelude.{◌≡◌, IsTrue, ◌↔◌, ⊤, refl};
+ghost use Rattle.planus_write.specs.Preparing.{Answers};
+ghost use Rattle.planus_fields.specs.Fields.{AlwaysWritten, LeftOutWhere, left_out_is_lawful};
+ghost use Rattle.planus_fields.specs.Fields.{scalar_is_lawful};
+
+use crate::traits::{WriteAs, WriteAsDefault, WriteAsOptional};
+use planus_write::{BuildError, Builder, Primitive, WriteAsPrimitive};
+
+/// A number or a truth value.
+pub trait Scalar: Primitive + WriteAsPrimitive<Self> + Copy {
+    /// Returns whether it is equal to the other one.
+    fn is(&self, other: &Self) -> bool
+        ensures { IsTrue result ↔ (self.now ≡ other.now) };
+
+    /// It refers to nothing.
+    ghost refers_to_nothing: { (x : Self) → Self.reach x ≡ 0 };
+}
+
+impl<S: Scalar> WriteAs<S> for S {
+    type Prepared = S;
+
+    ghost may = { λ scalar old. ⊤ };
+
+    ghost outcome = { Answers };
+
+    #[inline]
+    fn prepare(&self, _builder: &mut Builder) -> std::result::Result<S, BuildError> {
+        Ok(*self)
+    }
+
+    ghost is_lawful = { scalar_is_lawful S.refers_to_nothing };
+}
+
+impl<S: Scalar> WriteAsOptional<S> for S {
+    type Prepared = S;
+
+    ghost may = { λ scalar old. ⊤ };
+
+    ghost outcome = { λ scalar old answer new. AlwaysWritten (Answers scalar) old answer new };
+
+    #[inline]
+    fn prepare(&self, _builder: &mut Builder) -> std::result::Result<Option<S>, BuildError> {
+        Ok(Some(*self))
+    }
+
+    ghost is_lawful = { left_out_is_lawful (λ scalar. ⊥) (scalar_is_lawful S.refers_to_nothing) };
+}
+
+impl<S: Scalar> WriteAsDefault<S, S> for S {
+    type Prepared = S;
+
+    ghost may = { λ scalar old. ⊤ };
+
+    ghost outcome = { λ scalar default old answer new.
+        LeftOutWhere (scalar ≡ default) (Answers scalar) old answer new };
+
+    #[inline]
+    fn prepare(
+        &self,
+        _builder: &mut Builder,
+        default: &S,
+    ) -> std::result::Result<Option<S>, BuildError> {
+        if self.is(default) {
+            return Ok(None);
+        }
+        Ok(Some(*self))
+    }
+
+    ghost is_lawful = { λ default.
+        left_out_is_lawful (λ scalar. scalar ≡ default) (scalar_is_lawful S.refers_to_nothing) };
+}
+
+impl Scalar for u8 {
+    #[inline]
+    fn is(&self, other: &u8) -> bool {
+        *self == *other
+    }
+
+    ghost refers_to_nothing = { λ scalar. refl };
+}
+
+impl Scalar for u16 {
+    #[inline]
+    fn is(&self, other: &u16) -> bool {
+        *self == *other
+    }
+
+    ghost refers_to_nothing = { λ scalar. refl };
+}
+
+impl Scalar for u32 {
+    #[inline]
+    fn is(&self, other: &u32) -> bool {
+        *self == *other
+    }
+
+    ghost refers_to_nothing = { λ scalar. refl };
+}
+
+impl Scalar for u64 {
+    #[inline]
+    fn is(&self, other: &u64) -> bool {
+        *self == *other
+    }
+
+    ghost refers_to_nothing = { λ scalar. refl };
+}
+
+impl Scalar for i8 {
+    #[inline]
+    fn is(&self, other: &i8) -> bool {
+        *self == *other
+    }
+
+    ghost refers_to_nothing = { λ scalar. refl };
+}
+
+impl Scalar for i16 {
+    #[inline]
+    fn is(&self, other: &i16) -> bool {
+        *self == *other
+    }
+
+    ghost refers_to_nothing = { λ scalar. refl };
+}
+
+impl Scalar for i32 {
+    #[inline]
+    fn is(&self, other: &i32) -> bool {
+        *self == *other
+    }
+
+    ghost refers_to_nothing = { λ scalar. refl };
+}
+
+impl Scalar for i64 {
+    #[inline]
+    fn is(&self, other: &i64) -> bool {
+        *self == *other
+    }
+
+    ghost refers_to_nothing = { λ scalar. refl };
+}
+
+impl Scalar for bool {
+    #[inline]
+    fn is(&self, other: &bool) -> bool {
+        *self == *other
+    }
+
+    ghost refers_to_nothing = { λ scalar. refl };
+}

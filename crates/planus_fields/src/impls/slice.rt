@@ -1,0 +1,65 @@
+//! Lists of items that lie in a slice.
+ghost use Rattle.std.specs.Prelude.{◌≡◌, []};
+ghost use Rattle.planus_write.specs.Preparing.{AllMay, WritesList};
+ghost use Rattle.planus_write.specs.ListLaws.{list_is_lawful};
+ghost use Rattle.planus_fields.specs.Fields.{AlwaysWritten, LeftOutWhere, left_out_is_lawful};
+
+use crate::traits::{WriteAs, WriteAsDefault, WriteAsOptional};
+use planus_write::{BuildError, Builder, List, Offset, Primitive, VectorWrite, WriteAsOffset};
+
+impl<'a, P: Primitive, T: VectorWrite<P>> WriteAs<Offset<List<P>>> for &'a [T] {
+    type Prepared = Offset<List<P>>;
+
+    ghost may = { λ items old. AllMay T.may items.now old };
+
+    ghost outcome = { λ items old answer new. WritesList T.outcome T.Value.leaves P.SIZE P.ALIGNMENT items.now old answer new };
+
+    #[inline]
+    fn prepare(&self, builder: &mut Builder) -> std::result::Result<Offset<List<P>>, BuildError> {
+        WriteAsOffset::prepare(self, builder)
+    }
+
+    ghost is_lawful = { list_is_lawful T.may T.outcome T.Value.reach T.is_lawful T.Value.leaves P.SIZE P.ALIGNMENT (λ items. items.now) };
+}
+
+impl<'a, P: Primitive, T: VectorWrite<P>> WriteAsOptional<Offset<List<P>>> for &'a [T] {
+    type Prepared = Offset<List<P>>;
+
+    ghost may = { λ items old. AllMay T.may items.now old };
+
+    ghost outcome = { λ items old answer new. AlwaysWritten (WritesList T.outcome T.Value.leaves P.SIZE P.ALIGNMENT items.now) old answer new };
+
+    #[inline]
+    fn prepare(
+        &self,
+        builder: &mut Builder,
+    ) -> std::result::Result<Option<Offset<List<P>>>, BuildError> {
+        Ok(Some(WriteAsOffset::prepare(self, builder)?))
+    }
+
+    ghost is_lawful = { left_out_is_lawful (λ items. ⊥) (list_is_lawful T.may T.outcome T.Value.reach T.is_lawful T.Value.leaves P.SIZE P.ALIGNMENT (λ items. items.now)) };
+}
+
+impl<'a, P: Primitive, T: VectorWrite<P>> WriteAsDefault<Offset<List<P>>, ()> for &'a [T] {
+    type Prepared = Offset<List<P>>;
+
+    ghost may = { λ items old. AllMay T.may items.now old };
+
+    ghost outcome = { λ items default old answer new.
+        LeftOutWhere (items.now ≡ []) (WritesList T.outcome T.Value.leaves P.SIZE P.ALIGNMENT items.now) old answer new };
+
+    #[inline]
+    fn prepare(
+        &self,
+        builder: &mut Builder,
+        _default: &(),
+    ) -> std::result::Result<Option<Offset<List<P>>>, BuildError> {
+        if self.is_empty() {
+            return Ok(None);
+        }
+        Ok(Some(WriteAsOffset::prepare(self, builder)?))
+    }
+
+    ghost is_lawful = { λ default.
+        left_out_is_lawful (λ items. items.now ≡ []) (list_is_lawful T.may T.outcome T.Value.reach T.is_lawful T.Value.leaves P.SIZE P.ALIGNMENT (λ items. items.now)) };
+}

@@ -1,0 +1,135 @@
+ghost use Rattle.std.specs.Prelude.{⊤};
+
+use crate::default_value::DefaultValue;
+use crate::traits::{WriteAs, WriteAsDefault, WriteAsOptional};
+use planus_read::Void;
+use planus_write::{
+    BuildError, Builder, ByRef, ByteList, List, Offset, Primitive, SignedList, Text,
+    WriteAsPrimitive,
+};
+use std::test::Fail;
+
+// Prepares a field that is always there, of which only the bound is known.
+fn always<P: Primitive, T: WriteAs<P>>(
+    builder: &mut Builder,
+    field: &T,
+) -> Result<T::Prepared, BuildError>
+    requires { T.may field.now builder.old }
+{
+    field.prepare(builder)
+}
+
+// Prepares a field that may be absent; tells whether it is there.
+fn there<P: Primitive, T: WriteAsOptional<P>>(
+    builder: &mut Builder,
+    field: &T,
+) -> Result<bool, BuildError>
+    requires { T.may field.now builder.old }
+{
+    Ok(field.prepare(builder)?.is_some())
+}
+
+// Prepares a field with a default; tells whether it is there.
+fn written<P: Primitive, D, T: WriteAsDefault<P, D>>(
+    builder: &mut Builder,
+    field: &T,
+    default: &D,
+) -> Result<bool, BuildError>
+    requires { T.may field.now builder.old }
+{
+    Ok(field.prepare(builder, default)?.is_some())
+}
+
+#[test]
+fn scalars(rt: HostRuntime) -> Result<(), Fail> {
+    let mut builder = Builder::new(rt.alloc())?;
+    assert_eq!(rt; always::<u8, u8>(&mut builder, &7)?, 7);
+    assert_eq!(rt; always::<u16, u16>(&mut builder, &7)?, 7);
+    assert_eq!(rt; always::<u32, u32>(&mut builder, &7)?, 7);
+    assert_eq!(rt; always::<u64, u64>(&mut builder, &7)?, 7);
+    assert_eq!(rt; always::<i8, i8>(&mut builder, &-7)?, -7);
+    assert_eq!(rt; always::<i16, i16>(&mut builder, &-7)?, -7);
+    assert_eq!(rt; always::<i32, i32>(&mut builder, &-7)?, -7);
+    assert_eq!(rt; always::<i64, i64>(&mut builder, &-7)?, -7);
+    assert!(rt; always::<bool, bool>(&mut builder, &true)?);
+    assert!(rt; there::<i16, i16>(&mut builder, &24)?);
+    assert!(rt; there::<i16, Option<i16>>(&mut builder, &Some(24))?);
+    assert!(rt; !there::<i16, Option<i16>>(&mut builder, &None)?);
+    assert!(rt; !there::<i16, ()>(&mut builder, &())?);
+    assert!(rt; !written::<i16, i16, i16>(&mut builder, &24, &24)?);
+    assert!(rt; written::<i16, i16, i16>(&mut builder, &25, &24)?);
+    assert!(rt; !written::<bool, bool, bool>(&mut builder, &false, &false)?);
+    assert!(rt; !written::<i16, i16, DefaultValue>(&mut builder, &DefaultValue, &24)?);
+    assert_eq!(rt; builder.len(), 0);
+    Ok(())
+}
+
+#[test]
+fn texts(rt: HostRuntime) -> Result<(), Fail> {
+    let alloc = rt.alloc();
+    let mut builder = Builder::new(alloc)?;
+    let owned = String::from_str(alloc, "Axe")?;
+    assert!(rt; !written::<Offset<Text>, &str, &str>(&mut builder, &"Axe", &"Axe")?);
+    assert!(rt; !written::<Offset<Text>, &str, String>(&mut builder, &owned, &"Axe")?);
+    assert!(rt; !there::<Offset<Text>, Option<&str>>(&mut builder, &None)?);
+    assert_eq!(rt; builder.len(), 0);
+    assert!(rt; written::<Offset<Text>, &str, &str>(&mut builder, &"Axe", &"")?);
+    assert_eq!(rt; builder.len(), 8);
+    let boxed = Box::new(alloc, "Axe")?;
+    assert_eq!(rt;
+        always::<Offset<Text>, Box<&str>>(&mut builder, &boxed)?.distance(),
+        16
+    );
+    assert_eq!(rt;
+        always::<Offset<Text>, String>(&mut builder, &owned)?.distance(),
+        24
+    );
+    let by_ref = ByRef(&owned);
+    assert!(rt; there::<Offset<Text>, ByRef<'_, String>>(&mut builder, &by_ref)?);
+    assert!(rt; written::<Offset<Text>, &str, ByRef<'_, String>>(&mut builder, &by_ref, &"")?);
+    assert_eq!(rt; builder.len(), 40);
+    let last = builder.current_offset::<Text>();
+    assert_eq!(rt;
+        always::<Offset<Text>, Offset<Text>>(&mut builder, &last)?.distance(),
+        40
+    );
+    assert!(rt; there::<Offset<Text>, Offset<Text>>(&mut builder, &last)?);
+    assert!(rt; written::<Offset<Text>, &str, Offset<Text>>(&mut builder, &last, &"Axe")?);
+    assert_eq!(rt; builder.len(), 40);
+    Ok(())
+}
+
+#[test]
+fn lists(rt: HostRuntime) -> Result<(), Fail> {
+    let alloc = rt.alloc();
+    let mut builder = Builder::new(alloc)?;
+    let none: &[u16] = &[];
+    let owned: Vec<u16> = Vec::new(alloc);
+    assert!(rt; !written::<Offset<List<u16>>, (), &[u16]>(&mut builder, &none, &())?);
+    assert!(rt; !written::<Offset<List<u16>>, (), Vec<u16>>(&mut builder, &owned, &())?);
+    assert!(rt; !written::<Offset<List<u8>>, (), ByteList<'_>>(&mut builder, &ByteList(&[]), &())?);
+    let signed = SignedList(&[]);
+    assert!(rt; !written::<Offset<List<i8>>, (), SignedList<'_>>(&mut builder, &signed, &())?);
+    assert_eq!(rt; builder.len(), 0);
+    let one: &[u16] = &[1];
+    assert!(rt; written::<Offset<List<u16>>, (), &[u16]>(&mut builder, &one, &())?);
+    assert_eq!(rt; builder.len(), 6);
+    assert!(rt; there::<Offset<List<u16>>, [u16; 0]>(&mut builder, &[])?);
+    assert_eq!(rt; builder.len(), 10);
+    assert!(rt; there::<Offset<List<u16>>, &[u16]>(&mut builder, &none)?);
+    assert!(rt; there::<Offset<List<u16>>, Vec<u16>>(&mut builder, &owned)?);
+    assert!(rt; there::<Offset<List<u8>>, ByteList<'_>>(&mut builder, &ByteList(&[]))?);
+    assert!(rt; there::<Offset<List<i8>>, SignedList<'_>>(&mut builder, &signed)?);
+    assert_eq!(rt; builder.len(), 26);
+    let array = always::<Offset<List<u16>>, [u16; 1]>(&mut builder, &[1])?;
+    assert_eq!(rt; array.distance(), 34);
+    let list = always::<Offset<List<u16>>, Vec<u16>>(&mut builder, &owned)?;
+    assert_eq!(rt; list.distance(), 38);
+    let bytes = always::<Offset<List<u8>>, ByteList<'_>>(&mut builder, &ByteList(&[1]))?;
+    assert_eq!(rt; bytes.distance(), 46);
+    let signed = always::<Offset<List<i8>>, SignedList<'_>>(&mut builder, &SignedList(&[1]))?;
+    assert_eq!(rt; signed.distance(), 54);
+    let slice = always::<Offset<List<u16>>, &[u16]>(&mut builder, &one)?;
+    assert_eq!(rt; slice.distance(), 62);
+    Ok(())
+}

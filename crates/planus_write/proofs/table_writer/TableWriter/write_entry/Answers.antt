@@ -1,0 +1,54 @@
+use Rattle.std.proofs.Common.{◌≡◌, ◌+◌, ◌-◌, ◌<◌, ◌≤◌, ◌^◌, max, length, arith, rules, subst, sym, ap, ◌∙◌, [], ◌∷◌}
+use Rattle.planus_read.specs.Bytes.{BytesStand}
+use Rattle.planus_write.specs.Tables.{Declared}
+use Rattle.planus_write.specs.TableWriting.{Writer, WasTold, slot_position}
+use Rattle.std.proofs.lemmas.Nat.{pow_pos}
+use Rattle.planus_back.specs.Promises.{IsPowerOfTwo}
+use Rattle.planus_write.proofs.ToldTables.{told_more, greater_power}
+use Rattle.planus_write.proofs.table_writer.TableWriter.write_entry.Given as given
+use Rattle.planus_write.proofs.table_writer.TableWriter.write_entry.Goals as goal
+
+positive : (g : given.Over) → 0 < g.P.Primitive.ALIGNMENT
+positive g =
+    let power = g.P.Primitive.is_layout.power in
+    let some : 0 < 2 ^ power.0 = pow_pos power.0 in
+    let same : g.P.Primitive.ALIGNMENT ≡ 2 ^ power.0 = power.2 in
+    omega (arith, some, same)
+
+pub invariant_of-self : goal.invariant_of-self
+invariant_of-self g c =
+    let some = positive g in
+    let alignment = c.ALIGNMENT.ensures in
+    let mask = c.max-self-inside-2.ensures in
+    let mask_is : max (c.self.inside.mask + 1) g.P.Primitive.ALIGNMENT ≡ c.max-self-inside-2.result + 1 = omega (arith, some, alignment, mask) in
+    let small = c.self.invariant.small in
+    let size = c.SIZE.ensures in
+    let fits : c.self.inside.object_size + g.P.Primitive.SIZE ≤ 65535 = subst (λ (writer : Writer). writer.object_size + g.P.Primitive.SIZE ≤ 65535) (sym c.self.view_is) c.requires.fits in
+    let vtable = c.max-self-inside.ensures in
+    let vtable_small = c.self.invariant.vtable_small in
+    let within = c.requires.small in
+    let bound = c.self.invariant.bound in
+    let low = g.P.Primitive.is_small in
+    let whole = c.self.invariant.whole in
+    let inside = c.requires.inside in
+    record {
+      small = omega (arith, size, fits);
+      vtable_small = omega (arith, vtable, vtable_small, within);
+      power = subst IsPowerOfTwo mask_is (greater_power (c.self.inside.mask + 1) g.P.Primitive.ALIGNMENT c.self.invariant.power (g.P.Primitive.is_layout.power.0, g.P.Primitive.is_layout.power.2));
+      bound = omega (arith, mask_is, bound, low);
+      whole = omega (arith, whole);
+      inside = λ enough. (let old = c.self.invariant.inside enough in omega (arith, vtable, old, inside));
+    }
+
+pub returns-clause-told : goal.returns-clause-told
+returns-clause-told g c = λ declared told.
+    let long : length c.self.inside.vtable ≡ g.row.N = search rules in
+    let old : Writer = record { vtable = c.self.inside.vtable; vtable_size = c.self.inside.vtable_size; object_size = c.self.inside.object_size; mask = c.self.inside.mask } in
+    let one : Declared = record { slot = c.args.slot; size = g.P.Primitive.SIZE; alignment = g.P.Primitive.ALIGNMENT } in
+    let new : Writer = record { vtable = c.put_pair.new.bytes; vtable_size = c.max-self-inside.result; object_size = c.self.inside.object_size + c.SIZE.result; mask = c.max-self-inside-2.result } in
+    let within = c.requires.inside in
+    let fits : old.object_size + g.P.Primitive.SIZE ≤ 65535 = subst (λ (writer : Writer). writer.object_size + g.P.Primitive.SIZE ≤ 65535) (sym c.self.view_is) c.requires.fits in
+    let unused : BytesStand old.vtable (slot_position c.args.slot) (0 ∷ 0 ∷ []) = subst (λ (writer : Writer). BytesStand writer.vtable (slot_position c.args.slot) (0 ∷ 0 ∷ [])) (sym c.self.view_is) c.requires.unused in
+    let before : WasTold old declared = subst (λ (writer : Writer). WasTold writer declared) (sym c.self.view_is) told in
+    let mask : new.mask ≡ max old.mask (one.alignment - 1) = c.max-self-inside-2.ensures ∙ ap (λ n. max old.mask (n - 1)) c.ALIGNMENT.ensures in
+    told_more old one new (omega (arith, within, long)) unused fits (positive g) c.put_pair.ensures c.max-self-inside.ensures (ap (λ n. old.object_size + n) c.SIZE.ensures) mask declared before

@@ -1,0 +1,20 @@
+//! Boxed values: they are written as what lies in the box.
+ghost use Rattle.planus_write.specs.Laws.{lawful_of};
+
+use crate::builder::Builder;
+use crate::errors::BuildError;
+use crate::offset::Offset;
+use crate::traits::WriteAsOffset;
+
+impl<P, T: WriteAsOffset<P>> WriteAsOffset<P> for Box<T> {
+    ghost may = { λ boxed old. T.may boxed.value old };
+
+    ghost outcome = { λ boxed old answer new. T.outcome boxed.value old answer new };
+
+    #[inline]
+    fn prepare(&self, builder: &mut Builder) -> std::result::Result<Offset<P>, BuildError> {
+        (**self).prepare(builder)
+    }
+
+    ghost is_lawful = { lawful_of (λ boxed. boxed.value) T.is_lawful };
+}

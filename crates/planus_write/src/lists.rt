@@ -1,0 +1,111 @@
+//! Lists: the items of any type, and the count in front of them.
+ghost use Rattle.std.specs.Prelude.{◌≡◌, ◌+◌, ◌*◌, ◌≤◌, ◌^◌, ℕ, length, map, max, IfOk};
+ghost use Rattle.std.specs.List.{AllByRecursion};
+ghost use Rattle.planus_back.specs.Promises.{IsPowerOfTwo};
+ghost use Rattle.planus_write.specs.Parts.{items_bytes};
+ghost use Rattle.planus_write.specs.Preparing.{AllMay, MayStand, PreparesItems, WritesList};
+ghost use Rattle.planus_write.specs.Preparing.{listed};
+
+use crate::backing::WORD_MASK;
+use crate::builder::Builder;
+use crate::errors::BuildError;
+use crate::offset::{List, Offset};
+use crate::traits::{Primitive, VectorWrite, WriteAsPrimitive};
+use planus_back::Overwrite;
+use std::marker::PhantomData;
+
+/// Writes the values one after another over `bytes`, which are exactly theirs. `place` is the
+/// distance in bytes from the end of the buffer to the first of them.
+#[inline]
+pub(crate) fn write_each<P: Primitive, V: WriteAsPrimitive<P>>(
+    values: &[V],
+    bytes: &mut [u8],
+    place: u32,
+)
+    requires size { length bytes.old ≡ length values.now * P.SIZE }
+    requires may { MayStand V.reach P.SIZE place values.now }
+    ensures { bytes.new ≡ items_bytes P.SIZE place (map V.leaves values.now) }
+{
+    let mut at = 0;
+    for value in values {
+        let (_before, rest) = bytes.split_at_mut(at);
+        let (item, _behind) = rest.split_at_mut(P::SIZE);
+        value.write(item, place - at as u32);
+        at += P::SIZE;
+    }
+}
+
+/// The prepared items of a list, as they stand in its part.
+#[derive(Drop)]
+struct Items<'a, P: Primitive, T: VectorWrite<P>> {
+    values: &'a [T::Value],
+    of: PhantomData<P>,
+}
+
+impl<'a, P: Primitive, T: VectorWrite<P>> Overwrite for Items<'a, P, T> {
+    ghost fits = { λ items place n. (n ≡ length items.values.now * T.STRIDE)
+        × MayStand T.Value.reach T.STRIDE place items.values.now };
+
+    ghost leaves = { λ items place n.
+        items_bytes T.STRIDE place (map T.Value.leaves items.values.now) };
+
+    #[inline]
+    fn overwrite(&self, place: u32, bytes: &mut [u8]) {
+        T::write_values(self.values, bytes, place);
+    }
+}
+
+/// The items, prepared in order.
+fn prepare_items<P: Primitive, T: VectorWrite<P>>(
+    builder: &mut Builder,
+    items: &[T],
+) -> std::result::Result<Vec<T::Value>, BuildError>
+    requires { AllMay T.may items.now builder.old }
+    ensures prepared { PreparesItems T.outcome items.now builder.old (listed result) builder.new }
+    ensures reached { IfOk result (λ values.
+        AllByRecursion (λ value. T.Value.reach value ≤ length builder.new.bytes) values.items) }
+{
+    let mut values: Vec<T::Value> = Vec::with_capacity(builder.alloc(), items.len())?;
+    for item in items {
+        match item.prepare(builder) {
+            Ok(value) => match values.push(value) {
+                Ok(()) => {}
+                Err(_) => unreachable!(),
+            },
+            Err(error) => return Err(error),
+        }
+    }
+    Ok(values)
+}
+
+/// One less than the alignment of the items of a list: their own, but at least that of its count.
+#[inline]
+fn items_mask<P: Primitive>() -> usize
+    ensures greatest { result + 1 ≡ max P.ALIGNMENT 4 }
+    ensures power { IsPowerOfTwo (result + 1) }
+    ensures bound { result + 1 ≤ 2 ^ 30 }
+{
+    P::ALIGNMENT.max(WORD_MASK + 1) - 1
+}
+
+/// A list: its items, prepared in order, as one part, and the count in front of them.
+pub(crate) fn write_list<P: Primitive, T: VectorWrite<P>>(
+    builder: &mut Builder,
+    items: &[T],
+) -> std::result::Result<Offset<List<P>>, BuildError>
+    requires { AllMay T.may items.now builder.old }
+    ensures { WritesList T.outcome T.Value.leaves P.SIZE P.ALIGNMENT items.now
+        builder.old result builder.new }
+{
+    let values = prepare_items::<P, T>(builder, items)?;
+    let Some(size) = values.len().checked_mul(T::stride()) else {
+        return Err(BuildError::TooLarge);
+    };
+    let prepared: Items<'_, P, T> = Items {
+        values: values.as_slice(),
+        of: PhantomData,
+    };
+    builder.write_over(size, items_mask::<P>(), &prepared)?;
+    let place = builder.write_count(values.len() as u32)?;
+    Ok(Offset::at(place))
+}

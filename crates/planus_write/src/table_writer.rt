@@ -1,0 +1,146 @@
+//! Tables: an object of fields, and a vtable that says where they are.
+ghost use Rattle.std.specs.Prelude.{◌≡◌, ◌+◌, ◌≤◌, ◌++◌, ℕ, List, [], ◌∷◌, length, take, drop};
+ghost use Rattle.std.specs.Int.{w16, to_le_bytes};
+ghost use Rattle.planus_read.specs.Bytes.{BytesStand};
+ghost use Rattle.planus_write.specs.Tables.{Declared};
+ghost use Rattle.planus_write.specs.TableWriting.{WasTold, WritesTable, slot_position, blank, entered};
+
+use crate::builder::Builder;
+use crate::errors::BuildError;
+use crate::object_writer::{ObjectFill, ObjectWriter};
+use crate::traits::Primitive;
+use planus_back::Overwrite;
+use std::marker::Model;
+
+/// Writes a table: first each field that is there is declared, and then all of them are written.
+/// `N` bytes are kept for the vtable: 4, and 2 for each slot up to the greatest that is declared.
+#[derive(Drop)]
+pub struct TableWriter<const N: usize> {
+    vtable: [u8; N],
+    vtable_size: usize,
+    object_size: usize,
+    mask: usize,
+}
+
+impl<const N: usize> Model for TableWriter<N> {
+    ghost use Rattle.planus_write.specs.TableWriting.{Writer};
+
+    ghost Value = { Writer };
+
+    ghost use Rattle.planus_write.specs.View.{writer_of, IsWriter};
+
+    ghost view = { writer_of };
+
+    ghost invariant = { IsWriter };
+}
+
+impl<const N: usize> Default for TableWriter<N> {
+    fn default() -> TableWriter<N>
+        ensures blank { result ≡ blank N }
+        ensures told { 4 ≤ N → WasTold result [] }
+    {
+        TableWriter {
+            vtable: [0; N],
+            vtable_size: 4,
+            object_size: 4,
+            mask: 3,
+        }
+    }
+}
+
+/// Writes a number of two bytes over those at a position.
+#[inline]
+fn put_pair(bytes: &mut [u8], at: usize, number: u16)
+    requires { at + 2 ≤ length bytes.old }
+    ensures { bytes.new ≡ take at bytes.old ++ (to_le_bytes w16 number ++ drop (at + 2) bytes.old) }
+{
+    let (_before, rest) = bytes.split_at_mut(at);
+    let (pair, _behind) = rest.split_at_mut(2);
+    pair.copy_from_slice(&number.to_le_bytes());
+}
+
+/// The body of a table, as its filler writes it.
+#[derive(Drop)]
+struct Body<'a, F: ObjectFill> {
+    filler: &'a F,
+}
+
+impl<'a, F: ObjectFill> Overwrite for Body<'a, F> {
+    ghost fits = { λ body place n. (n ≡ F.size body.filler.now)
+        × (F.reach body.filler.now + F.size body.filler.now ≤ place) };
+
+    ghost leaves = { λ body place n. F.leaves body.filler.now place };
+
+    #[inline]
+    fn overwrite(&self, place: u32, bytes: &mut [u8]) {
+        let filler = self.filler;
+        let mut writer = ObjectWriter::new(bytes, place);
+        filler.fill(&mut writer);
+    }
+}
+
+impl<const N: usize> TableWriter<N> {
+    /// Declares a field for a slot.
+    ///
+    /// The slot's two bytes lie in the first `N` bytes of a vtable and in 65534, nothing is declared
+    /// for it yet, and the object is at most 65535 bytes with the field. For the fields to stand
+    /// aligned, no field's alignment is above that of the field before it.
+    #[inline]
+    pub fn write_entry<P: Primitive>(&mut self, slot: usize)
+        requires inside { slot_position slot + 2 ≤ N }
+        requires small { slot_position slot + 2 ≤ 65534 }
+        requires unused { BytesStand self.old.vtable (slot_position slot) (0 ∷ 0 ∷ []) }
+        requires fits { self.old.object_size + P.SIZE ≤ 65535 }
+        ensures entered { self.new ≡ entered (record {
+          slot = slot;
+          size = P.SIZE;
+          alignment = P.ALIGNMENT;
+        }) self.old }
+        ensures told { (declared : List Declared) → WasTold self.old declared
+            → WasTold self.new (declared ++ record {
+              slot = slot;
+              size = P.SIZE;
+              alignment = P.ALIGNMENT;
+            } ∷ []) }
+    {
+        let at = 2 * (slot + 2);
+        put_pair(&mut self.vtable, at, self.object_size as u16);
+        self.object_size += P::SIZE;
+        self.vtable_size = self.vtable_size.max(at + 2);
+        self.mask = self.mask.max(P::ALIGNMENT - 1);
+    }
+
+    /// Writes the table: its vtable, the fields that the filler writes, and the word in front of
+    /// them by which they lead to the vtable. The table is then what was written last:
+    /// [`Builder::current_offset`].
+    ///
+    /// `N` is at least 4, the filler writes as many bytes as were declared, and what it refers to
+    /// lies in the builder's bytes.
+    ///
+    /// [`BuildError::TooLarge`] and [`BuildError::OutOfMemory`] as in [`Builder::write_with`]. What
+    /// was written before the refused write stays, and nothing after it is begun.
+    pub fn finish<F: ObjectFill>(
+        self,
+        builder: &mut Builder,
+        filler: &F,
+    ) -> std::result::Result<(), BuildError>
+        requires enough { 4 ≤ N }
+        requires size { F.size filler.now + 4 ≡ self.object_size }
+        requires reach { F.reach filler.now ≤ length builder.old.bytes }
+        ensures { (declared : List Declared) → WasTold self.entry declared
+            → WritesTable declared (F.leaves filler.now) builder.old result builder.new }
+    {
+        let TableWriter {
+            mut vtable,
+            vtable_size,
+            object_size,
+            mask,
+        } = self;
+        put_pair(&mut vtable, 0, vtable_size as u16);
+        put_pair(&mut vtable, 2, object_size as u16);
+        let place = builder.write_vtable(&vtable[..vtable_size])?;
+        builder.write_over(object_size - 4, mask, &Body { filler })?;
+        builder.write_word(place)?;
+        Ok(())
+    }
+}

@@ -1,0 +1,14 @@
+//! The example once, with ample memory.
+
+use crate::create_numbers;
+use planus::Builder;
+use std::test::Fail;
+
+#[test]
+fn a_list_of_two(rt: HostRuntime) -> Result<(), Fail> {
+    let mut builder = Builder::new(rt.alloc())?;
+    let list = create_numbers(&mut builder, &[1, 2])?;
+    assert_eq!(rt; list.distance(), 8);
+    assert_eq!(rt; builder.as_slice(), b"\x02\0\0\0\x01\0\x02\0".as_slice());
+    Ok(())
+}
