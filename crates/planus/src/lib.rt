@@ -15,7 +15,7 @@ mod version;
 pub use faults::{ReplayError, Why};
 pub use finishes::{Finished, StepPlace};
 pub use planus_back::Fill;
-pub use planus_fields::{DefaultValue, WriteAs, WriteAsDefault, WriteAsOptional};
+pub use planus_fields::{DefaultValue, LeftOut, WriteAs, WriteAsDefault, WriteAsOptional};
 pub use planus_read::{
     ArrayWithStartOffset, Error, Place, ReadAsRoot, ReadError, Result, SignedBytes,
     SliceWithStartOffset, Stride, TableRead, TableReadUnion, TableReadUnionVector, TaggedPlace,

@@ -3,9 +3,11 @@
 
 mod default_value;
 mod impls;
+mod left_out;
 pub mod traits;
 
 pub use default_value::DefaultValue;
+pub use left_out::LeftOut;
 pub use traits::{WriteAs, WriteAsDefault, WriteAsOptional};
 
 #[cfg(test)]

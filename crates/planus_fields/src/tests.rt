@@ -2,7 +2,6 @@ ghost use Rattle.std.specs.Prelude.{⊤};
 
 use crate::default_value::DefaultValue;
 use crate::traits::{WriteAs, WriteAsDefault, WriteAsOptional};
-use planus_read::Void;
 use planus_write::{
     BuildError, Builder, ByRef, ByteList, List, Offset, Primitive, SignedList, Text,
     WriteAsPrimitive,

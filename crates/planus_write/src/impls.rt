@@ -12,4 +12,3 @@ mod slice;
 mod str;
 mod string;
 mod vec;
-mod void;

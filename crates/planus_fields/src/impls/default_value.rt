@@ -4,12 +4,12 @@ ghost use Rattle.planus_write.specs.Preparing.{Answers};
 ghost use Rattle.planus_fields.specs.Fields.{left_out_always_is_lawful};
 
 use crate::default_value::DefaultValue;
+use crate::left_out::LeftOut;
 use crate::traits::WriteAsDefault;
-use planus_read::Void;
 use planus_write::{BuildError, Builder, Primitive};
 
 impl<P: Primitive, D> WriteAsDefault<P, D> for DefaultValue {
-    type Prepared = Void;
+    type Prepared = LeftOut;
 
     ghost may = { λ value old. ⊤ };
 
@@ -20,7 +20,7 @@ impl<P: Primitive, D> WriteAsDefault<P, D> for DefaultValue {
         &self,
         _builder: &mut Builder,
         _default: &D,
-    ) -> std::result::Result<Option<Void>, BuildError> {
+    ) -> std::result::Result<Option<LeftOut>, BuildError> {
         Ok(None)
     }
 

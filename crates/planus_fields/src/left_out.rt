@@ -1,0 +1,20 @@
+//! What is prepared of a field that is always left out.
+ghost use Rattle.std.specs.Prelude.{replicate};
+ghost use Rattle.planus_write.specs.Items.{plain_item};
+
+use planus_write::{Primitive, WriteAsPrimitive};
+
+/// Stands for what is prepared of a field that is always left out. No call hands one out; where it
+/// is written all the same, it is zeros.
+#[derive(Drop)]
+pub struct LeftOut;
+
+impl<P: Primitive> WriteAsPrimitive<P> for LeftOut {
+    ghost reach = { λ left_out. 0 };
+
+    ghost leaves = { λ left_out. plain_item (replicate P.SIZE 0) };
+
+    fn write(&self, bytes: &mut [u8], _place: u32) {
+        bytes.fill(0);
+    }
+}
