@@ -92,7 +92,9 @@ fn texts(rt: HostRuntime) -> Result<(), Fail> {
         always::<Offset<Text>, Offset<Text>>(&mut builder, &last)?.distance(),
         40
     );
+    let last = builder.current_offset::<Text>();
     assert!(rt; there::<Offset<Text>, Offset<Text>>(&mut builder, &last)?);
+    let last = builder.current_offset::<Text>();
     assert!(rt; written::<Offset<Text>, &str, Offset<Text>>(&mut builder, &last, &"Axe")?);
     assert_eq!(rt; builder.len(), 40);
     Ok(())
