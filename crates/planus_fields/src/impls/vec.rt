@@ -12,14 +12,16 @@ impl<P: Primitive, T: VectorWrite<P>> WriteAs<Offset<List<P>>> for Vec<T> {
 
     ghost may = { λ items old. AllMay T.may items.items old };
 
-    ghost outcome = { λ items old answer new. WritesList T.outcome T.Value.leaves P.SIZE P.ALIGNMENT items.items old answer new };
+    ghost outcome = { λ items old answer new.
+        WritesList T.outcome T.Value.leaves P.SIZE P.ALIGNMENT items.items old answer new };
 
     #[inline]
     fn prepare(&self, builder: &mut Builder) -> std::result::Result<Offset<List<P>>, BuildError> {
         WriteAsOffset::prepare(self, builder)
     }
 
-    ghost is_lawful = { list_is_lawful T.may T.outcome T.Value.reach T.is_lawful T.Value.leaves P.SIZE P.ALIGNMENT (λ items. items.items) };
+    ghost is_lawful = { list_is_lawful T.may T.outcome T.Value.reach T.is_lawful T.Value.leaves
+        P.SIZE P.ALIGNMENT (λ items. items.items) };
 }
 
 impl<P: Primitive, T: VectorWrite<P>> WriteAsOptional<Offset<List<P>>> for Vec<T> {
@@ -27,7 +29,8 @@ impl<P: Primitive, T: VectorWrite<P>> WriteAsOptional<Offset<List<P>>> for Vec<T
 
     ghost may = { λ items old. AllMay T.may items.items old };
 
-    ghost outcome = { λ items old answer new. AlwaysWritten (WritesList T.outcome T.Value.leaves P.SIZE P.ALIGNMENT items.items) old answer new };
+    ghost outcome = { λ items old answer new.
+        AlwaysWritten (WritesList T.outcome T.Value.leaves P.SIZE P.ALIGNMENT items.items) old answer new };
 
     #[inline]
     fn prepare(
@@ -37,7 +40,9 @@ impl<P: Primitive, T: VectorWrite<P>> WriteAsOptional<Offset<List<P>>> for Vec<T
         Ok(Some(WriteAsOffset::prepare(self, builder)?))
     }
 
-    ghost is_lawful = { left_out_is_lawful (λ items. ⊥) (list_is_lawful T.may T.outcome T.Value.reach T.is_lawful T.Value.leaves P.SIZE P.ALIGNMENT (λ items. items.items)) };
+    ghost is_lawful = { left_out_is_lawful (λ items. ⊥)
+        (list_is_lawful T.may T.outcome T.Value.reach T.is_lawful T.Value.leaves
+        P.SIZE P.ALIGNMENT (λ items. items.items)) };
 }
 
 impl<P: Primitive, T: VectorWrite<P>> WriteAsDefault<Offset<List<P>>, ()> for Vec<T> {
@@ -61,5 +66,7 @@ impl<P: Primitive, T: VectorWrite<P>> WriteAsDefault<Offset<List<P>>, ()> for Ve
     }
 
     ghost is_lawful = { λ default.
-        left_out_is_lawful (λ items. items.items ≡ []) (list_is_lawful T.may T.outcome T.Value.reach T.is_lawful T.Value.leaves P.SIZE P.ALIGNMENT (λ items. items.items)) };
+        left_out_is_lawful (λ items. items.items ≡ [])
+        (list_is_lawful T.may T.outcome T.Value.reach T.is_lawful T.Value.leaves
+        P.SIZE P.ALIGNMENT (λ items. items.items)) };
 }
