@@ -1,10 +1,11 @@
 -- The faults of a table's fields come one after another.
-use Rattle.std.proofs.Common.{◌≡◌, ℕ, List, [], ◌∷◌, ◌++◌, map, refl, ap, ◌∙◌, Option, Some, None}
+use Rattle.std.proofs.Common.{◌≡◌, ℕ, List, [], ◌∷◌, ◌++◌, refl, ap, ◌∙◌, Option, Some, None}
 use Rattle.std.proofs.Common.{append_assoc, append-nil, sym}
 use Rattle.std.specs.Option.{option_or}
 use Rattle.planus.specs.Steps.{FieldStep, number_field, ref_field}
 use Rattle.planus.specs.Slots.{slot_fault, rising_fault, alignment_of}
 use Rattle.planus.specs.TableChecks.{content_fault, field_fault, fields_fault}
+use Rattle.planus.specs.Declaring.{slots_of}
 use Rattle.planus.specs.declared.faults.Why.{Why}
 
 -- the faults are the same by what is the same of each step that is named
@@ -23,10 +24,6 @@ module _ (f g : ℕ → Option Why) (same : (n : ℕ) → f n ≡ g n) where
 pub none_of : (first rest : Option Why) → option_or first rest ≡ None → (first ≡ None) × (rest ≡ None)
 none_of None rest e = (refl, e)
 none_of (Some why) rest e = (cc)
-
--- the slots of fields
-abbrev pub slots_of : List (ℕ × FieldStep) → List ℕ
-slots_of fields = map (λ entry. entry.0) fields
 
 -- the alignment of the last field, or this one
 abbrev pub last_alignment : ℕ → List (ℕ × FieldStep) → ℕ

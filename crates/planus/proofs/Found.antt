@@ -27,6 +27,6 @@ module _ (fault : ℕ → Option Why) where
       ap (λ (f : Option Why). option_or f (first_fault fault (ys ++ x ∷ []))) both.0 ∙ none_more ys x both.1 e
 
 -- a list around one item of it
-pub around : (xs : List ℕ) (i x : ℕ) → take (i + 1) xs ≡ take i xs ++ x ∷ [] → take i xs ++ x ∷ drop (i + 1) xs ≡ xs
+pub around : {X : Type 0} (xs : List X) (i : ℕ) (x : X) → take (i + 1) xs ≡ take i xs ++ x ∷ [] → take i xs ++ x ∷ drop (i + 1) xs ≡ xs
 around xs i x next =
     sym (append_assoc (take i xs) (x ∷ []) (drop (i + 1) xs)) ∙ ap (λ ys. ys ++ drop (i + 1) xs) (sym next) ∙ take-append-drop (i + 1) xs

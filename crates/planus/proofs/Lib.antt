@@ -1,10 +1,12 @@
 pub mod Lists
 pub mod FieldFaults
 pub mod TableFields
+pub mod Filling
 pub mod Naming
 pub mod Placed
 pub mod WrittenValues
 pub mod WrittenTables
+pub mod Declaring
 pub mod Kept
 pub mod Turns
 pub mod Walking

@@ -40,21 +40,21 @@ use Rattle.planus.proofs.Lists.{listed_push_some, listed_push_none, found_at}
 use Rattle.planus.proofs.Naming.{took_one, took_clear, one_more}
 
 -- what a replay finds under a number is named by it
-pub named_value : (old : Progress) (root distance : ℕ) → distance_at old.first (distances old) root ≡ Some (Some distance) → named_at (listed_from old.first (distances old)) root ≡ Some (named distance)
-named_value old root distance h = by_test (nat_lt root old.first) refl h
+pub named_value : (first : ℕ) (since : List (Option ℕ)) (root distance : ℕ) → distance_at first since root ≡ Some (Some distance) → named_at (listed_from first since) root ≡ Some (named distance)
+named_value first since root distance h = by_test (nat_lt root first) refl h
   where
-    by_test : (earlier : Bool) → nat_lt root old.first ≡ earlier → (if earlier then None else slice_get (distances old) (root - old.first)) ≡ Some (Some distance)
-        → named_at (listed_from old.first (distances old)) root ≡ Some (named distance)
+    by_test : (earlier : Bool) → nat_lt root first ≡ earlier → (if earlier then None else slice_get since (root - first)) ≡ Some (Some distance)
+        → named_at (listed_from first since) root ≡ Some (named distance)
     by_test true is e = (cc)
     by_test false is e =
-        let from : old.first ≤ root = grind (arith, nat_tests, is) in
-        subst (λ n. named_at (listed_from old.first (distances old)) n ≡ Some (named distance)) (let at : old.first + (root - old.first) ≡ root = omega (arith, from) in at)
-        (found_at old.first (distances old) (root - old.first) distance e)
+        let from : first ≤ root = grind (arith, nat_tests, is) in
+        subst (λ n. named_at (listed_from first since) n ≡ Some (named distance)) (let at : first + (root - first) ≡ root = omega (arith, from) in at)
+        (found_at first since (root - first) distance e)
 
 -- what a finish of that value puts down
 finish_are : (old : Progress) (root distance : ℕ) (identifier : Option (List ℕ)) → distance_at old.first (distances old) root ≡ Some (Some distance)
     → entries_put (listed_from old.first (distances old)) (finish root identifier) ≡ Some (finish_entry distance identifier ∷ [])
-finish_are old root distance identifier h = ap (option_map (finish_of identifier)) (named_value old root distance h)
+finish_are old root distance identifier h = ap (option_map (finish_of identifier)) (named_value old.first (distances old) root distance h)
 
 -- A value of a step, by an outcome that puts down its entries, or is refused where they are.
 module _ {T : Type 0} (outcome : Outcome (Offset T)) (step : Step) (value : Value) (old : Progress)
@@ -193,7 +193,7 @@ found_distances old (step ∷ steps) [] h = (cc)
 found_distances old (step ∷ steps) (o ∷ offsets) h =
     let first : distance_at old.first (distances old) step ≡ Some (Some o.distance) = (cc) in
     let rest : map (λ (o : Offset (Unit {0})). Some (Some o.distance)) offsets ≡ map (distance_at old.first (distances old)) steps = (cc) in
-    rw (named_value old step o.distance first, found_distances old steps offsets rest) refl
+    rw (named_value old.first (distances old) step o.distance first, found_distances old steps offsets rest) refl
 
 module _ (steps : List ℕ) (offsets : List (Offset (Unit {0}))) (old : Progress)
     (found : map (λ (o : Offset (Unit {0})). Some (Some o.distance)) offsets ≡ map (distance_at old.first (distances old)) steps) where

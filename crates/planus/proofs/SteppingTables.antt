@@ -1,44 +1,38 @@
 -- What the writing of a table is to the run.
 use Rattle.std.proofs.Common.{◌≡◌, ℕ, ◌+◌, max, List, [], ◌∷◌, length, refl, sym, ap, ◌∙◌, subst}
-use Rattle.std.proofs.Common.{Result, Ok, Err, Option, Some, None}
+use Rattle.std.proofs.Common.{Result, Ok, Err, Option, Some}
+use Rattle.std.proofs.Common.{◌≤◌, map, arith}
+use Rattle.std.specs.List.{AllByRecursion}
 use Rattle.std.specs.Option.{option_map}
 use Rattle.planus_read.specs.Values as value
 use Rattle.planus_read.specs.Values.{Field, slot_count}
 use Rattle.planus_write.specs.State as builder
 use Rattle.planus_write.specs.Placing.{Outcome}
 use Rattle.planus_write.specs.Preparing.{WritesEntries}
-use Rattle.planus_write.specs.Parts.{entries_of, Named, named_by, last_of}
+use Rattle.planus_write.specs.Parts.{entries_of, named_by, last_of}
 use Rattle.planus_write.specs.Tables.{table_entries, declared_of, slots_used, object_entries, body_bytes}
 use Rattle.planus_write.specs.TableWriting.{WritesTable}
 use Rattle.planus_write.specs.declared.errors.BuildError.{BuildError}
 use Rattle.planus_write.specs.declared.offset.Offset.{Offset}
 use Rattle.planus.specs.Steps.{FieldStep, table}
 use Rattle.planus.specs.Slots.{greatest_field}
-use Rattle.planus.specs.Runs.{named_at, value_of, entries_put, fields_of}
-use Rattle.planus.specs.TableChecks.{table_fault}
+use Rattle.planus.specs.Runs.{value_of, entries_put, fields_of}
+use Rattle.planus_write.specs.declared.errors.BuildError.TheVariants as build
+use Rattle.planus_write.specs.Tables.{IsField, body_size}
+use Rattle.planus_write.specs.TableWriting.{Writer, WasTold}
+use Rattle.planus.specs.Replays.{replay_error}
+use Rattle.planus.specs.Prepared.{field_reach}
+use Rattle.planus.specs.Filling.{fields_or_none, fields_reach}
+use Rattle.planus.specs.Replaying.{distance_of, AreReached}
 use Rattle.planus.specs.declared.faults.ReplayError.{ReplayError}
 use Rattle.planus.specs.declared.faults.ReplayError.TheVariants.{OutOfMemory as ReplayOutOfMemory, TooLarge as ReplayTooLarge, BadStep}
 use Rattle.planus.specs.declared.progress.Progress.{Progress}
-use Rattle.planus.specs.Replaying.{distances, distance_at, distance_fault, named, listed_from}
-use Rattle.planus.specs.Replaying.{name_fault, Advanced, WritesValue}
+use Rattle.planus.specs.Replaying.{distances, named, listed_from}
+use Rattle.planus.specs.Replaying.{Advanced, WritesValue}
 use Rattle.planus.proofs.Naming.{took_one}
-use Rattle.planus.proofs.Stepping.{named_value, runs_on, switches_stay, stops}
-use Rattle.planus.proofs.TableFields.{fields_are}
-
--- what may be named is listed
-named_good : (old : Progress) (step : ℕ) → name_fault old step ≡ None → (of : Named) × (named_at (listed_from old.first (distances old)) step ≡ Some of)
-named_good old step none = by_case (distance_at old.first (distances old) step) refl none
-  where
-    by_case : (found : Option (Option ℕ)) → distance_at old.first (distances old) step ≡ found → distance_fault found ≡ None
-        → (of : Named) × (named_at (listed_from old.first (distances old)) step ≡ Some of)
-    by_case None is e = (cc)
-    by_case (Some None) is e = (cc)
-    by_case (Some (Some distance)) is e = (named distance, named_value old step distance is)
-
--- a table without a fault has its fields
-pub table_fields : (old : Progress) (fields : List (ℕ × FieldStep)) → table_fault (name_fault old) fields ≡ None
-    → (all : List (ℕ × Field)) × (fields_of (listed_from old.first (distances old)) [] greatest_field fields ≡ Some all)
-table_fields old fields none = fields_are (listed_from old.first (distances old)) (name_fault old) (named_good old) [] greatest_field fields none
+use Rattle.planus.proofs.Stepping.{runs_on, switches_stay, stops}
+use Rattle.planus.proofs.Declaring.{reached_from}
+use Rattle.planus.proofs.WrittenTables.{tables_are_written}
 
 -- The table of these fields was written, and lies at this offset; or it was refused.
 abbrev pub WritesTableAt : {T : Type 0} → List (ℕ × Field) → Outcome (Offset T)
@@ -83,3 +77,53 @@ table_at all before after offset put at = (
 pub table_refused : (T : Type 0) (all : List (ℕ × Field)) (before after : builder.State) (error : BuildError) → WritesTable (declared_of all) (λ place. body_bytes place all) before (Err error) after
     → WritesTableAt {T = T} all before (Err error) after
 table_refused T all before after error put = subst (λ n. WritesEntries (object_entries n (declared_of all) (λ place. body_bytes place all)) [] before (Err error) after) (slots_same all) put
+
+-- A table is refused, as the replay has it.
+pub table_stopped : (fields : List (ℕ × FieldStep)) (all : List (ℕ × Field)) (old : Progress) → fields_of (listed_from old.first (distances old)) [] greatest_field fields ≡ Some all
+    → (error : BuildError) (new : Progress) → WritesTableAt {T = Unit {0}} all old.builder (Err error) new.builder → Advanced old (table fields) (Err (replay_error error)) new
+table_stopped fields all old made build.OutOfMemory new h = tt
+table_stopped fields all old made build.TooLarge new h = table_advanced fields all old made (Unit {0}) (Err ReplayTooLarge) new (new.builder, h)
+
+-- how far the fields of a table refer that can be written
+reach_within : (bytes : ℕ) (all : List (ℕ × Field)) → AllByRecursion (λ entry. IsField bytes entry.1) all → fields_reach all ≤ bytes
+reach_within bytes [] fields = omega arith
+reach_within bytes (entry ∷ all) fields =
+    let first = by_field entry.1 fields.0 in let rest = reach_within bytes all fields.1 in omega (arith, first, rest)
+  where
+    by_field : (field : Field) → IsField bytes field → field_reach field ≤ bytes
+    by_field (value.plain item) is = omega arith
+    by_field (value.reference distance) is = is
+    by_field (value.tags distance) is = is
+    by_field (value.values distance) is = is
+
+-- a table that was declared, and its fields by these offsets
+module _ (old : Progress) (offsets : List (Option (Offset (Unit {0})))) (are : offsets ≡ old.offsets.items) (fields : List (ℕ × FieldStep)) (all : List (ℕ × Field))
+    (made : fields_of (listed_from old.first (distances old)) [] greatest_field fields ≡ Some all) where
+  abbrev these : List (ℕ × Field)
+  these = fields_or_none (fields_of (listed_from old.first (map distance_of offsets)) [] greatest_field fields)
+
+  same : these ≡ all
+  same =
+      ap (λ (os : List (Option (Offset (Unit {0})))). fields_or_none (fields_of (listed_from old.first (map distance_of os)) [] greatest_field fields)) are ∙ ap fields_or_none made
+
+  pub body_sized : (writer : Writer) → WasTold writer (declared_of all) → body_size these + 4 ≡ writer.object_size
+  body_sized writer told =
+      let size = ap body_size same in let object = told.object_size in omega (arith, size, object)
+
+  pub body_reaches : AreReached old → fields_reach these ≤ length old.builder.bytes
+  body_reaches reached =
+      let written = tables_are_written (λ one. one.named.distance ≤ length old.builder.bytes) (length old.builder.bytes) (λ one le. le) (listed_from old.first (distances old))
+      (reached_from (length old.builder.bytes) old.first (distances old) reached) fields all made in
+      subst (λ fields. fields_reach fields ≤ length old.builder.bytes) (sym same) (reach_within (length old.builder.bytes) all written.fields)
+
+  leaves_same : (answer : Result (Unit {0}) BuildError) (after : builder.State) → WritesTable (declared_of all) (λ place. body_bytes place these) old.builder answer after
+      → WritesTable (declared_of all) (λ place. body_bytes place all) old.builder answer after
+  leaves_same answer after put = subst (λ (fields : List (ℕ × Field)). WritesTable (declared_of all) (λ place. body_bytes place fields) old.builder answer after) same put
+
+  pub table_put : (offset : Offset (Unit {0})) (after : builder.State) → WritesTable (declared_of all) (λ place. body_bytes place these) old.builder (Ok tt) after
+      → offset.distance ≡ length after.bytes → WritesTableAt all old.builder (Ok offset) after
+  table_put offset after put at = table_at all old.builder after offset (leaves_same (Ok tt) after put) at
+
+  pub table_not_put : (error : BuildError) (after : builder.State) → WritesTable (declared_of all) (λ place. body_bytes place these) old.builder (Err error) after
+      → WritesTableAt {T = Unit {0}} all old.builder (Err error) after
+  table_not_put error after put = table_refused (Unit {0}) all old.builder after error (leaves_same (Err error) after put)

@@ -12,9 +12,10 @@ use Rattle.planus.specs.Slots.{place_fault, slot_fault, rising_fault, alignment_
 use Rattle.planus.specs.Runs.{Listed, named_at, field_width, fits_width, plain_field, reference_to}
 use Rattle.planus.specs.Runs.{field_of, with_field, fields_of}
 use Rattle.planus.specs.TableChecks.{number_fault, content_fault, field_fault, fields_fault}
+use Rattle.planus.specs.Declaring.{slots_of}
 use Rattle.planus.specs.declared.faults.Why.{Why}
 use Rattle.planus.specs.declared.faults.Why.TheVariants.{ValueTooBig}
-use Rattle.planus.proofs.FieldFaults.{none_of, slots_of, last_alignment}
+use Rattle.planus.proofs.FieldFaults.{none_of, last_alignment}
 use Rattle.planus.proofs.Lists.{made_of, named_more}
 
 -- what fields are made of: nothing is wrong with the place of the first, it is a field, and so are

@@ -26,7 +26,7 @@ use Rattle.planus.specs.declared.faults.Why.TheVariants.{ValueTooBig}
 use Rattle.planus.specs.declared.faults.ReplayError.TheVariants.{TooLarge, BadStep}
 use Rattle.planus.specs.declared.faults.Why.{Why}
 use Rattle.planus.specs.declared.steps.Step as code
-use Rattle.planus.specs.declared.steps.Step.TheVariants.{Text, Bytes, Numbers, Refs, Finish, Clear}
+use Rattle.planus.specs.declared.steps.Step.TheVariants.{Text, Bytes, Numbers, Refs, Table, Finish, Clear}
 use Rattle.planus.proofs.Kept.{AllUtf8, run_value}
 use Rattle.planus.proofs.Lists.{get_last, made_of, distances_made}
 use Rattle.planus.proofs.TableFields.{fields_good}
@@ -53,6 +53,7 @@ is_utf8 (Text words) content e = let same : string_bytes words ≡ content = cc 
 is_utf8 (Bytes list) content e = (cc)
 is_utf8 (Numbers width items) content e = (cc)
 is_utf8 (Refs steps) content e = (cc)
+is_utf8 (Table fields) content e = (cc)
 is_utf8 (Finish root id) content e = (cc)
 is_utf8 Clear content e = (cc)
 

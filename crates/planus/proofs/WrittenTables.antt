@@ -41,7 +41,7 @@ width_known size w e =
     (chosen size 8 w64 w None refl (λ e. (cc)) (size == 8) refl) (size == 4) refl) (size == 2) refl) (size == 1) refl e
 
 -- a field that can be written, with this size and alignment
-abbrev HasSize : ℕ → ℕ → Field → Type 0
+abbrev pub HasSize : ℕ → ℕ → Field → Type 0
 HasSize before size field = IsField before field × (field_alignment field ≡ size) × (field_size field ≡ size)
 
 number_written : (before size : ℕ) (width : Option Width) (n : ℕ) (field : Field) → ((w : Width) → width ≡ Some w → byte_len w ≡ size) → plain_field width n ≡ Some field
@@ -70,7 +70,7 @@ number_written before size (Some w) n field known e = by_test (fits_width w n) e
     by_test false e = (cc)
 
 -- a slot without a fault is small, and none of those before
-slot_free : (slots : List ℕ) (slot : ℕ) → slot_fault slots slot ≡ None → (slot < 256) × (list_any (λ other. other == slot) slots ≡ false)
+pub slot_free : (slots : List ℕ) (slot : ℕ) → slot_fault slots slot ≡ None → (slot < 256) × (list_any (λ other. other == slot) slots ≡ false)
 slot_free slots slot e = by_size (nat_lt 255 slot) refl e
   where
     by_twice : (slot < 256) → (twice : Bool) → list_any (λ other. other == slot) slots ≡ twice → (if twice then Some SlotTwice else None) ≡ None
@@ -148,7 +148,7 @@ unfolding IsDistinct
 distinct_none = tt
 
 module _ (P : Listed → Type 0) (bytes : ℕ) (reached : (one : Listed) → P one → one.named.distance ≤ bytes) (listed : List Listed) (kept : AllByRecursion P listed) where
-  field_written : (content : FieldStep) (field : Field) → field_of listed content ≡ Some field → HasSize bytes (alignment_of content) field
+  pub field_written : (content : FieldStep) (field : Field) → field_of listed content ≡ Some field → HasSize bytes (alignment_of content) field
   field_written (number_field width n) field e = number_written bytes width (field_width width) n field (width_known width) e
   field_written (ref_field step) field e =
       let made = made_of reference_to (named_at listed step) field e in

@@ -6,3 +6,6 @@ pub mod TableChecks
 pub mod Replays
 pub mod Headline
 pub mod Replaying
+pub mod Prepared
+pub mod Filling
+pub mod Declaring

@@ -1,9 +1,12 @@
 -- The steps of a run, without where their texts and lists lie in memory.
-use Rattle.std.specs.Prelude.{ℕ, List, Option}
+use Rattle.std.specs.Prelude.{ℕ, List, Option, map}
 use Rattle.std.specs.String.{string_bytes}
 use Rattle.planus.specs.declared.steps.Step as code
-use Rattle.planus.specs.declared.steps.Step.TheVariants.{Text, Bytes, Numbers, Refs}
+use Rattle.planus.specs.declared.steps.Step.TheVariants.{Text, Bytes, Numbers, Refs, Table}
 use Rattle.planus.specs.declared.steps.Step.TheVariants.{Finish, Clear}
+use Rattle.planus.specs.declared.steps.Field.{Field}
+use Rattle.planus.specs.declared.steps.FieldValue.{FieldValue}
+use Rattle.planus.specs.declared.steps.FieldValue.TheVariants.{Number, Ref}
 
 -- what a field of a table holds: a number, and of how many bytes it is; a reference to the value of
 -- an earlier step, by the number of that
@@ -23,11 +26,21 @@ pub data Step : Type 0 where
   finish : ℕ → Option (List ℕ) → Step
   clear : Step
 
+-- what a field holds
+abbrev pub content_of : FieldValue → FieldStep
+content_of (Number width value) = number_field width value
+content_of (Ref step) = ref_field step
+
+-- a field: its slot, and what it holds
+abbrev pub bare_field : Field → ℕ × FieldStep
+bare_field field = (field.slot, content_of field.value)
+
 -- a step, without where its text or its list lies in memory
 abbrev pub bare_step : code.Step → Step
 bare_step (Text words) = text (string_bytes words)
 bare_step (Bytes content) = bytes content.items
 bare_step (Numbers width items) = numbers width items.items
 bare_step (Refs steps) = refs steps.items
+bare_step (Table fields) = table (map bare_field fields.items)
 bare_step (Finish root id) = finish root id
 bare_step Clear = clear

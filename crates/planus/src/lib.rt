@@ -2,12 +2,16 @@
 //! fields in place, and [`replay`], which takes a list of steps to finished buffers.
 #![tactic(auto)]
 
+mod earlier;
 mod faults;
 mod finishes;
 pub mod laws;
+mod prepared_field;
 mod progress;
 mod run;
+mod slots;
 mod steps;
+mod table_body;
 #[cfg(test)]
 mod tests;
 mod version;
@@ -28,5 +32,5 @@ pub use planus_write::{
     WriteAsPrimitive, table_writer,
 };
 pub use run::replay;
-pub use steps::Step;
+pub use steps::{Field, FieldValue, Step};
 pub use version::check_version_compatibility;

@@ -3,12 +3,13 @@ ghost use Rattle.std.specs.Prelude.{◌≡◌, [], ◌+◌, ◌<◌, ◌^◌, ve
 ghost use Rattle.planus_write.specs.Shared.{all_off};
 ghost use Rattle.planus_write.specs.Past.{no_past};
 ghost use Rattle.planus_write.specs.State.{IsPast};
-ghost use Rattle.planus.specs.Steps.{bare_step};
+ghost use Rattle.planus.specs.Steps.{bare_step, bare_field};
 ghost use Rattle.planus.specs.Runs.{nothing_written};
 ghost use Rattle.planus.specs.Replays.{place_of};
 ghost use Rattle.planus.specs.Replaying.{distance_of, distances, listed_from, state_with};
 ghost use Rattle.planus.specs.Replaying.{FindsValue, FindsValues, HasTaken, Advanced, AreReached};
 ghost use Rattle.planus.specs.Replaying.{Narrowed, WritesValue};
+ghost use Rattle.planus.specs.Declaring.{DeclaresTable};
 ghost use Rattle.planus.specs.declared.faults.ReplayError.TheVariants.{BadStep};
 ghost use Rattle.std.specs.Int.{w16, w32, w64};
 ghost use Rattle.std.specs.List.{list_all};
@@ -16,10 +17,14 @@ ghost use Rattle.std.specs.Prelude.{true};
 ghost use Rattle.planus.specs.Runs.{fits_width};
 ghost use Rattle.planus.specs.Steps as step;
 
+use crate::earlier::Earlier;
 use crate::faults::{ReplayError, Why};
 use crate::finishes::{Finished, StepPlace};
-use crate::steps::Step;
-use planus_write::{Builder, ByteList, Offset, WriteAsOffset};
+use crate::prepared_field::VTABLE_SIZE;
+use crate::slots::check_slot;
+use crate::steps::{Field, Step};
+use crate::table_body::TableBody;
+use planus_write::{Builder, ByteList, Offset, TableWriter, WriteAsOffset};
 use std::alloc::{AllocError, Global};
 
 /// A replay on its way.
@@ -100,18 +105,22 @@ impl Progress {
         })
     }
 
+    /// What this step may name.
+    fn earlier(&self) -> Earlier<'_>
+        ensures first { result.first ≡ self.now.first }
+        ensures offsets { result.offsets.now ≡ self.now.offsets.items }
+    {
+        Earlier {
+            first: self.first,
+            offsets: self.offsets.as_slice(),
+        }
+    }
+
     /// The value of an earlier step, by its number.
     fn value(&self, step: usize) -> std::result::Result<Offset<()>, Why>
         ensures { FindsValue self.now.first (distances self.now) step result }
     {
-        if step < self.first {
-            return Err(Why::NoSuchStep);
-        }
-        match self.offsets.get(step - self.first) {
-            None => Err(Why::NoSuchStep),
-            Some(None) => Err(Why::WrongKind),
-            Some(Some(offset)) => Ok(*offset),
-        }
+        self.earlier().value(step)
     }
 
     /// The values of earlier steps, by their numbers.
@@ -194,6 +203,45 @@ impl Progress {
         self.write(&offsets)
     }
 
+    /// Checks the fields of a table, and declares them.
+    fn declared(&self, fields: &[Field]) -> std::result::Result<TableWriter<VTABLE_SIZE>, Why>
+        requires { AreReached self.now }
+        ensures { DeclaresTable self.now (map bare_field fields.now) result }
+    {
+        let mut writer = TableWriter::default();
+        let mut before = 8;
+        for (index, field) in fields.iter().enumerate() {
+            check_slot(&fields[..index], field.slot)?;
+            let prepared = self.earlier().prepare(&field.value)?;
+            if before < prepared.alignment() {
+                return Err(Why::RisingAlignment);
+            }
+            before = prepared.alignment();
+            prepared.declare(&mut writer, field.slot as usize);
+        }
+        Ok(writer)
+    }
+
+    /// Writes a table.
+    fn table(&mut self, fields: &[Field]) -> std::result::Result<(), ReplayError>
+        requires reached { AreReached self.old }
+        requires number { self.old.first + vec_len self.old.offsets < 2 ^ 64 }
+        ensures { Advanced self.old (step.table (map bare_field fields.now)) result self.new }
+    {
+        let writer = match self.declared(fields) {
+            Ok(writer) => writer,
+            Err(why) => return Err(self.bad_step(why)),
+        };
+        let earlier = Earlier {
+            first: self.first,
+            offsets: self.offsets.as_slice(),
+        };
+        writer.finish(&mut self.builder, &TableBody { earlier, fields })?;
+        let table = self.builder.current_offset();
+        self.offsets.push(Some(table))?;
+        Ok(())
+    }
+
     /// Takes one step.
     pub(crate) fn advance(
         &mut self,
@@ -209,6 +257,7 @@ impl Progress {
             Step::Bytes(bytes) => self.write(&ByteList(bytes.as_slice())),
             Step::Numbers { width, items } => self.numbers(alloc, *width, items.as_slice()),
             Step::Refs(steps) => self.refs(alloc, steps.as_slice()),
+            Step::Table(fields) => self.table(fields.as_slice()),
             Step::Finish { root, id } => self.finish(alloc, *root, *id),
             Step::Clear => {
                 self.clear();

@@ -1,9 +1,10 @@
 //! The version, what is exported again, and a step that no script has.
 
 use crate::{
-    Builder, ReplayError, SliceWithStartOffset, Step, TableRead, Why, check_version_compatibility,
-    replay,
+    Builder, Field, FieldValue, ReplayError, SliceWithStartOffset, Step, TableRead, Why,
+    check_version_compatibility, replay,
 };
+use std::alloc::{AllocError, Global};
 use std::test::Fail;
 
 #[test]
@@ -29,19 +30,29 @@ fn a_text_is_written_and_read_back(rt: HostRuntime) -> Result<(), Fail> {
     Ok(())
 }
 
+// The answer to a text and then this step.
+fn behind_a_text(alloc: Global, step: Step) -> Result<Option<ReplayError>, AllocError> {
+    let mut steps = Vec::new(alloc);
+    steps.push(Step::Text(String::from_str(alloc, "Axe")?))?;
+    steps.push(step)?;
+    Ok(replay(alloc, steps.as_slice()).err())
+}
+
 #[test]
 fn a_width_that_numbers_cannot_have(rt: HostRuntime) -> Result<(), Fail> {
-    let mut steps = Vec::new(rt.alloc());
-    steps.push(Step::Text(String::from_str(rt.alloc(), "Axe")?))?;
     let mut items = Vec::new(rt.alloc());
     items.push(1)?;
-    steps.push(Step::Numbers { width: 3, items })?;
+    let mut fields = Vec::new(rt.alloc());
+    let value = FieldValue::Number { width: 3, value: 1 };
+    fields.push(Field { slot: 0, value })?;
     let why = Why::WidthUnknown;
-    let answer = replay(rt.alloc(), steps.as_slice());
-    assert!(rt;
-        answer.err() == Some(ReplayError::BadStep { step: 1, why }),
-        "the fault"
-    );
+    for step in [Step::Numbers { width: 3, items }, Step::Table(fields)] {
+        let error = behind_a_text(rt.alloc(), step)?;
+        assert!(rt;
+            error == Some(ReplayError::BadStep { step: 1, why }),
+            "the fault"
+        );
+    }
     let text = format!(in rt.alloc(); "{why}")?;
     assert_eq!(rt; text.as_str(), "width unknown");
     Ok(())

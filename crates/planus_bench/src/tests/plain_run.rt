@@ -1,7 +1,7 @@
 //! A plain, slow run of steps, which keeps its bytes from the end on, and finds each padding by
 //! trying.
 
-use planus::{Finished, Step, StepPlace};
+use planus::{Field, FieldValue, Finished, Step, StepPlace};
 use std::alloc::{AllocError, Global};
 use std::test::Fail;
 
@@ -10,9 +10,17 @@ use std::test::Fail;
 struct Written {
     // The bytes, the last one first.
     reversed: Vec<u8>,
-    // The distance of each part from the end, and its alignment: 4 or 8.
+    // The distance of each part from the end, and its alignment: 2, 4 or 8.
     parts: Vec<(usize, usize)>,
     values: Vec<StepPlace>,
+}
+
+// The size of a field.
+fn size_of(field: &Field) -> usize {
+    match field.value {
+        FieldValue::Number { width, .. } => width as usize,
+        FieldValue::Ref(_) => 4,
+    }
 }
 
 impl Written {
@@ -125,12 +133,73 @@ impl Written {
     fn refs(&mut self, step: usize, steps: &[usize]) -> Result<(), Fail> {
         self.pad(steps.len().wrapping_mul(4), 4)?;
         for named in steps.iter().rev() {
-            let root = self.distance(*named).ok_or("no such value")?;
-            let place = self.reversed.len().wrapping_add(4);
-            self.put_word(place.wrapping_sub(root))?;
+            self.put_reference(*named)?;
         }
         self.put_word(steps.len())?;
         self.add(step)
+    }
+
+    fn put_pair(&mut self, number: usize) -> Result<(), AllocError> {
+        self.put(&(number as u64).to_le_bytes()[..2])
+    }
+
+    // A vtable: its size, the object's, and where the field of each slot stands behind the
+    // object's word. Answers its distance.
+    fn vtable(&mut self, alloc: Global, fields: &[Field]) -> Result<usize, Fail> {
+        let mut slots: usize = 0;
+        for field in fields {
+            slots = slots.max(field.slot as usize + 1);
+        }
+        let mut offsets: Vec<usize> = Vec::new(alloc);
+        for _ in 0..slots {
+            offsets.push(0)?;
+        }
+        let mut object: usize = 4;
+        for field in fields {
+            if let Some(offset) = offsets.get_mut(field.slot as usize) {
+                *offset = object;
+            }
+            object = object.wrapping_add(size_of(field));
+        }
+        let size = offsets.len().wrapping_mul(2).wrapping_add(4);
+        self.pad(size, 2)?;
+        for offset in offsets.iter().rev() {
+            self.put_pair(*offset)?;
+        }
+        self.put_pair(object)?;
+        self.put_pair(size)?;
+        Ok(self.reversed.len())
+    }
+
+    fn table(&mut self, alloc: Global, step: usize, fields: &[Field]) -> Result<(), Fail> {
+        let vtable = self.vtable(alloc, fields)?;
+        let mut size: usize = 0;
+        let mut alignment = 4;
+        for field in fields {
+            size = size.wrapping_add(size_of(field));
+            alignment = alignment.max(size_of(field));
+        }
+        self.pad(size, alignment)?;
+        for field in fields.iter().rev() {
+            match &field.value {
+                FieldValue::Number { width: 1, value } => self.put(&value.to_le_bytes()[..1])?,
+                FieldValue::Number { width: 2, value } => self.put(&value.to_le_bytes()[..2])?,
+                FieldValue::Number { width: 4, value } => self.put(&value.to_le_bytes()[..4])?,
+                FieldValue::Number { value, .. } => self.put(&value.to_le_bytes())?,
+                FieldValue::Ref(named) => self.put_reference(*named)?,
+            }
+        }
+        let place = self.reversed.len().wrapping_add(4);
+        self.put_word(vtable.wrapping_sub(place))?;
+        self.add(step)
+    }
+
+    // A reference to the value of a step.
+    fn put_reference(&mut self, named: usize) -> Result<(), Fail> {
+        let root = self.distance(named).ok_or("no such value")?;
+        let place = self.reversed.len().wrapping_add(4);
+        self.put_word(place.wrapping_sub(root))?;
+        Ok(())
     }
 
     // The distance of the value of a step.
@@ -178,6 +247,7 @@ pub fn plain_run(alloc: Global, steps: &[Step]) -> Result<Vec<Finished>, Fail> {
             Step::Bytes(bytes) => written.bytes(number, bytes.as_slice())?,
             Step::Numbers { width, items } => written.numbers(number, *width, items.as_slice())?,
             Step::Refs(steps) => written.refs(number, steps.as_slice())?,
+            Step::Table(fields) => written.table(alloc, number, fields.as_slice())?,
             Step::Finish { root, id } => {
                 let root = written.distance(*root).ok_or("no such value")?;
                 written.finish(root, *id)?;

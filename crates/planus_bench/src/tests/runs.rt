@@ -1,7 +1,7 @@
 //! A long run of steps, against the plain run.
 
 use super::plain_run::plain_run;
-use planus::{Step, replay};
+use planus::{Field, FieldValue, Step, replay};
 use std::alloc::{AllocError, Global};
 use std::test::Fail;
 
@@ -45,6 +45,35 @@ fn refs(alloc: Global, root: usize, count: usize) -> Result<Step, AllocError> {
     Ok(Step::Refs(steps))
 }
 
+// A table of at most four fields: numbers, and a reference to one value. The slots are `apart` from
+// each other, and the fields are declared from the greatest slot on.
+fn table(alloc: Global, root: usize, count: usize, apart: u16) -> Result<Step, AllocError> {
+    let mut fields = Vec::new(alloc);
+    let values = [
+        FieldValue::Number {
+            width: 8,
+            value: 1 << 63,
+        },
+        FieldValue::Ref(root),
+        FieldValue::Number {
+            width: 2,
+            value: 513,
+        },
+        FieldValue::Number {
+            width: 1,
+            value: 255,
+        },
+    ];
+    let mut slot: u16 = 200;
+    for value in values {
+        if fields.len() < count {
+            fields.push(Field { slot, value })?;
+        }
+        slot = slot.wrapping_sub(apart);
+    }
+    Ok(Step::Table(fields))
+}
+
 // A byte list of `count` bytes.
 fn bytes(alloc: Global, count: usize) -> Result<Step, AllocError> {
     let mut bytes = Vec::new(alloc);
@@ -60,7 +89,7 @@ fn one_of(numbers: &[usize], draw: usize) -> Option<usize> {
     numbers.get(index).copied()
 }
 
-// Texts and lists of mixed lengths, finishes with and without an identifier, and a clear now and
+// Texts, lists and tables of mixed lengths, finishes with and without an identifier, and a clear now and
 // then.
 fn mixed_steps(alloc: Global, count: usize) -> Result<Vec<Step>, Fail> {
     let mut numbers = Numbers { last: 1 };
@@ -99,6 +128,12 @@ fn mixed_steps(alloc: Global, count: usize) -> Result<Vec<Step>, Fail> {
             (23..=25, Some(root)) => {
                 values.push(number)?;
                 steps.push(refs(alloc, root, numbers.draw() % 20)?)?;
+            }
+            (26..=28, Some(root)) => {
+                let shape = numbers.draw();
+                let apart = (shape / 5 % 60) as u16 + 1;
+                values.push(number)?;
+                steps.push(table(alloc, root, shape % 5, apart)?)?;
             }
             _ => {
                 values.push(number)?;

@@ -1,0 +1,201 @@
+-- The body of a table, field by field.
+use Rattle.std.proofs.Common.{◌≡◌, ℕ, ◌+◌, ◌-◌, ◌≤◌, List, [], ◌∷◌, ◌++◌, length, map, take, drop, refl, sym}
+use Rattle.std.proofs.Common.{ap, ◌∙◌, subst, arith, Option, Some, None, append_assoc, append-nil}
+use Rattle.std.proofs.Common.{length-append, drop-drop}
+use Rattle.std.specs.Option.{option_or}
+use Rattle.std.proofs.lemmas.List.{length-drop, map-append}
+use Rattle.std.proofs.Math.Seq.{take-append_seam, drop-append-add}
+use Rattle.planus_read.specs.Values.{Field}
+use Rattle.planus_write.specs.Tables.{field_item, field_size, body_size, body_bytes}
+use Rattle.planus_write.specs.Parts.{Named}
+use Rattle.planus_write.proofs.TableBytes.{body_length}
+use Rattle.planus_write.specs.declared.object_writer.ObjectWriter.{ObjectWriter}
+use Rattle.planus.specs.Steps.{FieldStep, content_of, bare_field}
+use Rattle.planus.specs.declared.steps.Field as code
+use Rattle.planus.specs.Slots.{slot_fault, rising_fault, place_fault, alignment_of, greatest_field}
+use Rattle.planus.specs.Runs.{Listed, named_at, field_of, with_field, fields_of}
+use Rattle.planus.specs.TableChecks.{content_fault, field_fault, fields_fault, table_fault}
+use Rattle.planus.specs.Replaying.{distance_of, distance_at, distance_fault, named, listed_from}
+use Rattle.planus.specs.declared.faults.Why.{Why}
+use Rattle.planus.specs.Prepared.{field_reach, fault_since}
+use Rattle.planus.specs.Filling.{listed_since, fields_or_none, fields_in, fields_reach}
+use Rattle.planus.specs.declared.table_body.TableBody.{TableBody}
+use Rattle.planus.proofs.FieldFaults.{none_of}
+use Rattle.planus.proofs.Found.{around}
+use Rattle.planus.proofs.Stepping.{named_value}
+use Rattle.planus.proofs.TableFields.{fields_made, fields_are}
+
+-- Fields of a table, with one of them.
+pub record Apart (listed : List Listed) (slots : List ℕ) (before : ℕ) (xs : List (ℕ × FieldStep)) (x : ℕ × FieldStep) (all : List (ℕ × Field)) : Type 0 where
+  pub front : List (ℕ × Field)
+  pub field : Field
+  pub back : List (ℕ × Field)
+  pub are : fields_of listed slots before xs ≡ Some front
+  pub is : field_of listed x.1 ≡ Some field
+  pub next : fields_of listed slots before (xs ++ x ∷ []) ≡ Some (front ++ (x.0, field) ∷ [])
+  pub whole : all ≡ front ++ (x.0, field) ∷ back
+
+with_made : (slot : ℕ) (fault : Option Why) (field : Option Field) (rest : Option (List (ℕ × Field))) (here : Field) (more : List (ℕ × Field)) → fault ≡ None → field ≡ Some here → rest ≡ Some more
+    → with_field slot fault field rest ≡ Some ((slot, here) ∷ more)
+with_made slot fault field rest here more none is are = rw (none, is, are) refl
+
+pub taken_apart : (listed : List Listed) (slots : List ℕ) (before : ℕ) (xs : List (ℕ × FieldStep)) (x : ℕ × FieldStep) (rest : List (ℕ × FieldStep)) (all : List (ℕ × Field))
+    → fields_of listed slots before (xs ++ x ∷ rest) ≡ Some all → Apart listed slots before xs x all
+taken_apart listed slots before [] x rest all e =
+    let made = fields_made x.0 (place_fault slots before x) (field_of listed x.1) (fields_of listed (slots ++ x.0 ∷ []) (alignment_of x.1) rest) all e in
+    record {
+      front = [];
+      field = made.1;
+      back = made.3;
+      are = refl;
+      is = made.2;
+      next = with_made x.0 (place_fault slots before x) (field_of listed x.1) (Some []) made.1 [] made.0 made.2 refl;
+      whole = sym made.5;
+    }
+taken_apart listed slots before (entry ∷ xs) x rest all e =
+    let made = fields_made entry.0 (place_fault slots before entry) (field_of listed entry.1) (fields_of listed (slots ++ entry.0 ∷ []) (alignment_of entry.1) (xs ++ x ∷ rest)) all e in
+    let further = taken_apart listed (slots ++ entry.0 ∷ []) (alignment_of entry.1) xs x rest made.3 made.4 in
+    record {
+      front = (entry.0, made.1) ∷ further.front;
+      field = further.field;
+      back = further.back;
+      are = with_made entry.0 (place_fault slots before entry) (field_of listed entry.1) (fields_of listed (slots ++ entry.0 ∷ []) (alignment_of entry.1) xs) made.1 further.front made.0 made.2 further.are;
+      is = further.is;
+      next = with_made entry.0 (place_fault slots before entry) (field_of listed entry.1) (fields_of listed (slots ++ entry.0 ∷ []) (alignment_of entry.1) (xs ++ x ∷ [])) made.1
+          (further.front ++ (x.0, further.field) ∷ []) made.0 made.2 further.next;
+      whole = sym made.5 ∙ ap (λ (more : List (ℕ × Field)). (entry.0, made.1) ∷ more) further.whole;
+    }
+
+-- the body of some fields, one more, and others
+pub size_around : (front : List (ℕ × Field)) (x : ℕ × Field) (back : List (ℕ × Field)) → body_size (front ++ x ∷ back) ≡ body_size front + (field_size x.1 + body_size back)
+size_around [] x back = omega arith
+size_around (first ∷ front) x back = let rest = size_around front x back in omega (arith, rest)
+
+pub bytes_push : (place : ℕ) (front : List (ℕ × Field)) (x : ℕ × Field) → body_bytes place (front ++ x ∷ []) ≡ body_bytes place front ++ field_item x.1 (place - body_size front)
+bytes_push place [] x = append-nil (field_item x.1 place) ∙ ap (field_item x.1) (let all : place ≡ place - 0 = omega arith in all)
+bytes_push place (first ∷ front) x =
+    let behind : place - field_size first.1 - body_size front ≡ place - (field_size first.1 + body_size front) = omega arith in
+    ap (λ bytes. field_item first.1 place ++ bytes) (bytes_push (place - field_size first.1) front x ∙ ap (λ p. body_bytes (place - field_size first.1) front ++ field_item x.1 p) behind)
+    ∙ sym (append_assoc (field_item first.1 place) (body_bytes (place - field_size first.1) front) (field_item x.1 (place - (field_size first.1 + body_size front))))
+
+pub reach_inside : (front : List (ℕ × Field)) (x : ℕ × Field) (back : List (ℕ × Field)) → field_reach x.1 ≤ fields_reach (front ++ x ∷ back)
+reach_inside [] x back = omega arith
+reach_inside (first ∷ front) x back = let rest = reach_inside front x back in omega (arith, rest)
+
+-- what may be named is listed
+named_good : (first : ℕ) (since : List (Option ℕ)) (step : ℕ) → fault_since first since step ≡ None → (of : Named) × (named_at (listed_from first since) step ≡ Some of)
+named_good first since step none = by_case (distance_at first since step) refl none
+  where
+    by_case : (found : Option (Option ℕ)) → distance_at first since step ≡ found → distance_fault found ≡ None → (of : Named) × (named_at (listed_from first since) step ≡ Some of)
+    by_case None is e = (cc)
+    by_case (Some None) is e = (cc)
+    by_case (Some (Some distance)) is e = (named distance, named_value first since step distance is)
+
+-- nothing is wrong with what one of the fields holds, where there is no fault
+content_apart : (fault : ℕ → Option Why) (slots : List ℕ) (before : ℕ) (xs : List (ℕ × FieldStep)) (x : ℕ × FieldStep) (rest : List (ℕ × FieldStep))
+    → fields_fault fault slots before (xs ++ x ∷ rest) ≡ None → content_fault fault x.1 ≡ None
+content_apart fault slots before [] x rest e =
+    let both = none_of (field_fault fault slots before x) (fields_fault fault (slots ++ x.0 ∷ []) (alignment_of x.1) rest) e in
+    let slot = none_of (slot_fault slots x.0) (option_or (content_fault fault x.1) (rising_fault before (alignment_of x.1))) both.0 in
+    (none_of (content_fault fault x.1) (rising_fault before (alignment_of x.1)) slot.1).0
+content_apart fault slots before (entry ∷ xs) x rest e =
+    content_apart fault (slots ++ entry.0 ∷ []) (alignment_of entry.1) xs x rest
+    (none_of (field_fault fault slots before entry) (fields_fault fault (slots ++ entry.0 ∷ []) (alignment_of entry.1) (xs ++ x ∷ rest)) e).1
+
+-- The first fields of a table are written, and nothing behind them.
+pub record Filled (body : TableBody) (index : ℕ) (old new : ObjectWriter) : Type 0 where
+  pub front : List (ℕ × Field)
+  pub are : fields_of (listed_since body) [] greatest_field (map bare_field (take index body.fields.now)) ≡ Some front
+  pub same_reference : new.bytes.ghost_name ≡ old.bytes.ghost_name
+  pub place : new.place ≡ old.place
+  pub at : new.at ≡ body_size front
+  pub bytes : new.bytes.now ≡ body_bytes old.place front ++ drop (body_size front) old.bytes.now
+
+-- the fields of a table without a fault
+pub fields_are_in : (body : TableBody) → fields_of (listed_since body) [] greatest_field (map bare_field body.fields.now) ≡ Some (fields_in body)
+fields_are_in body =
+    let made = fields_are (listed_since body) (fault_since body.earlier.first (map distance_of body.earlier.offsets.now)) (named_good body.earlier.first (map distance_of body.earlier.offsets.now)) [] greatest_field
+    (map bare_field body.fields.now) body.good in
+    made.1 ∙ ap (λ (all : List (ℕ × Field)). Some all) (sym (ap fields_or_none made.1))
+
+-- the bytes behind what is written, and one field over them
+seam : (front old item : List ℕ) (n s : ℕ) → length front ≡ n → take n (front ++ drop n old) ++ item ++ drop (n + s) (front ++ drop n old) ≡ front ++ item ++ drop (n + s) old
+seam front old item n s long =
+    let first : take n (front ++ drop n old) ≡ front = subst (λ m. take m (front ++ drop n old) ≡ front) long (take-append_seam front (drop n old)) in
+    let rest : drop (n + s) (front ++ drop n old) ≡ drop (n + s) old
+    = ap (λ m. drop (m + s) (front ++ drop n old)) (sym long) ∙ drop-append-add front (drop n old) s ∙ drop-drop s n old in
+    ap (λ bytes. bytes ++ item ++ drop (n + s) (front ++ drop n old)) first ∙ ap (λ bytes. front ++ item ++ bytes) rest
+
+no_fault : (why : Why) → None ≡ Some why → ⊥
+no_fault why e = (cc)
+
+module _ (body : TableBody) (i : ℕ) (x : code.Field) (step : take (i + 1) body.fields.now ≡ take i body.fields.now ++ x ∷ []) (old new : ObjectWriter) (filled : Filled body i old new) where
+  abbrev behind : List (ℕ × FieldStep)
+  behind = map bare_field (drop (i + 1) body.fields.now)
+
+  parts : map bare_field (take i body.fields.now) ++ bare_field x ∷ behind ≡ map bare_field body.fields.now
+  parts = sym (map-append bare_field (take i body.fields.now) (x ∷ drop (i + 1) body.fields.now)) ∙ ap (map bare_field) (around body.fields.now i x step)
+
+  -- nothing is wrong with the field
+  content_good : content_fault (fault_since body.earlier.first (map distance_of body.earlier.offsets.now)) (content_of x.value) ≡ None
+  content_good =
+      content_apart (fault_since body.earlier.first (map distance_of body.earlier.offsets.now)) [] greatest_field (map bare_field (take i body.fields.now)) (bare_field x) behind
+      (ap (table_fault (fault_since body.earlier.first (map distance_of body.earlier.offsets.now))) parts ∙ body.good)
+
+  pub not_bad : (why : Why) → content_fault (fault_since body.earlier.first (map distance_of body.earlier.offsets.now)) (content_of x.value) ≡ Some why → ⊥
+  not_bad why bad = no_fault why (sym content_good ∙ bad)
+
+  apart : Apart (listed_since body) [] greatest_field (map bare_field (take i body.fields.now)) (bare_field x) (fields_in body)
+  apart = taken_apart (listed_since body) [] greatest_field (map bare_field (take i body.fields.now)) (bare_field x) behind (fields_in body)
+      (ap (fields_of (listed_since body) [] greatest_field) parts ∙ fields_are_in body)
+
+  front_is : apart.front ≡ filled.front
+  front_is = let both : Some apart.front ≡ Some filled.front = sym apart.are ∙ filled.are in cc
+
+  module _ (field : Field) (is : field_of (listed_since body) (content_of x.value) ≡ Some field) where
+    field_is_it : apart.field ≡ field
+    field_is_it = let both : Some apart.field ≡ Some field = sym apart.is ∙ is in cc
+
+    whole : fields_in body ≡ filled.front ++ (x.slot, field) ∷ apart.back
+    whole = apart.whole ∙ ap (λ (f : List (ℕ × Field)). f ++ (x.slot, apart.field) ∷ apart.back) front_is ∙ ap (λ (f : Field). filled.front ++ (x.slot, f) ∷ apart.back) field_is_it
+
+    size_is : body_size (fields_in body) ≡ body_size filled.front + (field_size field + body_size apart.back)
+    size_is = ap body_size whole ∙ size_around filled.front (x.slot, field) apart.back
+
+    -- there is room for it, and it may be written where it comes
+    pub room : length old.bytes.now ≡ body_size (fields_in body) → new.at + field_size field ≤ length new.bytes.now
+    room size =
+        let at = filled.at in
+        let all = size_is in
+        let written = body_length filled.front old.place in
+        let rest = length-drop (body_size filled.front) old.bytes.now in
+        let bytes = ap length filled.bytes ∙ length-append (body_bytes old.place filled.front) (drop (body_size filled.front) old.bytes.now) in
+        omega (arith, at, all, size, written, rest, bytes)
+
+    pub reach : fields_reach (fields_in body) + body_size (fields_in body) ≤ old.place → new.at + field_reach field ≤ new.place
+    reach le =
+        let far : field_reach field ≤ fields_reach (fields_in body)
+        = subst (λ fields. field_reach field ≤ fields_reach fields) (sym whole) (reach_inside filled.front (x.slot, field) apart.back) in
+        let at = filled.at in let place = filled.place in let all = size_is in omega (arith, le, far, at, place, all)
+
+    -- and then one field more is written
+    pub filled_on : (after : ObjectWriter) → after.bytes.ghost_name ≡ new.bytes.ghost_name → after.at ≡ new.at + field_size field → after.place ≡ new.place
+        → after.bytes.now ≡ take new.at new.bytes.now ++ field_item field (new.place - new.at) ++ drop (new.at + field_size field) new.bytes.now → Filled body (i + 1) old after
+    filled_on after same_reference at place bytes =
+        let size : body_size (filled.front ++ (x.slot, field) ∷ []) ≡ body_size filled.front + field_size field = (let e = size_around filled.front (x.slot, field) [] in omega (arith, e)) in
+        record {
+          front = filled.front ++ (x.slot, field) ∷ [];
+          are = ap (λ (fields : List code.Field). fields_of (listed_since body) [] greatest_field (map bare_field fields)) step
+              ∙ ap (fields_of (listed_since body) [] greatest_field) (map-append bare_field (take i body.fields.now) (x ∷ [])) ∙ apart.next
+              ∙ ap (λ (f : List (ℕ × Field)). Some (f ++ (x.slot, apart.field) ∷ [])) front_is ∙ ap (λ (f : Field). Some (filled.front ++ (x.slot, f) ∷ [])) field_is_it;
+          same_reference = same_reference ∙ filled.same_reference;
+          place = place ∙ filled.place;
+          at = at ∙ ap (λ n. n + field_size field) filled.at ∙ sym size;
+          bytes = bytes
+              ∙ ap (λ n. take n new.bytes.now ++ field_item field (new.place - n) ++ drop (n + field_size field) new.bytes.now) filled.at
+              ∙ ap (λ p. take (body_size filled.front) new.bytes.now ++ field_item field (p - body_size filled.front) ++ drop (body_size filled.front + field_size field) new.bytes.now) filled.place
+              ∙ ap (λ bs. take (body_size filled.front) bs ++ field_item field (old.place - body_size filled.front) ++ drop (body_size filled.front + field_size field) bs) filled.bytes
+              ∙ seam (body_bytes old.place filled.front) old.bytes.now (field_item field (old.place - body_size filled.front)) (body_size filled.front) (field_size field) (body_length filled.front old.place)
+              ∙ ap (λ bs. bs ++ drop (body_size filled.front + field_size field) old.bytes.now) (sym (bytes_push old.place filled.front (x.slot, field)))
+              ∙ ap (λ n. body_bytes old.place (filled.front ++ (x.slot, field) ∷ []) ++ drop n old.bytes.now) (sym size);
+        }

@@ -1,0 +1,5 @@
+use Rattle.planus.proofs.Filling.{Filled}
+use Rattle.planus.proofs.table_body.TableBodyObjectFill.fill.Given as goal
+
+abbrev pub invariant-loop-field : goal.invariant-loop-field
+invariant-loop-field l = Filled l.self l.field-index l.fn.writer l.writer

@@ -1,0 +1,99 @@
+//! A field of a table on its way into the buffer.
+ghost use Rattle.std.specs.Prelude.{◌≡◌, ◌+◌, ◌-◌, ◌≤◌, ◌++◌, List, [], ◌∷◌, length, take, drop};
+ghost use Rattle.planus_read.specs.Aligned.{field_alignment};
+ghost use Rattle.planus_read.specs.Bytes.{BytesStand};
+ghost use Rattle.planus_write.specs.Tables.{Declared, field_item, field_size};
+ghost use Rattle.planus_write.specs.TableWriting.{WasTold, entered, slot_position};
+ghost use Rattle.planus.specs.Runs.{field_width};
+ghost use Rattle.planus.specs.Prepared.{field_is, field_reach, PreparesNumber};
+
+use crate::faults::Why;
+use planus_write::{ObjectWriter, Offset, TableWriter};
+
+/// The bytes of a vtable with 256 slots.
+pub(crate) const VTABLE_SIZE: usize = 516;
+
+/// A field of a table, ready to be declared and written.
+#[derive(Drop)]
+pub(crate) enum PreparedField {
+    U8(u8),
+    U16(u16),
+    U32(u32),
+    U64(u64),
+    Reference(Offset<()>),
+}
+
+impl PreparedField {
+    /// A number of `width` bytes.
+    pub(crate) fn number(width: u8, value: u64) -> std::result::Result<PreparedField, Why>
+        ensures { PreparesNumber (field_width width) value result }
+    {
+        let number = match width {
+            1 => u8::try_from(value).ok().map(PreparedField::U8),
+            2 => u16::try_from(value).ok().map(PreparedField::U16),
+            4 => u32::try_from(value).ok().map(PreparedField::U32),
+            8 => Some(PreparedField::U64(value)),
+            _ => return Err(Why::WidthUnknown),
+        };
+        number.ok_or(Why::ValueTooBig)
+    }
+
+    /// Its alignment in bytes.
+    pub(crate) fn alignment(&self) -> usize
+        ensures { result ≡ field_alignment (field_is self.now) }
+    {
+        match self {
+            PreparedField::U8(_) => 1,
+            PreparedField::U16(_) => 2,
+            PreparedField::U32(_) | PreparedField::Reference(_) => 4,
+            PreparedField::U64(_) => 8,
+        }
+    }
+
+    /// Declares it for a slot.
+    pub(crate) fn declare(&self, writer: &mut TableWriter<VTABLE_SIZE>, slot: usize)
+        requires small { slot ≤ 255 }
+        requires unused { BytesStand writer.old.vtable (slot_position slot) (0 ∷ 0 ∷ []) }
+        requires fits { writer.old.object_size + field_size (field_is self.now) ≤ 65535 }
+        ensures entered { writer.new ≡ entered (record {
+          slot = slot;
+          size = field_size (field_is self.now);
+          alignment = field_alignment (field_is self.now);
+        }) writer.old }
+        ensures told { (declared : List Declared) → WasTold writer.old declared
+            → WasTold writer.new (declared ++ record {
+              slot = slot;
+              size = field_size (field_is self.now);
+              alignment = field_alignment (field_is self.now);
+            } ∷ []) }
+    {
+        match self {
+            PreparedField::U8(_) => writer.write_entry::<u8>(slot),
+            PreparedField::U16(_) => writer.write_entry::<u16>(slot),
+            PreparedField::U32(_) => writer.write_entry::<u32>(slot),
+            PreparedField::U64(_) => writer.write_entry::<u64>(slot),
+            PreparedField::Reference(_) => writer.write_entry::<Offset<()>>(slot),
+        }
+    }
+
+    /// Writes it behind what is written.
+    pub(crate) fn write(&self, writer: &mut ObjectWriter<'_>)
+        requires room { writer.old.at + field_size (field_is self.now)
+            ≤ length writer.old.bytes.now }
+        requires reach { writer.old.at + field_reach (field_is self.now) ≤ writer.old.place }
+        ensures same_reference { writer.new.bytes.ghost_name ≡ writer.old.bytes.ghost_name }
+        ensures at { writer.new.at ≡ writer.old.at + field_size (field_is self.now) }
+        ensures place { writer.new.place ≡ writer.old.place }
+        ensures bytes { writer.new.bytes.now ≡ take writer.old.at writer.old.bytes.now
+            ++ field_item (field_is self.now) (writer.old.place - writer.old.at)
+            ++ drop (writer.old.at + field_size (field_is self.now)) writer.old.bytes.now }
+    {
+        match self {
+            PreparedField::U8(number) => writer.write::<u8, u8>(number),
+            PreparedField::U16(number) => writer.write::<u16, u16>(number),
+            PreparedField::U32(number) => writer.write::<u32, u32>(number),
+            PreparedField::U64(number) => writer.write::<u64, u64>(number),
+            PreparedField::Reference(offset) => writer.write::<Offset<()>, Offset<()>>(offset),
+        }
+    }
+}

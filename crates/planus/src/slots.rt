@@ -1,0 +1,28 @@
+//! The slots of a table of a step.
+ghost use Rattle.std.specs.Prelude.{◌≡◌, ◌==◌, map};
+ghost use Rattle.std.specs.List.{list_any};
+ghost use Rattle.planus.specs.Steps.{bare_field};
+ghost use Rattle.planus.specs.Declaring.{slots_of, ChecksSlot};
+
+use crate::faults::Why;
+use crate::steps::Field;
+
+/// Whether one of the fields has the slot.
+fn is_used(fields: &[Field], slot: u16) -> bool
+    ensures { result ≡ list_any (λ field. field.slot == slot) fields.now }
+{
+    fields.iter().any(|field| field.slot == slot)
+}
+
+/// What is wrong with the slot of a field behind these.
+pub(crate) fn check_slot(fields: &[Field], slot: u16) -> std::result::Result<(), Why>
+    ensures { ChecksSlot (slots_of (map bare_field fields.now)) slot result }
+{
+    if slot > 255 {
+        Err(Why::SlotTooBig)
+    } else if is_used(fields, slot) {
+        Err(Why::SlotTwice)
+    } else {
+        Ok(())
+    }
+}
