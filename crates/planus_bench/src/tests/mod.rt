@@ -6,6 +6,7 @@ mod parts;
 mod plain_reader;
 mod plain_run;
 mod runs;
+mod tables;
 
 use plain_reader::{FAR_SLOTS, SLOTS, fields_agree, numbers_agree};
 

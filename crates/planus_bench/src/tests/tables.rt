@@ -1,0 +1,105 @@
+//! Tables with a field of each type, written and read back.
+ghost use Rattle.std.specs.Prelude.{◌≤◌, length};
+
+use planus::table_reader::Table;
+use planus::{
+    Builder, ByteList, ObjectFill, ObjectWriter, Offset, Primitive, SignedBytes, SignedList,
+    SliceWithStartOffset, TableRead, TableWriter, Vector, WriteAsPrimitive,
+};
+use std::marker::PhantomData;
+use std::test::Fail;
+
+// One field.
+#[derive(Drop)]
+struct One<P: Primitive, T: WriteAsPrimitive<P>> {
+    field: T,
+    of: PhantomData<P>,
+}
+
+impl<P: Primitive, T: WriteAsPrimitive<P>> ObjectFill for One<P, T> {
+    ghost size = { λ one. P.SIZE };
+
+    ghost reach = { λ one. T.reach one.field };
+
+    ghost leaves = { λ one place. T.leaves one.field place };
+
+    fn fill(&self, writer: &mut ObjectWriter<'_>) {
+        writer.write::<P, T>(&self.field);
+    }
+}
+
+// Finishes a table with one field in slot 1.
+fn finished<P: Primitive, T: WriteAsPrimitive<P> + Drop>(
+    builder: &mut Builder,
+    field: T,
+) -> Result<&[u8], Fail>
+    requires small { P.SIZE ≤ 8 }
+    requires reach { T.reach field ≤ length builder.old.bytes }
+{
+    let mut writer: TableWriter<8> = TableWriter::default();
+    writer.write_entry::<P>(1);
+    let of = PhantomData;
+    writer.finish(builder, &One { field, of })?;
+    let root = builder.current_offset::<()>();
+    Ok(builder.finish(root, None)?)
+}
+
+// The field in slot 1 of the root, where slots 0 and 2 hold none.
+fn read<'a, T: TableRead<'a>>(bytes: &'a [u8]) -> Result<T, Fail> {
+    let whole = SliceWithStartOffset::new(bytes, 0);
+    let table = Table::from_buffer(whole, 0)?;
+    if table.access::<u8>(0, "Table", "before")?.is_some() {
+        return Err(Fail::new("a field in slot 0"));
+    }
+    if table.access::<u8>(2, "Table", "behind")?.is_some() {
+        return Err(Fail::new("a field in slot 2"));
+    }
+    Ok(table.access_required::<T>(1, "Table", "field")?)
+}
+
+#[test]
+fn numbers_and_truth_values(rt: HostRuntime) -> Result<(), Fail> {
+    let mut builder = Builder::new(rt.alloc())?;
+    assert_eq!(rt; read::<u8>(finished::<u8, u8>(&mut builder, 255)?)?, 255);
+    assert_eq!(rt; read::<u16>(finished::<u16, u16>(&mut builder, 513)?)?, 513);
+    assert_eq!(rt;
+        read::<u32>(finished::<u32, u32>(&mut builder, u32::MAX)?)?,
+        u32::MAX
+    );
+    assert_eq!(rt;
+        read::<u64>(finished::<u64, u64>(&mut builder, 1 << 63)?)?,
+        1 << 63
+    );
+    assert_eq!(rt; read::<i8>(finished::<i8, i8>(&mut builder, -1)?)?, -1);
+    assert_eq!(rt; read::<i16>(finished::<i16, i16>(&mut builder, -2)?)?, -2);
+    assert_eq!(rt;
+        read::<i32>(finished::<i32, i32>(&mut builder, i32::MIN)?)?,
+        i32::MIN
+    );
+    assert_eq!(rt; read::<i64>(finished::<i64, i64>(&mut builder, -3)?)?, -3);
+    assert_eq!(rt;
+        read::<bool>(finished::<bool, bool>(&mut builder, true)?)?,
+        true
+    );
+    Ok(())
+}
+
+#[test]
+fn references(rt: HostRuntime) -> Result<(), Fail> {
+    let mut builder = Builder::new(rt.alloc())?;
+    let text = builder.create_string("Axe")?;
+    assert_eq!(rt;
+        read::<&str>(finished::<Offset<_>, _>(&mut builder, text)?)?,
+        "Axe"
+    );
+    let bytes = builder.create_vector(ByteList(b"\x01\x02"))?;
+    let read_back = read::<&[u8]>(finished::<Offset<_>, _>(&mut builder, bytes)?)?;
+    assert_eq!(rt; read_back, b"\x01\x02".as_slice());
+    let signed = builder.create_vector(SignedList(&[-1, 2]))?;
+    let read_back = read::<SignedBytes>(finished::<Offset<_>, _>(&mut builder, signed)?)?;
+    assert_eq!(rt; (read_back.get(0), read_back.get(1)), (Some(-1), Some(2)));
+    let list = builder.create_vector([7u16, 8])?;
+    let read_back = read::<Vector<u16>>(finished::<Offset<_>, _>(&mut builder, list)?)?;
+    assert_eq!(rt; (read_back.get(0), read_back.get(1)), (Some(7), Some(8)));
+    Ok(())
+}
