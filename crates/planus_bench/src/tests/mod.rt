@@ -1,5 +1,4 @@
 mod alignments;
-mod exhaust;
 mod no_memory;
 mod padding;
 mod parts;

@@ -1,6 +1,5 @@
 //! Readers, a builder and a replay while memory is refused.
 
-use super::exhaust::exhaust;
 use super::plain_reader::{Pair, same_kind};
 use super::{UNIONS, WEAPON};
 use planus::errors::{ErrorKind, UnknownEnumTagKind};
@@ -10,6 +9,7 @@ use planus::{
     Stride, TableRead, TableReadUnion, TaggedPlace, VectorName, VectorRead, VectorReadInner,
     VectorReadUnion, replay,
 };
+use planus_exhaust::exhaust;
 use planus_read::located;
 use std::test::Fail;
 

@@ -1,11 +1,14 @@
-//! All memory taken.
+//! Takes all memory, for tests with refused memory.
+#![tactic(auto)]
 
 use std::alloc::Global;
 
-// Takes blocks until not even one byte is to be had. That rests on Linux, where a program has 47
-// bits of addresses, and on the C library's malloc, which refuses when they are used up. Answers
-// whether it went so: a sanitizer's malloc keeps small blocks back, and then a test with refused
-// memory says nothing.
+/// Takes blocks until not even one byte is to be had, and holds them in `held`, which needs room
+/// for them: 262144 is enough.
+///
+/// That rests on Linux, where a program has 47 bits of addresses, and on the C library's malloc,
+/// which refuses when they are used up. Returns whether it went so: a sanitizer's malloc keeps
+/// small blocks back, and then a test with refused memory says nothing.
 pub fn exhaust(alloc: Global, held: &mut Vec<Vec<u8>>) -> bool {
     let mut size: usize = 1 << 40;
     for _ in 0..41 {
