@@ -1,20 +1,13 @@
--- Numbers and bytes that were read, in front of those that are left.
+-- Items and bytes that were read, in front of those that are left.
 use Rattle.std.proofs.Common.{◌≡◌, ℕ, ◌-◌, ◌≤◌, length, take, drop, get_or, arith, List, [], ◌∷◌, ◌++◌, refl, sym, ap, ◌∙◌, append_assoc, Result, Ok, Err, Option, Some, None}
 use Rattle.std.specs.Option.{option_map}
 use Rattle.std.proofs.Math.Seq.{take-length}
-use Rattle.planus_demo.specs.Script.{onto_numbers, byte_of, onto_bytes, hex_bytes}
+use Rattle.planus_demo.specs.Script.{byte_of, onto_bytes, hex_bytes}
 use Rattle.planus_demo.specs.declared.script.ReadFault.{ReadFault}
 
-abbrev pub numbers_before : List ℕ → Result (List ℕ) ReadFault → Result (List ℕ) ReadFault
-numbers_before items (Ok more) = Ok (items ++ more)
-numbers_before items (Err fault) = Err fault
-
-pub number_read : (items : List ℕ) (number : ℕ) (first more : Result (List ℕ) ReadFault) → first ≡ onto_numbers (Ok number) more → numbers_before items first ≡ numbers_before (items ++ number ∷ []) more
-number_read items number first (Ok more) e = ap (numbers_before items) e ∙ ap (λ (all : List ℕ). Ok all) (sym (append_assoc items (number ∷ []) more))
-number_read items number first (Err fault) e = ap (numbers_before items) e
-
-pub number_refused : (items : List ℕ) (fault : ReadFault) (first more : Result (List ℕ) ReadFault) → first ≡ onto_numbers (Err fault) more → numbers_before items first ≡ Err fault
-number_refused items fault first more e = ap (numbers_before items) e
+abbrev pub items_before : {A : Type 0} → List A → Result (List A) ReadFault → Result (List A) ReadFault
+items_before items (Ok more) = Ok (items ++ more)
+items_before items (Err fault) = Err fault
 
 abbrev pub bytes_before : List ℕ → Option (List ℕ) → Option (List ℕ)
 bytes_before items more = option_map (λ bytes. items ++ bytes) more

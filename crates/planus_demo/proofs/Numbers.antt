@@ -2,7 +2,7 @@
 use Rattle.std.proofs.Common.{◌≡◌, ℕ, List, Bool, true, false, ◌&&◌, rules, length, ◌≤◌, ◌<◌, ◌^◌, refl, arith, sym, Err}
 use Rattle.std.specs.Prelude.{nat_le, nat_lt}
 use Rattle.std.proofs.lemmas.Bool.Decides.{nat_tests}
-use Rattle.planus_demo.specs.Script.{is_number, number_of}
+use Rattle.planus_demo.specs.Words.{is_number, number_of}
 use Rattle.planus_demo.specs.declared.script.ReadFault.TheVariants.{BadNumber}
 use Rattle.std.specs.List.{list_all}
 use Rattle.std.specs.Char.{is_ascii_digit}

@@ -6,7 +6,8 @@ use Rattle.std.proofs.lemmas.List.Splits.{length-slice_split, slice_split_none, 
 use Rattle.std.proofs.lemmas.List.Sums.{fails_before_first}
 use Rattle.std.specs.Str.{is_utf8, IsUtf8}
 use Rattle.std.proofs.lemmas.Str.{IsUtf8-from_is_utf8, is_utf8-from_IsUtf8}
-use Rattle.planus_demo.specs.Script.{bytes_of, finish_of, words_of, command_of, command_of_words, clear_of}
+use Rattle.planus_demo.specs.Words.{words_of}
+use Rattle.planus_demo.specs.Script.{bytes_of, finish_of, command_of, command_of_words, clear_of}
 use Rattle.planus_demo.specs.declared.script.ReadFault.TheVariants.{NotUtf8, UnknownCommand, BadHex}
 
 -- what the words of a line come to

@@ -1,3 +1,5 @@
+pub mod Words
+pub mod Fields
 pub mod Script
 pub mod Steps
 pub mod Texts

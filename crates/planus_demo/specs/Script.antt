@@ -1,39 +1,27 @@
 -- The script: what the bytes of an input say, line by line.
-use Rattle.std.specs.Prelude.{ℕ, ◌+◌, ◌*◌, ◌^◌, ◌==◌, ◌&&◌, nat_le, nat_lt, Bool, true, List, [], ◌∷◌}
+use Rattle.std.specs.Prelude.{ℕ, ◌+◌, ◌*◌, ◌==◌, ◌&&◌, Bool, true, List, [], ◌∷◌, map}
 use Rattle.std.specs.Prelude.{length, Option, Some, None, Result, Ok, Err, if◌then◌else◌, codes}
 use Rattle.std.specs.List.{slice_split, after_first, list_all}
-use Rattle.std.specs.Char.{is_ascii_digit, is_digit, digit_value}
+use Rattle.std.specs.Char.{is_digit, digit_value}
 use Rattle.std.specs.Option.{option_map}
 use Rattle.std.specs.Int.{is_in_range}
 use Rattle.std.specs.Str.{is_utf8, bytes_eq}
-use Rattle.std.specs.Str.Parse.{digits_value}
-use Rattle.planus.specs.Steps.{Step, text, bytes, numbers, refs, finish, clear}
+use Rattle.planus.specs.Steps.{Step, text, bytes, numbers, refs, table, finish, clear, bare_field}
+use Rattle.planus.specs.declared.steps.Field.{Field}
+use Rattle.planus_demo.specs.Words.{words_of, number_of, numbers_of}
+use Rattle.planus_demo.specs.Fields.{fields_of}
 use Rattle.planus_demo.specs.declared.script.ReadFault.{ReadFault}
 use Rattle.planus_demo.specs.declared.script.ReadFault.TheVariants.{NotUtf8, UnknownCommand}
-use Rattle.planus_demo.specs.declared.script.ReadFault.TheVariants.{BadNumber, BadHex, BadIdentifier}
+use Rattle.planus_demo.specs.declared.script.ReadFault.TheVariants.{BadHex, BadIdentifier}
 
 -- the lines of an input, which line feeds separate
 abbrev pub lines_of : List ℕ → List (List ℕ)
 lines_of input = slice_split (λ b. b == 10) input
 
--- the words of a line, which single spaces separate
-abbrev pub words_of : List ℕ → List (List ℕ)
-words_of line = slice_split (λ b. b == 32) line
-
 -- empty lines and comments are no steps
 abbrev pub is_skipped : List ℕ → Bool
 is_skipped [] = true
 is_skipped (b ∷ bs) = b == 35
-
--- a number is one to twenty decimal digits, of at most 18446744073709551615
-abbrev pub is_number : List ℕ → Bool
-is_number word = nat_le 1 (length word) &&
-    (nat_le (length word) 20 && (list_all is_ascii_digit word && nat_lt (digits_value 10 word)
-    (2 ^ 64)))
-
--- the number that a word is, or the fault that it is none
-abbrev pub number_of : List ℕ → Result ℕ ReadFault
-number_of word = if is_number word then Ok (digits_value 10 word) else Err BadNumber
 
 -- an identifier is four bytes, each from `21` to `7e` hexadecimal
 abbrev pub is_identifier : List ℕ → Bool
@@ -103,22 +91,15 @@ bytes_of [] = Ok (bytes [])
 bytes_of (word ∷ []) = bytes_step (bytes_in word)
 bytes_of (word ∷ more ∷ words) = Err BadHex
 
--- one number in front of others, or the fault that it is none
-abbrev pub onto_numbers : Result ℕ ReadFault → Result (List ℕ) ReadFault
-    → Result (List ℕ) ReadFault
-onto_numbers (Err fault) more = Err fault
-onto_numbers (Ok number) (Ok more) = Ok (number ∷ more)
-onto_numbers (Ok number) (Err fault) = Err fault
-
--- the numbers that words are, or the first fault
-abbrev pub numbers_of : List (List ℕ) → Result (List ℕ) ReadFault
-numbers_of [] = Ok []
-numbers_of (word ∷ words) = onto_numbers (number_of word) (numbers_of words)
-
--- the step of a list of numbers
-abbrev pub list_step : (List ℕ → Step) → Result (List ℕ) ReadFault → Result Step ReadFault
+-- the step of a list of items
+abbrev pub list_step : {A : Type 0} → (List A → Step) → Result (List A) ReadFault
+    → Result Step ReadFault
 list_step step (Ok items) = Ok (step items)
 list_step step (Err fault) = Err fault
+
+-- the step of a table of these fields
+abbrev pub table_step : List Field → Step
+table_step fields = table (map bare_field fields)
 
 -- what the words of a line say, and the bytes after its first space
 abbrev pub command_of_words : List ℕ → List (List ℕ) → Result Step ReadFault
@@ -130,6 +111,7 @@ command_of_words line (word ∷ words) =
     else if bytes_eq word (codes "u32") then list_step (numbers 4) (numbers_of words)
     else if bytes_eq word (codes "u64") then list_step (numbers 8) (numbers_of words)
     else if bytes_eq word (codes "refs") then list_step refs (numbers_of words)
+    else if bytes_eq word (codes "table") then list_step table_step (fields_of words)
     else if bytes_eq word (codes "finish") then finish_of words
     else if bytes_eq word (codes "clear") then clear_of words else Err UnknownCommand
 
@@ -164,8 +146,3 @@ read_lines number (line ∷ lines) =
 -- Lines are numbered from 1, skipped ones included.
 abbrev pub script_of : List ℕ → Result Read (ℕ × ReadFault)
 script_of input = read_lines 1 (lines_of input)
-
--- the words behind the first one, where there is a space behind it
-abbrev pub words_behind : Option (List ℕ) → List (List ℕ)
-words_behind None = []
-words_behind (Some rest) = words_of rest

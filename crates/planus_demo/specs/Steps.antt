@@ -28,9 +28,10 @@ AnswersLine (Ok step) expected = expected ≡ Ok (bare_step step)
 AnswersLine (Err (line.Fault fault)) expected = expected ≡ Err fault
 AnswersLine (Err line.OutOfMemory) expected = ⊤
 
--- the answer is these numbers or this fault, unless memory was refused
-abbrev pub AnswersList : Result (Vec ℕ Global) LineError → Result (List ℕ) ReadFault → Type 0
-AnswersList (Ok numbers) expected = expected ≡ Ok numbers.items
+-- the answer is these items or this fault, unless memory was refused
+abbrev pub AnswersList : {A : Type 0} → Result (Vec A Global) LineError → Result (List A) ReadFault
+    → Type 0
+AnswersList (Ok items) expected = expected ≡ Ok items.items
 AnswersList (Err (line.Fault fault)) expected = expected ≡ Err fault
 AnswersList (Err line.OutOfMemory) expected = ⊤
 

@@ -2,6 +2,7 @@
 //! bytes.
 #![tactic(auto)]
 
+mod fields;
 mod laws;
 mod output;
 mod print;

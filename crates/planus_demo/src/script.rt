@@ -7,11 +7,11 @@ ghost use Rattle.std.specs.List.{slice_split, position, list_all, after_first};
 ghost use Rattle.std.specs.Option.{option_copied};
 ghost use Rattle.std.specs.Char.{is_ascii_digit};
 ghost use Rattle.std.specs.Int.{is_in_range};
-ghost use Rattle.planus_demo.specs.Script.{lines_of, words_of, words_behind, number_of};
+ghost use Rattle.planus_demo.specs.Words.{words_of, words_behind, number_of, numbers_of, items_of};
 ghost use Rattle.planus_demo.specs.Script.{identifier_of, finish_of, finish_at, identified_at};
 ghost use Rattle.planus_demo.specs.Script.{byte_of as byte_of_lem, hex_bytes as hex_bytes_lem};
 ghost use Rattle.planus_demo.specs.Script.{bytes_of, bytes_step, bytes_in as bytes_in_lem};
-ghost use Rattle.planus_demo.specs.Script.{numbers_of, list_step};
+ghost use Rattle.planus_demo.specs.Script.{lines_of, list_step};
 ghost use Rattle.planus_demo.specs.Script.{clear_of, command_of, command_of_words, script_of};
 ghost use Rattle.planus_demo.specs.Script.{is_skipped as is_skipped_lem};
 ghost use Rattle.planus_demo.specs.Steps.{AnswersCommand, AnswersLine, AnswersScript, read_of};
@@ -19,6 +19,7 @@ ghost use Rattle.planus_demo.specs.Steps.{AnswersList, bytes_or_fault};
 ghost use Rattle.planus.specs.Steps as step;
 ghost use Rattle.planus.specs.Steps.{bare_step};
 
+use crate::fields::table;
 use planus::Step;
 use std::alloc::{AllocError, AllocFailed, Global};
 use std::fmt;
@@ -34,6 +35,9 @@ pub enum ReadFault {
     BadNumber,
     /// A word that should be bytes isn't an even number of hexadecimal digits, or a word follows it.
     BadHex,
+    /// A word that should be a field isn't of the form `S=u8:N`, `S=u16:N`, `S=u32:N`, `S=u64:N` or
+    /// `S=ref:I`.
+    BadField,
     /// A word that should be a file identifier isn't four bytes from `!` to `~`.
     BadIdentifier,
 }
@@ -50,6 +54,7 @@ impl fmt::Display for ReadFault {
             ReadFault::UnknownCommand => write!(f, "unknown command"),
             ReadFault::BadNumber => write!(f, "bad number"),
             ReadFault::BadHex => write!(f, "bad hex"),
+            ReadFault::BadField => write!(f, "bad field"),
             ReadFault::BadIdentifier => write!(f, "bad identifier"),
         }
     }
@@ -97,7 +102,7 @@ pub struct Script {
 
 /// Why a line could not be read.
 #[derive(Clone, Copy, Debug, PartialEq, Eq)]
-enum LineError {
+pub(crate) enum LineError {
     OutOfMemory,
     Fault(ReadFault),
 }
@@ -161,7 +166,7 @@ fn is_digits(word: &str) -> bool
 }
 
 /// A number of one to twenty decimal digits.
-fn number(word: &str) -> std::result::Result<u64, ReadFault>
+pub(crate) fn number(word: &str) -> std::result::Result<u64, ReadFault>
     ensures { result ≡ number_of word.now }
 {
     if word.len() > 20 || !is_digits(word) {
@@ -174,7 +179,7 @@ fn number(word: &str) -> std::result::Result<u64, ReadFault>
 }
 
 /// The first word of a line, and what stands behind the space behind it, if there is one.
-fn first_word(line: &str) -> (&str, Option<&str>)
+pub(crate) fn first_word(line: &str) -> (&str, Option<&str>)
     ensures shorter { IfSome (option_copied result.1) (λ more. length more < length line.now) }
     ensures words { words_of line.now ≡ result.0.now ∷ words_behind (option_copied result.1) }
     ensures rest { after_first (λ b. b == 32) line.now ≡ unwrap_or (option_copied result.1) [] }
@@ -289,15 +294,36 @@ fn bytes_in(alloc: Global, digits: &str) -> std::result::Result<Step, LineError>
     Ok(Step::Bytes(hex_bytes(alloc, digits.as_bytes())?))
 }
 
-/// The numbers that the words behind the first one are.
-fn numbers(alloc: Global, words: Option<&str>) -> std::result::Result<Vec<u64>, LineError>
-    ensures { AnswersList result (numbers_of (words_behind (option_copied words.entry))) }
+/// What a single word of a line can be read as.
+pub(crate) trait FromWord: Sized + Drop {
+    ghost use Rattle.planus_demo.specs.declared.script.ReadFault.{ReadFault};
+
+    ghost said: { List ℕ → Result Self ReadFault };
+
+    fn from_word(word: &str) -> std::result::Result<Self, ReadFault>
+        ensures { result ≡ said word.now };
+}
+
+impl FromWord for u64 {
+    ghost said = { number_of };
+
+    fn from_word(word: &str) -> std::result::Result<u64, ReadFault> {
+        number(word)
+    }
+}
+
+/// What the words behind the first one are read as.
+pub(crate) fn items<T: FromWord>(
+    alloc: Global,
+    words: Option<&str>,
+) -> std::result::Result<Vec<T>, LineError>
+    ensures { AnswersList result (items_of T.said (words_behind (option_copied words.entry))) }
 {
     let mut items = Vec::new(alloc);
     let mut rest = words;
     while let Some(text) = rest {
         let (word, more) = first_word(text);
-        items.push(number(word)?)?;
+        items.push(T::from_word(word)?)?;
         rest = more;
     }
     Ok(items)
@@ -319,7 +345,7 @@ fn list(alloc: Global, width: u8, words: Option<&str>) -> std::result::Result<St
     ensures { AnswersLine result (list_step (step.numbers width)
         (numbers_of (words_behind (option_copied words.entry)))) }
 {
-    let items = numbers(alloc, words)?;
+    let items = items::<u64>(alloc, words)?;
     Ok(Step::Numbers { width, items })
 }
 
@@ -328,7 +354,7 @@ fn refs(alloc: Global, words: Option<&str>) -> std::result::Result<Step, LineErr
     ensures { AnswersLine result (list_step step.refs
         (numbers_of (words_behind (option_copied words.entry)))) }
 {
-    let items = numbers(alloc, words)?;
+    let items = items::<u64>(alloc, words)?;
     Ok(Step::Refs(indexes(alloc, items.as_slice())?))
 }
 
@@ -369,6 +395,8 @@ fn step_of_text(alloc: Global, line: &str) -> std::result::Result<Step, LineErro
         list(alloc, 8, rest)
     } else if word == "refs" {
         refs(alloc, rest)
+    } else if word == "table" {
+        table(alloc, rest)
     } else if word == "finish" {
         Ok(finish(rest)?)
     } else if word == "clear" {

@@ -8,7 +8,7 @@ use std::io::{Error, ErrorKind, Read, Write};
 use std::test::Fail;
 
 /// Scripts, what they print, and whether they are clean.
-const ROWS: [(&[u8], &[u8], bool); 46] = [
+const ROWS: [(&[u8], &[u8], bool); 63] = [
     (b"", b"", true),
     (
         b"text Axe\nfinish 0\n",
@@ -140,6 +140,50 @@ const ROWS: [(&[u8], &[u8], bool); 46] = [
         b"line 3: wrong kind\n",
         false,
     ),
+    (
+        b"table\nfinish 0\n",
+        b"04 00 00 00 fc ff ff ff 04 00 04 00\n",
+        true,
+    ),
+    (
+        b"table 0=u64:1 2=u8:2\nfinish 0\n",
+        b"04 00 00 00 f2 ff ff ff 01 00 00 00 00 00 00 00 \
+        02 00 0a 00 0d 00 04 00 00 00 0c 00\n",
+        true,
+    ),
+    (
+        b"text Axe\ntable 0=ref:0 1=u16:24\nfinish 1\n",
+        b"04 00 00 00 f4 ff ff ff 10 00 00 00 18 00 00 00 \
+        08 00 0a 00 04 00 08 00 03 00 00 00 41 78 65 00\n",
+        true,
+    ),
+    (
+        b"table 0=u16:24\ntable 0=u16:7\nfinish 1\n",
+        b"04 00 00 00 fa ff ff ff 07 00 06 00 06 00 04 00 \
+        fa ff ff ff 18 00 06 00 06 00 04 00\n",
+        true,
+    ),
+    (b"table 0:u8=1\n", b"line 1: bad field\n", false),
+    (b"table 0=u24:1\n", b"line 1: bad field\n", false),
+    (b"table \n", b"line 1: bad field\n", false),
+    (b"table x=y\n", b"line 1: bad field\n", false),
+    (b"table x=u8:1\n", b"line 1: bad number\n", false),
+    (b"table 0=u8:x\n", b"line 1: bad number\n", false),
+    (b"table 3=u8:1 3=u8:2\n", b"line 1: slot twice\n", false),
+    (
+        b"table 0=u16:1 1=u32:2\n",
+        b"line 1: rising alignment\n",
+        false,
+    ),
+    (b"table 256=u8:1\n", b"line 1: slot too big\n", false),
+    (b"table 65536=u8:1\n", b"line 1: slot too big\n", false),
+    (
+        b"table 18446744073709551615=u8:1\n",
+        b"line 1: slot too big\n",
+        false,
+    ),
+    (b"table 0=u8:256\n", b"line 1: value too big\n", false),
+    (b"table 0=ref:0\n", b"line 1: no such step\n", false),
 ];
 
 #[test]
@@ -191,6 +235,38 @@ fn a_text_of_200000_bytes(rt: HostRuntime) -> Result<(), Fail> {
     // The padding behind the second text is one byte.
     push_digits(&mut want, b"\x10\0\0\0TEST\x02\0\0\0Hi\0\0", false)?;
     push_digits(&mut want, part.as_slice(), true)?;
+    let mut reader = script.as_slice();
+    let mut writer = Vec::new(alloc);
+    let answer = run(alloc, &mut reader, &mut writer);
+    assert!(rt; answer == Ok(true), "clean");
+    assert!(rt; writer.as_slice() == want.as_slice(), "the printed bytes");
+    Ok(())
+}
+
+// A script with a table of a byte in each of its 256 slots, and the bytes of its finish: the word
+// that leads to the table, the table's own, which leads to the vtable behind the bytes, and the
+// vtable.
+fn full_table(alloc: Global) -> Result<(Vec<u8>, Vec<u8>), AllocError> {
+    let mut script = Vec::from_slice(alloc, b"table")?;
+    let mut bytes = Vec::from_slice(alloc, b"\x04\0\0\0\xfc\xfe\xff\xff")?;
+    let mut vtable = Vec::from_slice(alloc, b"\x04\x02\x04\x01")?;
+    for slot in 0..256u16 {
+        let field = format!(in alloc; " {slot}=u8:1")?;
+        script.extend_from_slice(field.as_bytes())?;
+        bytes.push(1)?;
+        vtable.extend_from_slice(&slot.wrapping_add(4).to_le_bytes())?;
+    }
+    script.extend_from_slice(b"\nfinish 0\n")?;
+    bytes.extend_from_slice(vtable.as_slice())?;
+    Ok((script, bytes))
+}
+
+#[test]
+fn a_table_of_256_slots(rt: HostRuntime) -> Result<(), Fail> {
+    let alloc = rt.alloc();
+    let (script, bytes) = full_table(alloc)?;
+    let mut want = Vec::new(alloc);
+    push_digits(&mut want, bytes.as_slice(), true)?;
     let mut reader = script.as_slice();
     let mut writer = Vec::new(alloc);
     let answer = run(alloc, &mut reader, &mut writer);

@@ -1,6 +1,7 @@
 use Rattle.std.proofs.Common.{◌∷◌, ◌∙◌, ap}
 use Rattle.std.specs.Option.{option_copied}
-use Rattle.planus_demo.specs.Script.{bytes_of, words_behind}
+use Rattle.planus_demo.specs.Script.{bytes_of}
+use Rattle.planus_demo.specs.Words.{words_behind}
 use Rattle.planus_demo.proofs.Words.{bytes_followed}
 use Rattle.planus_demo.proofs.script.bytes.Goals as goal
 

@@ -1,0 +1,96 @@
+//! The fields of a table, as the words of a line say them.
+ghost use Rattle.std.specs.Prelude.{◌≡◌, ◌<◌};
+ghost use Rattle.std.specs.Option.{option_copied, option_map};
+ghost use Rattle.planus_demo.specs.Words.{cut_at, words_behind};
+ghost use Rattle.planus_demo.specs.Fields.{kind_of, slot_of, value_of, field_of, fields_of};
+ghost use Rattle.planus_demo.specs.Script.{list_step, table_step};
+ghost use Rattle.planus_demo.specs.Steps.{AnswersLine};
+
+use crate::script::{FromWord, LineError, ReadFault, items, number};
+use planus::{Field, FieldValue, Step};
+use std::alloc::Global;
+
+/// The kind of what a field holds.
+#[derive(Clone, Copy)]
+enum FieldKind {
+    /// A number of so many bytes.
+    Number { width: u8 },
+    /// A reference to the value of a step.
+    Ref,
+}
+
+/// What stands before and behind the first of this character, if there is one.
+fn cut(word: &str, character: char) -> Option<(&str, &str)>
+    requires { character < 128 }
+    ensures { option_map (λ parts. (parts.0.now, parts.1.now)) result
+        ≡ cut_at character word.now }
+{
+    word.split_once(character)
+}
+
+/// The kind that a word names.
+fn kind(word: &str) -> Option<FieldKind>
+    ensures { result ≡ kind_of word.now }
+{
+    if word == "u8" {
+        Some(FieldKind::Number { width: 1 })
+    } else if word == "u16" {
+        Some(FieldKind::Number { width: 2 })
+    } else if word == "u32" {
+        Some(FieldKind::Number { width: 4 })
+    } else if word == "u64" {
+        Some(FieldKind::Number { width: 8 })
+    } else if word == "ref" {
+        Some(FieldKind::Ref)
+    } else {
+        None
+    }
+}
+
+/// The slot of this number. Above 65535 it is 65535, which is too big as well.
+fn slot(number: u64) -> u16
+    ensures { result ≡ slot_of number }
+{
+    u16::try_from(number).unwrap_or(u16::MAX)
+}
+
+/// What a field of this kind holds.
+fn value(kind: FieldKind, number: u64) -> FieldValue
+    ensures { result ≡ value_of kind number }
+{
+    match kind {
+        FieldKind::Number { width } => FieldValue::Number {
+            width,
+            value: number,
+        },
+        FieldKind::Ref => FieldValue::Ref(number as usize),
+    }
+}
+
+impl FromWord for Field {
+    ghost said = { field_of };
+
+    /// The field that a word is, as `3=u16:24` or `0=ref:1`.
+    fn from_word(word: &str) -> std::result::Result<Field, ReadFault> {
+        let Some((slot_word, rest)) = cut(word, '=') else {
+            return Err(ReadFault::BadField);
+        };
+        let Some((kind_word, number_word)) = cut(rest, ':') else {
+            return Err(ReadFault::BadField);
+        };
+        let Some(kind) = kind(kind_word) else {
+            return Err(ReadFault::BadField);
+        };
+        let slot = slot(number(slot_word)?);
+        let value = value(kind, number(number_word)?);
+        Ok(Field { slot, value })
+    }
+}
+
+/// A table of fields, from what stands behind the first word.
+pub(crate) fn table(alloc: Global, words: Option<&str>) -> std::result::Result<Step, LineError>
+    ensures { AnswersLine result (list_step table_step
+        (fields_of (words_behind (option_copied words.entry)))) }
+{
+    Ok(Step::Table(items::<Field>(alloc, words)?))
+}
