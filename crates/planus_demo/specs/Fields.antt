@@ -34,7 +34,8 @@ abbrev pub field_with : FieldKind → Result ℕ ReadFault → Result ℕ ReadFa
     → Result Field ReadFault
 field_with kind (Err fault) number = Err fault
 field_with kind (Ok slot) (Err fault) = Err fault
-field_with kind (Ok slot) (Ok number) = Ok (record { slot = slot_of slot; value = value_of kind number })
+field_with kind (Ok slot) (Ok number) =
+    Ok (record { slot = slot_of slot; value = value_of kind number })
 
 -- a field by the words of its slot and its number, if its kind is known
 abbrev pub field_if : Option FieldKind → List ℕ → List ℕ → Result Field ReadFault

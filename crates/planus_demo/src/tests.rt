@@ -2,6 +2,7 @@
 
 use crate::run::{RunError, run, status};
 use planus::{SliceWithStartOffset, Step, TableRead, replay};
+use planus_exhaust::exhaust;
 use std::alloc::{AllocError, Global};
 use std::io;
 use std::io::{Error, ErrorKind, Read, Write};
@@ -415,27 +416,6 @@ fn handing_on_fails(rt: HostRuntime) -> Result<(), Fail> {
         "04 00 00 00 03 00 00 00 41 78 65 00\n".as_bytes()
     );
     Ok(())
-}
-
-// Takes blocks until not even one byte is to be had. That rests on Linux, where a program has 47
-// bits of addresses, and on the C library's malloc, which refuses when they are used up. Answers
-// whether it went so: a sanitizer's malloc keeps small blocks back, and then a test with refused
-// memory says nothing.
-fn exhaust(alloc: Global, held: &mut Vec<Vec<u8>>) -> bool {
-    let mut size: usize = 1 << 40;
-    for _ in 0..41 {
-        for _ in 0..70000 {
-            let block: Vec<u8> = match Vec::with_capacity(alloc, size) {
-                Ok(block) => block,
-                Err(_) => break,
-            };
-            if held.push(block).is_err() {
-                return false;
-            }
-        }
-        size = size / 2;
-    }
-    Vec::<u8>::with_capacity(alloc, 1).is_err()
 }
 
 #[test]
