@@ -7,3 +7,4 @@ pub mod Named
 pub mod Limited
 pub mod OneText
 pub mod Lists
+pub mod WrittenWeapons

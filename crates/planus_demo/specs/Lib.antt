@@ -6,3 +6,5 @@ pub mod Texts
 pub mod Printed
 pub mod Outputs
 pub mod Runner
+pub mod Weapons
+pub mod WeaponViews

@@ -10,6 +10,7 @@ mod run;
 mod script;
 #[cfg(test)]
 mod tests;
+mod weapon;
 
 use std::io;
 use std::process::ExitCode;

@@ -1,5 +1,7 @@
 //! Scripts as a user runs them, and readers and writers that fail.
 
+mod weapon;
+
 use crate::run::{RunError, run, status};
 use planus::{SliceWithStartOffset, Step, TableRead, replay};
 use planus_exhaust::exhaust;

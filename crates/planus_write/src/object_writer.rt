@@ -45,6 +45,7 @@ impl<'a> ObjectWriter<'a> {
         ensures same_reference { self.new.bytes.ghost_name ≡ self.old.bytes.ghost_name }
         ensures at { self.new.at ≡ self.old.at + P.SIZE }
         ensures place { self.new.place ≡ self.old.place }
+        ensures length { length self.new.bytes.now ≡ length self.old.bytes.now }
         ensures bytes { self.new.bytes.now ≡ take self.old.at self.old.bytes.now
             ++ T.leaves value.now (self.old.place - self.old.at)
             ++ drop (self.old.at + P.SIZE) self.old.bytes.now }

@@ -1,0 +1,81 @@
+use Rattle.std.proofs.Common.{rules, arith, pos, ◌≡◌, [], Err}
+use Rattle.planus_write.specs.Laws.{grows_on}
+use Rattle.planus_demo.specs.Weapons.{weapon_entries, weapon_body}
+use Rattle.planus_demo.proofs.WrittenWeapons.{table_grows, damage_may, both_grow, both_reach}
+use Rattle.planus_demo.proofs.WrittenWeapons.{weapon_written, weapon_refused}
+use Rattle.planus_demo.proofs.weapon.Weapon.create.Goals as goal
+
+pub prepare-requires-2 : goal.prepare-requires-2
+prepare-requires-2 g c =
+    damage_may g.met.N.WriteAsOptional.is_lawful (g.met.D.WriteAsDefault.is_lawful (pos 0))
+    c.args.name c.args.damage c.args.builder.now c.prepare.new.builder c.requires.name
+    c.requires.damage c.prepare.result c.prepare.ensures
+
+pub returns-in_err-damage-clause-grows : goal.returns-in_err-damage-clause-grows
+returns-in_err-damage-clause-grows g c =
+    both_grow g.met.N.WriteAsOptional.is_lawful (g.met.D.WriteAsDefault.is_lawful (pos 0))
+    c.args.name c.args.damage c.args.builder.now c.prepare.new.builder c.requires.name
+    c.requires.damage c.prepare.result c.prepare-2.result c.prepare-2.new.builder c.prepare.ensures
+    c.prepare-2.ensures
+
+pub finish-requires : goal.finish-requires
+finish-requires g c =
+    let told = c.declare_if-2.ensures.told _
+    (c.declare_if.ensures.told [] (c.default-writer.ensures.told (search rules))) in
+    let size = told.object_size in
+    let reach = both_reach g.met.N.WriteAsOptional.is_lawful
+    (g.met.D.WriteAsDefault.is_lawful (pos 0)) c.args.name c.args.damage c.args.builder.now
+    c.prepare.new.builder c.requires.name c.requires.damage c.in_ok-name.name
+    c.in_ok-damage.damage c.prepare-2.new.builder c.in_ok-name.ensures c.in_ok-damage.ensures in
+    (search rules, (search rules, (omega (arith, size), reach)))
+
+pub returns-in_err-finish-clause-written : goal.returns-in_err-finish-clause-written
+returns-in_err-finish-clause-written g c =
+    let told = c.declare_if-2.ensures.told _
+    (c.declare_if.ensures.told [] (c.default-writer.ensures.told (search rules))) in
+    let answer = c.from_residual-in_err-finish.result in
+    let same : answer ≡ Err c.in_err-finish.field-0.0 = search rules in
+    weapon_refused (g.N.WriteAsOptional.outcome c.args.name) g.N.Prepared.WriteAsPrimitive.leaves
+    (g.D.WriteAsDefault.outcome c.args.damage (pos 0)) g.D.Prepared.WriteAsPrimitive.leaves
+    c.args.builder.now c.prepare.new.builder c.prepare-2.new.builder c.in_ok-name.name
+    c.in_ok-damage.damage c.in_ok-name.ensures c.in_ok-damage.ensures c.in_err-finish.field-0.0
+    c.from_residual-in_err-finish.result c.finish.new.builder same (c.in_err-finish.ensures _ told)
+
+pub returns-in_err-finish-clause-grows : goal.returns-in_err-finish-clause-grows
+returns-in_err-finish-clause-grows g c =
+    let told = c.declare_if-2.ensures.told _
+    (c.declare_if.ensures.told [] (c.default-writer.ensures.told (search rules))) in
+    grows_on c.args.builder.now c.prepare-2.new.builder c.finish.new.builder
+    (both_grow g.met.N.WriteAsOptional.is_lawful (g.met.D.WriteAsDefault.is_lawful (pos 0))
+    c.args.name c.args.damage c.args.builder.now c.prepare.new.builder c.requires.name
+    c.requires.damage c.prepare.result c.prepare-2.result c.prepare-2.new.builder c.prepare.ensures
+    c.prepare-2.ensures)
+    (table_grows (weapon_entries c.in_ok-name.name c.in_ok-damage.damage)
+    (weapon_body g.N.Prepared.WriteAsPrimitive.leaves g.D.Prepared.WriteAsPrimitive.leaves
+    c.in_ok-name.name c.in_ok-damage.damage)
+    c.prepare-2.new.builder c.finish.result c.finish.new.builder (c.finish.ensures _ told))
+
+pub returns-clause-written : goal.returns-clause-written
+returns-clause-written g c =
+    let told = c.declare_if-2.ensures.told _
+    (c.declare_if.ensures.told [] (c.default-writer.ensures.told (search rules))) in
+    weapon_written (g.N.WriteAsOptional.outcome c.args.name) g.N.Prepared.WriteAsPrimitive.leaves
+    (g.D.WriteAsDefault.outcome c.args.damage (pos 0)) g.D.Prepared.WriteAsPrimitive.leaves
+    c.args.builder.now c.prepare.new.builder c.prepare-2.new.builder c.in_ok-name.name
+    c.in_ok-damage.damage c.in_ok-name.ensures c.in_ok-damage.ensures c.in_ok-finish.field-0
+    c.current_offset.result c.finish.new.builder (c.in_ok-finish.ensures _ told)
+    c.current_offset.ensures
+
+pub returns-clause-grows : goal.returns-clause-grows
+returns-clause-grows g c =
+    let told = c.declare_if-2.ensures.told _
+    (c.declare_if.ensures.told [] (c.default-writer.ensures.told (search rules))) in
+    grows_on c.args.builder.now c.prepare-2.new.builder c.finish.new.builder
+    (both_grow g.met.N.WriteAsOptional.is_lawful (g.met.D.WriteAsDefault.is_lawful (pos 0))
+    c.args.name c.args.damage c.args.builder.now c.prepare.new.builder c.requires.name
+    c.requires.damage c.prepare.result c.prepare-2.result c.prepare-2.new.builder c.prepare.ensures
+    c.prepare-2.ensures)
+    (table_grows (weapon_entries c.in_ok-name.name c.in_ok-damage.damage)
+    (weapon_body g.N.Prepared.WriteAsPrimitive.leaves g.D.Prepared.WriteAsPrimitive.leaves
+    c.in_ok-name.name c.in_ok-damage.damage)
+    c.prepare-2.new.builder c.finish.result c.finish.new.builder (c.finish.ensures _ told))

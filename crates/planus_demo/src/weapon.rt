@@ -1,0 +1,215 @@
+//! A table of two fields, written and read as code does that is generated from a schema:
+//!
+//! ```text
+//! table Weapon { name: string; damage: int16 = 0; }
+//! ```
+
+ghost use Rattle.std.specs.Prelude.{◌≡◌, ◌≤◌, ◌+◌, ◌-◌, List, [], ◌∷◌, ◌++◌, length, take, drop};
+ghost use Rattle.std.specs.Prelude.{max, pos, codes, IfOk};
+ghost use Rattle.std.specs.Int.{w16};
+ghost use Rattle.std.proofs.Common.{lit≤};
+ghost use Rattle.planus_read.specs.Bytes.{BytesStand};
+ghost use Rattle.planus_read.specs.Clauses.{Answer, shown};
+ghost use Rattle.planus_read.specs.Located.{Located};
+ghost use Rattle.planus_read.specs.Pieces.{ShowsBytes};
+ghost use Rattle.planus_read.specs.Reading.{text_reading, signed_reading, table_reading};
+ghost use Rattle.planus_read.specs.Tables.{FieldAnswer, table_start};
+ghost use Rattle.planus_fields.specs.Fields.{reach_if};
+ghost use Rattle.planus_write.specs.State.{Grows};
+ghost use Rattle.planus_write.specs.Tables.{Declared, total_size};
+ghost use Rattle.planus_write.specs.TableWriting.{WasTold, slot_position};
+ghost use Rattle.planus_demo.specs.Weapons.{declared_if, entered_if, size_if, item_if};
+ghost use Rattle.planus_demo.specs.Weapons.{weapon_entries, weapon_body, WritesWeapon};
+ghost use Rattle.planus_demo.specs.WeaponViews.{weapon_table, ShowsWeapon, OrDefault};
+
+use planus::errors::ErrorKind;
+use planus::table_reader::Table;
+use planus::{
+    BuildError, Builder, Error, ObjectFill, ObjectWriter, Offset, Primitive, ReadAsRoot, ReadError,
+    Result, SliceWithStartOffset, Stride, TableRead, TableWriter, Text, VectorReadInner,
+    WriteAsDefault, WriteAsOptional, WriteAsPrimitive,
+};
+
+/// The kind of an offset to a weapon.
+pub struct Weapon;
+
+// Declares a field for a slot, if it is there.
+fn declare_if<P: Primitive, A>(writer: &mut TableWriter<8>, slot: usize, field: &Option<A>)
+    requires slot { slot ≤ 1 }
+    requires unused { BytesStand writer.old.vtable (slot_position slot) (0 ∷ 0 ∷ []) }
+    requires fits { writer.old.object_size + P.SIZE ≤ 65535 }
+    ensures entered { writer.new ≡ entered_if (record {
+      slot = slot;
+      size = P.SIZE;
+      alignment = P.ALIGNMENT;
+    }) field.now writer.old }
+    ensures told { (declared : List Declared) → WasTold writer.old declared
+        → WasTold writer.new (declared ++ declared_if (record {
+          slot = slot;
+          size = P.SIZE;
+          alignment = P.ALIGNMENT;
+        }) field.now) }
+{
+    if field.is_some() {
+        writer.write_entry::<P>(slot);
+    }
+}
+
+// Writes a field behind what is written, if it is there.
+fn write_if<P: Primitive, A: WriteAsPrimitive<P>>(writer: &mut ObjectWriter<'_>, field: &Option<A>)
+    requires room { writer.old.at + size_if P.SIZE field.now ≤ length writer.old.bytes.now }
+    requires reach { writer.old.at + reach_if A.reach field.now ≤ writer.old.place }
+    ensures same_reference { writer.new.bytes.ghost_name ≡ writer.old.bytes.ghost_name }
+    ensures at { writer.new.at ≡ writer.old.at + size_if P.SIZE field.now }
+    ensures place { writer.new.place ≡ writer.old.place }
+    ensures length { length writer.new.bytes.now ≡ length writer.old.bytes.now }
+    ensures bytes { writer.new.bytes.now ≡ take writer.old.at writer.old.bytes.now
+        ++ item_if A.leaves field.now (writer.old.place - writer.old.at)
+        ++ drop (writer.old.at + size_if P.SIZE field.now) writer.old.bytes.now }
+{
+    if let Some(field) = field {
+        writer.write::<P, A>(field);
+    }
+}
+
+/// The fields of a weapon, prepared.
+#[derive(Drop)]
+struct WeaponBody<N, D> {
+    name: Option<N>,
+    damage: Option<D>,
+}
+
+impl<N: WriteAsPrimitive<Offset<Text>>, D: WriteAsPrimitive<i16>> ObjectFill for WeaponBody<N, D> {
+    ghost size = { λ body. total_size (weapon_entries body.name body.damage) };
+
+    ghost reach = { λ body. max (reach_if N.reach body.name) (reach_if D.reach body.damage) };
+
+    ghost leaves = { λ body. weapon_body N.leaves D.leaves body.name body.damage };
+
+    fn fill(&self, writer: &mut ObjectWriter<'_>) {
+        write_if::<Offset<Text>, N>(writer, &self.name);
+        write_if::<i16, D>(writer, &self.damage);
+    }
+}
+
+impl Weapon {
+    /// Writes a weapon: prepares its name and its damage, and then writes the table of those that
+    /// are there; a damage of 0 is left out. Returns its offset.
+    ///
+    /// An offset that is handed in must be one that this builder answered since the last clear.
+    ///
+    /// [`BuildError::TooLarge`] and [`BuildError::OutOfMemory`] as of [`Builder::write_with`]. What
+    /// was written before the refused write stays, and nothing after it is begun.
+    pub fn create<N, D>(
+        builder: &mut Builder,
+        name: N,
+        damage: D,
+    ) -> std::result::Result<Offset<Weapon>, BuildError>
+    where
+        N: WriteAsOptional<Offset<Text>> + Drop,
+        D: WriteAsDefault<i16, i16> + Drop,
+        requires name { N.may name builder.old }
+        requires damage { D.may damage builder.old }
+        ensures written { WritesWeapon (N.outcome name) N.Prepared.leaves
+            (D.outcome damage (pos 0)) D.Prepared.leaves builder.old result builder.new }
+        ensures grows { Grows builder.old builder.new }
+        ensures reached { IfOk result (λ offset. offset.distance ≤ length builder.new.bytes) }
+    {
+        let name = name.prepare(builder)?;
+        let damage = damage.prepare(builder, &0)?;
+        let mut writer: TableWriter<8> = TableWriter::default();
+        declare_if::<Offset<Text>, N::Prepared>(&mut writer, 0, &name);
+        declare_if::<i16, D::Prepared>(&mut writer, 1, &damage);
+        writer.finish(builder, &WeaponBody { name, damage })?;
+        Ok(builder.current_offset())
+    }
+}
+
+/// A weapon in a buffer.
+#[derive(Clone, Copy)]
+pub struct WeaponRef<'a> {
+    table: Table<'a>,
+}
+
+impl<'a> WeaponRef<'a> {
+    /// Returns the name, or `None` where there is none. Its errors are those of a field `&str`.
+    pub fn name(&self) -> Result<Option<&'a str>>
+        ensures { Located (FieldAnswer
+            (λ S start f r. Answer (shown ShowsBytes (text_reading S f)) r)
+            (weapon_table self.now) 0)
+            (codes "Weapon") (codes "name") (table_start (weapon_table self.now)) result }
+    {
+        self.table.access::<&str>(0, "Weapon", "name")
+    }
+
+    /// Returns the damage, 0 where there is none. Its errors are those of a field `i16`.
+    pub fn damage(&self) -> Result<i16>
+        ensures { Located (OrDefault (pos 0) (FieldAnswer
+            (λ S start f r. Answer (signed_reading S f w16) r) (weapon_table self.now) 1))
+            (codes "Weapon") (codes "damage") (table_start (weapon_table self.now)) result }
+    {
+        Ok(
+            self.table
+                .access::<i16>(1, "Weapon", "damage")?
+                .unwrap_or(0),
+        )
+    }
+}
+
+impl<'a> TableRead<'a> for WeaponRef<'a> {
+    ghost reads = { λ S start f r. Answer (shown (ShowsWeapon S start) (table_reading S f)) r };
+
+    fn from_buffer(
+        buffer: SliceWithStartOffset<'a>,
+        offset: usize,
+    ) -> std::result::Result<WeaponRef<'a>, ErrorKind> {
+        let table = Table::from_buffer(buffer, offset)?;
+        Ok(WeaponRef { table })
+    }
+}
+
+impl<'a> ReadAsRoot<'a> for WeaponRef<'a> {
+    ghost reads_root = { λ S r.
+        Located (Answer (shown (ShowsWeapon S 0) (table_reading S 0)))
+        (codes "[WeaponRef]") (codes "read_as_root") 0 r };
+
+    fn read_as_root(slice: &'a [u8]) -> Result<WeaponRef<'a>> {
+        match TableRead::from_buffer(SliceWithStartOffset::new(slice, 0), 0) {
+            Ok(weapon) => Ok(weapon),
+            Err(kind) => Err(kind.with_error_location("[WeaponRef]", "read_as_root", 0)),
+        }
+    }
+}
+
+impl<'a> Stride for WeaponRef<'a> {
+    ghost STRIDE = { 4 };
+
+    ghost is_positive = { lit≤ tt };
+
+    fn stride() -> usize
+        ensures { result ≡ 4 }
+    {
+        4
+    }
+}
+
+impl<'a> ReadError for WeaponRef<'a> {
+    type Error = Error;
+}
+
+impl<'a> VectorReadInner<'a> for WeaponRef<'a> {
+    ghost gives = { λ S start f r.
+        Located (Answer (shown (ShowsWeapon S start) (table_reading S f)))
+        (codes "[Weapon]") (codes "get") start r };
+
+    fn from_buffer(buffer: SliceWithStartOffset<'a>, offset: usize) -> Result<WeaponRef<'a>> {
+        match TableRead::from_buffer(buffer, offset) {
+            Ok(weapon) => Ok(weapon),
+            Err(kind) => Err(kind.with_error_location(
+                "[Weapon]",
+                "get",
+                buffer.offset_from_start(),
+            )),
+        }
+    }
+}
