@@ -35,7 +35,7 @@ twice :
 twice v lo hi a b h =
     let tags : drop a (drop lo v.tags) ≡ drop (lo + a) v.tags = drop-drop a lo v.tags in
     let references :
-        drop (a * 4) (drop (lo * 4) v.references) ≡ drop ((lo + a) * 4) v.references
+    drop (a * 4) (drop (lo * 4) v.references) ≡ drop ((lo + a) * 4) v.references
     = rw (drop-drop (a * 4) (lo * 4) v.references, add-mul lo a 4) refl in
     let start : v.start + lo * 4 + a * 4 ≡ v.start + (lo + a) * 4 = omega arith in
     let count : b - a ≡ lo + b - (lo + a) = omega arith in cc

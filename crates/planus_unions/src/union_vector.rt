@@ -191,7 +191,10 @@ impl<'buf, T, E> UnionVectorOf<'buf, T, E> {
     /// Returns the sub-vectors of the first `mid` items and of the others, or `None` where there
     /// are fewer items.
     #[inline]
-    pub fn split_at(&self, mid: usize) -> Option<(UnionVectorOf<'buf, T, E>, UnionVectorOf<'buf, T, E>)>
+    pub fn split_at(
+        &self,
+        mid: usize,
+    ) -> Option<(UnionVectorOf<'buf, T, E>, UnionVectorOf<'buf, T, E>)>
         ensures { SplitsAt count_of IsSubVector self.now mid result }
     {
         splits::split_at(self, mid)
@@ -199,7 +202,10 @@ impl<'buf, T, E> UnionVectorOf<'buf, T, E> {
 
     /// Returns the sub-vectors of the first `mid` items, which the vector has, and of the others.
     #[inline]
-    pub fn split_at_unchecked(&self, mid: usize) -> (UnionVectorOf<'buf, T, E>, UnionVectorOf<'buf, T, E>)
+    pub fn split_at_unchecked(
+        &self,
+        mid: usize,
+    ) -> (UnionVectorOf<'buf, T, E>, UnionVectorOf<'buf, T, E>)
         requires { mid ≤ count_of self.now }
         ensures { SplitAt count_of IsSubVector self.now mid result }
     {
@@ -350,5 +356,15 @@ impl<'buf, T: VectorReadUnion<'buf>, E: ItemError> IntoIterator for UnionVectorO
     #[inline]
     fn into_iter(self) -> Items<UnionVectorOf<'buf, T, E>> {
         self.iter()
+    }
+}
+
+impl<'buf, T: VectorReadUnion<'buf> + fmt::Debug + Drop, E: ItemError> fmt::Debug
+    for UnionVectorOf<'buf, T, E>
+where
+    E::Error: fmt::Debug + Drop,
+{
+    fn fmt<W: fmt::Write>(&self, f: &mut fmt::Formatter<W>) -> fmt::Result {
+        f.debug_list().entries(self.iter()).finish()
     }
 }

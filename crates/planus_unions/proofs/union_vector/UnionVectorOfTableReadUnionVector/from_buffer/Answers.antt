@@ -1,6 +1,6 @@
-use Rattle.std.proofs.Common.{◌≡◌, ◌+◌, ◌*◌, ◌≤◌, length, arith, subst, sym, ◌∙◌}
+use Rattle.std.proofs.Common.{◌≡◌, ◌*◌, ◌≤◌, length, arith, subst, sym, ◌∙◌}
 use Rattle.planus_read.specs.Pieces.{slice_bytes, slice_start}
-use Rattle.planus_read.specs.Reading.{HeadThere, VectorThere}
+use Rattle.planus_read.specs.Reading.{VectorThere}
 use Rattle.planus_unions.proofs.ReadItems.{vector_there}
 use Rattle.planus_unions.proofs.union_vector.UnionVectorOfTableReadUnionVector.from_buffer.Goals as goal
 
@@ -26,5 +26,5 @@ returns g c =
             (c.in_ok-values.values, c.in_ok-values.values_count) values.1 values.2 values_fit);
       },
       (let bytes = tags.2.bytes in let references = values.2.bytes in let begin = values.2.begin in
-      let counted = tags.2.counted in cc),
+          let counted = tags.2.counted in cc),
     )
