@@ -1,1 +1,2 @@
 pub mod ReadItems
+pub mod ReadBack

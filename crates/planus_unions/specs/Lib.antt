@@ -1,3 +1,4 @@
 pub mod ItemErrors
 pub mod UnionViews
 pub mod UnionVectorView
+pub mod ReadBack

@@ -3,6 +3,7 @@
 #![tactic(auto)]
 
 mod item_errors;
+pub mod laws;
 #[cfg(test)]
 mod tests;
 mod union_vector;
