@@ -25,6 +25,7 @@ pub use planus_read::{
     SliceWithStartOffset, Stride, TableRead, TableReadUnion, TableReadUnionVector, TaggedPlace,
     VectorName, VectorRead, VectorReadInner, VectorReadUnion, Void, errors, table_reader,
 };
+pub use planus_unions::{AsRead, ItemError, UnionVector, union_vectors};
 pub use planus_view::{CopyError, FromItem, Vector, vectors};
 pub use planus_write::{
     BuildError, Builder, ByRef, ByteList, Initialized, List, ObjectFill, ObjectWriter, Offset,
