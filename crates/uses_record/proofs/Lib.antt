@@ -1,0 +1,2 @@
+pub mod KeptShips
+pub mod ReadNames

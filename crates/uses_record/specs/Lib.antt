@@ -1,0 +1,4 @@
+pub mod Ships
+pub mod Bodies
+pub mod ShipViews
+pub mod Names
