@@ -1,26 +1,16 @@
 -- Weapons: what is prepared and written of them, and that it grows the builder.
-use Rattle.std.proofs.Common.{◌≡◌, ℕ, ◌≤◌, max, List, [], length, Option, Result, Ok, Err}
+use Rattle.std.proofs.Common.{◌≡◌, ℕ, ◌≤◌, max, length, Option, Result, Ok, Err}
 use Rattle.std.proofs.Common.{sym, subst, inr, arith}
-use Rattle.planus_write.specs.Tables.{Declared, object_entries, slots_used}
 use Rattle.planus_write.specs.TableWriting.{WritesTable}
 use Rattle.planus_write.specs.Items.{Item}
 use Rattle.planus_write.specs.State.{State, Grows}
 use Rattle.planus_write.specs.Laws.{grows_on, reached_still}
 use Rattle.planus_write.specs.Preparing.{IsLawful}
 use Rattle.planus_fields.specs.Fields.{reach_if}
-use Rattle.planus_write.specs.ListLaws.{GrowsFrom, entries_grow}
 use Rattle.planus_write.specs.Placing.{Outcome}
 use Rattle.planus_write.specs.declared.errors.BuildError.{BuildError}
 use Rattle.planus_write.specs.declared.offset.Offset.{Offset}
 use Rattle.planus_demo.specs.Weapons.{weapon_entries, weapon_body, WritesWeapon}
-
--- a table grows the builder
-pub table_grows : (declared : List Declared) (body : Item) (old : State)
-    → GrowsFrom old (WritesTable declared body)
-table_grows declared body old (Ok done) new h =
-    entries_grow (object_entries (slots_used declared) declared body) [] old (Ok h.0) new h.1
-table_grows declared body old (Err error) new h =
-    entries_grow (object_entries (slots_used declared) declared body) [] old (Err error) new h
 
 -- What is known of a weapon whose name and damage are prepared, one after the other.
 module _ {X Y A B : Type 0} {may_name : X → State → Type 0} {prepare_name : X → Outcome (Option A)}

@@ -1,6 +1,5 @@
 -- What is read of a weapon.
-use Rattle.std.specs.Prelude.{ℕ, List, Option, Some, None, Result, Ok, Err, ◌≡◌, ◌⊎◌}
-use Rattle.planus_read.specs.declared.errors.ErrorKind.{ErrorKind}
+use Rattle.std.specs.Prelude.{ℕ, List}
 use Rattle.planus_read.specs.declared.table_reader.Table.{Table}
 use Rattle.planus_read.specs.Reading.{TableLayout}
 use Rattle.planus_read.specs.Tables.{ShowsTable}
@@ -13,9 +12,3 @@ weapon_table weapon = weapon.table
 -- the weapon is the table of this layout, in a piece with the bytes S and this start
 abbrev pub ShowsWeapon : List ℕ → ℕ → TableLayout → WeaponRef → Type 0
 ShowsWeapon S start layout weapon = ShowsTable S start layout (weapon_table weapon)
-
--- the value of an answer, or the default in place of none
-abbrev pub OrDefault : {A : Type 0} → A → (Result (Option A) ErrorKind → Type 0)
-    → Result A ErrorKind → Type 0
-OrDefault default answers (Ok x) = answers (Ok (Some x)) ⊎ (answers (Ok None) × (x ≡ default))
-OrDefault default answers (Err e) = answers (Err e)

@@ -1,9 +1,8 @@
 -- What is written for a weapon, and what is read as one.
-use Rattle.std.specs.Prelude.{◌≡◌, ℕ, ◌-◌, List, [], ◌∷◌, ◌++◌, Option, Some, None}
-use Rattle.std.specs.Prelude.{Ok, Err, length}
+use Rattle.std.specs.Prelude.{ℕ, ◌-◌, List, [], ◌∷◌, ◌++◌, Option, Some, None}
 use Rattle.planus_write.specs.Items.{Item}
 use Rattle.planus_write.specs.Tables.{Declared, total_size}
-use Rattle.planus_write.specs.TableWriting.{Writer, WritesTable, entered}
+use Rattle.planus_write.specs.TableWriting.{Writer, AnswersTable, entered}
 use Rattle.planus_write.specs.Placing.{Outcome, then_does}
 use Rattle.planus_write.specs.declared.offset.Offset.{Offset}
 
@@ -43,12 +42,6 @@ abbrev pub weapon_body : {A B : Type 0} → (A → Item) → (B → Item) → Op
 weapon_body name_leaves damage_leaves name damage place =
     item_if name_leaves name place
     ++ item_if damage_leaves damage (place - total_size (declared_if name_entry name))
-
--- The table of these entries was written, with this body, and its distance is answered.
-abbrev pub AnswersTable : {T : Type 0} → List Declared → Item → Outcome (Offset T)
-AnswersTable {T} declared body old (Ok offset) new = WritesTable declared body old (Ok tt) new
-    × (offset.distance ≡ length new.bytes)
-AnswersTable {T} declared body old (Err error) new = WritesTable declared body old (Err error) new
 
 -- A weapon was written, or refused: its name is prepared, then its damage, and then its table is
 -- written, with the fields of these that are there.

@@ -10,7 +10,7 @@ ghost use Rattle.std.specs.Int.{w16};
 ghost use Rattle.std.proofs.Common.{lit≤};
 ghost use Rattle.planus_read.specs.Bytes.{BytesStand};
 ghost use Rattle.planus_read.specs.Clauses.{Answer, shown};
-ghost use Rattle.planus_read.specs.Located.{Located};
+ghost use Rattle.planus_read.specs.Located.{Located, OrDefault};
 ghost use Rattle.planus_read.specs.Pieces.{ShowsBytes};
 ghost use Rattle.planus_read.specs.Reading.{text_reading, signed_reading, table_reading};
 ghost use Rattle.planus_read.specs.Tables.{FieldAnswer, table_start};
@@ -20,7 +20,7 @@ ghost use Rattle.planus_write.specs.Tables.{Declared, total_size};
 ghost use Rattle.planus_write.specs.TableWriting.{WasTold, slot_position};
 ghost use Rattle.planus_demo.specs.Weapons.{declared_if, entered_if, size_if, item_if};
 ghost use Rattle.planus_demo.specs.Weapons.{weapon_entries, weapon_body, WritesWeapon};
-ghost use Rattle.planus_demo.specs.WeaponViews.{weapon_table, ShowsWeapon, OrDefault};
+ghost use Rattle.planus_demo.specs.WeaponViews.{weapon_table, ShowsWeapon};
 
 use planus::errors::ErrorKind;
 use planus::table_reader::Table;

@@ -23,3 +23,9 @@ abbrev pub Required :
     {A : Type 0} → (Result (Option A) ErrorKind → Type 0) → Result A ErrorKind → Type 0
 Required answers (Ok x) = answers (Ok (Some x))
 Required answers (Err e) = answers (Err e) ⊎ (answers (Ok None) × (e ≡ MissingRequired))
+
+-- the value of an answer that has one, the default in place of none
+abbrev pub OrDefault :
+    {A : Type 0} → A → (Result (Option A) ErrorKind → Type 0) → Result A ErrorKind → Type 0
+OrDefault default answers (Ok x) = answers (Ok (Some x)) ⊎ (answers (Ok None) × (x ≡ default))
+OrDefault default answers (Err e) = answers (Err e)

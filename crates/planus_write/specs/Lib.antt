@@ -12,3 +12,4 @@ pub mod Laws
 pub mod Finishing
 pub mod Standing
 pub mod ListLaws
+pub mod TableLaws

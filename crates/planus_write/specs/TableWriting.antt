@@ -9,6 +9,7 @@ use Rattle.planus_write.specs.Tables.{object_entries}
 use Rattle.planus_write.specs.Parts.{last_of}
 use Rattle.planus_write.specs.Placing.{Outcome}
 use Rattle.planus_write.specs.Preparing.{WritesEntries}
+use Rattle.planus_write.specs.declared.offset.Offset.{Offset}
 
 -- A writer: the bytes of its vtable, of which those of the sizes come last; how many of them are
 -- used; the object's size; and one less than the body's alignment.
@@ -55,3 +56,9 @@ WritesTable declared body old (Ok done) new = (got : List ℕ)
     × (last_of got ≡ length new.bytes)
 WritesTable declared body old (Err error) new =
     WritesEntries (object_entries (slots_used declared) declared body) [] old (Err error) new
+
+-- The same, with the distance of the table answered as an offset.
+abbrev pub AnswersTable : {T : Type 0} → List Declared → Item → Outcome (Offset T)
+AnswersTable {T} declared body old (Ok offset) new =
+    WritesTable declared body old (Ok tt) new × (offset.distance ≡ length new.bytes)
+AnswersTable {T} declared body old (Err error) new = WritesTable declared body old (Err error) new

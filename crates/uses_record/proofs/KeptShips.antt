@@ -8,8 +8,7 @@ use Rattle.std.proofs.lemmas.Nat.Gcd.{dvd_refl}
 use Rattle.std.proofs.lemmas.Bool.{ne_eqb}
 use Rattle.planus_read.specs.Values.{Value, Field, text, table, slot_count}
 use Rattle.planus_fields.specs.Fields.{MayIf, reach_if, left_out_is_lawful, optional_is_lawful}
-use Rattle.planus_write.specs.Items.{Item}
-use Rattle.planus_write.specs.ListLaws.{entries_grow, ready_list_is_put, plain_items_are, list_is_lawful}
+use Rattle.planus_write.specs.ListLaws.{ready_list_is_put, plain_items_are, list_is_lawful}
 use Rattle.planus_write.specs.Laws.{extends_on, extends_itself, grows_on, reached_still, ready_is_lawful, unchanged_grows, entry_is_lawful}
 use Rattle.planus_write.specs.Parts.{text_entry, IsPlainList, IsWritten, entries_of, list_entries, last_of}
 use Rattle.planus_write.specs.Past.{Past, Entry}
@@ -18,6 +17,7 @@ use Rattle.planus_write.specs.Standing.{AllSeenKept, EntriesArePut, IsKept, Kept
 use Rattle.planus_write.specs.State.{State, IsPast, Extends, Grows}
 use Rattle.planus_write.specs.Tables.{IsTable, Declared, declared_of, body_bytes, object_entries, slots_used}
 use Rattle.planus_write.specs.TableWriting.{Writer, WasTold, WritesTable}
+use Rattle.planus_write.specs.TableLaws.{table_grows}
 use Rattle.std.specs.Option.{is_some}
 use Rattle.planus_write.specs.declared.errors.BuildError.{BuildError}
 use Rattle.planus_write.specs.declared.offset.List.{List as ListOf}
@@ -338,14 +338,6 @@ hull_grows : (hull : ℕ) (old : State) (answer : Result (Option ℕ) BuildError
 hull_grows hull old (Ok None) new done = unchanged_grows old new done.1
 hull_grows hull old (Ok (Some prepared)) new done = unchanged_grows old new done.1.1
 hull_grows hull old (Err error) new done = unchanged_grows old new done.1.1
-
-table_grows : (declared : List Declared) (body : Item) (old : State)
-    (answer : Result (Unit {0}) BuildError) (new : State) → WritesTable declared body old answer new
-    → Grows old new
-table_grows declared body old (Ok done) new h =
-    entries_grow (object_entries (slots_used declared) declared body) [] old (Ok h.0) new h.1
-table_grows declared body old (Err error) new h =
-    entries_grow (object_entries (slots_used declared) declared body) [] old (Err error) new h
 
 module _ {S T : Type 0} (name : List ℕ) (cargo : Option (Bor (List ℕ))) (old one two : State)
     (named : Result (Offset S) BuildError) (loaded : Result (Option (Offset T)) BuildError)

@@ -1,8 +1,7 @@
 -- Ships as they are read.
-use Rattle.std.specs.Prelude.{◌≡◌, ◌⊎◌, ℕ, ◌+◌, List, length, drop, slice_get}
-use Rattle.std.specs.Prelude.{Option, Some, None, Result, Ok, Err}
+use Rattle.std.specs.Prelude.{◌≡◌, ℕ, ◌+◌, List, length, drop, slice_get}
+use Rattle.std.specs.Prelude.{Some}
 use Rattle.std.specs.Str.{IsUtf8}
-use Rattle.planus_read.specs.declared.errors.ErrorKind.{ErrorKind}
 use Rattle.planus_read.specs.declared.table_reader.Table.{Table}
 use Rattle.planus_read.specs.Bytes.{position_of}
 use Rattle.planus_read.specs.Reading.{TableLayout}
@@ -20,12 +19,6 @@ ship_table ship = ship.table
 -- the ship is the table of this layout, in a piece with the bytes S and this start
 abbrev pub ShowsShip : List ℕ → ℕ → TableLayout → ShipRef → Type 0
 ShowsShip S start layout ship = ShowsTable S start layout (ship_table ship)
-
--- the value of an answer, or the default in place of none
-abbrev pub OrDefault : {A : Type 0} → A → (Result (Option A) ErrorKind → Type 0)
-    → Result A ErrorKind → Type 0
-OrDefault default answers (Ok x) = answers (Ok (Some x)) ⊎ (answers (Ok None) × (x ≡ default))
-OrDefault default answers (Err e) = answers (Err e)
 
 -- The field of slot 0 refers to this text, which stands in B and is UTF-8.
 pub record NameStands (B : List ℕ) (entries : List (ℕ × Field)) (name : List ℕ) : Type 0 where

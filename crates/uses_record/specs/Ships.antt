@@ -1,6 +1,6 @@
 -- Ships as they are written.
 use Rattle.std.specs.Prelude.{ℕ, ◌==◌, List, [], ◌∷◌, ◌++◌, map, Option, Some, None, ⊤}
-use Rattle.std.specs.Prelude.{if◌then◌else◌, Ok, Err, length, ◌≡◌}
+use Rattle.std.specs.Prelude.{if◌then◌else◌, ◌≡◌}
 use Rattle.std.specs.Borrow.{Bor}
 use Rattle.std.specs.Int.{w16, w32, to_le_bytes}
 use Rattle.planus_read.specs.Values.{Value, Field, plain, reference, text, plain_list, table}
@@ -10,7 +10,7 @@ use Rattle.planus_write.specs.Parts.{Named}
 use Rattle.planus_write.specs.Placing.{Outcome, then_does}
 use Rattle.planus_write.specs.Preparing.{Answers, WritesList, WritesText}
 use Rattle.planus_write.specs.Tables.{body_bytes, declared_of}
-use Rattle.planus_write.specs.TableWriting.{WritesTable}
+use Rattle.planus_write.specs.TableWriting.{AnswersTable}
 use Rattle.planus_write.specs.declared.offset.List.{List as ListOf}
 use Rattle.planus_write.specs.declared.offset.Offset.{Offset}
 use Rattle.planus_write.specs.declared.offset.Text.{Text}
@@ -102,12 +102,8 @@ abbrev pub PreparesHull : ℕ → Outcome (Option ℕ)
 PreparesHull hull = LeftOutWhere (hull ≡ 100) (Answers hull)
 
 -- The table of these fields was written, and its distance is answered; or it was refused.
-abbrev pub AnswersTable : {T : Type 0} → List (ℕ × Field) → Outcome (Offset T)
-AnswersTable fields old (Ok offset) new =
-    WritesTable (declared_of fields) (λ place. body_bytes place fields) old (Ok tt) new
-    × (offset.distance ≡ length new.bytes)
-AnswersTable fields old (Err error) new =
-    WritesTable (declared_of fields) (λ place. body_bytes place fields) old (Err error) new
+abbrev pub AnswersFields : {T : Type 0} → List (ℕ × Field) → Outcome (Offset T)
+AnswersFields fields = AnswersTable (declared_of fields) (λ place. body_bytes place fields)
 
 -- A ship was written, or refused: its name, its cargo, its hull, and then its table.
 abbrev pub CreatesShip : {T : Type 0} → List ℕ → ℕ → Option (Bor (List ℕ)) → Outcome (Offset T)
@@ -115,4 +111,4 @@ CreatesShip name hull cargo =
     then_does (WritesText {T = Text} name)
     (λ named. then_does (PreparesCargo {T = ListOf ℕ} cargo)
     (λ loaded. then_does (PreparesHull hull)
-    (λ left. AnswersTable (ship_fields named.distance (distance_if loaded) left))))
+    (λ left. AnswersFields (ship_fields named.distance (distance_if loaded) left))))

@@ -5,13 +5,13 @@ ghost use Rattle.std.specs.Result.{IsOkAnd};
 ghost use Rattle.std.specs.Int.{w16};
 ghost use Rattle.std.proofs.Common.{lit≤};
 ghost use Rattle.planus_read.specs.Clauses.{Answer, shown};
-ghost use Rattle.planus_read.specs.Located.{Located, Required};
+ghost use Rattle.planus_read.specs.Located.{Located, OrDefault, Required};
 ghost use Rattle.planus_read.specs.Pieces.{ShowsBytes};
 ghost use Rattle.planus_read.specs.Reading.{text_reading, number_reading, table_reading};
 ghost use Rattle.planus_read.specs.Reading.{vector_reading};
 ghost use Rattle.planus_read.specs.Tables.{FieldAnswer, table_start};
 ghost use Rattle.planus_view.specs.VectorView.{ShowsVector};
-ghost use Rattle.uses_record.specs.ShipViews.{ship_table, ShowsShip, OrDefault, IsNamed};
+ghost use Rattle.uses_record.specs.ShipViews.{ship_table, ShowsShip, IsNamed};
 
 use planus::errors::ErrorKind;
 use planus::table_reader::Table;

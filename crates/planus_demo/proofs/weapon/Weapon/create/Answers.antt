@@ -1,7 +1,8 @@
 use Rattle.std.proofs.Common.{rules, arith, pos, ◌≡◌, [], Err}
 use Rattle.planus_write.specs.Laws.{grows_on}
+use Rattle.planus_write.specs.TableLaws.{table_grows}
 use Rattle.planus_demo.specs.Weapons.{weapon_entries, weapon_body}
-use Rattle.planus_demo.proofs.WrittenWeapons.{table_grows, damage_may, both_grow, both_reach}
+use Rattle.planus_demo.proofs.WrittenWeapons.{damage_may, both_grow, both_reach}
 use Rattle.planus_demo.proofs.WrittenWeapons.{weapon_written, weapon_refused}
 use Rattle.planus_demo.proofs.weapon.Weapon.create.Goals as goal
 
