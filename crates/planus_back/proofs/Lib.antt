@@ -5,3 +5,5 @@ pub mod PaddingLaws
 pub mod Asked
 pub mod Periods
 pub mod Places
+pub mod Buckets
+pub mod Caches

@@ -8,3 +8,6 @@ pub mod Sound
 pub mod BackBytes
 pub mod BackView
 pub mod Pairs
+pub mod CacheKeys
+pub mod Caches
+pub mod Buckets

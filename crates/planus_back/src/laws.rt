@@ -1,12 +1,26 @@
 //! Laws of promises, padding and places. The functions do nothing: each states a law by its
 //! contract.
-ghost use Rattle.std.specs.Prelude.{◌≡◌, ℕ, ◌+◌, ◌<◌, ◌≤◌, List, [], ◌∷◌};
+ghost use Rattle.std.specs.Prelude.{◌≡◌, ℕ, ◌+◌, ◌<◌, ◌≤◌, List, [], ◌∷◌, ◌++◌};
 ghost use Rattle.std.specs.List.{AllByRecursion};
+ghost use Rattle.planus_back.specs.Caches.{Held, Fits, EmptyFits};
 ghost use Rattle.planus_back.specs.Promises.{Promise, IsPowerOfTwo, Keep, greatest_alignment};
 ghost use Rattle.planus_back.specs.Padding.{promise_of, IsLeastPadding};
 ghost use Rattle.planus_back.specs.Parts.{Part};
 ghost use Rattle.planus_back.specs.Placings.{IsPlacing, PlacedInTurn, NoneIsGreater};
 ghost use Rattle.planus_back.specs.Descriptions.{Describes};
+
+use crate::cache_keys::GetCacheKey;
+
+/// An empty cache fits all bytes.
+pub fn empty_caches_fit<C: GetCacheKey>()
+    ensures { EmptyFits C.key_in }
+{}
+
+/// Bytes that are put in front keep the fit of a cache.
+pub fn fit_is_kept<C: GetCacheKey>()
+    ensures { (held : Held) (front bytes : List ℕ) → Fits C.key_in held bytes
+        → Fits C.key_in held (front ++ bytes) }
+{}
 
 /// The padding of one write is below the alignment that it asks for.
 pub fn padding_is_below_alignment()

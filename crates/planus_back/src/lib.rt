@@ -3,17 +3,21 @@
 //! [`BackVec`] is a byte vector that grows towards its front. [`Promises`] keeps, in a remainder
 //! and a mask, exactly the finished lengths at which every part placed so far stands aligned, and
 //! names the least padding in front of the next one. [`Fill`] and [`Overwrite`] write the bytes of
-//! one part in place. [`laws`] states what the definitions of padding and places are good for, and
+//! one part in place. [`Cache`] finds what stands in a buffer by its contents. [`laws`] states what the definitions of padding and places are good for, and
 //! [`plain`] finds the least padding by trying.
 #![tactic(auto)]
 
 pub mod backvec;
+pub mod cache;
+pub mod cache_keys;
 pub mod fill;
 pub mod laws;
 pub mod plain;
 pub mod promises;
 
 pub use backvec::BackVec;
+pub use cache::Cache;
+pub use cache_keys::{ByteVec, GetCacheKey, VTable};
 pub use fill::{Fill, Overwrite};
 pub use promises::{Promises, TooLarge};
 

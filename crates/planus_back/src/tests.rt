@@ -1,6 +1,10 @@
-ghost use Rattle.std.specs.Prelude.{◌≡◌, ◌%◌, [], ◌∷◌};
+ghost use Rattle.std.specs.Prelude.{◌≡◌, ◌%◌, [], ◌∷◌, OnOk};
+ghost use Rattle.planus_back.specs.CacheKeys.{bytes_in};
+ghost use Rattle.planus_back.specs.Caches.{Fits};
 
 use crate::backvec::BackVec;
+use crate::cache::Cache;
+use crate::cache_keys::{ByteVec, GetCacheKey, VTable};
 use crate::fill::{Fill, Overwrite};
 use crate::promises::{Promises, TooLarge};
 use std::test::Fail;
@@ -90,5 +94,60 @@ fn a_refusal_changes_nothing(rt: HostRuntime) -> Result<(), Fail> {
     assert!(rt; bytes.reserve(1 << 62).is_err());
     assert!(rt; bytes.extend_with_zeros(usize::MAX).is_err());
     assert_eq!(rt; (bytes.as_slice(), bytes.room()), (&b"end"[..], 17));
+    Ok(())
+}
+
+#[test]
+fn keys_lie_wholly_in_the_bytes(rt: HostRuntime) {
+    let bytes = b"\x09\0\x02\0\0\0Hi\x06\0\x04\0\x01\0".as_slice();
+    assert_eq!(rt; ByteVec::key_at(bytes, 12), Some(b"Hi".as_slice()));
+    assert_eq!(rt; ByteVec::key_at(bytes, 14), None);
+    assert_eq!(rt; ByteVec::key_at(bytes, 15), None);
+    assert_eq!(rt; ByteVec::key_at(bytes, 3), None);
+    assert_eq!(rt; ByteVec::key_at(bytes, 0), None);
+    assert_eq!(rt; ByteVec::key_at(b"\0\0\0\0", 4), Some(b"".as_slice()));
+    let vtable = b"\x06\0\x04\0\x01\0".as_slice();
+    assert_eq!(rt; VTable::key_at(bytes, 6), Some(vtable));
+    assert_eq!(rt; VTable::key_at(vtable, 4), Some(b"\x04\0\x01\0".as_slice()));
+    assert_eq!(rt; VTable::key_at(b"\x07\0\x04\0\x01\0", 6), None);
+    assert_eq!(rt; VTable::key_at(bytes, 1), None);
+    assert_eq!(rt; VTable::key_at(bytes, 15), None);
+}
+
+// Adds a distance at which the key stands in the bytes.
+fn add(
+    cache: &mut Cache<ByteVec>,
+    bytes: &[u8],
+    key: &[u8],
+    distance: u32,
+) -> std::result::Result<(), Fail>
+    requires { Fits bytes_in cache.old bytes.now }
+    ensures { OnOk result (Fits bytes_in cache.new bytes.now) }
+{
+    match ByteVec::key_at(bytes, distance) {
+        Some(found) if found == key => {}
+        _ => return Err(Fail::new("the key doesn't stand there")),
+    }
+    cache.insert(key, distance)?;
+    Ok(())
+}
+
+#[test]
+fn caches_find_equal_keys(rt: HostRuntime) -> Result<(), Fail> {
+    let bytes = b"\x02\0\0\0Ho\x02\0\0\0Hi".as_slice();
+    for mask in [u64::MAX, 1, 0] {
+        let mut cache: Cache<ByteVec> = Cache::new(rt.alloc(), mask)?;
+        crate::laws::empty_caches_fit::<ByteVec>();
+        assert_eq!(rt; cache.get(bytes, b"Hi"), None);
+        add(&mut cache, bytes, b"Hi", 6)?;
+        assert_eq!(rt; cache.get(bytes, b"Hi"), Some(6));
+        assert_eq!(rt; cache.get(bytes, b"Ho"), None);
+        add(&mut cache, bytes, b"Ho", 12)?;
+        assert_eq!(rt; cache.get(bytes, b"Hi"), Some(6));
+        assert_eq!(rt; cache.get(bytes, b"Ho"), Some(12));
+        assert_eq!(rt; cache.get(bytes, b"H"), None);
+        cache.clear();
+        assert_eq!(rt; cache.get(bytes, b"Hi"), None);
+    }
     Ok(())
 }

@@ -1,0 +1,26 @@
+-- What a cache does with the distances at one cut hash.
+use Rattle.std.specs.Prelude.{◌≡◌, ℕ, ◌<◌, ◌++◌, List, [], ◌∷◌, map, length, slice_index, Option}
+use Rattle.std.specs.Prelude.{Some, MatchOption, nat_eq, cond, unwrap_or}
+use Rattle.std.specs.Map.{lookup}
+use Rattle.std.specs.declared.vec.Vec.{Vec}
+use mathlib.Core.Logic.{◌≢◌}
+use Rattle.planus_back.specs.CacheKeys.{key_at}
+
+-- a map, without where its lists lie in memory
+abbrev pub listed : {Z : Type 0} → List (ℕ × Vec ℕ Z) → List (ℕ × List ℕ)
+listed entries = map (λ entry. (entry.0, entry.1.items)) entries
+
+-- the distance is added at the end of the list at this hash, and nothing else changes
+abbrev pub AddsAt : List (ℕ × List ℕ) → ℕ → ℕ → List (ℕ × List ℕ) → Type 0
+AddsAt old hash distance new =
+    (other : ℕ) → lookup (nat_eq other) new
+    ≡ cond (nat_eq hash other) (Some (unwrap_or (lookup (nat_eq hash) old) [] ++ distance ∷ []))
+    (lookup (nat_eq other) old)
+
+-- one of the distances, at which the key stands, or none where there is none
+abbrev pub FoundAmong : (List ℕ → Option (List ℕ)) → List ℕ → List ℕ → List ℕ → Option ℕ → Type 0
+FoundAmong key_in distances bytes key answer =
+    MatchOption answer
+    ((i : ℕ) → i < length distances → key_at key_in bytes (slice_index distances i) ≢ Some key)
+    (λ distance. ((i : ℕ) × (i < length distances) × (slice_index distances i ≡ distance))
+    × (key_at key_in bytes distance ≡ Some key))

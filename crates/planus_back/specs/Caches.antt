@@ -1,0 +1,63 @@
+-- A cache as a set of distances that fits some bytes, and what its calls do.
+use Rattle.std.specs.Prelude.{◌≡◌, ℕ, ◌*◌, ◌%◌, ◌^◌, ◌<◌, List, length, slice_index, Option, Some}
+use Rattle.std.specs.Prelude.{nat_eq, bit_and, bit_xor, ◌↔◌, ◌⊎◌, MatchOption}
+use Rattle.std.specs.List.{fold}
+use Rattle.std.specs.Map.{lookup}
+use mathlib.Core.Logic.{◌≢◌}
+use Rattle.planus_back.specs.CacheKeys.{key_at}
+
+-- What a cache holds: the bits of a hash that are used, and lists of distances by cut hashes. It is
+-- read through `Has` and `Fits` alone, which name neither.
+pub record Held : Type 0 where
+  pub mask : ℕ
+  pub buckets : List (ℕ × List ℕ)
+
+-- one byte more of a hash
+abbrev pub hash_step : ℕ → ℕ → ℕ
+hash_step hash byte = (bit_xor hash byte * 1099511628211) % 2 ^ 64
+
+-- the hash of a key, cut to the bits that are used
+abbrev pub cut_hash : ℕ → List ℕ → ℕ
+cut_hash mask key = bit_and (fold hash_step 14695981039346656037 key) mask
+
+-- the distances at a cut hash
+abbrev pub bucket : Held → ℕ → Option (List ℕ)
+bucket held hash = lookup (nat_eq hash) held.buckets
+
+-- the cache has the distance
+unfoldable pub Has : Held → ℕ → Type 0
+Has held distance = (hash : ℕ) × (distances : List ℕ) × (bucket held hash ≡ Some distances)
+    × (i : ℕ) × (i < length distances) × (slice_index distances i ≡ distance)
+
+-- The cache fits the bytes: at each of its distances a key stands, which is found by its own hash.
+unfoldable pub Fits : (List ℕ → Option (List ℕ)) → Held → List ℕ → Type 0
+Fits key_in held bytes =
+    (hash : ℕ) (distances : List ℕ) → bucket held hash ≡ Some distances
+    → (i : ℕ) → i < length distances
+    → (key : List ℕ) × (key_at key_in bytes (slice_index distances i) ≡ Some key)
+    × (cut_hash held.mask key ≡ hash)
+
+-- no distance is held
+abbrev pub IsEmpty : Held → Type 0
+IsEmpty held = (distance : ℕ) → ¬ Has held distance
+
+-- the distances are those of before, and this one
+abbrev pub Adds : Held → ℕ → Held → Type 0
+Adds old distance new = (other : ℕ) → Has new other ↔ (Has old other ⊎ (other ≡ distance))
+
+-- it fits all bytes that the cache before did and in which the key stands at the distance
+abbrev pub FitsWhereKeyStands : (List ℕ → Option (List ℕ)) → Held → List ℕ → ℕ → Held → Type 0
+FitsWhereKeyStands key_in old key distance new =
+    (bytes : List ℕ) → Fits key_in old bytes → key_at key_in bytes distance ≡ Some key
+    → Fits key_in new bytes
+
+-- what is answered for a key: a distance of the set at which it stands, or none where there is none
+abbrev pub IsFound : (List ℕ → Option (List ℕ)) → Held → List ℕ → List ℕ → Option ℕ → Type 0
+IsFound key_in held bytes key answer =
+    MatchOption answer
+    ((distance : ℕ) → Has held distance → key_at key_in bytes distance ≢ Some key)
+    (λ distance. Has held distance × (key_at key_in bytes distance ≡ Some key))
+
+-- an empty cache fits all bytes
+abbrev pub EmptyFits : (List ℕ → Option (List ℕ)) → Type 0
+EmptyFits key_in = (held : Held) (bytes : List ℕ) → IsEmpty held → Fits key_in held bytes

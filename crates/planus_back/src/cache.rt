@@ -1,0 +1,130 @@
+//! A cache of what stands in bytes that grow at their front.
+ghost use Rattle.std.specs.Prelude.{◌≡◌, OnOk, OnErr, IfOk};
+ghost use Rattle.std.specs.List.{fold};
+ghost use Rattle.planus_back.specs.Buckets.{listed, AddsAt, FoundAmong};
+ghost use Rattle.planus_back.specs.Caches.{Fits, IsEmpty, Adds, FitsWhereKeyStands, IsFound};
+ghost use Rattle.planus_back.specs.Caches.{hash_step};
+
+use crate::cache_keys::GetCacheKey;
+use std::alloc::{AllocError, Global};
+use std::collections::HashMap;
+use std::marker::{Model, PhantomData};
+
+/// The distances at which keys of one kind stand in some bytes, so that an equal key is found.
+///
+/// To its callers it is a set of distances that fits some bytes: at each of them a key stands
+/// there. Bytes that are put in front keep the fit. Which hash is used, and which of its bits, no
+/// answer depends on.
+#[derive(Drop)]
+pub struct Cache<C> {
+    // The distances at which keys stand, by the hashes of these, cut by the mask.
+    buckets: HashMap<u64, Vec<u32>>,
+    hash_mask: u64,
+    alloc: Global,
+    of: PhantomData<C>,
+}
+
+impl<C> Model for Cache<C> {
+    ghost use Rattle.planus_back.specs.Buckets.{listed};
+    ghost use Rattle.planus_back.specs.Caches.{Held};
+
+    ghost Value = { Held };
+
+    ghost view = { λ a. record { mask = a.hash_mask; buckets = listed a.buckets.entries } };
+}
+
+/// The hash of a key (FNV-1a of 64 bits).
+fn hash(key: &[u8]) -> u64
+    ensures { result ≡ fold hash_step 14695981039346656037 key.now }
+{
+    let mut hash: u64 = 14695981039346656037;
+    for byte in key {
+        hash = (hash ^ (*byte as u64)).wrapping_mul(1099511628211);
+    }
+    hash
+}
+
+/// The first of the distances at which the key stands.
+fn find<C: GetCacheKey>(distances: &[u32], serialized: &[u8], key: &[u8]) -> Option<u32>
+    ensures { FoundAmong C.key_in distances.now serialized.now key.now result }
+{
+    for distance in distances {
+        if let Some(found) = C::key_at(serialized, *distance) {
+            if found == key {
+                return Some(*distance);
+            }
+        }
+    }
+    None
+}
+
+/// Adds a distance to those at a hash. A refusal changes nothing.
+fn add(
+    buckets: &mut HashMap<u64, Vec<u32>>,
+    alloc: Global,
+    hash: u64,
+    distance: u32,
+) -> Result<(), AllocError>
+    ensures ok { OnOk result (AddsAt (listed buckets.old.entries) hash distance
+        (listed buckets.new.entries)) }
+    ensures err { OnErr result (listed buckets.new.entries ≡ listed buckets.old.entries) }
+{
+    match buckets.get_mut(&hash) {
+        Some(distances) => {
+            distances.push(distance)?;
+        }
+        None => {
+            let mut distances = Vec::with_capacity(alloc, 1)?;
+            distances.push(distance)?;
+            buckets.insert(hash, distances)?;
+        }
+    }
+    Ok(())
+}
+
+impl<C: GetCacheKey> Cache<C> {
+    /// An empty cache, which uses the bits of a hash that are set in `hash_mask`; with 0 all hashes
+    /// are equal.
+    pub fn new(alloc: Global, hash_mask: u64) -> Result<Cache<C>, AllocError>
+        ensures { IfOk result IsEmpty }
+    {
+        Ok(Cache {
+            buckets: HashMap::new(alloc),
+            hash_mask,
+            alloc,
+            of: PhantomData,
+        })
+    }
+
+    /// Takes all distances out.
+    pub fn clear(&mut self)
+        ensures { IsEmpty self.new }
+    {
+        self.buckets.clear();
+    }
+
+    /// Returns a distance of the set at which the key stands in the bytes, which the cache fits,
+    /// and `None` where there is none.
+    pub fn get(&self, serialized: &[u8], key: &[u8]) -> Option<u32>
+        requires { Fits C.key_in self.now serialized.now }
+        ensures { IsFound C.key_in self.now serialized.now key.now result }
+    {
+        let bucket = hash(key) & self.hash_mask;
+        match self.buckets.get(&bucket) {
+            Some(distances) => find::<C>(distances.as_slice(), serialized, key),
+            None => None,
+        }
+    }
+
+    /// Adds the distance at which the key stands, or is about to: the cache fits all bytes that it
+    /// fitted before and in which the key stands there. It is unchanged where memory is refused.
+    pub fn insert(&mut self, key: &[u8], distance: u32) -> Result<(), AllocError>
+        ensures ok { OnOk result (Adds self.old distance self.new) }
+        ensures fits { OnOk result
+            (FitsWhereKeyStands C.key_in self.old key.now distance self.new) }
+        ensures err { OnErr result (self.new ≡ self.old) }
+    {
+        let bucket = hash(key) & self.hash_mask;
+        add(&mut self.buckets, self.alloc, bucket, distance)
+    }
+}

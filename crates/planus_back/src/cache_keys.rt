@@ -1,0 +1,56 @@
+//! What a cache compares.
+ghost use Rattle.std.specs.Prelude.{◌≡◌, ℕ, ◌-◌, List, length, drop, Option, Some, None, nat_le};
+ghost use Rattle.std.specs.Prelude.{if◌then◌else◌};
+ghost use Rattle.std.specs.Option.{option_copied};
+ghost use Rattle.planus_back.specs.CacheKeys.{key_at, vtable_in, bytes_in};
+
+/// A kind of what stands in a buffer, by what two of it are equal.
+///
+/// The ghost member `key_in` names the key of what stands at the front of some bytes, if it stands
+/// there.
+pub trait GetCacheKey {
+    ghost key_in: { List ℕ → Option (List ℕ) };
+
+    /// Returns the key of what stands at a distance in bytes from the end, and `None` where the
+    /// key, or the size or the count by which it is read, doesn't lie wholly in `serialized`.
+    fn key_at(serialized: &[u8], distance: u32) -> Option<&[u8]>
+        ensures { option_copied result ≡ key_at key_in serialized.now distance };
+}
+
+/// The kind of vtables: a key is a vtable whole, with its own size in front.
+pub struct VTable;
+
+/// The kind of texts and byte lists: a key is the bytes behind the count.
+pub struct ByteVec;
+
+/// As many of the last bytes as the distance.
+fn last_bytes(serialized: &[u8], distance: u32) -> Option<&[u8]>
+    ensures { option_copied result ≡ (if nat_le distance (length serialized.now)
+        then Some (drop (length serialized.now - distance) serialized.now) else None) }
+{
+    let distance = distance as usize;
+    if distance > serialized.len() {
+        return None;
+    }
+    Some(&serialized[serialized.len() - distance..])
+}
+
+impl GetCacheKey for VTable {
+    ghost key_in = { vtable_in };
+
+    fn key_at(serialized: &[u8], distance: u32) -> Option<&[u8]> {
+        let bytes = last_bytes(serialized, distance)?;
+        let size = u16::from_le_bytes(*bytes.first_chunk::<2>()?) as usize;
+        bytes.get(..size)
+    }
+}
+
+impl GetCacheKey for ByteVec {
+    ghost key_in = { bytes_in };
+
+    fn key_at(serialized: &[u8], distance: u32) -> Option<&[u8]> {
+        let bytes = last_bytes(serialized, distance)?;
+        let count = u32::from_le_bytes(*bytes.first_chunk::<4>()?) as usize;
+        bytes[4..].get(..count)
+    }
+}
