@@ -18,15 +18,17 @@ use Rattle.planus.specs.declared.steps.Field as code
 use Rattle.planus.specs.Slots.{slot_fault, rising_fault, place_fault, alignment_of, greatest_field}
 use Rattle.planus.specs.Runs.{field_of, fields_of}
 use Rattle.planus.specs.TableChecks.{content_fault, field_fault, table_fault}
-use Rattle.planus_write.specs.declared.offset.Offset.{Offset}
+use Rattle.planus_write.specs.Parts.{Named}
 use Rattle.planus.specs.declared.earlier.Earlier.{Earlier}
 use Rattle.planus.specs.declared.prepared_field.PreparedField.{PreparedField}
 use Rattle.planus.specs.Prepared.{PreparesField}
-use Rattle.planus.specs.Replaying.{distance_of, distances, listed_from, name_fault, AreReached}
+use Rattle.planus.specs.Names.{name_of, listed_from, IsReached}
+use Rattle.planus.specs.Replaying.{names, values_listed, name_fault, AreReached}
 use Rattle.planus.specs.Declaring.{slots_of}
 use Rattle.planus.specs.declared.faults.Why.{Why}
 use Rattle.planus.specs.declared.faults.Why.TheVariants.{SlotTooBig, SlotTwice, RisingAlignment}
 use Rattle.planus.specs.declared.progress.Progress.{Progress}
+use Rattle.planus.specs.declared.written.Written.{Written}
 use Rattle.planus.proofs.FieldFaults.{last_alignment, field_behind, no_more}
 use Rattle.planus.proofs.Filling.{size_around}
 use Rattle.planus.proofs.Found.{around}
@@ -34,10 +36,15 @@ use Rattle.planus.proofs.TableFields.{fields_push}
 use Rattle.planus.proofs.WrittenTables.{HasSize, field_written, slot_free, tables_are_written}
 
 -- the values that are listed lie in the bytes, if those of the steps do
-pub reached_from : (bytes n : ℕ) (since : List (Option ℕ)) → ((i d : ℕ) → slice_get since i ≡ Some (Some d) → d ≤ bytes) → AllByRecursion (λ one. one.named.distance ≤ bytes) (listed_from n since)
+pub reached_from : (bytes n : ℕ) (since : List (Option Named)) → ((i : ℕ) (d : Named) → slice_get since i ≡ Some (Some d) → IsReached bytes d)
+    → AllByRecursion (λ one. IsReached bytes one.named) (listed_from n since)
 reached_from bytes n [] reached = tt
 reached_from bytes n (None ∷ since) reached = reached_from bytes (n + 1) since (λ i d e. reached (suc i) d e)
-reached_from bytes n (Some distance ∷ since) reached = (reached 0 distance refl, reached_from bytes (n + 1) since (λ i d e. reached (suc i) d e))
+reached_from bytes n (Some name ∷ since) reached = (reached 0 name refl, reached_from bytes (n + 1) since (λ i d e. reached (suc i) d e))
+
+-- so do those of a replay
+pub values_reached : (replay : Progress) → AreReached replay → AllByRecursion (λ one. IsReached (length replay.builder.bytes) one.named) (values_listed replay)
+values_reached replay reached = reached_from (length replay.builder.bytes) replay.first (names replay) reached
 
 -- what fields declare, with one more
 declared_push : (all : List (ℕ × Field)) (x : ℕ × Field) → declared_of (all ++ x ∷ []) ≡ declared_of all ++ record { slot = x.0; size = field_size x.1; alignment = field_alignment x.1 } ∷ []
@@ -87,7 +94,7 @@ module _ (fields : List code.Field) (slot : ℕ) (small : slot ≤ 255) where
 -- A writer was told the fields so far, the last of which has this alignment.
 pub record Declares (replay : Progress) (fields : List (ℕ × FieldStep)) (writer : Writer) (before : ℕ) : Type 0 where
   pub all : List (ℕ × Field)
-  pub are : fields_of (listed_from replay.first (distances replay)) [] greatest_field fields ≡ Some all
+  pub are : fields_of (values_listed replay) [] greatest_field fields ≡ Some all
   pub clean : table_fault (name_fault replay) fields ≡ None
   pub told : WasTold writer (declared_of all)
   pub long : length writer.vtable ≡ 516
@@ -95,10 +102,10 @@ pub record Declares (replay : Progress) (fields : List (ℕ × FieldStep)) (writ
 
 -- what a replay prepares, by what its steps may name
 pub prepared_here : (replay : Progress) (earlier : Earlier) (content : FieldStep) (answer : Result PreparedField Why) → earlier.first ≡ replay.first → earlier.offsets.now ≡ replay.offsets.items
-    → PreparesField earlier.first (map distance_of earlier.offsets.now) content answer → PreparesField replay.first (distances replay) content answer
+    → PreparesField earlier.first (map name_of earlier.offsets.now) content answer → PreparesField replay.first (names replay) content answer
 prepared_here replay earlier content answer first offsets h =
-    subst (λ (os : List (Option (Offset (Unit {0})))). PreparesField replay.first (map distance_of os) content answer) offsets
-    (subst (λ n. PreparesField n (map distance_of earlier.offsets.now) content answer) first h)
+    subst (λ (os : List (Option Written)). PreparesField replay.first (map name_of os) content answer) offsets
+    (subst (λ n. PreparesField n (map name_of earlier.offsets.now) content answer) first h)
 
 -- the first fault of all fields is one of the field behind those so far
 module _ (replay : Progress) (all : List code.Field) (i : ℕ) (x : code.Field) (step : take (i + 1) all ≡ take i all ++ x ∷ []) (writer : Writer) (before : ℕ)
@@ -122,11 +129,11 @@ module _ (replay : Progress) (all : List code.Field) (i : ℕ) (x : code.Field) 
 
 -- one field more, nothing of which is wrong
 module _ (replay : Progress) (reached : AreReached replay) (fields : List (ℕ × FieldStep)) (writer : Writer) (before : ℕ) (so_far : Declares replay fields writer before)
-    (x : ℕ × FieldStep) (field : Field) (slot_good : slot_fault (slots_of fields) x.0 ≡ None) (is : field_of (listed_from replay.first (distances replay)) x.1 ≡ Some field)
+    (x : ℕ × FieldStep) (field : Field) (slot_good : slot_fault (slots_of fields) x.0 ≡ None) (is : field_of (values_listed replay) x.1 ≡ Some field)
     (good : content_fault (name_fault replay) x.1 ≡ None) where
   size_known : HasSize (length replay.builder.bytes) (alignment_of x.1) field
-  size_known = field_written (λ one. one.named.distance ≤ length replay.builder.bytes) (length replay.builder.bytes) (λ one le. le) (listed_from replay.first (distances replay))
-      (reached_from (length replay.builder.bytes) replay.first (distances replay) reached) x.1 field is
+  size_known = field_written (λ one. IsReached (length replay.builder.bytes) one.named) (length replay.builder.bytes) (λ one there. there) (values_listed replay)
+      (values_reached replay reached) x.1 field is
 
   pub alignment_is : field_alignment field ≡ alignment_of x.1
   alignment_is = size_known.1
@@ -151,12 +158,12 @@ module _ (replay : Progress) (reached : AreReached replay) (fields : List (ℕ �
     free : place_fault (slots_of fields) (last_alignment greatest_field fields) x ≡ None
     free = ap (λ o. option_or o (rising_fault (last_alignment greatest_field fields) (alignment_of x.1))) slot_good ∙ not_rising
 
-    more : fields_of (listed_from replay.first (distances replay)) [] greatest_field (fields ++ x ∷ []) ≡ Some (so_far.all ++ (x.0, field) ∷ [])
-    more = fields_push (listed_from replay.first (distances replay)) [] greatest_field fields x so_far.all field so_far.are free is
+    more : fields_of (values_listed replay) [] greatest_field (fields ++ x ∷ []) ≡ Some (so_far.all ++ (x.0, field) ∷ [])
+    more = fields_push (values_listed replay) [] greatest_field fields x so_far.all field so_far.are free is
 
     written : IsTable (length replay.builder.bytes) (so_far.all ++ (x.0, field) ∷ [])
-    written = tables_are_written (λ one. one.named.distance ≤ length replay.builder.bytes) (length replay.builder.bytes) (λ one le. le) (listed_from replay.first (distances replay))
-        (reached_from (length replay.builder.bytes) replay.first (distances replay) reached) (fields ++ x ∷ []) (so_far.all ++ (x.0, field) ∷ []) more
+    written = tables_are_written (λ one. IsReached (length replay.builder.bytes) one.named) (length replay.builder.bytes) (λ one there. there) (values_listed replay)
+        (values_reached replay reached) (fields ++ x ∷ []) (so_far.all ++ (x.0, field) ∷ []) more
 
     pub small : x.0 ≤ 255
     small = let below = (slot_free (slots_of fields) x.0 slot_good).0 in omega (arith, below)

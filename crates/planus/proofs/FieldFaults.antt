@@ -2,17 +2,20 @@
 use Rattle.std.proofs.Common.{◌≡◌, ℕ, List, [], ◌∷◌, ◌++◌, refl, ap, ◌∙◌, Option, Some, None}
 use Rattle.std.proofs.Common.{append_assoc, append-nil, sym}
 use Rattle.std.specs.Option.{option_or}
-use Rattle.planus.specs.Steps.{FieldStep, number_field, ref_field}
+use Rattle.planus.specs.Steps.{FieldStep, number_field, ref_field, tags_field, values_field}
+use Rattle.planus.specs.Kinds.{Kind, a_value, a_union_list}
 use Rattle.planus.specs.Slots.{slot_fault, rising_fault, alignment_of}
 use Rattle.planus.specs.TableChecks.{content_fault, field_fault, fields_fault}
 use Rattle.planus.specs.Declaring.{slots_of}
 use Rattle.planus.specs.declared.faults.Why.{Why}
 
 -- the faults are the same by what is the same of each step that is named
-module _ (f g : ℕ → Option Why) (same : (n : ℕ) → f n ≡ g n) where
+module _ (f g : Kind → ℕ → Option Why) (same : (kind : Kind) (n : ℕ) → f kind n ≡ g kind n) where
   same_content : (content : FieldStep) → content_fault f content ≡ content_fault g content
   same_content (number_field width n) = refl
-  same_content (ref_field step) = same step
+  same_content (ref_field step) = same a_value step
+  same_content (tags_field step) = same a_union_list step
+  same_content (values_field step) = same a_union_list step
 
   pub same_fields : (slots : List ℕ) (before : ℕ) (fields : List (ℕ × FieldStep)) → fields_fault f slots before fields ≡ fields_fault g slots before fields
   same_fields slots before [] = refl
@@ -30,7 +33,7 @@ abbrev pub last_alignment : ℕ → List (ℕ × FieldStep) → ℕ
 last_alignment before [] = before
 last_alignment before (entry ∷ fields) = last_alignment (alignment_of entry.1) fields
 
-module _ (fault : ℕ → Option Why) where
+module _ (fault : Kind → ℕ → Option Why) where
   -- what is wrong behind fields without a fault
   pub faults_behind : (slots : List ℕ) (before : ℕ) (xs rest : List (ℕ × FieldStep)) → fields_fault fault slots before xs ≡ None
       → fields_fault fault slots before (xs ++ rest) ≡ fields_fault fault (slots ++ slots_of xs) (last_alignment before xs) rest

@@ -2,7 +2,7 @@
 use Rattle.std.proofs.Common.{◌≡◌, ℕ, ◌+◌, ◌-◌, ◌≤◌, List, [], ◌∷◌, ◌++◌, length, map, take, drop, refl, sym}
 use Rattle.std.proofs.Common.{ap, ◌∙◌, subst, arith, Option, Some, None, append_assoc, append-nil}
 use Rattle.std.proofs.Common.{length-append, drop-drop}
-use Rattle.std.specs.Option.{option_or}
+use Rattle.std.specs.Option.{option_or, option_map}
 use Rattle.std.proofs.lemmas.List.{length-drop, map-append}
 use Rattle.std.proofs.Math.Seq.{take-append_seam, drop-append-add}
 use Rattle.planus_read.specs.Values.{Field}
@@ -15,14 +15,16 @@ use Rattle.planus.specs.declared.steps.Field as code
 use Rattle.planus.specs.Slots.{slot_fault, rising_fault, place_fault, alignment_of, greatest_field}
 use Rattle.planus.specs.Runs.{Listed, named_at, field_of, with_field, fields_of}
 use Rattle.planus.specs.TableChecks.{content_fault, field_fault, fields_fault, table_fault}
-use Rattle.planus.specs.Replaying.{distance_of, distance_at, distance_fault, named, listed_from}
+use Rattle.planus.specs.Kinds.{Kind, a_value, a_union_list, kind_named, naming_fault}
+use Rattle.planus.specs.Names.{name_of, listed_from, written_at, fault_since}
 use Rattle.planus.specs.declared.faults.Why.{Why}
-use Rattle.planus.specs.Prepared.{field_reach, fault_since}
+use Rattle.planus.specs.Prepared.{field_reach}
 use Rattle.planus.specs.Filling.{listed_since, fields_or_none, fields_in, fields_reach}
 use Rattle.planus.specs.declared.table_body.TableBody.{TableBody}
 use Rattle.planus.proofs.FieldFaults.{none_of}
 use Rattle.planus.proofs.Found.{around}
-use Rattle.planus.proofs.Stepping.{named_value}
+use Rattle.planus.proofs.NamedKinds.{GoodAreNamed}
+use Rattle.planus.proofs.Lists.{named_value}
 use Rattle.planus.proofs.TableFields.{fields_made, fields_are}
 
 -- Fields of a table, with one of them.
@@ -83,16 +85,31 @@ reach_inside [] x back = omega arith
 reach_inside (first ∷ front) x back = let rest = reach_inside front x back in omega (arith, rest)
 
 -- what may be named is listed
-named_good : (first : ℕ) (since : List (Option ℕ)) (step : ℕ) → fault_since first since step ≡ None → (of : Named) × (named_at (listed_from first since) step ≡ Some of)
-named_good first since step none = by_case (distance_at first since step) refl none
+named_good : (first : ℕ) (since : List (Option Named)) → GoodAreNamed (listed_from first since) (fault_since first since)
+named_good first since kind step none = by_case (written_at first since step) refl none
   where
-    by_case : (found : Option (Option ℕ)) → distance_at first since step ≡ found → distance_fault found ≡ None → (of : Named) × (named_at (listed_from first since) step ≡ Some of)
-    by_case None is e = (cc)
-    by_case (Some None) is e = (cc)
-    by_case (Some (Some distance)) is e = (named distance, named_value first since step distance is)
+    by_kind : (wanted found : Kind) → naming_fault wanted (Some (Some found)) ≡ None → found ≡ wanted
+    by_kind a_value a_value e = refl
+    by_kind a_value a_union_list e = (cc)
+    by_kind a_union_list a_value e = (cc)
+    by_kind a_union_list a_union_list e = refl
+
+    by_case : (found : Option (Option Named)) → written_at first since step ≡ found → naming_fault kind (option_map (option_map kind_named) found) ≡ None
+        → (of : Named) × (named_at (listed_from first since) step ≡ Some of) × (kind_named of ≡ kind)
+    by_case None is e = absurd (none_good kind e)
+      where
+        none_good : (wanted : Kind) → naming_fault wanted None ≡ None → ⊥
+        none_good a_value e = (cc)
+        none_good a_union_list e = (cc)
+    by_case (Some None) is e = absurd (finish_good kind e)
+      where
+        finish_good : (wanted : Kind) → naming_fault wanted (Some None) ≡ None → ⊥
+        finish_good a_value e = (cc)
+        finish_good a_union_list e = (cc)
+    by_case (Some (Some name)) is e = (name, named_value first since step name is, by_kind kind (kind_named name) e)
 
 -- nothing is wrong with what one of the fields holds, where there is no fault
-content_apart : (fault : ℕ → Option Why) (slots : List ℕ) (before : ℕ) (xs : List (ℕ × FieldStep)) (x : ℕ × FieldStep) (rest : List (ℕ × FieldStep))
+content_apart : (fault : Kind → ℕ → Option Why) (slots : List ℕ) (before : ℕ) (xs : List (ℕ × FieldStep)) (x : ℕ × FieldStep) (rest : List (ℕ × FieldStep))
     → fields_fault fault slots before (xs ++ x ∷ rest) ≡ None → content_fault fault x.1 ≡ None
 content_apart fault slots before [] x rest e =
     let both = none_of (field_fault fault slots before x) (fields_fault fault (slots ++ x.0 ∷ []) (alignment_of x.1) rest) e in
@@ -114,7 +131,7 @@ pub record Filled (body : TableBody) (index : ℕ) (old new : ObjectWriter) : Ty
 -- the fields of a table without a fault
 pub fields_are_in : (body : TableBody) → fields_of (listed_since body) [] greatest_field (map bare_field body.fields.now) ≡ Some (fields_in body)
 fields_are_in body =
-    let made = fields_are (listed_since body) (fault_since body.earlier.first (map distance_of body.earlier.offsets.now)) (named_good body.earlier.first (map distance_of body.earlier.offsets.now)) [] greatest_field
+    let made = fields_are (listed_since body) (fault_since body.earlier.first (map name_of body.earlier.offsets.now)) (named_good body.earlier.first (map name_of body.earlier.offsets.now)) [] greatest_field
     (map bare_field body.fields.now) body.good in
     made.1 ∙ ap (λ (all : List (ℕ × Field)). Some all) (sym (ap fields_or_none made.1))
 
@@ -137,12 +154,12 @@ module _ (body : TableBody) (i : ℕ) (x : code.Field) (step : take (i + 1) body
   parts = sym (map-append bare_field (take i body.fields.now) (x ∷ drop (i + 1) body.fields.now)) ∙ ap (map bare_field) (around body.fields.now i x step)
 
   -- nothing is wrong with the field
-  content_good : content_fault (fault_since body.earlier.first (map distance_of body.earlier.offsets.now)) (content_of x.value) ≡ None
+  content_good : content_fault (fault_since body.earlier.first (map name_of body.earlier.offsets.now)) (content_of x.value) ≡ None
   content_good =
-      content_apart (fault_since body.earlier.first (map distance_of body.earlier.offsets.now)) [] greatest_field (map bare_field (take i body.fields.now)) (bare_field x) behind
-      (ap (table_fault (fault_since body.earlier.first (map distance_of body.earlier.offsets.now))) parts ∙ body.good)
+      content_apart (fault_since body.earlier.first (map name_of body.earlier.offsets.now)) [] greatest_field (map bare_field (take i body.fields.now)) (bare_field x) behind
+      (ap (table_fault (fault_since body.earlier.first (map name_of body.earlier.offsets.now))) parts ∙ body.good)
 
-  pub not_bad : (why : Why) → content_fault (fault_since body.earlier.first (map distance_of body.earlier.offsets.now)) (content_of x.value) ≡ Some why → ⊥
+  pub not_bad : (why : Why) → content_fault (fault_since body.earlier.first (map name_of body.earlier.offsets.now)) (content_of x.value) ≡ Some why → ⊥
   not_bad why bad = no_fault why (sym content_good ∙ bad)
 
   apart : Apart (listed_since body) [] greatest_field (map bare_field (take i body.fields.now)) (bare_field x) (fields_in body)

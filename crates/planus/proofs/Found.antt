@@ -6,21 +6,21 @@ use Rattle.std.proofs.lemmas.List.{take-append-drop}
 use Rattle.planus.specs.Replays.{first_fault}
 use Rattle.planus.specs.declared.faults.Why.{Why}
 
-module _ (fault : ℕ → Option Why) where
+module _ {X : Type 0} (fault : X → Option Why) where
   -- none of several has a fault, and so has none of fewer
   none_first : (first rest : Option Why) → option_or first rest ≡ None → (first ≡ None) × (rest ≡ None)
   none_first None rest e = (refl, e)
   none_first (Some why) rest e = (cc)
 
   -- the first fault is that behind those without one
-  pub fault_behind : (xs : List ℕ) (x : ℕ) (rest : List ℕ) (why : Why) → first_fault fault xs ≡ None → fault x ≡ Some why → first_fault fault (xs ++ x ∷ rest) ≡ Some why
+  pub fault_behind : (xs : List X) (x : X) (rest : List X) (why : Why) → first_fault fault xs ≡ None → fault x ≡ Some why → first_fault fault (xs ++ x ∷ rest) ≡ Some why
   fault_behind [] x rest why none e = ap (λ (f : Option Why). option_or f (first_fault fault rest)) e
   fault_behind (y ∷ ys) x rest why none e =
       let both = none_first (fault y) (first_fault fault ys) none in
       ap (λ (f : Option Why). option_or f (first_fault fault (ys ++ x ∷ rest))) both.0 ∙ fault_behind ys x rest why both.1 e
 
   -- and there is none still
-  pub none_more : (xs : List ℕ) (x : ℕ) → first_fault fault xs ≡ None → fault x ≡ None → first_fault fault (xs ++ x ∷ []) ≡ None
+  pub none_more : (xs : List X) (x : X) → first_fault fault xs ≡ None → fault x ≡ None → first_fault fault (xs ++ x ∷ []) ≡ None
   none_more [] x none e = ap (λ (f : Option Why). option_or f None) e
   none_more (y ∷ ys) x none e =
       let both = none_first (fault y) (first_fault fault ys) none in

@@ -29,21 +29,25 @@ use Rattle.planus_write.proofs.PartBytes.{length_after, finish_size}
 use Rattle.planus_write.proofs.Staying.{kept_stays, seen_stays}
 use Rattle.planus_write.proofs.Standing.{values_are_kept, finishes_lead}
 use Rattle.planus_write.proofs.Standing.{finishes_are_identified}
-use Rattle.planus.specs.Steps.{Step, text, bytes, numbers, refs, table, finish, clear}
+use Rattle.planus.specs.Steps.{Step, text, bytes, numbers, refs, unions, table, finish, clear}
+use Rattle.planus.specs.Kinds.{kind_of, kind_named}
+use Rattle.planus.specs.Names.{IsReached}
 use Rattle.planus.specs.Runs.{Listed, State, nothing_written, Advances, LeadsTo, cleared}
 use Rattle.planus.specs.Runs.{named_at, value_of, finish_of, Writes, values_added, finishes_added}
-use Rattle.planus.specs.Runs.{distances_of, width_of, fields_of}
+use Rattle.planus.specs.Runs.{value_distance, value_at, union_of, all_of, width_of, fields_of}
 use Rattle.planus.specs.Slots.{greatest_field}
 use Rattle.planus.specs.Replays.{is_clear, named_step}
 use Rattle.planus.specs.Headline.{ValueHolds, IsFewest, FinishHolds}
 use Rattle.planus.proofs.Turns.{InTurn, fewest}
+use Rattle.planus.proofs.NamedKinds.{kind_written}
 use Rattle.planus.proofs.Placed.{IsPlacedInTurn, nothing_in_turn, added_in_turn, all_in_turn}
 use Rattle.planus.proofs.Placed.{values_are_fit, greatest_power}
-use Rattle.planus.proofs.WrittenValues.{numbers_are_written, references_behind}
+use Rattle.planus.proofs.WrittenValues.{numbers_are_written, value_behind, references_behind}
+use Rattle.planus.proofs.WrittenValues.{unions_behind}
 use Rattle.planus.proofs.TableFields.{fields_more}
 use Rattle.planus.proofs.WrittenTables.{tables_are_written}
 use Rattle.planus.proofs.Lists.{all_weaker, all_push, all_named, get_last, made_of}
-use Rattle.planus.proofs.Lists.{distances_more}
+use Rattle.planus.proofs.Lists.{all_more, distance_more, union_more}
 use Rattle.planus.proofs.Naming.{named_push, named_last}
 
 -- A value is kept under what it is named by, and no clear is behind its step.
@@ -53,8 +57,13 @@ pub record ValueKept (all done : List Step) (past : Past) (listed : List Listed)
   pub there : slice_get all one.step ≡ Some step
   pub named : named_step done one.step ≡ Some step
   pub is_value : value_of listed step ≡ Some value
+  pub kind : kind_of step ≡ Some (kind_named one.named)
   pub well_formed : WellFormed value
   pub kept : IsKept past value one.named
+
+-- so it lies in the bytes
+value_reaches : (all done : List Step) (past : Past) (listed : List Listed) (one : Listed) → ValueKept all done past listed one → IsReached (length past.written.bytes) one.named
+value_reaches all done past listed one h = record { distance = h.kept.reached; tags = h.kept.tags_reached }
 
 pub record Kept (switches : Switches) (all done : List Step) (state : State) : Type 0 where
   pub numbered : state.next ≡ length done
@@ -83,8 +92,11 @@ value_stays listed more (text content) v e = e
 value_stays listed more (bytes content) v e = e
 value_stays listed more (numbers width items) v e = e
 value_stays listed more (refs steps) v e =
-    let made = made_of value.reference_list (distances_of listed steps) v e in
-    rw (distances_more listed more steps made.0 made.1) (ap Some made.2)
+    let made = made_of value.reference_list (all_of (value_at listed) steps) v e in
+    rw (all_more (value_at listed) (value_at (listed ++ more)) (distance_more value_distance listed more) steps made.0 made.1) (ap Some made.2)
+value_stays listed more (unions items) v e =
+    let made = made_of value.union_list (all_of (union_of listed) items) v e in
+    rw (all_more (union_of listed) (union_of (listed ++ more)) (union_more listed more) items made.0 made.1) (ap Some made.2)
 value_stays listed more (table fields) v e =
     let made = made_of value.table (fields_of listed [] greatest_field fields) v e in
     rw (fields_more listed more [] greatest_field fields made.0 made.1) (ap Some made.2)
@@ -99,6 +111,7 @@ value_moves all done step before after listed more kind extends one v = record {
   there = v.there;
   named = named_push done step v.step one.step kind v.named;
   is_value = value_stays listed more v.step v.value v.is_value;
+  kind = v.kind;
   well_formed = v.well_formed;
   kept = kept_stays before after v.value one.named extends v.kept;
 }
@@ -122,6 +135,7 @@ module _ (switches : Switches) (all done : List Step) (step : Step) (v : Value) 
     there = subst (λ n. slice_get all n ≡ Some step) (sym h.numbered) there;
     named = subst (λ n. named_step (done ++ step ∷ []) n ≡ Some step) (sym h.numbered) (named_last done step kind);
     is_value = value_stays before.listed (added ∷ []) step v is_value;
+    kind = kind_written before.listed step v got is_value;
     well_formed = well_formed;
     kept = law.0;
   }
@@ -151,8 +165,8 @@ moved_nowhere (at k) = ap at (omega arith)
 moved_nowhere (at_both kt kv) = ap (λ k. at_both k (0 + kv)) (let e : 0 + kt ≡ kt = omega arith in e) ∙ ap (at_both kt) (omega arith)
 
 -- a finish that is placed holds
-module _ (switches : Switches) (all done : List Step) (root : ℕ) (named : Named) (identifier : Option (List ℕ)) (before after : State) (found : named_at before.listed root ≡ Some named)
-    (distance : ℕ) (adds : Adds (finish_part named.distance identifier before.past.written.promises) None before.past distance after.past)
+module _ (switches : Switches) (all done : List Step) (root to : ℕ) (identifier : Option (List ℕ)) (before after : State) (found : value_at before.listed root ≡ Some to)
+    (distance : ℕ) (adds : Adds (finish_part to identifier before.past.written.promises) None before.past distance after.past)
     (listed : after.listed ≡ before.listed ++ []) (next : after.next ≡ before.next + 1)
     (finished : after.finished ≡ before.finished ++ record { bytes = after.past.written.bytes; places = before.listed } ∷ [])
     (there : slice_get all (length done) ≡ Some (finish root identifier)) (up_to : take (length done + 1) all ≡ done ++ finish root identifier ∷ [])
@@ -164,13 +178,13 @@ module _ (switches : Switches) (all done : List Step) (root : ℕ) (named : Name
   new = after.past.written
 
   abbrev part : Part
-  part = finish_part named.distance identifier old.promises
+  part = finish_part to identifier old.promises
 
   abbrev placed : Placed part old new
   placed = adds.placed
 
   sized : length (part.bytes_at placed.place) ≡ part.size
-  sized = finish_size named.distance identifier old placed.place
+  sized = finish_size to identifier old placed.place
 
   at_end : length new.bytes ≡ placed.place
   at_end = length_after part old new placed sized
@@ -215,7 +229,7 @@ module _ (switches : Switches) (all done : List Step) (root : ℕ) (named : Name
 
   holds : FinishHolds switches all (record { bytes = new.bytes; places = before.listed })
   holds =
-      let root_kept : ValueKept all done before.past before.listed (record { step = root; named = named }) = all_named (ValueKept all done before.past before.listed) before.listed root named h.values found in
+      let root_kept : to ≤ length old.bytes = value_behind (ValueKept all done before.past before.listed) (length old.bytes) (value_reaches all done before.past before.listed) before.listed h.values root to found in
       record {
         number = length done;
         root = root;
@@ -226,8 +240,8 @@ module _ (switches : Switches) (all done : List Step) (root : ℕ) (named : Name
         bytes = refl;
         places = sym (listed ∙ append-nil before.listed);
         values = all_weaker (ValueKept all done before.past before.listed) (ValueHolds all (record { bytes = new.bytes; places = before.listed })) value_holds before.listed h.values;
-        leads = (named, found, finishes_lead named.distance identifier old new root_kept.kept.reached placed);
-        identified = finishes_are_identified named.distance identifier old new placed;
+        leads = (to, found, finishes_lead to identifier old new root_kept placed);
+        identified = finishes_are_identified to identifier old new placed;
         fewest = few;
       }
 
@@ -266,13 +280,17 @@ values_are_written switches all done (bytes content) before h utf8 v e =
     subst (λ v. IsWritten (length before.past.written.bytes) v × WellFormed v) same (tt, tt)
 values_are_written switches all done (numbers width items) before h utf8 v e = numbers_are_written (length before.past.written.bytes) (width_of width) items v e
 values_are_written switches all done (refs steps) before h utf8 v e =
-    let made = made_of value.reference_list (distances_of before.listed steps) v e in
+    let made = made_of value.reference_list (all_of (value_at before.listed) steps) v e in
     subst (λ v. IsWritten (length before.past.written.bytes) v × WellFormed v) made.2
-    (references_behind (ValueKept all done before.past before.listed) (length before.past.written.bytes) (λ one kept. kept.kept.reached) before.listed h.values steps made.0 made.1, tt)
+    (references_behind (ValueKept all done before.past before.listed) (length before.past.written.bytes) (value_reaches all done before.past before.listed) before.listed h.values steps made.0 made.1, tt)
+values_are_written switches all done (unions items) before h utf8 v e =
+    let made = made_of value.union_list (all_of (union_of before.listed) items) v e in
+    subst (λ v. IsWritten (length before.past.written.bytes) v × WellFormed v) made.2
+    (unions_behind (ValueKept all done before.past before.listed) (length before.past.written.bytes) (value_reaches all done before.past before.listed) before.listed h.values items made.0 made.1, tt)
 values_are_written switches all done (table fields) before h utf8 v e =
     let made = made_of value.table (fields_of before.listed [] greatest_field fields) v e in
     subst (λ v. IsWritten (length before.past.written.bytes) v × WellFormed v) made.2
-    (tables_are_written (ValueKept all done before.past before.listed) (length before.past.written.bytes) (λ one kept. kept.kept.reached) before.listed h.values fields made.0 made.1, tt)
+    (tables_are_written (ValueKept all done before.past before.listed) (length before.past.written.bytes) (value_reaches all done before.past before.listed) before.listed h.values fields made.0 made.1, tt)
 values_are_written switches all done (finish root identifier) before h utf8 v e = (cc)
 values_are_written switches all done clear before h utf8 v e = (cc)
 
@@ -300,15 +318,17 @@ step_kept switches all done (numbers width items) before after there up_to utf8 
     written_kept switches all done (numbers width items) before after refl (λ s past. refl) writes writes writes.are there utf8 h
 step_kept switches all done (refs steps) before after there up_to utf8 writes h =
     written_kept switches all done (refs steps) before after refl (λ s past. refl) writes writes writes.are there utf8 h
+step_kept switches all done (unions items) before after there up_to utf8 writes h =
+    written_kept switches all done (unions items) before after refl (λ s past. refl) writes writes writes.are there utf8 h
 step_kept switches all done (table fields) before after there up_to utf8 writes h =
     written_kept switches all done (table fields) before after refl (λ s past. refl) writes writes writes.are there utf8 h
 step_kept switches all done (finish root identifier) before after there up_to utf8 writes h =
     let run = leads_on switches nothing_written before after done (finish root identifier) h.run writes in
-    let made = made_of (finish_of identifier) (named_at before.listed root) writes.entries writes.are in
+    let made = made_of (finish_of identifier) (value_at before.listed root) writes.entries writes.are in
     let puts : PutsAll switches (finish_of identifier made.0) [] before.past writes.got after.past
     = subst (λ entries. PutsAll switches entries [] before.past writes.got after.past) (sym made.2) writes.puts in
-    let adds : Adds (finish_part made.0.distance identifier before.past.written.promises) None before.past puts.0 after.past
-    = subst (Adds (finish_part made.0.distance identifier before.past.written.promises) None before.past puts.0) (sym puts.3.1) puts.2 in
+    let adds : Adds (finish_part made.0 identifier before.past.written.promises) None before.past puts.0 after.past
+    = subst (Adds (finish_part made.0 identifier before.past.written.promises) None before.past puts.0) (sym puts.3.1) puts.2 in
     finish_kept switches all done root made.0 identifier before after made.1 puts.0 adds writes.listed writes.next writes.finished there up_to run h
 step_kept switches all done clear before after there up_to utf8 is_clear h = subst (λ s. Kept switches all (done ++ clear ∷ []) s) (sym is_clear) (clear_kept switches all done before h)
 

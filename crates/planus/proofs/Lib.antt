@@ -1,4 +1,5 @@
 pub mod Lists
+pub mod NamedKinds
 pub mod FieldFaults
 pub mod TableFields
 pub mod Filling

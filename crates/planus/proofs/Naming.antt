@@ -2,22 +2,25 @@
 use Rattle.std.proofs.Common.{◌≡◌, ℕ, zero, suc, ◌+◌, ◌-◌, ◌≤◌, List, [], ◌∷◌, ◌++◌, length, map}
 use Rattle.std.proofs.Common.{drop, refl, sym, ap, ◌∙◌, subst, arith, Option, Some, None, Bool}
 use Rattle.std.proofs.Common.{true, false, inl, inr, length-append}
-use Rattle.std.specs.Prelude.{slice_get, nat_lt, if◌then◌else◌, ◌⊎◌, ◌||◌}
-use Rattle.std.specs.Option.{option_or}
+use Rattle.std.specs.Prelude.{slice_get, nat_lt, if◌then◌else◌, ◌⊎◌, ◌||◌, ◌==◌}
+use Rattle.std.specs.Option.{option_or, option_map}
 use Rattle.planus.specs.declared.faults.Why.{Why}
 use Rattle.std.specs.List.{list_any}
 use Rattle.std.proofs.lemmas.Bool.Decides.{nat_tests}
 use Rattle.std.proofs.lemmas.List.{map_push}
 use Rattle.std.proofs.Math.Seq.{drop-length}
-use Rattle.planus_write.specs.declared.offset.Offset.{Offset}
-use Rattle.planus.specs.Steps.{Step, text, bytes, numbers, refs, table, finish, clear}
-use Rattle.planus.specs.Replays.{is_clear, named_step, fault_of, first_fault, check_by}
+use Rattle.planus_write.specs.Parts.{Named}
+use Rattle.planus.specs.Steps.{Step, text, bytes, numbers, refs, unions, table, finish, clear}
+use Rattle.planus.specs.Kinds.{Kind, a_value, kind_of, kind_named, naming_fault}
+use Rattle.planus.specs.Names.{name_of}
+use Rattle.planus.specs.Replays.{is_clear, named_step, fault_of, first_fault, union_fault, check_by}
 use Rattle.planus.specs.Replays.{broken_check}
 use Rattle.planus.specs.Slots.{greatest_field}
-use Rattle.planus.specs.Replaying.{distance_of, distances, distance_fault, name_fault}
-use Rattle.planus.specs.Replaying.{Wrote}
+use Rattle.planus.specs.Replaying.{names, name_fault, Wrote}
 use Rattle.planus.specs.Replaying.{AllWrote, HasTaken}
+use Rattle.planus.specs.declared.faults.Why.TheVariants.{ZeroTag}
 use Rattle.planus.specs.declared.progress.Progress.{Progress}
+use Rattle.planus.specs.declared.written.Written.{Written}
 use Rattle.planus.proofs.FieldFaults.{same_fields}
 use Rattle.planus.proofs.Lists.{get_push, get_last, drop_push}
 
@@ -33,6 +36,7 @@ named_from steps step c false kind e got h = rw (none_pushed steps e) h
     none_pushed (bytes content ∷ xs) e = none_pushed xs e
     none_pushed (numbers width items ∷ xs) e = none_pushed xs e
     none_pushed (refs named ∷ xs) e = none_pushed xs e
+    none_pushed (unions items ∷ xs) e = none_pushed xs e
     none_pushed (table fields ∷ xs) e = none_pushed xs e
     none_pushed (finish root identifier ∷ xs) e = none_pushed xs e
     none_pushed (clear ∷ xs) e = (cc)
@@ -60,43 +64,19 @@ clear_from (x ∷ steps) zero (suc k) h = in_rest (is_clear x) (clear_from steps
     in_rest false further = further
 
 -- a step since the last clear is none
-not_clear : (step : Step) (d : Option ℕ) → Wrote step d → is_clear step ≡ false
-not_clear (text content) d h = refl
-not_clear (bytes content) d h = refl
-not_clear (numbers width items) d h = refl
-not_clear (refs named) d h = refl
-not_clear (table fields) d h = refl
-not_clear (finish root identifier) d h = refl
-not_clear clear d h = absurd h
-
-none_clear : (steps : List Step) (ds : List (Option ℕ)) (k : ℕ) → AllWrote steps ds → list_any is_clear (drop k steps) ≡ false
+none_clear : (steps : List Step) (ds : List (Option Named)) (k : ℕ) → AllWrote steps ds → list_any is_clear (drop k steps) ≡ false
 none_clear [] ds zero h = refl
 none_clear [] ds (suc k) h = refl
 none_clear (x ∷ steps) [] k h = absurd h
 none_clear (x ∷ steps) (d ∷ ds) (suc k) h = none_clear steps ds k h.1
-none_clear (x ∷ steps) (d ∷ ds) zero h = rw (not_clear x d h.0) (none_clear steps ds zero h.1)
+none_clear (x ∷ steps) (d ∷ ds) zero h = rw h.0.0 (none_clear steps ds zero h.1)
 
-fault_of_kind : (step : Step) (d : Option ℕ) → Wrote step d → distance_fault (Some d) ≡ fault_of (Some step)
-fault_of_kind (text content) (Some d) h = refl
-fault_of_kind (text content) None h = absurd h
-fault_of_kind (bytes content) (Some d) h = refl
-fault_of_kind (bytes content) None h = absurd h
-fault_of_kind (numbers width items) (Some d) h = refl
-fault_of_kind (numbers width items) None h = absurd h
-fault_of_kind (refs named) (Some d) h = refl
-fault_of_kind (refs named) None h = absurd h
-fault_of_kind (table fields) (Some d) h = refl
-fault_of_kind (table fields) None h = absurd h
-fault_of_kind (finish root identifier) (Some d) h = absurd h
-fault_of_kind (finish root identifier) None h = refl
-fault_of_kind clear d h = absurd h
-
-same_fault : (steps : List Step) (ds : List (Option ℕ)) (i : ℕ) → AllWrote steps ds → distance_fault (slice_get ds i) ≡ fault_of (slice_get steps i)
-same_fault [] [] i h = refl
-same_fault (x ∷ steps) (d ∷ ds) zero h = fault_of_kind x d h.0
-same_fault (x ∷ steps) (d ∷ ds) (suc i) h = same_fault steps ds i h.1
-same_fault [] (d ∷ ds) i h = absurd h
-same_fault (x ∷ steps) [] i h = absurd h
+same_kind : (steps : List Step) (ds : List (Option Named)) (i : ℕ) → AllWrote steps ds → option_map (option_map kind_named) (slice_get ds i) ≡ option_map kind_of (slice_get steps i)
+same_kind [] [] i h = refl
+same_kind (x ∷ steps) (d ∷ ds) zero h = ap (λ (k : Option Kind). Some k) (sym h.0.1)
+same_kind (x ∷ steps) (d ∷ ds) (suc i) h = same_kind steps ds i h.1
+same_kind [] (d ∷ ds) i h = absurd h
+same_kind (x ∷ steps) [] i h = absurd h
 
 get_dropped : (n k : ℕ) (steps : List Step) → slice_get (drop n steps) k ≡ slice_get steps (n + k)
 get_dropped zero k steps = ap (slice_get steps) (let e : k ≡ 0 + k = omega arith in e)
@@ -115,7 +95,7 @@ drop_dropped (suc n) k [] = drop_none k (suc n + k)
 drop_dropped (suc n) k (x ∷ steps) = drop_dropped n k steps ∙ ap (λ m. drop m (x ∷ steps)) (let e : suc (n + k) ≡ suc n + k = omega arith in e)
 
 -- what is wrong with a number shows in what the replay has
-module _ (replay : Progress) (steps : List Step) (h : HasTaken replay steps) (root : ℕ) where
+module _ (replay : Progress) (steps : List Step) (h : HasTaken replay steps) (kind : Kind) (root : ℕ) where
   before : root + 1 ≤ replay.first → None ≡ named_step steps root
   before le = elim h.behind_clear as (λ _. None ≡ named_step steps root) [
     | inl none ↦ absurd (omega (arith, none, le))
@@ -124,58 +104,63 @@ module _ (replay : Progress) (steps : List Step) (h : HasTaken replay steps) (ro
         sym (ap (λ any. if any then None else slice_get steps root) (clear_from steps root (replay.first - 1 - root) at))
   ]
 
-  behind : replay.first ≤ root → distance_fault (slice_get (distances replay) (root - replay.first)) ≡ fault_of (named_step steps root)
+  behind : replay.first ≤ root → naming_fault kind (option_map (option_map kind_named) (slice_get (names replay) (root - replay.first))) ≡ fault_of kind (named_step steps root)
   behind le =
       let k : ℕ = root - replay.first in
       let at : replay.first + k ≡ root = omega (arith, le) in
       let none : list_any is_clear (drop root steps) ≡ false
-      = ap (λ m. list_any is_clear (drop m steps)) (sym at) ∙ ap (list_any is_clear) (sym (drop_dropped replay.first k steps)) ∙ none_clear (drop replay.first steps) (distances replay) k h.wrote in
-      same_fault (drop replay.first steps) (distances replay) k h.wrote ∙ ap fault_of (get_dropped replay.first k steps ∙ ap (slice_get steps) at)
-      ∙ ap fault_of (sym (ap (λ any. if any then None else slice_get steps root) none))
+      = ap (λ m. list_any is_clear (drop m steps)) (sym at) ∙ ap (list_any is_clear) (sym (drop_dropped replay.first k steps)) ∙ none_clear (drop replay.first steps) (names replay) k h.wrote in
+      ap (naming_fault kind) (same_kind (drop replay.first steps) (names replay) k h.wrote) ∙ ap (fault_of kind) (get_dropped replay.first k steps ∙ ap (slice_get steps) at)
+      ∙ ap (fault_of kind) (sym (ap (λ any. if any then None else slice_get steps root) none))
 
-  by_test : (earlier : Bool) → nat_lt root replay.first ≡ earlier → distance_fault (if earlier then None else slice_get (distances replay) (root - replay.first)) ≡ fault_of (named_step steps root)
-  by_test true e = ap fault_of (before (let lt : root + 1 ≤ replay.first = grind (arith, nat_tests, e) in lt))
+  by_test : (earlier : Bool) → nat_lt root replay.first ≡ earlier
+      → naming_fault kind (option_map (option_map kind_named) (if earlier then None else slice_get (names replay) (root - replay.first))) ≡ fault_of kind (named_step steps root)
+  by_test true e = ap (fault_of kind) (before (let lt : root + 1 ≤ replay.first = grind (arith, nat_tests, e) in lt))
   by_test false e = behind (let le : replay.first ≤ root = grind (arith, nat_tests, e) in le)
 
-  named_fault : name_fault replay root ≡ fault_of (named_step steps root)
+  named_fault : name_fault replay kind root ≡ fault_of kind (named_step steps root)
   named_fault = by_test (nat_lt root replay.first) refl
 
 -- the first fault is the same by what is the same of each
-same_first : (f g : ℕ → Option Why) → ((n : ℕ) → f n ≡ g n) → (ns : List ℕ) → first_fault f ns ≡ first_fault g ns
+same_first : {X : Type 0} (f g : X → Option Why) → ((x : X) → f x ≡ g x) → (xs : List X) → first_fault f xs ≡ first_fault g xs
 same_first f g same [] = refl
-same_first f g same (n ∷ ns) = ap (λ o. option_or o (first_fault f ns)) (same n) ∙ ap (option_or (g n)) (same_first f g same ns)
+same_first f g same (x ∷ xs) = ap (λ o. option_or o (first_fault f xs)) (same x) ∙ ap (option_or (g x)) (same_first f g same xs)
 
-same_check : (f g : ℕ → Option Why) → ((n : ℕ) → f n ≡ g n) → (step : Step) → check_by f step ≡ check_by g step
+same_union : (f g : ℕ → Option Why) → ((n : ℕ) → f n ≡ g n) → (item : ℕ × ℕ) → union_fault f item ≡ union_fault g item
+same_union f g same item = ap (λ o. if item.0 == 0 then Some ZeroTag else o) (same item.1)
+
+same_check : (f g : Kind → ℕ → Option Why) → ((kind : Kind) (n : ℕ) → f kind n ≡ g kind n) → (step : Step) → check_by f step ≡ check_by g step
 same_check f g same (text content) = refl
 same_check f g same (bytes content) = refl
 same_check f g same (numbers width items) = refl
-same_check f g same (refs named) = same_first f g same named
+same_check f g same (refs named) = same_first (f a_value) (g a_value) (same a_value) named
+same_check f g same (unions items) = same_first (union_fault (f a_value)) (union_fault (g a_value)) (same_union (f a_value) (g a_value) (same a_value)) items
 same_check f g same (table fields) = same_fields f g same [] greatest_field fields
-same_check f g same (finish root identifier) = same root
+same_check f g same (finish root identifier) = same a_value root
 same_check f g same clear = refl
 
 -- what is wrong with a step shows in what the replay has
 pub checked : (replay : Progress) (steps : List Step) → HasTaken replay steps → (step : Step) → check_by (name_fault replay) step ≡ broken_check steps step
-checked replay steps h step = same_check (name_fault replay) (λ n. fault_of (named_step steps n)) (λ n. named_fault replay steps h n) step
+checked replay steps h step = same_check (name_fault replay) (λ kind n. fault_of kind (named_step steps n)) (λ kind n. named_fault replay steps h kind n) step
 
-wrote_push : (steps : List Step) (ds : List (Option ℕ)) (step : Step) (d : Option ℕ) → Wrote step d → AllWrote steps ds → AllWrote (steps ++ step ∷ []) (ds ++ d ∷ [])
+wrote_push : (steps : List Step) (ds : List (Option Named)) (step : Step) (d : Option Named) → Wrote step d → AllWrote steps ds → AllWrote (steps ++ step ∷ []) (ds ++ d ∷ [])
 wrote_push [] [] step d new h = (new, tt)
 wrote_push (x ∷ steps) (e ∷ ds) step d new h = (h.0, wrote_push steps ds step d new h.1)
 wrote_push [] (e ∷ ds) step d new h = absurd h
 wrote_push (x ∷ steps) [] step d new h = absurd h
 
-pub one_more : (old new : Progress) (offset : Option (Offset (Unit {0}))) → new.first ≡ old.first → new.offsets.items ≡ old.offsets.items ++ offset ∷ []
+pub one_more : (old new : Progress) (offset : Option Written) → new.first ≡ old.first → new.offsets.items ≡ old.offsets.items ++ offset ∷ []
     → new.first + length new.offsets.items ≡ old.first + length old.offsets.items + 1
 one_more old new offset first pushed = let longer : length new.offsets.items ≡ length old.offsets.items + 1 = ap length pushed ∙ length-append old.offsets.items (offset ∷ []) in omega (arith, first, longer)
 
 -- one step more, which is no clear
-pub took_one : (old new : Progress) (step : Step) (offset : Option (Offset (Unit {0}))) → Wrote step (distance_of offset) → new.first ≡ old.first → new.offsets.items ≡ old.offsets.items ++ offset ∷ []
+pub took_one : (old new : Progress) (step : Step) (offset : Option Written) → Wrote step (name_of offset) → new.first ≡ old.first → new.offsets.items ≡ old.offsets.items ++ offset ∷ []
     → (steps : List Step) → HasTaken old steps → HasTaken new (steps ++ step ∷ [])
 took_one old new step offset wrote first pushed steps h =
     let counted : old.first + length old.offsets.items ≡ length steps = h.counted in
     let longer : length new.offsets.items ≡ length old.offsets.items + 1 = ap length pushed ∙ length-append old.offsets.items (offset ∷ []) in
     let all : length (steps ++ step ∷ []) ≡ length steps + 1 = length-append steps (step ∷ []) in
-    let known : distances new ≡ distances old ++ distance_of offset ∷ [] = ap (map distance_of) pushed ∙ map_push distance_of old.offsets.items offset in
+    let known : names new ≡ names old ++ name_of offset ∷ [] = ap (map name_of) pushed ∙ map_push name_of old.offsets.items offset in
     let rest : drop new.first (steps ++ step ∷ []) ≡ drop old.first steps ++ step ∷ [] = ap (λ n. drop n (steps ++ step ∷ [])) first ∙ drop_push old.first steps step (omega (arith, counted)) in
     record {
       counted = omega (arith, counted, longer, all, first);
@@ -183,8 +168,8 @@ took_one old new step offset wrote first pushed steps h =
         | inl none ↦ inl (first ∙ none)
         | inr there ↦ inr (ap (λ n. slice_get (steps ++ step ∷ []) (n - 1)) first ∙ get_push steps step clear (old.first - 1) there)
       ];
-      wrote = subst (λ xs. AllWrote xs (distances new)) (sym rest) (subst (λ ds. AllWrote (drop old.first steps ++ step ∷ []) ds) (sym known)
-          (wrote_push (drop old.first steps) (distances old) step (distance_of offset) wrote h.wrote));
+      wrote = subst (λ xs. AllWrote xs (names new)) (sym rest) (subst (λ ds. AllWrote (drop old.first steps ++ step ∷ []) ds) (sym known)
+          (wrote_push (drop old.first steps) (names old) step (name_of offset) wrote h.wrote));
     }
 
 -- a clear
@@ -198,5 +183,5 @@ took_clear old new first none steps h =
     record {
       counted = omega (arith, whole, empty);
       behind_clear = inr (ap (slice_get (steps ++ clear ∷ [])) last ∙ get_last steps clear []);
-      wrote = subst (λ xs. AllWrote xs (distances new)) (sym (ap (λ n. drop n (steps ++ clear ∷ [])) whole ∙ drop-length (steps ++ clear ∷ []))) (subst (λ xs. AllWrote [] (map distance_of xs)) (sym none) tt);
+      wrote = subst (λ xs. AllWrote xs (names new)) (sym (ap (λ n. drop n (steps ++ clear ∷ [])) whole ∙ drop-length (steps ++ clear ∷ []))) (subst (λ xs. AllWrote [] (map name_of xs)) (sym none) tt);
     }

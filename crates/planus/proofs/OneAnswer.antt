@@ -9,7 +9,7 @@ use Rattle.planus_write.specs.Shared.{Contents, Switches, and_seen, shared_as}
 use Rattle.planus_write.specs.Past.{Past, Entry, Adds, PutsAfter, Puts, PutsAll}
 use Rattle.planus_write.specs.Past.{ComesToTooLarge as ComesToTooLargeEntry, part_after}
 use Rattle.planus_write.specs.Past.{found_before}
-use Rattle.planus.specs.Steps.{Step, text, bytes, numbers, refs, table, finish, clear}
+use Rattle.planus.specs.Steps.{Step, text, bytes, numbers, refs, unions, table, finish, clear}
 use Rattle.planus.specs.Runs.{Finish, State, Writes, Advances, LeadsTo, StepTooLarge}
 use Rattle.planus.specs.Runs.{nothing_written, value_of, values_added}
 use Rattle.planus.specs.Runs.{finishes_added}
@@ -128,6 +128,7 @@ module _ (switches : Switches) where
   advanced_once before (bytes content) a b x y = written_once before (bytes content) a b x y
   advanced_once before (numbers width items) a b x y = written_once before (numbers width items) a b x y
   advanced_once before (refs steps) a b x y = written_once before (refs steps) a b x y
+  advanced_once before (unions items) a b x y = written_once before (unions items) a b x y
   advanced_once before (table fields) a b x y = written_once before (table fields) a b x y
   advanced_once before (finish root identifier) a b x y = written_once before (finish root identifier) a b x y
   advanced_once before clear a b x y = x ∙ sym y
@@ -148,6 +149,7 @@ module _ (switches : Switches) where
   leads_nowhere before (bytes content) after far h = stuck before (bytes content) after far h
   leads_nowhere before (numbers width items) after far h = stuck before (numbers width items) after far h
   leads_nowhere before (refs steps) after far h = stuck before (refs steps) after far h
+  leads_nowhere before (unions items) after far h = stuck before (unions items) after far h
   leads_nowhere before (table fields) after far h = stuck before (table fields) after far h
   leads_nowhere before (finish root identifier) after far h = stuck before (finish root identifier) after far h
   leads_nowhere before clear after far h = (let e : None ≡ Some far.entries = far.are in cc)

@@ -12,7 +12,7 @@ use Rattle.planus_read.specs.Values as value
 use Rattle.planus_read.specs.Values.{Value}
 use Rattle.planus_write.specs.Shared.{Contents, Switches, shared_as}
 use Rattle.planus_write.specs.Past.{Past, Entry, Adds, PutsAfter, PutsAll, part_after, found_before}
-use Rattle.planus_write.specs.Parts.{entries_of, IsWritten, list_entries}
+use Rattle.planus_write.specs.Parts.{entries_of, IsWritten, list_entries, distances_in}
 use Rattle.planus_write.specs.Items.{Item, plain_item, reference_item}
 use Rattle.planus_write.proofs.PartBytes.{length_after, text_size, byte_list_size}
 use Rattle.planus_write.proofs.TableBytes.{body_length, body_power}
@@ -117,6 +117,12 @@ list_fit item_of size alignment before xs v list = (
   ((λ got past h. record { sized = λ place. refl; power = (0, refl) }), tt),
 )
 
+-- what unions refer to
+all_distances : (before : ℕ) (items : List (ℕ × ℕ)) → AllByRecursion (λ (item : ℕ × ℕ). item.1 ≤ before) items
+    → AllByRecursion (λ distance. distance ≤ before) (distances_in items)
+all_distances before [] h = tt
+all_distances before (item ∷ items) h = (h.0, all_distances before items h.1)
+
 -- the entries of a value are fit
 pub values_are_fit : (before : ℕ) (v : Value) → IsWritten before v → AreFit (entries_of v)
 values_are_fit before (value.text content) written = ((λ got past h. record { sized = λ place. text_size content place; power = (2, refl) }), tt)
@@ -125,7 +131,17 @@ values_are_fit before (value.plain_list size alignment items) written =
     list_fit plain_item size alignment before items (value.plain_list size alignment items) (plain_items size alignment before items written)
 values_are_fit before (value.reference_list distances) written =
     list_fit reference_item 4 4 before distances (value.reference_list distances) (reference_items before distances written)
-values_are_fit before (value.union_list items) written = absurd written
+values_are_fit before (value.union_list items) written =
+    let list = list_fit reference_item 4 4 before (distances_in items) (value.reference_list (distances_in items)) (reference_items before (distances_in items) (all_distances before items written)) in (
+      list.0,
+      (
+        list.1.0,
+        (
+          (λ got past h. record { sized = λ place. refl; power = (2, refl) }),
+          ((λ got past h. record { sized = λ place. refl; power = (0, refl) }), tt),
+        ),
+      ),
+    )
 values_are_fit before (value.table entries) written = (
   (λ got past h. record { sized = λ place. refl; power = (1, refl) }),
   (

@@ -11,8 +11,9 @@ use Rattle.planus.specs.Steps.{Step, bare_step}
 use Rattle.planus.specs.Runs.{nothing_written, LeadsTo, Advances, StepTooLarge}
 use Rattle.planus.specs.Replays.{first_bad, Replays, finish_given}
 use Rattle.planus.specs.Headline.{FinishHolds}
-use Rattle.planus.specs.Replaying.{named, state_with, distances, HasTaken, Takes, Stopped}
+use Rattle.planus.specs.Replaying.{state_with, names, HasTaken, Takes, Stopped}
 use Rattle.planus.specs.Replaying.{AreReached}
+use Rattle.planus.specs.Names.{IsReached}
 use Rattle.planus.specs.declared.steps.Step as code
 use Rattle.planus.specs.declared.progress.Progress.{Progress}
 use Rattle.planus.specs.declared.faults.ReplayError.{ReplayError}
@@ -34,10 +35,10 @@ pub record Reaches (steps : List code.Step) (i : ℕ) (progress : Progress) : Ty
   pub taken : HasTaken progress (first_steps steps i)
 
 pub are_reached : (steps : List code.Step) (i : ℕ) (progress : Progress) → Reaches steps i progress → AreReached progress
-are_reached steps i progress h step distance e =
-    let v = run_value all_off (first_steps steps i) (all_utf8 (take i steps)) (state_with progress h.run.0) h.run.2 (progress.first + step) (named distance)
-    (found_at progress.first (distances progress) step distance e) in
-    subst (λ bytes. distance ≤ length bytes) h.run.1.bytes v.kept.reached
+are_reached steps i progress h step named e =
+    let v = run_value all_off (first_steps steps i) (all_utf8 (take i steps)) (state_with progress h.run.0) h.run.2 (progress.first + step) named
+    (found_at progress.first (names progress) step named e) in
+    subst (λ bytes. IsReached (length bytes) named) h.run.1.bytes (record { distance = v.kept.reached; tags = v.kept.tags_reached })
 
 pub number_is : (steps : List code.Step) (i : ℕ) (progress : Progress) → i ≤ length steps → Reaches steps i progress → progress.first + length progress.offsets.items ≡ i
 number_is steps i progress within h =

@@ -1,6 +1,6 @@
 -- What the writing of a table is to the run.
 use Rattle.std.proofs.Common.{◌≡◌, ℕ, ◌+◌, max, List, [], ◌∷◌, length, refl, sym, ap, ◌∙◌, subst}
-use Rattle.std.proofs.Common.{Result, Ok, Err, Option, Some}
+use Rattle.std.proofs.Common.{Result, Ok, Err, Option, Some, None}
 use Rattle.std.proofs.Common.{◌≤◌, map, arith}
 use Rattle.std.specs.List.{AllByRecursion}
 use Rattle.std.specs.Option.{option_map}
@@ -16,6 +16,7 @@ use Rattle.planus_write.specs.declared.errors.BuildError.{BuildError}
 use Rattle.planus_write.specs.declared.offset.Offset.{Offset}
 use Rattle.planus.specs.Steps.{FieldStep, table}
 use Rattle.planus.specs.Slots.{greatest_field}
+use Rattle.planus.specs.Kinds.{kind_named}
 use Rattle.planus.specs.Runs.{value_of, entries_put, fields_of}
 use Rattle.planus_write.specs.declared.errors.BuildError.TheVariants as build
 use Rattle.planus_write.specs.Tables.{IsField, body_size}
@@ -23,15 +24,16 @@ use Rattle.planus_write.specs.TableWriting.{Writer, WasTold}
 use Rattle.planus.specs.Replays.{replay_error}
 use Rattle.planus.specs.Prepared.{field_reach}
 use Rattle.planus.specs.Filling.{fields_or_none, fields_reach}
-use Rattle.planus.specs.Replaying.{distance_of, AreReached}
+use Rattle.planus.specs.Names.{offset_named, name_of, listed_from, IsReached}
+use Rattle.planus.specs.Replaying.{AreReached}
 use Rattle.planus.specs.declared.faults.ReplayError.{ReplayError}
 use Rattle.planus.specs.declared.faults.ReplayError.TheVariants.{OutOfMemory as ReplayOutOfMemory, TooLarge as ReplayTooLarge, BadStep}
 use Rattle.planus.specs.declared.progress.Progress.{Progress}
-use Rattle.planus.specs.Replaying.{distances, named, listed_from}
-use Rattle.planus.specs.Replaying.{Advanced, WritesValue}
+use Rattle.planus.specs.declared.written.Written.{Written}
+use Rattle.planus.specs.Replaying.{values_listed, Advanced, WritesValue}
 use Rattle.planus.proofs.Naming.{took_one}
 use Rattle.planus.proofs.Stepping.{runs_on, switches_stay, stops}
-use Rattle.planus.proofs.Declaring.{reached_from}
+use Rattle.planus.proofs.Declaring.{values_reached}
 use Rattle.planus.proofs.WrittenTables.{tables_are_written}
 
 -- The table of these fields was written, and lies at this offset; or it was refused.
@@ -40,25 +42,25 @@ WritesTableAt all before (Ok offset) after = (got : List ℕ) × WritesEntries (
 WritesTableAt all before (Err error) after = WritesEntries (table_entries all) [] before (Err error) after
 
 -- a table advances the run, or stops it
-module _ (fields : List (ℕ × FieldStep)) (all : List (ℕ × Field)) (old : Progress) (made : fields_of (listed_from old.first (distances old)) [] greatest_field fields ≡ Some all) where
-  table_value_is : value_of (listed_from old.first (distances old)) (table fields) ≡ Some (value.table all)
+module _ (fields : List (ℕ × FieldStep)) (all : List (ℕ × Field)) (old : Progress) (made : fields_of (values_listed old) [] greatest_field fields ≡ Some all) where
+  table_value_is : value_of (values_listed old) (table fields) ≡ Some (value.table all)
   table_value_is = ap (option_map value.table) made
 
-  table_are : entries_put (listed_from old.first (distances old)) (table fields) ≡ Some (entries_of (value.table all))
+  table_are : entries_put (values_listed old) (table fields) ≡ Some (entries_of (value.table all))
   table_are = ap (option_map entries_of) table_value_is
 
   table_writes : {T : Type 0} (offset : Offset T) (after : builder.State) → WritesTableAt all old.builder (Ok offset) after
-      → (got : List ℕ) × WritesEntries (entries_of (value.table all)) [] old.builder (Ok got) after × (named_by (value.table all) got ≡ named offset.distance)
-  table_writes offset after put = (put.0, put.1, ap named put.2)
+      → (got : List ℕ) × WritesEntries (entries_of (value.table all)) [] old.builder (Ok got) after × (named_by (value.table all) got ≡ offset_named offset)
+  table_writes offset after put = (put.0, put.1, ap (λ d. record { distance = d; tags = None }) put.2)
 
-  pub table_advanced : (T : Type 0) (answer : Result (Unit {0}) ReplayError) (new : Progress) → WritesValue {T = T} (WritesTableAt all) old answer new → Advanced old (table fields) answer new
+  pub table_advanced : (T : Type 0) (answer : Result (Unit {0}) ReplayError) (new : Progress) → WritesValue {A = Offset T} offset_named (WritesTableAt all) old answer new → Advanced old (table fields) answer new
   table_advanced T (Ok done) new noted = record {
-    taken = took_one old new (table fields) (Some noted.noted) tt noted.first noted.pushed;
-    advances = runs_on (WritesTableAt all) (table fields) (value.table all) old table_value_is table_are table_writes new noted (λ past after. refl);
-    switches = switches_stay (WritesTableAt all) (table fields) (value.table all) old table_value_is table_are table_writes new noted;
+    taken = took_one old new (table fields) (Some noted.noted) (refl, ap (λ name. Some (kind_named name)) (sym noted.same)) noted.first noted.pushed;
+    advances = runs_on offset_named (WritesTableAt all) (table fields) (value.table all) old table_value_is table_are table_writes new noted (λ past after. refl);
+    switches = switches_stay offset_named (WritesTableAt all) (table fields) (value.table all) old table_value_is table_are table_writes new noted;
   }
   table_advanced T (Err ReplayOutOfMemory) new h = tt
-  table_advanced T (Err ReplayTooLarge) new h = stops {T = T} (WritesTableAt all) (table fields) (value.table all) old table_value_is table_are table_writes h.0 h.1
+  table_advanced T (Err ReplayTooLarge) new h = stops {A = Offset T} offset_named (WritesTableAt all) (table fields) (value.table all) old table_value_is table_are table_writes h.0 h.1
   table_advanced T (Err (BadStep number why)) new h = absurd h
 
 -- a table that a writer was told in full is the table of its fields
@@ -79,7 +81,7 @@ pub table_refused : (T : Type 0) (all : List (ℕ × Field)) (before after : bui
 table_refused T all before after error put = subst (λ n. WritesEntries (object_entries n (declared_of all) (λ place. body_bytes place all)) [] before (Err error) after) (slots_same all) put
 
 -- A table is refused, as the replay has it.
-pub table_stopped : (fields : List (ℕ × FieldStep)) (all : List (ℕ × Field)) (old : Progress) → fields_of (listed_from old.first (distances old)) [] greatest_field fields ≡ Some all
+pub table_stopped : (fields : List (ℕ × FieldStep)) (all : List (ℕ × Field)) (old : Progress) → fields_of (values_listed old) [] greatest_field fields ≡ Some all
     → (error : BuildError) (new : Progress) → WritesTableAt {T = Unit {0}} all old.builder (Err error) new.builder → Advanced old (table fields) (Err (replay_error error)) new
 table_stopped fields all old made build.OutOfMemory new h = tt
 table_stopped fields all old made build.TooLarge new h = table_advanced fields all old made (Unit {0}) (Err ReplayTooLarge) new (new.builder, h)
@@ -97,14 +99,14 @@ reach_within bytes (entry ∷ all) fields =
     by_field (value.values distance) is = is
 
 -- a table that was declared, and its fields by these offsets
-module _ (old : Progress) (offsets : List (Option (Offset (Unit {0})))) (are : offsets ≡ old.offsets.items) (fields : List (ℕ × FieldStep)) (all : List (ℕ × Field))
-    (made : fields_of (listed_from old.first (distances old)) [] greatest_field fields ≡ Some all) where
+module _ (old : Progress) (offsets : List (Option Written)) (are : offsets ≡ old.offsets.items) (fields : List (ℕ × FieldStep)) (all : List (ℕ × Field))
+    (made : fields_of (values_listed old) [] greatest_field fields ≡ Some all) where
   abbrev these : List (ℕ × Field)
-  these = fields_or_none (fields_of (listed_from old.first (map distance_of offsets)) [] greatest_field fields)
+  these = fields_or_none (fields_of (listed_from old.first (map name_of offsets)) [] greatest_field fields)
 
   same : these ≡ all
   same =
-      ap (λ (os : List (Option (Offset (Unit {0})))). fields_or_none (fields_of (listed_from old.first (map distance_of os)) [] greatest_field fields)) are ∙ ap fields_or_none made
+      ap (λ (os : List (Option Written)). fields_or_none (fields_of (listed_from old.first (map name_of os)) [] greatest_field fields)) are ∙ ap fields_or_none made
 
   pub body_sized : (writer : Writer) → WasTold writer (declared_of all) → body_size these + 4 ≡ writer.object_size
   body_sized writer told =
@@ -112,8 +114,8 @@ module _ (old : Progress) (offsets : List (Option (Offset (Unit {0})))) (are : o
 
   pub body_reaches : AreReached old → fields_reach these ≤ length old.builder.bytes
   body_reaches reached =
-      let written = tables_are_written (λ one. one.named.distance ≤ length old.builder.bytes) (length old.builder.bytes) (λ one le. le) (listed_from old.first (distances old))
-      (reached_from (length old.builder.bytes) old.first (distances old) reached) fields all made in
+      let written = tables_are_written (λ one. IsReached (length old.builder.bytes) one.named) (length old.builder.bytes) (λ one there. there) (values_listed old)
+      (values_reached old reached) fields all made in
       subst (λ fields. fields_reach fields ≤ length old.builder.bytes) (sym same) (reach_within (length old.builder.bytes) all written.fields)
 
   leaves_same : (answer : Result (Unit {0}) BuildError) (after : builder.State) → WritesTable (declared_of all) (λ place. body_bytes place these) old.builder answer after

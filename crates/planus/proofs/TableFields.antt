@@ -6,17 +6,21 @@ use Rattle.std.specs.Int.{Width, byte_len, to_le_bytes}
 use Rattle.std.specs.Option.{option_or, option_map}
 use Rattle.planus_read.specs.Values as value
 use Rattle.planus_read.specs.Values.{Field}
+use Rattle.planus.specs.Steps.{FieldStep, number_field, ref_field, tags_field, values_field}
 use Rattle.planus_write.specs.Parts.{Named}
-use Rattle.planus.specs.Steps.{FieldStep, number_field, ref_field}
+use Rattle.planus.specs.Kinds.{Kind}
 use Rattle.planus.specs.Slots.{place_fault, slot_fault, rising_fault, alignment_of}
-use Rattle.planus.specs.Runs.{Listed, named_at, field_width, fits_width, plain_field, reference_to}
+use Rattle.planus.specs.Runs.{Listed, tags_distance, references_distance, value_distance, distance_at}
+use Rattle.planus.specs.Runs.{value_at, field_width, fits_width, plain_field}
 use Rattle.planus.specs.Runs.{field_of, with_field, fields_of}
 use Rattle.planus.specs.TableChecks.{number_fault, content_fault, field_fault, fields_fault}
 use Rattle.planus.specs.Declaring.{slots_of}
 use Rattle.planus.specs.declared.faults.Why.{Why}
 use Rattle.planus.specs.declared.faults.Why.TheVariants.{ValueTooBig}
 use Rattle.planus.proofs.FieldFaults.{none_of, last_alignment}
-use Rattle.planus.proofs.Lists.{made_of, named_more}
+use Rattle.planus.proofs.NamedKinds.{NamedAreGood, value_good, tags_good, references_good}
+use Rattle.planus.proofs.NamedKinds.{GoodAreNamed, good_value, good_tags, good_references}
+use Rattle.planus.proofs.Lists.{made_of, distance_more}
 
 -- what fields are made of: nothing is wrong with the place of the first, it is a field, and so are
 -- the others
@@ -27,12 +31,19 @@ fields_made slot None None rest all e = (cc)
 fields_made slot None (Some field) rest all e =
     let made = made_of (λ (more : List (ℕ × Field)). (slot, field) ∷ more) rest all e in (refl, field, refl, made.0, made.1, made.2)
 
--- a field stays so where more is listed
+-- a field that leads to a distance stays so where more is listed
+leads_more : (leading : ℕ → Field) (which : Named → Option ℕ) (listed more : List Listed) (step : ℕ) (field : Field) → option_map leading (distance_at which listed step) ≡ Some field
+    → option_map leading (distance_at which (listed ++ more) step) ≡ Some field
+leads_more leading which listed more step field e =
+    let made = made_of leading (distance_at which listed step) field e in
+    rw (distance_more which listed more step made.0 made.1) (ap Some made.2)
+
+-- so does any
 field_more : (listed more : List Listed) (content : FieldStep) (field : Field) → field_of listed content ≡ Some field → field_of (listed ++ more) content ≡ Some field
 field_more listed more (number_field width n) field e = e
-field_more listed more (ref_field step) field e =
-    let made = made_of reference_to (named_at listed step) field e in
-    rw (named_more listed more step made.0 made.1) (ap Some made.2)
+field_more listed more (ref_field step) field e = leads_more value.reference value_distance listed more step field e
+field_more listed more (tags_field step) field e = leads_more value.tags tags_distance listed more step field e
+field_more listed more (values_field step) field e = leads_more value.values references_distance listed more step field e
 
 pub fields_more : (listed more : List Listed) (slots : List ℕ) (before : ℕ) (fields : List (ℕ × FieldStep)) (all : List (ℕ × Field)) → fields_of listed slots before fields ≡ Some all
     → fields_of (listed ++ more) slots before fields ≡ Some all
@@ -72,11 +83,15 @@ both_none first second e None none = e
 both_none first second e (Some why) none = (cc)
 
 -- fields of a table have no fault, where what is listed may be named
-module _ (listed : List Listed) (fault : ℕ → Option Why) (good : (step : ℕ) (named : Named) → named_at listed step ≡ Some named → fault step ≡ None) where
+module _ (listed : List Listed) (fault : Kind → ℕ → Option Why) (good : NamedAreGood listed fault) where
   content_good : (content : FieldStep) (field : Field) → field_of listed content ≡ Some field → content_fault fault content ≡ None
   content_good (number_field width n) field e = number_good (field_width width) n field e
   content_good (ref_field step) field e =
-      let made = made_of reference_to (named_at listed step) field e in good step made.0 made.1
+      let made = made_of value.reference (value_at listed step) field e in value_good listed fault good step made.0 made.1
+  content_good (tags_field step) field e =
+      let made = made_of value.tags (distance_at tags_distance listed step) field e in tags_good listed fault good step made.0 made.1
+  content_good (values_field step) field e =
+      let made = made_of value.values (distance_at references_distance listed step) field e in references_good listed fault good step made.0 made.1
 
   pub fields_good : (slots : List ℕ) (before : ℕ) (fields : List (ℕ × FieldStep)) (all : List (ℕ × Field)) → fields_of listed slots before fields ≡ Some all
       → fields_fault fault slots before fields ≡ None
@@ -88,7 +103,7 @@ module _ (listed : List Listed) (fault : ℕ → Option Why) (good : (step : ℕ
       rw here (fields_good (slots ++ entry.0 ∷ []) (alignment_of entry.1) fields made.3 made.4)
 
 -- and where none has a fault, they are fields of a table
-module _ (listed : List Listed) (fault : ℕ → Option Why) (good : (step : ℕ) → fault step ≡ None → (named : Named) × (named_at listed step ≡ Some named)) where
+module _ (listed : List Listed) (fault : Kind → ℕ → Option Why) (good : GoodAreNamed listed fault) where
   number_made : (width : Option Width) (n : ℕ) → number_fault width n ≡ None → (field : Field) × (plain_field width n ≡ Some field)
   number_made None n e = (cc)
   number_made (Some width) n e = by_test (fits_width width n) e
@@ -101,7 +116,11 @@ module _ (listed : List Listed) (fault : ℕ → Option Why) (good : (step : ℕ
   content_made : (content : FieldStep) → content_fault fault content ≡ None → (field : Field) × (field_of listed content ≡ Some field)
   content_made (number_field width n) e = number_made (field_width width) n e
   content_made (ref_field step) e =
-      let of = good step e in (reference_to of.0, ap (option_map reference_to) of.1)
+      let of = good_value listed fault good step e in (value.reference of.0, ap (option_map value.reference) of.1)
+  content_made (tags_field step) e =
+      let of = good_tags listed fault good step e in (value.tags of.0, ap (option_map value.tags) of.1)
+  content_made (values_field step) e =
+      let of = good_references listed fault good step e in (value.values of.0, ap (option_map value.values) of.1)
 
   pub fields_are : (slots : List ℕ) (before : ℕ) (fields : List (ℕ × FieldStep)) → fields_fault fault slots before fields ≡ None
       → (all : List (ℕ × Field)) × (fields_of listed slots before fields ≡ Some all)

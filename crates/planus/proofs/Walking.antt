@@ -6,29 +6,33 @@ use Rattle.std.specs.Prelude.{slice_get}
 use Rattle.std.specs.Str.{IsUtf8}
 use Rattle.std.specs.String.{string_bytes}
 use Rattle.std.proofs.lemmas.Str.{IsUtf8-string_bytes}
-use Rattle.planus.specs.Steps.{Step, text, bytes, numbers, refs, table, finish, clear, bare_step}
+use Rattle.planus.specs.Steps.{Step, text, bytes, numbers, refs, unions, table, finish, clear}
+use Rattle.planus.specs.Steps.{bare_step}
+use Rattle.planus.specs.Kinds.{Kind, a_value, a_union_list, kind_named, naming_fault}
 use Rattle.planus_read.specs.Values.{Value}
 use Rattle.planus_write.specs.Shared.{Switches}
 use Rattle.planus_write.specs.Past.{Entry}
-use Rattle.planus.specs.Runs.{Listed, State, Advances, LeadsTo, StepTooLarge, nothing_written}
-use Rattle.planus.specs.Runs.{named_at, value_of, entries_put, finish_of, width_of, fits_width}
-use Rattle.planus.specs.Runs.{numbers_value, distances_of, fields_of}
+use Rattle.planus.specs.Runs.{State, Advances, LeadsTo, StepTooLarge, nothing_written}
+use Rattle.planus.specs.Runs.{value_at, union_of, all_of, entries_put, finish_of}
+use Rattle.planus.specs.Runs.{width_of, fits_width, numbers_value, fields_of}
 use Rattle.planus.specs.Slots.{greatest_field}
-use Rattle.planus_write.specs.Parts.{Named, entries_of}
+use Rattle.planus_write.specs.Parts.{entries_of}
 use Rattle.planus_read.specs.Values as value
 use Rattle.std.specs.Option.{option_map}
 use Rattle.std.specs.List.{list_all}
 use Rattle.std.specs.Int.{Width, byte_len, to_le_bytes}
 use Rattle.std.specs.Prelude.{Bool, true, false, if◌then◌else◌}
 use Rattle.planus.specs.Replays.{first_bad, first_bad_after, first_bad_or, broken_check, fault_of}
-use Rattle.planus.specs.Replays.{named_step, numbers_fault, first_fault, Replays}
-use Rattle.planus.specs.declared.faults.Why.TheVariants.{ValueTooBig}
+use Rattle.planus.specs.Replays.{named_step, numbers_fault, first_fault, union_fault, Replays}
+use Rattle.planus.specs.declared.faults.Why.TheVariants.{ValueTooBig, ZeroTag}
 use Rattle.planus.specs.declared.faults.ReplayError.TheVariants.{TooLarge, BadStep}
 use Rattle.planus.specs.declared.faults.Why.{Why}
 use Rattle.planus.specs.declared.steps.Step as code
-use Rattle.planus.specs.declared.steps.Step.TheVariants.{Text, Bytes, Numbers, Refs, Table, Finish, Clear}
+use Rattle.planus.specs.declared.steps.Step.TheVariants.{Text, Bytes, Numbers, Refs, Unions}
+use Rattle.planus.specs.declared.steps.Step.TheVariants.{Table, Finish, Clear}
 use Rattle.planus.proofs.Kept.{AllUtf8, run_value}
-use Rattle.planus.proofs.Lists.{get_last, made_of, distances_made}
+use Rattle.planus.proofs.Lists.{get_last, made_of, all_made, union_made}
+use Rattle.planus.proofs.NamedKinds.{NamedAreGood, value_good}
 use Rattle.planus.proofs.TableFields.{fields_good}
 use Rattle.std.proofs.Math.Seq.{take-append_seam}
 
@@ -53,6 +57,7 @@ is_utf8 (Text words) content e = let same : string_bytes words ≡ content = cc 
 is_utf8 (Bytes list) content e = (cc)
 is_utf8 (Numbers width items) content e = (cc)
 is_utf8 (Refs steps) content e = (cc)
+is_utf8 (Unions items) content e = (cc)
 is_utf8 (Table fields) content e = (cc)
 is_utf8 (Finish root id) content e = (cc)
 is_utf8 Clear content e = (cc)
@@ -62,15 +67,10 @@ all_utf8 [] i content e = (cc)
 all_utf8 (step ∷ steps) zero content e = is_utf8 step content (let same : bare_step step ≡ text content = cc in same)
 all_utf8 (step ∷ steps) (suc i) content e = all_utf8 steps i content e
 
--- a step that writes a value may be named
-no_wrong_kind : (listed : List Listed) (step : Step) (v : Value) → value_of listed step ≡ Some v → fault_of (Some step) ≡ None
-no_wrong_kind listed (text content) v e = refl
-no_wrong_kind listed (bytes content) v e = refl
-no_wrong_kind listed (numbers width items) v e = refl
-no_wrong_kind listed (refs steps) v e = refl
-no_wrong_kind listed (table fields) v e = refl
-no_wrong_kind listed (finish root identifier) v e = (cc)
-no_wrong_kind listed clear v e = (cc)
+-- what is of a kind may be named so
+no_wrong_kind : (kind : Kind) → naming_fault kind (Some (Some kind)) ≡ None
+no_wrong_kind a_value = refl
+no_wrong_kind a_union_list = refl
 
 -- numbers that are a list have no fault
 numbers_good : (width : Option Width) (items : List ℕ) (v : Value) → numbers_value width items ≡ Some v → numbers_fault width items ≡ None
@@ -91,16 +91,28 @@ module _ (switches : Switches) (all cs : List Step) (c : Step) (rest : List Step
   before_is = ap (take (length cs)) whole ∙ take-append_seam cs (c ∷ rest)
 
   -- a step that puts down entries isn't bad
-  name_good : (number : ℕ) (named : Named) → named_at state.listed number ≡ Some named → fault_of (named_step cs number) ≡ None
+  abbrev fault_here : Kind → ℕ → Option Why
+  fault_here kind number = fault_of kind (named_step cs number)
+
+  name_good : NamedAreGood state.listed fault_here
   name_good number named h =
       let v = run_value switches cs utf8 state run number named h in
-      ap fault_of v.named ∙ no_wrong_kind state.listed v.step v.value v.is_value
+      ap (fault_of (kind_named named)) v.named ∙ ap (λ k. naming_fault (kind_named named) (Some k)) v.kind ∙ no_wrong_kind (kind_named named)
 
-  names_good : (steps distances : List ℕ) → distances_of state.listed steps ≡ Some distances → first_fault (λ number. fault_of (named_step cs number)) steps ≡ None
-  names_good [] distances h = refl
-  names_good (step ∷ steps) distances h =
-      let both = distances_made (named_at state.listed step) (distances_of state.listed steps) distances h in
-      rw (name_good step both.0 both.2) (names_good steps both.1 both.3)
+  value_named : (number distance : ℕ) → value_at state.listed number ≡ Some distance → fault_here a_value number ≡ None
+  value_named = value_good state.listed fault_here name_good
+
+  all_good : {X Y : Type 0} (there : X → Option Y) (fault : X → Option Why) → ((x : X) (y : Y) → there x ≡ Some y → fault x ≡ None)
+      → (xs : List X) (ys : List Y) → all_of there xs ≡ Some ys → first_fault fault xs ≡ None
+  all_good is_there fault good [] ys h = refl
+  all_good is_there fault good (x ∷ xs) ys h =
+      let both = all_made (is_there x) (all_of is_there xs) ys h in
+      rw (good x both.0 both.2) (all_good is_there fault good xs both.1 both.3)
+
+  union_good : (item union : ℕ × ℕ) → union_of state.listed item ≡ Some union → union_fault (fault_here a_value) item ≡ None
+  union_good item union h =
+      let made = union_made state.listed item union h in
+      ap (λ zero. if zero then Some ZeroTag else fault_here a_value item.1) made.1 ∙ value_named item.1 made.0 made.2
 
   put_fault : (step : Step) (entries : List Entry) → entries_put state.listed step ≡ Some entries → broken_check cs step ≡ None
   put_fault (text content) entries h = refl
@@ -109,16 +121,20 @@ module _ (switches : Switches) (all cs : List Step) (c : Step) (rest : List Step
       let made = made_of entries_of (numbers_value (width_of width) items) entries h in
       numbers_good (width_of width) items made.0 made.1
   put_fault (refs steps) entries h =
-      let made = made_of entries_of (option_map value.reference_list (distances_of state.listed steps)) entries h in
-      let of_all = made_of value.reference_list (distances_of state.listed steps) made.0 made.1 in
-      names_good steps of_all.0 of_all.1
+      let made = made_of entries_of (option_map value.reference_list (all_of (value_at state.listed) steps)) entries h in
+      let of_all = made_of value.reference_list (all_of (value_at state.listed) steps) made.0 made.1 in
+      all_good (value_at state.listed) (fault_here a_value) value_named steps of_all.0 of_all.1
+  put_fault (unions items) entries h =
+      let made = made_of entries_of (option_map value.union_list (all_of (union_of state.listed) items)) entries h in
+      let of_all = made_of value.union_list (all_of (union_of state.listed) items) made.0 made.1 in
+      all_good (union_of state.listed) (union_fault (fault_here a_value)) union_good items of_all.0 of_all.1
   put_fault (table fields) entries h =
       let made = made_of entries_of (option_map value.table (fields_of state.listed [] greatest_field fields)) entries h in
       let of_all = made_of value.table (fields_of state.listed [] greatest_field fields) made.0 made.1 in
-      fields_good state.listed (λ number. fault_of (named_step cs number)) name_good [] greatest_field fields of_all.0 of_all.1
+      fields_good state.listed fault_here name_good [] greatest_field fields of_all.0 of_all.1
   put_fault (finish root identifier) entries h =
-      let made = made_of (finish_of identifier) (named_at state.listed root) entries h in
-      name_good root made.0 made.1
+      let made = made_of (finish_of identifier) (value_at state.listed root) entries h in
+      value_named root made.0 made.1
   put_fault clear entries h = refl
 
   no_fault : (step : Step) (after : State) → Advances switches state step after → broken_check cs step ≡ None
@@ -126,6 +142,7 @@ module _ (switches : Switches) (all cs : List Step) (c : Step) (rest : List Step
   no_fault (bytes content) after h = refl
   no_fault (numbers width items) after h = put_fault (numbers width items) h.entries h.are
   no_fault (refs steps) after h = put_fault (refs steps) h.entries h.are
+  no_fault (unions items) after h = put_fault (unions items) h.entries h.are
   no_fault (table fields) after h = put_fault (table fields) h.entries h.are
   no_fault (finish root identifier) after h = put_fault (finish root identifier) h.entries h.are
   no_fault clear after h = refl

@@ -13,16 +13,19 @@ use Rattle.planus_read.specs.Values as value
 use Rattle.planus_read.specs.Values.{Field, field_at, slot_count}
 use Rattle.planus_read.specs.Aligned.{field_alignment}
 use Rattle.planus_write.specs.Tables.{IsField, IsTable, Falling, SlotsOnce, field_size, body_size}
-use Rattle.planus.specs.Steps.{FieldStep, number_field, ref_field}
+use Rattle.planus.specs.Steps.{FieldStep, number_field, ref_field, tags_field, values_field}
 use Rattle.planus.specs.Slots.{slot_fault, rising_fault, place_fault, alignment_of}
 use Rattle.planus.specs.Slots.{greatest_field}
-use Rattle.planus.specs.Runs.{Listed, named_at, width_of, field_width, fits_width, plain_field}
-use Rattle.planus.specs.Runs.{reference_to, field_of, fields_of}
+use Rattle.planus.specs.Names.{IsReached}
+use Rattle.planus.specs.Runs.{Listed, tags_distance, references_distance, distance_at, value_at}
+use Rattle.planus.specs.Runs.{width_of, field_width, fits_width, plain_field, field_of, fields_of}
 use Rattle.planus.specs.declared.faults.Why.TheVariants.{SlotTooBig, SlotTwice, RisingAlignment}
 use Rattle.planus.proofs.FieldFaults.{none_of}
-use Rattle.planus.proofs.Lists.{all_named, made_of}
+use Rattle.planus.proofs.NamedKinds.{tags_reached, references_reached}
+use Rattle.planus.proofs.Lists.{made_of}
 use Rattle.planus.proofs.TableFields.{fields_made}
 use Rattle.planus.proofs.WrittenValues.{width_power, width_positive, width_sized}
+use Rattle.planus.proofs.WrittenValues.{distance_behind, value_behind}
 
 -- a width has as many bytes as it is named by
 chosen : (size k : ℕ) (v w : Width) (other : Option Width) → byte_len v ≡ k → (other ≡ Some w → byte_len w ≡ size) → (test : Bool) → (size == k) ≡ test
@@ -147,12 +150,18 @@ distinct_none : IsDistinct (λ (a : ℕ) (b : ℕ). a == b) []
 unfolding IsDistinct
 distinct_none = tt
 
-module _ (P : Listed → Type 0) (bytes : ℕ) (reached : (one : Listed) → P one → one.named.distance ≤ bytes) (listed : List Listed) (kept : AllByRecursion P listed) where
+module _ (P : Listed → Type 0) (bytes : ℕ) (reached : (one : Listed) → P one → IsReached bytes one.named) (listed : List Listed) (kept : AllByRecursion P listed) where
   pub field_written : (content : FieldStep) (field : Field) → field_of listed content ≡ Some field → HasSize bytes (alignment_of content) field
   field_written (number_field width n) field e = number_written bytes width (field_width width) n field (width_known width) e
   field_written (ref_field step) field e =
-      let made = made_of reference_to (named_at listed step) field e in
-      subst (HasSize bytes 4) made.2 (reached (record { step = step; named = made.0 }) (all_named P listed step made.0 kept made.1), refl, refl)
+      let made = made_of value.reference (value_at listed step) field e in
+      subst (HasSize bytes 4) made.2 (value_behind P bytes reached listed kept step made.0 made.1, refl, refl)
+  field_written (tags_field step) field e =
+      let made = made_of value.tags (distance_at tags_distance listed step) field e in
+      subst (HasSize bytes 4) made.2 (distance_behind P bytes reached listed kept tags_distance (tags_reached bytes) step made.0 made.1, refl, refl)
+  field_written (values_field step) field e =
+      let made = made_of value.values (distance_at references_distance listed step) field e in
+      subst (HasSize bytes 4) made.2 (distance_behind P bytes reached listed kept references_distance (references_reached bytes) step made.0 made.1, refl, refl)
 
   are_behind : (slots : List ℕ) (before : ℕ) (fields : List (ℕ × FieldStep)) (all : List (ℕ × Field)) → before ≤ 8 → fields_of listed slots before fields ≡ Some all
       → AreBehind bytes slots before all
@@ -209,7 +218,7 @@ all_below (slot ∷ slots) below q e = by_test (all_below slots below.1 q) (q ==
     by_test further false is e = further e
 
 -- the fields of a table can be written
-pub tables_are_written : (P : Listed → Type 0) (bytes : ℕ) → ((one : Listed) → P one → one.named.distance ≤ bytes) → (listed : List Listed) → AllByRecursion P listed
+pub tables_are_written : (P : Listed → Type 0) (bytes : ℕ) → ((one : Listed) → P one → IsReached bytes one.named) → (listed : List Listed) → AllByRecursion P listed
     → (fields : List (ℕ × FieldStep)) (all : List (ℕ × Field)) → fields_of listed [] greatest_field fields ≡ Some all → IsTable bytes all
 tables_are_written P bytes reached listed kept fields all e =
     let behind = are_behind P bytes reached listed kept [] greatest_field fields all (omega arith) e in

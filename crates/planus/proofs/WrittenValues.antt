@@ -12,11 +12,12 @@ use Rattle.planus_read.specs.Values as value
 use Rattle.planus_read.specs.Values.{Value}
 use Rattle.planus_read.specs.ReadsBack.{WellFormed}
 use Rattle.planus_write.specs.Parts.{IsWritten, IsPlainList}
-use Rattle.planus.specs.Runs.{Listed}
-use Rattle.planus.specs.Runs.{named_at}
-use Rattle.planus.specs.Runs.{distances_of, numbers_value, fits_width}
-use Rattle.planus.proofs.Lists.{all_named}
-use Rattle.planus.proofs.Lists.{distances_made}
+use Rattle.planus_write.specs.Parts.{Named}
+use Rattle.planus.specs.Names.{IsReached}
+use Rattle.planus.specs.Runs.{Listed, named_at, value_distance, distance_at, value_at, union_of}
+use Rattle.planus.specs.Runs.{all_of, numbers_value, fits_width}
+use Rattle.planus.proofs.NamedKinds.{value_reached}
+use Rattle.planus.proofs.Lists.{all_named, all_there, made_after, union_made}
 
 -- a width has a power of two of bytes
 pub width_power : (width : Width) → IsPowerOfTwo (byte_len width)
@@ -63,14 +64,23 @@ numbers_are_written before (Some width) items v e = by_test (list_all (fits_widt
     by_test false e = (cc)
 
 -- what is referred to was written
-pub references_behind : (P : Listed → Type 0) (before : ℕ)
-    → ((one : Listed) → P one → one.named.distance ≤ before) → (listed : List Listed)
-    → AllByRecursion P listed
-    → (steps distances : List ℕ) → distances_of listed steps ≡ Some distances
-    → AllByRecursion (λ distance. distance ≤ before) distances
-references_behind P before reached listed all [] distances e =
-    let none : [] ≡ distances = cc in subst (AllByRecursion (λ distance. distance ≤ before)) none tt
-references_behind P before reached listed all (step ∷ steps) distances e =
-    let both = distances_made (named_at listed step) (distances_of listed steps) distances e in
-    subst (AllByRecursion (λ distance. distance ≤ before)) both.4
-    (reached (record { step = step; named = both.0 }) (all_named P listed step both.0 all both.2), references_behind P before reached listed all steps both.1 both.3)
+module _ (P : Listed → Type 0) (before : ℕ) (reached : (one : Listed) → P one → IsReached before one.named) (listed : List Listed) (all : AllByRecursion P listed) where
+  pub distance_behind : (which : Named → Option ℕ) → ((named : Named) (distance : ℕ) → IsReached before named → which named ≡ Some distance → distance ≤ before)
+      → (step distance : ℕ) → distance_at which listed step ≡ Some distance → distance ≤ before
+  distance_behind which behind step distance e =
+      let made = made_after which (named_at listed step) distance e in
+      behind made.0 distance (reached (record { step = step; named = made.0 }) (all_named P listed step made.0 all made.1)) made.2
+
+  pub value_behind : (step distance : ℕ) → value_at listed step ≡ Some distance → distance ≤ before
+  value_behind = distance_behind value_distance (value_reached before)
+
+  pub references_behind : (steps distances : List ℕ) → all_of (value_at listed) steps ≡ Some distances → AllByRecursion (λ distance. distance ≤ before) distances
+  references_behind steps distances e = all_there (λ distance. distance ≤ before) (value_at listed) value_behind steps distances e
+
+  union_behind : (item union : ℕ × ℕ) → union_of listed item ≡ Some union → union.1 ≤ before
+  union_behind item union e =
+      let made = union_made listed item union e in
+      subst (λ (u : ℕ × ℕ). u.1 ≤ before) made.3 (value_behind item.1 made.0 made.2)
+
+  pub unions_behind : (items unions : List (ℕ × ℕ)) → all_of (union_of listed) items ≡ Some unions → AllByRecursion (λ union. union.1 ≤ before) unions
+  unions_behind items unions e = all_there (λ (union : ℕ × ℕ). union.1 ≤ before) (union_of listed) union_behind items unions e

@@ -7,7 +7,7 @@ use Rattle.planus.specs.Steps.{FieldStep}
 use Rattle.planus.specs.Slots.{slot_fault, greatest_field}
 use Rattle.planus.specs.Runs.{fields_of}
 use Rattle.planus.specs.TableChecks.{table_fault}
-use Rattle.planus.specs.Replaying.{distances, listed_from, name_fault}
+use Rattle.planus.specs.Replaying.{values_listed, name_fault}
 use Rattle.planus.specs.declared.faults.Why.{Why}
 use Rattle.planus.specs.declared.progress.Progress.{Progress}
 
@@ -23,6 +23,6 @@ ChecksSlot slots slot (Err why) = slot_fault slots slot ≡ Some why
 -- The fields of a table were declared, or this is wrong with the first of them that has a fault.
 abbrev pub DeclaresTable : Progress → List (ℕ × FieldStep) → Result Writer Why → Type 0
 DeclaresTable replay fields (Ok writer) = (all : List (ℕ × Field))
-    × (fields_of (listed_from replay.first (distances replay)) [] greatest_field fields ≡ Some all)
+    × (fields_of (values_listed replay) [] greatest_field fields ≡ Some all)
     × WasTold writer (declared_of all) × (table_fault (name_fault replay) fields ≡ None)
 DeclaresTable replay fields (Err why) = table_fault (name_fault replay) fields ≡ Some why

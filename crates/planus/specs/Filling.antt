@@ -4,7 +4,7 @@ use Rattle.planus_read.specs.Values.{Field}
 use Rattle.planus.specs.Steps.{bare_field}
 use Rattle.planus.specs.Slots.{greatest_field}
 use Rattle.planus.specs.Runs.{Listed, fields_of}
-use Rattle.planus.specs.Replaying.{distance_of, listed_from}
+use Rattle.planus.specs.Names.{name_of, listed_from}
 use Rattle.planus.specs.Prepared.{field_reach}
 use Rattle.planus.specs.declared.table_body.TableBody.{TableBody}
 
@@ -20,7 +20,7 @@ fields_or_none (Some fields) = fields
 
 -- the values that the fields of a table may refer to
 abbrev pub listed_since : TableBody → List Listed
-listed_since body = listed_from body.earlier.first (map distance_of body.earlier.offsets.now)
+listed_since body = listed_from body.earlier.first (map name_of body.earlier.offsets.now)
 
 -- the fields of a table that is written
 abbrev pub fields_in : TableBody → List (ℕ × Field)

@@ -10,10 +10,10 @@ use Rattle.planus_read.specs.Stands.{Stands, ReferenceStands}
 use Rattle.planus_read.specs.Aligned.{AlignedAt}
 use Rattle.planus_read.specs.ReadsBack.{ReadsBack}
 use Rattle.planus_write.specs.Shared.{Switches}
-use Rattle.planus_write.specs.Parts.{identifier_bytes, Named, position_in}
+use Rattle.planus_write.specs.Parts.{identifier_bytes, position_in}
 use Rattle.planus_write.specs.Standing.{TagsReached}
 use Rattle.planus.specs.Steps.{Step, finish}
-use Rattle.planus.specs.Runs.{Finish, Listed, State, nothing_written, LeadsTo, named_at, value_of}
+use Rattle.planus.specs.Runs.{Finish, Listed, State, nothing_written, LeadsTo, value_at, value_of}
 
 -- The value of a step stands aligned in the bytes, at what it is named by, and reads back.
 pub record ValueHolds (steps : List Step) (given : Finish) (one : Listed) : Type 0 where
@@ -49,7 +49,7 @@ pub record FinishHolds (switches : Switches) (steps : List Step) (given : Finish
   pub bytes : given.bytes ≡ state.past.written.bytes
   pub places : given.places ≡ state.listed
   pub values : AllByRecursion (ValueHolds steps given) given.places
-  pub leads : (named : Named) × (named_at given.places root ≡ Some named)
-      × ReferenceStands given.bytes 0 named.distance
+  pub leads : (distance : ℕ) × (value_at given.places root ≡ Some distance)
+      × ReferenceStands given.bytes 0 distance
   pub identified : BytesStand given.bytes 4 (identifier_bytes identifier)
   pub fewest : IsFewest state.past.parts state.past.places given.bytes

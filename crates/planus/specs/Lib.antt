@@ -2,6 +2,8 @@ pub mod Steps
 pub mod Texts
 pub mod Slots
 pub mod Runs
+pub mod Kinds
+pub mod Names
 pub mod TableChecks
 pub mod Replays
 pub mod Headline

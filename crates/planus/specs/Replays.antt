@@ -1,20 +1,22 @@
 -- What a replay of steps answers.
-use Rattle.std.specs.Prelude.{◌≡◌, ℕ, ◌+◌, List, [], ◌∷◌, ◌++◌, length, take, drop, slice_get, map}
+use Rattle.std.specs.Prelude.{◌≡◌, ℕ, ◌+◌, ◌==◌, List, [], ◌∷◌, ◌++◌, length, take, drop}
+use Rattle.std.specs.Prelude.{slice_get, map}
 use Rattle.std.specs.Prelude.{Bool, true, false, if◌then◌else◌, Option, Some, None, Result, Ok, Err}
 use Rattle.std.specs.Prelude.{⊤, ◌⊎◌}
 use Rattle.std.specs.Prelude.{Vec}
 use Rattle.std.specs.List.{list_any, list_all}
-use Rattle.std.specs.Option.{option_or}
+use Rattle.std.specs.Option.{option_or, option_map}
 use Rattle.std.specs.Int.{Width}
 use Rattle.std.specs.declared.alloc.Global.{Global}
-use Rattle.planus.specs.Steps.{Step, numbers, refs, table, finish, clear}
+use Rattle.planus.specs.Steps.{Step, numbers, refs, unions, table, finish, clear}
+use Rattle.planus.specs.Kinds.{Kind, a_value, kind_of, naming_fault}
 use Rattle.planus_write.specs.Shared.{Switches}
 use Rattle.planus.specs.Runs.{Finish, Listed, State, nothing_written, LeadsTo, Runs}
 use Rattle.planus.specs.Runs.{ComesToTooLarge, width_of, fits_width}
 use Rattle.planus.specs.TableChecks.{table_fault}
 use Rattle.planus.specs.declared.faults.Why.{Why}
 use Rattle.planus.specs.declared.faults.Why.TheVariants.{WidthUnknown, ValueTooBig}
-use Rattle.planus.specs.declared.faults.Why.TheVariants.{NoSuchStep, WrongKind}
+use Rattle.planus.specs.declared.faults.Why.TheVariants.{ZeroTag}
 use Rattle.planus.specs.declared.faults.ReplayError.{ReplayError}
 use Rattle.planus.specs.declared.faults.ReplayError.TheVariants.{OutOfMemory, TooLarge, BadStep}
 use Rattle.planus.specs.declared.finishes.Finished.{Finished}
@@ -32,17 +34,19 @@ abbrev pub named_step : List Step → ℕ → Option Step
 named_step earlier number =
     if list_any is_clear (drop number earlier) then None else slice_get earlier number
 
--- what is wrong with naming it as a value
-abbrev pub fault_of : Option Step → Option Why
-fault_of None = Some NoSuchStep
-fault_of (Some (finish root identifier)) = Some WrongKind
-fault_of (Some clear) = Some WrongKind
-fault_of (Some _) = None
+-- what is wrong with naming it as one of a kind
+abbrev pub fault_of : Kind → Option Step → Option Why
+fault_of kind step = naming_fault kind (option_map kind_of step)
 
--- the fault of the first step that has one
-abbrev pub first_fault : (ℕ → Option Why) → List ℕ → Option Why
+-- the fault of the first of these that has one
+abbrev pub first_fault : {X : Type 0} → (X → Option Why) → List X → Option Why
 first_fault fault [] = None
-first_fault fault (step ∷ steps) = option_or (fault step) (first_fault fault steps)
+first_fault fault (x ∷ xs) = option_or (fault x) (first_fault fault xs)
+
+-- what is wrong with a union of a list, if this is what is wrong with naming each step as a value:
+-- its tag is 0, which is that of no variant; or its value can't be named
+abbrev pub union_fault : (ℕ → Option Why) → ℕ × ℕ → Option Why
+union_fault fault item = if item.0 == 0 then Some ZeroTag else fault item.1
 
 -- what is wrong with numbers of a width, or of none that is known
 abbrev pub numbers_fault : Option Width → List ℕ → Option Why
@@ -51,18 +55,21 @@ numbers_fault (Some width) items =
     if list_all (fits_width width) items then None else Some ValueTooBig
 
 -- the first broken check of a step, if this is what is wrong with naming each step: numbers have a
--- known width and fit it; what is referred to, and a root, can be named; the checks of a table
-abbrev pub check_by : (ℕ → Option Why) → Step → Option Why
+-- known width and fit it; what is referred to, and a root, can be named as a value; unions have tags
+-- above 0; the checks of a table
+abbrev pub check_by : (Kind → ℕ → Option Why) → Step → Option Why
 check_by fault (numbers width items) = numbers_fault (width_of width) items
-check_by fault (refs steps) = first_fault fault steps
+check_by fault (refs steps) = first_fault (fault a_value) steps
+check_by fault (unions items) = first_fault (union_fault (fault a_value)) items
 check_by fault (table fields) = table_fault fault fields
-check_by fault (finish root identifier) = fault root
+check_by fault (finish root identifier) = fault a_value root
 check_by fault _ = None
 
 -- the first broken check of a step, by the steps before it: what it names is an earlier step behind
--- the last clear, and a value
+-- the last clear, and wrote what it is named as
 abbrev pub broken_check : List Step → Step → Option Why
-broken_check earlier step = check_by (λ number. fault_of (named_step earlier number)) step
+broken_check earlier step =
+    check_by (λ kind number. fault_of kind (named_step earlier number)) step
 
 -- the step of this number with its broken check, if it has one, or else a later one
 abbrev pub first_bad_or : ℕ → Option Why → Option (ℕ × Why) → Option (ℕ × Why)

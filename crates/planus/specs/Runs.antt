@@ -1,7 +1,7 @@
 -- Runs: what steps come to, by the definitions of entries and of how they are put down alone.
 use Rattle.std.specs.Prelude.{◌≡◌, ℕ, ◌+◌, ◌==◌, List, [], ◌∷◌, ◌++◌, take, slice_get, Option, Some}
 use Rattle.std.specs.Prelude.{None, if◌then◌else◌, Bool, nat_lt, ◌^◌, map}
-use Rattle.std.specs.Option.{option_map}
+use Rattle.std.specs.Option.{option_map, option_and_then, is_none}
 use Rattle.std.specs.List.{list_all}
 use Rattle.std.specs.Int.{Width, w8, w16, w32, w64, byte_len, to_le_bytes}
 use Rattle.planus_read.specs.Values as value
@@ -10,8 +10,8 @@ use Rattle.planus_write.specs.Shared.{Switches, all_off}
 use Rattle.planus_write.specs.Past.{Past, Entry, no_past, PutsAll}
 use Rattle.planus_write.specs.Past.{ComesToTooLarge as ComesToTooLargeEntry}
 use Rattle.planus_write.specs.Parts.{Named, named_by, entries_of, finish_entry}
-use Rattle.planus.specs.Steps.{Step, text, bytes, numbers, refs, table, finish, clear}
-use Rattle.planus.specs.Steps.{FieldStep, number_field, ref_field}
+use Rattle.planus.specs.Steps.{Step, text, bytes, numbers, refs, unions, table, finish}
+use Rattle.planus.specs.Steps.{clear, FieldStep, number_field, ref_field, tags_field, values_field}
 use Rattle.planus.specs.Slots.{place_fault, alignment_of, greatest_field}
 use Rattle.planus.specs.declared.faults.Why.{Why}
 
@@ -28,6 +28,25 @@ pub record Listed : Type 0 where
 abbrev pub named_at : List Listed → ℕ → Option Named
 named_at [] step = None
 named_at (one ∷ rest) step = if one.step == step then Some one.named else named_at rest step
+
+-- the distance of a value, to which a reference leads; a union list has none that is its own
+abbrev pub value_distance : Named → Option ℕ
+value_distance named = if is_none named.tags then Some named.distance else None
+
+-- the distances of a union list, that of its tags and that of its references; a value has neither
+abbrev pub tags_distance : Named → Option ℕ
+tags_distance named = named.tags
+
+abbrev pub references_distance : Named → Option ℕ
+references_distance named = option_map (λ tags. named.distance) named.tags
+
+-- such a distance of what a step wrote, if that step is listed, and there is one
+abbrev pub distance_at : (Named → Option ℕ) → List Listed → ℕ → Option ℕ
+distance_at which listed step = option_and_then which (named_at listed step)
+
+-- the distance of the value of a step, if it is listed, and a value
+abbrev pub value_at : List Listed → ℕ → Option ℕ
+value_at listed step = distance_at value_distance listed step
 
 -- the width of numbers of so many bytes, if they can be the items of a list
 abbrev pub width_of : ℕ → Option Width
@@ -48,16 +67,21 @@ numbers_value (Some width) items =
     then Some (value.plain_list (byte_len width) (byte_len width) (map (to_le_bytes width) items))
     else None
 
--- one distance more, if what it is of is named
-abbrev pub with_distance : Option Named → Option (List ℕ) → Option (List ℕ)
-with_distance None rest = None
-with_distance (Some named) rest = option_map (λ distances. named.distance ∷ distances) rest
+-- one more in front, if it is there and the others are
+abbrev pub with_one : {Y : Type 0} → Option Y → Option (List Y) → Option (List Y)
+with_one None others = None
+with_one (Some one) others = option_map (λ rest. one ∷ rest) others
 
--- the distances of the values of these steps, if all are listed
-abbrev pub distances_of : List Listed → List ℕ → Option (List ℕ)
-distances_of listed [] = Some []
-distances_of listed (step ∷ steps) =
-    with_distance (named_at listed step) (distances_of listed steps)
+-- what each of these gives, if all of them give something
+abbrev pub all_of : {X Y : Type 0} → (X → Option Y) → List X → Option (List Y)
+all_of gives [] = Some []
+all_of gives (x ∷ xs) = with_one (gives x) (all_of gives xs)
+
+-- a union of a list, if it is one: its tag, which is above 0, and the distance of a step's value
+abbrev pub union_of : List Listed → ℕ × ℕ → Option (ℕ × ℕ)
+union_of listed item =
+    if item.0 == 0 then None
+    else option_map (λ distance. (item.0, distance)) (value_at listed item.1)
 
 -- the width of a number of so many bytes, if it can be a field
 abbrev pub field_width : ℕ → Option Width
@@ -73,14 +97,14 @@ plain_field (Some width) number =
     (record { bytes = to_le_bytes width number; alignment = byte_len width }))
     else None
 
--- a reference to what is named
-abbrev pub reference_to : Named → Field
-reference_to named = value.reference named.distance
-
 -- the field that holds this, if there is one
 abbrev pub field_of : List Listed → FieldStep → Option Field
 field_of listed (number_field width number) = plain_field (field_width width) number
-field_of listed (ref_field step) = option_map reference_to (named_at listed step)
+field_of listed (ref_field step) = option_map value.reference (value_at listed step)
+field_of listed (tags_field step) =
+    option_map value.tags (distance_at tags_distance listed step)
+field_of listed (values_field step) =
+    option_map value.values (distance_at references_distance listed step)
 
 -- one field more in a slot, if nothing is wrong with its place
 abbrev pub with_field : ℕ → Option Why → Option Field → Option (List (ℕ × Field))
@@ -103,21 +127,22 @@ abbrev pub value_of : List Listed → Step → Option Value
 value_of listed (text content) = Some (value.text content)
 value_of listed (bytes content) = Some (value.byte_list content)
 value_of listed (numbers width items) = numbers_value (width_of width) items
-value_of listed (refs steps) = option_map value.reference_list (distances_of listed steps)
+value_of listed (refs steps) = option_map value.reference_list (all_of (value_at listed) steps)
+value_of listed (unions items) = option_map value.union_list (all_of (union_of listed) items)
 value_of listed (table fields) =
     option_map value.table (fields_of listed [] greatest_field fields)
 value_of listed (finish root identifier) = None
 value_of listed clear = None
 
--- the finish of a named root
-abbrev pub finish_of : Option (List ℕ) → Named → List Entry
-finish_of identifier root = finish_entry root.distance identifier ∷ []
+-- the finish of a root at a distance
+abbrev pub finish_of : Option (List ℕ) → ℕ → List Entry
+finish_of identifier root = finish_entry root identifier ∷ []
 
 -- What a step puts down, if it puts down anything: the entries of its value, or a finish of the
 -- value of an earlier step.
 abbrev pub entries_put : List Listed → Step → Option (List Entry)
 entries_put listed (finish root identifier) =
-    option_map (finish_of identifier) (named_at listed root)
+    option_map (finish_of identifier) (value_at listed root)
 entries_put listed step = option_map entries_of (value_of listed step)
 
 -- what one finish gives: the bytes, and each value since the last clear

@@ -3,7 +3,7 @@
 use Rattle.std.specs.Prelude.{ℕ, List, Option, Some, None, nat_lt, ◌==◌, if◌then◌else◌}
 use Rattle.std.specs.List.{list_any}
 use Rattle.std.specs.Option.{option_or}
-use Rattle.planus.specs.Steps.{FieldStep, number_field, ref_field}
+use Rattle.planus.specs.Steps.{FieldStep, number_field, ref_field, tags_field, values_field}
 use Rattle.planus.specs.declared.faults.Why.{Why}
 use Rattle.planus.specs.declared.faults.Why.TheVariants.{SlotTooBig, SlotTwice, RisingAlignment}
 
@@ -13,10 +13,12 @@ slot_fault slots slot =
     if nat_lt 255 slot then Some SlotTooBig
     else if list_any (λ other. other == slot) slots then Some SlotTwice else None
 
--- the alignment of a field: a number's is its size, and 4 that of a reference
+-- the alignment of a field: a number's is its size, and 4 that of every reference
 abbrev pub alignment_of : FieldStep → ℕ
 alignment_of (number_field width number) = width
 alignment_of (ref_field step) = 4
+alignment_of (tags_field step) = 4
+alignment_of (values_field step) = 4
 
 -- the greatest alignment of a field, so that the first of a table may have any
 abbrev pub greatest_field : ℕ

@@ -2,26 +2,31 @@
 use Rattle.std.specs.Prelude.{ℕ, List, Option, map}
 use Rattle.std.specs.String.{string_bytes}
 use Rattle.planus.specs.declared.steps.Step as code
-use Rattle.planus.specs.declared.steps.Step.TheVariants.{Text, Bytes, Numbers, Refs, Table}
-use Rattle.planus.specs.declared.steps.Step.TheVariants.{Finish, Clear}
+use Rattle.planus.specs.declared.steps.Step.TheVariants.{Text, Bytes, Numbers, Refs, Unions}
+use Rattle.planus.specs.declared.steps.Step.TheVariants.{Table, Finish, Clear}
 use Rattle.planus.specs.declared.steps.Field.{Field}
 use Rattle.planus.specs.declared.steps.FieldValue.{FieldValue}
-use Rattle.planus.specs.declared.steps.FieldValue.TheVariants.{Number, Ref}
+use Rattle.planus.specs.declared.steps.FieldValue.TheVariants.{Number, Ref, Tags, Values}
 
 -- what a field of a table holds: a number, and of how many bytes it is; a reference to the value of
--- an earlier step, by the number of that
+-- an earlier step, by the number of that; references to the tags and to the references of the union
+-- list of an earlier step
 pub data FieldStep : Type 0 where
   number_field : (width : ℕ) → ℕ → FieldStep
   ref_field : ℕ → FieldStep
+  tags_field : ℕ → FieldStep
+  values_field : ℕ → FieldStep
 
 -- a text with its bytes; a list of bytes; numbers, and of how many bytes each is; references to the
--- values of earlier steps, by the numbers of these; a table of fields with their slots; a finish with
--- the number of its root's step, and a file identifier, if there is one; a clear
+-- values of earlier steps, by the numbers of these; a list of unions, of each its tag and the number
+-- of an earlier step, whose value it is; a table of fields with their slots; a finish with the number
+-- of its root's step, and a file identifier, if there is one; a clear
 pub data Step : Type 0 where
   text : List ℕ → Step
   bytes : List ℕ → Step
   numbers : (width : ℕ) → List ℕ → Step
   refs : List ℕ → Step
+  unions : List (ℕ × ℕ) → Step
   table : List (ℕ × FieldStep) → Step
   finish : ℕ → Option (List ℕ) → Step
   clear : Step
@@ -30,6 +35,8 @@ pub data Step : Type 0 where
 abbrev pub content_of : FieldValue → FieldStep
 content_of (Number width value) = number_field width value
 content_of (Ref step) = ref_field step
+content_of (Tags step) = tags_field step
+content_of (Values step) = values_field step
 
 -- a field: its slot, and what it holds
 abbrev pub bare_field : Field → ℕ × FieldStep
@@ -41,6 +48,7 @@ bare_step (Text words) = text (string_bytes words)
 bare_step (Bytes content) = bytes content.items
 bare_step (Numbers width items) = numbers width items.items
 bare_step (Refs steps) = refs steps.items
+bare_step (Unions items) = unions items.items
 bare_step (Table fields) = table (map bare_field fields.items)
 bare_step (Finish root id) = finish root id
 bare_step Clear = clear

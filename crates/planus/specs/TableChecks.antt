@@ -2,8 +2,9 @@
 use Rattle.std.specs.Prelude.{ℕ, List, [], ◌∷◌, ◌++◌, Option, Some, None, if◌then◌else◌}
 use Rattle.std.specs.Option.{option_or}
 use Rattle.std.specs.Int.{Width}
-use Rattle.planus.specs.Steps.{FieldStep, number_field, ref_field}
+use Rattle.planus.specs.Steps.{FieldStep, number_field, ref_field, tags_field, values_field}
 use Rattle.planus.specs.Slots.{slot_fault, rising_fault, alignment_of, greatest_field}
+use Rattle.planus.specs.Kinds.{Kind, a_value, a_union_list}
 use Rattle.planus.specs.Runs.{field_width, fits_width}
 use Rattle.planus.specs.declared.faults.Why.{Why}
 use Rattle.planus.specs.declared.faults.Why.TheVariants.{WidthUnknown, ValueTooBig}
@@ -14,25 +15,29 @@ number_fault None number = Some WidthUnknown
 number_fault (Some width) number =
     if fits_width width number then None else Some ValueTooBig
 
--- what is wrong with what a field holds, if this is what is wrong with naming each step
-abbrev pub content_fault : (ℕ → Option Why) → FieldStep → Option Why
+-- what is wrong with what a field holds, if this is what is wrong with naming each step: a reference
+-- names a value, and tags and values a union list
+abbrev pub content_fault : (Kind → ℕ → Option Why) → FieldStep → Option Why
 content_fault fault (number_field width number) = number_fault (field_width width) number
-content_fault fault (ref_field step) = fault step
+content_fault fault (ref_field step) = fault a_value step
+content_fault fault (tags_field step) = fault a_union_list step
+content_fault fault (values_field step) = fault a_union_list step
 
 -- The first broken check of a field, behind those of these slots, the last of which has this
 -- alignment: its slot, what it holds, and its alignment.
-abbrev pub field_fault : (ℕ → Option Why) → List ℕ → ℕ → ℕ × FieldStep → Option Why
+abbrev pub field_fault : (Kind → ℕ → Option Why) → List ℕ → ℕ → ℕ × FieldStep → Option Why
 field_fault fault slots before entry =
     option_or (slot_fault slots entry.0)
     (option_or (content_fault fault entry.1) (rising_fault before (alignment_of entry.1)))
 
 -- the first broken check of fields behind those, in their order
-abbrev pub fields_fault : (ℕ → Option Why) → List ℕ → ℕ → List (ℕ × FieldStep) → Option Why
+abbrev pub fields_fault : (Kind → ℕ → Option Why) → List ℕ → ℕ → List (ℕ × FieldStep)
+    → Option Why
 fields_fault fault slots before [] = None
 fields_fault fault slots before (entry ∷ fields) =
     option_or (field_fault fault slots before entry)
     (fields_fault fault (slots ++ entry.0 ∷ []) (alignment_of entry.1) fields)
 
 -- the first broken check of a table with these fields
-abbrev pub table_fault : (ℕ → Option Why) → List (ℕ × FieldStep) → Option Why
+abbrev pub table_fault : (Kind → ℕ → Option Why) → List (ℕ × FieldStep) → Option Why
 table_fault fault fields = fields_fault fault [] greatest_field fields

@@ -1,47 +1,88 @@
 //! What later steps may name.
 ghost use Rattle.std.specs.Prelude.{◌≡◌, map};
-ghost use Rattle.planus.specs.Replaying.{distance_of, FindsValue};
+ghost use Rattle.std.specs.Option.{option_map};
 ghost use Rattle.planus.specs.Steps.{content_of};
-ghost use Rattle.planus.specs.Prepared.{PreparesField};
+ghost use Rattle.planus.specs.Kinds.{a_value, a_union_list};
+ghost use Rattle.planus.specs.Names.{name_of, offset_named, vector_named, written_at, FindsNamed};
+ghost use Rattle.planus.specs.Prepared.{PreparesField, PreparesUnion};
 
 use crate::faults::Why;
 use crate::prepared_field::PreparedField;
 use crate::steps::FieldValue;
-use planus_write::Offset;
+use crate::written::Written;
+use planus_write::{Offset, UnionOffset, UnionVectorOffset};
 
 /// The steps since the last clear.
 #[derive(Clone, Copy)]
 pub(crate) struct Earlier<'a> {
     /// The number of the first of them.
     pub(crate) first: usize,
-    /// Of each, the offset of its value, if it wrote one.
-    pub(crate) offsets: &'a [Option<Offset<()>>],
+    /// Of each, what it wrote, if it wrote a value.
+    pub(crate) offsets: &'a [Option<Written>],
 }
 
 impl<'a> Earlier<'a> {
     /// The value of a step, by its number.
     pub(crate) fn value(&self, step: usize) -> std::result::Result<Offset<()>, Why>
-        ensures { FindsValue self.now.first (map distance_of self.now.offsets.now) step result }
+        ensures { FindsNamed a_value offset_named self.now.first (map name_of self.now.offsets.now)
+            step result }
+    {
+        match self.written(step) {
+            None => Err(Why::NoSuchStep),
+            Some(Some(Written::Value(offset))) => Ok(offset),
+            Some(_) => Err(Why::WrongKind),
+        }
+    }
+
+    /// The list of unions of a step, by its number.
+    fn unions(&self, step: usize) -> std::result::Result<UnionVectorOffset<()>, Why>
+        ensures { FindsNamed a_union_list vector_named self.now.first
+            (map name_of self.now.offsets.now) step result }
+    {
+        match self.written(step) {
+            None => Err(Why::NoSuchStep),
+            Some(Some(Written::Unions(vector))) => Ok(vector),
+            Some(_) => Err(Why::WrongKind),
+        }
+    }
+
+    /// What a step wrote, by its number.
+    fn written(&self, step: usize) -> Option<Option<Written>>
+        ensures { option_map name_of result
+            ≡ written_at self.now.first (map name_of self.now.offsets.now) step }
     {
         if step < self.first {
-            return Err(Why::NoSuchStep);
+            return None;
         }
         let offsets = self.offsets;
-        match offsets.get(step - self.first) {
-            None => Err(Why::NoSuchStep),
-            Some(None) => Err(Why::WrongKind),
-            Some(Some(offset)) => Ok(*offset),
+        offsets.get(step - self.first).copied()
+    }
+
+    /// A union of a list: its tag, and the step of its value.
+    pub(crate) fn union(&self, item: (u8, usize)) -> std::result::Result<UnionOffset<()>, Why>
+        ensures { PreparesUnion self.now.first (map name_of self.now.offsets.now) item result }
+    {
+        let (tag, step) = item;
+        if tag == 0 {
+            return Err(Why::ZeroTag);
         }
+        Ok(UnionOffset::new(tag, self.value(step)?))
     }
 
     /// What a field holds, ready to be written.
     pub(crate) fn prepare(&self, value: &FieldValue) -> std::result::Result<PreparedField, Why>
-        ensures { PreparesField self.now.first (map distance_of self.now.offsets.now)
+        ensures { PreparesField self.now.first (map name_of self.now.offsets.now)
             (content_of value.now) result }
     {
         match value {
             FieldValue::Number { width, value } => PreparedField::number(*width, *value),
             FieldValue::Ref(step) => Ok(PreparedField::Reference(self.value(*step)?)),
+            FieldValue::Tags(step) => {
+                Ok(PreparedField::Tags(self.unions(*step)?.tags_offset().downcast()))
+            }
+            FieldValue::Values(step) => {
+                Ok(PreparedField::Values(self.unions(*step)?.values_offset().downcast()))
+            }
         }
     }
 }

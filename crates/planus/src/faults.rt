@@ -13,8 +13,11 @@ pub enum Why {
     ValueTooBig,
     /// No earlier step behind the last clear has the number.
     NoSuchStep,
-    /// The step with the number is no value.
+    /// The step with the number wrote nothing that can be named so: a reference names a value, and
+    /// tags and values a list of unions.
     WrongKind,
+    /// The tag of a union is 0.
+    ZeroTag,
     /// A slot is above 255.
     SlotTooBig,
     /// A field before it has the slot.
@@ -35,6 +38,7 @@ impl fmt::Display for Why {
             Why::ValueTooBig => write!(f, "value too big"),
             Why::NoSuchStep => write!(f, "no such step"),
             Why::WrongKind => write!(f, "wrong kind"),
+            Why::ZeroTag => write!(f, "zero tag"),
             Why::SlotTooBig => write!(f, "slot too big"),
             Why::SlotTwice => write!(f, "slot twice"),
             Why::RisingAlignment => write!(f, "rising alignment"),

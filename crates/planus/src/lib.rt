@@ -15,11 +15,15 @@ mod table_body;
 #[cfg(test)]
 mod tests;
 mod version;
+mod written;
 
 pub use faults::{ReplayError, Why};
 pub use finishes::{Finished, StepPlace};
 pub use planus_back::Fill;
-pub use planus_fields::{DefaultValue, LeftOut, WriteAs, WriteAsDefault, WriteAsOptional};
+pub use planus_fields::{
+    DefaultValue, LeftOut, WriteAs, WriteAsDefault, WriteAsDefaultUnionVector, WriteAsOptional,
+    WriteAsOptionalUnion, WriteAsOptionalUnionVector,
+};
 pub use planus_read::{
     ArrayWithStartOffset, Error, Place, ReadAsRoot, ReadError, Result, SignedBytes,
     SliceWithStartOffset, Stride, TableRead, TableReadUnion, TableReadUnionVector, TaggedPlace,
@@ -29,8 +33,8 @@ pub use planus_unions::{AsRead, ItemError, UnionVector, union_vectors};
 pub use planus_view::{CopyError, FromItem, Vector, vectors};
 pub use planus_write::{
     BuildError, Builder, ByRef, ByteList, Initialized, List, ObjectFill, ObjectWriter, Offset,
-    Primitive, SignedList, TableWriter, Text, Uninitialized, VectorWrite, WriteAsOffset,
-    WriteAsPrimitive, table_writer,
+    Primitive, SignedList, TableWriter, Text, Uninitialized, UnionOffset, UnionVectorOffset,
+    VectorWrite, WriteAsOffset, WriteAsPrimitive, WriteAsUnion, WriteAsUnionVector, table_writer,
 };
 pub use run::replay;
 pub use steps::{Field, FieldValue, Step};

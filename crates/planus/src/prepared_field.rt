@@ -21,6 +21,9 @@ pub(crate) enum PreparedField {
     U32(u32),
     U64(u64),
     Reference(Offset<()>),
+    // The tags and the references of a list of unions.
+    Tags(Offset<()>),
+    Values(Offset<()>),
 }
 
 impl PreparedField {
@@ -45,7 +48,8 @@ impl PreparedField {
         match self {
             PreparedField::U8(_) => 1,
             PreparedField::U16(_) => 2,
-            PreparedField::U32(_) | PreparedField::Reference(_) => 4,
+            PreparedField::U32(_) => 4,
+            PreparedField::Reference(_) | PreparedField::Tags(_) | PreparedField::Values(_) => 4,
             PreparedField::U64(_) => 8,
         }
     }
@@ -72,7 +76,9 @@ impl PreparedField {
             PreparedField::U16(_) => writer.write_entry::<u16>(slot),
             PreparedField::U32(_) => writer.write_entry::<u32>(slot),
             PreparedField::U64(_) => writer.write_entry::<u64>(slot),
-            PreparedField::Reference(_) => writer.write_entry::<Offset<()>>(slot),
+            PreparedField::Reference(_) | PreparedField::Tags(_) | PreparedField::Values(_) => {
+                writer.write_entry::<Offset<()>>(slot)
+            }
         }
     }
 
@@ -93,7 +99,9 @@ impl PreparedField {
             PreparedField::U16(number) => writer.write::<u16, u16>(number),
             PreparedField::U32(number) => writer.write::<u32, u32>(number),
             PreparedField::U64(number) => writer.write::<u64, u64>(number),
-            PreparedField::Reference(offset) => writer.write::<Offset<()>, Offset<()>>(offset),
+            PreparedField::Reference(offset)
+            | PreparedField::Tags(offset)
+            | PreparedField::Values(offset) => writer.write::<Offset<()>, Offset<()>>(offset),
         }
     }
 }

@@ -3,12 +3,18 @@ ghost use Rattle.std.specs.Prelude.{◌≡◌, [], ◌+◌, ◌<◌, ◌^◌, ve
 ghost use Rattle.planus_write.specs.Shared.{all_off};
 ghost use Rattle.planus_write.specs.Past.{no_past};
 ghost use Rattle.planus_write.specs.State.{IsPast};
+ghost use Rattle.planus_write.specs.Preparing.{Answers};
+ghost use Rattle.planus_write.specs.Unions.{WritesUnionVector, union_reach};
+ghost use Rattle.std.specs.List.{AllByRecursion};
+ghost use Rattle.std.specs.Prelude.{◌≤◌};
 ghost use Rattle.planus.specs.Steps.{bare_step, bare_field};
 ghost use Rattle.planus.specs.Runs.{nothing_written};
 ghost use Rattle.planus.specs.Replays.{place_of};
-ghost use Rattle.planus.specs.Replaying.{distance_of, distances, listed_from, state_with};
-ghost use Rattle.planus.specs.Replaying.{FindsValue, FindsValues, HasTaken, Advanced, AreReached};
-ghost use Rattle.planus.specs.Replaying.{Narrowed, WritesValue};
+ghost use Rattle.planus.specs.Kinds.{a_value};
+ghost use Rattle.planus.specs.Names.{name_of, offset_named, vector_named, listed_from, FindsNamed};
+ghost use Rattle.planus.specs.Replaying.{names, state_with, FindsValues, FindsUnions, HasTaken};
+ghost use Rattle.planus.specs.Replaying.{Advanced, AreReached, Narrowed, WritesValue};
+ghost use Rattle.planus.specs.Prepared.{PreparesUnion};
 ghost use Rattle.planus.specs.Declaring.{DeclaresTable};
 ghost use Rattle.planus.specs.declared.faults.ReplayError.TheVariants.{BadStep};
 ghost use Rattle.std.specs.Int.{w16, w32, w64};
@@ -24,7 +30,11 @@ use crate::prepared_field::VTABLE_SIZE;
 use crate::slots::check_slot;
 use crate::steps::{Field, Step};
 use crate::table_body::TableBody;
-use planus_write::{Builder, ByteList, Offset, TableWriter, WriteAsOffset};
+use crate::written::Written;
+use planus_write::{
+    Builder, ByteList, Offset, TableWriter, UnionOffset, UnionVectorOffset, WriteAsOffset,
+    WriteAsUnionVector,
+};
 use std::alloc::{AllocError, Global};
 
 /// A replay on its way.
@@ -33,8 +43,8 @@ pub(crate) struct Progress {
     builder: Builder,
     // The number of the first step behind the last clear.
     first: usize,
-    // Of each step since, the offset of its value, if it wrote one.
-    offsets: Vec<Option<Offset<()>>>,
+    // Of each step since, what it wrote, if it wrote a value.
+    offsets: Vec<Option<Written>>,
     pub(crate) finished: Vec<Finished>,
 }
 
@@ -42,19 +52,19 @@ pub(crate) struct Progress {
 fn places_of(
     alloc: Global,
     first: usize,
-    offsets: &[Option<Offset<()>>],
+    offsets: &[Option<Written>],
 ) -> std::result::Result<Vec<StepPlace>, AllocError>
     requires { first + length offsets.now < 2 ^ 64 }
     ensures { IfOk result (λ places. map place_of places.items ≡ listed_from first
-        (map distance_of offsets.now)) }
+        (map name_of offsets.now)) }
 {
     let mut places = Vec::with_capacity(alloc, offsets.len())?;
     for (index, offset) in offsets.iter().enumerate() {
-        if let Some(offset) = offset {
+        if let Some(written) = offset {
             places.push(StepPlace {
                 step: first + index,
-                distance: offset.distance(),
-                tags: None,
+                distance: written.distance(),
+                tags: written.tags(),
             })?;
         }
     }
@@ -118,7 +128,7 @@ impl Progress {
 
     /// The value of an earlier step, by its number.
     fn value(&self, step: usize) -> std::result::Result<Offset<()>, Why>
-        ensures { FindsValue self.now.first (distances self.now) step result }
+        ensures { FindsNamed a_value offset_named self.now.first (names self.now) step result }
     {
         self.earlier().value(step)
     }
@@ -142,6 +152,32 @@ impl Progress {
         Ok(offsets)
     }
 
+    /// A union of the value of an earlier step.
+    fn union(&self, item: (u8, usize)) -> std::result::Result<UnionOffset<()>, Why>
+        ensures { PreparesUnion self.now.first (names self.now) item result }
+    {
+        self.earlier().union(item)
+    }
+
+    /// Unions of the values of earlier steps.
+    fn union_items(
+        &self,
+        alloc: Global,
+        items: &[(u8, usize)],
+    ) -> std::result::Result<Vec<UnionOffset<()>>, ReplayError>
+        requires { self.now.first + vec_len self.now.offsets < 2 ^ 64 }
+        ensures { FindsUnions self.now items.now result }
+    {
+        let mut unions = Vec::with_capacity(alloc, items.len())?;
+        for item in items {
+            match self.union(*item) {
+                Ok(union) => unions.push(union)?,
+                Err(why) => return Err(self.bad_step(why)),
+            }
+        }
+        Ok(unions)
+    }
+
     /// What is wrong with this step.
     fn bad_step(&self, why: Why) -> ReplayError
         requires { self.now.first + vec_len self.now.offsets < 2 ^ 64 }
@@ -154,10 +190,10 @@ impl Progress {
     /// Writes a value.
     fn write<T, X: WriteAsOffset<T>>(&mut self, value: &X) -> std::result::Result<(), ReplayError>
         requires { X.may value.now self.old.builder }
-        ensures { WritesValue (X.outcome value.now) self.old result self.new }
+        ensures { WritesValue offset_named (X.outcome value.now) self.old result self.new }
     {
         let offset = value.prepare(&mut self.builder)?;
-        self.offsets.push(Some(offset.downcast()))?;
+        self.offsets.push(Some(Written::Value(offset.downcast())))?;
         Ok(())
     }
 
@@ -203,6 +239,32 @@ impl Progress {
         self.write(&offsets)
     }
 
+    /// Writes a list of unions.
+    fn write_unions(&mut self, unions: &[UnionOffset<()>]) -> std::result::Result<(), ReplayError>
+        requires { AllByRecursion (λ union. union_reach union ≤ length self.old.builder.bytes)
+            unions.now }
+        ensures { WritesValue vector_named (WritesUnionVector Answers unions.now) self.old result
+            self.new }
+    {
+        let vector: UnionVectorOffset<()> = unions.prepare(&mut self.builder)?;
+        self.offsets.push(Some(Written::Unions(vector)))?;
+        Ok(())
+    }
+
+    /// Writes a list of unions of the values of earlier steps.
+    fn unions(
+        &mut self,
+        alloc: Global,
+        items: &[(u8, usize)],
+    ) -> std::result::Result<(), ReplayError>
+        requires reached { AreReached self.old }
+        requires number { self.old.first + vec_len self.old.offsets < 2 ^ 64 }
+        ensures { Advanced self.old (step.unions items.now) result self.new }
+    {
+        let unions = self.union_items(alloc, items)?;
+        self.write_unions(unions.as_slice())
+    }
+
     /// Checks the fields of a table, and declares them.
     fn declared(&self, fields: &[Field]) -> std::result::Result<TableWriter<VTABLE_SIZE>, Why>
         requires { AreReached self.now }
@@ -238,7 +300,7 @@ impl Progress {
         };
         writer.finish(&mut self.builder, &TableBody { earlier, fields })?;
         let table = self.builder.current_offset();
-        self.offsets.push(Some(table))?;
+        self.offsets.push(Some(Written::Value(table)))?;
         Ok(())
     }
 
@@ -257,6 +319,7 @@ impl Progress {
             Step::Bytes(bytes) => self.write(&ByteList(bytes.as_slice())),
             Step::Numbers { width, items } => self.numbers(alloc, *width, items.as_slice()),
             Step::Refs(steps) => self.refs(alloc, steps.as_slice()),
+            Step::Unions(items) => self.unions(alloc, items.as_slice()),
             Step::Table(fields) => self.table(fields.as_slice()),
             Step::Finish { root, id } => self.finish(alloc, *root, *id),
             Step::Clear => {

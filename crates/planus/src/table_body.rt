@@ -3,8 +3,7 @@ ghost use Rattle.std.specs.Prelude.{◌≡◌, [], map, None};
 ghost use Rattle.planus.specs.Steps.{bare_field};
 ghost use Rattle.planus.specs.Slots.{greatest_field};
 ghost use Rattle.planus.specs.TableChecks.{table_fault};
-ghost use Rattle.planus.specs.Replaying.{distance_of};
-ghost use Rattle.planus.specs.Prepared.{fault_since};
+ghost use Rattle.planus.specs.Names.{name_of, fault_since};
 
 use crate::earlier::Earlier;
 use crate::steps::Field;
@@ -15,7 +14,7 @@ use planus_write::{ObjectFill, ObjectWriter};
 pub(crate) struct TableBody<'a, 'b> {
     pub(crate) earlier: Earlier<'a>,
     pub(crate) fields: &'b [Field],
-    ghost good: { table_fault (fault_since earlier.first (map distance_of earlier.offsets.now))
+    ghost good: { table_fault (fault_since earlier.first (map name_of earlier.offsets.now))
         (map bare_field fields.now) ≡ None },
 }
 

@@ -7,4 +7,6 @@ pub mod Named
 pub mod Limited
 pub mod OneText
 pub mod Lists
+pub mod FieldLists
 pub mod WrittenWeapons
+pub mod WrittenMonsters

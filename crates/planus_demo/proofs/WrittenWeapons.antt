@@ -1,8 +1,9 @@
 -- Weapons: what is prepared and written of them, and that it grows the builder.
-use Rattle.std.proofs.Common.{◌≡◌, ℕ, ◌≤◌, max, length, Option, Result, Ok, Err}
+use Rattle.std.proofs.Common.{◌≡◌, ℕ, ◌+◌, ◌≤◌, max, length, Option, Result, Ok, Err}
 use Rattle.std.proofs.Common.{sym, subst, inr, arith}
 use Rattle.planus_write.specs.TableWriting.{WritesTable}
 use Rattle.planus_write.specs.Items.{Item}
+use Rattle.planus_write.specs.Tables.{total_size}
 use Rattle.planus_write.specs.State.{State, Grows}
 use Rattle.planus_write.specs.Laws.{grows_on, reached_still}
 use Rattle.planus_write.specs.Preparing.{IsLawful}
@@ -10,7 +11,9 @@ use Rattle.planus_fields.specs.Fields.{reach_if}
 use Rattle.planus_write.specs.Placing.{Outcome}
 use Rattle.planus_write.specs.declared.errors.BuildError.{BuildError}
 use Rattle.planus_write.specs.declared.offset.Offset.{Offset}
-use Rattle.planus_demo.specs.Weapons.{weapon_entries, weapon_body, WritesWeapon}
+use Rattle.planus_demo.specs.TableFields.{field_if, size_if, entries_of, bytes_of, reference_in}
+use Rattle.planus_demo.specs.Weapons.{weapon_fields, damage_entry, WritesWeapon}
+use Rattle.planus_demo.proofs.FieldLists.{size_append, size_of_field}
 
 -- What is known of a weapon whose name and damage are prepared, one after the other.
 module _ {X Y A B : Type 0} {may_name : X → State → Type 0} {prepare_name : X → Outcome (Option A)}
@@ -48,8 +51,8 @@ module _ {A B T : Type 0} (prepare_name : Outcome (Option A)) (name_leaves : A �
     (name : Option A) (damage : Option B) (named : prepare_name old (Ok name) mid)
     (damaged : prepare_damage mid (Ok damage) between) where
   pub weapon_written : (done : Unit {0}) (offset : Offset T) (new : State)
-      → WritesTable (weapon_entries name damage)
-      (weapon_body name_leaves damage_leaves name damage) between (Ok done) new
+      → WritesTable (entries_of (weapon_fields name_leaves damage_leaves name damage))
+      (bytes_of (weapon_fields name_leaves damage_leaves name damage)) between (Ok done) new
       → offset.distance ≡ length new.bytes
       → WritesWeapon prepare_name name_leaves prepare_damage damage_leaves old (Ok offset) new
   weapon_written done offset new written at =
@@ -57,10 +60,21 @@ module _ {A B T : Type 0} (prepare_name : Outcome (Option A)) (name_leaves : A �
 
   pub weapon_refused : (error : BuildError) (answer : Result (Offset T) BuildError) (new : State)
       → answer ≡ Err error
-      → WritesTable (weapon_entries name damage)
-      (weapon_body name_leaves damage_leaves name damage) between (Err error) new
+      → WritesTable (entries_of (weapon_fields name_leaves damage_leaves name damage))
+      (bytes_of (weapon_fields name_leaves damage_leaves name damage)) between (Err error) new
       → WritesWeapon prepare_name name_leaves prepare_damage damage_leaves old answer new
   weapon_refused error answer new same written =
       subst
       (λ answer. WritesWeapon prepare_name name_leaves prepare_damage damage_leaves old answer new)
       (sym same) (inr (name, mid, named, inr (damage, between, damaged, written)))
+
+-- the size of its fields
+pub weapon_size : {A B : Type 0} (name_leaves : A → Item) (damage_leaves : B → Item)
+    (name : Option A) (damage : Option B)
+    → total_size (entries_of (weapon_fields name_leaves damage_leaves name damage))
+    ≡ size_if 4 name + size_if 2 damage
+weapon_size name_leaves damage_leaves name damage =
+    let both = size_append (field_if (reference_in 0) name_leaves name) (field_if damage_entry damage_leaves damage) in
+    let one = size_of_field (reference_in 0) name_leaves name in
+    let two = size_of_field damage_entry damage_leaves damage in
+    omega (arith, both, one, two)

@@ -7,18 +7,21 @@ use Rattle.planus.specs.declared.steps.FieldValue.{FieldValue}
 use Rattle.planus.specs.declared.steps.FieldValue.TheVariants as held
 use Rattle.planus_demo.specs.Words.{cut_at, number_of, items_of}
 use Rattle.planus_demo.specs.declared.fields.FieldKind.{FieldKind}
-use Rattle.planus_demo.specs.declared.fields.FieldKind.TheVariants.{Number, Ref}
+use Rattle.planus_demo.specs.declared.fields.FieldKind.TheVariants.{Number, Ref, Tags, Values}
 use Rattle.planus_demo.specs.declared.script.ReadFault.{ReadFault}
 use Rattle.planus_demo.specs.declared.script.ReadFault.TheVariants.{BadField}
 
--- the kind that a word names: numbers of 1, 2, 4 or 8 bytes, and references
+-- the kind that a word names: numbers of 1, 2, 4 or 8 bytes, references, and the tags and the
+-- references of lists of unions
 abbrev pub kind_of : List ℕ → Option FieldKind
 kind_of word =
     if bytes_eq word (codes "u8") then Some (Number 1)
     else if bytes_eq word (codes "u16") then Some (Number 2)
     else if bytes_eq word (codes "u32") then Some (Number 4)
     else if bytes_eq word (codes "u64") then Some (Number 8)
-    else if bytes_eq word (codes "ref") then Some Ref else None
+    else if bytes_eq word (codes "ref") then Some Ref
+    else if bytes_eq word (codes "tags") then Some Tags
+    else if bytes_eq word (codes "values") then Some Values else None
 
 -- the slot of this number: above 65535 it is 65535, which is too big as well
 abbrev pub slot_of : ℕ → ℕ
@@ -28,6 +31,8 @@ slot_of number = min number 65535
 abbrev pub value_of : FieldKind → ℕ → FieldValue
 value_of (Number width) number = held.Number width number
 value_of Ref number = held.Ref number
+value_of Tags number = held.Tags number
+value_of Values number = held.Values number
 
 -- a field of this kind by its two numbers, or the first fault of these, the slot's before the other
 abbrev pub field_with : FieldKind → Result ℕ ReadFault → Result ℕ ReadFault

@@ -6,10 +6,12 @@ use Rattle.std.specs.Char.{is_digit, digit_value}
 use Rattle.std.specs.Option.{option_map}
 use Rattle.std.specs.Int.{is_in_range}
 use Rattle.std.specs.Str.{is_utf8, bytes_eq}
-use Rattle.planus.specs.Steps.{Step, text, bytes, numbers, refs, table, finish, clear, bare_field}
+use Rattle.planus.specs.Steps.{Step, text, bytes, numbers, refs, unions, table, finish, clear}
+use Rattle.planus.specs.Steps.{bare_field}
 use Rattle.planus.specs.declared.steps.Field.{Field}
 use Rattle.planus_demo.specs.Words.{words_of, number_of, numbers_of}
 use Rattle.planus_demo.specs.Fields.{fields_of}
+use Rattle.planus_demo.specs.Unions.{unions_of}
 use Rattle.planus_demo.specs.declared.script.ReadFault.{ReadFault}
 use Rattle.planus_demo.specs.declared.script.ReadFault.TheVariants.{NotUtf8, UnknownCommand}
 use Rattle.planus_demo.specs.declared.script.ReadFault.TheVariants.{BadHex, BadIdentifier}
@@ -111,6 +113,7 @@ command_of_words line (word ∷ words) =
     else if bytes_eq word (codes "u32") then list_step (numbers 4) (numbers_of words)
     else if bytes_eq word (codes "u64") then list_step (numbers 8) (numbers_of words)
     else if bytes_eq word (codes "refs") then list_step refs (numbers_of words)
+    else if bytes_eq word (codes "unions") then list_step unions (unions_of words)
     else if bytes_eq word (codes "table") then list_step table_step (fields_of words)
     else if bytes_eq word (codes "finish") then finish_of words
     else if bytes_eq word (codes "clear") then clear_of words else Err UnknownCommand

@@ -1,12 +1,12 @@
 //! The fields of a table, as the words of a line say them.
-ghost use Rattle.std.specs.Prelude.{◌≡◌, ◌<◌};
-ghost use Rattle.std.specs.Option.{option_copied, option_map};
-ghost use Rattle.planus_demo.specs.Words.{cut_at, words_behind};
+ghost use Rattle.std.specs.Prelude.{◌≡◌};
+ghost use Rattle.std.specs.Option.{option_copied};
+ghost use Rattle.planus_demo.specs.Words.{words_behind};
 ghost use Rattle.planus_demo.specs.Fields.{kind_of, slot_of, value_of, field_of, fields_of};
 ghost use Rattle.planus_demo.specs.Script.{list_step, table_step};
 ghost use Rattle.planus_demo.specs.Steps.{AnswersLine};
 
-use crate::script::{FromWord, LineError, ReadFault, items, number};
+use crate::script::{FromWord, LineError, ReadFault, cut, items, number};
 use planus::{Field, FieldValue, Step};
 use std::alloc::Global;
 
@@ -17,15 +17,10 @@ enum FieldKind {
     Number { width: u8 },
     /// A reference to the value of a step.
     Ref,
-}
-
-/// What stands before and behind the first of this character, if there is one.
-fn cut(word: &str, character: char) -> Option<(&str, &str)>
-    requires { character < 128 }
-    ensures { option_map (λ parts. (parts.0.now, parts.1.now)) result
-        ≡ cut_at character word.now }
-{
-    word.split_once(character)
+    /// The tags of a step's list of unions.
+    Tags,
+    /// The references of a step's list of unions.
+    Values,
 }
 
 /// The kind that a word names.
@@ -42,6 +37,10 @@ fn kind(word: &str) -> Option<FieldKind>
         Some(FieldKind::Number { width: 8 })
     } else if word == "ref" {
         Some(FieldKind::Ref)
+    } else if word == "tags" {
+        Some(FieldKind::Tags)
+    } else if word == "values" {
+        Some(FieldKind::Values)
     } else {
         None
     }
@@ -64,6 +63,8 @@ fn value(kind: FieldKind, number: u64) -> FieldValue
             value: number,
         },
         FieldKind::Ref => FieldValue::Ref(number as usize),
+        FieldKind::Tags => FieldValue::Tags(number as usize),
+        FieldKind::Values => FieldValue::Values(number as usize),
     }
 }
 

@@ -2,14 +2,21 @@
 //! bytes.
 #![tactic(auto)]
 
+mod equipment;
+mod equipment_ref;
 mod fields;
 mod laws;
+mod monster;
+mod monster_body;
 mod output;
 mod print;
 mod run;
 mod script;
+mod table_fields;
 #[cfg(test)]
 mod tests;
+mod union_parts;
+mod unions;
 mod weapon;
 
 use std::io;

@@ -4,10 +4,11 @@ ghost use Rattle.std.specs.Prelude.{◌≡◌, ℕ, ◌+◌, ◌-◌, ◌<◌, �
 ghost use Rattle.std.specs.Prelude.{IsTrue, ◌↔◌, Result, Ok, Err, MatchOption, MatchResult};
 ghost use Rattle.std.specs.Prelude.{unwrap_or, OnOk, ◌++◌, map, IfOk, IfSome};
 ghost use Rattle.std.specs.List.{slice_split, position, list_all, after_first};
-ghost use Rattle.std.specs.Option.{option_copied};
+ghost use Rattle.std.specs.Option.{option_copied, option_map};
 ghost use Rattle.std.specs.Char.{is_ascii_digit};
 ghost use Rattle.std.specs.Int.{is_in_range};
-ghost use Rattle.planus_demo.specs.Words.{words_of, words_behind, number_of, numbers_of, items_of};
+ghost use Rattle.planus_demo.specs.Words.{words_of, words_behind, cut_at, number_of, numbers_of};
+ghost use Rattle.planus_demo.specs.Words.{items_of};
 ghost use Rattle.planus_demo.specs.Script.{identifier_of, finish_of, finish_at, identified_at};
 ghost use Rattle.planus_demo.specs.Script.{byte_of as byte_of_lem, hex_bytes as hex_bytes_lem};
 ghost use Rattle.planus_demo.specs.Script.{bytes_of, bytes_step, bytes_in as bytes_in_lem};
@@ -20,6 +21,7 @@ ghost use Rattle.planus.specs.Steps as step;
 ghost use Rattle.planus.specs.Steps.{bare_step};
 
 use crate::fields::table;
+use crate::unions::unions;
 use planus::Step;
 use std::alloc::{AllocError, AllocFailed, Global};
 use std::fmt;
@@ -35,8 +37,9 @@ pub enum ReadFault {
     BadNumber,
     /// A word that should be bytes isn't an even number of hexadecimal digits, or a word follows it.
     BadHex,
-    /// A word that should be a field isn't of the form `S=u8:N`, `S=u16:N`, `S=u32:N`, `S=u64:N` or
-    /// `S=ref:I`.
+    /// A word that should be a field isn't of the form `S=u8:N`, `S=u16:N`, `S=u32:N`, `S=u64:N`,
+    /// `S=ref:I`, `S=tags:I` or `S=values:I`; or one that should be a union isn't of the form `T:I`,
+    /// or its tag is above 255.
     BadField,
     /// A word that should be a file identifier isn't four bytes from `!` to `~`.
     BadIdentifier,
@@ -188,6 +191,15 @@ pub(crate) fn first_word(line: &str) -> (&str, Option<&str>)
         None => (line, None),
         Some((word, rest)) => (word, Some(rest)),
     }
+}
+
+/// What stands before and behind the first of this character, if there is one.
+pub(crate) fn cut(word: &str, character: char) -> Option<(&str, &str)>
+    requires { character < 128 }
+    ensures { option_map (λ parts. (parts.0.now, parts.1.now)) result
+        ≡ cut_at character word.now }
+{
+    word.split_once(character)
 }
 
 fn is_graphic(word: &str) -> bool
@@ -395,6 +407,8 @@ fn step_of_text(alloc: Global, line: &str) -> std::result::Result<Step, LineErro
         list(alloc, 8, rest)
     } else if word == "refs" {
         refs(alloc, rest)
+    } else if word == "unions" {
+        unions(alloc, rest)
     } else if word == "table" {
         table(alloc, rest)
     } else if word == "finish" {

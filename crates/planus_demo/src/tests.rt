@@ -1,5 +1,6 @@
 //! Scripts as a user runs them, and readers and writers that fail.
 
+mod monster;
 mod weapon;
 
 use crate::run::{RunError, run, status};
@@ -11,7 +12,7 @@ use std::io::{Error, ErrorKind, Read, Write};
 use std::test::Fail;
 
 /// Scripts, what they print, and whether they are clean.
-const ROWS: [(&[u8], &[u8], bool); 63] = [
+const ROWS: [(&[u8], &[u8], bool); 74] = [
     (b"", b"", true),
     (
         b"text Axe\nfinish 0\n",
@@ -187,6 +188,23 @@ const ROWS: [(&[u8], &[u8], bool); 63] = [
     ),
     (b"table 0=u8:256\n", b"line 1: value too big\n", false),
     (b"table 0=ref:0\n", b"line 1: no such step\n", false),
+    (
+        b"text A\ntext B\nunions 1:0 2:1\ntable 0=tags:2 1=values:2\nfinish 3\n",
+        b"04 00 00 00 f4 ff ff ff 10 00 00 00 14 00 00 00 08 00 0c 00 04 00 08 00 \
+        02 00 00 00 01 02 00 00 02 00 00 00 10 00 00 00 04 00 00 00 \
+        01 00 00 00 42 00 00 00 01 00 00 00 41 00\n",
+        true,
+    ),
+    (b"unions\nfinish 0\n", b"line 2: wrong kind\n", false),
+    (b"unions 0:0\n", b"line 1: zero tag\n", false),
+    (b"unions 1:1\n", b"line 1: no such step\n", false),
+    (b"unions \n", b"line 1: bad field\n", false),
+    (b"unions 1\n", b"line 1: bad field\n", false),
+    (b"unions 256:x\n", b"line 1: bad field\n", false),
+    (b"unions x:0\n", b"line 1: bad number\n", false),
+    (b"unions 1:x\n", b"line 1: bad number\n", false),
+    (b"text A\ntable 0=tags:0\n", b"line 2: wrong kind\n", false),
+    (b"unions\ntable 0=ref:0\n", b"line 2: wrong kind\n", false),
 ];
 
 #[test]

@@ -4,11 +4,9 @@
 //! table Weapon { name: string; damage: int16 = 0; }
 //! ```
 
-ghost use Rattle.std.specs.Prelude.{◌≡◌, ◌≤◌, ◌+◌, ◌-◌, List, [], ◌∷◌, ◌++◌, length, take, drop};
-ghost use Rattle.std.specs.Prelude.{max, pos, codes, IfOk};
+ghost use Rattle.std.specs.Prelude.{◌≡◌, ◌≤◌, ◌+◌, length, max, pos, codes, IfOk};
 ghost use Rattle.std.specs.Int.{w16};
 ghost use Rattle.std.proofs.Common.{lit≤};
-ghost use Rattle.planus_read.specs.Bytes.{BytesStand};
 ghost use Rattle.planus_read.specs.Clauses.{Answer, shown};
 ghost use Rattle.planus_read.specs.Located.{Located, OrDefault};
 ghost use Rattle.planus_read.specs.Pieces.{ShowsBytes};
@@ -16,61 +14,21 @@ ghost use Rattle.planus_read.specs.Reading.{text_reading, signed_reading, table_
 ghost use Rattle.planus_read.specs.Tables.{FieldAnswer, table_start};
 ghost use Rattle.planus_fields.specs.Fields.{reach_if};
 ghost use Rattle.planus_write.specs.State.{Grows};
-ghost use Rattle.planus_write.specs.Tables.{Declared, total_size};
-ghost use Rattle.planus_write.specs.TableWriting.{WasTold, slot_position};
-ghost use Rattle.planus_demo.specs.Weapons.{declared_if, entered_if, size_if, item_if};
-ghost use Rattle.planus_demo.specs.Weapons.{weapon_entries, weapon_body, WritesWeapon};
+ghost use Rattle.planus_demo.specs.TableFields.{size_if, bytes_of};
+ghost use Rattle.planus_demo.specs.Weapons.{weapon_fields, WritesWeapon};
 ghost use Rattle.planus_demo.specs.WeaponViews.{weapon_table, ShowsWeapon};
 
+use crate::table_fields::{declare_if, write_if};
 use planus::errors::ErrorKind;
 use planus::table_reader::Table;
 use planus::{
-    BuildError, Builder, Error, ObjectFill, ObjectWriter, Offset, Primitive, ReadAsRoot, ReadError,
-    Result, SliceWithStartOffset, Stride, TableRead, TableWriter, Text, VectorReadInner,
-    WriteAsDefault, WriteAsOptional, WriteAsPrimitive,
+    BuildError, Builder, Error, ObjectFill, ObjectWriter, Offset, ReadAsRoot, ReadError, Result,
+    SliceWithStartOffset, Stride, TableRead, TableWriter, Text, VectorReadInner, WriteAsDefault,
+    WriteAsOptional, WriteAsPrimitive,
 };
 
 /// The kind of an offset to a weapon.
 pub struct Weapon;
-
-// Declares a field for a slot, if it is there.
-fn declare_if<P: Primitive, A>(writer: &mut TableWriter<8>, slot: usize, field: &Option<A>)
-    requires slot { slot ≤ 1 }
-    requires unused { BytesStand writer.old.vtable (slot_position slot) (0 ∷ 0 ∷ []) }
-    requires fits { writer.old.object_size + P.SIZE ≤ 65535 }
-    ensures entered { writer.new ≡ entered_if (record {
-      slot = slot;
-      size = P.SIZE;
-      alignment = P.ALIGNMENT;
-    }) field.now writer.old }
-    ensures told { (declared : List Declared) → WasTold writer.old declared
-        → WasTold writer.new (declared ++ declared_if (record {
-          slot = slot;
-          size = P.SIZE;
-          alignment = P.ALIGNMENT;
-        }) field.now) }
-{
-    if field.is_some() {
-        writer.write_entry::<P>(slot);
-    }
-}
-
-// Writes a field behind what is written, if it is there.
-fn write_if<P: Primitive, A: WriteAsPrimitive<P>>(writer: &mut ObjectWriter<'_>, field: &Option<A>)
-    requires room { writer.old.at + size_if P.SIZE field.now ≤ length writer.old.bytes.now }
-    requires reach { writer.old.at + reach_if A.reach field.now ≤ writer.old.place }
-    ensures same_reference { writer.new.bytes.ghost_name ≡ writer.old.bytes.ghost_name }
-    ensures at { writer.new.at ≡ writer.old.at + size_if P.SIZE field.now }
-    ensures place { writer.new.place ≡ writer.old.place }
-    ensures length { length writer.new.bytes.now ≡ length writer.old.bytes.now }
-    ensures bytes { writer.new.bytes.now ≡ take writer.old.at writer.old.bytes.now
-        ++ item_if A.leaves field.now (writer.old.place - writer.old.at)
-        ++ drop (writer.old.at + size_if P.SIZE field.now) writer.old.bytes.now }
-{
-    if let Some(field) = field {
-        writer.write::<P, A>(field);
-    }
-}
 
 /// The fields of a weapon, prepared.
 #[derive(Drop)]
@@ -80,11 +38,11 @@ struct WeaponBody<N, D> {
 }
 
 impl<N: WriteAsPrimitive<Offset<Text>>, D: WriteAsPrimitive<i16>> ObjectFill for WeaponBody<N, D> {
-    ghost size = { λ body. total_size (weapon_entries body.name body.damage) };
+    ghost size = { λ body. size_if 4 body.name + size_if 2 body.damage };
 
     ghost reach = { λ body. max (reach_if N.reach body.name) (reach_if D.reach body.damage) };
 
-    ghost leaves = { λ body. weapon_body N.leaves D.leaves body.name body.damage };
+    ghost leaves = { λ body. bytes_of (weapon_fields N.leaves D.leaves body.name body.damage) };
 
     fn fill(&self, writer: &mut ObjectWriter<'_>) {
         write_if::<Offset<Text>, N>(writer, &self.name);
@@ -118,8 +76,8 @@ impl Weapon {
         let name = name.prepare(builder)?;
         let damage = damage.prepare(builder, &0)?;
         let mut writer: TableWriter<8> = TableWriter::default();
-        declare_if::<Offset<Text>, N::Prepared>(&mut writer, 0, &name);
-        declare_if::<i16, D::Prepared>(&mut writer, 1, &damage);
+        declare_if::<Offset<Text>, N::Prepared, 8>(&mut writer, 0, &name);
+        declare_if::<i16, D::Prepared, 8>(&mut writer, 1, &damage);
         writer.finish(builder, &WeaponBody { name, damage })?;
         Ok(builder.current_offset())
     }

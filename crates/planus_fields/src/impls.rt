@@ -12,5 +12,7 @@ mod signed_list;
 mod slice;
 mod str;
 mod string;
+mod union_offset;
+mod union_vector_offset;
 mod unit;
 mod vec;

@@ -8,7 +8,10 @@ pub mod traits;
 
 pub use default_value::DefaultValue;
 pub use left_out::LeftOut;
-pub use traits::{WriteAs, WriteAsDefault, WriteAsOptional};
+pub use traits::{
+    WriteAs, WriteAsDefault, WriteAsDefaultUnionVector, WriteAsOptional, WriteAsOptionalUnion,
+    WriteAsOptionalUnionVector,
+};
 
 #[cfg(test)]
 mod tests;

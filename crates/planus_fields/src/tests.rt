@@ -1,12 +1,18 @@
 ghost use Rattle.std.specs.Prelude.{⊤};
 
 use crate::default_value::DefaultValue;
-use crate::traits::{WriteAs, WriteAsDefault, WriteAsOptional};
+use crate::traits::{
+    WriteAs, WriteAsDefault, WriteAsDefaultUnionVector, WriteAsOptional, WriteAsOptionalUnion,
+    WriteAsOptionalUnionVector,
+};
 use planus_write::{
-    BuildError, Builder, ByRef, ByteList, List, Offset, Primitive, SignedList, Text,
-    WriteAsPrimitive,
+    BuildError, Builder, ByRef, ByteList, List, Offset, Primitive, SignedList, Text, UnionOffset,
+    UnionVectorOffset, WriteAsPrimitive,
 };
 use std::test::Fail;
+
+// A kind of unions.
+struct Drinks;
 
 // Prepares a field that is always there, of which only the bound is known.
 fn always<P: Primitive, T: WriteAs<P>>(
@@ -37,6 +43,50 @@ fn written<P: Primitive, D, T: WriteAsDefault<P, D>>(
     requires { T.may field.now builder.old }
 {
     Ok(field.prepare(builder, default)?.is_some())
+}
+
+// Prepares a union that may be absent; answers its tag and its distance, 0 where there is none.
+fn drink<X: WriteAsOptionalUnion<Drinks>>(
+    builder: &mut Builder,
+    field: &X,
+) -> Result<(u8, u32), BuildError>
+    requires { X.may field.now builder.old }
+{
+    match field.prepare(builder)? {
+        None => Ok((0, 0)),
+        Some(union) => Ok((union.tag(), union.offset().distance())),
+    }
+}
+
+// The distances of the values and of the tags of a list of unions, 0 where there is none.
+fn distances(prepared: Option<UnionVectorOffset<Drinks>>) -> (u32, u32) {
+    match prepared {
+        None => (0, 0),
+        Some(vector) => (
+            vector.values_offset().distance(),
+            vector.tags_offset().distance(),
+        ),
+    }
+}
+
+// Prepares a list of unions that is left out where it is empty; answers its distances.
+fn order<X: WriteAsDefaultUnionVector<Drinks>>(
+    builder: &mut Builder,
+    field: &X,
+) -> Result<(u32, u32), BuildError>
+    requires { X.may field.now builder.old }
+{
+    Ok(distances(field.prepare(builder)?))
+}
+
+// Prepares a list of unions that may be absent; answers its distances.
+fn order_there<X: WriteAsOptionalUnionVector<Drinks>>(
+    builder: &mut Builder,
+    field: &X,
+) -> Result<(u32, u32), BuildError>
+    requires { X.may field.now builder.old }
+{
+    Ok(distances(field.prepare(builder)?))
 }
 
 #[test]
@@ -132,5 +182,96 @@ fn lists(rt: HostRuntime) -> Result<(), Fail> {
     assert_eq!(rt; signed.distance(), 54);
     let slice = always::<Offset<List<u16>>, &[u16]>(&mut builder, &one)?;
     assert_eq!(rt; slice.distance(), 62);
+    Ok(())
+}
+
+#[test]
+fn unions(rt: HostRuntime) -> Result<(), Fail> {
+    let alloc = rt.alloc();
+    let mut builder = Builder::new(alloc)?;
+    let absent: Option<UnionOffset<Drinks>> = None;
+    assert_eq!(rt; drink(&mut builder, &absent)?, (0, 0));
+    assert_eq!(rt; drink(&mut builder, &())?, (0, 0));
+    assert_eq!(rt; builder.len(), 0);
+    builder.create_string("A")?;
+    let one: UnionOffset<Drinks> = UnionOffset::new(1, builder.current_offset());
+    assert_eq!(rt; drink(&mut builder, &one)?, (1, 6));
+    let one: UnionOffset<Drinks> = UnionOffset::new(2, builder.current_offset());
+    assert_eq!(rt; drink(&mut builder, &Some(one))?, (2, 6));
+    let one: UnionOffset<Drinks> = UnionOffset::new(3, builder.current_offset());
+    let boxed = Box::new(alloc, one)?;
+    assert_eq!(rt; drink(&mut builder, &boxed)?, (3, 6));
+    let one: UnionOffset<Drinks> = UnionOffset::new(4, builder.current_offset());
+    let by_ref = ByRef(&one);
+    assert_eq!(rt; drink(&mut builder, &by_ref)?, (4, 6));
+    assert_eq!(rt; builder.len(), 6);
+    Ok(())
+}
+
+#[test]
+fn union_vectors(rt: HostRuntime) -> Result<(), Fail> {
+    let mut builder = Builder::new(rt.alloc())?;
+    let a = builder.create_string("A")?;
+    let b = builder.create_string("B")?;
+    if a.distance() as usize > builder.len() || b.distance() as usize > builder.len() {
+        return Err(Fail::new("the builder has no such text"));
+    }
+    let pair: [UnionOffset<Drinks>; 2] = [
+        UnionOffset::new(1, a.downcast()),
+        UnionOffset::new(2, b.downcast()),
+    ];
+    assert_eq!(rt; order(&mut builder, &pair)?, (26, 34));
+    assert_eq!(rt; builder.len(), 34);
+    Ok(())
+}
+
+#[test]
+fn empty_union_vectors(rt: HostRuntime) -> Result<(), Fail> {
+    let alloc = rt.alloc();
+    let mut builder = Builder::new(alloc)?;
+    let none: &[UnionOffset<Drinks>] = &[];
+    let owned: Vec<UnionOffset<Drinks>> = Vec::new(alloc);
+    let array: [UnionOffset<Drinks>; 0] = [];
+    let by_ref = ByRef(&none);
+    assert_eq!(rt; order(&mut builder, &none)?, (0, 0));
+    assert_eq!(rt; order(&mut builder, &owned)?, (0, 0));
+    assert_eq!(rt; order(&mut builder, &array)?, (0, 0));
+    assert_eq!(rt; order(&mut builder, &by_ref)?, (0, 0));
+    assert_eq!(rt; order(&mut builder, &DefaultValue)?, (0, 0));
+    assert_eq!(rt; order_there(&mut builder, &())?, (0, 0));
+    assert_eq!(rt; builder.len(), 0);
+    Ok(())
+}
+
+#[test]
+fn optional_union_vectors(rt: HostRuntime) -> Result<(), Fail> {
+    let alloc = rt.alloc();
+    let mut builder = Builder::new(alloc)?;
+    let none: &[UnionOffset<Drinks>] = &[];
+    let owned: Vec<UnionOffset<Drinks>> = Vec::new(alloc);
+    let array: [UnionOffset<Drinks>; 0] = [];
+    let by_ref = ByRef(&none);
+    let absent: Option<&[UnionOffset<Drinks>]> = None;
+    assert_eq!(rt; order_there(&mut builder, &absent)?, (0, 0));
+    assert_eq!(rt; order_there(&mut builder, &Some(none))?, (4, 8));
+    assert_eq!(rt; builder.as_slice(), [0u8; 8].as_slice());
+    assert_eq!(rt; order_there(&mut builder, &owned)?, (12, 16));
+    assert_eq!(rt; order_there(&mut builder, &array)?, (20, 24));
+    assert_eq!(rt; order_there(&mut builder, &by_ref)?, (28, 32));
+    assert_eq!(rt; builder.len(), 32);
+    Ok(())
+}
+
+#[test]
+fn written_union_vectors(rt: HostRuntime) -> Result<(), Fail> {
+    let mut builder = Builder::new(rt.alloc())?;
+    let none: &[UnionOffset<Drinks>] = &[];
+    let vector = builder.create_union_vector::<Drinks, &[UnionOffset<Drinks>]>(none)?;
+    let (tags, values) = (vector.tags_offset(), vector.values_offset());
+    if tags.distance() as usize > builder.len() || values.distance() as usize > builder.len() {
+        return Err(Fail::new("the builder has no such list"));
+    }
+    assert_eq!(rt; order(&mut builder, &vector)?, (4, 8));
+    assert_eq!(rt; builder.len(), 8);
     Ok(())
 }

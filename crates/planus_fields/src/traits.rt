@@ -6,10 +6,15 @@
 ghost use Rattle.std.specs.Prelude.{Option as option, Result};
 ghost use Rattle.planus_write.specs.State.{State};
 ghost use Rattle.planus_write.specs.Preparing.{IsLawful};
+ghost use Rattle.planus_write.specs.Unions.{union_reach, union_vector_reach};
 ghost use Rattle.planus_write.specs.declared.errors.BuildError.{BuildError};
+ghost use Rattle.planus_write.specs.declared.union_offset.UnionOffset.{UnionOffset};
+ghost use Rattle.planus_write.specs.declared.union_vector_offset.UnionVectorOffset.{UnionVectorOffset};
 ghost use Rattle.planus_fields.specs.Fields.{reach_if};
 
-use planus_write::{BuildError, Builder, Primitive, WriteAsPrimitive};
+use planus_write::{
+    BuildError, Builder, Primitive, UnionOffset, UnionVectorOffset, WriteAsPrimitive,
+};
 
 /// What can be written as a field that is always there.
 pub trait WriteAs<P: Primitive> {
@@ -73,4 +78,58 @@ pub trait WriteAsDefault<P: Primitive, D> {
 
     ghost is_lawful: { (default : D)
         → IsLawful may (λ x. outcome x default) (reach_if Self.Prepared.reach) };
+}
+
+/// What can be written as a field of a union that may be absent.
+pub trait WriteAsOptionalUnion<T> {
+    ghost may: { Self → State → Type 0 };
+
+    ghost outcome: { Self → State → Result (option (UnionOffset T)) BuildError → State → Type 0 };
+
+    /// Writes the union's value, as [`planus_write::WriteAsUnion::prepare`] does. With `None` the
+    /// tag and the value are left out, and nothing was written.
+    fn prepare(
+        &self,
+        builder: &mut Builder,
+    ) -> std::result::Result<Option<UnionOffset<T>>, BuildError>
+        requires { may self.now builder.old }
+        ensures { outcome self.now builder.old result builder.new };
+
+    ghost is_lawful: { IsLawful may outcome (reach_if union_reach) };
+}
+
+/// What can be written as a field of a list of unions that is left out where the list is empty.
+pub trait WriteAsDefaultUnionVector<T> {
+    ghost may: { Self → State → Type 0 };
+
+    ghost outcome: { Self → State → Result (option (UnionVectorOffset T)) BuildError → State → Type 0 };
+
+    /// Writes the list, as [`planus_write::WriteAsUnionVector::prepare`] does. With `None` the tags
+    /// and the values are left out, and nothing was written.
+    fn prepare(
+        &self,
+        builder: &mut Builder,
+    ) -> std::result::Result<Option<UnionVectorOffset<T>>, BuildError>
+        requires { may self.now builder.old }
+        ensures { outcome self.now builder.old result builder.new };
+
+    ghost is_lawful: { IsLawful may outcome (reach_if union_vector_reach) };
+}
+
+/// What can be written as a field of a list of unions that may be absent.
+pub trait WriteAsOptionalUnionVector<T> {
+    ghost may: { Self → State → Type 0 };
+
+    ghost outcome: { Self → State → Result (option (UnionVectorOffset T)) BuildError → State → Type 0 };
+
+    /// Writes the list, as [`planus_write::WriteAsUnionVector::prepare`] does. With `None` the tags
+    /// and the values are left out, and nothing was written.
+    fn prepare(
+        &self,
+        builder: &mut Builder,
+    ) -> std::result::Result<Option<UnionVectorOffset<T>>, BuildError>
+        requires { may self.now builder.old }
+        ensures { outcome self.now builder.old result builder.new };
+
+    ghost is_lawful: { IsLawful may outcome (reach_if union_vector_reach) };
 }

@@ -5,10 +5,12 @@ pub mod KeptContents
 pub mod KeptLists
 pub mod TableBytes
 pub mod KeptTables
+pub mod KeptUnions
 pub mod Standing
 pub mod Items
 pub mod PreparedItems
 pub mod WrittenLists
+pub mod WrittenUnions
 pub mod PutEntries
 pub mod ToldTables
 pub mod WrittenTables

@@ -1,7 +1,7 @@
 -- A list is written: its items, as one part, and its count.
 use Rattle.std.proofs.Common.{◌≡◌, ℕ, suc, zero, ◌+◌, ◌*◌, ◌^◌, ◌<◌, ◌≤◌, max, List, [], ◌∷◌, length, map}
 use Rattle.std.proofs.Common.{refl, sym, ap, ◌∙◌, subst, arith, inl, inr}
-use Rattle.std.specs.Prelude.{Ok, Err}
+use Rattle.std.specs.Prelude.{Result, Ok, Err}
 use Rattle.std.specs.List.{AllByRecursion}
 use Rattle.std.proofs.lemmas.List.{length-map}
 use Rattle.std.proofs.lemmas.Nat.{pow_pos}
@@ -11,12 +11,13 @@ use Rattle.planus_back.specs.Promises.{IsPowerOfTwo}
 use Rattle.planus_back.specs.Padding.{greatest_place}
 use Rattle.planus_back.specs.Parts.{Part}
 use Rattle.planus_back.proofs.PaddingLaws.{exists}
-use Rattle.planus_write.specs.Past.{just}
+use Rattle.planus_write.specs.Past.{Entry, just}
 use Rattle.planus_write.specs.Parts.{items_bytes, items_part, count_part, filled_part}
 use Rattle.planus_write.specs.Items.{Item}
 use Rattle.planus_write.specs.State.{State}
 use Rattle.planus_write.specs.Placing.{Outcome, WritesEntry, Refuses}
-use Rattle.planus_write.specs.Preparing.{IsLayout, PreparesItems, WritesList, MayStand}
+use Rattle.planus_write.specs.Preparing.{IsLayout, AsOffset, AnswersLast, PreparesItems}
+use Rattle.planus_write.specs.Preparing.{WritesEntries, WritesPrepared, WritesList, MayStand}
 use Rattle.planus_write.specs.declared.errors.BuildError.{BuildError}
 use Rattle.planus_write.specs.declared.errors.BuildError.TheVariants.{OutOfMemory, TooLarge}
 use Rattle.planus_write.specs.declared.offset.Offset.{Offset}
@@ -56,12 +57,6 @@ module _ {A : Type 0} (leaves : A → Item) (reach : A → ℕ) (values : List A
         omega (arith, n_is, le, behind, within);
   }
 
--- so is it where the values are lent
-pub lent_part_is : {A : Type 0} (leaves : A → Item) (lent values : List A) (stride size alignment n aligned : ℕ) → stride ≡ size → lent ≡ values → n ≡ length lent * stride → aligned ≡ max alignment 4
-    → filled_part n aligned (λ place n. items_bytes stride place (map leaves lent)) ≡ items_part size alignment (map leaves values)
-lent_part_is leaves lent values stride size alignment n aligned same lent_is n_is aligned_is =
-    part_is leaves (λ a. 0) lent stride size alignment same n aligned n_is aligned_is ∙ ap (λ vs. items_part size alignment (map leaves vs)) lent_is
-
 -- so many items as fill no more bytes than a place are no more than that
 pub count_fits : (count stride size place : ℕ) → stride ≡ size → 0 < size → count * stride ≤ place → count ≤ place
 count_fits count stride size place same positive le =
@@ -85,28 +80,36 @@ refused_by_size part got old power far = record {
 }
 
 -- what a part is put down behind doesn't matter to it
-pub put_behind : (part : Part) (got : List ℕ) (old : State) (distance : ℕ) (new : State) → WritesEntry (just part) [] old (Ok distance) new → WritesEntry (just part) got old (Ok distance) new
-put_behind part got old distance new h = record { grows = h.grows; reached = h.reached; fits = h.fits; puts = h.puts; room = h.room; switches = h.switches }
+pub put_behind : (part : Part) (before got : List ℕ) (old : State) (distance : ℕ) (new : State) → WritesEntry (just part) before old (Ok distance) new → WritesEntry (just part) got old (Ok distance) new
+put_behind part before got old distance new h = record { grows = h.grows; reached = h.reached; fits = h.fits; puts = h.puts; room = h.room; switches = h.switches }
 
-pub refused_behind : (part : Part) (got : List ℕ) (old : State) (error : BuildError) (new : State) → WritesEntry (just part) [] old (Err error) new → WritesEntry (just part) got old (Err error) new
-refused_behind part got old TooLarge new h = record { unchanged = h.unchanged; cause = λ past is_past. (let c = h.cause past is_past in record { is_new = c.is_new; too_large = c.too_large }) }
-refused_behind part got old OutOfMemory new h = record { unchanged = h.unchanged; cause = λ past is_past. (let c = h.cause past is_past in record { is_new = c.is_new; wants = c.wants }) }
+pub refused_behind : (part : Part) (before got : List ℕ) (old : State) (error : BuildError) (new : State) → WritesEntry (just part) before old (Err error) new → WritesEntry (just part) got old (Err error) new
+refused_behind part before got old TooLarge new h = record { unchanged = h.unchanged; cause = λ past is_past. (let c = h.cause past is_past in record { is_new = c.is_new; too_large = c.too_large }) }
+refused_behind part before got old OutOfMemory new h = record { unchanged = h.unchanged; cause = λ past is_past. (let c = h.cause past is_past in record { is_new = c.is_new; wants = c.wants }) }
 
-module _ {X A : Type 0} (prepare : X → Outcome A) (leaves : A → Item) (size alignment : ℕ) (xs : List X) (values : List A) (old mid : State)
+-- a part, and the count in front of it
+module _ (part : Part) (count : ℕ) (old : State) where
+  abbrev counted : List Entry
+  counted = just part ∷ just (count_part count) ∷ []
+
+  pub part_refused : (T : Type 0) (error : BuildError) (new : State) → WritesEntry (just part) [] old (Err error) new
+      → AsOffset {T = T} (AnswersLast (WritesEntries counted [])) old (Err error) new
+  part_refused T error new refused = inl (inl refused)
+
+  module _ (first : ℕ) (between : State) (put : WritesEntry (just part) [] old (Ok first) between) where
+    pub count_refused : (T : Type 0) (error : BuildError) (new : State) → WritesEntry (just (count_part count)) [] between (Err error) new
+        → AsOffset {T = T} (AnswersLast (WritesEntries counted [])) old (Err error) new
+    count_refused T error new refused = inl (inr (first, between, put, inl (refused_behind (count_part count) [] (first ∷ []) between error new refused)))
+
+    pub counted_written : {T : Type 0} (offset : Offset T) (new : State) → WritesEntry (just (count_part count)) [] between (Ok offset.distance) new
+        → AsOffset (AnswersLast (WritesEntries counted [])) old (Ok offset) new
+    counted_written offset new put_count =
+        (first ∷ offset.distance ∷ [], new, (first, between, put, (offset.distance, new, put_behind (count_part count) [] (first ∷ []) between offset.distance new put_count, (refl, refl))), (refl, refl))
+
+-- a list is its items, prepared, and then these, written
+module _ {X A T : Type 0} (prepare : X → Outcome A) (leaves : A → Item) (size alignment : ℕ) (xs : List X) (values : List A) (old mid : State)
     (prepared : PreparesItems prepare xs old (Ok values) mid) where
-  pub items_refused : (T : Type 0) (error : BuildError) (new : State) → WritesEntry (just (items_part size alignment (map leaves values))) [] mid (Err error) new
-      → WritesList {T = T} prepare leaves size alignment xs old (Err error) new
-  items_refused T error new refused = inr (values, mid, prepared, inl (inl refused))
-
-  module _ (first : ℕ) (between : State) (put : WritesEntry (just (items_part size alignment (map leaves values))) [] mid (Ok first) between) where
-    pub count_refused : (T : Type 0) (error : BuildError) (new : State) → WritesEntry (just (count_part (length values))) [] between (Err error) new
-        → WritesList {T = T} prepare leaves size alignment xs old (Err error) new
-    count_refused T error new refused =
-        let again = subst (λ n. WritesEntry (just (count_part n)) (first ∷ []) between (Err error) new) (sym (length-map values leaves)) (refused_behind (count_part (length values)) (first ∷ []) between error new refused) in
-        inr (values, mid, prepared, inl (inr (first, between, put, inl again)))
-
-    pub list_written : {T : Type 0} (offset : Offset T) (new : State) → WritesEntry (just (count_part (length values))) [] between (Ok offset.distance) new
-        → WritesList prepare leaves size alignment xs old (Ok offset) new
-    list_written offset new counted =
-        let again = subst (λ n. WritesEntry (just (count_part n)) (first ∷ []) between (Ok offset.distance) new) (sym (length-map values leaves)) (put_behind (count_part (length values)) (first ∷ []) between offset.distance new counted) in
-        (values, mid, prepared, (first ∷ offset.distance ∷ [], new, (first, between, put, (offset.distance, new, again, (refl, refl))), (refl, refl)))
+  pub list_is : (answer : Result (Offset T) BuildError) (new : State) → WritesPrepared size alignment (map leaves values) mid answer new
+      → WritesList prepare leaves size alignment xs old answer new
+  list_is (Ok offset) new h = (values, mid, prepared, h)
+  list_is (Err error) new h = inr (values, mid, prepared, h)

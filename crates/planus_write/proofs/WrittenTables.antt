@@ -41,13 +41,13 @@ module _ (writer : Writer) (vtable : List ℕ) (body : Item) (declared : List De
           place,
           mid,
           first,
-          inl (refused_behind (object_part declared body) (place ∷ []) mid error new
+          inl (refused_behind (object_part declared body) [] (place ∷ []) mid error new
               (subst (λ (part : Part). Refuses (just part) [] mid error new) (body_is writer declared body told) refused)),
         )
 
     module _ (at : ℕ) (between : State) (body_put : PutsDown (just (filled_part (writer.object_size - 4) (writer.mask + 1) (λ place n. body place))) [] mid at between) where
       second : PutsDown (just (object_part declared body)) (place ∷ []) mid at between
-      second = put_behind (object_part declared body) (place ∷ []) mid at between (subst (λ (part : Part). PutsDown (just part) [] mid at between) (body_is writer declared body told) body_put)
+      second = put_behind (object_part declared body) [] (place ∷ []) mid at between (subst (λ (part : Part). PutsDown (just part) [] mid at between) (body_is writer declared body told) body_put)
 
       pub word_refused : (error : BuildError) (new : State) → Refuses (just (word_part place)) [] between error new → WritesTable declared body old (Err error) new
       word_refused error new refused = inr (place, mid, first, inr (at, between, second, inl (word_not_put place at between error new refused)))

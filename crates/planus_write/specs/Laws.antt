@@ -133,18 +133,23 @@ pub as_offset_grows : {T : Type 0} (writes : Outcome ℕ) (old : State)
 as_offset_grows writes old each (Ok offset) new done = each (Ok offset.distance) new done
 as_offset_grows writes old each (Err error) new done = each (Err error) new done
 
+-- what is written already is lawful where what it refers to lies in the bytes
+pub written_is_lawful : {A : Type 0} (reach : A → ℕ)
+    → IsLawful {X = A} (λ a old. reach a ≤ length old.bytes) Answers reach
+written_is_lawful {A} reach = record {
+  grows = λ a old answer new may done. unchanged_grows old new done.1;
+  reaches = λ a old answer new may done.
+      let same : answer ≡ a = cc in
+      subst (λ (state : State). reach answer ≤ length state.bytes) (sym done.1)
+      (subst (λ (b : A). reach b ≤ length old.bytes) (sym same) may);
+  stays = λ a old new grows may. reached_still (reach a) old new grows may;
+}
+
 -- an offset is lawful
 pub offset_is_lawful : {T : Type 0}
     → IsLawful {X = Offset T} (λ offset old. offset.distance ≤ length old.bytes) IsPrepared
     (λ offset. offset.distance)
-offset_is_lawful {T} = record {
-  grows = λ offset old answer new may done. unchanged_grows old new done.1;
-  reaches = λ offset old answer new may done.
-      let same : answer ≡ offset = cc in
-      subst (λ state. answer.distance ≤ length state.bytes) (sym done.1)
-      (subst (λ o. o.distance ≤ length old.bytes) (sym same) may);
-  stays = λ offset old new grows may. reached_still offset.distance old new grows may;
-}
+offset_is_lawful {T} = written_is_lawful (λ (offset : Offset T). offset.distance)
 
 -- what writes one entry is lawful, if it may always be prepared
 pub entry_is_lawful : {X T : Type 0} (entry : X → Entry)

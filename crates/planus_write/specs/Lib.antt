@@ -7,9 +7,11 @@ pub mod State
 pub mod Placing
 pub mod View
 pub mod Preparing
+pub mod Unions
 pub mod TableWriting
 pub mod Laws
 pub mod Finishing
 pub mod Standing
 pub mod ListLaws
+pub mod UnionLaws
 pub mod TableLaws

@@ -119,7 +119,7 @@ module _ {X A : Type 0} (may : X → State → Type 0) (outcome : X → Outcome 
     }
 
 -- items that need no preparing are as they were handed in
-ready_items : {A : Type 0} (xs : List A) (old : State) (items : List A) (new : State)
+pub ready_items : {A : Type 0} (xs : List A) (old : State) (items : List A) (new : State)
     → PreparesAll Answers xs old (Ok items) new → (items ≡ xs) × (new ≡ old)
 ready_items [] old items new h = (let same : items ≡ [] = cc in same, h.1)
 ready_items {A} (x ∷ xs) old items new h =
@@ -131,7 +131,7 @@ ready_items {A} (x ∷ xs) old items new h =
     )
 
 -- and none is refused
-ready_is_given : {A : Type 0} (xs : List A) (old : State) (error : BuildError) (new : State)
+pub ready_is_given : {A : Type 0} (xs : List A) (old : State) (error : BuildError) (new : State)
     → PreparesAll Answers xs old (Err error) new → ⊥
 ready_is_given [] old error new h = (cc)
 ready_is_given (x ∷ xs) old error new (inl h) = (cc)

@@ -5,7 +5,8 @@ use Rattle.std.specs.List.{AllByRecursion}
 use Rattle.std.specs.Int.{w32, to_le_bytes, ◌∣◌}
 use Rattle.planus_back.specs.Promises.{Promise, greatest_alignment}
 use Rattle.planus_back.specs.Parts.{Part}
-use Rattle.planus_read.specs.Values.{Value, text, byte_list, plain_list, reference_list, table}
+use Rattle.planus_read.specs.Values.{Value, text, byte_list, plain_list, reference_list, union_list}
+use Rattle.planus_read.specs.Values.{table}
 use Rattle.planus_read.specs.Bytes.{position_of}
 use Rattle.planus_read.specs.Stands.{Position, at, at_both}
 use Rattle.planus_write.specs.Shared.{texts, byte_lists}
@@ -73,6 +74,27 @@ abbrev pub list_entries : (size alignment : ℕ) → List Item → List Entry
 list_entries size alignment items =
     just (items_part size alignment items) ∷ just (count_part (length items)) ∷ []
 
+-- the tags of a union list as one part, aligned to 4
+abbrev pub tags_part : List ℕ → Part
+tags_part tags = record { size = length tags; alignment = 4; bytes_at = λ place. tags }
+
+-- the tags, and then their count in front of them
+abbrev pub tags_entries : List ℕ → List Entry
+tags_entries tags = just (tags_part tags) ∷ just (count_part (length tags)) ∷ []
+
+-- the tags of unions, and the distances to which they refer
+abbrev pub tags_in : List (ℕ × ℕ) → List ℕ
+tags_in items = map (λ item. item.0) items
+
+abbrev pub distances_in : List (ℕ × ℕ) → List ℕ
+distances_in items = map (λ item. item.1) items
+
+-- A union list: the list of its references, and in front of that the list of its tags.
+-- The format: a vector of unions is two vectors of equal count: tags of one byte, and references.
+abbrev pub union_entries : List (ℕ × ℕ) → List Entry
+union_entries items =
+    list_entries 4 4 (map reference_item (distances_in items)) ++ tags_entries (tags_in items)
+
 -- the bytes of a file identifier, none where there is none
 abbrev pub identifier_bytes : Option (List ℕ) → List ℕ
 identifier_bytes None = []
@@ -107,16 +129,16 @@ pub record IsPlainList (size alignment : ℕ) (items : List (List ℕ)) : Type 0
   pub multiple : alignment ∣ size
   pub power : (k : ℕ) × (alignment ≡ 2 ^ k)
 
--- The values that are written so far, in front of so many bytes: texts, byte lists, and lists of
--- plain items, and of references to what lies in these bytes, and tables.
+-- The values that can be written in front of so many bytes: what they refer to lies in these bytes,
+-- and the items of a plain list, and the fields of a table, are such.
 abbrev pub IsWritten : ℕ → Value → Type 0
 IsWritten before (text bytes) = ⊤
 IsWritten before (byte_list bytes) = ⊤
 IsWritten before (plain_list size alignment items) = IsPlainList size alignment items
 IsWritten before (reference_list distances) =
     AllByRecursion (λ distance. distance ≤ before) distances
+IsWritten before (union_list items) = AllByRecursion (λ item. item.1 ≤ before) items
 IsWritten before (table entries) = IsTable before entries
-IsWritten before _ = ⊥
 
 -- The entries of a value, in the order in which they are put down.
 abbrev pub entries_of : Value → List Entry
@@ -125,8 +147,8 @@ entries_of (byte_list bytes) = byte_list_entry bytes ∷ []
 entries_of (plain_list size alignment items) =
     list_entries size alignment (map plain_item items)
 entries_of (reference_list distances) = list_entries 4 4 (map reference_item distances)
+entries_of (union_list items) = union_entries items
 entries_of (table entries) = table_entries entries
-entries_of _ = []
 
 -- The distances by which a value is named: its own, or of a union vector that of its references and
 -- that of its tags.
@@ -140,8 +162,15 @@ last_of [] = 0
 last_of (distance ∷ []) = distance
 last_of (first ∷ second ∷ rest) = last_of (second ∷ rest)
 
--- what a value is named by, once its entries got these distances
+-- the second of some distances
+abbrev pub second_of : List ℕ → ℕ
+second_of (first ∷ second ∷ rest) = second
+second_of _ = 0
+
+-- What a value is named by, once its entries got these distances: the last of them; of a union list
+-- the second, which the count of its references got, and the last, which that of its tags got.
 abbrev pub named_by : Value → List ℕ → Named
+named_by (union_list items) got = record { distance = second_of got; tags = Some (last_of got) }
 named_by value got = record { distance = last_of got; tags = None }
 
 -- the positions of what is named by one distance, or by two

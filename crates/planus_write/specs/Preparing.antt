@@ -93,6 +93,11 @@ WritesList {X} {A} {T} prepare leaves size alignment xs old answer new =
     (λ items. AnswersLast (WritesEntries (list_entries size alignment (map leaves items)) [])))
     old answer new
 
+-- A list of prepared items was written, or refused: its entries are put down.
+abbrev pub WritesPrepared : {T : Type 0} → (size alignment : ℕ) → List Item → Outcome (Offset T)
+WritesPrepared {T} size alignment items old answer new =
+    AsOffset (AnswersLast (WritesEntries (list_entries size alignment items) [])) old answer new
+
 -- prepared items, without where they lie in memory
 abbrev pub listed : {A : Type 0} → Result (Vec A Global) BuildError → Result (List A) BuildError
 listed {A} (Ok items) = Ok items.items

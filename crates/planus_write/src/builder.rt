@@ -10,7 +10,8 @@ use crate::backing::{Backing, WORD_MASK};
 use crate::byte_lists::{ByteItems, Copied};
 use crate::errors::BuildError;
 use crate::offset::{List, Offset, Text};
-use crate::traits::{Primitive, WriteAsOffset};
+use crate::traits::{Primitive, WriteAsOffset, WriteAsUnionVector};
+use crate::union_vector_offset::UnionVectorOffset;
 use planus_back::{Fill, Overwrite};
 use std::alloc::Global;
 use std::marker::Model;
@@ -273,6 +274,22 @@ impl Builder {
         ensures { X.outcome list self.old result self.new }
     {
         list.prepare(self)
+    }
+
+    /// Writes a list of unions: they are prepared in order, and their references are written as one
+    /// part, aligned to 4 bytes, with a count of 4 bytes in front of them, and then their tags in
+    /// the same way. Answers the offsets of both lists. Nothing is written for these offsets; each
+    /// offset that is handed in must be one that this builder answered since the last clear.
+    ///
+    /// A refusal is that of [`Builder::create_vector`].
+    pub fn create_union_vector<T, X: WriteAsUnionVector<T> + Drop>(
+        &mut self,
+        vector: X,
+    ) -> std::result::Result<UnionVectorOffset<T>, BuildError>
+        requires { X.may vector self.old }
+        ensures { X.outcome vector self.old result self.new }
+    {
+        vector.prepare(self)
     }
 
     /// Prepares the root, and puts in front of everything its reference, and behind that the file

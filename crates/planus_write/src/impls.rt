@@ -11,4 +11,6 @@ mod scalar;
 mod slice;
 mod str;
 mod string;
+mod union_offset;
+mod union_vector_offset;
 mod vec;

@@ -14,6 +14,9 @@ mod object_writer;
 pub mod offset;
 pub mod table_writer;
 pub mod traits;
+pub mod union_offset;
+pub mod union_vector_offset;
+mod unions;
 
 pub use builder::Builder;
 pub use by_ref::ByRef;
@@ -23,7 +26,11 @@ pub use markers::{Initialized, Uninitialized};
 pub use object_writer::{ObjectFill, ObjectWriter};
 pub use offset::{List, Offset, Text};
 pub use table_writer::TableWriter;
-pub use traits::{Primitive, VectorWrite, WriteAsOffset, WriteAsPrimitive};
+pub use traits::{
+    Primitive, VectorWrite, WriteAsOffset, WriteAsPrimitive, WriteAsUnion, WriteAsUnionVector,
+};
+pub use union_offset::UnionOffset;
+pub use union_vector_offset::UnionVectorOffset;
 
 #[cfg(test)]
 mod tests;

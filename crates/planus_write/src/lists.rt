@@ -4,7 +4,7 @@ ghost use Rattle.std.specs.List.{AllByRecursion};
 ghost use Rattle.planus_back.specs.Promises.{IsPowerOfTwo};
 ghost use Rattle.planus_write.specs.Parts.{items_bytes};
 ghost use Rattle.planus_write.specs.Preparing.{AllMay, MayStand, PreparesItems, WritesList};
-ghost use Rattle.planus_write.specs.Preparing.{listed};
+ghost use Rattle.planus_write.specs.Preparing.{WritesPrepared, listed};
 
 use crate::backing::WORD_MASK;
 use crate::builder::Builder;
@@ -88,7 +88,28 @@ fn items_mask<P: Primitive>() -> usize
     P::ALIGNMENT.max(WORD_MASK + 1) - 1
 }
 
-/// A list: its items, prepared in order, as one part, and the count in front of them.
+/// A list of prepared items: they are written as one part, and the count in front of them.
+pub(crate) fn write_prepared<P: Primitive, T: VectorWrite<P>>(
+    builder: &mut Builder,
+    values: &[T::Value],
+) -> std::result::Result<Offset<List<P>>, BuildError>
+    requires { AllByRecursion (λ value. T.Value.reach value ≤ length builder.old.bytes) values.now }
+    ensures { WritesPrepared P.SIZE P.ALIGNMENT (map T.Value.leaves values.now)
+        builder.old result builder.new }
+{
+    let Some(size) = values.len().checked_mul(T::stride()) else {
+        return Err(BuildError::TooLarge);
+    };
+    let prepared: Items<'_, P, T> = Items {
+        values,
+        of: PhantomData,
+    };
+    builder.write_over(size, items_mask::<P>(), &prepared)?;
+    let place = builder.write_count(values.len() as u32)?;
+    Ok(Offset::at(place))
+}
+
+/// A list: its items are prepared in order, and then written.
 pub(crate) fn write_list<P: Primitive, T: VectorWrite<P>>(
     builder: &mut Builder,
     items: &[T],
@@ -98,14 +119,5 @@ pub(crate) fn write_list<P: Primitive, T: VectorWrite<P>>(
         builder.old result builder.new }
 {
     let values = prepare_items::<P, T>(builder, items)?;
-    let Some(size) = values.len().checked_mul(T::stride()) else {
-        return Err(BuildError::TooLarge);
-    };
-    let prepared: Items<'_, P, T> = Items {
-        values: values.as_slice(),
-        of: PhantomData,
-    };
-    builder.write_over(size, items_mask::<P>(), &prepared)?;
-    let place = builder.write_count(values.len() as u32)?;
-    Ok(Offset::at(place))
+    write_prepared::<P, T>(builder, values.as_slice())
 }

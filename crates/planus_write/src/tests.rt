@@ -1,6 +1,7 @@
-ghost use Rattle.std.specs.Prelude.{◌≡◌, ◌≤◌, ◌-◌, ◌++◌, [], length, replicate, ⊤};
+ghost use Rattle.std.specs.Prelude.{◌≡◌, ◌≤◌, ◌-◌, ◌++◌, [], length, replicate, ⊤, IsTrue};
 ghost use Rattle.std.specs.Int.{w8, w16, w32, w64, to_le_bytes, cast_unsigned};
 ghost use Rattle.planus_write.specs.Preparing.{AllMay};
+ghost use Rattle.planus_write.specs.Unions.{union_reach};
 
 use crate::builder::Builder;
 use crate::by_ref::ByRef;
@@ -9,7 +10,11 @@ use crate::errors::BuildError;
 use crate::object_writer::{ObjectFill, ObjectWriter};
 use crate::offset::{List, Offset, Text};
 use crate::table_writer::TableWriter;
-use crate::traits::{Primitive, VectorWrite, WriteAsOffset, WriteAsPrimitive};
+use crate::traits::{
+    Primitive, VectorWrite, WriteAsOffset, WriteAsPrimitive, WriteAsUnion, WriteAsUnionVector,
+};
+use crate::union_offset::UnionOffset;
+use crate::union_vector_offset::UnionVectorOffset;
 use planus_back::Fill;
 use std::alloc::{AllocError, Global};
 use std::test::Fail;
@@ -298,6 +303,79 @@ fn wrapped_values(rt: HostRuntime) -> Result<(), Fail> {
         prepared::<Text, String>(&mut builder, &owned)?.distance(),
         23
     );
+    Ok(())
+}
+
+// The union of a tag and a text.
+fn tagged(builder: &mut Builder, tag: u8, text: &str) -> Result<UnionOffset<()>, BuildError> {
+    let text = builder.create_string(text)?;
+    Ok(UnionOffset::new(tag, text.downcast()))
+}
+
+// Prepares a union, of which only the bound is known.
+fn prepared_union<X: WriteAsUnion<()>>(
+    builder: &mut Builder,
+    value: &X,
+) -> Result<UnionOffset<()>, BuildError>
+    requires { X.may value.now builder.old }
+{
+    value.prepare(builder)
+}
+
+// The distances of a list of unions, its references' first, of which only the bound is known.
+fn union_list<X: WriteAsUnionVector<()> + Drop>(
+    builder: &mut Builder,
+    list: X,
+) -> Result<(u32, u32), BuildError>
+    requires { X.may list builder.old }
+{
+    let vector = builder.create_union_vector(list)?;
+    Ok((
+        vector.values_offset().distance(),
+        vector.tags_offset().distance(),
+    ))
+}
+
+// The builder still has what the unions refer to.
+fn are_written(builder: &Builder, first: UnionOffset<()>, second: UnionOffset<()>) -> bool
+    ensures { IsTrue result → (union_reach first ≤ length builder.now.bytes)
+        × (union_reach second ≤ length builder.now.bytes) }
+{
+    first.offset().distance() as usize <= builder.len()
+        && second.offset().distance() as usize <= builder.len()
+}
+
+#[test]
+fn lists_of_unions(rt: HostRuntime) -> Result<(), Fail> {
+    let alloc = rt.alloc();
+    let mut builder = Builder::new(alloc)?;
+    let no_unions: [UnionOffset<()>; 0] = [];
+    assert_eq!(rt; union_list(&mut builder, no_unions)?, (4, 8));
+    assert_eq!(rt; builder.as_slice(), b"\0\0\0\0\0\0\0\0".as_slice());
+    builder.clear();
+    let first = tagged(&mut builder, 1, "A")?;
+    let second = tagged(&mut builder, 2, "B")?;
+    if !are_written(&builder, first, second) {
+        return Err(Fail::new("the builder has no such values"));
+    }
+    assert_eq!(rt; first.tag(), 1);
+    assert_eq!(rt; union_list(&mut builder, [first, second])?, (26, 34));
+    let bytes =
+        b"\x02\0\0\0\x01\x02\0\0\x02\0\0\0\x10\0\0\0\x04\0\0\0\x01\0\0\0B\0\0\0\x01\0\0\0A\0";
+    assert_eq!(rt; builder.as_slice(), bytes.as_slice());
+    Ok(())
+}
+
+#[test]
+fn wrapped_unions(rt: HostRuntime) -> Result<(), Fail> {
+    let alloc = rt.alloc();
+    let mut builder = Builder::new(alloc)?;
+    let union = tagged(&mut builder, 7, "A")?;
+    if !are_written(&builder, union, union) {
+        return Err(Fail::new("the builder has no such value"));
+    }
+    let boxed = prepared_union(&mut builder, &Box::new(alloc, union)?)?;
+    assert_eq!(rt; (boxed.tag(), boxed.offset().distance()), (7, 6));
     Ok(())
 }
 

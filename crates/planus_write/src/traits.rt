@@ -6,10 +6,15 @@ ghost use Rattle.planus_write.specs.Preparing.{IsLayout, IsLawful, MayStand};
 ghost use Rattle.planus_write.specs.State.{State};
 ghost use Rattle.planus_write.specs.declared.errors.BuildError.{BuildError};
 ghost use Rattle.planus_write.specs.declared.offset.Offset.{Offset};
+ghost use Rattle.planus_write.specs.declared.union_offset.UnionOffset.{UnionOffset};
+ghost use Rattle.planus_write.specs.declared.union_vector_offset.UnionVectorOffset.{UnionVectorOffset};
+ghost use Rattle.planus_write.specs.Unions.{union_reach, union_vector_reach};
 
 use crate::builder::Builder;
 use crate::errors::BuildError;
 use crate::offset::Offset;
+use crate::union_offset::UnionOffset;
+use crate::union_vector_offset::UnionVectorOffset;
 
 /// What stands in a table or in a list with a fixed size: a number, a truth value or a reference.
 pub trait Primitive: Sized {
@@ -73,6 +78,46 @@ pub trait WriteAsOffset<T> {
     /// The bytes before are the end of the bytes after, every promise stays, and the switches do;
     /// the distance that is answered is at most the builder's length.
     ghost is_lawful: { IsLawful may outcome (λ offset. offset.distance) };
+}
+
+/// What a builder can write as a union of kind `T`.
+///
+/// The ghost members `may` and `outcome` are as those of [`WriteAsOffset`].
+pub trait WriteAsUnion<T> {
+    ghost may: { Self → State → Type 0 };
+
+    ghost outcome: { Self → State → Result (UnionOffset T) BuildError → State → Type 0 };
+
+    /// Writes the variant's value, if that isn't written already, and answers its tag and its
+    /// offset. A refusal is that of [`WriteAsOffset::prepare`].
+    fn prepare(&self, builder: &mut Builder) -> std::result::Result<UnionOffset<T>, BuildError>
+        requires { may self.now builder.old }
+        ensures { outcome self.now builder.old result builder.new };
+
+    /// As [`WriteAsOffset`]'s.
+    ghost is_lawful: { IsLawful may outcome union_reach };
+}
+
+/// What a builder can write as a list of unions of kind `T`.
+///
+/// The ghost members `may` and `outcome` are as those of [`WriteAsOffset`].
+pub trait WriteAsUnionVector<T> {
+    ghost may: { Self → State → Type 0 };
+
+    ghost outcome: { Self → State → Result (UnionVectorOffset T) BuildError → State → Type 0 };
+
+    /// Writes the list of the references and in front of it the list of the tags, if they aren't
+    /// written already, and answers their offsets. A refusal is that of
+    /// [`Builder::create_union_vector`].
+    fn prepare(
+        &self,
+        builder: &mut Builder,
+    ) -> std::result::Result<UnionVectorOffset<T>, BuildError>
+        requires { may self.now builder.old }
+        ensures { outcome self.now builder.old result builder.new };
+
+    /// As [`WriteAsOffset`]'s, of both offsets.
+    ghost is_lawful: { IsLawful may outcome union_vector_reach };
 }
 
 /// What a builder can write as an item of a list of `P`.

@@ -11,6 +11,7 @@ use Rattle.planus_fields.specs.Fields.{MayIf, reach_if, left_out_is_lawful, opti
 use Rattle.planus_write.specs.ListLaws.{ready_list_is_put, plain_items_are, list_is_lawful}
 use Rattle.planus_write.specs.Laws.{extends_on, extends_itself, grows_on, reached_still, ready_is_lawful, unchanged_grows, entry_is_lawful}
 use Rattle.planus_write.specs.Parts.{text_entry, IsPlainList, IsWritten, entries_of, list_entries, last_of}
+use Rattle.planus_write.specs.Parts.{Named, named_by}
 use Rattle.planus_write.specs.Past.{Past, Entry}
 use Rattle.planus_write.specs.Preparing.{Answers, AllMay, IsLawful, WritesEntries, WritesList, WritesText}
 use Rattle.planus_write.specs.Standing.{AllSeenKept, EntriesArePut, IsKept, KeptStays, ValuesAreKept}
@@ -158,8 +159,10 @@ cargo_reached past (Some cargo) None kept = elim kept [ ]
 module _ (put : EntriesArePut) (keeps : ValuesAreKept) (stays : KeptStays) where
   value_added : (value : Value) (old : State) (got : List ℕ) (new : State) (past : Past)
       → WritesEntries (entries_of value) [] old (Ok got) new → IsPast old past → AllSeenKept past
-      → IsWritten (length past.written.bytes) value → ValueAdded past new value (last_of got)
-  value_added value old got new past writes is_past seen is_written =
+      → IsWritten (length past.written.bytes) value
+      → named_by value got ≡ record { distance = last_of got; tags = None }
+      → ValueAdded past new value (last_of got)
+  value_added value old got new past writes is_past seen is_written named =
       let placed = put (entries_of value) [] old got new past writes is_past in
       let kept = keeps old.switches value past got placed.0 is_written seen placed.1 in
       record {
@@ -167,7 +170,7 @@ module _ (put : EntriesArePut) (keeps : ValuesAreKept) (stays : KeptStays) where
         is_past = placed.2;
         seen = kept.1;
         extends = kept.2;
-        kept = kept.0;
+        kept = subst (λ (name : Named). IsKept placed.0 value name) named kept.0;
       }
 
   text_added : {T : Type 0} (bytes : List ℕ) (old : State) (offset : Offset T) (new : State)
@@ -175,7 +178,7 @@ module _ (put : EntriesArePut) (keeps : ValuesAreKept) (stays : KeptStays) where
       → ValueAdded past new (text bytes) offset.distance
   text_added bytes old offset new past done is_past seen =
       value_added (text bytes) old (offset.distance ∷ []) new past
-      (offset.distance, new, done, (refl, refl)) is_past seen tt
+      (offset.distance, new, done, (refl, refl)) is_past seen tt refl
 
   list_added : {T : Type 0} (numbers : List ℕ) (old : State) (offset : Offset T) (new : State)
       (past : Past) → WritesList Answers cargo_leaves 4 4 numbers old (Ok offset) new
@@ -188,7 +191,7 @@ module _ (put : EntriesArePut) (keeps : ValuesAreKept) (stays : KeptStays) where
       subst (λ (d : ℕ). ValueAdded past new (cargo_list numbers) d) (sym written.2)
       (value_added (cargo_list numbers) old written.0 new past
       (subst (λ (all : List Entry). WritesEntries all [] old (Ok written.0) new) entries written.1)
-      is_past seen (is_list numbers))
+      is_past seen (is_list numbers) refl)
 
   cargo_added : {T : Type 0} (cargo : Option (Bor (List ℕ))) (old : State)
       (answer : Option (Offset T)) (new : State) (past : Past)
@@ -238,7 +241,7 @@ module _ (put : EntriesArePut) (keeps : ValuesAreKept) (stays : KeptStays) where
       WritesEntries (object_entries slots (declared_of fields) (λ place. body_bytes place fields)) []
       old (Ok written.0) new)
       (slots_counted name cargo hull) written.1)
-      is_past seen (is_table (length past.written.bytes) name cargo hull named reached))
+      is_past seen (is_table (length past.written.bytes) name cargo hull named reached) refl)
 
   -- a ship, from its parts
   pub ship_added : {S T U : Type 0} (name : List ℕ) (hull : ℕ) (cargo : Option (Bor (List ℕ)))

@@ -6,6 +6,7 @@ mod plain_reader;
 mod plain_run;
 mod runs;
 mod tables;
+mod unions;
 
 use plain_reader::{FAR_SLOTS, SLOTS, fields_agree, numbers_agree};
 

@@ -19,7 +19,7 @@ struct Written {
 fn size_of(field: &Field) -> usize {
     match field.value {
         FieldValue::Number { width, .. } => width as usize,
-        FieldValue::Ref(_) => 4,
+        FieldValue::Ref(_) | FieldValue::Tags(_) | FieldValue::Values(_) => 4,
     }
 }
 
@@ -139,6 +139,28 @@ impl Written {
         self.add(step)
     }
 
+    // The references and their count, and in front of them the tags and theirs.
+    fn unions(&mut self, step: usize, items: &[(u8, usize)]) -> Result<(), Fail> {
+        self.pad(items.len().wrapping_mul(4), 4)?;
+        for (_, named) in items.iter().rev() {
+            self.put_reference(*named)?;
+        }
+        self.put_word(items.len())?;
+        let distance = u32::try_from(self.reversed.len())?;
+        self.pad(items.len(), 4)?;
+        for (tag, _) in items.iter().rev() {
+            self.put(&[*tag])?;
+        }
+        self.put_word(items.len())?;
+        let tags = Some(u32::try_from(self.reversed.len())?);
+        self.values.push(StepPlace {
+            step,
+            distance,
+            tags,
+        })?;
+        Ok(())
+    }
+
     fn put_pair(&mut self, number: usize) -> Result<(), AllocError> {
         self.put(&(number as u64).to_le_bytes()[..2])
     }
@@ -186,7 +208,8 @@ impl Written {
                 FieldValue::Number { width: 2, value } => self.put(&value.to_le_bytes()[..2])?,
                 FieldValue::Number { width: 4, value } => self.put(&value.to_le_bytes()[..4])?,
                 FieldValue::Number { value, .. } => self.put(&value.to_le_bytes())?,
-                FieldValue::Ref(named) => self.put_reference(*named)?,
+                FieldValue::Ref(named) | FieldValue::Values(named) => self.put_reference(*named)?,
+                FieldValue::Tags(named) => self.put_reference_to(self.tags(*named))?,
             }
         }
         let place = self.reversed.len().wrapping_add(4);
@@ -196,9 +219,13 @@ impl Written {
 
     // A reference to the value of a step.
     fn put_reference(&mut self, named: usize) -> Result<(), Fail> {
-        let root = self.distance(named).ok_or("no such value")?;
+        self.put_reference_to(self.distance(named))
+    }
+
+    fn put_reference_to(&mut self, distance: Option<usize>) -> Result<(), Fail> {
+        let distance = distance.ok_or("no such value")?;
         let place = self.reversed.len().wrapping_add(4);
-        self.put_word(place.wrapping_sub(root))?;
+        self.put_word(place.wrapping_sub(distance))?;
         Ok(())
     }
 
@@ -207,6 +234,16 @@ impl Written {
         for value in &self.values {
             if value.step == step {
                 return Some(value.distance as usize);
+            }
+        }
+        None
+    }
+
+    // The distance of the tags of the list of unions of a step.
+    fn tags(&self, step: usize) -> Option<usize> {
+        for value in &self.values {
+            if value.step == step {
+                return value.tags.map(|tags| tags as usize);
             }
         }
         None
@@ -247,6 +284,7 @@ pub fn plain_run(alloc: Global, steps: &[Step]) -> Result<Vec<Finished>, Fail> {
             Step::Bytes(bytes) => written.bytes(number, bytes.as_slice())?,
             Step::Numbers { width, items } => written.numbers(number, *width, items.as_slice())?,
             Step::Refs(steps) => written.refs(number, steps.as_slice())?,
+            Step::Unions(items) => written.unions(number, items.as_slice())?,
             Step::Table(fields) => written.table(alloc, number, fields.as_slice())?,
             Step::Finish { root, id } => {
                 let root = written.distance(*root).ok_or("no such value")?;

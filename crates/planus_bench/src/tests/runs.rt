@@ -45,16 +45,43 @@ fn refs(alloc: Global, root: usize, count: usize) -> Result<Step, AllocError> {
     Ok(Step::Refs(steps))
 }
 
-// A table of at most four fields: numbers, and a reference to one value. The slots are `apart` from
-// each other, and the fields are declared from the greatest slot on.
-fn table(alloc: Global, root: usize, count: usize, apart: u16) -> Result<Step, AllocError> {
+// A list of `count` unions of one value, of tags from 1 on.
+fn unions(alloc: Global, root: usize, count: usize) -> Result<Step, AllocError> {
+    let mut items = Vec::new(alloc);
+    for index in 0..count {
+        items.push(((index % 255) as u8 + 1, root))?;
+    }
+    Ok(Step::Unions(items))
+}
+
+// What a table may refer to: a value, and a list of unions, if there is one.
+#[derive(Clone, Copy)]
+struct Named {
+    root: usize,
+    unions: Option<usize>,
+}
+
+// References to the tags and to the references of a list of unions, or else to one value.
+fn two_references(named: Named) -> [FieldValue; 2] {
+    match named.unions {
+        Some(unions) => [FieldValue::Tags(unions), FieldValue::Values(unions)],
+        None => [FieldValue::Ref(named.root), FieldValue::Ref(named.root)],
+    }
+}
+
+// A table of at most six fields: numbers, and references. The slots are `apart` from each other, and
+// the fields are declared from the greatest slot on.
+fn table(alloc: Global, named: Named, count: usize, apart: u16) -> Result<Step, AllocError> {
     let mut fields = Vec::new(alloc);
+    let [first, second] = two_references(named);
     let values = [
         FieldValue::Number {
             width: 8,
             value: 1 << 63,
         },
-        FieldValue::Ref(root),
+        FieldValue::Ref(named.root),
+        first,
+        second,
         FieldValue::Number {
             width: 2,
             value: 513,
@@ -89,18 +116,20 @@ fn one_of(numbers: &[usize], draw: usize) -> Option<usize> {
     numbers.get(index).copied()
 }
 
-// Texts, lists and tables of mixed lengths, finishes with and without an identifier, and a clear now and
+// Texts, lists, lists of unions and tables of mixed lengths, finishes with and without an identifier, and a clear now and
 // then.
 fn mixed_steps(alloc: Global, count: usize) -> Result<Vec<Step>, Fail> {
     let mut numbers = Numbers { last: 1 };
     let mut steps = Vec::new(alloc);
     let mut values = Vec::new(alloc);
+    let mut last_unions = None;
     for number in 0..count {
         let kind = numbers.draw() % 32;
         let root = one_of(values.as_slice(), numbers.draw());
         match (kind, root) {
             (0, _) => {
                 values.clear();
+                last_unions = None;
                 steps.push(Step::Clear)?;
             }
             (1..=6, Some(root)) => steps.push(Step::Finish { root, id: None })?,
@@ -112,7 +141,7 @@ fn mixed_steps(alloc: Global, count: usize) -> Result<Vec<Step>, Fail> {
                 values.push(number)?;
                 steps.push(text(alloc, numbers.draw() % 20000)?)?;
             }
-            (14..=16, _) => {
+            (14 | 15, _) => {
                 values.push(number)?;
                 steps.push(bytes(alloc, numbers.draw() % 50)?)?;
             }
@@ -131,9 +160,14 @@ fn mixed_steps(alloc: Global, count: usize) -> Result<Vec<Step>, Fail> {
             }
             (26..=28, Some(root)) => {
                 let shape = numbers.draw();
-                let apart = (shape / 5 % 60) as u16 + 1;
+                let apart = (shape / 7 % 40) as u16 + 1;
+                let unions = last_unions;
                 values.push(number)?;
-                steps.push(table(alloc, root, shape % 5, apart)?)?;
+                steps.push(table(alloc, Named { root, unions }, shape % 7, apart)?)?;
+            }
+            (29..=31, Some(root)) => {
+                last_unions = Some(number);
+                steps.push(unions(alloc, root, numbers.draw() % 20)?)?;
             }
             _ => {
                 values.push(number)?;
@@ -144,14 +178,15 @@ fn mixed_steps(alloc: Global, count: usize) -> Result<Vec<Step>, Fail> {
     Ok(steps)
 }
 
-// The numbers of clears, of finishes without an identifier, and of those with one.
-fn counts(steps: &[Step]) -> (usize, usize, usize) {
-    let mut counts: (usize, usize, usize) = (0, 0, 0);
+// The numbers of clears, of finishes without an identifier, of those with one, and of lists of unions.
+fn counts(steps: &[Step]) -> (usize, usize, usize, usize) {
+    let mut counts: (usize, usize, usize, usize) = (0, 0, 0, 0);
     for step in steps {
         match step {
             Step::Clear => counts.0 = counts.0.wrapping_add(1),
             Step::Finish { id: None, .. } => counts.1 = counts.1.wrapping_add(1),
             Step::Finish { id: Some(_), .. } => counts.2 = counts.2.wrapping_add(1),
+            Step::Unions(_) => counts.3 = counts.3.wrapping_add(1),
             _ => {}
         }
     }
@@ -162,9 +197,9 @@ fn counts(steps: &[Step]) -> (usize, usize, usize) {
 fn three_hundred_steps(rt: HostRuntime) -> Result<(), Fail> {
     let alloc = rt.alloc();
     let steps = mixed_steps(alloc, 300)?;
-    let clears_and_finishes = counts(steps.as_slice());
+    let counted = counts(steps.as_slice());
     assert_eq!(rt; steps.len(), 300);
-    assert_eq!(rt; clears_and_finishes, (14, 65, 50));
+    assert_eq!(rt; counted, (14, 65, 50, 22));
     let want = plain_run(alloc, steps.as_slice())?;
     let got = replay(alloc, steps.as_slice()).expect(&rt, "a clean run");
     assert_eq!(rt; got.len(), want.len());

@@ -103,3 +103,14 @@ fn references(rt: HostRuntime) -> Result<(), Fail> {
     assert_eq!(rt; (read_back.get(0), read_back.get(1)), (Some(7), Some(8)));
     Ok(())
 }
+
+#[test]
+fn a_table_with_a_free_slot_between(rt: HostRuntime) -> Result<(), Fail> {
+    let bytes = b"\x04\0\0\0\xf2\xff\xff\xff\x01\0\0\0\0\0\0\0\x02\0\x0a\0\x0d\0\x04\0\0\0\x0c\0";
+    let whole = SliceWithStartOffset::new(bytes.as_slice(), 0);
+    let table = Table::from_buffer(whole, 0)?;
+    assert_eq!(rt; table.access::<u64>(0, "Table", "first")?, Some(1));
+    assert_eq!(rt; table.access::<u8>(1, "Table", "between")?, None);
+    assert_eq!(rt; table.access::<u8>(2, "Table", "last")?, Some(2));
+    Ok(())
+}

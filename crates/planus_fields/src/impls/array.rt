@@ -1,10 +1,18 @@
 //! Lists of items that lie in an array.
+ghost use Rattle.std.specs.Prelude.{◌≡◌, []};
 ghost use Rattle.planus_write.specs.Preparing.{AllMay, WritesList};
 ghost use Rattle.planus_write.specs.ListLaws.{list_is_lawful};
-ghost use Rattle.planus_fields.specs.Fields.{AlwaysWritten, left_out_is_lawful};
+ghost use Rattle.planus_write.specs.UnionLaws.{union_vector_is_lawful};
+ghost use Rattle.planus_write.specs.Unions.{WritesUnionVector};
+ghost use Rattle.planus_fields.specs.Fields.{AlwaysWritten, LeftOutWhere, left_out_is_lawful};
 
-use crate::traits::{WriteAs, WriteAsOptional};
-use planus_write::{BuildError, Builder, List, Offset, Primitive, VectorWrite, WriteAsOffset};
+use crate::traits::{
+    WriteAs, WriteAsDefaultUnionVector, WriteAsOptional, WriteAsOptionalUnionVector,
+};
+use planus_write::{
+    BuildError, Builder, List, Offset, Primitive, UnionVectorOffset, VectorWrite, WriteAsOffset,
+    WriteAsUnion, WriteAsUnionVector,
+};
 
 impl<P: Primitive, T: VectorWrite<P>, const N: usize> WriteAs<Offset<List<P>>> for [T; N] {
     type Prepared = Offset<List<P>>;
@@ -37,4 +45,49 @@ impl<P: Primitive, T: VectorWrite<P>, const N: usize> WriteAsOptional<Offset<Lis
     }
 
     ghost is_lawful = { left_out_is_lawful (λ items. ⊥) (list_is_lawful T.may T.outcome T.Value.reach T.is_lawful T.Value.leaves P.SIZE P.ALIGNMENT (λ items. items)) };
+}
+
+impl<T, U: WriteAsUnion<T>, const N: usize> WriteAsDefaultUnionVector<T> for [U; N] {
+    ghost may = { λ items old. AllMay U.may items old };
+
+    ghost outcome = { λ items old answer new.
+        LeftOutWhere (items ≡ []) (WritesUnionVector U.outcome items) old answer new };
+
+    #[inline]
+    fn prepare(
+        &self,
+        builder: &mut Builder,
+    ) -> std::result::Result<Option<UnionVectorOffset<T>>, BuildError> {
+        if N == 0 {
+            return Ok(None);
+        }
+        match WriteAsUnionVector::prepare(self, builder) {
+            Ok(vector) => Ok(Some(vector)),
+            Err(error) => Err(error),
+        }
+    }
+
+    ghost is_lawful = { left_out_is_lawful (λ items. items ≡ [])
+        (union_vector_is_lawful U.may U.outcome U.is_lawful (λ items. items)) };
+}
+
+impl<T, U: WriteAsUnion<T>, const N: usize> WriteAsOptionalUnionVector<T> for [U; N] {
+    ghost may = { λ items old. AllMay U.may items old };
+
+    ghost outcome = { λ items old answer new.
+        AlwaysWritten (WritesUnionVector U.outcome items) old answer new };
+
+    #[inline]
+    fn prepare(
+        &self,
+        builder: &mut Builder,
+    ) -> std::result::Result<Option<UnionVectorOffset<T>>, BuildError> {
+        match WriteAsUnionVector::prepare(self, builder) {
+            Ok(vector) => Ok(Some(vector)),
+            Err(error) => Err(error),
+        }
+    }
+
+    ghost is_lawful = { left_out_is_lawful (λ items. ⊥)
+        (union_vector_is_lawful U.may U.outcome U.is_lawful (λ items. items)) };
 }

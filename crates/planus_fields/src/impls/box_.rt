@@ -1,8 +1,8 @@
 //! Boxed fields: they are written as what lies in the box.
 ghost use Rattle.planus_write.specs.Laws.{lawful_of};
 
-use crate::traits::{WriteAs, WriteAsDefault, WriteAsOptional};
-use planus_write::{BuildError, Builder, Primitive};
+use crate::traits::{WriteAs, WriteAsDefault, WriteAsOptional, WriteAsOptionalUnion};
+use planus_write::{BuildError, Builder, Primitive, UnionOffset};
 
 impl<P: Primitive, T: WriteAs<P>> WriteAs<P> for Box<T> {
     type Prepared = T::Prepared;
@@ -57,4 +57,21 @@ impl<P: Primitive, D, T: WriteAsDefault<P, D>> WriteAsDefault<P, D> for Box<T> {
     }
 
     ghost is_lawful = { λ default. lawful_of (λ boxed. boxed.value) (T.is_lawful default) };
+}
+
+impl<T, X: WriteAsOptionalUnion<T>> WriteAsOptionalUnion<T> for Box<X> {
+    ghost may = { λ boxed old. X.may boxed.value old };
+
+    ghost outcome = { λ boxed old answer new. X.outcome boxed.value old answer new };
+
+    #[inline]
+    fn prepare(
+        &self,
+        builder: &mut Builder,
+    ) -> std::result::Result<Option<UnionOffset<T>>, BuildError> {
+        let inner = &**self;
+        inner.prepare(builder)
+    }
+
+    ghost is_lawful = { lawful_of (λ boxed. boxed.value) X.is_lawful };
 }

@@ -1,8 +1,11 @@
 //! References: they are written as what they lead to.
 ghost use Rattle.planus_write.specs.Laws.{lawful_of};
 
-use crate::traits::{WriteAs, WriteAsDefault, WriteAsOptional};
-use planus_write::{BuildError, Builder, ByRef, Primitive};
+use crate::traits::{
+    WriteAs, WriteAsDefault, WriteAsDefaultUnionVector, WriteAsOptional, WriteAsOptionalUnion,
+    WriteAsOptionalUnionVector,
+};
+use planus_write::{BuildError, Builder, ByRef, Primitive, UnionOffset, UnionVectorOffset};
 
 impl<'a, P: Primitive, T: WriteAs<P>> WriteAs<P> for ByRef<'a, T> {
     type Prepared = T::Prepared;
@@ -57,4 +60,55 @@ impl<'a, P: Primitive, D, T: WriteAsDefault<P, D>> WriteAsDefault<P, D> for ByRe
     }
 
     ghost is_lawful = { λ default. lawful_of (λ by_ref. by_ref.0.now) (T.is_lawful default) };
+}
+
+impl<'a, T, X: WriteAsOptionalUnion<T>> WriteAsOptionalUnion<T> for ByRef<'a, X> {
+    ghost may = { λ by_ref old. X.may by_ref.0.now old };
+
+    ghost outcome = { λ by_ref old answer new. X.outcome by_ref.0.now old answer new };
+
+    #[inline]
+    fn prepare(
+        &self,
+        builder: &mut Builder,
+    ) -> std::result::Result<Option<UnionOffset<T>>, BuildError> {
+        let inner = self.0;
+        inner.prepare(builder)
+    }
+
+    ghost is_lawful = { lawful_of (λ by_ref. by_ref.0.now) X.is_lawful };
+}
+
+impl<'a, T, X: WriteAsDefaultUnionVector<T>> WriteAsDefaultUnionVector<T> for ByRef<'a, X> {
+    ghost may = { λ by_ref old. X.may by_ref.0.now old };
+
+    ghost outcome = { λ by_ref old answer new. X.outcome by_ref.0.now old answer new };
+
+    #[inline]
+    fn prepare(
+        &self,
+        builder: &mut Builder,
+    ) -> std::result::Result<Option<UnionVectorOffset<T>>, BuildError> {
+        let inner = self.0;
+        inner.prepare(builder)
+    }
+
+    ghost is_lawful = { lawful_of (λ by_ref. by_ref.0.now) X.is_lawful };
+}
+
+impl<'a, T, X: WriteAsOptionalUnionVector<T>> WriteAsOptionalUnionVector<T> for ByRef<'a, X> {
+    ghost may = { λ by_ref old. X.may by_ref.0.now old };
+
+    ghost outcome = { λ by_ref old answer new. X.outcome by_ref.0.now old answer new };
+
+    #[inline]
+    fn prepare(
+        &self,
+        builder: &mut Builder,
+    ) -> std::result::Result<Option<UnionVectorOffset<T>>, BuildError> {
+        let inner = self.0;
+        inner.prepare(builder)
+    }
+
+    ghost is_lawful = { lawful_of (λ by_ref. by_ref.0.now) X.is_lawful };
 }

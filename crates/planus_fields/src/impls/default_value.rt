@@ -5,8 +5,8 @@ ghost use Rattle.planus_fields.specs.Fields.{left_out_always_is_lawful};
 
 use crate::default_value::DefaultValue;
 use crate::left_out::LeftOut;
-use crate::traits::WriteAsDefault;
-use planus_write::{BuildError, Builder, Primitive};
+use crate::traits::{WriteAsDefault, WriteAsDefaultUnionVector};
+use planus_write::{BuildError, Builder, Primitive, UnionVectorOffset};
 
 impl<P: Primitive, D> WriteAsDefault<P, D> for DefaultValue {
     type Prepared = LeftOut;
@@ -25,4 +25,20 @@ impl<P: Primitive, D> WriteAsDefault<P, D> for DefaultValue {
     }
 
     ghost is_lawful = { λ default. left_out_always_is_lawful };
+}
+
+impl<T> WriteAsDefaultUnionVector<T> for DefaultValue {
+    ghost may = { λ value old. ⊤ };
+
+    ghost outcome = { λ value old answer new. Answers None old answer new };
+
+    #[inline]
+    fn prepare(
+        &self,
+        _builder: &mut Builder,
+    ) -> std::result::Result<Option<UnionVectorOffset<T>>, BuildError> {
+        Ok(None)
+    }
+
+    ghost is_lawful = { left_out_always_is_lawful };
 }

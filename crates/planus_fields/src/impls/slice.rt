@@ -2,10 +2,17 @@
 ghost use Rattle.std.specs.Prelude.{◌≡◌, []};
 ghost use Rattle.planus_write.specs.Preparing.{AllMay, WritesList};
 ghost use Rattle.planus_write.specs.ListLaws.{list_is_lawful};
+ghost use Rattle.planus_write.specs.UnionLaws.{union_vector_is_lawful};
+ghost use Rattle.planus_write.specs.Unions.{WritesUnionVector};
 ghost use Rattle.planus_fields.specs.Fields.{AlwaysWritten, LeftOutWhere, left_out_is_lawful};
 
-use crate::traits::{WriteAs, WriteAsDefault, WriteAsOptional};
-use planus_write::{BuildError, Builder, List, Offset, Primitive, VectorWrite, WriteAsOffset};
+use crate::traits::{
+    WriteAs, WriteAsDefault, WriteAsDefaultUnionVector, WriteAsOptional, WriteAsOptionalUnionVector,
+};
+use planus_write::{
+    BuildError, Builder, List, Offset, Primitive, UnionVectorOffset, VectorWrite, WriteAsOffset,
+    WriteAsUnion, WriteAsUnionVector,
+};
 
 impl<'a, P: Primitive, T: VectorWrite<P>> WriteAs<Offset<List<P>>> for &'a [T] {
     type Prepared = Offset<List<P>>;
@@ -69,4 +76,50 @@ impl<'a, P: Primitive, T: VectorWrite<P>> WriteAsDefault<Offset<List<P>>, ()> fo
         left_out_is_lawful (λ items. items.now ≡ [])
         (list_is_lawful T.may T.outcome T.Value.reach T.is_lawful T.Value.leaves
         P.SIZE P.ALIGNMENT (λ items. items.now)) };
+}
+
+impl<'a, T, U: WriteAsUnion<T>> WriteAsDefaultUnionVector<T> for &'a [U] {
+    ghost may = { λ items old. AllMay U.may items.now old };
+
+    ghost outcome = { λ items old answer new.
+        LeftOutWhere (items.now ≡ []) (WritesUnionVector U.outcome items.now) old answer new };
+
+    #[inline]
+    fn prepare(
+        &self,
+        builder: &mut Builder,
+    ) -> std::result::Result<Option<UnionVectorOffset<T>>, BuildError> {
+        let items = *self;
+        if items.is_empty() {
+            return Ok(None);
+        }
+        match WriteAsUnionVector::prepare(self, builder) {
+            Ok(vector) => Ok(Some(vector)),
+            Err(error) => Err(error),
+        }
+    }
+
+    ghost is_lawful = { left_out_is_lawful (λ items. items.now ≡ [])
+        (union_vector_is_lawful U.may U.outcome U.is_lawful (λ items. items.now)) };
+}
+
+impl<'a, T, U: WriteAsUnion<T>> WriteAsOptionalUnionVector<T> for &'a [U] {
+    ghost may = { λ items old. AllMay U.may items.now old };
+
+    ghost outcome = { λ items old answer new.
+        AlwaysWritten (WritesUnionVector U.outcome items.now) old answer new };
+
+    #[inline]
+    fn prepare(
+        &self,
+        builder: &mut Builder,
+    ) -> std::result::Result<Option<UnionVectorOffset<T>>, BuildError> {
+        match WriteAsUnionVector::prepare(self, builder) {
+            Ok(vector) => Ok(Some(vector)),
+            Err(error) => Err(error),
+        }
+    }
+
+    ghost is_lawful = { left_out_is_lawful (λ items. ⊥)
+        (union_vector_is_lawful U.may U.outcome U.is_lawful (λ items. items.now)) };
 }

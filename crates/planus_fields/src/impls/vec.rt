@@ -2,10 +2,17 @@
 ghost use Rattle.std.specs.Prelude.{◌≡◌, []};
 ghost use Rattle.planus_write.specs.Preparing.{AllMay, WritesList};
 ghost use Rattle.planus_write.specs.ListLaws.{list_is_lawful};
+ghost use Rattle.planus_write.specs.UnionLaws.{union_vector_is_lawful};
+ghost use Rattle.planus_write.specs.Unions.{WritesUnionVector};
 ghost use Rattle.planus_fields.specs.Fields.{AlwaysWritten, LeftOutWhere, left_out_is_lawful};
 
-use crate::traits::{WriteAs, WriteAsDefault, WriteAsOptional};
-use planus_write::{BuildError, Builder, List, Offset, Primitive, VectorWrite, WriteAsOffset};
+use crate::traits::{
+    WriteAs, WriteAsDefault, WriteAsDefaultUnionVector, WriteAsOptional, WriteAsOptionalUnionVector,
+};
+use planus_write::{
+    BuildError, Builder, List, Offset, Primitive, UnionVectorOffset, VectorWrite, WriteAsOffset,
+    WriteAsUnion, WriteAsUnionVector,
+};
 
 impl<P: Primitive, T: VectorWrite<P>> WriteAs<Offset<List<P>>> for Vec<T> {
     type Prepared = Offset<List<P>>;
@@ -69,4 +76,49 @@ impl<P: Primitive, T: VectorWrite<P>> WriteAsDefault<Offset<List<P>>, ()> for Ve
         left_out_is_lawful (λ items. items.items ≡ [])
         (list_is_lawful T.may T.outcome T.Value.reach T.is_lawful T.Value.leaves
         P.SIZE P.ALIGNMENT (λ items. items.items)) };
+}
+
+impl<T, U: WriteAsUnion<T>> WriteAsDefaultUnionVector<T> for Vec<U> {
+    ghost may = { λ items old. AllMay U.may items.items old };
+
+    ghost outcome = { λ items old answer new.
+        LeftOutWhere (items.items ≡ []) (WritesUnionVector U.outcome items.items) old answer new };
+
+    #[inline]
+    fn prepare(
+        &self,
+        builder: &mut Builder,
+    ) -> std::result::Result<Option<UnionVectorOffset<T>>, BuildError> {
+        if self.is_empty() {
+            return Ok(None);
+        }
+        match WriteAsUnionVector::prepare(self, builder) {
+            Ok(vector) => Ok(Some(vector)),
+            Err(error) => Err(error),
+        }
+    }
+
+    ghost is_lawful = { left_out_is_lawful (λ items. items.items ≡ [])
+        (union_vector_is_lawful U.may U.outcome U.is_lawful (λ items. items.items)) };
+}
+
+impl<T, U: WriteAsUnion<T>> WriteAsOptionalUnionVector<T> for Vec<U> {
+    ghost may = { λ items old. AllMay U.may items.items old };
+
+    ghost outcome = { λ items old answer new.
+        AlwaysWritten (WritesUnionVector U.outcome items.items) old answer new };
+
+    #[inline]
+    fn prepare(
+        &self,
+        builder: &mut Builder,
+    ) -> std::result::Result<Option<UnionVectorOffset<T>>, BuildError> {
+        match WriteAsUnionVector::prepare(self, builder) {
+            Ok(vector) => Ok(Some(vector)),
+            Err(error) => Err(error),
+        }
+    }
+
+    ghost is_lawful = { left_out_is_lawful (λ items. ⊥)
+        (union_vector_is_lawful U.may U.outcome U.is_lawful (λ items. items.items)) };
 }

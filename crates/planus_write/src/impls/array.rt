@@ -1,12 +1,16 @@
 //! Lists of items that lie in an array: they are written as those of a slice.
 ghost use Rattle.planus_write.specs.Preparing.{AllMay, WritesList};
 ghost use Rattle.planus_write.specs.ListLaws.{list_is_lawful};
+ghost use Rattle.planus_write.specs.UnionLaws.{union_vector_is_lawful};
+ghost use Rattle.planus_write.specs.Unions.{WritesUnionVector};
 
 use crate::builder::Builder;
 use crate::errors::BuildError;
 use crate::lists::write_list;
 use crate::offset::{List, Offset};
-use crate::traits::{Primitive, VectorWrite, WriteAsOffset};
+use crate::traits::{Primitive, VectorWrite, WriteAsOffset, WriteAsUnion, WriteAsUnionVector};
+use crate::union_vector_offset::UnionVectorOffset;
+use crate::unions::write_union_vector;
 
 impl<P: Primitive, T: VectorWrite<P>, const N: usize> WriteAsOffset<List<P>> for [T; N] {
     ghost may = { λ items old. AllMay T.may items old };
@@ -22,4 +26,22 @@ impl<P: Primitive, T: VectorWrite<P>, const N: usize> WriteAsOffset<List<P>> for
 
     ghost is_lawful = { list_is_lawful T.may T.outcome T.Value.reach T.is_lawful T.Value.leaves P.SIZE P.ALIGNMENT
         (λ items. items) };
+}
+
+impl<T, U: WriteAsUnion<T>, const N: usize> WriteAsUnionVector<T> for [U; N] {
+    ghost may = { λ items old. AllMay U.may items old };
+
+    ghost outcome = { λ items old answer new.
+        WritesUnionVector U.outcome items old answer new };
+
+    #[inline]
+    fn prepare(
+        &self,
+        builder: &mut Builder,
+    ) -> std::result::Result<UnionVectorOffset<T>, BuildError> {
+        let array = &*self;
+        write_union_vector::<T, U>(builder, &array[..])
+    }
+
+    ghost is_lawful = { union_vector_is_lawful U.may U.outcome U.is_lawful (λ items. items) };
 }

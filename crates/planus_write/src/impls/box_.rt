@@ -4,7 +4,8 @@ ghost use Rattle.planus_write.specs.Laws.{lawful_of};
 use crate::builder::Builder;
 use crate::errors::BuildError;
 use crate::offset::Offset;
-use crate::traits::WriteAsOffset;
+use crate::traits::{WriteAsOffset, WriteAsUnion};
+use crate::union_offset::UnionOffset;
 
 impl<P, T: WriteAsOffset<P>> WriteAsOffset<P> for Box<T> {
     ghost may = { λ boxed old. T.may boxed.value old };
@@ -13,6 +14,19 @@ impl<P, T: WriteAsOffset<P>> WriteAsOffset<P> for Box<T> {
 
     #[inline]
     fn prepare(&self, builder: &mut Builder) -> std::result::Result<Offset<P>, BuildError> {
+        (**self).prepare(builder)
+    }
+
+    ghost is_lawful = { lawful_of (λ boxed. boxed.value) T.is_lawful };
+}
+
+impl<P, T: WriteAsUnion<P>> WriteAsUnion<P> for Box<T> {
+    ghost may = { λ boxed old. T.may boxed.value old };
+
+    ghost outcome = { λ boxed old answer new. T.outcome boxed.value old answer new };
+
+    #[inline]
+    fn prepare(&self, builder: &mut Builder) -> std::result::Result<UnionOffset<P>, BuildError> {
         (**self).prepare(builder)
     }
 

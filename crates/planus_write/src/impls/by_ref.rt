@@ -6,7 +6,11 @@ use crate::builder::Builder;
 use crate::by_ref::ByRef;
 use crate::errors::BuildError;
 use crate::offset::Offset;
-use crate::traits::{Primitive, VectorWrite, WriteAsOffset, WriteAsPrimitive};
+use crate::traits::{
+    Primitive, VectorWrite, WriteAsOffset, WriteAsPrimitive, WriteAsUnion, WriteAsUnionVector,
+};
+use crate::union_offset::UnionOffset;
+use crate::union_vector_offset::UnionVectorOffset;
 
 impl<'a, P: Primitive, T: WriteAsPrimitive<P>> WriteAsPrimitive<P> for ByRef<'a, T> {
     ghost reach = { λ by_ref. T.reach by_ref.0.now };
@@ -62,6 +66,37 @@ impl<'a, P: Primitive, T: VectorWrite<P>> VectorWrite<P> for ByRef<'a, T> {
     }
 
     ghost is_size = { T.is_size };
+
+    ghost is_lawful = { lawful_of (λ by_ref. by_ref.0.now) T.is_lawful };
+}
+
+impl<'a, P, T: WriteAsUnion<P>> WriteAsUnion<P> for ByRef<'a, T> {
+    ghost may = { λ by_ref old. T.may by_ref.0.now old };
+
+    ghost outcome = { λ by_ref old answer new. T.outcome by_ref.0.now old answer new };
+
+    #[inline]
+    fn prepare(&self, builder: &mut Builder) -> std::result::Result<UnionOffset<P>, BuildError> {
+        let inner = self.0;
+        inner.prepare(builder)
+    }
+
+    ghost is_lawful = { lawful_of (λ by_ref. by_ref.0.now) T.is_lawful };
+}
+
+impl<'a, P, T: WriteAsUnionVector<P>> WriteAsUnionVector<P> for ByRef<'a, T> {
+    ghost may = { λ by_ref old. T.may by_ref.0.now old };
+
+    ghost outcome = { λ by_ref old answer new. T.outcome by_ref.0.now old answer new };
+
+    #[inline]
+    fn prepare(
+        &self,
+        builder: &mut Builder,
+    ) -> std::result::Result<UnionVectorOffset<P>, BuildError> {
+        let inner = self.0;
+        inner.prepare(builder)
+    }
 
     ghost is_lawful = { lawful_of (λ by_ref. by_ref.0.now) T.is_lawful };
 }

@@ -8,6 +8,8 @@ use Rattle.planus_write.specs.Preparing.{Answers, WritesList}
 use Rattle.planus_write.specs.Items.{plain_item}
 use Rattle.planus_write.specs.declared.offset.List.{List as ListOf}
 use Rattle.planus.specs.Runs.{width_of}
+use Rattle.planus_write.specs.declared.offset.Offset.{Offset}
+use Rattle.planus.specs.Names.{offset_named}
 use Rattle.planus.specs.Replaying.{Narrowed, WritesValue}
 use Rattle.planus.proofs.Stepping.{numbers_advanced}
 use Rattle.planus.proofs.progress.Progress.numbers.Goals as goal
@@ -16,13 +18,13 @@ pub returns-in-Some : goal.returns-in-Some
 returns-in-Some c =
     let narrowed : Narrowed w16 c.args.items.now (Some c.in-Some.items) = subst (Narrowed w16 c.args.items.now) c.in-Some.is c.in_ok-items-in-2.ensures in
     numbers_advanced c.args.width w16 c.args.items.now (ap width_of c.in-2.is) narrowed.0 c.args.self.now (ListOf ℕ) c.write.result c.write.new.self
-    (subst (λ xs. WritesValue {T = ListOf ℕ} (WritesList Answers (λ number. plain_item (to_le_bytes w16 number)) 2 2 xs) c.args.self.now c.write.result c.write.new.self) narrowed.1 c.write.ensures)
+    (subst (λ xs. WritesValue {A = Offset (ListOf ℕ)} offset_named (WritesList Answers (λ number. plain_item (to_le_bytes w16 number)) 2 2 xs) c.args.self.now c.write.result c.write.new.self) narrowed.1 c.write.ensures)
 
 pub returns-in-Some-2 : goal.returns-in-Some-2
 returns-in-Some-2 c =
     let narrowed : Narrowed w32 c.args.items.now (Some c.in-Some-2.items) = subst (Narrowed w32 c.args.items.now) c.in-Some-2.is c.in_ok-items-in-4.ensures in
     numbers_advanced c.args.width w32 c.args.items.now (ap width_of c.in-4.is) narrowed.0 c.args.self.now (ListOf ℕ) c.write-in-Some-2.result c.write-in-Some-2.new.self
-    (subst (λ xs. WritesValue {T = ListOf ℕ} (WritesList Answers (λ number. plain_item (to_le_bytes w32 number)) 4 4 xs) c.args.self.now c.write-in-Some-2.result c.write-in-Some-2.new.self) narrowed.1 c.write-in-Some-2.ensures)
+    (subst (λ xs. WritesValue {A = Offset (ListOf ℕ)} offset_named (WritesList Answers (λ number. plain_item (to_le_bytes w32 number)) 4 4 xs) c.args.self.now c.write-in-Some-2.result c.write-in-Some-2.new.self) narrowed.1 c.write-in-Some-2.ensures)
 
 -- numbers of 64 bits fit 8 bytes
 all_fit : (numbers : List ℕ) → ((k : ℕ) → get_or numbers k 0 < 18446744073709551616) → list_all (fits_width w64) numbers ≡ true

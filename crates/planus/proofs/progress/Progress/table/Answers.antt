@@ -2,6 +2,7 @@ use Rattle.std.proofs.Common.{map, refl, arith, lit≤, Ok}
 use Rattle.std.proofs.lemmas.Result.{err_from_is_err_and}
 use Rattle.planus_write.specs.Tables.{declared_of}
 use Rattle.planus.specs.Steps.{bare_field}
+use Rattle.planus.specs.declared.written.Written.TheVariants.{Value}
 use Rattle.planus.proofs.SteppingTables.{table_advanced, table_stopped, body_sized, body_reaches, table_put, table_not_put}
 use Rattle.planus.proofs.progress.Progress.table.Goals as goal
 
@@ -29,8 +30,8 @@ returns c =
     table_advanced (map bare_field c.args.fields.now) made.0 c.args.self.now made.1 (Unit {0}) (Ok tt)
     (record { builder = c.finish.new.builder; first = c.args.self.now.first; offsets = c.push.new.self; finished = c.args.self.now.finished })
     (record {
-      offset = c.current_offset-table.result;
-      noted = c.current_offset-table.result;
+      answer = c.current_offset-table.result;
+      noted = Value c.current_offset-table.result;
       done = table_put c.args.self.now c.as_slice.result.now c.as_slice.ensures.value (map bare_field c.args.fields.now) made.0 made.1 c.current_offset-table.result c.finish.new.builder (c.in_ok-finish.ensures (declared_of made.0) made.2) c.current_offset-table.ensures;
       same = refl;
       first = refl;

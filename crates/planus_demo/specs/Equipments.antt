@@ -1,0 +1,21 @@
+-- What is read and written as a monster's equipment.
+use Rattle.std.specs.Prelude.{◌≡◌, ◌≢◌, ℕ, List, Result, Ok, Err, ◌⊎◌}
+use Rattle.planus_read.specs.declared.errors.ErrorKind.{ErrorKind}
+use Rattle.planus_read.specs.declared.errors.ErrorKind.TheVariants.{UnknownUnionTag}
+use Rattle.planus_read.specs.Clauses.{Answer, shown}
+use Rattle.planus_read.specs.Reading.{table_reading}
+use Rattle.planus_demo.specs.WeaponViews.{ShowsWeapon}
+use Rattle.planus_demo.specs.declared.weapon.WeaponRef.{WeaponRef}
+use Rattle.planus_demo.specs.declared.equipment_ref.EquipmentRef.{EquipmentRef}
+use Rattle.planus_demo.specs.declared.equipment_ref.EquipmentRef.TheVariants.{Weapon}
+
+-- what is read as a weapon
+abbrev pub ReadsWeapon : List ℕ → ℕ → ℕ → Result WeaponRef ErrorKind → Type 0
+ReadsWeapon S start f answer = Answer (shown (ShowsWeapon S start) (table_reading S f)) answer
+
+-- What is read as a piece of equipment of this tag: a weapon with tag 1. No other tag is known.
+abbrev pub ReadsEquipment : List ℕ → ℕ → ℕ → ℕ → Result EquipmentRef ErrorKind → Type 0
+ReadsEquipment S start tag f (Ok (Weapon weapon)) = (tag ≡ 1) × ReadsWeapon S start f (Ok weapon)
+ReadsEquipment S start tag f (Err error) =
+    ((tag ≡ 1) × ReadsWeapon S start f (Err error))
+    ⊎ ((tag ≢ 1) × (error ≡ UnknownUnionTag tag))

@@ -1,0 +1,34 @@
+//! A union of one variant, written as code does that is generated from a schema:
+//!
+//! ```text
+//! union Equipment { Weapon }
+//! ```
+
+ghost use Rattle.std.specs.Prelude.{◌≤◌, length, IfOk};
+ghost use Rattle.planus_write.specs.State.{Grows};
+ghost use Rattle.planus_demo.specs.Variants.{WritesVariant};
+
+use crate::weapon::Weapon;
+use planus::{BuildError, Builder, UnionOffset, WriteAsOffset};
+
+/// The kind of a union that is a piece of equipment.
+pub struct Equipment;
+
+impl Equipment {
+    /// Writes a weapon, if it isn't written already. Returns it as a piece of equipment: with tag 1.
+    ///
+    /// An offset that is handed in must be one that this builder answered since the last clear. A
+    /// refusal is that of [`WriteAsOffset::prepare`].
+    pub fn create_weapon<W: WriteAsOffset<Weapon> + Drop>(
+        builder: &mut Builder,
+        weapon: W,
+    ) -> std::result::Result<UnionOffset<Equipment>, BuildError>
+        requires { W.may weapon builder.old }
+        ensures written { WritesVariant 1 (W.outcome weapon) builder.old result builder.new }
+        ensures grows { Grows builder.old builder.new }
+        ensures reached { IfOk result (λ union. union.offset.distance ≤ length builder.new.bytes) }
+    {
+        let weapon = weapon.prepare(builder)?;
+        Ok(UnionOffset::new(1, weapon.downcast()))
+    }
+}

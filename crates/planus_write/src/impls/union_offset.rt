@@ -1,0 +1,23 @@
+//! Unions that are written already.
+ghost use Rattle.std.specs.Prelude.{◌≤◌, length};
+ghost use Rattle.planus_write.specs.Preparing.{Answers};
+ghost use Rattle.planus_write.specs.Unions.{union_reach};
+ghost use Rattle.planus_write.specs.UnionLaws.{union_offset_is_lawful};
+
+use crate::builder::Builder;
+use crate::errors::BuildError;
+use crate::traits::WriteAsUnion;
+use crate::union_offset::UnionOffset;
+
+impl<T> WriteAsUnion<T> for UnionOffset<T> {
+    ghost may = { λ union old. union_reach union ≤ length old.bytes };
+
+    ghost outcome = { Answers };
+
+    #[inline]
+    fn prepare(&self, _builder: &mut Builder) -> std::result::Result<UnionOffset<T>, BuildError> {
+        Ok(*self)
+    }
+
+    ghost is_lawful = { union_offset_is_lawful };
+}

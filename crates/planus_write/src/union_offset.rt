@@ -1,0 +1,61 @@
+//! Offsets of unions.
+
+use crate::offset::Offset;
+use std::alloc::AllocError;
+use std::marker::PhantomData;
+
+/// A union of kind `T` that a builder has written: the tag of its variant, and the offset of the
+/// variant's value. As a field it takes two slots, the tag's and the reference's.
+pub struct UnionOffset<T> {
+    tag: u8,
+    offset: Offset<()>,
+    of: PhantomData<T>,
+}
+
+impl<T> Clone for UnionOffset<T> {
+    ghost use Rattle.std.specs.Prelude.{◌≡◌, ⊤};
+
+    ghost is_clone = { λ union copy. copy ≡ union };
+
+    ghost is_infallible = { λ _. ⊤ };
+
+    #[inline]
+    fn clone(&self) -> std::result::Result<Self, AllocError> {
+        Ok(*self)
+    }
+}
+
+impl<T> Copy for UnionOffset<T> {}
+
+impl<T> UnionOffset<T> {
+    ghost use Rattle.std.specs.Prelude.{◌≡◌};
+
+    /// The union of a tag, which is above 0 in a field, and the offset of its value.
+    #[inline]
+    pub fn new(tag: u8, offset: Offset<()>) -> UnionOffset<T>
+        ensures tag { result.tag ≡ tag }
+        ensures offset { result.offset ≡ offset }
+    {
+        UnionOffset {
+            tag,
+            offset,
+            of: PhantomData,
+        }
+    }
+
+    /// The tag of the variant.
+    #[inline]
+    pub fn tag(&self) -> u8
+        ensures { result ≡ self.now.tag }
+    {
+        self.tag
+    }
+
+    /// The offset of the variant's value.
+    #[inline]
+    pub fn offset(&self) -> Offset<()>
+        ensures { result ≡ self.now.offset }
+    {
+        self.offset
+    }
+}

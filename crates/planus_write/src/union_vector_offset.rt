@@ -1,0 +1,64 @@
+//! Offsets of lists of unions.
+
+use crate::offset::{List, Offset};
+use std::alloc::AllocError;
+use std::marker::PhantomData;
+
+/// A list of unions of kind `T` that a builder has written: the offset of the list of its tags, and
+/// that of the list of its references. As a field it takes two slots, the tags' first.
+pub struct UnionVectorOffset<T> {
+    tags: Offset<List<u8>>,
+    values: Offset<List<Offset<()>>>,
+    of: PhantomData<T>,
+}
+
+impl<T> Clone for UnionVectorOffset<T> {
+    ghost use Rattle.std.specs.Prelude.{◌≡◌, ⊤};
+
+    ghost is_clone = { λ vector copy. copy ≡ vector };
+
+    ghost is_infallible = { λ _. ⊤ };
+
+    #[inline]
+    fn clone(&self) -> std::result::Result<Self, AllocError> {
+        Ok(*self)
+    }
+}
+
+impl<T> Copy for UnionVectorOffset<T> {}
+
+impl<T> UnionVectorOffset<T> {
+    ghost use Rattle.std.specs.Prelude.{◌≡◌};
+
+    /// The list of unions of a list of tags and a list of as many references.
+    #[inline]
+    pub fn new(
+        tags_offset: Offset<List<u8>>,
+        values_offset: Offset<List<Offset<()>>>,
+    ) -> UnionVectorOffset<T>
+        ensures tags { result.tags ≡ tags_offset }
+        ensures values { result.values ≡ values_offset }
+    {
+        UnionVectorOffset {
+            tags: tags_offset,
+            values: values_offset,
+            of: PhantomData,
+        }
+    }
+
+    /// The offset of the list of the tags.
+    #[inline]
+    pub fn tags_offset(&self) -> Offset<List<u8>>
+        ensures { result ≡ self.now.tags }
+    {
+        self.tags
+    }
+
+    /// The offset of the list of the references.
+    #[inline]
+    pub fn values_offset(&self) -> Offset<List<Offset<()>>>
+        ensures { result ≡ self.now.values }
+    {
+        self.values
+    }
+}
