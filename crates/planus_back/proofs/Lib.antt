@@ -7,3 +7,4 @@ pub mod Periods
 pub mod Places
 pub mod Buckets
 pub mod Caches
+pub mod Hashes

@@ -1,7 +1,7 @@
 -- A cache as a set of distances that fits some bytes, and what its calls do.
-use Rattle.std.specs.Prelude.{◌≡◌, ℕ, ◌*◌, ◌%◌, ◌^◌, ◌<◌, List, length, slice_index, Option, Some}
+use Rattle.std.specs.Prelude.{◌≡◌, ℕ, ◌*◌, ◌/◌, ◌%◌, ◌^◌, ◌<◌, List, [], ◌∷◌, length, slice_index, Option, Some}
 use Rattle.std.specs.Prelude.{nat_eq, bit_and, bit_xor, ◌↔◌, ◌⊎◌, MatchOption}
-use Rattle.std.specs.List.{fold}
+use Rattle.std.specs.Int.{w64, from_le_bytes}
 use Rattle.std.specs.Map.{lookup}
 use mathlib.Core.Logic.{◌≢◌}
 use Rattle.planus_back.specs.CacheKeys.{key_at}
@@ -12,13 +12,25 @@ pub record Held : Type 0 where
   pub mask : ℕ
   pub buckets : List (ℕ × List ℕ)
 
--- one byte more of a hash
-abbrev pub hash_step : ℕ → ℕ → ℕ
-hash_step hash byte = (bit_xor hash byte * 1099511628211) % 2 ^ 64
+-- a number of 8 bytes more of a hash
+abbrev pub mixed : ℕ → ℕ → ℕ
+mixed hash number =
+    ((bit_xor (bit_xor hash number) (bit_xor hash number / 2 ^ 32)) * 11400714819323198485) % 2 ^ 64
+
+-- some bytes more of a hash: 8 at a time, and then one at a time
+abbrev pub hash_on : ℕ → List ℕ → ℕ
+hash_on hash (a ∷ b ∷ c ∷ d ∷ e ∷ f ∷ g ∷ h ∷ rest) =
+    hash_on (mixed hash (from_le_bytes w64 (a ∷ b ∷ c ∷ d ∷ e ∷ f ∷ g ∷ h ∷ []))) rest
+hash_on hash (byte ∷ rest) = hash_on (mixed hash byte) rest
+hash_on hash [] = hash
+
+-- the hash of a key
+abbrev pub hash_of : List ℕ → ℕ
+hash_of key = hash_on (length key) key
 
 -- the hash of a key, cut to the bits that are used
 abbrev pub cut_hash : ℕ → List ℕ → ℕ
-cut_hash mask key = bit_and (fold hash_step 14695981039346656037 key) mask
+cut_hash mask key = bit_and (hash_of key) mask
 
 -- the distances at a cut hash
 abbrev pub bucket : Held → ℕ → Option (List ℕ)

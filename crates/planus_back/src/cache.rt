@@ -1,11 +1,11 @@
 //! A cache of what stands in bytes that grow at their front.
-ghost use Rattle.std.specs.Prelude.{◌≡◌, OnOk, OnErr, IfOk};
-ghost use Rattle.std.specs.List.{fold};
+ghost use Rattle.std.specs.Prelude.{◌≡◌, map, OnOk, OnErr, IfOk};
+ghost use Rattle.std.specs.Int.{w8, cast_unsigned};
 ghost use Rattle.planus_back.specs.Buckets.{listed, AddsAt, FoundAmong};
 ghost use Rattle.planus_back.specs.Caches.{Fits, IsEmpty, Adds, FitsWhereKeyStands, IsFound};
-ghost use Rattle.planus_back.specs.Caches.{hash_step};
 
 use crate::cache_keys::GetCacheKey;
+use crate::keys::{Bytes, Key, Signed};
 use std::alloc::{AllocError, Global};
 use std::collections::HashMap;
 use std::marker::{Model, PhantomData};
@@ -33,24 +33,13 @@ impl<C> Model for Cache<C> {
     ghost view = { λ a. record { mask = a.hash_mask; buckets = listed a.buckets.entries } };
 }
 
-/// The hash of a key (FNV-1a of 64 bits).
-fn hash(key: &[u8]) -> u64
-    ensures { result ≡ fold hash_step 14695981039346656037 key.now }
-{
-    let mut hash: u64 = 14695981039346656037;
-    for byte in key {
-        hash = (hash ^ (*byte as u64)).wrapping_mul(1099511628211);
-    }
-    hash
-}
-
 /// The first of the distances at which the key stands.
-fn find<C: GetCacheKey>(distances: &[u32], serialized: &[u8], key: &[u8]) -> Option<u32>
-    ensures { FoundAmong C.key_in distances.now serialized.now key.now result }
+fn find<C: GetCacheKey, K: Key>(distances: &[u32], serialized: &[u8], key: &K) -> Option<u32>
+    ensures { FoundAmong C.key_in distances.now serialized.now (K.bytes_of key.now) result }
 {
     for distance in distances {
         if let Some(found) = C::key_at(serialized, *distance) {
-            if found == key {
+            if key.is(found) {
                 return Some(*distance);
             }
         }
@@ -103,17 +92,45 @@ impl<C: GetCacheKey> Cache<C> {
         self.buckets.clear();
     }
 
+    // What `get` answers for a key in whatever form.
+    fn get_by<K: Key>(&self, serialized: &[u8], key: &K) -> Option<u32>
+        requires { Fits C.key_in self.now serialized.now }
+        ensures { IsFound C.key_in self.now serialized.now (K.bytes_of key.now) result }
+    {
+        let bucket = key.hash() & self.hash_mask;
+        match self.buckets.get(&bucket) {
+            Some(distances) => find::<C, K>(distances.as_slice(), serialized, key),
+            None => None,
+        }
+    }
+
+    // What `insert` does for a key in whatever form.
+    fn insert_by<K: Key>(&mut self, key: &K, distance: u32) -> Result<(), AllocError>
+        ensures ok { OnOk result (Adds self.old distance self.new) }
+        ensures fits { OnOk result
+            (FitsWhereKeyStands C.key_in self.old (K.bytes_of key.now) distance self.new) }
+        ensures err { OnErr result (self.new ≡ self.old) }
+    {
+        let bucket = key.hash() & self.hash_mask;
+        add(&mut self.buckets, self.alloc, bucket, distance)
+    }
+
     /// Returns a distance of the set at which the key stands in the bytes, which the cache fits,
     /// and `None` where there is none.
     pub fn get(&self, serialized: &[u8], key: &[u8]) -> Option<u32>
         requires { Fits C.key_in self.now serialized.now }
         ensures { IsFound C.key_in self.now serialized.now key.now result }
     {
-        let bucket = hash(key) & self.hash_mask;
-        match self.buckets.get(&bucket) {
-            Some(distances) => find::<C>(distances.as_slice(), serialized, key),
-            None => None,
-        }
+        self.get_by(serialized, &Bytes(key))
+    }
+
+    /// [`Cache::get`] of a key of signed numbers, each of which is a byte.
+    pub fn get_signed(&self, serialized: &[u8], key: &[i8]) -> Option<u32>
+        requires { Fits C.key_in self.now serialized.now }
+        ensures { IsFound C.key_in self.now serialized.now
+            (map (λ number. cast_unsigned w8 number) key.now) result }
+    {
+        self.get_by(serialized, &Signed(key))
     }
 
     /// Adds the distance at which the key stands, or is about to: the cache fits all bytes that it
@@ -124,7 +141,16 @@ impl<C: GetCacheKey> Cache<C> {
             (FitsWhereKeyStands C.key_in self.old key.now distance self.new) }
         ensures err { OnErr result (self.new ≡ self.old) }
     {
-        let bucket = hash(key) & self.hash_mask;
-        add(&mut self.buckets, self.alloc, bucket, distance)
+        self.insert_by(&Bytes(key), distance)
+    }
+
+    /// [`Cache::insert`] of a key of signed numbers, each of which is a byte.
+    pub fn insert_signed(&mut self, key: &[i8], distance: u32) -> Result<(), AllocError>
+        ensures ok { OnOk result (Adds self.old distance self.new) }
+        ensures fits { OnOk result (FitsWhereKeyStands C.key_in self.old
+            (map (λ number. cast_unsigned w8 number) key.now) distance self.new) }
+        ensures err { OnErr result (self.new ≡ self.old) }
+    {
+        self.insert_by(&Signed(key), distance)
     }
 }

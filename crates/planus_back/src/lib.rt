@@ -11,6 +11,7 @@ pub mod backvec;
 pub mod cache;
 pub mod cache_keys;
 pub mod fill;
+mod keys;
 pub mod laws;
 pub mod plain;
 pub mod promises;

@@ -6,6 +6,7 @@ use crate::backvec::BackVec;
 use crate::cache::Cache;
 use crate::cache_keys::{ByteVec, GetCacheKey, VTable};
 use crate::fill::{Fill, Overwrite};
+use crate::keys::{Key, Signed};
 use crate::promises::{Promises, TooLarge};
 use std::test::Fail;
 
@@ -132,19 +133,39 @@ fn add(
     Ok(())
 }
 
+// The same of a key of signed numbers.
+fn add_signed(
+    cache: &mut Cache<ByteVec>,
+    bytes: &[u8],
+    key: &[i8],
+    distance: u32,
+) -> std::result::Result<(), Fail>
+    requires { Fits bytes_in cache.old bytes.now }
+    ensures { OnOk result (Fits bytes_in cache.new bytes.now) }
+{
+    match ByteVec::key_at(bytes, distance) {
+        Some(found) if Signed(key).is(found) => {}
+        _ => return Err(Fail::new("the key doesn't stand there")),
+    }
+    cache.insert_signed(key, distance)?;
+    Ok(())
+}
+
 #[test]
 fn caches_find_equal_keys(rt: HostRuntime) -> Result<(), Fail> {
-    let bytes = b"\x02\0\0\0Ho\x02\0\0\0Hi".as_slice();
+    let bytes = b"\x02\0\0\0H\xfe\x02\0\0\0Hi".as_slice();
     for mask in [u64::MAX, 1, 0] {
         let mut cache: Cache<ByteVec> = Cache::new(rt.alloc(), mask)?;
         crate::laws::empty_caches_fit::<ByteVec>();
         assert_eq!(rt; cache.get(bytes, b"Hi"), None);
         add(&mut cache, bytes, b"Hi", 6)?;
         assert_eq!(rt; cache.get(bytes, b"Hi"), Some(6));
-        assert_eq!(rt; cache.get(bytes, b"Ho"), None);
-        add(&mut cache, bytes, b"Ho", 12)?;
+        assert_eq!(rt; cache.get_signed(bytes, &[72, 105]), Some(6));
+        assert_eq!(rt; cache.get_signed(bytes, &[72, -2]), None);
+        add_signed(&mut cache, bytes, &[72, -2], 12)?;
         assert_eq!(rt; cache.get(bytes, b"Hi"), Some(6));
-        assert_eq!(rt; cache.get(bytes, b"Ho"), Some(12));
+        assert_eq!(rt; cache.get(bytes, b"H\xfe"), Some(12));
+        assert_eq!(rt; cache.get_signed(bytes, &[72, -2]), Some(12));
         assert_eq!(rt; cache.get(bytes, b"H"), None);
         cache.clear();
         assert_eq!(rt; cache.get(bytes, b"Hi"), None);

@@ -5,4 +5,4 @@ use Rattle.planus_back.proofs.cache.find.Given as goal
 
 abbrev pub invariant-loop-distance : goal.invariant-loop-distance
 invariant-loop-distance g l =
-    (k : ℕ) → k < l.distance-index → key_at g.C.GetCacheKey.key_in l.serialized (get_or l.distances k 0) ≢ Some l.key
+    (k : ℕ) → k < l.distance-index → key_at g.C.GetCacheKey.key_in l.serialized (get_or l.distances k 0) ≢ Some (g.K.Key.bytes_of l.key)

@@ -1,7 +1,7 @@
 use Rattle.std.proofs.Common.{refl, ap, sym, ◌∙◌}
 use Rattle.std.specs.Option.{option_copied}
 use Rattle.planus_back.proofs.Caches.{got_some, got_none}
-use Rattle.planus_back.proofs.cache.Cache.get.Goals as goal
+use Rattle.planus_back.proofs.cache.Cache.get_by.Goals as goal
 
 pub returns-in-Some : goal.returns-in-Some
 returns-in-Some g c =

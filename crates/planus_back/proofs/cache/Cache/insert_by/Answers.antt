@@ -1,6 +1,6 @@
 use Rattle.std.proofs.Common.{refl}
 use Rattle.planus_back.proofs.Caches.{insert_adds, insert_fits}
-use Rattle.planus_back.proofs.cache.Cache.insert.Goals as goal
+use Rattle.planus_back.proofs.cache.Cache.insert_by.Goals as goal
 
 pub returns-clause-ok : goal.returns-clause-ok
 returns-clause-ok g c = insert_adds _ _ _ _ _ c.add.result c.self.view_is c.add.ensures.ok

@@ -1,0 +1,116 @@
+//! What is looked for in a cache: bytes, as they are or as signed numbers.
+ghost use Rattle.std.specs.Prelude.{◌≡◌, ◌↔◌, ℕ, List, map, IsTrue};
+ghost use Rattle.std.specs.Int.{w8, w64, cast_unsigned, from_le_bytes};
+ghost use Rattle.planus_back.specs.Caches.{mixed, hash_of};
+
+/// Bytes, in whatever form, that can be hashed and compared.
+pub(crate) trait Key {
+    ghost bytes_of: { Self → List ℕ };
+
+    // The hash of the bytes: 8 at a time, and then one at a time.
+    fn hash(&self) -> u64
+        ensures { result ≡ hash_of (bytes_of self.now) };
+
+    // Whether these are the bytes.
+    fn is(&self, bytes: &[u8]) -> bool
+        ensures { IsTrue result ↔ (bytes.now ≡ bytes_of self.now) };
+}
+
+/// A key of bytes.
+#[derive(Drop)]
+pub(crate) struct Bytes<'a>(pub(crate) &'a [u8]);
+
+/// A key of signed numbers of one byte.
+#[derive(Drop)]
+pub(crate) struct Signed<'a>(pub(crate) &'a [i8]);
+
+// A number more of a hash. The upper half of the bits goes into the lower one too, since a product
+// carries upwards alone.
+#[inline]
+fn mix(hash: u64, number: u64) -> u64
+    ensures { result ≡ mixed hash number }
+{
+    let both = hash ^ number;
+    (both ^ (both >> 32)).wrapping_mul(11400714819323198485)
+}
+
+// The byte of a signed number.
+#[inline]
+fn byte_of(number: i8) -> u8
+    ensures { result ≡ cast_unsigned w8 number }
+{
+    number.cast_unsigned()
+}
+
+// The number that 8 bytes are which are signed numbers.
+#[inline]
+fn word_of(numbers: &[i8; 8]) -> u64
+    ensures { result ≡ from_le_bytes w64 (map (λ number. cast_unsigned w8 number) numbers.now) }
+{
+    u64::from_le_bytes([
+        byte_of(numbers[0]),
+        byte_of(numbers[1]),
+        byte_of(numbers[2]),
+        byte_of(numbers[3]),
+        byte_of(numbers[4]),
+        byte_of(numbers[5]),
+        byte_of(numbers[6]),
+        byte_of(numbers[7]),
+    ])
+}
+
+impl<'a> Key for Bytes<'a> {
+    ghost bytes_of = { λ key. key.0.now };
+
+    #[inline]
+    fn hash(&self) -> u64 {
+        let mut hash = self.0.len() as u64;
+        let mut rest = self.0;
+        while let Some((word, behind)) = rest.split_first_chunk::<8>() {
+            hash = mix(hash, u64::from_le_bytes(*word));
+            rest = behind;
+        }
+        for byte in rest {
+            hash = mix(hash, *byte as u64);
+        }
+        hash
+    }
+
+    #[inline]
+    fn is(&self, bytes: &[u8]) -> bool {
+        bytes == self.0
+    }
+}
+
+impl<'a> Key for Signed<'a> {
+    ghost bytes_of = { λ key. map (λ number. cast_unsigned w8 number) key.0.now };
+
+    #[inline]
+    fn hash(&self) -> u64 {
+        let mut hash = self.0.len() as u64;
+        let mut rest = self.0;
+        while let Some((word, behind)) = rest.split_first_chunk::<8>() {
+            hash = mix(hash, word_of(word));
+            rest = behind;
+        }
+        for number in rest {
+            hash = mix(hash, byte_of(*number) as u64);
+        }
+        hash
+    }
+
+    #[inline]
+    fn is(&self, bytes: &[u8]) -> bool {
+        if bytes.len() != self.0.len() {
+            return false;
+        }
+        let mut at = 0;
+        while at < bytes.len() {
+            if bytes[at] != byte_of(self.0[at]) {
+                return false;
+            }
+            at += 1;
+        }
+        true
+    }
+}
