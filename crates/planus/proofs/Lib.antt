@@ -15,4 +15,5 @@ pub mod Stepping
 pub mod SteppingTables
 pub mod Replayed
 pub mod OneAnswer
+pub mod Once
 pub mod Found

@@ -4,7 +4,7 @@ use Rattle.std.proofs.Common.{map, get_or, refl, sym, ap, ◌∙◌, subst, None
 use Rattle.std.specs.List.{AllByRecursion}
 use Rattle.std.proofs.lemmas.List.{take-append-drop, map-append, map_push, take_more, take_all}
 use Rattle.std.proofs.lemmas.List.{length-map, length-take-le}
-use Rattle.planus_write.specs.Shared.{all_off}
+use Rattle.planus_write.specs.Shared.{Switches}
 use Rattle.planus_write.specs.Past.{Past}
 use Rattle.planus_write.specs.State.{IsPast}
 use Rattle.planus.specs.Steps.{Step, bare_step}
@@ -28,23 +28,23 @@ abbrev pub first_steps : List code.Step → ℕ → List Step
 first_steps steps i = map bare_step (take i steps)
 
 -- the replay is where the first i steps lead, and none of them is bad
-pub record Reaches (steps : List code.Step) (i : ℕ) (progress : Progress) : Type 0 where
-  pub run : (past : Past) × IsPast progress.builder past × LeadsTo all_off nothing_written (first_steps steps i) (state_with progress past)
-  pub off : progress.builder.switches ≡ all_off
+pub record Reaches (switches : Switches) (steps : List code.Step) (i : ℕ) (progress : Progress) : Type 0 where
+  pub run : (past : Past) × IsPast progress.builder past × LeadsTo switches nothing_written (first_steps steps i) (state_with progress past)
+  pub switched : progress.builder.switches ≡ switches
   pub clean : first_bad (first_steps steps i) ≡ None
   pub taken : HasTaken progress (first_steps steps i)
 
-pub are_reached : (steps : List code.Step) (i : ℕ) (progress : Progress) → Reaches steps i progress → AreReached progress
-are_reached steps i progress h step named e =
-    let v = run_value all_off (first_steps steps i) (all_utf8 (take i steps)) (state_with progress h.run.0) h.run.2 (progress.first + step) named
+pub are_reached : (switches : Switches) (steps : List code.Step) (i : ℕ) (progress : Progress) → Reaches switches steps i progress → AreReached progress
+are_reached switches steps i progress h step named e =
+    let v = run_value switches (first_steps steps i) (all_utf8 (take i steps)) (state_with progress h.run.0) h.run.2 (progress.first + step) named
     (found_at progress.first (names progress) step named e) in
     subst (λ bytes. IsReached (length bytes) named) h.run.1.bytes (record { distance = v.kept.reached; tags = v.kept.tags_reached })
 
-pub number_is : (steps : List code.Step) (i : ℕ) (progress : Progress) → i ≤ length steps → Reaches steps i progress → progress.first + length progress.offsets.items ≡ i
-number_is steps i progress within h =
+pub number_is : (switches : Switches) (steps : List code.Step) (i : ℕ) (progress : Progress) → i ≤ length steps → Reaches switches steps i progress → progress.first + length progress.offsets.items ≡ i
+number_is switches steps i progress within h =
     h.taken.counted ∙ length-map (take i steps) bare_step ∙ length-take-le i steps within
 
-module _ (steps : List code.Step) (i : ℕ) (item : code.Step) (inside : i < length steps) (there : item ≡ get_or steps i item) (progress : Progress) (h : Reaches steps i progress) where
+module _ (switches : Switches) (steps : List code.Step) (i : ℕ) (item : code.Step) (inside : i < length steps) (there : item ≡ get_or steps i item) (progress : Progress) (h : Reaches switches steps i progress) where
   whole : map bare_step steps ≡ first_steps steps i ++ bare_step item ∷ map bare_step (drop (suc i) steps)
   whole = ap (map bare_step) (sym (take-append-drop i steps) ∙ ap (λ xs. take i steps ++ xs) (drop-cons steps i item inside ∙ ap (λ x. x ∷ drop (suc i) steps) (sym there)))
       ∙ map-append bare_step (take i steps) (item ∷ drop (suc i) steps)
@@ -52,38 +52,38 @@ module _ (steps : List code.Step) (i : ℕ) (item : code.Step) (inside : i < len
   next : first_steps steps (i + 1) ≡ first_steps steps i ++ bare_step item ∷ []
   next = ap (map bare_step) (take_more steps i item inside ∙ ap (λ x. take i steps ++ x ∷ []) (sym there)) ∙ map_push bare_step (take i steps) item
 
-  pub reaches_next : (after : Progress) → Takes progress (bare_step item) after → Reaches steps (i + 1) after
+  pub reaches_next : (after : Progress) → Takes progress (bare_step item) after → Reaches switches steps (i + 1) after
   reaches_next after advanced =
       let a = advanced.advances h.run.0 h.run.1 in
-      let on : Advances all_off (state_with progress h.run.0) (bare_step item) (state_with after a.0)
-      = subst (λ switches. Advances switches (state_with progress h.run.0) (bare_step item) (state_with after a.0)) h.off a.2 in
+      let on : Advances switches (state_with progress h.run.0) (bare_step item) (state_with after a.0)
+      = subst (λ s. Advances s (state_with progress h.run.0) (bare_step item) (state_with after a.0)) h.switched a.2 in
       record {
         run = (
           a.0,
           a.1,
-          subst (λ cs. LeadsTo all_off nothing_written cs (state_with after a.0)) (sym next)
-              (leads_on all_off nothing_written (state_with progress h.run.0) (state_with after a.0) (first_steps steps i) (bare_step item) h.run.2 on),
+          subst (λ cs. LeadsTo switches nothing_written cs (state_with after a.0)) (sym next)
+              (leads_on switches nothing_written (state_with progress h.run.0) (state_with after a.0) (first_steps steps i) (bare_step item) h.run.2 on),
         );
-        off = advanced.switches ∙ h.off;
+        switched = advanced.switches ∙ h.switched;
         clean = ap first_bad next
-            ∙ still_clean all_off (map bare_step steps) (first_steps steps i) (bare_step item) (map bare_step (drop (suc i) steps)) whole (state_with progress h.run.0) (all_utf8 (take i steps)) h.run.2 h.clean (state_with after a.0) on;
+            ∙ still_clean switches (map bare_step steps) (first_steps steps i) (bare_step item) (map bare_step (drop (suc i) steps)) whole (state_with progress h.run.0) (all_utf8 (take i steps)) h.run.2 h.clean (state_with after a.0) on;
         taken = subst (λ cs. HasTaken after cs) (sym next) (advanced.taken (first_steps steps i) h.taken);
       }
 
-  stopped_at : (c : Step) → bare_step item ≡ c → (error : ReplayError) → Stopped progress c error → Replays all_off (map bare_step steps) (Err error)
+  stopped_at : (c : Step) → bare_step item ≡ c → (error : ReplayError) → Stopped progress c error → Replays switches (map bare_step steps) (Err error)
   stopped_at c is OutOfMemory stopped = tt
   stopped_at c is TooLarge stopped =
-      too_large all_off (map bare_step steps) (first_steps steps i) c (map bare_step (drop (suc i) steps)) (subst (λ x. map bare_step steps ≡ first_steps steps i ++ x ∷ map bare_step (drop (suc i) steps)) is whole)
-      (state_with progress h.run.0) (all_utf8 (take i steps)) h.run.2 h.clean (subst (λ switches. StepTooLarge switches (state_with progress h.run.0) c) h.off (stopped h.run.0 h.run.1))
+      too_large switches (map bare_step steps) (first_steps steps i) c (map bare_step (drop (suc i) steps)) (subst (λ x. map bare_step steps ≡ first_steps steps i ++ x ∷ map bare_step (drop (suc i) steps)) is whole)
+      (state_with progress h.run.0) (all_utf8 (take i steps)) h.run.2 h.clean (subst (λ s. StepTooLarge s (state_with progress h.run.0) c) h.switched (stopped h.run.0 h.run.1))
   stopped_at c is (BadStep number why) stopped =
-      bad_step all_off (map bare_step steps) (first_steps steps i) c (map bare_step (drop (suc i) steps)) (subst (λ x. map bare_step steps ≡ first_steps steps i ++ x ∷ map bare_step (drop (suc i) steps)) is whole)
+      bad_step switches (map bare_step steps) (first_steps steps i) c (map bare_step (drop (suc i) steps)) (subst (λ x. map bare_step steps ≡ first_steps steps i ++ x ∷ map bare_step (drop (suc i) steps)) is whole)
       (state_with progress h.run.0) (all_utf8 (take i steps)) h.run.2 h.clean number why (stopped.0 ∙ h.taken.counted) (sym (checked progress (first_steps steps i) h.taken c) ∙ stopped.1)
 
-  pub stops : (error : ReplayError) → Stopped progress (bare_step item) error → Replays all_off (map bare_step steps) (Err error)
+  pub stops : (error : ReplayError) → Stopped progress (bare_step item) error → Replays switches (map bare_step steps) (Err error)
   stops error stopped = stopped_at (bare_step item) refl error stopped
 
-pub all_hold : (steps : List code.Step) (i : ℕ) (progress : Progress) → length steps ≤ i → Reaches steps i progress → AllByRecursion (FinishHolds all_off (map bare_step steps)) (map finish_given progress.finished.items)
-all_hold steps i progress past h =
+pub all_hold : (switches : Switches) (steps : List code.Step) (i : ℕ) (progress : Progress) → length steps ≤ i → Reaches switches steps i progress → AllByRecursion (FinishHolds switches (map bare_step steps)) (map finish_given progress.finished.items)
+all_hold switches steps i progress past h =
     let all : first_steps steps i ≡ map bare_step steps = ap (map bare_step) (take_all i steps past) in
-    subst (λ cs. AllByRecursion (FinishHolds all_off cs) (map finish_given progress.finished.items)) all
-    (run_kept all_off (first_steps steps i) (all_utf8 (take i steps)) (state_with progress h.run.0) h.run.2).finished
+    subst (λ cs. AllByRecursion (FinishHolds switches cs) (map finish_given progress.finished.items)) all
+    (run_kept switches (first_steps steps i) (all_utf8 (take i steps)) (state_with progress h.run.0) h.run.2).finished

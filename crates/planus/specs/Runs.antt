@@ -6,7 +6,7 @@ use Rattle.std.specs.List.{list_all}
 use Rattle.std.specs.Int.{Width, w8, w16, w32, w64, byte_len, to_le_bytes}
 use Rattle.planus_read.specs.Values as value
 use Rattle.planus_read.specs.Values.{Value, Field}
-use Rattle.planus_write.specs.Shared.{Switches, all_off}
+use Rattle.planus_write.specs.Shared.{Switches}
 use Rattle.planus_write.specs.Past.{Past, Entry, no_past, PutsAll}
 use Rattle.planus_write.specs.Past.{ComesToTooLarge as ComesToTooLargeEntry}
 use Rattle.planus_write.specs.Parts.{Named, named_by, entries_of, finish_entry}
@@ -14,10 +14,6 @@ use Rattle.planus.specs.Steps.{Step, text, bytes, numbers, refs, unions, table, 
 use Rattle.planus.specs.Steps.{clear, FieldStep, number_field, ref_field, tags_field, values_field}
 use Rattle.planus.specs.Slots.{place_fault, alignment_of, greatest_field}
 use Rattle.planus.specs.declared.faults.Why.{Why}
-
--- the switches of a builder that shares nothing
-abbrev pub nothing_shared : Switches
-nothing_shared = all_off
 
 -- a value by the number of its step, and what it is named by
 pub record Listed : Type 0 where

@@ -32,9 +32,10 @@ pub use planus_read::{
 pub use planus_unions::{AsRead, ItemError, UnionVector, union_vectors};
 pub use planus_view::{CopyError, FromItem, Vector, vectors};
 pub use planus_write::{
-    BuildError, Builder, ByRef, ByteList, Initialized, List, ObjectFill, ObjectWriter, Offset,
-    Primitive, SignedList, TableWriter, Text, Uninitialized, UnionOffset, UnionVectorOffset,
-    VectorWrite, WriteAsOffset, WriteAsPrimitive, WriteAsUnion, WriteAsUnionVector, table_writer,
+    BuildError, Builder, ByRef, ByteList, Caches, Initialized, List, ObjectFill, ObjectWriter,
+    Offset, Primitive, SignedList, TableWriter, Text, Uninitialized, UnionOffset,
+    UnionVectorOffset, VectorWrite, WriteAsOffset, WriteAsPrimitive, WriteAsUnion,
+    WriteAsUnionVector, table_writer,
 };
 pub use run::replay;
 pub use steps::{Field, FieldValue, Step};

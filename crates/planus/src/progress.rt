@@ -1,6 +1,6 @@
 //! A replay on its way.
 ghost use Rattle.std.specs.Prelude.{◌≡◌, [], ◌+◌, ◌<◌, ◌^◌, vec_len, length, map, IfOk, IfErr, Ok};
-ghost use Rattle.planus_write.specs.Shared.{all_off};
+ghost use Rattle.planus_write.specs.View.{switches_of};
 ghost use Rattle.planus_write.specs.Past.{no_past};
 ghost use Rattle.planus_write.specs.State.{IsPast};
 ghost use Rattle.planus_write.specs.Preparing.{Answers};
@@ -32,7 +32,7 @@ use crate::steps::{Field, Step};
 use crate::table_body::TableBody;
 use crate::written::Written;
 use planus_write::{
-    Builder, ByteList, Offset, TableWriter, UnionOffset, UnionVectorOffset, WriteAsOffset,
+    Builder, ByteList, Caches, Offset, TableWriter, UnionOffset, UnionVectorOffset, WriteAsOffset,
     WriteAsUnionVector,
 };
 use std::alloc::{AllocError, Global};
@@ -100,15 +100,15 @@ fn u32s(alloc: Global, items: &[u64]) -> std::result::Result<Option<Vec<u32>>, A
 }
 
 impl Progress {
-    pub(crate) fn new(alloc: Global) -> std::result::Result<Progress, ReplayError>
+    pub(crate) fn new(alloc: Global, caches: Caches) -> std::result::Result<Progress, ReplayError>
         ensures past { IfOk result (λ replay. IsPast replay.builder no_past) }
-        ensures switches { IfOk result (λ replay. replay.builder.switches ≡ all_off) }
+        ensures switches { IfOk result (λ replay. replay.builder.switches ≡ switches_of caches) }
         ensures nothing { IfOk result (λ replay. state_with replay no_past ≡ nothing_written) }
         ensures taken { IfOk result (λ replay. HasTaken replay []) }
         ensures error { IfErr result (λ error. error ≡ ReplayError.OutOfMemory) }
     {
         Ok(Progress {
-            builder: Builder::new(alloc)?,
+            builder: Builder::with_caches(alloc, 0, caches)?,
             first: 0,
             offsets: Vec::new(alloc),
             finished: Vec::new(alloc),

@@ -2,7 +2,7 @@
 ghost use Rattle.std.specs.Prelude.{map, IfOk};
 ghost use Rattle.std.specs.List.{AllByRecursion};
 ghost use Rattle.planus.specs.Steps.{bare_step};
-ghost use Rattle.planus.specs.Runs.{nothing_shared};
+ghost use Rattle.planus_write.specs.View.{switches_of};
 ghost use Rattle.planus.specs.Replays.{finish_given, Replays, given_by};
 ghost use Rattle.planus.specs.Headline.{FinishHolds};
 
@@ -10,20 +10,29 @@ use crate::faults::ReplayError;
 use crate::finishes::Finished;
 use crate::progress::Progress;
 use crate::steps::Step;
+use planus_write::Caches;
 use std::alloc::Global;
 
 /// What each finish of the steps gives, in order.
+///
+/// Equal texts, byte lists and vtables are written once where `caches` says so; equal contents of
+/// such a kind then have one distance in `places`.
 ///
 /// Each step is checked before it writes, so the first refused step decides:
 /// [`ReplayError::BadStep`] where its check is broken, [`ReplayError::TooLarge`] where its part's
 /// place would be above 2147483647 bytes from the end, and [`ReplayError::OutOfMemory`] where
 /// memory is refused.
-pub fn replay(alloc: Global, steps: &[Step]) -> std::result::Result<Vec<Finished>, ReplayError>
-    ensures run { Replays nothing_shared (map bare_step steps.now) (given_by result) }
+pub fn replay(
+    alloc: Global,
+    caches: Caches,
+    steps: &[Step],
+) -> std::result::Result<Vec<Finished>, ReplayError>
+    ensures run { Replays (switches_of caches) (map bare_step steps.now) (given_by result) }
     ensures holds { IfOk result (λ finished. AllByRecursion
-        (FinishHolds nothing_shared (map bare_step steps.now)) (map finish_given finished.items)) }
+        (FinishHolds (switches_of caches) (map bare_step steps.now))
+        (map finish_given finished.items)) }
 {
-    let mut progress = Progress::new(alloc)?;
+    let mut progress = Progress::new(alloc, caches)?;
     for step in steps {
         progress.advance(alloc, step)?;
     }

@@ -1,7 +1,7 @@
 //! The version, what is exported again, and a step that no script has.
 
 use crate::{
-    Builder, Field, FieldValue, ReplayError, SliceWithStartOffset, Step, TableRead, Why,
+    Builder, Caches, Field, FieldValue, ReplayError, SliceWithStartOffset, Step, TableRead, Why,
     check_version_compatibility, replay,
 };
 use std::alloc::{AllocError, Global};
@@ -35,7 +35,7 @@ fn behind_a_text(alloc: Global, step: Step) -> Result<Option<ReplayError>, Alloc
     let mut steps = Vec::new(alloc);
     steps.push(Step::Text(String::from_str(alloc, "Axe")?))?;
     steps.push(step)?;
-    Ok(replay(alloc, steps.as_slice()).err())
+    Ok(replay(alloc, Caches::all(), steps.as_slice()).err())
 }
 
 #[test]

@@ -2,7 +2,8 @@
 use Rattle.std.proofs.Common.{◌≡◌, ℕ, List, sym, ap, ◌∙◌, subst, Option, Some, Result, Ok, Err, Bool, true, false, inl, inr}
 use Rattle.std.specs.Prelude.{slice_get, nat_lt, length, codes}
 use Rattle.std.specs.Bool.{MatchBool}
-use Rattle.planus.specs.Runs.{Finish, nothing_shared}
+use Rattle.planus_write.specs.Shared.{all_on}
+use Rattle.planus.specs.Runs.{Finish}
 use Rattle.planus.specs.Replays.{WantsMemory}
 use Rattle.planus.specs.Texts.{why_text}
 use Rattle.planus.specs.declared.faults.ReplayError.{ReplayError}
@@ -32,7 +33,7 @@ not_memory numbers (Err OutOfMemory) a x wants p = p
 
 of_read : (read : Result Read (ℕ × ReadFault)) (a b : Bool) (x y : List ℕ) → PrintsRead read a x → PrintsRead read b y → (a ≡ b) × (x ≡ y)
 of_read (Err fault) a b x y p q = (p.0 ∙ sym q.0, p.1 ∙ sym q.1)
-of_read (Ok read) a b x y p q = elim (answers_are_one nothing_shared read.commands p.0 q.0 p.1 q.1) as (λ _. (a ≡ b) × (x ≡ y)) [
+of_read (Ok read) a b x y p q = elim (answers_are_one all_on read.commands p.0 q.0 p.1 q.1) as (λ _. (a ≡ b) × (x ≡ y)) [
   | inl wants ↦ absurd (not_memory read.numbers p.0 a x wants p.2)
   | inr (inl wants) ↦ absurd (not_memory read.numbers q.0 b y wants q.2)
   | inr (inr same) ↦ of_answer read.numbers q.0 a b x y (subst (λ answer. PrintsAnswer read.numbers answer a x) same p.2) q.2

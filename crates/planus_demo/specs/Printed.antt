@@ -6,7 +6,8 @@ use Rattle.std.specs.List.{flat_map, join_with_byte}
 use Rattle.std.specs.Char.{digit_char}
 use Rattle.std.specs.Fmt.{decimal}
 use Rattle.planus_demo.specs.Script.{Read, script_of}
-use Rattle.planus.specs.Runs.{Finish, nothing_shared}
+use Rattle.planus_write.specs.Shared.{all_on}
+use Rattle.planus.specs.Runs.{Finish}
 use Rattle.planus.specs.Replays.{Replays}
 use Rattle.planus.specs.Texts.{why_text}
 use Rattle.planus_demo.specs.Texts.{read_fault_text}
@@ -45,12 +46,12 @@ PrintsAnswer numbers (Err TooLarge) clean printed = (clean ≡ false)
     × (printed ≡ line_of (codes "too large"))
 PrintsAnswer numbers (Err OutOfMemory) clean printed = ⊥
 
--- what is printed of what was read of a script
+-- what is printed of what was read of a script: equal contents of every kind are written once
 abbrev pub PrintsRead : Result Read (ℕ × ReadFault) → Bool → List ℕ → Type 0
 PrintsRead (Err fault) clean printed = (clean ≡ false)
     × (printed ≡ fault_line fault.0 (read_fault_text fault.1))
 PrintsRead (Ok read) clean printed = (answer : Result (List Finish) ReplayError)
-    × Replays nothing_shared read.commands answer × PrintsAnswer read.numbers answer clean printed
+    × Replays all_on read.commands answer × PrintsAnswer read.numbers answer clean printed
 
 -- Of this input this is printed, and the script is clean, or it is at fault.
 abbrev pub Printed : List ℕ → Bool → List ℕ → Type 0

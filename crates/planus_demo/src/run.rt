@@ -9,7 +9,7 @@ ghost use Rattle.planus_demo.specs.Runner.{WritesPrinted, LeavesUnwritten, IsRea
 use crate::output::Output;
 use crate::print::answer_text;
 use crate::script::{ParseError, parse};
-use planus::replay;
+use planus::{Caches, replay};
 use std::alloc::{AllocError, Global};
 use std::io;
 use std::io::{ErrorKind, Read, Write};
@@ -54,7 +54,8 @@ fn read_script<R: Read>(alloc: Global, reader: &mut R) -> std::result::Result<Ve
     }
 }
 
-/// What is printed of an input: it is parsed, and its steps are replayed.
+/// What is printed of an input: it is parsed, and its steps are replayed, where equal contents are
+/// written once.
 fn output_of(alloc: Global, input: &[u8]) -> std::result::Result<Output, AllocError>
     ensures { IfOk result (λ output. PrintedOrOutOfMemory input.now (is_clean output)
         (printed_text output)) }
@@ -70,7 +71,7 @@ fn output_of(alloc: Global, input: &[u8]) -> std::result::Result<Output, AllocEr
             Ok(Output { clean: false, text })
         }
         Ok(script) => {
-            let answer = replay(alloc, script.steps.as_slice());
+            let answer = replay(alloc, Caches::all(), script.steps.as_slice());
             let text = answer_text(alloc, script.numbers.as_slice(), &answer)?;
             Ok(Output {
                 clean: answer.is_ok(),

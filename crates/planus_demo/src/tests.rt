@@ -4,7 +4,7 @@ mod monster;
 mod weapon;
 
 use crate::run::{RunError, run, status};
-use planus::{SliceWithStartOffset, Step, TableRead, replay};
+use planus::{Caches, SliceWithStartOffset, Step, TableRead, replay};
 use planus_exhaust::exhaust;
 use std::alloc::{AllocError, Global};
 use std::io;
@@ -26,7 +26,7 @@ const ROWS: [(&[u8], &[u8], bool); 74] = [
     ),
     (
         b"text Hi\ntext Hi\nfinish 1\n",
-        b"04 00 00 00 02 00 00 00 48 69 00 00 02 00 00 00 48 69 00\n",
+        b"04 00 00 00 02 00 00 00 48 69 00\n",
         true,
     ),
     (
@@ -163,8 +163,7 @@ const ROWS: [(&[u8], &[u8], bool); 74] = [
     ),
     (
         b"table 0=u16:24\ntable 0=u16:7\nfinish 1\n",
-        b"04 00 00 00 fa ff ff ff 07 00 06 00 06 00 04 00 \
-        fa ff ff ff 18 00 06 00 06 00 04 00\n",
+        b"04 00 00 00 f2 ff ff ff 07 00 00 00 fa ff ff ff 18 00 06 00 06 00 04 00\n",
         true,
     ),
     (b"table 0:u8=1\n", b"line 1: bad field\n", false),
@@ -328,7 +327,10 @@ fn text_reads_back(rt: HostRuntime) -> Result<(), Fail> {
     let mut steps = Vec::new(rt.alloc());
     steps.push(Step::Text(String::from_str(rt.alloc(), "Axe")?))?;
     steps.push(Step::Finish { root: 0, id: None })?;
-    let finished = replay(rt.alloc(), steps.as_slice()).expect(&rt, "a clean script");
+    let finished = replay(rt.alloc(), Caches::all(), steps.as_slice()).expect(
+        &rt,
+        "a clean script",
+    );
     assert_eq!(rt; finished.len(), 1);
     let whole = SliceWithStartOffset::new(finished[0].bytes.as_slice(), 0);
     let text = <&str as TableRead>::from_buffer(whole, 0).expect(&rt, "a text");

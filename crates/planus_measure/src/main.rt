@@ -10,11 +10,14 @@ use std::{env, io};
 use works::{OPERATIONS, Work, Works};
 
 /// All works, in the order of the table.
-const ALL: [Work; 8] = [
+const ALL: [Work; 11] = [
     Work::ShortTexts,
     Work::LongTexts,
     Work::MixedTexts,
     Work::GrowingTexts,
+    Work::DifferentTexts,
+    Work::KeptTexts,
+    Work::FoundTexts,
     Work::SmallParts,
     Work::LargeParts,
     Work::Weapons,

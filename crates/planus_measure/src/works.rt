@@ -4,7 +4,7 @@ ghost use Rattle.std.specs.Prelude.{◌≡◌, length};
 
 use planus::errors::Error;
 use planus::table_reader::Table;
-use planus::{BuildError, Builder, Fill, SliceWithStartOffset};
+use planus::{BuildError, Builder, Caches, Fill, SliceWithStartOffset};
 use std::alloc::{AllocError, Global};
 
 /// The number of operations in a round.
@@ -26,7 +26,15 @@ const NUMBERS: [u8; 44] = [
     4, 0, 6, 0, 8, 0, 10, 0, 12, 0, 14, 0, 16, 0, 18, 0,
 ];
 
-/// One kind of operation.
+/// Nothing is written once.
+const NO_CACHES: Caches = Caches {
+    vtables: false,
+    texts: false,
+    bytes: false,
+    hash_mask: 0,
+};
+
+/// One kind of operation. Where nothing else is said, the builder has no caches.
 #[derive(Clone, Copy)]
 pub enum Work {
     /// Texts of 3 bytes, in a builder with room for them.
@@ -37,6 +45,12 @@ pub enum Work {
     MixedTexts,
     /// Texts of 100 bytes, in a new builder that grows.
     GrowingTexts,
+    /// Different texts of 20 to 58 bytes, in a builder with room for them.
+    DifferentTexts,
+    /// The same in a builder with caches, which looks for each of them, and finds none.
+    KeptTexts,
+    /// Equal texts of 100 bytes in a builder with caches, which finds them.
+    FoundTexts,
     /// Parts of 8 bytes.
     SmallParts,
     /// Parts of 4096 bytes.
@@ -55,6 +69,9 @@ impl Work {
             Work::LongTexts => "texts of 100 bytes",
             Work::MixedTexts => "texts of 0 to 60 bytes",
             Work::GrowingTexts => "texts of 100 bytes, builder grows",
+            Work::DifferentTexts => "different texts of 20 to 58 bytes",
+            Work::KeptTexts => "different texts, with caches",
+            Work::FoundTexts => "equal texts of 100 bytes, with caches",
             Work::SmallParts => "write_with of 8 bytes",
             Work::LargeParts => "write_with of 4096 bytes",
             Work::Weapons => "read a root, a number and a text",
@@ -79,16 +96,24 @@ impl Fill for Sevens {
     }
 }
 
+/// The texts that are written, and the buffers that are read.
+#[derive(Drop)]
+struct Inputs {
+    short: Vec<&'static str>,
+    long: Vec<&'static str>,
+    mixed: Vec<&'static str>,
+    different: Vec<&'static str>,
+    weapons: Vec<u8>,
+    numbers: Vec<u8>,
+}
+
 /// What the works need, made once.
 #[derive(Drop)]
 pub struct Works {
     alloc: Global,
+    inputs: Inputs,
     builder: Builder,
-    short: Vec<&'static str>,
-    long: Vec<&'static str>,
-    mixed: Vec<&'static str>,
-    weapons: Vec<u8>,
-    numbers: Vec<u8>,
+    caching: Builder,
 }
 
 /// Texts whose lengths go round from `least` up to `most` bytes.
@@ -98,6 +123,17 @@ fn texts(alloc: Global, least: usize, most: usize) -> Result<Vec<&'static str>, 
     for _ in 0..OPERATIONS {
         texts.push(LETTERS.get(..len).unwrap_or(""))?;
         len = if len < most { len + 1 } else { least };
+    }
+    Ok(texts)
+}
+
+/// Texts of which no two are equal: from each of 26 letters on, and of 20 bytes and more.
+fn different_texts(alloc: Global) -> Result<Vec<&'static str>, AllocError> {
+    let mut texts = Vec::with_capacity(alloc, OPERATIONS)?;
+    for number in 0..OPERATIONS {
+        let first = number % 26;
+        let len = 20 + number / 26;
+        texts.push(LETTERS.get(first..first + len).unwrap_or(""))?;
     }
     Ok(texts)
 }
@@ -176,17 +212,27 @@ fn repeated(alloc: Global, bytes: &[u8]) -> Result<Vec<u8>, AllocError> {
     Ok(all)
 }
 
-impl Works {
-    /// A builder, and the texts that are written.
-    pub fn new(alloc: Global) -> Result<Works, BuildError> {
-        Ok(Works {
-            alloc,
-            builder: Builder::with_capacity(alloc, 1 << 23)?,
+impl Inputs {
+    fn new(alloc: Global) -> Result<Inputs, AllocError> {
+        Ok(Inputs {
             short: texts(alloc, 3, 3)?,
             long: texts(alloc, 100, 100)?,
             mixed: texts(alloc, 0, 60)?,
+            different: different_texts(alloc)?,
             weapons: repeated(alloc, &WEAPON)?,
             numbers: repeated(alloc, &NUMBERS)?,
+        })
+    }
+}
+
+impl Works {
+    /// A builder without caches and one with them, and what they write.
+    pub fn new(alloc: Global) -> Result<Works, BuildError> {
+        Ok(Works {
+            alloc,
+            inputs: Inputs::new(alloc)?,
+            builder: Builder::with_caches(alloc, 1 << 23, NO_CACHES)?,
+            caching: Builder::with_capacity(alloc, 1 << 23)?,
         })
     }
 
@@ -195,17 +241,20 @@ impl Works {
     pub fn round(&mut self, work: Work) -> Option<usize> {
         let builder = &mut self.builder;
         match work {
-            Work::ShortTexts => write_texts(builder, &self.short).ok(),
-            Work::LongTexts => write_texts(builder, &self.long).ok(),
-            Work::MixedTexts => write_texts(builder, &self.mixed).ok(),
+            Work::ShortTexts => write_texts(builder, &self.inputs.short).ok(),
+            Work::LongTexts => write_texts(builder, &self.inputs.long).ok(),
+            Work::MixedTexts => write_texts(builder, &self.inputs.mixed).ok(),
             Work::GrowingTexts => {
-                let mut builder = Builder::new(self.alloc).ok()?;
-                write_texts(&mut builder, &self.long).ok()
+                let mut builder = Builder::with_caches(self.alloc, 0, NO_CACHES).ok()?;
+                write_texts(&mut builder, &self.inputs.long).ok()
             }
+            Work::DifferentTexts => write_texts(builder, &self.inputs.different).ok(),
+            Work::KeptTexts => write_texts(&mut self.caching, &self.inputs.different).ok(),
+            Work::FoundTexts => write_texts(&mut self.caching, &self.inputs.long).ok(),
             Work::SmallParts => write_parts(builder, 8).ok(),
             Work::LargeParts => write_parts(builder, 4096).ok(),
-            Work::Weapons => read_weapons(&self.weapons).ok(),
-            Work::Numbers => read_tables(&self.numbers).ok(),
+            Work::Weapons => read_weapons(&self.inputs.weapons).ok(),
+            Work::Numbers => read_tables(&self.inputs.numbers).ok(),
         }
     }
 }

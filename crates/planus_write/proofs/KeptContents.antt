@@ -83,7 +83,7 @@ new_byte_lists content shared before distance after adds =
     (λ B k h. h)
 
 -- contents that were found were seen under their kind
-same_of : (a b : Kind) → same_kind a b ≡ true → a ≡ b
+pub same_of : (a b : Kind) → same_kind a b ≡ true → a ≡ b
 same_of texts texts e = refl
 same_of byte_lists byte_lists e = refl
 same_of vtables vtables e = refl
@@ -94,7 +94,7 @@ same_of byte_lists vtables e = (cc)
 same_of vtables texts e = (cc)
 same_of vtables byte_lists e = (cc)
 
-and_parts : (a b : Bool) → a && b ≡ true → (a ≡ true) × (b ≡ true)
+pub and_parts : (a b : Bool) → a && b ≡ true → (a ≡ true) × (b ≡ true)
 and_parts true b e = (refl, e)
 and_parts false b e = (cc)
 

@@ -1,3 +1,5 @@
+pub mod SharedContents
+pub mod ContentsInFront
 pub mod PlacedParts
 pub mod PartBytes
 pub mod Staying

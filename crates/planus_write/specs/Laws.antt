@@ -9,9 +9,10 @@ use Rattle.planus_back.specs.Padding.{promise_of}
 use Rattle.planus_write.specs.Shared.{Contents, Seen, Switches, and_seen, shared_as}
 use Rattle.planus_write.specs.Past.{Past, Entry, Adds, PutsAfter, Puts, found_before, part_after}
 use Rattle.planus_write.specs.State.{State, IsPast, Extends, Grows}
-use Rattle.planus_write.specs.Placing.{Outcome, PutsDown, WritesEntry}
+use Rattle.planus_write.specs.Placing.{Outcome, PutsDown, WritesEntry, LeftAsItWas}
 use Rattle.planus_write.specs.Preparing.{IsLawful, IsLayout, Answers, AsOffset, IsPrepared}
 use Rattle.planus_write.specs.declared.errors.BuildError.{BuildError}
+use Rattle.planus_write.specs.declared.errors.BuildError.TheVariants.{OutOfMemory, TooLarge}
 use Rattle.planus_write.specs.declared.offset.Offset.{Offset}
 
 -- what extends twice extends
@@ -51,6 +52,38 @@ unchanged_grows old new same = record {
   );
   switches = ap (λ state. state.switches) same;
 }
+
+-- more room alone changes nothing of what was written
+pub roomier_past : (old new : State) (past : Past) → new ≡ record old { room = new.room }
+    → IsPast old past → IsPast new past
+roomier_past old new past same is_past =
+    subst (λ state. IsPast state past) (sym same)
+    (record {
+      bytes = is_past.bytes;
+      described = is_past.described;
+      seen = λ kind. record {
+        fits = (is_past.seen kind).fits;
+        finds = (is_past.seen kind).finds;
+      };
+    })
+
+roomier_grows : (old new : State) → new ≡ record old { room = new.room } → Grows old new
+roomier_grows old new same = record {
+  bytes = ([], ap (λ state. state.bytes) same);
+  past = λ past is_past. (
+    past,
+    roomier_past old new past same is_past,
+    extends_itself past,
+  );
+  switches = ap (λ state. state.switches) same;
+}
+
+-- a builder that refused an entry grows by nothing
+pub left_grows : (error : BuildError) (shared : Option Contents) (old new : State)
+    → LeftAsItWas error shared old new → Grows old new
+left_grows OutOfMemory (Some contents) old new left = roomier_grows old new left.1
+left_grows OutOfMemory None old new left = unchanged_grows old new left
+left_grows TooLarge shared old new left = unchanged_grows old new left
 
 seen_more : (shared : Option Contents) (distance : ℕ) (before after : List Seen)
     → after ≡ and_seen shared distance before
@@ -123,7 +156,8 @@ reached_still distance old new grows reached =
 pub writes_entry_grows : (entry : Entry) (got : List ℕ) (old : State) (answer : Result ℕ BuildError)
     (new : State) → WritesEntry entry got old answer new → Grows old new
 writes_entry_grows entry got old (Ok distance) new done = entry_grows entry got old distance new done
-writes_entry_grows entry got old (Err error) new done = unchanged_grows old new done.unchanged
+writes_entry_grows entry got old (Err error) new done =
+    left_grows error (shared_as old.switches entry.contents) old new done.unchanged
 
 -- so it is with the distance as an offset
 pub as_offset_grows : {T : Type 0} (writes : Outcome ℕ) (old : State)

@@ -3,7 +3,9 @@ pub mod Past
 pub mod Items
 pub mod Tables
 pub mod Parts
+pub mod Backed
 pub mod State
+pub mod Sharing
 pub mod Placing
 pub mod View
 pub mod Preparing

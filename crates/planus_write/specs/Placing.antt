@@ -1,9 +1,8 @@
 -- How a builder puts down one entry.
-use Rattle.std.specs.Prelude.{◌≡◌, ℕ, ◌+◌, ◌<◌, ◌≤◌, List, [], ◌∷◌, ◌++◌, length, replicate, Option}
+use Rattle.std.specs.Prelude.{◌≡◌, ℕ, ◌+◌, ◌<◌, ◌≤◌, List, [], ◌++◌, length, Option}
 use Rattle.std.specs.Prelude.{Some, None, Result, Ok, Err, ⊤, ◌⊎◌}
-use Rattle.planus_back.specs.Descriptions.{Describes}
-use Rattle.planus_back.specs.Promises.{Promise, Keep, greatest_alignment}
-use Rattle.planus_back.specs.Padding.{greatest_place, promise_of, IsLeastPadding}
+use Rattle.planus_back.specs.Promises.{Promise}
+use Rattle.planus_back.specs.Padding.{greatest_place, IsLeastPadding}
 use Rattle.planus_back.specs.Parts.{Part}
 use Rattle.planus_write.specs.Shared.{Contents, shared_as}
 use Rattle.planus_write.specs.Past.{Past, Entry, part_after, found_before, Puts, PutsTooLarge}
@@ -64,10 +63,18 @@ RefusedFor entry got old TooLarge = (past : Past) → IsPast old past
 RefusedFor entry got old OutOfMemory = (past : Past) → IsPast old past
     → RefusedMemory entry got old past
 
--- The entry was refused, and nothing changed.
+-- How a refused entry leaves the builder, by the contents by which it is shared: as it was; but
+-- where it is shared, room may have been made for its part before its cache was refused memory.
+abbrev pub LeftAsItWas : BuildError → Option Contents → State → State → Type 0
+LeftAsItWas OutOfMemory (Some contents) old new =
+    (old.room ≤ new.room) × (new ≡ record old { room = new.room })
+LeftAsItWas OutOfMemory None old new = new ≡ old
+LeftAsItWas TooLarge shared old new = new ≡ old
+
+-- The entry was refused, and no byte, no promise and no contents that were seen have changed.
 pub record Refuses (entry : Entry) (got : List ℕ) (old : State) (error : BuildError)
     (new : State) : Type 0 where
-  pub unchanged : new ≡ old
+  pub unchanged : LeftAsItWas error (shared_as old.switches entry.contents) old new
   pub cause : RefusedFor entry got old error
 
 -- The entry was put down and got the distance that is answered, or it was refused.
@@ -79,40 +86,3 @@ WritesEntry entry got old (Err error) new = Refuses entry got old error new
 abbrev pub WritesPart : Entry → Outcome (Unit {0})
 WritesPart entry old (Ok done) new = WritesEntry entry [] old (Ok (length new.bytes)) new
 WritesPart entry old (Err error) new = WritesEntry entry [] old (Err error) new
-
--- the promises are described at the length of the builder
-abbrev pub DescribedBy : State → List Promise → Type 0
-DescribedBy state promises = Describes (length state.bytes) state.delayed state.mask promises
-
--- Padding was written, and there is room for a part of that size at the place that was answered.
-pub record MakesRoom (size alignment : ℕ) (old : State) (place : ℕ) (new : State) : Type 0 where
-  pub padding : ℕ
-  pub is_place : place ≡ length old.bytes + padding + size
-  pub below : padding < alignment
-  pub fits : place ≤ greatest_place
-  pub bytes : new.bytes ≡ replicate padding 0 ++ old.bytes
-  pub size_fits : size ≤ new.room
-  pub room : padding + size ≤ old.room → new.room + padding ≡ old.room
-  pub least : (promises : List Promise) → DescribedBy old promises
-      → IsLeastPadding (length old.bytes) promises size alignment padding
-  pub kept : (promises : List Promise) → DescribedBy old promises
-      → greatest_alignment 1 promises ≤ alignment
-      → Keep (promise_of place alignment ∷ promises) place
-  pub described : (promises : List Promise) → DescribedBy old promises
-      → Describes place new.delayed new.mask (promise_of place alignment ∷ promises)
-  pub switches : new.switches ≡ old.switches
-
--- why there is no room for a part of that size and alignment
-abbrev pub LacksRoom : ℕ → ℕ → State → BuildError → Type 0
-LacksRoom size alignment old TooLarge = (promises : List Promise) → DescribedBy old promises
-    → (padding : ℕ) × IsLeastPadding (length old.bytes) promises size alignment padding
-    × (greatest_place < length old.bytes + padding + size)
-LacksRoom size alignment old OutOfMemory = (promises : List Promise) → DescribedBy old promises
-    → (padding : ℕ) × IsLeastPadding (length old.bytes) promises size alignment padding
-    × (length old.bytes + padding + size ≤ greatest_place) × (old.room < padding + size)
-
--- Room was made for a part of that size and alignment, at the place that is answered, or it was
--- refused.
-abbrev pub Reserves : ℕ → ℕ → Outcome ℕ
-Reserves size alignment old (Ok place) new = MakesRoom size alignment old place new
-Reserves size alignment old (Err error) new = (new ≡ old) × LacksRoom size alignment old error

@@ -33,6 +33,10 @@ pub record Switches : Type 0 where
 abbrev pub all_off : Switches
 all_off = record { texts_on = false; byte_lists_on = false; vtables_on = false }
 
+-- equal contents of every kind are written once
+abbrev pub all_on : Switches
+all_on = record { texts_on = true; byte_lists_on = true; vtables_on = true }
+
 abbrev pub is_on : Switches → Kind → Bool
 is_on switches texts = switches.texts_on
 is_on switches byte_lists = switches.byte_lists_on

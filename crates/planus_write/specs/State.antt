@@ -1,23 +1,54 @@
 -- What a builder is to its callers.
-use Rattle.std.specs.Prelude.{◌≡◌, ℕ, ◌-◌, List, ◌++◌, length}
+use Rattle.std.specs.Prelude.{◌≡◌, ℕ, ◌-◌, List, ◌++◌, length, Option, Some, ◌↔◌}
+use Rattle.planus_back.specs.CacheKeys.{key_at, bytes_in, vtable_in}
+use Rattle.planus_back.specs.Caches.{Held, Has, Fits}
 use Rattle.planus_back.specs.Descriptions.{Describes}
-use Rattle.planus_write.specs.Shared.{Switches, Seen}
+use Rattle.planus_write.specs.Shared.{Kind, texts, byte_lists, vtables, Switches, Seen}
+use Rattle.planus_write.specs.Shared.{distance_seen}
 use Rattle.planus_write.specs.Past.{Past}
 use Rattle.planus_back.specs.Promises.{Promise}
 
+-- what the caches hold, one of each kind of contents
+pub record Holdings : Type 0 where
+  pub held_texts : Held
+  pub held_byte_lists : Held
+  pub held_vtables : Held
+
+abbrev pub held : Holdings → Kind → Held
+held holdings texts = holdings.held_texts
+held holdings byte_lists = holdings.held_byte_lists
+held holdings vtables = holdings.held_vtables
+
+-- how the contents of a kind are found at the front of some bytes
+abbrev pub contents_in : Kind → List ℕ → Option (List ℕ)
+contents_in texts = bytes_in
+contents_in byte_lists = bytes_in
+contents_in vtables = vtable_in
+
 -- Its bytes; the remainder and the mask that describe its promises; how many bytes fit without
--- memory; and which equal contents it writes once.
+-- memory; which equal contents it writes once; and what its caches hold of them.
 pub record State : Type 0 where
   pub bytes : List ℕ
   pub delayed : ℕ
   pub mask : ℕ
   pub room : ℕ
   pub switches : Switches
+  pub holdings : Holdings
 
--- This may be what was written: the builder has its bytes, and describes its promises.
+-- The cache of a kind fits the bytes, and finds contents there exactly where they were seen.
+pub record FindsSeen (state : State) (seen : List Seen) (kind : Kind) : Type 0 where
+  pub fits : Fits (contents_in kind) (held state.holdings kind) state.bytes
+  pub finds : (bytes : List ℕ) (distance : ℕ)
+      → (distance_seen seen (record { kind = kind; bytes = bytes }) ≡ Some distance)
+      ↔ (Has (held state.holdings kind) distance
+      × (key_at (contents_in kind) state.bytes distance ≡ Some bytes))
+
+-- This may be what was written: the builder has its bytes, describes its promises, and finds the
+-- contents that were seen.
 pub record IsPast (state : State) (past : Past) : Type 0 where
   pub bytes : past.written.bytes ≡ state.bytes
   pub described : Describes (length state.bytes) state.delayed state.mask past.written.promises
+  pub seen : (kind : Kind) → FindsSeen state past.seen kind
 
 -- All that was written is still there, and all that was promised.
 pub record Extends (before after : Past) : Type 0 where
@@ -32,8 +63,3 @@ pub record Grows (old new : State) : Type 0 where
   pub past : (past : Past) → IsPast old past → (after : Past) × IsPast new after
       × Extends past after
   pub switches : new.switches ≡ old.switches
-
--- The bytes were put in front, into the room that there was for them, and nothing else changed.
-abbrev pub PutsBytes : List ℕ → State → State → Type 0
-PutsBytes bytes old new =
-    new ≡ record old { bytes = bytes ++ old.bytes; room = old.room - length bytes }

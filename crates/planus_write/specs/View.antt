@@ -1,38 +1,66 @@
 -- What the fields of a builder say to its callers.
-use Rattle.std.specs.Prelude.{◌≡◌, ℕ, ◌+◌, ◌≤◌, ◌^◌, length, List}
-use Rattle.planus_back.specs.Promises.{Promise}
+use Rattle.std.specs.Prelude.{◌≡◌, ℕ, ◌+◌, ◌≤◌, ◌^◌, length}
 use Rattle.planus_back.specs.Padding.{greatest_place}
-use Rattle.planus_write.specs.Shared.{all_off}
-use Rattle.planus_write.specs.State.{State}
-use Rattle.planus_write.specs.Placing.{DescribedBy}
+use Rattle.planus_write.specs.Shared.{Switches}
+use Rattle.planus_write.specs.Backed.{Backed}
+use Rattle.planus_write.specs.State.{State, Holdings, IsPast}
+use Rattle.planus_write.specs.Past.{Past}
 use Rattle.planus_write.specs.declared.backing.Backing.TheInside as backing
 use Rattle.planus_write.specs.declared.builder.Builder.TheInside as builder
+use Rattle.planus_write.specs.declared.caches.Caches.{Caches}
 use Rattle.planus_write.specs.declared.table_writer.TableWriter.TheInside as table_writer
 use Rattle.planus_write.specs.TableWriting.{Writer}
 use Rattle.planus_back.specs.Promises.{IsPowerOfTwo}
 
--- the state that bytes and promises are; nothing is shared
-abbrev pub backing_state : backing.Inside → State
-backing_state a = record {
+-- the switches that caches are
+abbrev pub switches_of : Caches → Switches
+switches_of caches = record {
+  texts_on = caches.texts;
+  byte_lists_on = caches.bytes;
+  vtables_on = caches.vtables;
+}
+
+-- what is backed by bytes and promises
+abbrev pub backed_of : backing.Inside → Backed
+backed_of a = record {
   bytes = a.inner.bytes;
   delayed = a.promises.delayed;
   mask = a.promises.mask;
   room = a.inner.room;
-  switches = all_off;
 }
 
 -- no builder has more bytes than a place may be
 abbrev pub IsSmall : backing.Inside → Type 0
 IsSmall a = length a.inner.bytes ≤ greatest_place
 
--- a builder's state is that of its bytes and promises
-abbrev pub state_of : builder.Inside → State
-state_of a = a.backing
+-- the state that backed bytes are, with what is shared, and what is held of that
+abbrev pub state_from : Backed → Switches → Holdings → State
+state_from backed switches holdings = record {
+  bytes = backed.bytes;
+  delayed = backed.delayed;
+  mask = backed.mask;
+  room = backed.room;
+  switches = switches;
+  holdings = holdings;
+}
 
--- Some promises are described, and nothing is shared.
-pub record IsSound (a : builder.Inside) : Type 0 where
-  pub described : (promises : List Promise) × DescribedBy a.backing promises
-  pub off : a.backing.switches ≡ all_off
+abbrev pub state_of : builder.Inside → State
+state_of a =
+    state_from a.backing
+    (record {
+      texts_on = a.texts.on;
+      byte_lists_on = a.byte_lists.on;
+      vtables_on = a.vtables.on;
+    })
+    (record {
+      held_texts = a.texts.held;
+      held_byte_lists = a.byte_lists.held;
+      held_vtables = a.vtables.held;
+    })
+
+-- A builder always has some past.
+abbrev pub IsSound : builder.Inside → Type 0
+IsSound a = (past : Past) × IsPast (state_of a) past
 
 -- a writer of a table is its fields
 abbrev pub writer_of : {N : ℕ} → table_writer.Inside N → Writer
@@ -50,4 +78,5 @@ pub record IsWriter {N : ℕ} (a : table_writer.Inside N) : Type 0 where
   pub power : IsPowerOfTwo (a.mask + 1)
   pub bound : a.mask + 1 ≤ 2 ^ 30
   pub whole : 4 ≤ a.object_size
+  pub sizes : 4 ≤ a.vtable_size
   pub inside : 4 ≤ N → a.vtable_size ≤ N

@@ -4,6 +4,7 @@ ghost use Rattle.planus_back.specs.Promises.{Promise, IsPowerOfTwo, greatest_ali
 ghost use Rattle.planus_back.specs.Padding.{greatest_place};
 
 use crate::errors::BuildError;
+use crate::plan::Plan;
 use planus_back::{BackVec, Fill, Overwrite, Promises};
 use std::alloc::{AllocError, Global};
 use std::marker::Model;
@@ -20,21 +21,19 @@ pub(crate) struct Backing {
 }
 
 impl Model for Backing {
-    ghost use Rattle.planus_write.specs.State.{State};
+    ghost use Rattle.planus_write.specs.Backed.{Backed};
 
-    ghost Value = { State };
+    ghost Value = { Backed };
 
-    ghost use Rattle.planus_write.specs.View.{backing_state, IsSmall};
+    ghost use Rattle.planus_write.specs.View.{backed_of, IsSmall};
 
-    ghost view = { backing_state };
+    ghost view = { backed_of };
 
     ghost invariant = { IsSmall };
 }
 
 impl Backing {
-    ghost use Rattle.planus_write.specs.Shared.{all_off};
-    ghost use Rattle.planus_write.specs.State.{PutsBytes};
-    ghost use Rattle.planus_write.specs.Placing.{DescribedBy, Reserves};
+    ghost use Rattle.planus_write.specs.Backed.{DescribedBy, PutsBytes, Reserves, Pads, Begins};
 
     // No bytes, and room for so many.
     pub(crate) fn with_capacity(
@@ -44,7 +43,6 @@ impl Backing {
         ensures bytes { IfOk result (λ backing. backing.bytes ≡ []) }
         ensures room { IfOk result (λ backing. capacity ≤ backing.room) }
         ensures described { IfOk result (λ backing. DescribedBy backing []) }
-        ensures switches { IfOk result (λ backing. backing.switches ≡ all_off) }
     {
         let inner = BackVec::with_capacity(alloc, capacity)?;
         Ok(Backing {
@@ -65,7 +63,8 @@ impl Backing {
     // The bytes.
     #[inline]
     pub(crate) fn as_slice(&self) -> &[u8]
-        ensures { result.now ≡ self.now.bytes }
+        ensures bytes { result.now ≡ self.now.bytes }
+        ensures small { length self.now.bytes ≤ greatest_place }
     {
         self.inner.as_slice()
     }
@@ -83,10 +82,41 @@ impl Backing {
         ensures bytes { self.new.bytes ≡ [] }
         ensures room { self.new.room ≡ length self.old.bytes + self.old.room }
         ensures described { DescribedBy self.new [] }
-        ensures switches { self.new.switches ≡ self.old.switches }
     {
         self.inner.clear();
         self.promises = Promises::new();
+    }
+
+    // Room for a part of `size` bytes and for the padding behind it. Nothing else is changed.
+    #[inline]
+    pub(crate) fn reserve(
+        &mut self,
+        size: usize,
+        mask: usize,
+    ) -> std::result::Result<Plan, BuildError>
+        requires power { IsPowerOfTwo (mask + 1) }
+        requires bound { mask + 1 ≤ 2 ^ 30 }
+        ensures { Reserves size (mask + 1) self.old result self.new }
+    {
+        let len = self.inner.len();
+        let (promises, padding) = self.promises.request(len, size, mask)?;
+        self.inner.reserve(padding + size)?;
+        Ok(Plan {
+            promises,
+            padding,
+            place: (len + padding + size) as u32,
+        })
+    }
+
+    // The padding behind a part that is planned, and the promise of its place.
+    #[inline]
+    pub(crate) fn pad(&mut self, plan: &Plan)
+        requires room { plan.now.padding ≤ self.old.room }
+        requires fits { plan.now.padding + length self.old.bytes ≤ greatest_place }
+        ensures { Pads plan.now self.old self.new }
+    {
+        self.inner.put_zeros(plan.padding);
+        self.promises = plan.promises;
     }
 
     // Room for a part of `size` bytes, and the padding behind it. Returns the part's place.
@@ -98,14 +128,11 @@ impl Backing {
     ) -> std::result::Result<u32, BuildError>
         requires power { IsPowerOfTwo (mask + 1) }
         requires bound { mask + 1 ≤ 2 ^ 30 }
-        ensures { Reserves size (mask + 1) self.old result self.new }
+        ensures { Begins size (mask + 1) self.old result self.new }
     {
-        let len = self.inner.len();
-        let (promises, padding) = self.promises.request(len, size, mask)?;
-        self.inner.reserve(padding + size)?;
-        self.inner.put_zeros(padding);
-        self.promises = promises;
-        Ok((len + padding + size) as u32)
+        let plan = self.reserve(size, mask)?;
+        self.pad(&plan);
+        Ok(plan.place)
     }
 
     // Bytes for which there is room.

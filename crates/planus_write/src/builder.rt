@@ -1,25 +1,36 @@
 //! The builder.
-ghost use Rattle.std.specs.Prelude.{◌≡◌, ◌+◌, ◌≤◌, ◌^◌, [], length, IsTrue, ◌↔◌, IfOk, IfErr, ℕ};
+ghost use Rattle.std.specs.Prelude.{◌≡◌, ◌+◌, ◌≤◌, ◌^◌, [], length, IsTrue, ◌↔◌, IfOk, IfErr, ℕ, Some};
 ghost use Rattle.std.specs.Prelude.{pos, ◌-ℤ◌};
 ghost use Rattle.std.specs.Int.{w32, to_le_bytes, cast_unsigned};
 ghost use Rattle.planus_back.specs.Promises.{IsPowerOfTwo};
 ghost use Rattle.planus_back.specs.Padding.{greatest_place};
+ghost use Rattle.planus_back.specs.CacheKeys.{vtable_in};
 ghost use Rattle.planus_write.specs.Parts.{identifier_bytes};
 
 use crate::backing::{Backing, WORD_MASK};
-use crate::byte_lists::{ByteItems, Copied};
+use crate::byte_lists::{ByteItems, ByteList, Copied};
+use crate::caches::Caches;
 use crate::errors::BuildError;
 use crate::offset::{List, Offset, Text};
+use crate::sharing::{Sharing, start};
+use crate::start::Start;
 use crate::traits::{Primitive, WriteAsOffset, WriteAsUnionVector};
 use crate::union_vector_offset::UnionVectorOffset;
-use planus_back::{Fill, Overwrite};
+use planus_back::{ByteVec, Fill, Overwrite, VTable};
 use std::alloc::Global;
 use std::marker::Model;
 
 /// Writes flatbuffers from the back, and names each value by its distance from the end.
+///
+/// Equal texts, byte lists and vtables are written once, as far as its [`Caches`] say: the second
+/// one since the last clear gets the distance of the first. Nothing is written then, and no memory
+/// is taken.
 #[derive(Debug, Drop)]
 pub struct Builder {
     backing: Backing,
+    texts: Sharing<ByteVec>,
+    byte_lists: Sharing<ByteVec>,
+    vtables: Sharing<VTable>,
 }
 
 impl Model for Builder {
@@ -36,34 +47,54 @@ impl Model for Builder {
 
 impl Builder {
     ghost use Rattle.std.specs.Borrow.{sem};
-    ghost use Rattle.planus_write.specs.Shared.{all_off};
+    ghost use Rattle.planus_write.specs.Shared.{all_on};
     ghost use Rattle.planus_write.specs.Past.{Past, no_past, just};
     ghost use Rattle.planus_write.specs.Parts.{filled_part, count_part};
     ghost use Rattle.planus_write.specs.Tables.{vtable_entry, word_part};
     ghost use Rattle.planus_write.specs.State.{IsPast};
+    ghost use Rattle.planus_write.specs.View.{switches_of};
     ghost use Rattle.planus_write.specs.Placing.{WritesEntry, WritesPart};
     ghost use Rattle.planus_write.specs.Preparing.{WritesText, WritesByteList};
     ghost use Rattle.planus_write.specs.Finishing.{EndsAs, FinishGives, FinishLeaves, WritesRoot};
 
-    /// An empty builder; [`BuildError::OutOfMemory`] where memory is refused.
+    /// An empty builder, which writes equal texts, byte lists and vtables once;
+    /// [`BuildError::OutOfMemory`] where memory is refused.
     pub fn new(alloc: Global) -> std::result::Result<Builder, BuildError>
         ensures past { IfOk result (λ builder. IsPast builder no_past) }
-        ensures switches { IfOk result (λ builder. builder.switches ≡ all_off) }
+        ensures switches { IfOk result (λ builder. builder.switches ≡ all_on) }
         ensures error { IfErr result (λ error. error ≡ BuildError.OutOfMemory) }
     {
         Builder::with_capacity(alloc, 0)
     }
 
-    /// An empty builder with room for `capacity` bytes; [`BuildError::OutOfMemory`] where memory is
-    /// refused.
+    /// The same with room for `capacity` bytes.
     pub fn with_capacity(alloc: Global, capacity: usize) -> std::result::Result<Builder, BuildError>
         ensures past { IfOk result (λ builder. IsPast builder no_past) }
         ensures room { IfOk result (λ builder. capacity ≤ builder.room) }
-        ensures switches { IfOk result (λ builder. builder.switches ≡ all_off) }
+        ensures switches { IfOk result (λ builder. builder.switches ≡ all_on) }
         ensures error { IfErr result (λ error. error ≡ BuildError.OutOfMemory) }
     {
-        let backing = Backing::with_capacity(alloc, capacity)?;
-        Ok(Builder { backing })
+        Builder::with_caches(alloc, capacity, Caches::all())
+    }
+
+    /// An empty builder with room for `capacity` bytes, which writes equal contents once where
+    /// `caches` says so; [`BuildError::OutOfMemory`] where memory is refused.
+    pub fn with_caches(
+        alloc: Global,
+        capacity: usize,
+        caches: Caches,
+    ) -> std::result::Result<Builder, BuildError>
+        ensures past { IfOk result (λ builder. IsPast builder no_past) }
+        ensures room { IfOk result (λ builder. capacity ≤ builder.room) }
+        ensures switches { IfOk result (λ builder. builder.switches ≡ switches_of caches) }
+        ensures error { IfErr result (λ error. error ≡ BuildError.OutOfMemory) }
+    {
+        Ok(Builder {
+            backing: Backing::with_capacity(alloc, capacity)?,
+            texts: Sharing::new(alloc, caches.texts, caches.hash_mask)?,
+            byte_lists: Sharing::new(alloc, caches.bytes, caches.hash_mask)?,
+            vtables: Sharing::new(alloc, caches.vtables, caches.hash_mask)?,
+        })
     }
 
     /// The number of bytes.
@@ -115,14 +146,17 @@ impl Builder {
         let _backing = &self.backing;
     }
 
-    /// Takes all bytes and promises away. The memory is kept, so that there is room for as many
-    /// bytes more.
+    /// Takes all bytes and promises away, and forgets which contents were written. The memory of
+    /// the bytes is kept, so that there is room for as many bytes more.
     pub fn clear(&mut self)
         ensures past { IsPast self.new no_past }
         ensures room { self.new.room ≡ length self.old.bytes + self.old.room }
         ensures switches { self.new.switches ≡ self.old.switches }
     {
         self.backing.clear();
+        self.texts.clear();
+        self.byte_lists.clear();
+        self.vtables.clear();
     }
 
     // A text as one part.
@@ -131,10 +165,21 @@ impl Builder {
         ensures { WritesText text.now self.old result self.new }
     {
         let bytes = text.as_bytes();
-        let place = self.backing.make_room(bytes.len() + 5, WORD_MASK)?;
-        self.backing
-            .put_three(&(bytes.len() as u32).to_le_bytes(), bytes, &[0]);
-        Ok(Offset::at(place))
+        let size = bytes.len() + 5;
+        match start(
+            &mut self.backing,
+            &mut self.texts,
+            &ByteList(bytes),
+            size,
+            WORD_MASK,
+        )? {
+            Start::Found(distance) => Ok(Offset::at(distance)),
+            Start::Begun(place) => {
+                self.backing
+                    .put_three(&(bytes.len() as u32).to_le_bytes(), bytes, &[0]);
+                Ok(Offset::at(place))
+            }
+        }
     }
 
     // One part of `size` bytes, all of which the writer writes. Answers its place.
@@ -167,11 +212,21 @@ impl Builder {
         ensures { WritesByteList (L.bytes_of list.now) self.old result self.new }
     {
         let count = list.count();
-        let place = self.backing.make_room(count + 4, WORD_MASK)?;
-        self.backing
-            .put_overwritten(place - 4, count, &Copied { items: list });
-        self.backing.put(&(count as u32).to_le_bytes());
-        Ok(Offset::at(place))
+        match start(
+            &mut self.backing,
+            &mut self.byte_lists,
+            list,
+            count + 4,
+            WORD_MASK,
+        )? {
+            Start::Found(distance) => Ok(Offset::at(distance)),
+            Start::Begun(place) => {
+                self.backing
+                    .put_overwritten(place - 4, count, &Copied { items: list });
+                self.backing.put(&(count as u32).to_le_bytes());
+                Ok(Offset::at(place))
+            }
+        }
     }
 
     // The count of a list, right in front of its items.
@@ -184,13 +239,24 @@ impl Builder {
         Ok(place)
     }
 
-    // A vtable as one part.
+    // A vtable as one part. Its own size stands in front.
     pub(crate) fn write_vtable(&mut self, bytes: &[u8]) -> std::result::Result<u32, BuildError>
+        requires { vtable_in bytes.now ≡ Some bytes.now }
         ensures { WritesEntry (vtable_entry bytes.now) [] self.old result self.new }
     {
-        let place = self.backing.make_room(bytes.len(), 1)?;
-        self.backing.put(bytes);
-        Ok(place)
+        match start(
+            &mut self.backing,
+            &mut self.vtables,
+            &ByteList(bytes),
+            bytes.len(),
+            1,
+        )? {
+            Start::Found(distance) => Ok(distance),
+            Start::Begun(place) => {
+                self.backing.put(bytes);
+                Ok(place)
+            }
+        }
     }
 
     // The word of a table, right in front of its body, which leads to the vtable at this distance.
@@ -241,12 +307,14 @@ impl Builder {
     }
 
     /// Writes a text: one part of a count of 4 bytes, its bytes and a zero byte, aligned to 4
-    /// bytes. Answers its offset. Nothing is written for an offset; it must be one that this
-    /// builder answered since the last clear.
+    /// bytes. Answers its offset. Nothing is written for an offset, which must be one that this
+    /// builder answered since the last clear, nor where an equal text is found that was written
+    /// since then.
     ///
     /// [`BuildError::TooLarge`] where the part's place would be above 2147483647 bytes from the
     /// end; [`BuildError::OutOfMemory`] where it doesn't fit [`Builder::room`] and memory is
-    /// refused. Then nothing is changed.
+    /// refused, or memory to find the text again is. Then no byte and no promise is changed, and
+    /// the same texts are found as before.
     pub fn create_string<X: WriteAsOffset<Text> + Drop>(
         &mut self,
         value: X,
@@ -259,13 +327,14 @@ impl Builder {
 
     /// Writes a list: the items are prepared in order and written as one part, aligned as they are
     /// but at least to 4 bytes, and then the count of 4 bytes in front of them; or a byte list, as
-    /// one part of a count and the bytes. Answers its offset. Nothing is written for an offset; each
-    /// offset that is handed in must be one that this builder answered since the last clear.
+    /// one part of a count and the bytes, unless an equal byte list is found. Answers its offset.
+    /// Nothing is written for an offset; each offset that is handed in must be one that this builder
+    /// answered since the last clear.
     ///
     /// [`BuildError::TooLarge`] where a part's place would be above 2147483647 bytes from the end;
     /// [`BuildError::OutOfMemory`] where memory for the prepared items is refused, or a part doesn't
-    /// fit [`Builder::room`] and memory is refused. What was written before the refused write stays,
-    /// and nothing after it is begun.
+    /// fit [`Builder::room`] and memory is refused, or memory to find a byte list again is. What was
+    /// written before the refused write stays, and nothing after it is begun.
     pub fn create_vector<P: Primitive, X: WriteAsOffset<List<P>> + Drop>(
         &mut self,
         list: X,

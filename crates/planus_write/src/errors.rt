@@ -3,8 +3,8 @@
 use planus_back::TooLarge;
 use std::alloc::AllocError;
 
-/// Why a write is refused. A refused placement leaves bytes and promises as they were; what was
-/// written before it stays.
+/// Why a write is refused. A refused placement leaves bytes, promises and what the caches find as
+/// they were; what was written before it stays.
 #[derive(Clone, Copy, Debug, PartialEq, Eq)]
 pub enum BuildError {
     /// Memory was refused.

@@ -110,8 +110,8 @@ impl<const N: usize> TableWriter<N> {
         self.mask = self.mask.max(P::ALIGNMENT - 1);
     }
 
-    /// Writes the table: its vtable, the fields that the filler writes, and the word in front of
-    /// them by which they lead to the vtable. The table is then what was written last:
+    /// Writes the table: its vtable, unless an equal one is found, the fields that the filler
+    /// writes, and the word in front of them by which they lead to the vtable. The table is then what was written last:
     /// [`Builder::current_offset`].
     ///
     /// `N` is at least 4, the filler writes as many bytes as were declared, and what it refers to

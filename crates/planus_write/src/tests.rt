@@ -6,6 +6,7 @@ ghost use Rattle.planus_write.specs.Unions.{union_reach};
 use crate::builder::Builder;
 use crate::by_ref::ByRef;
 use crate::byte_lists::{ByteList, SignedList};
+use crate::caches::Caches;
 use crate::errors::BuildError;
 use crate::object_writer::{ObjectFill, ObjectWriter};
 use crate::offset::{List, Offset, Text};
@@ -17,6 +18,7 @@ use crate::union_offset::UnionOffset;
 use crate::union_vector_offset::UnionVectorOffset;
 use planus_back::Fill;
 use std::alloc::{AllocError, Global};
+use std::process::Abort;
 use std::test::Fail;
 
 // Leaves one byte over and over, as often as there is room.
@@ -34,6 +36,9 @@ impl Fill for Repeated {
         bytes.fill(self.byte);
     }
 }
+
+// The tests lend their builders to functions of their own: a function that owns a builder is proved
+// slowly.
 
 // Finishes with a value of before, which the builder still has.
 fn finish_with<T>(
@@ -57,21 +62,25 @@ fn prepared<T, X: WriteAsOffset<T>>(
     value.prepare(builder)
 }
 
-#[test]
-fn texts(rt: HostRuntime) -> Result<(), Fail> {
+fn texts_in(rt: &impl Abort, builder: &mut Builder) -> Result<(), Fail> {
     let axe = b"\x04\0\0\0\x03\0\0\0Axe\0".as_slice();
-    let mut builder = Builder::new(rt.alloc())?;
     assert_eq!(rt; builder.finish("Axe", None)?, axe);
     builder.clear();
     let text = builder.create_string("Axe")?;
-    assert_eq!(rt; finish_with(&mut builder, text, None)?, axe);
+    assert_eq!(rt; finish_with(builder, text, None)?, axe);
     let again = b"\x08\0\0\0\x04\0\0\0\x03\0\0\0Axe\0".as_slice();
-    assert_eq!(rt; finish_with(&mut builder, text, None)?, again);
+    assert_eq!(rt; finish_with(builder, text, None)?, again);
     builder.clear();
     let text = builder.create_string("Axe")?;
     let named = b"\x08\0\0\0TEST\x03\0\0\0Axe\0".as_slice();
-    assert_eq!(rt; finish_with(&mut builder, text, Some(*b"TEST"))?, named);
+    assert_eq!(rt; finish_with(builder, text, Some(*b"TEST"))?, named);
     Ok(())
+}
+
+#[test]
+fn texts(rt: HostRuntime) -> Result<(), Fail> {
+    let mut builder = Builder::new(rt.alloc())?;
+    texts_in(&rt, &mut builder)
 }
 
 // A text of `count` letters, one after another.
@@ -83,46 +92,90 @@ fn letters(alloc: Global, count: usize) -> Result<String, AllocError> {
     Ok(text)
 }
 
-#[test]
-fn a_text_of_one_mebibyte(rt: HostRuntime) -> Result<(), Fail> {
-    let alloc = rt.alloc();
+fn a_text_of_one_mebibyte_in(
+    rt: &impl Abort,
+    alloc: Global,
+    builder: &mut Builder,
+) -> Result<(), Fail> {
     let text = letters(alloc, 1048576)?;
     let mut want: Vec<u8> = Vec::new(alloc);
     want.extend_from_slice(b"\x0c\0\0\0\x02\0\0\0Hi\0\0\0\0\x10\0")?;
     want.extend_from_slice(text.as_bytes())?;
     want.push(0)?;
-    let mut builder = Builder::new(alloc)?;
     let root = builder.create_string(text.as_str())?;
     builder.create_string("Hi")?;
-    let bytes = finish_with(&mut builder, root, None)?;
+    let bytes = finish_with(builder, root, None)?;
     assert_eq!(rt; bytes.len(), 1048593);
     assert!(rt; bytes == want.as_slice(), "the bytes");
     Ok(())
 }
 
 #[test]
-fn a_text_twice(rt: HostRuntime) -> Result<(), Fail> {
+fn a_text_of_one_mebibyte(rt: HostRuntime) -> Result<(), Fail> {
     let mut builder = Builder::new(rt.alloc())?;
-    let first = prepared::<Text, &str>(&mut builder, &"Hi")?;
+    a_text_of_one_mebibyte_in(&rt, rt.alloc(), &mut builder)
+}
+
+// Which of the kinds are written once, with the bits of hashes that are used.
+fn caches(texts: bool, bytes: bool, vtables: bool, hash_mask: u64) -> Caches {
+    Caches {
+        vtables,
+        texts,
+        bytes,
+        hash_mask,
+    }
+}
+
+fn text_twice(rt: &impl Abort, builder: &mut Builder, on: bool) -> Result<(), Fail> {
+    let first = prepared::<Text, &str>(builder, &"Hi")?;
     assert_eq!(rt; (first.distance(), builder.len()), (7, 7));
     let second = builder.create_string("Hi")?;
-    assert_eq!(rt; (second.distance(), builder.len()), (15, 15));
-    let last = builder.current_offset::<Text>();
-    let same = prepared::<Text, Offset<Text>>(&mut builder, &last)?;
-    assert_eq!(rt; (same.distance(), builder.len()), (15, 15));
+    let want = if on { (7, 7) } else { (15, 15) };
+    assert_eq!(rt; (second.distance(), builder.len()), want);
+    builder.clear();
+    builder.create_string("Hi")?;
+    let other = builder.create_string("Ho")?;
+    assert_eq!(rt; (other.distance(), builder.len()), (15, 15));
+    let third = builder.create_string("Hi")?;
+    let want = if on { (7, 15) } else { (23, 23) };
+    assert_eq!(rt; (third.distance(), builder.len()), want);
     Ok(())
 }
 
 #[test]
-fn each_call(rt: HostRuntime) -> Result<(), Fail> {
-    let mut builder = Builder::with_capacity(rt.alloc(), 64)?;
+fn a_text_twice(rt: HostRuntime) -> Result<(), Fail> {
+    for (on, mask) in [(true, u64::MAX), (true, 0), (false, u64::MAX)] {
+        let mut builder = Builder::with_caches(rt.alloc(), 0, caches(on, true, true, mask))?;
+        text_twice(&rt, &mut builder, on)?;
+    }
+    Ok(())
+}
+
+fn byte_lists_and_texts_are_apart_in(rt: &impl Abort, builder: &mut Builder) -> Result<(), Fail> {
+    let list = builder.create_vector::<u8, ByteList<'_>>(ByteList(b"Axe"))?;
+    let text = builder.create_string("Axe")?;
+    assert_eq!(rt; (list.distance(), text.distance()), (7, 15));
+    builder.clear();
+    let bytes = builder.create_vector::<u8, ByteList<'_>>(ByteList(&[72, 105]))?;
+    let signed = builder.create_vector::<i8, SignedList<'_>>(SignedList(&[72, 105]))?;
+    assert_eq!(rt; (bytes.distance(), signed.distance()), (6, 6));
+    Ok(())
+}
+
+#[test]
+fn byte_lists_and_texts_are_apart(rt: HostRuntime) -> Result<(), Fail> {
+    let mut builder = Builder::new(rt.alloc())?;
+    byte_lists_and_texts_are_apart_in(&rt, &mut builder)
+}
+
+fn each_call_in(rt: &impl Abort, alloc: Global, builder: &mut Builder) -> Result<(), Fail> {
     assert_eq!(rt;
         (builder.len(), builder.is_empty(), builder.room()),
         (0, true, 64)
     );
     builder.write_with(5, 0, &Repeated { byte: 7 })?;
     assert_eq!(rt; builder.as_slice(), [7u8; 5].as_slice());
-    let text = format!(in rt.alloc(); "{builder:?}")?;
+    let text = format!(in alloc; "{builder:?}")?;
     assert!(rt;
         text.as_str()
             .starts_with("Builder { backing: Backing { inner: [7, 7, 7, 7, 7]"),
@@ -141,6 +194,12 @@ fn each_call(rt: HostRuntime) -> Result<(), Fail> {
         (0, true, 64)
     );
     Ok(())
+}
+
+#[test]
+fn each_call(rt: HostRuntime) -> Result<(), Fail> {
+    let mut builder = Builder::with_capacity(rt.alloc(), 64)?;
+    each_call_in(&rt, rt.alloc(), &mut builder)
 }
 
 // Writes a value in place at distance 20, of which only the bound is known.
@@ -199,16 +258,14 @@ fn masks_are_one_less_than_alignments(rt: HostRuntime) -> Result<(), Fail> {
     Ok(())
 }
 
-#[test]
-fn lists_of_numbers(rt: HostRuntime) -> Result<(), Fail> {
-    let mut builder = Builder::new(rt.alloc())?;
-    let bytes = list_of::<bool, bool>(&mut builder, &[true, false, true])?;
+fn lists_of_numbers_in(rt: &impl Abort, builder: &mut Builder) -> Result<(), Fail> {
+    let bytes = list_of::<bool, bool>(builder, &[true, false, true])?;
     assert_eq!(rt; bytes, [4u8, 0, 0, 0, 3, 0, 0, 0, 1, 0, 1].as_slice());
     builder.clear();
-    let bytes = list_of::<i16, i16>(&mut builder, &[-2])?;
+    let bytes = list_of::<i16, i16>(builder, &[-2])?;
     assert_eq!(rt; bytes, [4u8, 0, 0, 0, 1, 0, 0, 0, 0xfe, 0xff].as_slice());
     builder.clear();
-    let bytes = list_of::<i32, ByRef<'_, i32>>(&mut builder, &[ByRef(&-2)])?;
+    let bytes = list_of::<i32, ByRef<'_, i32>>(builder, &[ByRef(&-2)])?;
     assert_eq!(rt;
         bytes,
         [4u8, 0, 0, 0, 1, 0, 0, 0, 0xfe, 0xff, 0xff, 0xff].as_slice()
@@ -216,20 +273,28 @@ fn lists_of_numbers(rt: HostRuntime) -> Result<(), Fail> {
     builder.clear();
     builder.create_string("Hi")?;
     let wide = b"\x04\0\0\0\x01\0\0\0\x01\0\0\0\0\0\0\0\x02\0\0\0Hi\0".as_slice();
-    assert_eq!(rt; list_of::<u64, u64>(&mut builder, &[1])?, wide);
+    assert_eq!(rt; list_of::<u64, u64>(builder, &[1])?, wide);
     builder.clear();
     builder.create_string("Hi")?;
     let array = builder.create_vector::<u64, [u64; 1]>([1])?;
-    assert_eq!(rt; finish_with(&mut builder, array, None)?, wide);
+    assert_eq!(rt; finish_with(builder, array, None)?, wide);
     builder.clear();
-    let none = list_of::<u32, u32>(&mut builder, &[])?;
+    let none = list_of::<u32, u32>(builder, &[])?;
     assert_eq!(rt; none, [4u8, 0, 0, 0, 0, 0, 0, 0].as_slice());
     Ok(())
 }
 
 #[test]
-fn a_list_of_a_thousand_numbers(rt: HostRuntime) -> Result<(), Fail> {
-    let alloc = rt.alloc();
+fn lists_of_numbers(rt: HostRuntime) -> Result<(), Fail> {
+    let mut builder = Builder::new(rt.alloc())?;
+    lists_of_numbers_in(&rt, &mut builder)
+}
+
+fn a_list_of_a_thousand_numbers_in(
+    rt: &impl Abort,
+    alloc: Global,
+    builder: &mut Builder,
+) -> Result<(), Fail> {
     let mut items: Vec<u16> = Vec::new(alloc);
     let mut want: Vec<u8> = Vec::new(alloc);
     want.extend_from_slice(b"\x04\0\0\0\xe8\x03\0\0")?;
@@ -238,35 +303,35 @@ fn a_list_of_a_thousand_numbers(rt: HostRuntime) -> Result<(), Fail> {
         want.push((index % 256) as u8)?;
         want.push((index / 256) as u8)?;
     }
-    let mut builder = Builder::new(alloc)?;
     let list = builder.create_vector::<u16, Vec<u16>>(items)?;
-    let bytes = finish_with(&mut builder, list, None)?;
+    let bytes = finish_with(builder, list, None)?;
     assert!(rt; bytes == want.as_slice(), "the bytes");
     Ok(())
 }
 
 #[test]
-fn lists_of_texts(rt: HostRuntime) -> Result<(), Fail> {
-    let alloc = rt.alloc();
+fn a_list_of_a_thousand_numbers(rt: HostRuntime) -> Result<(), Fail> {
+    let mut builder = Builder::new(rt.alloc())?;
+    a_list_of_a_thousand_numbers_in(&rt, rt.alloc(), &mut builder)
+}
+
+fn lists_of_texts_in(rt: &impl Abort, alloc: Global, builder: &mut Builder) -> Result<(), Fail> {
     let texts =
         b"\x04\0\0\0\x02\0\0\0\x10\0\0\0\x04\0\0\0\x01\0\0\0B\0\0\0\x01\0\0\0A\0".as_slice();
-    let mut builder = Builder::new(alloc)?;
-    assert_eq!(rt;
-        list_of::<Offset<Text>, &str>(&mut builder, &["A", "B"])?,
-        texts
-    );
+    assert_eq!(rt; list_of::<Offset<Text>, &str>(builder, &["A", "B"])?, texts);
     builder.clear();
     let owned = [String::from_str(alloc, "A")?, String::from_str(alloc, "B")?];
-    assert_eq!(rt;
-        list_of::<Offset<Text>, String>(&mut builder, &owned)?,
-        texts
-    );
+    assert_eq!(rt; list_of::<Offset<Text>, String>(builder, &owned)?, texts);
     Ok(())
 }
 
 #[test]
-fn lists_of_bytes(rt: HostRuntime) -> Result<(), Fail> {
+fn lists_of_texts(rt: HostRuntime) -> Result<(), Fail> {
     let mut builder = Builder::new(rt.alloc())?;
+    lists_of_texts_in(&rt, rt.alloc(), &mut builder)
+}
+
+fn lists_of_bytes_in(rt: &impl Abort, builder: &mut Builder) -> Result<(), Fail> {
     let bytes = builder.create_vector::<u8, ByteList<'_>>(ByteList(b"Axe"))?;
     let text = builder.create_string("Axe")?;
     assert_eq!(rt; (bytes.distance(), text.distance()), (7, 15));
@@ -275,8 +340,8 @@ fn lists_of_bytes(rt: HostRuntime) -> Result<(), Fail> {
         b"\x03\0\0\0Axe\0\x03\0\0\0Axe".as_slice()
     );
     builder.clear();
-    let bytes = prepared::<List<u8>, ByteList<'_>>(&mut builder, &ByteList(&[72, 105]))?;
-    let signed = prepared::<List<i8>, SignedList<'_>>(&mut builder, &SignedList(&[72, -2]))?;
+    let bytes = prepared::<List<u8>, ByteList<'_>>(builder, &ByteList(&[72, 105]))?;
+    let signed = prepared::<List<i8>, SignedList<'_>>(builder, &SignedList(&[72, -2]))?;
     assert_eq!(rt; (bytes.distance(), signed.distance()), (6, 14));
     assert_eq!(rt;
         builder.as_slice(),
@@ -286,24 +351,27 @@ fn lists_of_bytes(rt: HostRuntime) -> Result<(), Fail> {
 }
 
 #[test]
-fn wrapped_values(rt: HostRuntime) -> Result<(), Fail> {
-    let alloc = rt.alloc();
-    let mut builder = Builder::new(alloc)?;
+fn lists_of_bytes(rt: HostRuntime) -> Result<(), Fail> {
+    let mut builder = Builder::new(rt.alloc())?;
+    lists_of_bytes_in(&rt, &mut builder)
+}
+
+fn wrapped_values_in(rt: &impl Abort, alloc: Global, builder: &mut Builder) -> Result<(), Fail> {
     let boxed = Box::new(alloc, "Hi")?;
+    assert_eq!(rt; prepared::<Text, Box<&str>>(builder, &boxed)?.distance(), 7);
     assert_eq!(rt;
-        prepared::<Text, Box<&str>>(&mut builder, &boxed)?.distance(),
-        7
-    );
-    assert_eq!(rt;
-        prepared::<Text, ByRef<'_, &str>>(&mut builder, &ByRef(&"Hi"))?.distance(),
+        prepared::<Text, ByRef<'_, &str>>(builder, &ByRef(&"Ho"))?.distance(),
         15
     );
-    let owned = String::from_str(alloc, "Hi")?;
-    assert_eq!(rt;
-        prepared::<Text, String>(&mut builder, &owned)?.distance(),
-        23
-    );
+    let owned = String::from_str(alloc, "Ha")?;
+    assert_eq!(rt; prepared::<Text, String>(builder, &owned)?.distance(), 23);
     Ok(())
+}
+
+#[test]
+fn wrapped_values(rt: HostRuntime) -> Result<(), Fail> {
+    let mut builder = Builder::new(rt.alloc())?;
+    wrapped_values_in(&rt, rt.alloc(), &mut builder)
 }
 
 // The union of a tag and a text.
@@ -345,21 +413,18 @@ fn are_written(builder: &Builder, first: UnionOffset<()>, second: UnionOffset<()
         && second.offset().distance() as usize <= builder.len()
 }
 
-#[test]
-fn lists_of_unions(rt: HostRuntime) -> Result<(), Fail> {
-    let alloc = rt.alloc();
-    let mut builder = Builder::new(alloc)?;
+fn lists_of_unions_in(rt: &impl Abort, builder: &mut Builder) -> Result<(), Fail> {
     let no_unions: [UnionOffset<()>; 0] = [];
-    assert_eq!(rt; union_list(&mut builder, no_unions)?, (4, 8));
+    assert_eq!(rt; union_list(builder, no_unions)?, (4, 8));
     assert_eq!(rt; builder.as_slice(), b"\0\0\0\0\0\0\0\0".as_slice());
     builder.clear();
-    let first = tagged(&mut builder, 1, "A")?;
-    let second = tagged(&mut builder, 2, "B")?;
-    if !are_written(&builder, first, second) {
+    let first = tagged(builder, 1, "A")?;
+    let second = tagged(builder, 2, "B")?;
+    if !are_written(builder, first, second) {
         return Err(Fail::new("the builder has no such values"));
     }
     assert_eq!(rt; first.tag(), 1);
-    assert_eq!(rt; union_list(&mut builder, [first, second])?, (26, 34));
+    assert_eq!(rt; union_list(builder, [first, second])?, (26, 34));
     let bytes =
         b"\x02\0\0\0\x01\x02\0\0\x02\0\0\0\x10\0\0\0\x04\0\0\0\x01\0\0\0B\0\0\0\x01\0\0\0A\0";
     assert_eq!(rt; builder.as_slice(), bytes.as_slice());
@@ -367,16 +432,25 @@ fn lists_of_unions(rt: HostRuntime) -> Result<(), Fail> {
 }
 
 #[test]
-fn wrapped_unions(rt: HostRuntime) -> Result<(), Fail> {
-    let alloc = rt.alloc();
-    let mut builder = Builder::new(alloc)?;
-    let union = tagged(&mut builder, 7, "A")?;
-    if !are_written(&builder, union, union) {
+fn lists_of_unions(rt: HostRuntime) -> Result<(), Fail> {
+    let mut builder = Builder::new(rt.alloc())?;
+    lists_of_unions_in(&rt, &mut builder)
+}
+
+fn wrapped_unions_in(rt: &impl Abort, alloc: Global, builder: &mut Builder) -> Result<(), Fail> {
+    let union = tagged(builder, 7, "A")?;
+    if !are_written(builder, union, union) {
         return Err(Fail::new("the builder has no such value"));
     }
-    let boxed = prepared_union(&mut builder, &Box::new(alloc, union)?)?;
+    let boxed = prepared_union(builder, &Box::new(alloc, union)?)?;
     assert_eq!(rt; (boxed.tag(), boxed.offset().distance()), (7, 6));
     Ok(())
+}
+
+#[test]
+fn wrapped_unions(rt: HostRuntime) -> Result<(), Fail> {
+    let mut builder = Builder::new(rt.alloc())?;
+    wrapped_unions_in(&rt, rt.alloc(), &mut builder)
 }
 
 // A number of eight bytes, and one of one byte.
@@ -436,13 +510,11 @@ impl ObjectFill for Nothing {
     }
 }
 
-#[test]
-fn tables(rt: HostRuntime) -> Result<(), Fail> {
-    let mut builder = Builder::new(rt.alloc())?;
+fn tables_in(rt: &impl Abort, builder: &mut Builder) -> Result<(), Fail> {
     let empty: TableWriter<4> = TableWriter::default();
-    empty.finish(&mut builder, &Nothing)?;
+    empty.finish(builder, &Nothing)?;
     let root = builder.current_offset::<()>();
-    let bytes = finish_with(&mut builder, root, None)?;
+    let bytes = finish_with(builder, root, None)?;
     assert_eq!(rt;
         bytes,
         [4u8, 0, 0, 0, 0xfc, 0xff, 0xff, 0xff, 4, 0, 4, 0].as_slice()
@@ -455,10 +527,31 @@ fn tables(rt: HostRuntime) -> Result<(), Fail> {
         first: 1,
         second: 2,
     };
-    writer.finish(&mut builder, &wide)?;
+    writer.finish(builder, &wide)?;
     let root = builder.current_offset::<()>();
-    let bytes = finish_with(&mut builder, root, None)?;
+    let bytes = finish_with(builder, root, None)?;
     let want = b"\x04\0\0\0\xf2\xff\xff\xff\x01\0\0\0\0\0\0\0\x02\0\x0a\0\x0d\0\x04\0\0\0\x0c\0";
+    assert_eq!(rt; bytes, want.as_slice());
+    Ok(())
+}
+
+#[test]
+fn tables(rt: HostRuntime) -> Result<(), Fail> {
+    let mut builder = Builder::new(rt.alloc())?;
+    tables_in(&rt, &mut builder)
+}
+
+fn a_table_with_a_text_in(rt: &impl Abort, builder: &mut Builder) -> Result<(), Fail> {
+    let name = builder.create_string("Axe")?;
+    let mut writer: TableWriter<8> = TableWriter::default();
+    writer.write_entry::<Offset<Text>>(0);
+    writer.write_entry::<i16>(1);
+    let named = Named { name, damage: 24 };
+    writer.finish(builder, &named)?;
+    let root = builder.current_offset::<()>();
+    let bytes = finish_with(builder, root, None)?;
+    let want =
+        b"\x04\0\0\0\xf4\xff\xff\xff\x10\0\0\0\x18\0\0\0\x08\0\x0a\0\x04\0\x08\0\x03\0\0\0Axe\0";
     assert_eq!(rt; bytes, want.as_slice());
     Ok(())
 }
@@ -466,16 +559,5 @@ fn tables(rt: HostRuntime) -> Result<(), Fail> {
 #[test]
 fn a_table_with_a_text(rt: HostRuntime) -> Result<(), Fail> {
     let mut builder = Builder::new(rt.alloc())?;
-    let name = builder.create_string("Axe")?;
-    let mut writer: TableWriter<8> = TableWriter::default();
-    writer.write_entry::<Offset<Text>>(0);
-    writer.write_entry::<i16>(1);
-    let named = Named { name, damage: 24 };
-    writer.finish(&mut builder, &named)?;
-    let root = builder.current_offset::<()>();
-    let bytes = finish_with(&mut builder, root, None)?;
-    let want =
-        b"\x04\0\0\0\xf4\xff\xff\xff\x10\0\0\0\x18\0\0\0\x08\0\x0a\0\x04\0\x08\0\x03\0\0\0Axe\0";
-    assert_eq!(rt; bytes, want.as_slice());
-    Ok(())
+    a_table_with_a_text_in(&rt, &mut builder)
 }

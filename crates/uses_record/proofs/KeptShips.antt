@@ -325,7 +325,7 @@ no_hull_told None name cargo writer absent told = told
 no_hull_told (Some hull) name cargo writer absent told = cc
 
 -- Each part grows the builder, written or refused.
-name_grows : {T : Type 0} (name : List ℕ) (old : State) (answer : Result (Offset T) BuildError)
+pub name_grows : {T : Type 0} (name : List ℕ) (old : State) (answer : Result (Offset T) BuildError)
     (new : State) → WritesText name old answer new → Grows old new
 name_grows name old answer new done =
     (entry_is_lawful (λ (text : List ℕ). text_entry text)).grows name old answer new tt done

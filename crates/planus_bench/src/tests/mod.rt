@@ -1,10 +1,13 @@
 mod alignments;
+mod caches;
 mod no_memory;
 mod padding;
 mod parts;
 mod plain_reader;
 mod plain_run;
+mod read_back;
 mod runs;
+mod settings;
 mod tables;
 mod unions;
 

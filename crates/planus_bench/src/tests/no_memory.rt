@@ -1,12 +1,13 @@
 //! Readers, a builder and a replay while memory is refused.
 
 use super::plain_reader::{Pair, same_kind};
+use super::settings::Switches;
 use super::{UNIONS, WEAPON};
 use planus::errors::{ErrorKind, UnknownEnumTagKind};
 use planus::table_reader::Table;
 use planus::{
-    BuildError, Builder, Error, Place, ReplayError, SignedBytes, SliceWithStartOffset, Step,
-    Stride, TableRead, TableReadUnion, TaggedPlace, VectorName, VectorRead, VectorReadInner,
+    BuildError, Builder, Caches, Error, Place, ReplayError, SignedBytes, SliceWithStartOffset,
+    Step, Stride, TableRead, TableReadUnion, TaggedPlace, VectorName, VectorRead, VectorReadInner,
     VectorReadUnion, replay,
 };
 use planus_exhaust::exhaust;
@@ -225,15 +226,15 @@ fn no_reader_asks_for_memory(rt: HostRuntime) -> Result<(), Fail> {
     Ok(())
 }
 
-// A builder goes on in its room, refuses what doesn't fit, and writes that when memory is there
-// again.
+// A builder with no cache goes on in its room, refuses what doesn't fit, and writes that when memory
+// is there again.
 #[test]
 fn a_builder_with_refused_memory(rt: HostRuntime) -> Result<(), Fail> {
     let alloc = rt.alloc();
     let text = "sixty-three bytes, which are more than are left of a room of 64";
     let axe = b"\x04\0\0\0\x03\0\0\0Axe\0".as_slice();
     let mut held: Vec<Vec<u8>> = Vec::with_capacity(alloc, 262144)?;
-    let mut builder = Builder::with_capacity(alloc, 64)?;
+    let mut builder = Builder::with_caches(alloc, 64, Switches::of(0).caches(0))?;
     let exhausted = exhaust(alloc, &mut held);
     let made = Builder::new(alloc).map(|_| ());
     let finished = builder.finish("Axe", None).is_ok();
@@ -265,13 +266,13 @@ fn a_replay_with_refused_memory(rt: HostRuntime) -> Result<(), Fail> {
     steps.push(Step::Finish { root: 0, id: None })?;
     let mut held: Vec<Vec<u8>> = Vec::with_capacity(alloc, 262144)?;
     let exhausted = exhaust(alloc, &mut held);
-    let replayed = replay(alloc, steps.as_slice());
+    let replayed = replay(alloc, Caches::all(), steps.as_slice());
     drop(held);
     if !exhausted {
         println!(rt; "memory was left: this test does not apply")?;
         return Ok(());
     }
     assert!(rt; matches!(replayed, Err(ReplayError::OutOfMemory)));
-    assert!(rt; replay(alloc, steps.as_slice()).is_ok());
+    assert!(rt; replay(alloc, Caches::all(), steps.as_slice()).is_ok());
     Ok(())
 }

@@ -266,7 +266,7 @@ impl<'buf> TableRead<'buf> for Spot {
     }
 }
 
-fn position(place: Place<'_>) -> usize {
+pub fn position(place: Place<'_>) -> usize {
     match place.read::<Spot>() {
         Ok(Spot(at)) => at,
         Err(_) => usize::MAX,

@@ -1,6 +1,7 @@
-//! A plain, slow run of steps, which keeps its bytes from the end on, and finds each padding by
-//! trying.
+//! A plain, slow run of steps, which keeps its bytes from the end on, finds each padding by trying,
+//! and equal contents by looking through all that were written.
 
+use super::settings::{Kind, Switches};
 use planus::{Field, FieldValue, Finished, Step, StepPlace};
 use std::alloc::{AllocError, Global};
 use std::test::Fail;
@@ -13,6 +14,10 @@ struct Written {
     // The distance of each part from the end, and its alignment: 2, 4 or 8.
     parts: Vec<(usize, usize)>,
     values: Vec<StepPlace>,
+    // Of the kinds that are on, the contents that were written, and their distances.
+    shared: Vec<(Kind, Vec<u8>, usize)>,
+    switches: Switches,
+    alloc: Global,
 }
 
 // The size of a field.
@@ -24,11 +29,14 @@ fn size_of(field: &Field) -> usize {
 }
 
 impl Written {
-    fn nothing(alloc: Global) -> Written {
+    fn nothing(alloc: Global, switches: Switches) -> Written {
         Written {
             reversed: Vec::new(alloc),
             parts: Vec::new(alloc),
             values: Vec::new(alloc),
+            shared: Vec::new(alloc),
+            switches,
+            alloc,
         }
     }
 
@@ -90,28 +98,62 @@ impl Written {
         self.put(&(word as u64).to_le_bytes()[..4])
     }
 
-    // The value of this step begins at the front of the bytes.
-    fn add(&mut self, step: usize) -> Result<(), Fail> {
+    // The value of this step stands at this distance.
+    fn add_at(&mut self, step: usize, distance: usize) -> Result<(), Fail> {
         self.values.push(StepPlace {
             step,
-            distance: u32::try_from(self.reversed.len())?,
+            distance: u32::try_from(distance)?,
             tags: None,
         })?;
         Ok(())
     }
 
+    // The value of this step begins at the front of the bytes.
+    fn add(&mut self, step: usize) -> Result<(), Fail> {
+        let distance = self.reversed.len();
+        self.add_at(step, distance)
+    }
+
+    // The distance of equal contents of a kind that is on.
+    fn shared_at(&self, kind: Kind, contents: &[u8]) -> Option<usize> {
+        for (written, bytes, distance) in &self.shared {
+            if *written == kind && bytes.as_slice() == contents {
+                return Some(*distance);
+            }
+        }
+        None
+    }
+
+    // Contents of this kind begin at the front of the bytes.
+    fn share(&mut self, kind: Kind, contents: &[u8]) -> Result<(), AllocError> {
+        if self.switches.is_on(kind) {
+            let bytes = Vec::from_slice(self.alloc, contents)?;
+            let distance = self.reversed.len();
+            self.shared.push((kind, bytes, distance))?;
+        }
+        Ok(())
+    }
+
     fn text(&mut self, step: usize, text: &[u8]) -> Result<(), Fail> {
+        if let Some(distance) = self.shared_at(Kind::Text, text) {
+            return self.add_at(step, distance);
+        }
         self.pad(text.len().wrapping_add(5), 4)?;
         self.put(&[0])?;
         self.put(text)?;
         self.put_word(text.len())?;
+        self.share(Kind::Text, text)?;
         self.add(step)
     }
 
     fn bytes(&mut self, step: usize, bytes: &[u8]) -> Result<(), Fail> {
+        if let Some(distance) = self.shared_at(Kind::Bytes, bytes) {
+            return self.add_at(step, distance);
+        }
         self.pad(bytes.len().wrapping_add(4), 4)?;
         self.put(bytes)?;
         self.put_word(bytes.len())?;
+        self.share(Kind::Bytes, bytes)?;
         self.add(step)
     }
 
@@ -161,40 +203,49 @@ impl Written {
         Ok(())
     }
 
-    fn put_pair(&mut self, number: usize) -> Result<(), AllocError> {
-        self.put(&(number as u64).to_le_bytes()[..2])
-    }
-
-    // A vtable: its size, the object's, and where the field of each slot stands behind the
-    // object's word. Answers its distance.
-    fn vtable(&mut self, alloc: Global, fields: &[Field]) -> Result<usize, Fail> {
+    // The bytes of a vtable: its size, the object's, and where the field of each slot stands behind
+    // the object's word.
+    fn vtable_bytes(&self, fields: &[Field]) -> Result<Vec<u8>, AllocError> {
         let mut slots: usize = 0;
         for field in fields {
             slots = slots.max(field.slot as usize + 1);
         }
-        let mut offsets: Vec<usize> = Vec::new(alloc);
-        for _ in 0..slots {
-            offsets.push(0)?;
+        let mut numbers: Vec<usize> = Vec::new(self.alloc);
+        numbers.push(slots.wrapping_mul(2).wrapping_add(4))?;
+        for _ in 0..=slots {
+            numbers.push(0)?;
         }
         let mut object: usize = 4;
         for field in fields {
-            if let Some(offset) = offsets.get_mut(field.slot as usize) {
+            if let Some(offset) = numbers.get_mut(field.slot as usize + 2) {
                 *offset = object;
             }
             object = object.wrapping_add(size_of(field));
         }
-        let size = offsets.len().wrapping_mul(2).wrapping_add(4);
-        self.pad(size, 2)?;
-        for offset in offsets.iter().rev() {
-            self.put_pair(*offset)?;
+        if let Some(size) = numbers.get_mut(1) {
+            *size = object;
         }
-        self.put_pair(object)?;
-        self.put_pair(size)?;
+        let mut bytes = Vec::new(self.alloc);
+        for number in &numbers {
+            bytes.extend_from_slice(&(*number as u64).to_le_bytes()[..2])?;
+        }
+        Ok(bytes)
+    }
+
+    // A vtable, of which the distance is answered.
+    fn vtable(&mut self, fields: &[Field]) -> Result<usize, AllocError> {
+        let vtable = self.vtable_bytes(fields)?;
+        if let Some(distance) = self.shared_at(Kind::Vtable, vtable.as_slice()) {
+            return Ok(distance);
+        }
+        self.pad(vtable.len(), 2)?;
+        self.put(vtable.as_slice())?;
+        self.share(Kind::Vtable, vtable.as_slice())?;
         Ok(self.reversed.len())
     }
 
-    fn table(&mut self, alloc: Global, step: usize, fields: &[Field]) -> Result<(), Fail> {
-        let vtable = self.vtable(alloc, fields)?;
+    fn table(&mut self, step: usize, fields: &[Field]) -> Result<(), Fail> {
+        let vtable = self.vtable(fields)?;
         let mut size: usize = 0;
         let mut alignment = 4;
         for field in fields {
@@ -264,20 +315,20 @@ impl Written {
         self.put_word(distance.wrapping_sub(root))
     }
 
-    fn given(&self, alloc: Global) -> Result<Finished, AllocError> {
-        let mut bytes = Vec::new(alloc);
+    fn given(&self) -> Result<Finished, AllocError> {
+        let mut bytes = Vec::new(self.alloc);
         for byte in self.reversed.iter().rev() {
             bytes.push(*byte)?;
         }
-        let places = Vec::from_slice(alloc, self.values.as_slice())?;
+        let places = Vec::from_slice(self.alloc, self.values.as_slice())?;
         Ok(Finished { bytes, places })
     }
 }
 
 // What each finish of the steps gives.
-pub fn plain_run(alloc: Global, steps: &[Step]) -> Result<Vec<Finished>, Fail> {
+pub fn plain_run(alloc: Global, switches: Switches, steps: &[Step]) -> Result<Vec<Finished>, Fail> {
     let mut finished = Vec::new(alloc);
-    let mut written = Written::nothing(alloc);
+    let mut written = Written::nothing(alloc, switches);
     for (number, step) in steps.iter().enumerate() {
         match step {
             Step::Text(text) => written.text(number, text.as_bytes())?,
@@ -285,13 +336,13 @@ pub fn plain_run(alloc: Global, steps: &[Step]) -> Result<Vec<Finished>, Fail> {
             Step::Numbers { width, items } => written.numbers(number, *width, items.as_slice())?,
             Step::Refs(steps) => written.refs(number, steps.as_slice())?,
             Step::Unions(items) => written.unions(number, items.as_slice())?,
-            Step::Table(fields) => written.table(alloc, number, fields.as_slice())?,
+            Step::Table(fields) => written.table(number, fields.as_slice())?,
             Step::Finish { root, id } => {
                 let root = written.distance(*root).ok_or("no such value")?;
                 written.finish(root, *id)?;
-                finished.push(written.given(alloc)?)?;
+                finished.push(written.given()?)?;
             }
-            Step::Clear => written = Written::nothing(alloc),
+            Step::Clear => written = Written::nothing(alloc, switches),
         }
     }
     Ok(finished)

@@ -1,7 +1,10 @@
-//! A long run of steps, against the plain run.
+//! Runs of steps in every setting of the caches, against the plain run.
 
 use super::plain_run::plain_run;
-use planus::{Field, FieldValue, Step, replay};
+use super::read_back::reads_back;
+use super::settings::Switches;
+use super::unions::two_texts;
+use planus::{Caches, Field, FieldValue, Finished, Step, replay};
 use std::alloc::{AllocError, Global};
 use std::test::Fail;
 
@@ -193,26 +196,91 @@ fn counts(steps: &[Step]) -> (usize, usize, usize, usize) {
     counts
 }
 
+// A text `Axe`, a table with its reference and the number 24, and a finish.
+fn weapon(alloc: Global) -> Result<Vec<Step>, AllocError> {
+    let mut steps = Vec::new(alloc);
+    steps.push(Step::Text(String::from_str(alloc, "Axe")?))?;
+    steps.push(with_name(alloc, 0, 24)?)?;
+    steps.push(Step::Finish { root: 1, id: None })?;
+    Ok(steps)
+}
+
+// A table with a reference in slot 0 and a number of two bytes in slot 1.
+fn with_name(alloc: Global, name: usize, value: u64) -> Result<Step, AllocError> {
+    let mut fields = Vec::new(alloc);
+    let name = FieldValue::Ref(name);
+    fields.push(Field {
+        slot: 0,
+        value: name,
+    })?;
+    let value = FieldValue::Number { width: 2, value };
+    fields.push(Field { slot: 1, value })?;
+    Ok(Step::Table(fields))
+}
+
+// Twice the same texts, byte lists and tables, each with one between that differs. They are written,
+// finished, cleared, and written again.
+fn repeated(alloc: Global) -> Result<Vec<Step>, AllocError> {
+    let mut steps = Vec::new(alloc);
+    for _ in 0..2 {
+        let first = steps.len();
+        let mut all = Vec::new(alloc);
+        for word in ["Hi", "Ho", "Hi"] {
+            all.push(steps.len())?;
+            steps.push(Step::Text(String::from_str(alloc, word)?))?;
+            all.push(steps.len())?;
+            steps.push(Step::Bytes(Vec::from_slice(alloc, word.as_bytes())?))?;
+            all.push(steps.len())?;
+            steps.push(with_name(alloc, first, 24)?)?;
+            all.push(steps.len())?;
+            steps.push(list(alloc, 2, word.len())?)?;
+        }
+        let root = steps.len();
+        steps.push(Step::Refs(all))?;
+        steps.push(Step::Finish { root, id: None })?;
+        steps.push(Step::Clear)?;
+    }
+    Ok(steps)
+}
+
+// Whether a replay with these caches gives the same bytes and places, of which each root is read
+// back as the steps say it.
+fn gives(alloc: Global, caches: Caches, steps: &[Step], want: &[Finished]) -> Result<bool, Fail> {
+    let got = replay(alloc, caches, steps)?;
+    let mut finishes = got.iter().zip(want.iter());
+    for step in steps {
+        if let Step::Finish { root, .. } = step {
+            match finishes.next() {
+                Some((got, want))
+                    if got.bytes.as_slice() == want.bytes.as_slice()
+                        && got.places.as_slice() == want.places.as_slice()
+                        && reads_back(alloc, steps, *root, got)? => {}
+                _ => return Ok(false),
+            }
+        }
+    }
+    Ok(got.len() == want.len())
+}
+
 #[test]
-fn three_hundred_steps(rt: HostRuntime) -> Result<(), Fail> {
+fn runs_in_every_setting(rt: HostRuntime) -> Result<(), Fail> {
     let alloc = rt.alloc();
-    let steps = mixed_steps(alloc, 300)?;
-    let counted = counts(steps.as_slice());
-    assert_eq!(rt; steps.len(), 300);
-    assert_eq!(rt; counted, (14, 65, 50, 22));
-    let want = plain_run(alloc, steps.as_slice())?;
-    let got = replay(alloc, steps.as_slice()).expect(&rt, "a clean run");
-    assert_eq!(rt; got.len(), want.len());
-    for (number, (got, want)) in got.iter().zip(want.iter()).enumerate() {
-        assert!(rt;
-            got.bytes.as_slice() == want.bytes.as_slice(),
-            "the bytes of finish {number}"
-        );
-        assert_eq!(rt;
-            got.places.as_slice(),
-            want.places.as_slice(),
-            "finish {number}"
-        );
+    let mixed = mixed_steps(alloc, 300)?;
+    assert_eq!(rt; mixed.len(), 300);
+    assert_eq!(rt; counts(mixed.as_slice()), (14, 65, 50, 22));
+    for steps in [weapon(alloc)?, two_texts(alloc)?, repeated(alloc)?, mixed] {
+        for number in 0..8 {
+            let switches = Switches::of(number);
+            let want = plain_run(alloc, switches, steps.as_slice())?;
+            for mask in [0, 1, u64::MAX] {
+                let caches = switches.caches(mask);
+                assert!(rt;
+                    gives(alloc, caches, steps.as_slice(), want.as_slice())?,
+                    "{} steps, {caches:?}",
+                    steps.len()
+                );
+            }
+        }
     }
     Ok(())
 }

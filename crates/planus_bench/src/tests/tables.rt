@@ -3,8 +3,8 @@ ghost use Rattle.std.specs.Prelude.{◌≤◌, length};
 
 use planus::table_reader::Table;
 use planus::{
-    Builder, ByteList, ObjectFill, ObjectWriter, Offset, Primitive, SignedBytes, SignedList,
-    SliceWithStartOffset, TableRead, TableWriter, Vector, WriteAsPrimitive,
+    BuildError, Builder, ByteList, ObjectFill, ObjectWriter, Offset, Primitive, SignedBytes,
+    SignedList, SliceWithStartOffset, TableRead, TableWriter, Vector, WriteAsPrimitive,
 };
 use std::marker::PhantomData;
 use std::test::Fail;
@@ -28,7 +28,21 @@ impl<P: Primitive, T: WriteAsPrimitive<P>> ObjectFill for One<P, T> {
     }
 }
 
-// Finishes a table with one field in slot 1.
+// Writes a table with one field in slot 1.
+pub fn put<P: Primitive, T: WriteAsPrimitive<P> + Drop>(
+    builder: &mut Builder,
+    field: T,
+) -> Result<(), BuildError>
+    requires small { P.SIZE ≤ 8 }
+    requires reach { T.reach field ≤ length builder.old.bytes }
+{
+    let mut writer: TableWriter<8> = TableWriter::default();
+    writer.write_entry::<P>(1);
+    let of = PhantomData;
+    writer.finish(builder, &One { field, of })
+}
+
+// The same, finished.
 fn finished<P: Primitive, T: WriteAsPrimitive<P> + Drop>(
     builder: &mut Builder,
     field: T,
@@ -36,10 +50,7 @@ fn finished<P: Primitive, T: WriteAsPrimitive<P> + Drop>(
     requires small { P.SIZE ≤ 8 }
     requires reach { T.reach field ≤ length builder.old.bytes }
 {
-    let mut writer: TableWriter<8> = TableWriter::default();
-    writer.write_entry::<P>(1);
-    let of = PhantomData;
-    writer.finish(builder, &One { field, of })?;
+    put::<P, T>(builder, field)?;
     let root = builder.current_offset::<()>();
     Ok(builder.finish(root, None)?)
 }

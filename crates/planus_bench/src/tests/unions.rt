@@ -1,7 +1,8 @@
 //! Lists of unions, by a replay.
 
 use super::plain_run::plain_run;
-use planus::{Field, FieldValue, Step, StepPlace, replay};
+use super::settings::Switches;
+use planus::{Caches, Field, FieldValue, Step, StepPlace, replay};
 use std::alloc::{AllocError, Global};
 use std::test::Fail;
 
@@ -13,7 +14,7 @@ const TWO_TEXTS: [u8; 58] = [
     b'A', 0,
 ];
 
-fn two_texts(alloc: Global) -> Result<Vec<Step>, AllocError> {
+pub fn two_texts(alloc: Global) -> Result<Vec<Step>, AllocError> {
     let mut items = Vec::new(alloc);
     items.push((1, 0))?;
     items.push((2, 1))?;
@@ -35,8 +36,8 @@ fn two_texts(alloc: Global) -> Result<Vec<Step>, AllocError> {
 fn two_texts_as_unions(rt: HostRuntime) -> Result<(), Fail> {
     let alloc = rt.alloc();
     let steps = two_texts(alloc)?;
-    let got = replay(alloc, steps.as_slice()).expect(&rt, "a clean run");
-    let want = plain_run(alloc, steps.as_slice())?;
+    let got = replay(alloc, Caches::all(), steps.as_slice()).expect(&rt, "a clean run");
+    let want = plain_run(alloc, Switches::of(7), steps.as_slice())?;
     assert_eq!(rt; (got.len(), want.len()), (1, 1));
     for (got, want) in got.iter().zip(want.iter()) {
         assert_eq!(rt; got.bytes.as_slice(), TWO_TEXTS.as_slice());

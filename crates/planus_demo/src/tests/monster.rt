@@ -8,8 +8,11 @@ use crate::monster::{Monster, MonsterRef};
 use crate::weapon::Weapon;
 use planus::errors::ErrorKind;
 use planus::{
-    BuildError, Builder, ByteList, DefaultValue, Offset, ReadAsRoot, UnionOffset, WriteAsDefault,
+    BuildError, Builder, ByteList, Caches, DefaultValue, Offset, ReadAsRoot, UnionOffset,
+    WriteAsDefault,
 };
+use std::alloc::Global;
+use std::process::Abort;
 use std::test::Fail;
 
 // An orc with 80 hit points and one weapon, an axe with a damage of 24, which it has equipped.
@@ -82,12 +85,30 @@ fn held<'a>(equipment: EquipmentRef<'a>) -> planus::Result<(Option<&'a str>, i16
     }
 }
 
+// One of the eight settings of the caches, by a number from 0 to 7.
+fn setting(number: u8) -> Caches {
+    Caches {
+        vtables: number & 1 != 0,
+        texts: number & 2 != 0,
+        bytes: number & 4 != 0,
+        hash_mask: 1,
+    }
+}
+
+fn orc_is_written(rt: &impl Abort, builder: &mut Builder) -> Result<(), Fail> {
+    let orc = orc(builder)?;
+    assert_eq!(rt; orc.distance(), 80);
+    assert_eq!(rt; finish_with(builder, orc)?, ORC.as_slice());
+    Ok(())
+}
+
+// No two texts and no two vtables of an orc are equal.
 #[test]
 fn an_orc_written(rt: HostRuntime) -> Result<(), Fail> {
-    let mut builder = Builder::new(rt.alloc())?;
-    let orc = orc(&mut builder)?;
-    assert_eq!(rt; orc.distance(), 80);
-    assert_eq!(rt; finish_with(&mut builder, orc)?, ORC.as_slice());
+    for number in 0..8 {
+        let mut builder = Builder::with_caches(rt.alloc(), 0, setting(number))?;
+        orc_is_written(&rt, &mut builder)?;
+    }
     Ok(())
 }
 
@@ -119,24 +140,22 @@ fn its_weapons(rt: HostRuntime) -> Result<(), Fail> {
     Ok(())
 }
 
-#[test]
-fn inventory_and_loot(rt: HostRuntime) -> Result<(), Fail> {
-    let mut builder = Builder::new(rt.alloc())?;
-    let axe = weapon(&mut builder, "Axe", 24)?;
-    let bow = weapon(&mut builder, "Bow", 12)?;
+fn loot_is_read(rt: &impl Abort, alloc: Global, builder: &mut Builder) -> Result<(), Fail> {
+    let axe = weapon(builder, "Axe", 24)?;
+    let bow = weapon(builder, "Bow", 12)?;
     assert_eq!(rt; axe.distance(), 28);
     let loot = [
         UnionOffset::new(1, axe.downcast()),
         UnionOffset::new(1, bow.downcast()),
     ];
-    let elf = elf(&mut builder, loot)?;
-    let elf = MonsterRef::read_as_root(finish_with(&mut builder, elf)?)?;
+    let elf = elf(builder, loot)?;
+    let elf = MonsterRef::read_as_root(finish_with(builder, elf)?)?;
     assert_eq!(rt; (elf.hp()?, elf.name()?), (7, "Elf"));
     assert_eq!(rt; elf.inventory()?, Some([1u8, 2, 3].as_slice()));
     assert!(rt; elf.weapons()?.is_none());
     assert!(rt; elf.equipped()?.is_none());
-    let loot = elf.loot()?.expect(&rt, "loot");
-    let mut read = Vec::new(rt.alloc());
+    let loot = elf.loot()?.expect(rt, "loot");
+    let mut read = Vec::new(alloc);
     for equipment in loot {
         read.push(held(equipment?)?)?;
     }
@@ -147,17 +166,35 @@ fn inventory_and_loot(rt: HostRuntime) -> Result<(), Fail> {
     Ok(())
 }
 
+// The weapons of the loot have equal vtables.
 #[test]
-fn hit_points_left_out(rt: HostRuntime) -> Result<(), Fail> {
-    let mut builder = Builder::new(rt.alloc())?;
-    let first = goblin(&mut builder, DefaultValue)?;
-    let bytes: Vec<u8> = Vec::from_slice(rt.alloc(), finish_with(&mut builder, first)?)?;
+fn inventory_and_loot(rt: HostRuntime) -> Result<(), Fail> {
+    for number in 0..8 {
+        let mut builder = Builder::with_caches(rt.alloc(), 0, setting(number))?;
+        loot_is_read(&rt, rt.alloc(), &mut builder)?;
+    }
+    Ok(())
+}
+
+fn hit_points_left_out_in(
+    rt: &impl Abort,
+    alloc: Global,
+    builder: &mut Builder,
+) -> Result<(), Fail> {
+    let first = goblin(builder, DefaultValue)?;
+    let bytes: Vec<u8> = Vec::from_slice(alloc, finish_with(builder, first)?)?;
     builder.clear();
-    let second = goblin(&mut builder, 100i16)?;
-    let again = finish_with(&mut builder, second)?;
+    let second = goblin(builder, 100i16)?;
+    let again = finish_with(builder, second)?;
     assert_eq!(rt; again, bytes.as_slice());
     assert_eq!(rt; MonsterRef::read_as_root(again)?.hp()?, 100);
     Ok(())
+}
+
+#[test]
+fn hit_points_left_out(rt: HostRuntime) -> Result<(), Fail> {
+    let mut builder = Builder::new(rt.alloc())?;
+    hit_points_left_out_in(&rt, rt.alloc(), &mut builder)
 }
 
 #[test]
@@ -179,17 +216,19 @@ fn an_unknown_tag(rt: HostRuntime) -> Result<(), Fail> {
 }
 
 // The references of the loot start 40 bytes before the end of 92, at 0x34.
-#[test]
-fn an_unknown_tag_in_a_list(rt: HostRuntime) -> Result<(), Fail> {
-    let mut builder = Builder::new(rt.alloc())?;
-    let axe = weapon(&mut builder, "Axe", 24)?;
+fn an_unknown_tag_in_a_list_in(
+    rt: &impl Abort,
+    alloc: Global,
+    builder: &mut Builder,
+) -> Result<(), Fail> {
+    let axe = weapon(builder, "Axe", 24)?;
     let unknown = UnionOffset::new(2, axe.downcast());
-    let goblin = hoarder(&mut builder, unknown)?;
-    let goblin = MonsterRef::read_as_root(finish_with(&mut builder, goblin)?)?;
-    let loot = goblin.loot()?.expect(&rt, "loot");
+    let goblin = hoarder(builder, unknown)?;
+    let goblin = MonsterRef::read_as_root(finish_with(builder, goblin)?)?;
+    let loot = goblin.loot()?.expect(rt, "loot");
     match loot.get(0usize) {
         Some(Err(e)) => {
-            let text = format!(in rt.alloc(); "{e}")?;
+            let text = format!(in alloc; "{e}")?;
             assert_eq!(rt;
                 text.as_str(),
                 "In <[Equipment]@34>::get(): Unknown union (tag = 2)"
@@ -198,6 +237,12 @@ fn an_unknown_tag_in_a_list(rt: HostRuntime) -> Result<(), Fail> {
         _ => assert!(rt; false, "a piece of equipment"),
     }
     Ok(())
+}
+
+#[test]
+fn an_unknown_tag_in_a_list(rt: HostRuntime) -> Result<(), Fail> {
+    let mut builder = Builder::new(rt.alloc())?;
+    an_unknown_tag_in_a_list_in(&rt, rt.alloc(), &mut builder)
 }
 
 #[test]

@@ -1,15 +1,49 @@
-use Rattle.std.proofs.Common.{[]}
-use Rattle.planus_write.specs.Tables.{vtable_entry}
-use Rattle.planus_write.specs.Placing.{PutsDown}
-use Rattle.planus_write.proofs.PlacedParts.{vtable_put, still_sound}
+use Rattle.std.proofs.Common.{◌≡◌, ◌+◌, ◌++◌, [], length, replicate, refl, sym, ap, subst, arith, ◌∙◌, Ok, Err, Some, append_assoc}
+use Rattle.std.proofs.lemmas.Result.{err_from_is_err_and}
+use Rattle.planus_back.specs.CacheKeys.{vtable_in}
+use Rattle.planus_write.specs.Tables.{vtable_entry, vtable_part}
+use Rattle.planus_write.specs.Placing.{PutsDown, Refuses}
+use Rattle.planus_write.specs.Shared.{vtables}
+use Rattle.planus_write.specs.Sharing.{Starts}
+use Rattle.planus_write.specs.View.{state_of}
+use Rattle.planus_write.specs.declared.start.Start.{Start}
+use Rattle.planus_write.specs.declared.start.Start.TheVariants.{Found, Begun}
+use Rattle.planus_write.proofs.ContentsInFront.{vtable_in_front}
+use Rattle.planus_write.proofs.PlacedParts.{begun, found_again, not_begun, new_bytes, still_sound, left_sound}
 use Rattle.planus_write.proofs.builder.Builder.write_vtable.Goals as goal
 
-put : (c : goal.After-put) → PutsDown (vtable_entry c.args.bytes.now) [] c.self.inside.backing c.in_ok-place.place c.put.new.self
-put c = vtable_put c.args.bytes.now c.in_ok-place.place c.self.inside.backing c.make_room.new.self c.put.new.self c.self.invariant.off c.in_ok-place.ensures c.put.ensures
+pub start-requires-clause-fits : goal.start-requires-clause-fits
+start-requires-clause-fits c = (c.self.invariant.1.seen vtables).fits
 
-pub invariant_of-self-2 : goal.invariant_of-self-2
-invariant_of-self-2 c =
-    still_sound (vtable_entry c.args.bytes.now) [] c.self.inside (record { backing = c.put.new.self }) c.in_ok-place.place c.self.invariant (put c)
+put : (c : goal.After-put) → PutsDown (vtable_entry c.args.bytes.now) [] (state_of c.self.inside) c.in-Begun.place (state_of (record c.self.inside { backing = c.put.new.self; vtables = c.start.new.sharing }))
+put c =
+    let bytes = c.args.bytes.now in
+    let started : Starts vtable_in bytes (length bytes) 2 c.self.inside.backing c.self.inside.vtables (Ok (Begun c.in-Begun.place)) c.start.new.backing c.start.new.sharing =
+    subst (λ (start : Start). Starts vtable_in bytes (length bytes) 2 c.self.inside.backing c.self.inside.vtables (Ok start) c.start.new.backing c.start.new.sharing) c.in-Begun.is c.in_ok-distance.ensures.started in
+    let there = new_bytes (length bytes) 2 c.in-Begun.place c.self.inside.backing c.start.new.backing c.put.new.self bytes started.1 refl c.put.ensures ∙ append_assoc bytes (replicate started.1.padding 0) c.self.inside.backing.bytes in
+    let in_front : vtable_in c.put.new.self.bytes ≡ Some bytes = ap vtable_in there ∙ vtable_in_front bytes (replicate started.1.padding 0 ++ c.self.inside.backing.bytes) bytes c.requires in
+    begun bytes (vtable_part bytes) c.self.inside c.start.new.backing c.start.new.sharing vtables c.in-Begun.place c.put.new.self bytes started refl refl c.put.ensures in_front
 
-pub returns : goal.returns
-returns c = rw (← c.self.view_is) (put c)
+pub invariant_of-self-in-Begun : goal.invariant_of-self-in-Begun
+invariant_of-self-in-Begun c = still_sound (vtable_entry c.args.bytes.now) [] (state_of c.self.inside) _ c.in-Begun.place c.self.invariant (put c)
+
+pub returns-in-Begun : goal.returns-in-Begun
+returns-in-Begun c = rw (← c.self.view_is) (put c)
+
+pub returns-in-Found : goal.returns-in-Found
+returns-in-Found c =
+    let bytes = c.args.bytes.now in
+    let started : Starts vtable_in bytes (length bytes) 2 c.self.inside.backing c.self.inside.vtables (Ok (Found c.in-Found.distance)) c.start.new.backing c.start.new.sharing =
+    subst (λ (start : Start). Starts vtable_in bytes (length bytes) 2 c.self.inside.backing c.self.inside.vtables (Ok start) c.start.new.backing c.start.new.sharing) c.in-Found.is c.in_ok-distance.ensures.started in
+    rw (← c.self.view_is) (found_again bytes (vtable_part bytes) c.self.inside c.start.new.backing c.start.new.sharing vtables c.in-Found.distance started c.start.ensures.small)
+
+refused : (c : goal.After-from_residual) → Refuses (vtable_entry c.args.bytes.now) [] (state_of c.self.inside) c.in_err-distance.field-0.0 (state_of (record c.self.inside { backing = c.start.new.backing; vtables = c.start.new.sharing }))
+refused c = not_begun c.args.bytes.now (vtable_part c.args.bytes.now) c.self.inside c.start.new.backing c.start.new.sharing vtables c.in_err-distance.field-0.0 c.in_err-distance.ensures.started
+
+pub invariant_of-self : goal.invariant_of-self
+invariant_of-self c = left_sound (vtable_entry c.args.bytes.now) [] (state_of c.self.inside) _ c.in_err-distance.field-0.0 c.self.invariant (refused c)
+
+pub returns-in_err-distance : goal.returns-in_err-distance
+returns-in_err-distance c =
+    let p = err_from_is_err_and c.from_residual.result c.from_residual.ensures.1 in
+    rw (p.1, p.2, ← c.self.view_is) (refused c)

@@ -31,12 +31,14 @@ invariant_of-self g c =
     let low = g.P.Primitive.is_small in
     let whole = c.self.invariant.whole in
     let inside = c.requires.inside in
+    let sizes = c.self.invariant.sizes in
     record {
       small = omega (arith, size, fits);
       vtable_small = omega (arith, vtable, vtable_small, within);
       power = subst IsPowerOfTwo mask_is (greater_power (c.self.inside.mask + 1) g.P.Primitive.ALIGNMENT c.self.invariant.power (g.P.Primitive.is_layout.power.0, g.P.Primitive.is_layout.power.2));
       bound = omega (arith, mask_is, bound, low);
       whole = omega (arith, whole);
+      sizes = omega (arith, sizes, vtable);
       inside = λ enough. (let old = c.self.invariant.inside enough in omega (arith, vtable, old, inside));
     }
 

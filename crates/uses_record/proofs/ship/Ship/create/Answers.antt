@@ -1,7 +1,7 @@
 use Rattle.std.proofs.Common.{rules, arith, ◌≡◌, Err}
 use Rattle.uses_record.specs.Ships.{ship_fields, distance_if}
 use Rattle.uses_record.proofs.KeptShips.{parts_reached, ship_added, loaded_grows, written_grows}
-use Rattle.uses_record.proofs.KeptShips.{ship_written, ship_refused, cargo_refused}
+use Rattle.uses_record.proofs.KeptShips.{ship_written, ship_refused, cargo_refused, name_grows}
 use Rattle.uses_record.proofs.ship.Ship.create.Goals as goal
 
 pub finish-requires : goal.finish-requires
@@ -12,6 +12,11 @@ finish-requires c =
     c.in_ok-cargo.cargo c.in_ok-hull.hull c.in_ok-name.ensures c.in_ok-cargo.ensures
     c.in_ok-hull.ensures in
     (search rules, (search rules, (omega (arith, size), reach)))
+
+pub returns-in_err-name-clause-grows : goal.returns-in_err-name-clause-grows
+returns-in_err-name-clause-grows c =
+    name_grows c.args.name.now c.args.builder.now c.prepare.result c.prepare.new.builder
+    c.prepare.ensures
 
 pub returns-in_err-cargo-clause-grows : goal.returns-in_err-cargo-clause-grows
 returns-in_err-cargo-clause-grows c =

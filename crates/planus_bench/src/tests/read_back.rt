@@ -1,0 +1,182 @@
+//! Finished bytes, read back through the readers from the root down.
+
+use super::plain_reader::position;
+use planus::table_reader::Table;
+use planus::{
+    Field, FieldValue, Finished, Place, SliceWithStartOffset, Step, TableRead, Vector, VectorRead,
+};
+use std::alloc::Global;
+use std::test::Fail;
+
+// A value that is to be read: the step that wrote it, and where a reference to it stands.
+#[derive(Clone, Copy)]
+struct Value<'a> {
+    step: usize,
+    place: Place<'a>,
+}
+
+// Whether these are the numbers of a list.
+fn numbers_are<'a, T: VectorRead<'a> + Into<u64> + Drop>(
+    list: Vector<'a, T>,
+    numbers: &[u64],
+) -> bool {
+    let mut wanted = numbers.iter();
+    for item in list {
+        match wanted.next() {
+            Some(number) if item.into() == *number => {}
+            _ => return false,
+        }
+    }
+    list.len() == numbers.len()
+}
+
+// Whether a list of these numbers, each of 2, 4 or 8 bytes, stands there.
+fn has_numbers(place: Place<'_>, width: u8, numbers: &[u64]) -> Result<bool, Fail> {
+    match width {
+        2 => Ok(numbers_are(place.read::<Vector<'_, u16>>()?, numbers)),
+        4 => Ok(numbers_are(place.read::<Vector<'_, u32>>()?, numbers)),
+        _ => Ok(numbers_are(place.read::<Vector<'_, u64>>()?, numbers)),
+    }
+}
+
+// Whether this number of 1, 2, 4 or 8 bytes stands there.
+fn has_number(place: Place<'_>, width: u8, number: u64) -> Result<bool, Fail> {
+    let read = match width {
+        1 => u64::from(place.read::<u8>()?),
+        2 => u64::from(place.read::<u16>()?),
+        4 => u64::from(place.read::<u32>()?),
+        _ => place.read::<u64>()?,
+    };
+    Ok(read == number)
+}
+
+// Whether a list of these unions' tags stands there.
+fn has_tags(place: Place<'_>, unions: &[(u8, usize)]) -> Result<bool, Fail> {
+    let tags = place.read::<&[u8]>()?;
+    for (tag, (want, _)) in tags.iter().zip(unions.iter()) {
+        if *tag != *want {
+            return Ok(false);
+        }
+    }
+    Ok(tags.len() == unions.len())
+}
+
+// Finished bytes that are read.
+#[derive(Drop)]
+struct Reading<'a> {
+    steps: &'a [Step],
+    finished: &'a Finished,
+    // The values that are still to be read.
+    later: Vec<Value<'a>>,
+}
+
+impl<'a> Reading<'a> {
+    // How far from the end the reference leads that stands there.
+    fn distance(&self, place: Place<'a>) -> Result<usize, Fail> {
+        let target = position(place).wrapping_add(place.read::<u32>()? as usize);
+        Ok(self.finished.bytes.len().wrapping_sub(target))
+    }
+
+    // The unions of a step.
+    fn unions(&self, step: usize) -> &'a [(u8, usize)] {
+        match self.steps.get(step) {
+            Some(Step::Unions(unions)) => unions.as_slice(),
+            _ => &[],
+        }
+    }
+
+    // Whether a list of references stands there, of which each leads to a value that is read later.
+    fn has_references(&mut self, place: Place<'a>, steps: &[usize]) -> Result<bool, Fail> {
+        let list = place.read::<Vector<'a, Place<'a>>>()?;
+        for (place, step) in list.iter().zip(steps.iter()) {
+            self.later.push(Value { step: *step, place })?;
+        }
+        Ok(list.len() == steps.len())
+    }
+
+    // The same of the references of unions.
+    fn has_unions(&mut self, place: Place<'a>, unions: &[(u8, usize)]) -> Result<bool, Fail> {
+        let list = place.read::<Vector<'a, Place<'a>>>()?;
+        for (place, (_, step)) in list.iter().zip(unions.iter()) {
+            self.later.push(Value { step: *step, place })?;
+        }
+        Ok(list.len() == unions.len())
+    }
+
+    // Whether this field stands there.
+    fn has_field(&mut self, place: Place<'a>, value: &FieldValue) -> Result<bool, Fail> {
+        match value {
+            FieldValue::Number { width, value } => has_number(place, *width, *value),
+            FieldValue::Ref(step) => {
+                self.later.push(Value { step: *step, place })?;
+                Ok(true)
+            }
+            FieldValue::Tags(step) => has_tags(place, self.unions(*step)),
+            FieldValue::Values(step) => self.has_unions(place, self.unions(*step)),
+        }
+    }
+
+    // Whether a table of these fields stands there.
+    fn has_fields(&mut self, place: Place<'a>, fields: &[Field]) -> Result<bool, Fail> {
+        let table = place.read::<Table<'a>>()?;
+        for field in fields {
+            let slot = field.slot as usize;
+            let place = table.access_required::<Place<'a>>(slot, "Table", "field")?;
+            if !self.has_field(place, &field.value)? {
+                return Ok(false);
+            }
+        }
+        Ok(true)
+    }
+
+    // Whether the value stands there that the step wrote.
+    fn has_value(&mut self, place: Place<'a>, step: usize) -> Result<bool, Fail> {
+        match self.steps.get(step) {
+            Some(Step::Text(text)) => Ok(place.read::<&str>()? == text.as_str()),
+            Some(Step::Bytes(bytes)) => Ok(place.read::<&[u8]>()? == bytes.as_slice()),
+            Some(Step::Numbers { width, items }) => has_numbers(place, *width, items.as_slice()),
+            Some(Step::Refs(steps)) => self.has_references(place, steps.as_slice()),
+            Some(Step::Table(fields)) => self.has_fields(place, fields.as_slice()),
+            _ => Ok(false),
+        }
+    }
+}
+
+// Whether the value of the root's step is read back as the steps say it, with all that it refers
+// to, and all references to one value lead to one place.
+pub fn reads_back(
+    alloc: Global,
+    steps: &[Step],
+    root: usize,
+    finished: &Finished,
+) -> Result<bool, Fail> {
+    let whole = SliceWithStartOffset::new(finished.bytes.as_slice(), 0);
+    let mut reading = Reading {
+        steps,
+        finished,
+        later: Vec::new(alloc),
+    };
+    // How far from the end the value of each step stands, once it is read.
+    let mut read: Vec<Option<usize>> = Vec::new(alloc);
+    for _ in steps {
+        read.push(None)?;
+    }
+    let place = <Place<'_> as TableRead<'_>>::from_buffer(whole, 0)?;
+    reading.later.push(Value { step: root, place })?;
+    for _ in 0..100000 {
+        let Some(Value { step, place }) = reading.later.pop() else {
+            return Ok(true);
+        };
+        let distance = reading.distance(place)?;
+        match read.get(step) {
+            Some(Some(before)) if *before == distance => continue,
+            Some(None) => {}
+            _ => return Ok(false),
+        }
+        read[step] = Some(distance);
+        if !reading.has_value(place, step)? {
+            return Ok(false);
+        }
+    }
+    Err(Fail::new("too many references"))
+}

@@ -1,0 +1,48 @@
+//! The settings of the caches.
+
+use planus::Caches;
+
+// Kinds of contents of which equal ones may be written once.
+#[derive(Clone, Copy, PartialEq, Eq)]
+pub enum Kind {
+    Vtable,
+    Text,
+    Bytes,
+}
+
+// Of which kinds equal contents are written once.
+#[derive(Clone, Copy, Debug)]
+pub struct Switches {
+    vtables: bool,
+    texts: bool,
+    bytes: bool,
+}
+
+impl Switches {
+    // One of the eight settings, by a number from 0 to 7.
+    pub fn of(number: u8) -> Switches {
+        Switches {
+            vtables: number & 1 != 0,
+            texts: number & 2 != 0,
+            bytes: number & 4 != 0,
+        }
+    }
+
+    pub fn is_on(&self, kind: Kind) -> bool {
+        match kind {
+            Kind::Vtable => self.vtables,
+            Kind::Text => self.texts,
+            Kind::Bytes => self.bytes,
+        }
+    }
+
+    // The caches of this setting, which use these bits of a hash.
+    pub fn caches(&self, hash_mask: u64) -> Caches {
+        Caches {
+            vtables: self.vtables,
+            texts: self.texts,
+            bytes: self.bytes,
+            hash_mask,
+        }
+    }
+}

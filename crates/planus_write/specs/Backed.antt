@@ -1,0 +1,92 @@
+-- Bytes that grow at their front and what was promised of them, and how room is made for a part.
+use Rattle.std.specs.Prelude.{◌≡◌, ℕ, ◌+◌, ◌-◌, ◌<◌, ◌≤◌, List, ◌∷◌, ◌++◌, length, replicate}
+use Rattle.std.specs.Prelude.{Result, Ok, Err}
+use Rattle.planus_back.specs.Descriptions.{Describes}
+use Rattle.planus_back.specs.Promises.{Promise, Keep, greatest_alignment}
+use Rattle.planus_back.specs.Padding.{greatest_place, promise_of, IsLeastPadding}
+use Rattle.planus_write.specs.declared.errors.BuildError.{BuildError}
+use Rattle.planus_write.specs.declared.errors.BuildError.TheVariants.{OutOfMemory, TooLarge}
+use Rattle.planus_write.specs.declared.plan.Plan.{Plan}
+
+-- The bytes; the remainder and the mask that describe what was promised of them; and how many bytes
+-- fit without memory.
+pub record Backed : Type 0 where
+  pub bytes : List ℕ
+  pub delayed : ℕ
+  pub mask : ℕ
+  pub room : ℕ
+
+-- the promises are described at the length of the bytes
+abbrev pub DescribedBy : Backed → List Promise → Type 0
+DescribedBy backed promises = Describes (length backed.bytes) backed.delayed backed.mask promises
+
+-- The bytes were put in front, into the room that there was for them, and nothing else changed.
+abbrev pub PutsBytes : List ℕ → Backed → Backed → Type 0
+PutsBytes bytes old new =
+    new ≡ record old { bytes = bytes ++ old.bytes; room = old.room - length bytes }
+
+-- There is room for a part of that size and for the padding behind it, and nothing else changed.
+-- The padding is the least, and what is planned describes the promises with that of the part.
+pub record Plans (size alignment : ℕ) (old : Backed) (plan : Plan) (new : Backed) : Type 0 where
+  pub unchanged : new ≡ record old { room = new.room }
+  pub more : old.room ≤ new.room
+  pub enough : plan.padding + size ≤ new.room
+  pub as_was : plan.padding + size ≤ old.room → new.room ≡ old.room
+  pub is_place : plan.place ≡ length old.bytes + plan.padding + size
+  pub fits : plan.place ≤ greatest_place
+  pub below : plan.padding < alignment
+  pub least : (promises : List Promise) → DescribedBy old promises
+      → IsLeastPadding (length old.bytes) promises size alignment plan.padding
+  pub kept : (promises : List Promise) → DescribedBy old promises
+      → greatest_alignment 1 promises ≤ alignment
+      → Keep (promise_of plan.place alignment ∷ promises) plan.place
+  pub described : (promises : List Promise) → DescribedBy old promises
+      → Describes plan.place plan.promises.delayed plan.promises.mask
+      (promise_of plan.place alignment ∷ promises)
+
+-- The padding was written, and the promise made.
+abbrev pub Pads : Plan → Backed → Backed → Type 0
+Pads plan old new =
+    new ≡ record {
+      bytes = replicate plan.padding 0 ++ old.bytes;
+      delayed = plan.promises.delayed;
+      mask = plan.promises.mask;
+      room = old.room - plan.padding;
+    }
+
+-- Padding was written, and there is room for a part of that size at the place that was answered.
+pub record MakesRoom (size alignment : ℕ) (old : Backed) (place : ℕ) (new : Backed) : Type 0 where
+  pub padding : ℕ
+  pub is_place : place ≡ length old.bytes + padding + size
+  pub below : padding < alignment
+  pub fits : place ≤ greatest_place
+  pub bytes : new.bytes ≡ replicate padding 0 ++ old.bytes
+  pub size_fits : size ≤ new.room
+  pub room : padding + size ≤ old.room → new.room + padding ≡ old.room
+  pub least : (promises : List Promise) → DescribedBy old promises
+      → IsLeastPadding (length old.bytes) promises size alignment padding
+  pub kept : (promises : List Promise) → DescribedBy old promises
+      → greatest_alignment 1 promises ≤ alignment
+      → Keep (promise_of place alignment ∷ promises) place
+  pub described : (promises : List Promise) → DescribedBy old promises
+      → Describes place new.delayed new.mask (promise_of place alignment ∷ promises)
+
+-- why there is no room for a part of that size and alignment
+abbrev pub LacksRoom : ℕ → ℕ → Backed → BuildError → Type 0
+LacksRoom size alignment old TooLarge = (promises : List Promise) → DescribedBy old promises
+    → (padding : ℕ) × IsLeastPadding (length old.bytes) promises size alignment padding
+    × (greatest_place < length old.bytes + padding + size)
+LacksRoom size alignment old OutOfMemory = (promises : List Promise) → DescribedBy old promises
+    → (padding : ℕ) × IsLeastPadding (length old.bytes) promises size alignment padding
+    × (length old.bytes + padding + size ≤ greatest_place) × (old.room < padding + size)
+
+-- Room for a part of that size and alignment was planned, or it was refused.
+abbrev pub Reserves : ℕ → ℕ → Backed → Result Plan BuildError → Backed → Type 0
+Reserves size alignment old (Ok plan) new = Plans size alignment old plan new
+Reserves size alignment old (Err error) new = (new ≡ old) × LacksRoom size alignment old error
+
+-- Room was made for a part of that size and alignment, at the place that is answered, or it was
+-- refused.
+abbrev pub Begins : ℕ → ℕ → Backed → Result ℕ BuildError → Backed → Type 0
+Begins size alignment old (Ok place) new = MakesRoom size alignment old place new
+Begins size alignment old (Err error) new = (new ≡ old) × LacksRoom size alignment old error

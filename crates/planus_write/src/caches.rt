@@ -1,0 +1,32 @@
+//! Which contents a builder writes once.
+ghost use Rattle.std.specs.Prelude.{◌≡◌, ◌-◌, ◌^◌, true};
+
+/// Which contents a builder writes once: equal ones are found by the hashes of their bytes.
+#[derive(Clone, Copy, Debug)]
+pub struct Caches {
+    /// Equal vtables.
+    pub vtables: bool,
+    /// Equal texts.
+    pub texts: bool,
+    /// Equal byte lists, of `u8` or of `i8`.
+    pub bytes: bool,
+    /// The bits of a hash that are used. With 0 all hashes are equal, which costs time alone.
+    pub hash_mask: u64,
+}
+
+impl Caches {
+    /// Equal contents of every kind are written once, and all bits of their hashes are used.
+    pub const fn all() -> Caches
+        ensures vtables { result.vtables ≡ true }
+        ensures texts { result.texts ≡ true }
+        ensures bytes { result.bytes ≡ true }
+        ensures hash_mask { result.hash_mask ≡ 2 ^ 64 - 1 }
+    {
+        Caches {
+            vtables: true,
+            texts: true,
+            bytes: true,
+            hash_mask: u64::MAX,
+        }
+    }
+}

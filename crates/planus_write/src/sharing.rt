@@ -1,0 +1,122 @@
+//! Contents of one kind that are written once.
+ghost use Rattle.std.specs.Prelude.{◌≡◌, ◌+◌, ◌≤◌, ◌^◌, true, IfOk, OnOk, OnErr, length};
+ghost use Rattle.planus_back.specs.Caches.{Fits, IsEmpty};
+ghost use Rattle.planus_back.specs.Padding.{greatest_place};
+ghost use Rattle.planus_back.specs.Promises.{IsPowerOfTwo};
+ghost use Rattle.planus_write.specs.Sharing.{Finds, Keeps, Starts};
+
+use crate::backing::Backing;
+use crate::byte_lists::ByteItems;
+use crate::errors::BuildError;
+use crate::start::Start;
+use planus_back::{Cache, GetCacheKey};
+use std::alloc::{AllocError, Global};
+use std::fmt;
+use std::marker::Model;
+
+/// Contents of one kind, found again if equal ones are to be written once.
+#[derive(Drop)]
+pub(crate) struct Sharing<C> {
+    on: bool,
+    cache: Cache<C>,
+}
+
+impl<C> Model for Sharing<C> {
+    ghost use Rattle.planus_write.specs.Sharing.{Shares};
+
+    ghost Value = { Shares };
+
+    ghost view = { λ a. record { on = a.on; held = a.cache } };
+}
+
+impl<C: GetCacheKey> Sharing<C> {
+    // Nothing is found yet, and nothing ever will be if this isn't on.
+    pub(crate) fn new(
+        alloc: Global,
+        on: bool,
+        hash_mask: u64,
+    ) -> std::result::Result<Sharing<C>, AllocError>
+        ensures on { IfOk result (λ sharing. sharing.on ≡ on) }
+        ensures empty { IfOk result (λ sharing. IsEmpty sharing.held) }
+    {
+        Ok(Sharing {
+            on,
+            cache: Cache::new(alloc, hash_mask)?,
+        })
+    }
+
+    // The distance at which equal contents stand in the bytes.
+    #[inline]
+    fn find<L: ByteItems>(&self, serialized: &[u8], contents: &L) -> Option<u32>
+        requires { Fits C.key_in self.now.held serialized.now }
+        ensures { Finds C.key_in self.now serialized.now (L.bytes_of contents.now) result }
+    {
+        if !self.on {
+            return None;
+        }
+        contents.find_in(&self.cache, serialized)
+    }
+
+    // The contents stand at the distance, or are about to. A refusal of memory changes nothing.
+    #[inline]
+    fn keep<L: ByteItems>(
+        &mut self,
+        contents: &L,
+        distance: u32,
+    ) -> std::result::Result<(), AllocError>
+        ensures ok { OnOk result
+            (Keeps C.key_in (L.bytes_of contents.now) distance self.old self.new) }
+        ensures err { OnErr result ((self.old.on ≡ true) × (self.new ≡ self.old)) }
+    {
+        if self.on {
+            contents.insert_in(&mut self.cache, distance)?;
+        }
+        Ok(())
+    }
+
+    // Nothing is found any more.
+    pub(crate) fn clear(&mut self)
+        ensures on { self.new.on ≡ self.old.on }
+        ensures empty { IsEmpty self.new.held }
+    {
+        self.cache.clear();
+    }
+}
+
+// Finds equal contents, or makes room for a part of `size` bytes, in this order: it may be too
+// large; the memory of padding and part; that of the cache; the padding.
+#[inline]
+pub(crate) fn start<C: GetCacheKey, L: ByteItems>(
+    backing: &mut Backing,
+    sharing: &mut Sharing<C>,
+    contents: &L,
+    size: usize,
+    mask: usize,
+) -> std::result::Result<Start, BuildError>
+    requires power { IsPowerOfTwo (mask + 1) }
+    requires bound { mask + 1 ≤ 2 ^ 30 }
+    requires fits { Fits C.key_in sharing.old.held backing.old.bytes }
+    ensures started { Starts C.key_in (L.bytes_of contents.now) size (mask + 1)
+        backing.old sharing.old result backing.new sharing.new }
+    ensures small { length backing.old.bytes ≤ greatest_place }
+{
+    if let Some(distance) = sharing.find(backing.as_slice(), contents) {
+        return Ok(Start::Found(distance));
+    }
+    let plan = backing.reserve(size, mask)?;
+    sharing.keep(contents, plan.place)?;
+    backing.pad(&plan);
+    Ok(Start::Begun(plan.place))
+}
+
+/// Prints whether equal contents are written once.
+impl<C> fmt::Debug for Sharing<C> {
+    ghost use Rattle.std.specs.Prelude.{Some, if◌then◌else◌};
+    ghost use lib.Chars.{codes};
+
+    ghost debug_output = { λ sharing. Some (if sharing.on then codes "true" else codes "false") };
+
+    fn fmt<W: fmt::Write>(&self, f: &mut fmt::Formatter<W>) -> fmt::Result {
+        fmt::Debug::fmt(&self.on, f)
+    }
+}
