@@ -5,6 +5,7 @@ use crate::{
     check_version_compatibility, replay,
 };
 use std::alloc::{AllocError, Global};
+use std::process::Abort;
 use std::test::Fail;
 
 #[test]
@@ -20,14 +21,18 @@ fn this_version_alone(rt: HostRuntime) {
     }
 }
 
-#[test]
-fn a_text_is_written_and_read_back(rt: HostRuntime) -> Result<(), Fail> {
-    let mut builder = Builder::new(rt.alloc())?;
+fn a_text_is_written_in(rt: &impl Abort, builder: &mut Builder) -> Result<(), Fail> {
     let bytes = builder.finish("Axe", Some(*b"TEST"))?;
     assert_eq!(rt; bytes, b"\x08\0\0\0TEST\x03\0\0\0Axe\0".as_slice());
     let buffer = SliceWithStartOffset::new(bytes, 0);
     assert_eq!(rt; <&str as TableRead>::from_buffer(buffer, 0)?, "Axe");
     Ok(())
+}
+
+#[test]
+fn a_text_is_written_and_read_back(rt: HostRuntime) -> Result<(), Fail> {
+    let mut builder = Builder::new(rt.alloc())?;
+    a_text_is_written_in(&rt, &mut builder)
 }
 
 // The answer to a text and then this step.

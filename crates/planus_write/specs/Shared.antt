@@ -29,10 +29,6 @@ pub record Switches : Type 0 where
   pub byte_lists_on : Bool
   pub vtables_on : Bool
 
--- everything is written each time
-abbrev pub all_off : Switches
-all_off = record { texts_on = false; byte_lists_on = false; vtables_on = false }
-
 -- equal contents of every kind are written once
 abbrev pub all_on : Switches
 all_on = record { texts_on = true; byte_lists_on = true; vtables_on = true }

@@ -1,5 +1,5 @@
 -- What a builder is to its callers.
-use Rattle.std.specs.Prelude.{◌≡◌, ℕ, ◌-◌, List, ◌++◌, length, Option, Some, ◌↔◌}
+use Rattle.std.specs.Prelude.{◌≡◌, ℕ, List, ◌++◌, length, Option, Some, ◌↔◌}
 use Rattle.planus_back.specs.CacheKeys.{key_at, bytes_in, vtable_in}
 use Rattle.planus_back.specs.Caches.{Held, Has, Fits}
 use Rattle.planus_back.specs.Descriptions.{Describes}

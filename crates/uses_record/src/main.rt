@@ -34,10 +34,10 @@ fn unnamed(error: NamesError) -> io::Error {
     }
 }
 
-fn main(rt: HostRuntime) -> io::Result<()> {
-    let mut builder = Builder::new(rt.alloc()).map_err(refused)?;
+/// Writes a ship, and prints what is read of it.
+fn print_ship(rt: &HostRuntime, builder: &mut Builder) -> io::Result<()> {
     let cargo = [12, 50];
-    let ship = Ship::create(&mut builder, "Argo", 250, Some(&cargo)).map_err(refused)?;
+    let ship = Ship::create(builder, "Argo", 250, Some(&cargo)).map_err(refused)?;
     let bytes = builder.finish(ship, None).map_err(refused)?;
 
     let ship = ShipRef::read_as_root(bytes).map_err(unreadable)?;
@@ -51,14 +51,24 @@ fn main(rt: HostRuntime) -> io::Result<()> {
             println!(rt; "cargo {weight}")?;
         }
     }
+    Ok(())
+}
 
-    builder.clear();
-    let first = Ship::create(&mut builder, "Argo", 100, None).map_err(refused)?;
-    let second = Ship::create(&mut builder, "Beagle", 90, None).map_err(refused)?;
+/// Writes a list of two ships, and prints their names.
+fn print_names(rt: &HostRuntime, builder: &mut Builder) -> io::Result<()> {
+    let first = Ship::create(builder, "Argo", 100, None).map_err(refused)?;
+    let second = Ship::create(builder, "Beagle", 90, None).map_err(refused)?;
     let fleet = [first, second];
     let bytes = builder.finish(&fleet[..], None).map_err(refused)?;
     for name in names_in(rt.alloc(), bytes).map_err(unnamed)?.as_slice() {
         println!(rt; "{name}")?;
     }
     Ok(())
+}
+
+fn main(rt: HostRuntime) -> io::Result<()> {
+    let mut builder = Builder::new(rt.alloc()).map_err(refused)?;
+    print_ship(&rt, &mut builder)?;
+    builder.clear();
+    print_names(&rt, &mut builder)
 }

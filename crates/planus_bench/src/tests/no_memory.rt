@@ -12,6 +12,8 @@ use planus::{
 };
 use planus_exhaust::exhaust;
 use planus_read::located;
+use std::alloc::Global;
+use std::process::Abort;
 use std::test::Fail;
 
 const BYTES: [u8; 16] = [
@@ -226,27 +228,31 @@ fn no_reader_asks_for_memory(rt: HostRuntime) -> Result<(), Fail> {
     Ok(())
 }
 
-// A builder with no cache goes on in its room, refuses what doesn't fit, and writes that when memory
-// is there again.
-#[test]
-fn a_builder_with_refused_memory(rt: HostRuntime) -> Result<(), Fail> {
-    let alloc = rt.alloc();
+// Whether there is no memory for one more builder.
+fn new_is_refused(alloc: Global) -> bool {
+    matches!(Builder::new(alloc), Err(BuildError::OutOfMemory))
+}
+
+// Answers false where memory was left.
+fn a_builder_with_refused_memory_in(
+    rt: &impl Abort,
+    alloc: Global,
+    builder: &mut Builder,
+) -> Result<bool, Fail> {
     let text = "sixty-three bytes, which are more than are left of a room of 64";
     let axe = b"\x04\0\0\0\x03\0\0\0Axe\0".as_slice();
     let mut held: Vec<Vec<u8>> = Vec::with_capacity(alloc, 262144)?;
-    let mut builder = Builder::with_caches(alloc, 64, Switches::of(0).caches(0))?;
     let exhausted = exhaust(alloc, &mut held);
-    let made = Builder::new(alloc).map(|_| ());
+    let made_none = new_is_refused(alloc);
     let finished = builder.finish("Axe", None).is_ok();
     let refused = builder.create_string(text).map(|_| ());
     let unprepared = builder.create_vector::<u16, &[u16]>(&[1, 2]).map(|_| ());
     let room = builder.room();
     drop(held);
     if !exhausted {
-        println!(rt; "memory was left: this test does not apply")?;
-        return Ok(());
+        return Ok(false);
     }
-    assert_eq!(rt; made, Err(BuildError::OutOfMemory));
+    assert!(rt; made_none, "one more builder");
     assert!(rt; finished, "a finish in its room");
     assert_eq!(rt; refused, Err(BuildError::OutOfMemory));
     // There is room for the list, and no memory for its prepared items.
@@ -255,6 +261,17 @@ fn a_builder_with_refused_memory(rt: HostRuntime) -> Result<(), Fail> {
     assert_eq!(rt; builder.create_string(text)?.distance(), 80);
     let list = builder.create_vector::<u16, &[u16]>(&[1, 2])?;
     assert_eq!(rt; list.distance(), 88);
+    Ok(true)
+}
+
+// A builder with no cache goes on in its room, refuses what doesn't fit, and writes that when memory
+// is there again.
+#[test]
+fn a_builder_with_refused_memory(rt: HostRuntime) -> Result<(), Fail> {
+    let mut builder = Builder::with_caches(rt.alloc(), 64, Switches::of(0).caches(0))?;
+    if !a_builder_with_refused_memory_in(&rt, rt.alloc(), &mut builder)? {
+        println!(rt; "memory was left: this test does not apply")?;
+    }
     Ok(())
 }
 

@@ -6,6 +6,7 @@ use super::alignments::mask_of;
 use planus::{BuildError, Builder, Fill};
 use planus_back::Promises;
 use std::alloc::{AllocError, Global};
+use std::process::Abort;
 use std::test::Fail;
 
 const FOUR_WRITES: &[u8] = b"\x05\0\0\0\x000123456ABCDEFGHIJKLMNO";
@@ -88,21 +89,25 @@ fn finish_last(builder: &mut Builder) -> Result<&[u8], BuildError> {
     builder.finish(root, None)
 }
 
+fn parts_and_clear_in(rt: &impl Abort, builder: &mut Builder) -> Result<(), Fail> {
+    assert_eq!(rt; finish_last(builder)?, b"\x04\0\0\0".as_slice());
+    builder.clear();
+    put_four(builder)?;
+    assert_eq!(rt; finish_last(builder)?, FOUR_WRITES);
+    builder.clear();
+    put(builder, b"IJKL", 4)?;
+    put(builder, b"X", 1)?;
+    put(builder, b"Y", 1)?;
+    put(builder, b"ABCDEFGH", 8)?;
+    let after_clear = b"\x08\0\0\0\0\0\0\0ABCDEFGH\0\0YXIJKL";
+    assert_eq!(rt; finish_last(builder)?, after_clear.as_slice());
+    Ok(())
+}
+
 #[test]
 fn parts_and_clear(rt: HostRuntime) -> Result<(), Fail> {
-    let mut empty = Builder::new(rt.alloc())?;
-    assert_eq!(rt; finish_last(&mut empty)?, b"\x04\0\0\0".as_slice());
     let mut builder = Builder::new(rt.alloc())?;
-    put_four(&mut builder)?;
-    assert_eq!(rt; finish_last(&mut builder)?, FOUR_WRITES);
-    builder.clear();
-    put(&mut builder, b"IJKL", 4)?;
-    put(&mut builder, b"X", 1)?;
-    put(&mut builder, b"Y", 1)?;
-    put(&mut builder, b"ABCDEFGH", 8)?;
-    let after_clear = b"\x08\0\0\0\0\0\0\0ABCDEFGH\0\0YXIJKL";
-    assert_eq!(rt; finish_last(&mut builder)?, after_clear.as_slice());
-    Ok(())
+    parts_and_clear_in(&rt, &mut builder)
 }
 
 // None where the part is too large.
@@ -134,13 +139,11 @@ fn delays_after_clear(rt: HostRuntime) {
     }
 }
 
-#[test]
-fn the_filler_is_told_its_place(rt: HostRuntime) -> Result<(), Fail> {
-    let mut builder = Builder::new(rt.alloc())?;
-    put(&mut builder, b"MNO", 1)?;
+fn the_filler_is_told_its_place_in(rt: &impl Abort, builder: &mut Builder) -> Result<(), Fail> {
+    put(builder, b"MNO", 1)?;
     builder.write_with(4, mask_of(16), &OwnPlace)?;
     assert_eq!(rt; builder.as_slice(), b"\x07\0\0\0MNO".as_slice());
-    put(&mut builder, b"X", 8)?;
+    put(builder, b"X", 8)?;
     builder.write_with(4, mask_of(16), &OwnPlace)?;
     let bytes = b"\x17\0\0\0\0\0\0\0X\0\0\0\0\0\0\0\x07\0\0\0MNO".as_slice();
     assert_eq!(rt; builder.as_slice(), bytes);
@@ -148,14 +151,24 @@ fn the_filler_is_told_its_place(rt: HostRuntime) -> Result<(), Fail> {
 }
 
 #[test]
-fn too_large(rt: HostRuntime) -> Result<(), Fail> {
-    let mut builder = Builder::with_capacity(rt.alloc(), 64)?;
-    put_four(&mut builder)?;
+fn the_filler_is_told_its_place(rt: HostRuntime) -> Result<(), Fail> {
+    let mut builder = Builder::new(rt.alloc())?;
+    the_filler_is_told_its_place_in(&rt, &mut builder)
+}
+
+fn too_large_in(rt: &impl Abort, builder: &mut Builder) -> Result<(), Fail> {
+    put_four(builder)?;
     let refused = builder.write_with(2147483648, mask_of(1), &Repeated { byte: 7 });
     assert_eq!(rt; refused, Err(BuildError::TooLarge));
     assert_eq!(rt; (builder.len(), builder.room()), (22, 42));
-    assert_eq!(rt; finish_last(&mut builder)?, FOUR_WRITES);
+    assert_eq!(rt; finish_last(builder)?, FOUR_WRITES);
     Ok(())
+}
+
+#[test]
+fn too_large(rt: HostRuntime) -> Result<(), Fail> {
+    let mut builder = Builder::with_capacity(rt.alloc(), 64)?;
+    too_large_in(&rt, &mut builder)
 }
 
 // The numbers of the test with random sizes.
@@ -219,8 +232,7 @@ fn write_parts(
 
 // Writes parts of the same sizes and alignments. Tells whether each filler was called at the length
 // with its part.
-fn fillers_know_their_places(alloc: Global, numbers: &mut Numbers) -> Result<bool, Fail> {
-    let mut builder = Builder::new(alloc)?;
+fn fillers_know_their_places(builder: &mut Builder, numbers: &mut Numbers) -> Result<bool, Fail> {
     for _ in 1..50 {
         let size = (numbers.draw() % 128) as usize;
         let mask = mask_of(1 << (numbers.draw() % 5));
@@ -243,36 +255,44 @@ fn random_bytes(alloc: Global, numbers: &mut Numbers) -> Result<Vec<u8>, AllocEr
     Ok(bytes)
 }
 
+// Writes random parts and a root, and looks at them in the finished bytes.
+fn random_parts_in(
+    rt: &impl Abort,
+    alloc: Global,
+    builder: &mut Builder,
+    numbers: &mut Numbers,
+) -> Result<(), Fail> {
+    let parts = write_parts(alloc, builder, numbers)?;
+    let root = random_bytes(alloc, numbers)?;
+    put(builder, root.as_slice(), 2)?;
+    let distance = builder.len();
+    let bytes = finish_last(builder)?;
+    for part in &parts {
+        assert!(rt; stands(bytes, *part), "byte {}", part.byte);
+    }
+    let Some(start) = bytes.len().checked_sub(distance) else {
+        return Err(Fail::new("no root"));
+    };
+    let (front, rest) = bytes.split_at(start);
+    assert_eq!(rt; start % 2, 0);
+    assert!(rt; rest.starts_with(root.as_slice()), "the root");
+    assert!(rt;
+        front.starts_with(&(start as u64).to_le_bytes()[..4]),
+        "the word that leads to the root"
+    );
+    Ok(())
+}
+
 #[test]
 fn random_parts_stand_aligned(rt: HostRuntime) -> Result<(), Fail> {
-    let alloc = rt.alloc();
     let mut numbers = Numbers { last: 1 };
     for round in 0..50 {
         let mut again = Numbers { last: numbers.last };
-        assert!(rt;
-            fillers_know_their_places(alloc, &mut again)?,
-            "round {round}"
-        );
-        let mut builder = Builder::new(alloc)?;
-        let parts = write_parts(alloc, &mut builder, &mut numbers)?;
-        let root = random_bytes(alloc, &mut numbers)?;
-        put(&mut builder, root.as_slice(), 2)?;
-        let distance = builder.len();
-        let bytes = finish_last(&mut builder)?;
-        for part in &parts {
-            assert!(rt; stands(bytes, *part), "byte {} in round {round}", part.byte);
-        }
-        let Some(start) = bytes.len().checked_sub(distance) else {
-            assert!(rt; false, "no root in round {round}");
-            return Ok(());
-        };
-        let (front, rest) = bytes.split_at(start);
-        assert!(rt; start % 2 == 0, "round {round}");
-        assert!(rt; rest.starts_with(root.as_slice()), "round {round}");
-        assert!(rt;
-            front.starts_with(&(start as u64).to_le_bytes()[..4]),
-            "round {round}"
-        );
+        let mut builder = Builder::new(rt.alloc())?;
+        random_parts_in(&rt, rt.alloc(), &mut builder, &mut numbers)?;
+        builder.clear();
+        let told = fillers_know_their_places(&mut builder, &mut again)?;
+        assert!(rt; told, "round {round}");
     }
     Ok(())
 }

@@ -6,6 +6,7 @@ use super::settings::Switches;
 use super::unions::two_texts;
 use planus::{Caches, Field, FieldValue, Finished, Step, replay};
 use std::alloc::{AllocError, Global};
+use std::process::Abort;
 use std::test::Fail;
 
 // Numbers that look random, and are the same each time.
@@ -262,25 +263,28 @@ fn gives(alloc: Global, caches: Caches, steps: &[Step], want: &[Finished]) -> Re
     Ok(got.len() == want.len())
 }
 
-#[test]
-fn runs_in_every_setting(rt: HostRuntime) -> Result<(), Fail> {
-    let alloc = rt.alloc();
-    let mixed = mixed_steps(alloc, 300)?;
-    assert_eq!(rt; mixed.len(), 300);
-    assert_eq!(rt; counts(mixed.as_slice()), (14, 65, 50, 22));
-    for steps in [weapon(alloc)?, two_texts(alloc)?, repeated(alloc)?, mixed] {
-        for number in 0..8 {
-            let switches = Switches::of(number);
-            let want = plain_run(alloc, switches, steps.as_slice())?;
-            for mask in [0, 1, u64::MAX] {
-                let caches = switches.caches(mask);
-                assert!(rt;
-                    gives(alloc, caches, steps.as_slice(), want.as_slice())?,
-                    "{} steps, {caches:?}",
-                    steps.len()
-                );
-            }
+// Compares replays in every setting, with none, one or all of the bits of a hash, with plain runs.
+fn replays_agree(rt: &impl Abort, alloc: Global, steps: &[Step]) -> Result<(), Fail> {
+    for number in 0..8 {
+        let switches = Switches::of(number);
+        let want = plain_run(alloc, switches, steps)?;
+        for mask in [0, 1, u64::MAX] {
+            let caches = switches.caches(mask);
+            let agrees = gives(alloc, caches, steps, want.as_slice())?;
+            assert!(rt; agrees, "{} steps, {caches:?}", steps.len());
         }
     }
     Ok(())
+}
+
+#[test]
+fn runs_in_every_setting(rt: HostRuntime) -> Result<(), Fail> {
+    let alloc = rt.alloc();
+    replays_agree(&rt, alloc, weapon(alloc)?.as_slice())?;
+    replays_agree(&rt, alloc, two_texts(alloc)?.as_slice())?;
+    replays_agree(&rt, alloc, repeated(alloc)?.as_slice())?;
+    let mixed = mixed_steps(alloc, 300)?;
+    assert_eq!(rt; mixed.len(), 300);
+    assert_eq!(rt; counts(mixed.as_slice()), (14, 65, 50, 22));
+    replays_agree(&rt, alloc, mixed.as_slice())
 }

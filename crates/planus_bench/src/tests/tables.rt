@@ -7,6 +7,7 @@ use planus::{
     SignedList, SliceWithStartOffset, TableRead, TableWriter, Vector, WriteAsPrimitive,
 };
 use std::marker::PhantomData;
+use std::process::Abort;
 use std::test::Fail;
 
 // One field.
@@ -68,51 +69,56 @@ fn read<'a, T: TableRead<'a>>(bytes: &'a [u8]) -> Result<T, Fail> {
     Ok(table.access_required::<T>(1, "Table", "field")?)
 }
 
-#[test]
-fn numbers_and_truth_values(rt: HostRuntime) -> Result<(), Fail> {
-    let mut builder = Builder::new(rt.alloc())?;
-    assert_eq!(rt; read::<u8>(finished::<u8, u8>(&mut builder, 255)?)?, 255);
-    assert_eq!(rt; read::<u16>(finished::<u16, u16>(&mut builder, 513)?)?, 513);
+fn numbers_and_truth_values_in(rt: &impl Abort, builder: &mut Builder) -> Result<(), Fail> {
+    assert_eq!(rt; read::<u8>(finished::<u8, u8>(builder, 255)?)?, 255);
+    assert_eq!(rt; read::<u16>(finished::<u16, u16>(builder, 513)?)?, 513);
     assert_eq!(rt;
-        read::<u32>(finished::<u32, u32>(&mut builder, u32::MAX)?)?,
+        read::<u32>(finished::<u32, u32>(builder, u32::MAX)?)?,
         u32::MAX
     );
     assert_eq!(rt;
-        read::<u64>(finished::<u64, u64>(&mut builder, 1 << 63)?)?,
+        read::<u64>(finished::<u64, u64>(builder, 1 << 63)?)?,
         1 << 63
     );
-    assert_eq!(rt; read::<i8>(finished::<i8, i8>(&mut builder, -1)?)?, -1);
-    assert_eq!(rt; read::<i16>(finished::<i16, i16>(&mut builder, -2)?)?, -2);
+    assert_eq!(rt; read::<i8>(finished::<i8, i8>(builder, -1)?)?, -1);
+    assert_eq!(rt; read::<i16>(finished::<i16, i16>(builder, -2)?)?, -2);
     assert_eq!(rt;
-        read::<i32>(finished::<i32, i32>(&mut builder, i32::MIN)?)?,
+        read::<i32>(finished::<i32, i32>(builder, i32::MIN)?)?,
         i32::MIN
     );
-    assert_eq!(rt; read::<i64>(finished::<i64, i64>(&mut builder, -3)?)?, -3);
+    assert_eq!(rt; read::<i64>(finished::<i64, i64>(builder, -3)?)?, -3);
+    assert_eq!(rt; read::<bool>(finished::<bool, bool>(builder, true)?)?, true);
+    Ok(())
+}
+
+#[test]
+fn numbers_and_truth_values(rt: HostRuntime) -> Result<(), Fail> {
+    let mut builder = Builder::new(rt.alloc())?;
+    numbers_and_truth_values_in(&rt, &mut builder)
+}
+
+fn references_in(rt: &impl Abort, builder: &mut Builder) -> Result<(), Fail> {
+    let text = builder.create_string("Axe")?;
     assert_eq!(rt;
-        read::<bool>(finished::<bool, bool>(&mut builder, true)?)?,
-        true
+        read::<&str>(finished::<Offset<_>, _>(builder, text)?)?,
+        "Axe"
     );
+    let bytes = builder.create_vector(ByteList(b"\x01\x02"))?;
+    let read_back = read::<&[u8]>(finished::<Offset<_>, _>(builder, bytes)?)?;
+    assert_eq!(rt; read_back, b"\x01\x02".as_slice());
+    let signed = builder.create_vector(SignedList(&[-1, 2]))?;
+    let read_back = read::<SignedBytes>(finished::<Offset<_>, _>(builder, signed)?)?;
+    assert_eq!(rt; (read_back.get(0), read_back.get(1)), (Some(-1), Some(2)));
+    let list = builder.create_vector([7u16, 8])?;
+    let read_back = read::<Vector<u16>>(finished::<Offset<_>, _>(builder, list)?)?;
+    assert_eq!(rt; (read_back.get(0), read_back.get(1)), (Some(7), Some(8)));
     Ok(())
 }
 
 #[test]
 fn references(rt: HostRuntime) -> Result<(), Fail> {
     let mut builder = Builder::new(rt.alloc())?;
-    let text = builder.create_string("Axe")?;
-    assert_eq!(rt;
-        read::<&str>(finished::<Offset<_>, _>(&mut builder, text)?)?,
-        "Axe"
-    );
-    let bytes = builder.create_vector(ByteList(b"\x01\x02"))?;
-    let read_back = read::<&[u8]>(finished::<Offset<_>, _>(&mut builder, bytes)?)?;
-    assert_eq!(rt; read_back, b"\x01\x02".as_slice());
-    let signed = builder.create_vector(SignedList(&[-1, 2]))?;
-    let read_back = read::<SignedBytes>(finished::<Offset<_>, _>(&mut builder, signed)?)?;
-    assert_eq!(rt; (read_back.get(0), read_back.get(1)), (Some(-1), Some(2)));
-    let list = builder.create_vector([7u16, 8])?;
-    let read_back = read::<Vector<u16>>(finished::<Offset<_>, _>(&mut builder, list)?)?;
-    assert_eq!(rt; (read_back.get(0), read_back.get(1)), (Some(7), Some(8)));
-    Ok(())
+    references_in(&rt, &mut builder)
 }
 
 #[test]

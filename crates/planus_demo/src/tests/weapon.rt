@@ -4,6 +4,8 @@ use crate::weapon::{Weapon, WeaponRef};
 use planus::{
     Builder, DefaultValue, Error, Offset, ReadAsRoot, SliceWithStartOffset, TableRead, Vector,
 };
+use std::alloc::Global;
+use std::process::Abort;
 use std::test::Fail;
 
 // A weapon with the name `Axe` and a damage of 24, finished.
@@ -25,11 +27,9 @@ fn finish_with(builder: &mut Builder, root: Offset<Weapon>) -> Result<&[u8], Fai
     Ok(builder.finish(root, None)?)
 }
 
-#[test]
-fn an_axe(rt: HostRuntime) -> Result<(), Fail> {
-    let mut builder = Builder::new(rt.alloc())?;
-    let axe = Weapon::create(&mut builder, "Axe", 24i16)?;
-    let bytes = finish_with(&mut builder, axe)?;
+fn an_axe_in(rt: &impl Abort, builder: &mut Builder) -> Result<(), Fail> {
+    let axe = Weapon::create(builder, "Axe", 24i16)?;
+    let bytes = finish_with(builder, axe)?;
     assert_eq!(rt; bytes, AXE);
     let axe = WeaponRef::read_as_root(bytes)?;
     assert_eq!(rt; axe.name()?, Some("Axe"));
@@ -38,24 +38,34 @@ fn an_axe(rt: HostRuntime) -> Result<(), Fail> {
 }
 
 #[test]
-fn fields_left_out(rt: HostRuntime) -> Result<(), Fail> {
+fn an_axe(rt: HostRuntime) -> Result<(), Fail> {
     let mut builder = Builder::new(rt.alloc())?;
+    an_axe_in(&rt, &mut builder)
+}
+
+fn fields_left_out_in(rt: &impl Abort, builder: &mut Builder) -> Result<(), Fail> {
     let unnamed: Option<&str> = None;
-    let nothing = Weapon::create(&mut builder, unnamed, 0i16)?;
-    let bytes = finish_with(&mut builder, nothing)?;
+    let nothing = Weapon::create(builder, unnamed, 0i16)?;
+    let bytes = finish_with(builder, nothing)?;
     // The word leads to the vtable behind it, which has no slots.
     assert_eq!(rt; bytes, b"\x04\0\0\0\xfc\xff\xff\xff\x04\0\x04\0".as_slice());
     let weapon = WeaponRef::read_as_root(bytes)?;
     assert_eq!(rt; (weapon.name()?, weapon.damage()?), (None, 0));
     builder.clear();
-    let unnamed = Weapon::create(&mut builder, (), -3i16)?;
-    let weapon = WeaponRef::read_as_root(finish_with(&mut builder, unnamed)?)?;
+    let unnamed = Weapon::create(builder, (), -3i16)?;
+    let weapon = WeaponRef::read_as_root(finish_with(builder, unnamed)?)?;
     assert_eq!(rt; (weapon.name()?, weapon.damage()?), (None, -3));
     builder.clear();
-    let harmless = Weapon::create(&mut builder, Some("Feather"), DefaultValue)?;
-    let weapon = WeaponRef::read_as_root(finish_with(&mut builder, harmless)?)?;
+    let harmless = Weapon::create(builder, Some("Feather"), DefaultValue)?;
+    let weapon = WeaponRef::read_as_root(finish_with(builder, harmless)?)?;
     assert_eq!(rt; (weapon.name()?, weapon.damage()?), (Some("Feather"), 0));
     Ok(())
+}
+
+#[test]
+fn fields_left_out(rt: HostRuntime) -> Result<(), Fail> {
+    let mut builder = Builder::new(rt.alloc())?;
+    fields_left_out_in(&rt, &mut builder)
 }
 
 #[test]
@@ -87,11 +97,9 @@ fn damaged_bytes(rt: HostRuntime) -> Result<(), Fail> {
     Ok(())
 }
 
-#[test]
-fn a_list_of_weapons(rt: HostRuntime) -> Result<(), Fail> {
-    let mut builder = Builder::new(rt.alloc())?;
-    let axe = Weapon::create(&mut builder, "Axe", 24i16)?;
-    let bow = Weapon::create(&mut builder, "Bow", 12i16)?;
+fn a_list_of_weapons_in(rt: &impl Abort, alloc: Global, builder: &mut Builder) -> Result<(), Fail> {
+    let axe = Weapon::create(builder, "Axe", 24i16)?;
+    let bow = Weapon::create(builder, "Bow", 12i16)?;
     let length = builder.len();
     if axe.distance() as usize > length || bow.distance() as usize > length {
         return Err(Fail::new("the builder has no such weapon"));
@@ -100,7 +108,7 @@ fn a_list_of_weapons(rt: HostRuntime) -> Result<(), Fail> {
     let bytes = builder.finish(&list[..], None)?;
     let whole = SliceWithStartOffset::new(bytes, 0);
     let weapons: Vector<'_, Result<WeaponRef<'_>, Error>> = TableRead::from_buffer(whole, 0)?;
-    let mut read = Vec::new(rt.alloc());
+    let mut read = Vec::new(alloc);
     for weapon in weapons.iter() {
         let weapon = weapon?;
         read.push((weapon.name()?, weapon.damage()?))?;
@@ -110,4 +118,10 @@ fn a_list_of_weapons(rt: HostRuntime) -> Result<(), Fail> {
         [(Some("Axe"), 24), (Some("Bow"), 12)].as_slice()
     );
     Ok(())
+}
+
+#[test]
+fn a_list_of_weapons(rt: HostRuntime) -> Result<(), Fail> {
+    let mut builder = Builder::new(rt.alloc())?;
+    a_list_of_weapons_in(&rt, rt.alloc(), &mut builder)
 }
