@@ -10,8 +10,9 @@ use Rattle.std.specs.Result.{OnOk}
 use Rattle.std.specs.declared.alloc.AllocError.{AllocError}
 use mathlib.Core.Logic.{◌≢◌}
 use Rattle.planus_back.specs.CacheKeys.{key_at}
+use Rattle.planus_back.specs.declared.bucket.Bucket.{Bucket}
 use Rattle.planus_back.specs.Caches.{Held, Has, Fits, bucket, cut_hash}
-use Rattle.planus_back.specs.Caches.{IsEmpty, Adds, FitsWhereKeyStands, IsFound}
+use Rattle.planus_back.specs.Caches.{IsEmpty, Adds, FitsWhereKeyStands, FitsWhereItsKeyStands, IsBucketOf, IsFound}
 use Rattle.planus_back.specs.Buckets.{listed, AddsAt, FoundAmong}
 use Rattle.planus_back.proofs.Buckets.{lookup-listed}
 use Rattle.std.specs.declared.vec.Vec.{Vec}
@@ -127,21 +128,23 @@ pub insert_adds : (s t old : Held) (h d : ℕ) (r : Result (Unit {0}) AllocError
 insert_adds s t old h d (Ok x) e adds = rw (← e) (Adds-from s t h d adds)
 insert_adds s t old h d (Err x) e adds = tt
 
-pub insert_fits : (key_in : List ℕ → Option (List ℕ)) (s t old : Held) (key : List ℕ) (h d : ℕ) (r : Result (Unit {0}) AllocError) → s ≡ old → t.mask ≡ s.mask
-    → cut_hash s.mask key ≡ h → OnOk r (AddsAt s.buckets h d t.buckets) → OnOk r (FitsWhereKeyStands key_in old key d t)
-insert_fits key_in s t old key h d (Ok x) e mask cut adds = rw (← e) (Fits-from s t h d adds key_in key mask cut)
-insert_fits key_in s t old key h d (Err x) e mask cut adds = tt
+pub insert_fits : (key_in : List ℕ → Option (List ℕ)) (s t old : Held) (b : Bucket) (d : ℕ) (r : Result (Unit {0}) AllocError) → s ≡ old → t.mask ≡ s.mask
+    → OnOk r (AddsAt s.buckets b.hash d t.buckets) → OnOk r (FitsWhereItsKeyStands key_in old b d t)
+unfolding IsBucketOf
+insert_fits key_in s t old b d (Ok x) e mask adds = λ key is. rw (← e) (Fits-from s t b.hash d adds key_in key mask (ap (λ held. cut_hash held.mask key) e ∙ sym is))
+insert_fits key_in s t old b d (Err x) e mask adds = tt
 
-module _ {Z : Type 0} (key_in : List ℕ → Option (List ℕ)) (es : List (ℕ × Vec ℕ Z)) (s old : Held) (h : ℕ) (bytes key : List ℕ) (opened : s ≡ old) (is : s.buckets ≡ listed es)
-    (cut : cut_hash s.mask key ≡ h) (fits : Fits key_in old bytes) where
-  at_bucket : (o : Option (Vec ℕ Z)) → lookup (nat_eq h) es ≡ o → bucket old (cut_hash old.mask key) ≡ option_map (λ v. v.items) o
-  at_bucket o b = rw (← opened, cut, is, ← b) (lookup-listed (nat_eq h) es)
+module _ {Z : Type 0} (key_in : List ℕ → Option (List ℕ)) (es : List (ℕ × Vec ℕ Z)) (s old : Held) (b : Bucket) (bytes key : List ℕ) (opened : s ≡ old) (is : s.buckets ≡ listed es)
+    (its : IsBucketOf old key b) (fits : Fits key_in old bytes) where
+  at_bucket : (o : Option (Vec ℕ Z)) → lookup (nat_eq b.hash) es ≡ o → bucket old (cut_hash old.mask key) ≡ option_map (λ v. v.items) o
+  unfolding IsBucketOf
+  at_bucket o e = rw (← its, ← opened, is, ← e) (lookup-listed (nat_eq b.hash) es)
 
-  pub got_some : (v : Vec ℕ Z) (ds : List ℕ) (r : Option ℕ) → lookup (nat_eq h) es ≡ Some v → ds ≡ v.items → FoundAmong key_in ds bytes key r → IsFound key_in old bytes key r
-  got_some v ds r b same found = found_in_bucket key_in old bytes key ds r fits (rw same (at_bucket (Some v) b)) found
+  pub got_some : (v : Vec ℕ Z) (ds : List ℕ) (r : Option ℕ) → lookup (nat_eq b.hash) es ≡ Some v → ds ≡ v.items → FoundAmong key_in ds bytes key r → IsFound key_in old bytes key r
+  got_some v ds r e same found = found_in_bucket key_in old bytes key ds r fits (rw same (at_bucket (Some v) e)) found
 
-  pub got_none : lookup (nat_eq h) es ≡ None → IsFound key_in old bytes key None
-  got_none b = none_in_bucket key_in old bytes key fits (λ ds b'. let e : None ≡ Some ds = sym (at_bucket None b) ∙ b' in absurd (none_is_not_some ds e))
+  pub got_none : lookup (nat_eq b.hash) es ≡ None → IsFound key_in old bytes key None
+  got_none e = none_in_bucket key_in old bytes key fits (λ ds there. absurd (none_is_not_some ds (sym (at_bucket None e) ∙ there)))
 
 -- at each distance of the cache a key stands
 pub Has-stands : (key_in : List ℕ → Option (List ℕ)) (s : Held) (bytes : List ℕ) (d : ℕ) → Fits key_in s bytes → Has s d → (key : List ℕ) × (key_at key_in bytes d ≡ Some key)

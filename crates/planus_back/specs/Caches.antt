@@ -5,9 +5,10 @@ use Rattle.std.specs.Int.{w64, from_le_bytes}
 use Rattle.std.specs.Map.{lookup}
 use mathlib.Core.Logic.{◌≢◌}
 use Rattle.planus_back.specs.CacheKeys.{key_at}
+use Rattle.planus_back.specs.declared.bucket.Bucket.{Bucket}
 
 -- What a cache holds: the bits of a hash that are used, and lists of distances by cut hashes. It is
--- read through `Has` and `Fits` alone, which name neither.
+-- read through `Has`, `Fits` and `IsBucketOf` alone, which name neither.
 pub record Held : Type 0 where
   pub mask : ℕ
   pub buckets : List (ℕ × List ℕ)
@@ -31,6 +32,10 @@ hash_of key = hash_on (length key) key
 -- the hash of a key, cut to the bits that are used
 abbrev pub cut_hash : ℕ → List ℕ → ℕ
 cut_hash mask key = bit_and (hash_of key) mask
+
+-- where the cache has the distances of a key, or would have them
+unfoldable pub IsBucketOf : Held → List ℕ → Bucket → Type 0
+IsBucketOf held key bucket = bucket.hash ≡ cut_hash held.mask key
 
 -- the distances at a cut hash
 abbrev pub bucket : Held → ℕ → Option (List ℕ)
@@ -62,6 +67,11 @@ abbrev pub FitsWhereKeyStands : (List ℕ → Option (List ℕ)) → Held → Li
 FitsWhereKeyStands key_in old key distance new =
     (bytes : List ℕ) → Fits key_in old bytes → key_at key_in bytes distance ≡ Some key
     → Fits key_in new bytes
+
+-- the same where the key that stands there is one of which the cache before had this as the bucket
+abbrev pub FitsWhereItsKeyStands : (List ℕ → Option (List ℕ)) → Held → Bucket → ℕ → Held → Type 0
+FitsWhereItsKeyStands key_in old bucket distance new =
+    (key : List ℕ) → IsBucketOf old key bucket → FitsWhereKeyStands key_in old key distance new
 
 -- what is answered for a key: a distance of the set at which it stands, or none where there is none
 abbrev pub IsFound : (List ℕ → Option (List ℕ)) → Held → List ℕ → List ℕ → Option ℕ → Type 0

@@ -2,8 +2,10 @@
 ghost use Rattle.std.specs.Prelude.{◌≡◌, map, OnOk, OnErr, IfOk};
 ghost use Rattle.std.specs.Int.{w8, cast_unsigned};
 ghost use Rattle.planus_back.specs.Buckets.{listed, AddsAt, FoundAmong};
-ghost use Rattle.planus_back.specs.Caches.{Fits, IsEmpty, Adds, FitsWhereKeyStands, IsFound};
+ghost use Rattle.planus_back.specs.Caches.{Fits, IsEmpty, IsBucketOf, IsFound, Adds};
+ghost use Rattle.planus_back.specs.Caches.{FitsWhereKeyStands, FitsWhereItsKeyStands};
 
+use crate::bucket::Bucket;
 use crate::cache_keys::GetCacheKey;
 use crate::keys::{Bytes, Key, Signed};
 use std::alloc::{AllocError, Global};
@@ -92,27 +94,26 @@ impl<C: GetCacheKey> Cache<C> {
         self.buckets.clear();
     }
 
-    // What `get` answers for a key in whatever form.
-    fn get_by<K: Key>(&self, serialized: &[u8], key: &K) -> Option<u32>
-        requires { Fits C.key_in self.now serialized.now }
-        ensures { IsFound C.key_in self.now serialized.now (K.bytes_of key.now) result }
+    // Where the distances of a key in whatever form are.
+    #[tactic(auto, unfolding(crate::specs::Caches::IsBucketOf))]
+    fn bucket_by<K: Key>(&self, key: &K) -> Bucket
+        ensures { IsBucketOf self.now (K.bytes_of key.now) result }
     {
-        let bucket = key.hash() & self.hash_mask;
-        match self.buckets.get(&bucket) {
-            Some(distances) => find::<C, K>(distances.as_slice(), serialized, key),
-            None => None,
+        Bucket {
+            hash: key.hash() & self.hash_mask,
         }
     }
 
-    // What `insert` does for a key in whatever form.
-    fn insert_by<K: Key>(&mut self, key: &K, distance: u32) -> Result<(), AllocError>
-        ensures ok { OnOk result (Adds self.old distance self.new) }
-        ensures fits { OnOk result
-            (FitsWhereKeyStands C.key_in self.old (K.bytes_of key.now) distance self.new) }
-        ensures err { OnErr result (self.new ≡ self.old) }
+    // What `get_in` answers for a key in whatever form.
+    fn get_by<K: Key>(&self, bucket: Bucket, serialized: &[u8], key: &K) -> Option<u32>
+        requires fits { Fits C.key_in self.now serialized.now }
+        requires bucket { IsBucketOf self.now (K.bytes_of key.now) bucket }
+        ensures { IsFound C.key_in self.now serialized.now (K.bytes_of key.now) result }
     {
-        let bucket = key.hash() & self.hash_mask;
-        add(&mut self.buckets, self.alloc, bucket, distance)
+        match self.buckets.get(&bucket.hash) {
+            Some(distances) => find::<C, K>(distances.as_slice(), serialized, key),
+            None => None,
+        }
     }
 
     /// Returns a distance of the set at which the key stands in the bytes, which the cache fits,
@@ -121,16 +122,7 @@ impl<C: GetCacheKey> Cache<C> {
         requires { Fits C.key_in self.now serialized.now }
         ensures { IsFound C.key_in self.now serialized.now key.now result }
     {
-        self.get_by(serialized, &Bytes(key))
-    }
-
-    /// [`Cache::get`] of a key of signed numbers, each of which is a byte.
-    pub fn get_signed(&self, serialized: &[u8], key: &[i8]) -> Option<u32>
-        requires { Fits C.key_in self.now serialized.now }
-        ensures { IsFound C.key_in self.now serialized.now
-            (map (λ number. cast_unsigned w8 number) key.now) result }
-    {
-        self.get_by(serialized, &Signed(key))
+        self.get_in(self.bucket_of(key), serialized, key)
     }
 
     /// Adds the distance at which the key stands, or is about to: the cache fits all bytes that it
@@ -141,16 +133,52 @@ impl<C: GetCacheKey> Cache<C> {
             (FitsWhereKeyStands C.key_in self.old key.now distance self.new) }
         ensures err { OnErr result (self.new ≡ self.old) }
     {
-        self.insert_by(&Bytes(key), distance)
+        let bucket = self.bucket_of(key);
+        self.insert_in(bucket, distance)
     }
 
-    /// [`Cache::insert`] of a key of signed numbers, each of which is a byte.
-    pub fn insert_signed(&mut self, key: &[i8], distance: u32) -> Result<(), AllocError>
+    /// Returns where the distances of a key are, or would be. Who looks for a key and then adds it
+    /// asks this once, since each byte of the key is looked at.
+    pub fn bucket_of(&self, key: &[u8]) -> Bucket
+        ensures { IsBucketOf self.now key.now result }
+    {
+        self.bucket_by(&Bytes(key))
+    }
+
+    /// [`Cache::bucket_of`] of a key of signed numbers, each of which is a byte.
+    pub fn bucket_of_signed(&self, key: &[i8]) -> Bucket
+        ensures { IsBucketOf self.now (map (λ number. cast_unsigned w8 number) key.now) result }
+    {
+        self.bucket_by(&Signed(key))
+    }
+
+    /// [`Cache::get`] of a key whose bucket is known.
+    pub fn get_in(&self, bucket: Bucket, serialized: &[u8], key: &[u8]) -> Option<u32>
+        requires fits { Fits C.key_in self.now serialized.now }
+        requires bucket { IsBucketOf self.now key.now bucket }
+        ensures { IsFound C.key_in self.now serialized.now key.now result }
+    {
+        self.get_by(bucket, serialized, &Bytes(key))
+    }
+
+    /// [`Cache::get_in`] of a key of signed numbers, each of which is a byte.
+    pub fn get_signed_in(&self, bucket: Bucket, serialized: &[u8], key: &[i8]) -> Option<u32>
+        requires fits { Fits C.key_in self.now serialized.now }
+        requires bucket { IsBucketOf self.now (map (λ number. cast_unsigned w8 number) key.now)
+            bucket }
+        ensures { IsFound C.key_in self.now serialized.now
+            (map (λ number. cast_unsigned w8 number) key.now) result }
+    {
+        self.get_by(bucket, serialized, &Signed(key))
+    }
+
+    /// [`Cache::insert`] of a key of which only its bucket is told.
+    pub fn insert_in(&mut self, bucket: Bucket, distance: u32) -> Result<(), AllocError>
         ensures ok { OnOk result (Adds self.old distance self.new) }
-        ensures fits { OnOk result (FitsWhereKeyStands C.key_in self.old
-            (map (λ number. cast_unsigned w8 number) key.now) distance self.new) }
+        ensures fits { OnOk result
+            (FitsWhereItsKeyStands C.key_in self.old bucket distance self.new) }
         ensures err { OnErr result (self.new ≡ self.old) }
     {
-        self.insert_by(&Signed(key), distance)
+        add(&mut self.buckets, self.alloc, bucket.hash, distance)
     }
 }

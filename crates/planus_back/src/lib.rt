@@ -9,6 +9,7 @@
 #![tactic(auto)]
 
 pub mod backvec;
+pub mod bucket;
 pub mod cache;
 pub mod cache_keys;
 pub mod fill;
@@ -18,6 +19,7 @@ pub mod plain;
 pub mod promises;
 
 pub use backvec::BackVec;
+pub use bucket::Bucket;
 pub use cache::Cache;
 pub use cache_keys::{ByteVec, GetCacheKey, VTable};
 pub use fill::{Fill, Overwrite};

@@ -1,6 +1,7 @@
-ghost use Rattle.std.specs.Prelude.{◌≡◌, ◌%◌, [], ◌∷◌, OnOk};
+ghost use Rattle.std.specs.Prelude.{◌≡◌, ◌%◌, [], ◌∷◌, map, OnOk};
+ghost use Rattle.std.specs.Int.{w8, cast_unsigned};
 ghost use Rattle.planus_back.specs.CacheKeys.{bytes_in};
-ghost use Rattle.planus_back.specs.Caches.{Fits};
+ghost use Rattle.planus_back.specs.Caches.{Fits, IsFound};
 
 use crate::backvec::BackVec;
 use crate::cache::Cache;
@@ -147,8 +148,18 @@ fn add_signed(
         Some(found) if Signed(key).is(found) => {}
         _ => return Err(Fail::new("the key doesn't stand there")),
     }
-    cache.insert_signed(key, distance)?;
+    let bucket = cache.bucket_of_signed(key);
+    cache.insert_in(bucket, distance)?;
     Ok(())
+}
+
+// Looks for a key of signed numbers.
+fn get_signed(cache: &Cache<ByteVec>, bytes: &[u8], key: &[i8]) -> Option<u32>
+    requires { Fits bytes_in cache.now bytes.now }
+    ensures { IsFound bytes_in cache.now bytes.now (map (λ number. cast_unsigned w8 number) key.now)
+        result }
+{
+    cache.get_signed_in(cache.bucket_of_signed(key), bytes, key)
 }
 
 #[test]
@@ -160,12 +171,12 @@ fn caches_find_equal_keys(rt: HostRuntime) -> Result<(), Fail> {
         assert_eq!(rt; cache.get(bytes, b"Hi"), None);
         add(&mut cache, bytes, b"Hi", 6)?;
         assert_eq!(rt; cache.get(bytes, b"Hi"), Some(6));
-        assert_eq!(rt; cache.get_signed(bytes, &[72, 105]), Some(6));
-        assert_eq!(rt; cache.get_signed(bytes, &[72, -2]), None);
+        assert_eq!(rt; get_signed(&cache, bytes, &[72, 105]), Some(6));
+        assert_eq!(rt; get_signed(&cache, bytes, &[72, -2]), None);
         add_signed(&mut cache, bytes, &[72, -2], 12)?;
         assert_eq!(rt; cache.get(bytes, b"Hi"), Some(6));
         assert_eq!(rt; cache.get(bytes, b"H\xfe"), Some(12));
-        assert_eq!(rt; cache.get_signed(bytes, &[72, -2]), Some(12));
+        assert_eq!(rt; get_signed(&cache, bytes, &[72, -2]), Some(12));
         assert_eq!(rt; cache.get(bytes, b"H"), None);
         cache.clear();
         assert_eq!(rt; cache.get(bytes, b"Hi"), None);

@@ -1,7 +1,8 @@
 -- How contents that may be shared are looked for, and how they are kept to be found.
 use Rattle.std.specs.Prelude.{◌≡◌, ℕ, ◌≤◌, List, Bool, true, false, Option, Some, None, Result, Ok}
 use Rattle.std.specs.Prelude.{Err}
-use Rattle.planus_back.specs.Caches.{Held, IsFound, Adds, FitsWhereKeyStands}
+use Rattle.planus_back.specs.Caches.{Held, IsBucketOf, IsFound, Adds, FitsWhereKeyStands}
+use Rattle.planus_back.specs.declared.bucket.Bucket.{Bucket}
 use Rattle.planus_write.specs.Backed.{Backed, MakesRoom, LacksRoom}
 use Rattle.planus_write.specs.declared.errors.BuildError.{BuildError}
 use Rattle.planus_write.specs.declared.errors.BuildError.TheVariants.{OutOfMemory, TooLarge}
@@ -16,6 +17,16 @@ pub record Shares : Type 0 where
 -- how contents are found at the front of some bytes
 abbrev pub FindContents : Type 0
 FindContents = List ℕ → Option (List ℕ)
+
+-- where the cache is looked into for contents, if it is
+abbrev pub LooksInIf : Bool → Held → List ℕ → Option Bucket → Type 0
+LooksInIf true held contents (Some bucket) = IsBucketOf held contents bucket
+LooksInIf true held contents None = ⊥
+LooksInIf false held contents bucket = bucket ≡ None
+
+-- where contents are looked for
+abbrev pub LooksIn : Shares → List ℕ → Option Bucket → Type 0
+LooksIn shares contents bucket = LooksInIf shares.on shares.held contents bucket
 
 -- what the cache finds, if it is looked into, and nothing else
 abbrev pub FindsIf : Bool → FindContents → Held → List ℕ → List ℕ → Option ℕ → Type 0
@@ -39,6 +50,11 @@ pub record Keeps (contents_in : FindContents) (contents : List ℕ) (distance : 
     (old new : Shares) : Type 0 where
   pub on : new.on ≡ old.on
   pub held : KeepsIf old.on contents_in contents distance old.held new.held
+
+-- contents that are looked for there are kept at the distance
+abbrev pub KeepsIn : FindContents → Option Bucket → ℕ → Shares → Shares → Type 0
+KeepsIn contents_in bucket distance old new =
+    (contents : List ℕ) → LooksIn old contents bucket → Keeps contents_in contents distance old new
 
 -- Why there is no room for a part, if there is none. A shared part may also be refused once there
 -- is room for it, by the cache that wants memory.

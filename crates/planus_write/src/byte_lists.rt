@@ -1,12 +1,11 @@
 //! Lists of bytes, whose items need no preparing.
-ghost use Rattle.std.specs.Prelude.{◌≡◌, ◌<◌, ◌≤◌, ◌^◌, ℕ, List, length, map, OnOk, OnErr};
+ghost use Rattle.std.specs.Prelude.{◌≡◌, ◌<◌, ◌≤◌, ◌^◌, ℕ, List, length, map};
 ghost use Rattle.std.specs.Int.{w8, cast_unsigned};
 ghost use Rattle.planus_back.specs.Padding.{greatest_place};
-ghost use Rattle.planus_back.specs.Caches.{Fits, IsFound, Adds, FitsWhereKeyStands};
+ghost use Rattle.planus_back.specs.Caches.{Fits, IsBucketOf, IsFound};
 
 use crate::lists::write_each;
-use planus_back::{Cache, GetCacheKey, Overwrite};
-use std::alloc::AllocError;
+use planus_back::{Bucket, Cache, GetCacheKey, Overwrite};
 
 /// A list of `u8`: a count of 4 bytes, and the bytes.
 #[derive(Clone, Copy)]
@@ -32,22 +31,20 @@ pub(crate) trait ByteItems {
         requires small { length bytes.old ≤ greatest_place }
         ensures { bytes.new ≡ bytes_of self.now };
 
-    /// Looks for them in a cache, which fits the bytes.
-    fn find_in<C: GetCacheKey>(&self, cache: &Cache<C>, serialized: &[u8]) -> Option<u32>
-        requires { Fits C.key_in cache.now serialized.now }
-        ensures { IsFound C.key_in cache.now serialized.now (bytes_of self.now) result };
+    /// Returns where a cache has the distances of them, or would have them.
+    fn bucket_in<C: GetCacheKey>(&self, cache: &Cache<C>) -> Bucket
+        ensures { IsBucketOf cache.now (bytes_of self.now) result };
 
-    /// Adds to a cache the distance at which they stand, or are about to. A refusal of memory
-    /// changes nothing.
-    fn insert_in<C: GetCacheKey>(
+    /// Looks for them there, in a cache that fits the bytes.
+    fn find_in<C: GetCacheKey>(
         &self,
-        cache: &mut Cache<C>,
-        distance: u32,
-    ) -> std::result::Result<(), AllocError>
-        ensures ok { OnOk result (Adds cache.old distance cache.new) }
-        ensures fits { OnOk result (FitsWhereKeyStands C.key_in
-            cache.old (bytes_of self.now) distance cache.new) }
-        ensures err { OnErr result (cache.new ≡ cache.old) };
+        bucket: Bucket,
+        cache: &Cache<C>,
+        serialized: &[u8],
+    ) -> Option<u32>
+        requires fits { Fits C.key_in cache.now serialized.now }
+        requires bucket { IsBucketOf cache.now (bytes_of self.now) bucket }
+        ensures { IsFound C.key_in cache.now serialized.now (bytes_of self.now) result };
 }
 
 impl<'a> ByteItems for ByteList<'a> {
@@ -64,17 +61,18 @@ impl<'a> ByteItems for ByteList<'a> {
     }
 
     #[inline]
-    fn find_in<C: GetCacheKey>(&self, cache: &Cache<C>, serialized: &[u8]) -> Option<u32> {
-        cache.get(serialized, self.0)
+    fn bucket_in<C: GetCacheKey>(&self, cache: &Cache<C>) -> Bucket {
+        cache.bucket_of(self.0)
     }
 
     #[inline]
-    fn insert_in<C: GetCacheKey>(
+    fn find_in<C: GetCacheKey>(
         &self,
-        cache: &mut Cache<C>,
-        distance: u32,
-    ) -> std::result::Result<(), AllocError> {
-        cache.insert(self.0, distance)
+        bucket: Bucket,
+        cache: &Cache<C>,
+        serialized: &[u8],
+    ) -> Option<u32> {
+        cache.get_in(bucket, serialized, self.0)
     }
 }
 
@@ -92,17 +90,18 @@ impl<'a> ByteItems for SignedList<'a> {
     }
 
     #[inline]
-    fn find_in<C: GetCacheKey>(&self, cache: &Cache<C>, serialized: &[u8]) -> Option<u32> {
-        cache.get_signed(serialized, self.0)
+    fn bucket_in<C: GetCacheKey>(&self, cache: &Cache<C>) -> Bucket {
+        cache.bucket_of_signed(self.0)
     }
 
     #[inline]
-    fn insert_in<C: GetCacheKey>(
+    fn find_in<C: GetCacheKey>(
         &self,
-        cache: &mut Cache<C>,
-        distance: u32,
-    ) -> std::result::Result<(), AllocError> {
-        cache.insert_signed(self.0, distance)
+        bucket: Bucket,
+        cache: &Cache<C>,
+        serialized: &[u8],
+    ) -> Option<u32> {
+        cache.get_signed_in(bucket, serialized, self.0)
     }
 }
 

@@ -1,15 +1,15 @@
 //! Contents of one kind that are written once.
-ghost use Rattle.std.specs.Prelude.{◌≡◌, ◌+◌, ◌≤◌, ◌^◌, true, IfOk, OnOk, OnErr, length};
+ghost use Rattle.std.specs.Prelude.{◌≡◌, ◌+◌, ◌≤◌, ◌^◌, None, IfOk, OnOk, OnErr, length};
 ghost use Rattle.planus_back.specs.Caches.{Fits, IsEmpty};
 ghost use Rattle.planus_back.specs.Padding.{greatest_place};
 ghost use Rattle.planus_back.specs.Promises.{IsPowerOfTwo};
-ghost use Rattle.planus_write.specs.Sharing.{Finds, Keeps, Starts};
+ghost use Rattle.planus_write.specs.Sharing.{LooksIn, Finds, KeepsIn, Starts};
 
 use crate::backing::Backing;
 use crate::byte_lists::ByteItems;
 use crate::errors::BuildError;
 use crate::start::Start;
-use planus_back::{Cache, GetCacheKey};
+use planus_back::{Bucket, Cache, GetCacheKey};
 use std::alloc::{AllocError, Global};
 use std::fmt;
 use std::marker::Model;
@@ -45,31 +45,41 @@ impl<C: GetCacheKey> Sharing<C> {
         })
     }
 
-    // The distance at which equal contents stand in the bytes.
+    // Where equal contents are found, if they ever are.
     #[inline]
-    fn find<L: ByteItems>(&self, serialized: &[u8], contents: &L) -> Option<u32>
-        requires { Fits C.key_in self.now.held serialized.now }
-        ensures { Finds C.key_in self.now serialized.now (L.bytes_of contents.now) result }
+    fn bucket_of<L: ByteItems>(&self, contents: &L) -> Option<Bucket>
+        ensures { LooksIn self.now (L.bytes_of contents.now) result }
     {
         if !self.on {
             return None;
         }
-        contents.find_in(&self.cache, serialized)
+        Some(contents.bucket_in(&self.cache))
     }
 
-    // The contents stand at the distance, or are about to. A refusal of memory changes nothing.
+    // The distance at which equal contents stand in the bytes.
     #[inline]
-    fn keep<L: ByteItems>(
-        &mut self,
+    fn find<L: ByteItems>(
+        &self,
+        bucket: Option<Bucket>,
+        serialized: &[u8],
         contents: &L,
-        distance: u32,
-    ) -> std::result::Result<(), AllocError>
-        ensures ok { OnOk result
-            (Keeps C.key_in (L.bytes_of contents.now) distance self.old self.new) }
-        ensures err { OnErr result ((self.old.on ≡ true) × (self.new ≡ self.old)) }
+    ) -> Option<u32>
+        requires fits { Fits C.key_in self.now.held serialized.now }
+        requires bucket { LooksIn self.now (L.bytes_of contents.now) bucket }
+        ensures { Finds C.key_in self.now serialized.now (L.bytes_of contents.now) result }
     {
-        if self.on {
-            contents.insert_in(&mut self.cache, distance)?;
+        contents.find_in(bucket?, &self.cache, serialized)
+    }
+
+    // The contents that are looked for there stand at the distance, or are about to. A refusal of
+    // memory changes nothing.
+    #[inline]
+    fn keep(&mut self, bucket: Option<Bucket>, distance: u32) -> std::result::Result<(), AllocError>
+        ensures ok { OnOk result (KeepsIn C.key_in bucket distance self.old self.new) }
+        ensures err { OnErr result ((¬ (bucket ≡ None)) × (self.new ≡ self.old)) }
+    {
+        if let Some(bucket) = bucket {
+            self.cache.insert_in(bucket, distance)?;
         }
         Ok(())
     }
@@ -100,11 +110,12 @@ pub(crate) fn start<C: GetCacheKey, L: ByteItems>(
         backing.old sharing.old result backing.new sharing.new }
     ensures small { length backing.old.bytes ≤ greatest_place }
 {
-    if let Some(distance) = sharing.find(backing.as_slice(), contents) {
+    let bucket = sharing.bucket_of(contents);
+    if let Some(distance) = sharing.find(bucket, backing.as_slice(), contents) {
         return Ok(Start::Found(distance));
     }
     let plan = backing.reserve(size, mask)?;
-    sharing.keep(contents, plan.place)?;
+    sharing.keep(bucket, plan.place)?;
     backing.pad(&plan);
     Ok(Start::Begun(plan.place))
 }

@@ -105,20 +105,19 @@ fn locations_print_their_texts(rt: HostRuntime) -> Result<(), Fail> {
         let shown = format!(in rt.alloc(); "{location}")?;
         assert_eq!(rt; shown.as_str(), text);
     }
+    Ok(())
+}
+
+#[test]
+fn unknown_tags_print_their_texts(rt: HostRuntime) -> Result<(), Fail> {
     let tag: UnknownEnumTag = UnknownEnumTagKind { tag: -1 }.with_error_location(
         "Color", "color", 16,
     );
+    let text = "In <Color@10>::color(): Unknown enum (tag = -1)";
     let shown = format!(in rt.alloc(); "{tag}")?;
-    assert_eq!(rt;
-        shown.as_str(),
-        "In <Color@10>::color(): Unknown enum (tag = -1)"
-    );
-    let same = tag.clone()?;
-    let error = Error::from(same);
+    assert_eq!(rt; shown.as_str(), text);
+    let error = Error::from(tag.clone()?);
     let shown = format!(in rt.alloc(); "{error}")?;
-    assert_eq!(rt;
-        shown.as_str(),
-        "In <Color@10>::color(): Unknown enum (tag = -1)"
-    );
+    assert_eq!(rt; shown.as_str(), text);
     Ok(())
 }

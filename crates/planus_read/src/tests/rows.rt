@@ -111,6 +111,11 @@ fn damaged_weapon(rt: HostRuntime) -> Result<(), Fail> {
             "In <Weapon@4>::name(): Missing null terminator"
         );
     }
+    Ok(())
+}
+
+#[test]
+fn whole_weapon(rt: HostRuntime) -> Result<(), Fail> {
     let table = table_at(&WEAPON)?;
     assert_eq!(rt; table.access::<&str>(0, "Weapon", "name")?, Some("Axe"));
     assert_eq!(rt; table.access_required::<&str>(0, "Weapon", "name")?, "Axe");
@@ -141,27 +146,6 @@ fn u16_table(rt: HostRuntime) -> Result<(), Fail> {
     assert_eq!(rt; table.access::<u16>(0, "T", "n")?, Some(24));
     assert_eq!(rt; table.access::<u16>(1, "T", "n")?, None);
     assert_eq!(rt; table.access::<u16>(usize::MAX, "T", "n")?, None);
-    assert!(rt;
-        table
-            .access_union::<TaggedPlace<'_>>(1, "T", "u")?
-            .is_none()
-    );
-    assert!(rt;
-        table
-            .access_union::<TaggedPlace<'_>>(usize::MAX, "T", "u")?
-            .is_none()
-    );
-    assert!(rt;
-        table
-            .access_union_vector::<Heads<'_>>(0, "T", "v")?
-            .is_none()
-    );
-    assert!(rt;
-        fails_with(
-            table.access_union::<TaggedPlace<'_>>(0, "T", "u"),
-            ErrorKind::InvalidVtableLength { length: 6 }
-        )
-    );
     match table.access_required::<u16>(1, "T", "n") {
         Ok(_) => assert!(rt; false, "a number"),
         Err(e) => {
@@ -171,6 +155,24 @@ fn u16_table(rt: HostRuntime) -> Result<(), Fail> {
     }
     let vtable_first = table_at(&U16_TABLE_VTABLE_FIRST)?;
     assert_eq!(rt; vtable_first.access::<u16>(0, "T", "n")?, Some(24));
+    Ok(())
+}
+
+#[test]
+fn unions_of_the_u16_table(rt: HostRuntime) -> Result<(), Fail> {
+    let table = table_at(&U16_TABLE)?;
+    for slot in [1, usize::MAX] {
+        let union = table.access_union::<TaggedPlace<'_>>(slot, "T", "u")?;
+        assert!(rt; union.is_none());
+    }
+    assert!(rt;
+        fails_with(
+            table.access_union::<TaggedPlace<'_>>(0, "T", "u"),
+            ErrorKind::InvalidVtableLength { length: 6 }
+        )
+    );
+    let vector = table.access_union_vector::<Heads<'_>>(0, "T", "v")?;
+    assert!(rt; vector.is_none());
     Ok(())
 }
 
@@ -207,6 +209,12 @@ fn tag_past_the_end(rt: HostRuntime) -> Result<(), Fail> {
             assert_eq!(rt; text.as_str(), "In <T@4>::u(): Invalid offset");
         }
     }
+    Ok(())
+}
+
+#[test]
+fn field_past_the_end(rt: HostRuntime) -> Result<(), Fail> {
+    let table = table_at(&TAG_PAST_END)?;
     assert!(rt; fails_with(table.access::<u8>(0, "T", "n"), ErrorKind::InvalidOffset));
     assert_eq!(rt; table.access::<u8>(1, "T", "n")?, None);
     assert!(rt;
@@ -247,9 +255,10 @@ fn unions(rt: HostRuntime) -> Result<(), Fail> {
 }
 
 #[test]
-fn advance_past_the_end(rt: HostRuntime) -> Result<(), Fail> {
+fn advance_past_the_end(rt: HostRuntime) {
     let bytes = [1, 2, 3, 4, 5, 6, 7, 8];
     let piece = SliceWithStartOffset::new(&bytes, 16);
+    assert!(rt; matches!(piece.advance(9), Err(ErrorKind::InvalidOffset)));
     assert!(rt;
         matches!(
             piece.advance_as_array::<4>(usize::MAX),
@@ -262,17 +271,38 @@ fn advance_past_the_end(rt: HostRuntime) -> Result<(), Fail> {
             Err(ErrorKind::InvalidOffset)
         )
     );
-    assert!(rt; matches!(piece.advance(9), Err(ErrorKind::InvalidOffset)));
+}
+
+#[test]
+fn advance_to_the_end(rt: HostRuntime) -> Result<(), Fail> {
+    let bytes = [1, 2, 3, 4, 5, 6, 7, 8];
+    let piece = SliceWithStartOffset::new(&bytes, 16);
     assert!(rt; piece.advance(8)?.is_empty());
     let rest = piece.advance(3)?;
     assert_eq!(rt; rest.offset_from_start(), 19);
     assert_eq!(rt; rest.len(), 5);
     assert_eq!(rt; rest.as_slice(), [4, 5, 6, 7, 8].as_slice());
+    Ok(())
+}
+
+#[test]
+fn arrays_of_a_piece(rt: HostRuntime) -> Result<(), Fail> {
+    let bytes = [1, 2, 3, 4, 5, 6, 7, 8];
+    let piece = SliceWithStartOffset::new(&bytes, 16);
     let array = piece.advance_as_array::<4>(4)?;
     assert_eq!(rt; array.offset_from_start(), 20);
     assert_eq!(rt; *array.as_array(), [5, 6, 7, 8]);
-    let same = ArrayWithStartOffset::new(array.as_array(), 20);
-    let part = same.advance_as_array::<2>(2)?;
+    assert_eq!(rt;
+        *piece.unchecked_advance_as_array::<2>(6).as_array(),
+        [7, 8]
+    );
+    Ok(())
+}
+
+#[test]
+fn arrays_of_an_array(rt: HostRuntime) -> Result<(), Fail> {
+    let array = ArrayWithStartOffset::new(&[5, 6, 7, 8], 20);
+    let part = array.advance_as_array::<2>(2)?;
     assert_eq!(rt; *part.as_array(), [7, 8]);
     assert_eq!(rt; part.offset_from_start(), 22);
     assert!(rt;
@@ -280,10 +310,6 @@ fn advance_past_the_end(rt: HostRuntime) -> Result<(), Fail> {
             array.advance_as_array::<2>(usize::MAX),
             Err(ErrorKind::InvalidOffset)
         )
-    );
-    assert_eq!(rt;
-        *piece.unchecked_advance_as_array::<2>(6).as_array(),
-        [7, 8]
     );
     Ok(())
 }

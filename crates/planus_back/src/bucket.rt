@@ -1,0 +1,8 @@
+//! Where a cache has the distances of a key.
+
+/// Where a cache has the distances of a key, or would have them.
+#[derive(Clone, Copy)]
+pub struct Bucket {
+    // The hash of its keys, cut by the cache's mask.
+    pub(crate) hash: u64,
+}
