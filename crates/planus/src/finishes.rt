@@ -7,8 +7,8 @@ pub struct StepPlace {
     pub step: usize,
     /// The distance in bytes from the end of the finished bytes to the value's first byte.
     pub distance: u32,
-    /// Of a vector of unions, whose `distance` is that of its references, the distance in bytes to
-    /// the first byte of its tags.
+    /// Of a vector of unions, whose `distance` is that of its list of references, the distance in
+    /// bytes to the first byte of its list of tags, which is that of their count.
     pub tags: Option<u32>,
 }
 

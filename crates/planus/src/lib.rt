@@ -27,7 +27,7 @@ pub use planus_fields::{
 pub use planus_read::{
     ArrayWithStartOffset, Error, Place, ReadAsRoot, ReadError, Result, SignedBytes,
     SliceWithStartOffset, Stride, TableRead, TableReadUnion, TableReadUnionVector, TaggedPlace,
-    VectorName, VectorRead, VectorReadInner, VectorReadUnion, Void, errors, table_reader,
+    VectorName, VectorRead, VectorReadInner, VectorReadUnion, Void, errors, located, table_reader,
 };
 pub use planus_unions::{AsRead, ItemError, UnionVector, union_vectors};
 pub use planus_view::{CopyError, FromItem, Vector, vectors};

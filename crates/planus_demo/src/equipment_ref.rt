@@ -9,6 +9,7 @@ use planus::{SliceWithStartOffset, TableRead, TableReadUnion, VectorName};
 /// A piece of equipment in a buffer: a weapon.
 #[derive(Clone, Copy)]
 pub enum EquipmentRef<'a> {
+    /// A weapon, by tag 1.
     Weapon(WeaponRef<'a>),
 }
 

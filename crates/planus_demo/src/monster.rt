@@ -46,8 +46,9 @@ impl Monster {
     ///
     /// An offset that is handed in must be one that this builder answered since the last clear.
     ///
-    /// [`BuildError::TooLarge`] and [`BuildError::OutOfMemory`] as of [`Builder::write_with`]. What
-    /// was written before the refused write stays, and nothing after it is begun.
+    /// [`BuildError::TooLarge`] and [`BuildError::OutOfMemory`] as of
+    /// [`Builder::create_vector`]. What was written before the refused write stays, and nothing
+    /// after it is begun.
     pub fn create<H, N, I, W, E, L>(
         builder: &mut Builder,
         hp: H,

@@ -115,7 +115,7 @@ pub fn run<R: Read, W: Write>(
 }
 
 /// The exit status: 0 for a clean script, 1 after a printed fault, 2 where reading or writing
-/// failed.
+/// failed, or memory for the script was refused.
 pub fn status(answer: &std::result::Result<bool, RunError>) -> u8
     ensures { result ≡ status_of answer.now }
 {

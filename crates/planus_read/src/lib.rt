@@ -30,6 +30,6 @@ pub use traits::{
 /// The result of a read that names its location.
 pub type Result<T> = std::result::Result<T, Error>;
 
-/// A type that has no value, for what is prepared of a field that is always left out.
+/// A type that has no value. Nothing here returns one: it is kept for code that names it.
 #[derive(Clone, Copy)]
 pub enum Void {}

@@ -319,9 +319,10 @@ module _ (kind : Kind) (contents : List ℕ) (part : Part) (got : List ℕ) (b :
           record {
             unchanged = subst (λ (shared : Option Contents). LeftAsItWas OutOfMemory shared before (state_from n switches holdings)) (sym (shared_if true e))
                 (more.0, ap (λ backed. state_from backed switches holdings) more.1);
-            cause = λ past h. record {
+            cause = λ past h. let place = more.2 past.written.promises h.described in record {
               is_new = is_new none past h;
-              wants = subst (λ (shared : Option Contents). MayWantMemory shared part before past.written.promises) (sym (shared_if true e)) tt;
+              wants = subst (λ (shared : Option Contents). MayWantMemory shared part before past.written.promises) (sym (shared_if true e))
+                  (record { padding = place.0; is_least = place.1; fits = place.2 });
             };
           }
       by_case false e =

@@ -71,6 +71,12 @@ pub record MakesRoom (size alignment : ℕ) (old : Backed) (place : ℕ) (new : 
   pub described : (promises : List Promise) → DescribedBy old promises
       → Describes place new.delayed new.mask (promise_of place alignment ∷ promises)
 
+-- a part of that size and alignment isn't too large
+abbrev pub HasPlace : ℕ → ℕ → Backed → Type 0
+HasPlace size alignment old = (promises : List Promise) → DescribedBy old promises
+    → (padding : ℕ) × IsLeastPadding (length old.bytes) promises size alignment padding
+    × (length old.bytes + padding + size ≤ greatest_place)
+
 -- why there is no room for a part of that size and alignment
 abbrev pub LacksRoom : ℕ → ℕ → Backed → BuildError → Type 0
 LacksRoom size alignment old TooLarge = (promises : List Promise) → DescribedBy old promises

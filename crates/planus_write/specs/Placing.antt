@@ -1,6 +1,6 @@
 -- How a builder puts down one entry.
 use Rattle.std.specs.Prelude.{◌≡◌, ℕ, ◌+◌, ◌<◌, ◌≤◌, List, [], ◌++◌, length, Option}
-use Rattle.std.specs.Prelude.{Some, None, Result, Ok, Err, ⊤, ◌⊎◌}
+use Rattle.std.specs.Prelude.{Some, None, Result, Ok, Err, ◌⊎◌}
 use Rattle.planus_back.specs.Promises.{Promise}
 use Rattle.planus_back.specs.Padding.{greatest_place, IsLeastPadding}
 use Rattle.planus_back.specs.Parts.{Part}
@@ -37,6 +37,12 @@ pub record PutsDown (entry : Entry) (got : List ℕ) (old : State) (distance : �
       → length new.bytes + new.room ≡ length old.bytes + old.room
   pub switches : new.switches ≡ old.switches
 
+-- With the least padding the part isn't too large.
+pub record IsWithinLimit (part : Part) (old : State) (promises : List Promise) : Type 0 where
+  pub padding : ℕ
+  pub is_least : IsLeastPadding (length old.bytes) promises part.size part.alignment padding
+  pub fits : length old.bytes + padding + part.size ≤ greatest_place
+
 -- With the least padding the part isn't too large, but doesn't fit the room.
 pub record WantsMemory (part : Part) (old : State) (promises : List Promise) : Type 0 where
   pub padding : ℕ
@@ -44,11 +50,11 @@ pub record WantsMemory (part : Part) (old : State) (promises : List Promise) : T
   pub fits : length old.bytes + padding + part.size ≤ greatest_place
   pub short : old.room < padding + part.size
 
--- Memory was wanted for padding and part; where the part is shared, it may also be the cache that
--- wanted it.
+-- Memory was wanted for padding and part, which aren't too large; where the part is shared, it may
+-- also be the cache that wanted it.
 abbrev pub MayWantMemory : Option Contents → Part → State → List Promise → Type 0
 MayWantMemory None part old promises = WantsMemory part old promises
-MayWantMemory (Some contents) part old promises = ⊤
+MayWantMemory (Some contents) part old promises = IsWithinLimit part old promises
 
 -- an entry that isn't found wants memory
 pub record RefusedMemory (entry : Entry) (got : List ℕ) (old : State) (past : Past) : Type 0 where

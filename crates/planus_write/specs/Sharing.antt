@@ -3,7 +3,7 @@ use Rattle.std.specs.Prelude.{◌≡◌, ℕ, ◌≤◌, List, Bool, true, false
 use Rattle.std.specs.Prelude.{Err}
 use Rattle.planus_back.specs.Caches.{Held, IsBucketOf, IsFound, Adds, FitsWhereKeyStands}
 use Rattle.planus_back.specs.declared.bucket.Bucket.{Bucket}
-use Rattle.planus_write.specs.Backed.{Backed, MakesRoom, LacksRoom}
+use Rattle.planus_write.specs.Backed.{Backed, MakesRoom, HasPlace, LacksRoom}
 use Rattle.planus_write.specs.declared.errors.BuildError.{BuildError}
 use Rattle.planus_write.specs.declared.errors.BuildError.TheVariants.{OutOfMemory, TooLarge}
 use Rattle.planus_write.specs.declared.start.Start.{Start}
@@ -56,11 +56,12 @@ abbrev pub KeepsIn : FindContents → Option Bucket → ℕ → Shares → Share
 KeepsIn contents_in bucket distance old new =
     (contents : List ℕ) → LooksIn old contents bucket → Keeps contents_in contents distance old new
 
--- Why there is no room for a part, if there is none. A shared part may also be refused once there
--- is room for it, by the cache that wants memory.
+-- Why there is no room for a part, if there is none. A shared part that isn't too large may also be
+-- refused once there is room for it, by the cache that wants memory.
 abbrev pub LacksSharedRoom : BuildError → Bool → ℕ → ℕ → Backed → Backed → Type 0
 LacksSharedRoom OutOfMemory true size alignment old new =
     (old.room ≤ new.room) × (new ≡ record old { room = new.room })
+    × HasPlace size alignment old
 LacksSharedRoom error on size alignment old new =
     (new ≡ old) × LacksRoom size alignment old error
 

@@ -368,9 +368,9 @@ impl Builder {
     ///
     /// Writing may go on afterwards, and finish again.
     ///
-    /// [`BuildError::TooLarge`] and [`BuildError::OutOfMemory`] as in [`Builder::write_with`]. A
-    /// root that was written for this call stays then; the reference and the identifier leave
-    /// nothing behind.
+    /// [`BuildError::TooLarge`] and [`BuildError::OutOfMemory`] as where the root is prepared
+    /// ([`WriteAsOffset::prepare`]), and then as in [`Builder::write_with`]. A root that was written
+    /// for this call stays then; the reference and the identifier leave nothing behind.
     pub fn finish<T, X: WriteAsOffset<T> + Drop>(
         &mut self,
         root: X,

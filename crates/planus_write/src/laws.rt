@@ -11,16 +11,16 @@ pub fn entries_are_put()
     ensures too_large { EntriesAreTooLarge }
 {}
 
-/// A value whose entries are put down stands at what it is named by, and is aligned in all finished
-/// bytes that end in it, also where equal contents were found; and it stays so, whatever is written
-/// in front of it.
+/// A value whose entries are put down, where what was seen before is kept and what it refers to was
+/// written before, stands at what it is named by, and is aligned in all finished bytes that end in
+/// it, also where equal contents were found; and it stays so, whatever is written in front of it.
 pub fn written_values_are_kept()
     ensures kept { ValuesAreKept }
     ensures stays { KeptStays }
 {}
 
-/// The reference at the front of a finish that was placed leads to its root, and the file
-/// identifier stands behind it.
+/// The reference at the front of a finish that was placed leads to its root, which lies in what was
+/// written before, and the file identifier stands behind it.
 pub fn placed_finishes_lead()
     ensures root { FinishesLead }
     ensures identifier { FinishesAreIdentified }

@@ -31,10 +31,9 @@ impl<'a> ObjectWriter<'a> {
     /// The number of bytes that are still to be written.
     #[inline]
     pub fn remaining(&self) -> usize
-        requires { self.now.at ≤ length self.now.bytes.now }
         ensures { result ≡ length self.now.bytes.now - self.now.at }
     {
-        self.bytes.len() - self.at
+        self.bytes.len().saturating_sub(self.at)
     }
 
     /// Writes a field. `P::SIZE` bytes remain, and what it refers to lies behind it.

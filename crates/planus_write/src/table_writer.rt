@@ -7,7 +7,7 @@ ghost use Rattle.planus_write.specs.TableWriting.{WasTold, WritesTable, slot_pos
 
 use crate::builder::Builder;
 use crate::errors::BuildError;
-use crate::object_writer::{ObjectFill, ObjectWriter};
+pub use crate::object_writer::{ObjectFill, ObjectWriter};
 use crate::traits::Primitive;
 use planus_back::Overwrite;
 use std::marker::Model;
@@ -111,14 +111,16 @@ impl<const N: usize> TableWriter<N> {
     }
 
     /// Writes the table: its vtable, unless an equal one is found, the fields that the filler
-    /// writes, and the word in front of them by which they lead to the vtable. The table is then what was written last:
-    /// [`Builder::current_offset`].
+    /// writes, and the word in front of them by which they lead to the vtable. The table is then
+    /// what was written last: [`Builder::current_offset`].
     ///
     /// `N` is at least 4, the filler writes as many bytes as were declared, and what it refers to
     /// lies in the builder's bytes.
     ///
-    /// [`BuildError::TooLarge`] and [`BuildError::OutOfMemory`] as in [`Builder::write_with`]. What
-    /// was written before the refused write stays, and nothing after it is begun.
+    /// [`BuildError::TooLarge`] where a part's place would be above 2147483647 bytes from the end;
+    /// [`BuildError::OutOfMemory`] where a part doesn't fit [`Builder::room`] and memory is refused,
+    /// or memory to find the vtable again is. What was written before the refused write stays, and
+    /// nothing after it is begun.
     pub fn finish<F: ObjectFill>(
         self,
         builder: &mut Builder,

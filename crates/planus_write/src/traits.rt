@@ -69,8 +69,9 @@ pub trait WriteAsOffset<T> {
     /// Writes the value, if it isn't an offset already, and answers its offset.
     ///
     /// [`BuildError::TooLarge`] where a part's place would be above 2147483647 bytes from the end;
-    /// [`BuildError::OutOfMemory`] where a part doesn't fit the builder's room and memory is
-    /// refused. A refusal leaves what was written before it, and nothing of the refused write.
+    /// [`BuildError::OutOfMemory`] where memory is refused: for the prepared items of a list, for a
+    /// part that doesn't fit the builder's room, or to find contents again that are shared. A
+    /// refusal leaves what was written before it, and nothing of the refused write.
     fn prepare(&self, builder: &mut Builder) -> std::result::Result<Offset<T>, BuildError>
         requires { may self.now builder.old }
         ensures { outcome self.now builder.old result builder.new };

@@ -6,10 +6,12 @@ use super::{UNIONS, WEAPON};
 use planus::errors::{ErrorKind, UnknownEnumTagKind};
 use planus::table_reader::Table;
 use planus::{
-    BuildError, Builder, Caches, Error, Place, ReplayError, SignedBytes, SliceWithStartOffset,
-    Step, Stride, TableRead, TableReadUnion, TaggedPlace, VectorName, VectorRead, VectorReadInner,
-    VectorReadUnion, replay,
+    BuildError, Builder, Caches, CopyError, Error, Place, ReplayError, SignedBytes,
+    SliceWithStartOffset, Step, Stride, TableRead, TableReadUnion, TableReadUnionVector,
+    TaggedPlace, UnionVector, Vector, VectorName, VectorRead, VectorReadInner, VectorReadUnion,
+    replay,
 };
+use planus_back::{ByteVec, Cache};
 use planus_exhaust::exhaust;
 use planus_read::located;
 use std::alloc::Global;
@@ -22,6 +24,9 @@ const BYTES: [u8; 16] = [
 
 // A reference to the text `Hi` at 0, and one to damage at 4.
 const TEXTS: [u8; 16] = [8, 0, 0, 0, 99, 0, 0, 0, 2, 0, 0, 0, 72, 105, 0, 0];
+
+// A reference to a list of two numbers.
+const NUMBERS: [u8; 16] = [4, 0, 0, 0, 2, 0, 0, 0, 7, 0, 0, 0, 9, 0, 0, 0];
 
 fn field<'buf, T: TableRead<'buf>>(bytes: &'buf [u8], offset: usize) -> Result<T, ErrorKind> {
     T::from_buffer(SliceWithStartOffset::new(bytes, 0), offset)
@@ -167,6 +172,39 @@ fn items_are_read() -> bool {
         && fails_with(union_item::<OneText<'_>>(&TEXTS, 9, 0), unknown)
 }
 
+fn vectors_answer() -> bool {
+    let Ok(numbers) = field::<Vector<'_, u32>>(&NUMBERS, 0) else {
+        return false;
+    };
+    let mut items = numbers.iter();
+    (numbers.len(), numbers.first(), numbers.last()) == (2, Some(7), Some(9))
+        && (numbers.get(1), numbers.get(2)) == (Some(9), None)
+        && matches!(numbers.get(1..), Some(rest) if rest.len() == 1)
+        && matches!(numbers.split_first(), Some((7, _)))
+        && numbers.split_at(3).is_none()
+        && (items.next(), items.next_back()) == (Some(7), Some(9))
+        && items.next().is_none()
+        && (numbers.chunks(1).count(), numbers.windows(2).count()) == (2, 1)
+}
+
+fn vectors_of_unions_answer() -> bool {
+    let piece = SliceWithStartOffset::new(&UNIONS, 0);
+    let Ok(unions) = <UnionVector<'_, OneText<'_>> as TableReadUnionVector<'_>>::from_buffer(
+        piece, 12, 16,
+    ) else {
+        return false;
+    };
+    let mut items = unions.iter();
+    unions.len() == 2
+        && matches!(unions.get(0), Some(Ok(OneText("A"))))
+        && matches!(unions.get(1..), Some(rest) if rest.len() == 1)
+        && matches!(unions.split_last(), Some((Err(_), _)))
+        && matches!(items.next_back(), Some(Err(_)))
+        && matches!(items.next(), Some(Ok(OneText("A"))))
+        && items.next().is_none()
+        && unions.rchunks(2).count() == 1
+}
+
 fn pieces_advance() -> bool {
     let piece = SliceWithStartOffset::new(&BYTES, 16);
     let (Ok(rest), Ok(array)) = (piece.advance(8), piece.advance_as_array::<8>(8)) else {
@@ -215,6 +253,8 @@ fn no_reader_asks_for_memory(rt: HostRuntime) -> Result<(), Fail> {
     let fields = fields_are_read();
     let accessors = accessors_answer();
     let items = items_are_read();
+    let vectors = vectors_answer();
+    let unions = vectors_of_unions_answer();
     let pieces = pieces_advance();
     let errors = errors_are_made();
     drop(held);
@@ -225,6 +265,7 @@ fn no_reader_asks_for_memory(rt: HostRuntime) -> Result<(), Fail> {
         (fields, accessors, items, pieces, errors),
         (true, true, true, true, true)
     );
+    assert_eq!(rt; (vectors, unions), (true, true));
     Ok(())
 }
 
@@ -291,5 +332,40 @@ fn a_replay_with_refused_memory(rt: HostRuntime) -> Result<(), Fail> {
     }
     assert!(rt; matches!(replayed, Err(ReplayError::OutOfMemory)));
     assert!(rt; replay(alloc, Caches::all(), steps.as_slice()).is_ok());
+    Ok(())
+}
+
+#[test]
+fn copies_with_refused_memory(rt: HostRuntime) -> Result<(), Fail> {
+    let alloc = rt.alloc();
+    let numbers = field::<Vector<'_, u32>>(&NUMBERS, 0)?;
+    let mut held: Vec<Vec<u8>> = Vec::with_capacity(alloc, 262144)?;
+    let exhausted = exhaust(alloc, &mut held);
+    let refused = matches!(numbers.to_vec::<u32>(alloc), Err(CopyError::OutOfMemory));
+    drop(held);
+    if !exhausted {
+        println!(rt; "memory was left: this test does not apply")?;
+        return Ok(());
+    }
+    assert!(rt; refused, "copies");
+    let copies = numbers.to_vec::<u32>(alloc)?;
+    assert_eq!(rt; copies.as_slice(), [7, 9].as_slice());
+    Ok(())
+}
+
+#[test]
+fn an_entry_of_a_cache_with_refused_memory(rt: HostRuntime) -> Result<(), Fail> {
+    let alloc = rt.alloc();
+    let mut cache: Cache<ByteVec> = Cache::new(alloc, u64::MAX)?;
+    let mut held: Vec<Vec<u8>> = Vec::with_capacity(alloc, 262144)?;
+    let exhausted = exhaust(alloc, &mut held);
+    let refused = cache.insert(b"Hi", 6).is_err();
+    drop(held);
+    if !exhausted {
+        println!(rt; "memory was left: this test does not apply")?;
+        return Ok(());
+    }
+    assert!(rt; refused, "an entry");
+    cache.insert(b"Hi", 6)?;
     Ok(())
 }

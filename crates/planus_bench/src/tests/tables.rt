@@ -3,8 +3,9 @@ ghost use Rattle.std.specs.Prelude.{◌≤◌, length};
 
 use planus::table_reader::Table;
 use planus::{
-    BuildError, Builder, ByteList, ObjectFill, ObjectWriter, Offset, Primitive, SignedBytes,
-    SignedList, SliceWithStartOffset, TableRead, TableWriter, Vector, WriteAsPrimitive,
+    BuildError, Builder, ByteList, Caches, ObjectFill, ObjectWriter, Offset, Primitive,
+    SignedBytes, SignedList, SliceWithStartOffset, TableRead, TableWriter, Vector,
+    WriteAsPrimitive,
 };
 use std::marker::PhantomData;
 use std::process::Abort;
@@ -129,5 +130,53 @@ fn a_table_with_a_free_slot_between(rt: HostRuntime) -> Result<(), Fail> {
     assert_eq!(rt; table.access::<u64>(0, "Table", "first")?, Some(1));
     assert_eq!(rt; table.access::<u8>(1, "Table", "between")?, None);
     assert_eq!(rt; table.access::<u8>(2, "Table", "last")?, Some(2));
+    Ok(())
+}
+
+// Writes a table with one number in slot 0.
+fn put_number(builder: &mut Builder, field: u16) -> Result<(), BuildError> {
+    let mut writer: TableWriter<6> = TableWriter::default();
+    writer.write_entry::<u16>(0);
+    let of: PhantomData<u16> = PhantomData;
+    writer.finish(builder, &One { field, of })
+}
+
+// Two tables of one number each, of which the second is the root.
+fn two_tables_in(builder: &mut Builder) -> Result<&[u8], Fail> {
+    put_number(builder, 24)?;
+    put_number(builder, 7)?;
+    let root = builder.current_offset::<()>();
+    Ok(builder.finish(root, None)?)
+}
+
+#[test]
+fn two_tables_share_their_vtable(rt: HostRuntime) -> Result<(), Fail> {
+    let mut builder = Builder::new(rt.alloc())?;
+    assert_eq!(rt;
+        two_tables_in(&mut builder)?,
+        [
+            4, 0, 0, 0, 0xf2, 0xff, 0xff, 0xff, 7, 0, 0, 0, 0xfa, 0xff, 0xff, 0xff, 24, 0, 6, 0, 6,
+            0, 4, 0,
+        ]
+        .as_slice()
+    );
+    Ok(())
+}
+
+#[test]
+fn two_tables_have_their_own_vtables(rt: HostRuntime) -> Result<(), Fail> {
+    let caches = Caches {
+        vtables: false,
+        ..Caches::all()
+    };
+    let mut builder = Builder::with_caches(rt.alloc(), 0, caches)?;
+    assert_eq!(rt;
+        two_tables_in(&mut builder)?,
+        [
+            4, 0, 0, 0, 0xfa, 0xff, 0xff, 0xff, 7, 0, 6, 0, 6, 0, 4, 0, 0xfa, 0xff, 0xff, 0xff, 24,
+            0, 6, 0, 6, 0, 4, 0,
+        ]
+        .as_slice()
+    );
     Ok(())
 }

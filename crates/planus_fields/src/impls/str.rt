@@ -41,7 +41,7 @@ impl<'a> WriteAsOptional<Offset<Text>> for &'a str {
     ghost is_lawful = { left_out_is_lawful (λ text. ⊥) (entry_is_lawful (λ text. text_entry text.now)) };
 }
 
-impl<'a> WriteAsDefault<Offset<Text>, &'a str> for &'a str {
+impl<'a, 'b> WriteAsDefault<Offset<Text>, &'b str> for &'a str {
     type Prepared = Offset<Text>;
 
     ghost may = { λ text old. ⊤ };
@@ -53,7 +53,7 @@ impl<'a> WriteAsDefault<Offset<Text>, &'a str> for &'a str {
     fn prepare(
         &self,
         builder: &mut Builder,
-        default: &&'a str,
+        default: &&'b str,
     ) -> std::result::Result<Option<Offset<Text>>, BuildError> {
         if *self == *default {
             return Ok(None);
