@@ -23,7 +23,7 @@ use Rattle.planus_write.specs.Past.{Past, Adds, PutsAll}
 use Rattle.planus_write.specs.State.{Extends}
 use Rattle.planus_write.specs.Parts.{finish_part, entries_of, IsWritten}
 use Rattle.planus_write.specs.Parts.{named_by, Named, position_in}
-use Rattle.planus_write.specs.Standing.{IsKept, AllSeenKept}
+use Rattle.planus_write.specs.Kept.{IsKept, AllSeenKept}
 use Rattle.planus_write.specs.Laws.{added_extends}
 use Rattle.planus_write.proofs.PartBytes.{length_after, finish_size}
 use Rattle.planus_write.proofs.Staying.{kept_stays, seen_stays}
@@ -249,7 +249,7 @@ module _ (switches : Switches) (all done : List Step) (root to : ℕ) (identifie
   finish_kept = record {
     numbered = counted done (finish root identifier) before.next after.next next h.numbered;
     placed = in_turn;
-    seen = subst (AllByRecursion (Rattle.planus_write.specs.Standing.SeenIsKept after.past)) (sym adds.seen) (seen_stays before.past after.past extends before.past.seen h.seen);
+    seen = subst (AllByRecursion (Rattle.planus_write.specs.Kept.SeenIsKept after.past)) (sym adds.seen) (seen_stays before.past after.past extends before.past.seen h.seen);
     values = subst (λ vs. AllByRecursion (ValueKept all (done ++ finish root identifier ∷ []) after.past vs) vs) (sym listed)
         (subst (λ vs. AllByRecursion (ValueKept all (done ++ finish root identifier ∷ []) after.past (before.listed ++ [])) vs) (sym (append-nil before.listed))
         (all_weaker (ValueKept all done before.past before.listed) (ValueKept all (done ++ finish root identifier ∷ []) after.past (before.listed ++ []))

@@ -8,7 +8,7 @@ use Rattle.std.specs.Option.{is_none, option_map, option_and_then}
 use Rattle.planus_read.specs.Values as value
 use Rattle.planus_read.specs.Values.{Value}
 use Rattle.planus_write.specs.Parts.{Named, named_by}
-use Rattle.planus_write.specs.Standing.{TagsReached}
+use Rattle.planus_write.specs.Kept.{TagsReached}
 use Rattle.planus.specs.Steps.{Step, text, bytes, numbers, refs, unions, table, finish, clear}
 use Rattle.planus.specs.Slots.{greatest_field}
 use Rattle.planus.specs.Kinds.{Kind, a_value, a_union_list, kind_of, kind_by_tags, kind_named}

@@ -11,7 +11,7 @@ use Rattle.planus_read.specs.Aligned.{AlignedAt}
 use Rattle.planus_read.specs.ReadsBack.{ReadsBack}
 use Rattle.planus_write.specs.Shared.{Switches}
 use Rattle.planus_write.specs.Parts.{identifier_bytes, position_in}
-use Rattle.planus_write.specs.Standing.{TagsReached}
+use Rattle.planus_write.specs.Kept.{TagsReached}
 use Rattle.planus.specs.Steps.{Step, finish}
 use Rattle.planus.specs.Runs.{Finish, Listed, State, nothing_written, LeadsTo, value_at, value_of}
 

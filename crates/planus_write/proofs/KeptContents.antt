@@ -20,7 +20,7 @@ use Rattle.planus_write.specs.Past.{Past, Adds, PutsAfter, Puts, PutsAll}
 use Rattle.planus_write.specs.State.{Extends}
 use Rattle.planus_write.specs.Laws.{added_extends, extends_itself}
 use Rattle.planus_write.specs.Parts.{text_part, last_of, byte_list_part}
-use Rattle.planus_write.specs.Standing.{IsKept, KindIsKept, SeenIsKept, AllSeenKept}
+use Rattle.planus_write.specs.Kept.{IsKept, KindIsKept, SeenIsKept, AllSeenKept}
 use Rattle.planus_write.proofs.PartBytes.{length_after, text_size, byte_list_size, front_number}
 use Rattle.planus_write.proofs.PartBytes.{kept_at_front}
 use Rattle.planus_write.proofs.Staying.{seen_stays}
@@ -60,11 +60,15 @@ new_value part value shared before distance after adds sized there aligns =
     let e : length (front ++ after.written.bytes) - adds.placed.place ≡ length front = omega (arith, length-append front after.written.bytes, at_end) in
     aligns (front ++ after.written.bytes) (length front) (subst (λ k. part.alignment ∣ k) e kept.aligns))
 
--- Contents of a kind are kept where their part is added.
+-- Contents of a kind are kept where this part is added.
+abbrev pub AreKept : Kind → List ℕ → Part → Type 0
+AreKept kind content part =
+    (shared : Option Contents) (before : Past) (distance : ℕ) (after : Past)
+    → Adds part shared before distance after → KindIsKept after kind content distance
+
+-- All contents of a kind are kept where their part is added.
 abbrev pub NewAreKept : Kind → (List ℕ → Part) → Type 0
-NewAreKept kind part =
-    (content : List ℕ) (shared : Option Contents) (before : Past) (distance : ℕ) (after : Past)
-    → Adds (part content) shared before distance after → KindIsKept after kind content distance
+NewAreKept kind part = (content : List ℕ) → AreKept kind content (part content)
 
 pub new_texts : NewAreKept texts text_part
 new_texts content shared before distance after adds =
@@ -115,7 +119,7 @@ found_kept past (one ∷ seen) kind bytes d h e =
         (subst (λ k. KindIsKept past k one.contents.bytes one.distance) (same_of one.contents.kind kind both.0) h.0))
     by_test further false equal e = further e
 
-shared_or_not : (switches : Switches) (contents : Contents)
+pub shared_or_not : (switches : Switches) (contents : Contents)
     → (shared_as switches (Some contents) ≡ None) ⊎ (shared_as switches (Some contents) ≡ Some contents)
 shared_or_not switches contents = by_test (is_on switches contents.kind)
   where
@@ -123,6 +127,26 @@ shared_or_not switches contents = by_test (is_on switches contents.kind)
         → ((if on then Some contents else None) ≡ None) ⊎ ((if on then Some contents else None) ≡ Some contents)
     by_test true = inr refl
     by_test false = inl refl
+
+-- all that was seen is kept still where a part was added, and so are its contents if they are shared
+pub added_kept : (kind : Kind) (content : List ℕ) (part : Part) (shared : Option Contents)
+    → (shared ≡ None) ⊎ (shared ≡ Some (record { kind = kind; bytes = content }))
+    → (before : Past) (distance : ℕ) (after : Past) → AllSeenKept before
+    → KindIsKept after kind content distance → Adds part shared before distance after → AllSeenKept after
+added_kept kind content part shared is_shared before distance after all kept adds =
+    let extends = added_extends part shared before distance after adds in
+    let old : AllByRecursion (SeenIsKept after) before.seen = seen_stays before after extends before.seen all in
+    subst (AllByRecursion (SeenIsKept after)) (sym adds.seen) (elim is_shared as (λ _. AllByRecursion (SeenIsKept after) (and_seen shared distance before.seen)) [
+      | inl none ↦ subst (λ (s : Option Contents). AllByRecursion (SeenIsKept after) (and_seen s distance before.seen)) (sym none) old
+      | inr some ↦ subst (λ (s : Option Contents). AllByRecursion (SeenIsKept after) (and_seen s distance before.seen)) (sym some) (kept, old)
+    ])
+
+-- the same of a part that isn't shared
+pub alone_kept : (part : Part) (before : Past) (distance : ℕ) (after : Past) → AllSeenKept before
+    → Adds part None before distance after → AllSeenKept after
+alone_kept part before distance after all adds =
+    subst (AllByRecursion (SeenIsKept after)) (sym adds.seen)
+    (seen_stays before after (added_extends part None before distance after adds) before.seen all)
 
 -- what one entry comes to, whose contents are of a kind: they are kept, and all that was seen still is
 abbrev pub ContentsKept : Kind → List ℕ → Past → ℕ → Past → Type 0
@@ -137,15 +161,10 @@ module _ (kind : Kind) (part : List ℕ → Part) (new_kept : NewAreKept kind pa
       → Adds (part content) shared before distance after
       → ContentsKept kind content before distance after
   put_new shared is_shared adds =
-      let extends = added_extends (part content) shared before distance after adds in
-      let kept = new_kept content shared before distance after adds in
-      let old : AllByRecursion (SeenIsKept after) before.seen = seen_stays before after extends before.seen all in (
+      let kept = new_kept content shared before distance after adds in (
         kept,
-        subst (AllByRecursion (SeenIsKept after)) (sym adds.seen) (elim is_shared as (λ _. AllByRecursion (SeenIsKept after) (and_seen shared distance before.seen)) [
-          | inl none ↦ subst (λ (s : Option Contents). AllByRecursion (SeenIsKept after) (and_seen s distance before.seen)) (sym none) old
-          | inr some ↦ subst (λ (s : Option Contents). AllByRecursion (SeenIsKept after) (and_seen s distance before.seen)) (sym some) (kept, old)
-        ]),
-        extends,
+        added_kept kind content (part content) shared is_shared before distance after all kept adds,
+        added_extends (part content) shared before distance after adds,
       )
 
   put_shared : (shared : Option Contents) → (shared ≡ None) ⊎ (shared ≡ Some contents)

@@ -28,7 +28,7 @@ use Rattle.planus_write.specs.Laws.{added_extends, extends_on}
 use Rattle.planus_write.specs.Parts.{items_bytes, items_part, count_part}
 use Rattle.planus_write.specs.Items.{Item, plain_item, reference_item}
 use Rattle.planus_write.specs.Parts.{list_entries, IsPlainList, last_of}
-use Rattle.planus_write.specs.Standing.{IsKept, SeenIsKept, AllSeenKept}
+use Rattle.planus_write.specs.Kept.{IsKept, SeenIsKept, AllSeenKept}
 use Rattle.planus_write.proofs.PartBytes.{length_after, front_number, kept_at_front, unpadded}
 use Rattle.planus_write.proofs.Staying.{seen_stays}
 

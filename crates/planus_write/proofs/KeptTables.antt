@@ -28,7 +28,7 @@ use Rattle.planus_write.specs.Parts.{last_of}
 use Rattle.planus_write.specs.Tables.{body_size, body_alignment, body_bytes, field_offset}
 use Rattle.planus_write.specs.Tables.{vtable_bytes, vtable_part, body_part, word_part, IsTable}
 use Rattle.planus_write.specs.Tables.{table_entries}
-use Rattle.planus_write.specs.Standing.{IsKept, KindIsKept, SeenIsKept, AllSeenKept}
+use Rattle.planus_write.specs.Kept.{IsKept, KindIsKept, SeenIsKept, AllSeenKept}
 use Rattle.planus_write.proofs.PartBytes.{length_after, front_number, kept_at_front, unpadded}
 use Rattle.planus_write.proofs.Staying.{seen_stays, kind_stays}
 use Rattle.planus_write.proofs.KeptContents.{NewAreKept, ContentsKept, put_kept}
@@ -37,7 +37,7 @@ use Rattle.planus_write.proofs.TableBytes.{fields_aligned, body_power, size_ther
 use Rattle.planus_write.proofs.TableBytes.{slot_stands, slot_aligned}
 
 -- a vtable is kept where it is added
-new_vtables : NewAreKept vtables vtable_part
+pub new_vtables : NewAreKept vtables vtable_part
 new_vtables content shared before distance after adds =
     let at_end : length after.written.bytes ≡ adds.placed.place = length_after (vtable_part content) before.written after.written adds.placed refl in
     let at : distance ≡ adds.placed.place = adds.at in

@@ -17,7 +17,7 @@ use Rattle.planus_write.specs.Laws.{extends_on}
 use Rattle.planus_write.specs.Parts.{items_bytes, items_part, tags_part, count_part, union_entries}
 use Rattle.planus_write.specs.Parts.{tags_in, distances_in, last_of, second_of}
 use Rattle.planus_write.specs.Items.{Item, plain_item, reference_item}
-use Rattle.planus_write.specs.Standing.{IsKept, AllSeenKept}
+use Rattle.planus_write.specs.Kept.{IsKept, AllSeenKept}
 use Rattle.planus_write.proofs.KeptLists.{IsListOf, reference_items, list_kept}
 use Rattle.planus_write.proofs.Staying.{kept_stays}
 

@@ -16,7 +16,7 @@ use Rattle.planus_read.specs.Stands.{Stands, at}
 use Rattle.planus_read.specs.Aligned.{AlignedAt}
 use Rattle.planus_write.specs.Past.{Past}
 use Rattle.planus_write.specs.Parts.{text_part, byte_list_part, finish_part, identifier_bytes}
-use Rattle.planus_write.specs.Standing.{IsKept}
+use Rattle.planus_write.specs.Kept.{IsKept}
 
 -- the place of a part whose bytes are as many as its size is the length with it
 pub length_after : (part : Part) (before after : Written) (placed : Placed part before after)

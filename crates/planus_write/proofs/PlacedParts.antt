@@ -19,6 +19,7 @@ use Rattle.planus_write.specs.Past.{found_before, no_past}
 use Rattle.planus_write.specs.Parts.{finish_entry, finish_part, identifier_bytes}
 use Rattle.planus_write.specs.Backed.{Backed, DescribedBy, PutsBytes, MakesRoom, LacksRoom}
 use Rattle.planus_write.specs.Sharing.{Shares, FindsIf, KeepsIf, LacksSharedRoom, Starts}
+use Rattle.planus_write.specs.Kept.{AllSeenKept}
 use Rattle.planus_write.specs.State.{State, IsPast, FindsSeen, Holdings, held, contents_in}
 use Rattle.planus_write.specs.Placing.{PutsDown, MayWantMemory}
 use Rattle.planus_write.specs.Placing.{RefusedFor, Refuses, LeftAsItWas}
@@ -29,7 +30,7 @@ use Rattle.planus_write.specs.declared.start.Start.TheVariants.{Found, Begun}
 use Rattle.planus_write.specs.declared.builder.Builder.TheInside.{Inside}
 use Rattle.planus_write.specs.declared.errors.BuildError.{BuildError}
 use Rattle.planus_write.specs.declared.errors.BuildError.TheVariants.{OutOfMemory, TooLarge}
-use Rattle.planus_write.proofs.KeptContents.{same_of}
+use Rattle.planus_write.proofs.KeptContents.{AreKept, same_of, shared_or_not, added_kept, alone_kept}
 use Rattle.std.proofs.lemmas.Bool.Decides.{leb_tells}
 use Rattle.planus_write.proofs.SharedContents.{none_is_not_some, finds_still, finds_added, other_finds, finds_nothing}
 
@@ -56,7 +57,9 @@ module _ (entry : Entry) (got : List ℕ) (size alignment place : ℕ) (b mid n 
     (length_is : length bytes ≡ size) (put : PutsBytes bytes mid n)
     (is_new : (past : Past) → IsPast (state_from b switches holdings) past → found_before switches entry past ≡ None)
     (seen : (past : Past) → IsPast (state_from b switches holdings) past → (kind : Kind)
-    → FindsSeen (state_from n switches holdings_after) (and_seen (shared_as switches entry.contents) place past.seen) kind) where
+    → FindsSeen (state_from n switches holdings_after) (and_seen (shared_as switches entry.contents) place past.seen) kind)
+    (stays_kept : (past : Past) → IsPast (state_from b switches holdings) past → (after : Past)
+    → Adds (part_after entry got past) (shared_as switches entry.contents) past place after → AllSeenKept after) where
   abbrev old_state : State
   old_state = state_from b switches holdings
 
@@ -85,16 +88,19 @@ module _ (entry : Entry) (got : List ℕ) (size alignment place : ℕ) (b mid n 
     places = past.places ++ place ∷ [];
   }
 
+  adds : (past : Past) → IsPast old_state past → Adds (part_after entry got past) (shared_as switches entry.contents) past place (after_put past)
+  adds past h = record { placed = placed past h; at = refl; seen = refl; parts = refl; places = refl }
+
   puts_it : (past : Past) → IsPast old_state past → Puts switches entry got past place (after_put past)
   puts_it past h =
-      let adds : Adds (part_after entry got past) (shared_as switches entry.contents) past place (after_put past) = record { placed = placed past h; at = refl; seen = refl; parts = refl; places = refl } in
-      subst (λ (earlier : Option ℕ). PutsAfter earlier (part_after entry got past) (shared_as switches entry.contents) past place (after_put past)) (sym (is_new past h)) adds
+      subst (λ (earlier : Option ℕ). PutsAfter earlier (part_after entry got past) (shared_as switches entry.contents) past place (after_put past)) (sym (is_new past h)) (adds past h)
 
   is_past : (past : Past) → IsPast old_state past → IsPast new_state (after_put past)
   is_past past h = record {
     bytes = refl;
     described = rw (there, sized.alignment_is past h, ap (λ backed. backed.delayed) put, ap (λ backed. backed.mask) put) (room.described past.written.promises h.described);
     seen = seen past h;
+    kept = stays_kept past h (after_put past) (adds past h);
   }
 
   pub puts_down : PutsDown entry got old_state place new_state
@@ -151,6 +157,7 @@ module _ (part_from : List ℕ → List Promise → Part) (got : List ℕ) (size
   alone_down place mid n bytes room bytes_are length_is put =
       puts_down alone got size alignment place b mid n switches holdings holdings bytes room sized bytes_are length_is put (λ past h. refl)
       (λ past h kind. finds_still (state_from b switches holdings) (state_from n switches holdings) (bytes ++ replicate room.padding 0) (new_bytes size alignment place b mid n bytes room length_is put) past.seen kind (h.seen kind) refl)
+      (λ past h after adds. alone_kept (part_after alone got past) past place after h.kept adds)
 
   pub alone_refused : (error : BuildError) (n : Backed) → n ≡ b → LacksRoom size alignment b error → Refuses alone got (state_from b switches holdings) error (state_from n switches holdings)
   alone_refused TooLarge n same lacks = record {
@@ -266,7 +273,8 @@ module _ (kind : Kind) (contents : List ℕ) (part : Part) (got : List ℕ) (b :
 
   module _ (place : ℕ) (mid n : Backed) (x : Held) (bytes : List ℕ) (none : FindsIf (is_on switches kind) (contents_in kind) (held holdings kind) b.bytes contents None)
       (room : MakesRoom part.size part.alignment b place mid) (keeps : KeepsIf (is_on switches kind) (contents_in kind) contents place (held holdings kind) x)
-      (bytes_are : part.bytes_at place ≡ bytes) (length_is : length bytes ≡ part.size) (put : PutsBytes bytes mid n) (stands : key_at (contents_in kind) n.bytes place ≡ Some contents) where
+      (bytes_are : part.bytes_at place ≡ bytes) (length_is : length bytes ≡ part.size) (put : PutsBytes bytes mid n) (stands : key_at (contents_in kind) n.bytes place ≡ Some contents)
+      (are_kept : AreKept kind contents part) where
     abbrev after : State
     after = state_from n switches (holding kind holdings x)
 
@@ -304,6 +312,8 @@ module _ (kind : Kind) (contents : List ℕ) (part : Part) (got : List ℕ) (b :
     shared_down =
         puts_down the_entry got part.size part.alignment place b mid n switches holdings (holding kind holdings x) bytes room sized (λ past h. bytes_are) length_is put (is_new none)
         (λ past h other. seen_after past h other (is_on switches kind) refl)
+        (λ past h after adds.
+        added_kept kind contents part (shared_as switches (Some known)) (shared_or_not switches known) past place after h.kept (are_kept (shared_as switches (Some known)) past place after adds) adds)
 
   pub shared_refused : (error : BuildError) (n : Backed) → FindsIf (is_on switches kind) (contents_in kind) (held holdings kind) b.bytes contents None
       → LacksSharedRoom error (is_on switches kind) part.size part.alignment b n → Refuses the_entry got before error (state_from n switches holdings)
@@ -405,19 +415,23 @@ module _ (contents : List ℕ) (part : Part) (a : Inside) (mid : Backed) (s : Sh
   pub begun : (kind : Kind) (place : ℕ) (n : Backed) (bytes : List ℕ)
       → Starts (contents_in kind) contents part.size part.alignment a.backing (shares_of kind a) (Ok (Begun place)) mid s
       → part.bytes_at place ≡ bytes → length bytes ≡ part.size → PutsBytes bytes mid n → contents_in kind n.bytes ≡ Some contents
+      → AreKept kind contents part
       → PutsDown (shared_entry kind contents part) [] (state_of a) place (state_of (with_shares kind a n s))
-  begun texts place n bytes h bytes_are length_is put stands =
+  begun texts place n bytes h bytes_are length_is put stands are_kept =
       subst (λ on. PutsDown (shared_entry texts contents part) [] (state_of a) place (state_from n (record (state_of a).switches { texts_on = on }) (record (state_of a).holdings { held_texts = s.held }))) (sym h.2.on)
       (shared_down texts contents part [] a.backing (state_of a).switches (state_of a).holdings place mid n s.held bytes h.0 h.1 h.2.held bytes_are length_is put
-      (at_its_place bytes_in n.bytes place contents (new_length part.size part.alignment place a.backing mid n bytes h.1 length_is put) stands))
-  begun byte_lists place n bytes h bytes_are length_is put stands =
+      (at_its_place bytes_in n.bytes place contents (new_length part.size part.alignment place a.backing mid n bytes h.1 length_is put) stands)
+      are_kept)
+  begun byte_lists place n bytes h bytes_are length_is put stands are_kept =
       subst (λ on. PutsDown (shared_entry byte_lists contents part) [] (state_of a) place (state_from n (record (state_of a).switches { byte_lists_on = on }) (record (state_of a).holdings { held_byte_lists = s.held }))) (sym h.2.on)
       (shared_down byte_lists contents part [] a.backing (state_of a).switches (state_of a).holdings place mid n s.held bytes h.0 h.1 h.2.held bytes_are length_is put
-      (at_its_place bytes_in n.bytes place contents (new_length part.size part.alignment place a.backing mid n bytes h.1 length_is put) stands))
-  begun vtables place n bytes h bytes_are length_is put stands =
+      (at_its_place bytes_in n.bytes place contents (new_length part.size part.alignment place a.backing mid n bytes h.1 length_is put) stands)
+      are_kept)
+  begun vtables place n bytes h bytes_are length_is put stands are_kept =
       subst (λ on. PutsDown (shared_entry vtables contents part) [] (state_of a) place (state_from n (record (state_of a).switches { vtables_on = on }) (record (state_of a).holdings { held_vtables = s.held }))) (sym h.2.on)
       (shared_down vtables contents part [] a.backing (state_of a).switches (state_of a).holdings place mid n s.held bytes h.0 h.1 h.2.held bytes_are length_is put
-      (at_its_place vtable_in n.bytes place contents (new_length part.size part.alignment place a.backing mid n bytes h.1 length_is put) stands))
+      (at_its_place vtable_in n.bytes place contents (new_length part.size part.alignment place a.backing mid n bytes h.1 length_is put) stands)
+      are_kept)
 
   -- one whose contents are found is put down
   pub found_again : (kind : Kind) (distance : ℕ) → Starts (contents_in kind) contents part.size part.alignment a.backing (shares_of kind a) (Ok (Found distance)) mid s
@@ -450,7 +464,7 @@ left_sound entry got old new error sound refused =
 -- a builder without bytes, promises and contents that are held has an empty past
 pub nothing_written : (b : Backed) (switches : Switches) (holdings : Holdings) → b.bytes ≡ [] → DescribedBy b []
     → caches.IsEmpty holdings.held_texts → caches.IsEmpty holdings.held_byte_lists → caches.IsEmpty holdings.held_vtables → IsPast (state_from b switches holdings) no_past
-nothing_written b switches holdings bytes described none_of_texts none_of_lists none_of_vtables = record { bytes = sym bytes; described = described; seen = of_kind }
+nothing_written b switches holdings bytes described none_of_texts none_of_lists none_of_vtables = record { bytes = sym bytes; described = described; seen = of_kind; kept = tt }
   where
     of_kind : (kind : Kind) → FindsSeen (state_from b switches holdings) [] kind
     of_kind texts = finds_nothing (state_from b switches holdings) texts none_of_texts

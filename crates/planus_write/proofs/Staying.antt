@@ -13,7 +13,8 @@ use Rattle.planus_write.specs.Shared.{Kind, texts, byte_lists, vtables, Seen}
 use Rattle.planus_write.specs.Past.{Past}
 use Rattle.planus_write.specs.State.{Extends}
 use Rattle.planus_write.specs.Parts.{Named, position_with, position_in}
-use Rattle.planus_write.specs.Standing.{TagsReached, IsKept, KindIsKept, SeenIsKept, KeptStays}
+use Rattle.planus_write.specs.Kept.{TagsReached, IsKept, KindIsKept, SeenIsKept}
+use Rattle.planus_write.specs.Standing.{KeptStays}
 use Rattle.planus_read.specs.Values as value
 
 -- what is named by distances moves by as much as is put in front

@@ -65,6 +65,7 @@ roomier_past old new past same is_past =
         fits = (is_past.seen kind).fits;
         finds = (is_past.seen kind).finds;
       };
+      kept = is_past.kept;
     })
 
 roomier_grows : (old new : State) → new ≡ record old { room = new.room } → Grows old new

@@ -3,6 +3,7 @@ pub mod Past
 pub mod Items
 pub mod Tables
 pub mod Parts
+pub mod Kept
 pub mod Backed
 pub mod State
 pub mod Sharing

@@ -11,44 +11,12 @@ use Rattle.planus_read.specs.Moves.{moved}
 use Rattle.planus_read.specs.Aligned.{AlignedAt}
 use Rattle.planus_write.specs.Shared.{Kind, texts, byte_lists, vtables, Switches, Seen}
 use Rattle.planus_write.specs.Past.{Past, Entry, PutsAll, ComesToTooLarge}
+use Rattle.planus_write.specs.Kept.{IsKept, AllSeenKept}
 use Rattle.planus_write.specs.State.{State, IsPast, Extends}
 use Rattle.planus_write.specs.Preparing.{WritesEntries}
 use Rattle.planus_write.specs.declared.errors.BuildError.TheVariants.{TooLarge}
 use Rattle.planus_write.specs.Parts.{finish_part, identifier_bytes, IsWritten, entries_of, Named}
 use Rattle.planus_write.specs.Parts.{named_by, position_in}
-
--- the tags that a value is named by lie in so many bytes, if it has any
-abbrev pub TagsReached : ℕ → Option ℕ → Type 0
-TagsReached length None = ⊤
-TagsReached length (Some tags) = tags ≤ length
-
--- The value stands in what was written, at the distances that it is named by, and is aligned in all
--- bytes that end in this and whose length keeps the promises.
-pub record IsKept (past : Past) (value : Value) (named : Named) : Type 0 where
-  pub reached : named.distance ≤ length past.written.bytes
-  pub tags_reached : TagsReached (length past.written.bytes) named.tags
-  pub stands : Stands past.written.bytes (position_in past.written.bytes named) value
-  pub aligned : (front : List ℕ) → Keep past.written.promises (length (front ++ past.written.bytes))
-      → AlignedAt (front ++ past.written.bytes)
-      (moved (length front) (position_in past.written.bytes named)) value
-
--- Contents that were seen: a text or a byte list of these bytes is kept at the distance; of a
--- vtable its bytes stand, at a multiple of 2.
-abbrev pub KindIsKept : Past → Kind → List ℕ → ℕ → Type 0
-KindIsKept past texts bytes distance =
-    IsKept past (text bytes) (record { distance = distance; tags = None })
-KindIsKept past byte_lists bytes distance =
-    IsKept past (byte_list bytes) (record { distance = distance; tags = None })
-KindIsKept past vtables bytes distance =
-    (distance ≤ length past.written.bytes)
-    × BytesStand past.written.bytes (position_of past.written.bytes distance) bytes
-    × ((L : ℕ) → Keep past.written.promises L → 2 ∣ (L - distance))
-
-abbrev pub SeenIsKept : Past → Seen → Type 0
-SeenIsKept past seen = KindIsKept past seen.contents.kind seen.contents.bytes seen.distance
-
-abbrev pub AllSeenKept : Past → Type 0
-AllSeenKept past = AllByRecursion (SeenIsKept past) past.seen
 
 -- What is kept stays so, whatever is written in front of it.
 abbrev pub KeptStays : Type 0

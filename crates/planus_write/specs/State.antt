@@ -6,6 +6,7 @@ use Rattle.planus_back.specs.Descriptions.{Describes}
 use Rattle.planus_write.specs.Shared.{Kind, texts, byte_lists, vtables, Switches, Seen}
 use Rattle.planus_write.specs.Shared.{distance_seen}
 use Rattle.planus_write.specs.Past.{Past}
+use Rattle.planus_write.specs.Kept.{AllSeenKept}
 use Rattle.planus_back.specs.Promises.{Promise}
 
 -- what the caches hold, one of each kind of contents
@@ -44,11 +45,12 @@ pub record FindsSeen (state : State) (seen : List Seen) (kind : Kind) : Type 0 w
       × (key_at (contents_in kind) state.bytes distance ≡ Some bytes))
 
 -- This may be what was written: the builder has its bytes, describes its promises, and finds the
--- contents that were seen.
+-- contents that were seen, all of which are kept.
 pub record IsPast (state : State) (past : Past) : Type 0 where
   pub bytes : past.written.bytes ≡ state.bytes
   pub described : Describes (length state.bytes) state.delayed state.mask past.written.promises
   pub seen : (kind : Kind) → FindsSeen state past.seen kind
+  pub kept : AllSeenKept past
 
 -- All that was written is still there, and all that was promised.
 pub record Extends (before after : Past) : Type 0 where

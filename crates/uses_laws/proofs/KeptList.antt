@@ -10,7 +10,8 @@ use Rattle.planus_write.specs.ListLaws.{ready_list_is_put, plain_items_are}
 use Rattle.planus_write.specs.Parts.{IsPlainList, entries_of, list_entries}
 use Rattle.planus_write.specs.Past.{Past, Entry}
 use Rattle.planus_write.specs.Preparing.{Answers, WritesEntries, WritesList}
-use Rattle.planus_write.specs.Standing.{AllSeenKept, EntriesArePut, IsKept, ValuesAreKept}
+use Rattle.planus_write.specs.Kept.{IsKept}
+use Rattle.planus_write.specs.Standing.{EntriesArePut, ValuesAreKept}
 use Rattle.planus_write.specs.State.{State, IsPast}
 use Rattle.planus_write.specs.declared.errors.BuildError.{BuildError}
 use Rattle.planus_write.specs.declared.offset.Offset.{Offset}
@@ -42,16 +43,15 @@ module _ (numbers : List ℕ) where
   pub list_is_kept : {T : Type 0} (old : State) (answer : Result (Offset T) BuildError) (new : State)
       → EntriesArePut → ValuesAreKept → WritesList {T = T} Answers leaves 2 2 numbers old answer new
       → IfOk answer (λ offset. (past : Past) → IsPast old past
-      → AllSeenKept past → (after : Past) × IsPast new after × AllSeenKept after
+      → (after : Past) × IsPast new after
       × IsKept after list (record { distance = offset.distance; tags = None }))
   list_is_kept {T} old (Err error) new put keeps done = tt
-  list_is_kept {T} old (Ok offset) new put keeps done = λ past is_past seen.
+  list_is_kept {T} old (Ok offset) new put keeps done = λ past is_past.
       let written = ready_list_is_put leaves 2 2 numbers old offset new done in
       let placed = put (entries_of list) [] old written.0 new past
       (subst (λ (all : List Entry). WritesEntries all [] old (Ok written.0) new) entries written.1) is_past in
-      let kept = keeps old.switches list past written.0 placed.0 is_list seen placed.1 in (
+      let kept = keeps old.switches list past written.0 placed.0 is_list is_past.kept placed.1 in (
         placed.0,
         placed.2,
-        kept.1,
         subst (λ (d : ℕ). IsKept placed.0 list (record { distance = d; tags = None })) (sym written.2) kept.0,
       )

@@ -14,7 +14,8 @@ use Rattle.planus_write.specs.Parts.{text_entry, IsPlainList, IsWritten, entries
 use Rattle.planus_write.specs.Parts.{Named, named_by}
 use Rattle.planus_write.specs.Past.{Past, Entry}
 use Rattle.planus_write.specs.Preparing.{Answers, AllMay, IsLawful, WritesEntries, WritesList, WritesText}
-use Rattle.planus_write.specs.Standing.{AllSeenKept, EntriesArePut, IsKept, KeptStays, ValuesAreKept}
+use Rattle.planus_write.specs.Kept.{IsKept}
+use Rattle.planus_write.specs.Standing.{EntriesArePut, KeptStays, ValuesAreKept}
 use Rattle.planus_write.specs.State.{State, IsPast, Extends, Grows}
 use Rattle.planus_write.specs.Tables.{IsTable, Declared, declared_of, body_bytes, object_entries, slots_used}
 use Rattle.planus_write.specs.TableWriting.{Writer, WasTold, WritesTable}
@@ -33,7 +34,6 @@ use Rattle.uses_record.specs.Ships.{PreparesCargo, PreparesHull, CreatesShip}
 pub record IsAdded (past : Past) (new : State) (Kept : Past → Type 0) : Type 0 where
   pub after : Past
   pub is_past : IsPast new after
-  pub seen : AllSeenKept after
   pub extends : Extends past after
   pub kept : Kept after
 
@@ -158,60 +158,57 @@ cargo_reached past (Some cargo) None kept = elim kept [ ]
 
 module _ (put : EntriesArePut) (keeps : ValuesAreKept) (stays : KeptStays) where
   value_added : (value : Value) (old : State) (got : List ℕ) (new : State) (past : Past)
-      → WritesEntries (entries_of value) [] old (Ok got) new → IsPast old past → AllSeenKept past
+      → WritesEntries (entries_of value) [] old (Ok got) new → IsPast old past
       → IsWritten (length past.written.bytes) value
       → named_by value got ≡ record { distance = last_of got; tags = None }
       → ValueAdded past new value (last_of got)
-  value_added value old got new past writes is_past seen is_written named =
+  value_added value old got new past writes is_past is_written named =
       let placed = put (entries_of value) [] old got new past writes is_past in
-      let kept = keeps old.switches value past got placed.0 is_written seen placed.1 in
+      let kept = keeps old.switches value past got placed.0 is_written is_past.kept placed.1 in
       record {
         after = placed.0;
         is_past = placed.2;
-        seen = kept.1;
         extends = kept.2;
         kept = subst (λ (name : Named). IsKept placed.0 value name) named kept.0;
       }
 
   text_added : {T : Type 0} (bytes : List ℕ) (old : State) (offset : Offset T) (new : State)
-      (past : Past) → WritesText bytes old (Ok offset) new → IsPast old past → AllSeenKept past
+      (past : Past) → WritesText bytes old (Ok offset) new → IsPast old past
       → ValueAdded past new (text bytes) offset.distance
-  text_added bytes old offset new past done is_past seen =
+  text_added bytes old offset new past done is_past =
       value_added (text bytes) old (offset.distance ∷ []) new past
-      (offset.distance, new, done, (refl, refl)) is_past seen tt refl
+      (offset.distance, new, done, (refl, refl)) is_past tt refl
 
   list_added : {T : Type 0} (numbers : List ℕ) (old : State) (offset : Offset T) (new : State)
       (past : Past) → WritesList Answers cargo_leaves 4 4 numbers old (Ok offset) new
-      → IsPast old past → AllSeenKept past
+      → IsPast old past
       → ValueAdded past new (cargo_list numbers) offset.distance
-  list_added numbers old offset new past done is_past seen =
+  list_added numbers old offset new past done is_past =
       let entries : list_entries 4 4 (map cargo_leaves numbers) ≡ entries_of (cargo_list numbers)
       = ap (list_entries 4 4) (plain_items_are (to_le_bytes w32) numbers) in
       let written = ready_list_is_put cargo_leaves 4 4 numbers old offset new done in
       subst (λ (d : ℕ). ValueAdded past new (cargo_list numbers) d) (sym written.2)
       (value_added (cargo_list numbers) old written.0 new past
       (subst (λ (all : List Entry). WritesEntries all [] old (Ok written.0) new) entries written.1)
-      is_past seen (is_list numbers) refl)
+      is_past (is_list numbers) refl)
 
   cargo_added : {T : Type 0} (cargo : Option (Bor (List ℕ))) (old : State)
       (answer : Option (Offset T)) (new : State) (past : Past)
-      → PreparesCargo cargo old (Ok answer) new → IsPast old past → AllSeenKept past
+      → PreparesCargo cargo old (Ok answer) new → IsPast old past
       → IsAdded past new (λ after. CargoIsKept after (numbers_of cargo) (distance_if answer))
-  cargo_added None old None new past h is_past seen = record {
+  cargo_added None old None new past h is_past = record {
     after = past;
     is_past = subst (λ state. IsPast state past) (sym h.1) is_past;
-    seen = seen;
     extends = extends_itself past;
     kept = tt;
   }
-  cargo_added None old (Some offset) new past h is_past seen = cc
-  cargo_added (Some numbers) old None new past h is_past seen = elim h.0 [ ]
-  cargo_added (Some numbers) old (Some offset) new past h is_past seen =
-      let added = list_added numbers.now old offset new past h.1 is_past seen in
+  cargo_added None old (Some offset) new past h is_past = cc
+  cargo_added (Some numbers) old None new past h is_past = elim h.0 [ ]
+  cargo_added (Some numbers) old (Some offset) new past h is_past =
+      let added = list_added numbers.now old offset new past h.1 is_past in
       record {
         after = added.after;
         is_past = added.is_past;
-        seen = added.seen;
         extends = added.extends;
         kept = added.kept;
       }
@@ -229,10 +226,10 @@ module _ (put : EntriesArePut) (keeps : ValuesAreKept) (stays : KeptStays) where
       (past : Past)
       → WritesTable (declared_of (ship_fields name cargo hull))
       (λ place. body_bytes place (ship_fields name cargo hull)) old (Ok done) new
-      → IsPast old past → AllSeenKept past → name ≤ length past.written.bytes
+      → IsPast old past → name ≤ length past.written.bytes
       → reach_or_zero cargo ≤ length past.written.bytes
       → ValueAdded past new (table (ship_fields name cargo hull)) (length new.bytes)
-  table_added name cargo hull old done new past written is_past seen named reached =
+  table_added name cargo hull old done new past written is_past named reached =
       let fields = ship_fields name cargo hull in
       subst (λ (d : ℕ). ValueAdded past new (table fields) d) written.2
       (value_added (table fields) old written.0 new past
@@ -241,7 +238,7 @@ module _ (put : EntriesArePut) (keeps : ValuesAreKept) (stays : KeptStays) where
       WritesEntries (object_entries slots (declared_of fields) (λ place. body_bytes place fields)) []
       old (Ok written.0) new)
       (slots_counted name cargo hull) written.1)
-      is_past seen (is_table (length past.written.bytes) name cargo hull named reached) refl)
+      is_past (is_table (length past.written.bytes) name cargo hull named reached) refl)
 
   -- a ship, from its parts
   pub ship_added : {S T U : Type 0} (name : List ℕ) (hull : ℕ) (cargo : Option (Bor (List ℕ)))
@@ -258,23 +255,22 @@ module _ (put : EntriesArePut) (keeps : ValuesAreKept) (stays : KeptStays) where
       → offset.distance ≡ length new.bytes
       → WritesShip name hull (numbers_of cargo) old offset.distance new
   ship_added name hull cargo old one two three new name_offset cargo_offset hull_there done offset
-      named loaded hulled written at = λ past is_past seen.
+      named loaded hulled written at = λ past is_past.
       let name_at = name_offset.distance in
       let cargo_at = distance_if cargo_offset in
-      let first = text_added name old name_offset one past named is_past seen in
-      let second = cargo_added cargo one cargo_offset two first.after loaded first.is_past first.seen in
+      let first = text_added name old name_offset one past named is_past in
+      let second = cargo_added cargo one cargo_offset two first.after loaded first.is_past in
       let left = hull_prepared hull two hull_there three hulled in
       let name_kept = stays first.after second.after (text name) (named_at name_at) second.extends
       first.kept in
       let third = table_added name_at cargo_at hull_there three done new second.after written
-      (subst (λ (state : State). IsPast state second.after) (sym left.1) second.is_past) second.seen
+      (subst (λ (state : State). IsPast state second.after) (sym left.1) second.is_past)
       name_kept.reached
       (cargo_reached second.after (numbers_of cargo) cargo_at second.kept) in
       let extends = extends_on past first.after third.after first.extends
       (extends_on first.after second.after third.after second.extends third.extends) in (
         third.after,
         third.is_past,
-        third.seen,
         extends,
         (λ value named kept. stays past third.after value named extends kept),
         record {

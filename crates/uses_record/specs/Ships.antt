@@ -15,7 +15,7 @@ use Rattle.planus_write.specs.declared.offset.List.{List as ListOf}
 use Rattle.planus_write.specs.declared.offset.Offset.{Offset}
 use Rattle.planus_write.specs.declared.offset.Text.{Text}
 use Rattle.planus_write.specs.Past.{Past}
-use Rattle.planus_write.specs.Standing.{AllSeenKept, IsKept}
+use Rattle.planus_write.specs.Kept.{IsKept}
 use Rattle.planus_write.specs.State.{State, IsPast, Extends}
 
 -- the hull that is written: none where it is the default
@@ -67,12 +67,11 @@ abbrev pub StillKept : Past → Past → Type 0
 StillKept before after =
     (value : Value) (named : Named) → IsKept before value named → IsKept after value named
 
--- Whatever was written before, if what was seen of it is kept: the ship is kept at the distance,
--- all that was written before is still there, and all that was kept still is.
+-- Whatever was written before, the ship is kept at the distance, all that was written before is
+-- still there, and all that was kept still is.
 abbrev pub WritesShip : List ℕ → ℕ → Option (List ℕ) → State → ℕ → State → Type 0
 WritesShip name hull cargo old distance new =
-    (past : Past) → IsPast old past → AllSeenKept past
-    → (after : Past) × IsPast new after × AllSeenKept after × Extends past after
+    (past : Past) → IsPast old past → (after : Past) × IsPast new after × Extends past after
     × StillKept past after × ShipIsKept after name hull cargo distance
 
 -- the numbers of a cargo, if there is one

@@ -21,8 +21,8 @@ pub struct Ship;
 
 impl Ship {
     /// Writes a ship: its name, its cargo if there is one, and the table that refers to them. A
-    /// hull of 100 is left out. After any past in which what was seen is kept, the ship is there
-    /// with `Ok`, and all that was kept before still is.
+    /// hull of 100 is left out. Whatever was written before, the ship is there with `Ok`, and all
+    /// that was kept before still is.
     ///
     /// [`BuildError::TooLarge`] and [`BuildError::OutOfMemory`] as of [`Builder::create_vector`].
     pub fn create(

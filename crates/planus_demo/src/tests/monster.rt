@@ -140,7 +140,8 @@ fn its_weapons(rt: HostRuntime) -> Result<(), Fail> {
     Ok(())
 }
 
-fn loot_is_read(rt: &impl Abort, alloc: Global, builder: &mut Builder) -> Result<(), Fail> {
+// An elf with two weapons as its loot, written and read.
+fn elf_with_loot<'a>(rt: &impl Abort, builder: &'a mut Builder) -> Result<MonsterRef<'a>, Fail> {
     let axe = weapon(builder, "Axe", 24)?;
     let bow = weapon(builder, "Bow", 12)?;
     assert_eq!(rt; axe.distance(), 28);
@@ -149,12 +150,20 @@ fn loot_is_read(rt: &impl Abort, alloc: Global, builder: &mut Builder) -> Result
         UnionOffset::new(1, bow.downcast()),
     ];
     let elf = elf(builder, loot)?;
-    let elf = MonsterRef::read_as_root(finish_with(builder, elf)?)?;
+    Ok(MonsterRef::read_as_root(finish_with(builder, elf)?)?)
+}
+
+fn inventory_is_read(rt: &impl Abort, builder: &mut Builder) -> Result<(), Fail> {
+    let elf = elf_with_loot(rt, builder)?;
     assert_eq!(rt; (elf.hp()?, elf.name()?), (7, "Elf"));
     assert_eq!(rt; elf.inventory()?, Some([1u8, 2, 3].as_slice()));
     assert!(rt; elf.weapons()?.is_none());
     assert!(rt; elf.equipped()?.is_none());
-    let loot = elf.loot()?.expect(rt, "loot");
+    Ok(())
+}
+
+fn loot_is_read(rt: &impl Abort, alloc: Global, builder: &mut Builder) -> Result<(), Fail> {
+    let loot = elf_with_loot(rt, builder)?.loot()?.expect(rt, "loot");
     let mut read = Vec::new(alloc);
     for equipment in loot {
         read.push(held(equipment?)?)?;
@@ -171,6 +180,8 @@ fn loot_is_read(rt: &impl Abort, alloc: Global, builder: &mut Builder) -> Result
 fn inventory_and_loot(rt: HostRuntime) -> Result<(), Fail> {
     for number in 0..8 {
         let mut builder = Builder::with_caches(rt.alloc(), 0, setting(number))?;
+        inventory_is_read(&rt, &mut builder)?;
+        builder.clear();
         loot_is_read(&rt, rt.alloc(), &mut builder)?;
     }
     Ok(())

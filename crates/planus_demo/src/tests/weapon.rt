@@ -51,11 +51,17 @@ fn fields_left_out_in(rt: &impl Abort, builder: &mut Builder) -> Result<(), Fail
     assert_eq!(rt; bytes, b"\x04\0\0\0\xfc\xff\xff\xff\x04\0\x04\0".as_slice());
     let weapon = WeaponRef::read_as_root(bytes)?;
     assert_eq!(rt; (weapon.name()?, weapon.damage()?), (None, 0));
-    builder.clear();
+    Ok(())
+}
+
+fn name_left_out_in(rt: &impl Abort, builder: &mut Builder) -> Result<(), Fail> {
     let unnamed = Weapon::create(builder, (), -3i16)?;
     let weapon = WeaponRef::read_as_root(finish_with(builder, unnamed)?)?;
     assert_eq!(rt; (weapon.name()?, weapon.damage()?), (None, -3));
-    builder.clear();
+    Ok(())
+}
+
+fn damage_left_out_in(rt: &impl Abort, builder: &mut Builder) -> Result<(), Fail> {
     let harmless = Weapon::create(builder, Some("Feather"), DefaultValue)?;
     let weapon = WeaponRef::read_as_root(finish_with(builder, harmless)?)?;
     assert_eq!(rt; (weapon.name()?, weapon.damage()?), (Some("Feather"), 0));
@@ -65,7 +71,11 @@ fn fields_left_out_in(rt: &impl Abort, builder: &mut Builder) -> Result<(), Fail
 #[test]
 fn fields_left_out(rt: HostRuntime) -> Result<(), Fail> {
     let mut builder = Builder::new(rt.alloc())?;
-    fields_left_out_in(&rt, &mut builder)
+    fields_left_out_in(&rt, &mut builder)?;
+    builder.clear();
+    name_left_out_in(&rt, &mut builder)?;
+    builder.clear();
+    damage_left_out_in(&rt, &mut builder)
 }
 
 #[test]

@@ -10,6 +10,7 @@ use Rattle.planus_write.specs.View.{state_of}
 use Rattle.planus_write.specs.declared.start.Start.{Start}
 use Rattle.planus_write.specs.declared.start.Start.TheVariants.{Found, Begun}
 use Rattle.planus_write.proofs.ContentsInFront.{list_in_front}
+use Rattle.planus_write.proofs.KeptContents.{new_byte_lists}
 use Rattle.planus_write.proofs.PlacedParts.{begun, found_again, not_begun, new_bytes, both_put, still_sound, left_sound}
 use Rattle.planus_write.proofs.builder.Builder.write_byte_list.Given as given
 use Rattle.planus_write.proofs.builder.Builder.write_byte_list.Goals as goal
@@ -39,6 +40,7 @@ put g c =
     begun list (byte_list_part list) c.self.inside c.start.new.backing c.start.new.sharing byte_lists c.in-Begun.place c.put.new.self (count ++ list) started same long whole
     (list_in_front list count (replicate started.1.padding 0) c.self.inside.backing.bytes c.put.new.self.bytes (omega (arith, fits, place)) count_is
     (new_bytes (length list + 4) 4 c.in-Begun.place c.self.inside.backing c.start.new.backing c.put.new.self (count ++ list) started.1 long whole))
+    (new_byte_lists list)
 
 pub invariant_of-self-in-Begun : goal.invariant_of-self-in-Begun
 invariant_of-self-in-Begun g c = still_sound (byte_list_entry (g.L.ByteItems.bytes_of c.args.list.now)) [] (state_of c.self.inside) _ c.in-Begun.place c.self.invariant (put g c)

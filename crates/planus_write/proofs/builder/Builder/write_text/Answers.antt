@@ -10,6 +10,7 @@ use Rattle.planus_write.specs.declared.start.Start.{Start}
 use Rattle.planus_write.specs.declared.start.Start.TheVariants.{Found, Begun}
 use Rattle.std.specs.Int.{w32, to_le_bytes}
 use Rattle.planus_write.proofs.ContentsInFront.{text_in_front}
+use Rattle.planus_write.proofs.KeptContents.{new_texts}
 use Rattle.planus_write.proofs.PlacedParts.{begun, found_again, not_begun, new_bytes, still_sound}
 use Rattle.planus_write.proofs.builder.Builder.write_text.Goals as goal
 
@@ -32,6 +33,7 @@ put c =
     begun text (text_part text) c.self.inside c.start.new.backing c.start.new.sharing texts c.in-Begun.place c.put_three.new.self ((count ++ text) ++ 0 ∷ []) started same long c.put_three.ensures
     (text_in_front text count (replicate started.1.padding 0) c.self.inside.backing.bytes c.put_three.new.self.bytes (omega (arith, fits, place)) c.to_le_bytes.ensures
     (new_bytes (length text + 5) 4 c.in-Begun.place c.self.inside.backing c.start.new.backing c.put_three.new.self ((count ++ text) ++ 0 ∷ []) started.1 long c.put_three.ensures))
+    (new_texts text)
 
 pub invariant_of-self-in-Begun : goal.invariant_of-self-in-Begun
 invariant_of-self-in-Begun c = still_sound (text_entry c.as_bytes-bytes.result.now) [] (state_of c.self.inside) _ c.in-Begun.place c.self.invariant (put c)

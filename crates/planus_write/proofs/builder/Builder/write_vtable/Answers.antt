@@ -9,6 +9,7 @@ use Rattle.planus_write.specs.View.{state_of}
 use Rattle.planus_write.specs.declared.start.Start.{Start}
 use Rattle.planus_write.specs.declared.start.Start.TheVariants.{Found, Begun}
 use Rattle.planus_write.proofs.ContentsInFront.{vtable_in_front}
+use Rattle.planus_write.proofs.KeptTables.{new_vtables}
 use Rattle.planus_write.proofs.PlacedParts.{begun, found_again, not_begun, new_bytes, still_sound, left_sound}
 use Rattle.planus_write.proofs.builder.Builder.write_vtable.Goals as goal
 
@@ -22,7 +23,7 @@ put c =
     subst (λ (start : Start). Starts vtable_in bytes (length bytes) 2 c.self.inside.backing c.self.inside.vtables (Ok start) c.start.new.backing c.start.new.sharing) c.in-Begun.is c.in_ok-distance.ensures.started in
     let there = new_bytes (length bytes) 2 c.in-Begun.place c.self.inside.backing c.start.new.backing c.put.new.self bytes started.1 refl c.put.ensures ∙ append_assoc bytes (replicate started.1.padding 0) c.self.inside.backing.bytes in
     let in_front : vtable_in c.put.new.self.bytes ≡ Some bytes = ap vtable_in there ∙ vtable_in_front bytes (replicate started.1.padding 0 ++ c.self.inside.backing.bytes) bytes c.requires in
-    begun bytes (vtable_part bytes) c.self.inside c.start.new.backing c.start.new.sharing vtables c.in-Begun.place c.put.new.self bytes started refl refl c.put.ensures in_front
+    begun bytes (vtable_part bytes) c.self.inside c.start.new.backing c.start.new.sharing vtables c.in-Begun.place c.put.new.self bytes started refl refl c.put.ensures in_front (new_vtables bytes)
 
 pub invariant_of-self-in-Begun : goal.invariant_of-self-in-Begun
 invariant_of-self-in-Begun c = still_sound (vtable_entry c.args.bytes.now) [] (state_of c.self.inside) _ c.in-Begun.place c.self.invariant (put c)
