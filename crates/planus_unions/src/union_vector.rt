@@ -6,10 +6,12 @@ ghost use Rattle.planus_unions.specs.ItemErrors.{item_method};
 
 use crate::item_errors::ItemError;
 use planus_read::errors::ErrorKind;
-use planus_read::{SliceWithStartOffset, TableReadUnionVector, VectorReadUnion, array_from_buffer};
+use planus_read::{
+    Error, SliceWithStartOffset, TableReadUnionVector, VectorReadUnion, array_from_buffer,
+};
 use planus_view::copies::CopyError;
 use planus_view::{
-    ByChunks, ByChunksExact, ByRChunks, ByRChunksExact, ByWindows, EachItem, FromItem, Items,
+    ByChunks, ByChunksExact, ByRChunks, ByRChunksExact, ByWindows, EachRead, FromItem, Items,
     ReadView, SubViews, View, ViewIndex, copy_items, splits,
 };
 use std::alloc::{AllocError, Global};
@@ -322,25 +324,23 @@ impl<'buf, T: VectorReadUnion<'buf>, E: ItemError> UnionVectorOf<'buf, T, E> {
 
 impl<'buf, T: VectorReadUnion<'buf> + Drop, E: ItemError> UnionVectorOf<'buf, T, E>
 where
-    E::Error: Drop,
+    E::Error: Into<Error> + Drop,
 {
-    ghost use Rattle.planus_view.specs.Copies.{AllConverted, Refused};
+    ghost use Rattle.planus_view.specs.Copies.{AllConverted, Refused, ReadConverts};
     ghost use Rattle.planus_unions.specs.UnionVectorView.{count_of, IsSubVector, IsItemOf};
 
-    /// Returns all items, converted in order, or the first refusal. Memory for them is asked for
-    /// once, before the first is read: [`CopyError::OutOfMemory`] where there is none.
-    pub fn to_vec<'n, O: FromItem<Result<T, E::Error>> + Drop>(
-        &self,
-        alloc: Global,
-    ) -> Result<Vec<O>, CopyError<'n>>
+    /// Returns the values of all items, converted in order, or the first refusal: that of a
+    /// conversion, or [`CopyError::Read`] of an item that can't be read. Memory for them is asked
+    /// for once, before the first is read: [`CopyError::OutOfMemory`] where there is none.
+    pub fn to_vec<'n, O: FromItem<T> + Drop>(&self, alloc: Global) -> Result<Vec<O>, CopyError<'n>>
         ensures all { IfOk result (λ copies. AllConverted IsSubVector
-            (IsItemOf T.reads T.name item_method E.keeps) O.converts self.now
-            (count_of self.now) copies.items) }
+            (IsItemOf T.reads T.name item_method E.keeps)
+            (ReadConverts O.converts E.Error.converts) self.now (count_of self.now) copies.items) }
         ensures refused { IfErr result (λ e. Refused IsSubVector
-            (IsItemOf T.reads T.name item_method E.keeps) O.converts self.now
-            (count_of self.now) e) }
+            (IsItemOf T.reads T.name item_method E.keeps)
+            (ReadConverts O.converts E.Error.converts) self.now (count_of self.now) e) }
     {
-        copy_items::<UnionVectorOf<'buf, T, E>, O, EachItem>(alloc, self)
+        copy_items::<UnionVectorOf<'buf, T, E>, O, EachRead>(alloc, self)
     }
 }
 

@@ -6,7 +6,7 @@ use super::unions;
 use crate::UnionVector;
 use planus_read::errors::ErrorKind;
 use planus_read::{Error, SliceWithStartOffset, TableRead, TableReadUnion, VectorName};
-use planus_view::{Cut, SubViews};
+use planus_view::{CopyError, Cut, SubViews};
 use std::test::Fail;
 
 // A number of four bytes, in place of a reference; its tag is 2.
@@ -100,12 +100,32 @@ fn calls(rt: HostRuntime) -> Result<(), Fail> {
     assert!(rt; calls_agree(one, Some(0), Some(0)));
     let five = unions(&FIVE, 0, 4).map_err(|_| "five")?;
     assert!(rt; calls_agree(five, Some(10), Some(14)));
-    let copies = five
-        .to_vec::<Result<Number, Error>>(rt.alloc())
-        .map_err(|_| "copies")?;
-    assert_eq!(rt; copies.len(), 5);
     let mut from_the_back = five.rchunks(2);
     let chunk = from_the_back.next().and_then(|chunk| held(chunk.first()));
     assert_eq!(rt; chunk, Some(13));
+    Ok(())
+}
+
+// The second and the fourth tag are unknown: the error is that of the second item, at the start of
+// the references from there on.
+#[test]
+fn copies(rt: HostRuntime) -> Result<(), Fail> {
+    let alloc = rt.alloc();
+    let five = unions(&FIVE, 0, 4).map_err(|_| "five")?;
+    let copies = five.to_vec::<Number>(alloc).map_err(|_| "copies")?;
+    let numbers = [Number(10), Number(11), Number(12), Number(13), Number(14)];
+    assert_eq!(rt; copies.as_slice(), numbers.as_slice());
+    let mut bytes = FIVE;
+    bytes[13] = 7;
+    bytes[15] = 9;
+    let damaged: UnionVector<'_, Number> = unions(&bytes, 0, 4).map_err(|_| "damaged")?;
+    match damaged.to_vec::<Number>(alloc) {
+        Err(CopyError::Read(error)) => {
+            let printed = error.to_string(alloc)?;
+            let text = "In <[Number]@1c>::get(): Unknown union (tag = 7)";
+            assert_eq!(rt; printed.as_str(), text);
+        }
+        _ => assert!(rt; false, "the second item is damaged"),
+    }
     Ok(())
 }
