@@ -4,5 +4,6 @@ pub mod LeftOf
 pub mod Converted
 pub mod Ends
 pub mod TableLaws
+pub mod SubViewTexts
 pub mod SubViewItems
 pub mod ReadBack

@@ -1,4 +1,4 @@
--- Where the numbers of a sub-view stand in the view.
+-- Where the items of a sub-view stand in the view.
 use Rattle.std.proofs.Common.{refl, ◌==◌, not, ◌≡◌, ℕ, ◌+◌, ◌*◌, ◌<◌, ◌≤◌, List, length, drop, sym}
 use Rattle.std.proofs.Common.{ap, ◌∙◌, arith, ⊎_elim, None}
 use Rattle.std.proofs.Math.Nat.{add-mul}
@@ -9,7 +9,8 @@ use Rattle.std.specs.Option.{option_map}
 use Rattle.planus_view.specs.Views.{View}
 use Rattle.planus_read.proofs.PieceLaws.{num_in_piece}
 use Rattle.planus_read.specs.Bytes.{Num}
-use Rattle.planus_view.specs.Laws.{SameScalars, ItemsOfSubViews}
+use Rattle.planus_view.specs.Laws.{SameItems, ItemsOfSubViews}
+use Rattle.planus_view.proofs.SubViewTexts.{same_texts}
 
 -- there is no number past the end
 none_past : (S : List ℕ) (f : ℕ) (w : Width) → length S < f + byte_len w → Num S f w ≡ None
@@ -32,9 +33,9 @@ some_bytes w32 = omega arith
 some_bytes w64 = omega arith
 some_bytes w128 = omega arith
 
-same_scalars :
-    (S : List ℕ) (p f g : ℕ) → p + f ≡ g → SameScalars (drop p S) f S g
-same_scalars S p f g e = record {
+items_behind :
+    (S : List ℕ) (p f g : ℕ) → p + f ≡ g → SameItems (drop p S) f S g
+items_behind S p f g e = record {
   numbers = λ w x. (λ h. sym (same w) ∙ h, λ h. same w ∙ h);
   signed = λ w x. (
     λ h. ap (option_map (cast_signed w)) (sym (same w)) ∙ h,
@@ -44,6 +45,7 @@ same_scalars S p f g e = record {
     λ h. ap (option_map (λ n. not (n == 0))) (sym (same w8)) ∙ h,
     λ h. ap (option_map (λ n. not (n == 0))) (same w8) ∙ h,
   );
+  texts = same_texts S p f g e;
 }
   where
     same : (w : Width) → Num (drop p S) f w ≡ Num S g w
@@ -53,5 +55,5 @@ pub items_of_sub_views : ItemsOfSubViews
 items_of_sub_views stride v u lo hi i is =
     let bytes : u.bytes ≡ drop (lo * stride) v.bytes = ap (λ (s : View). s.bytes) is.same in
     rw bytes
-    (same_scalars v.bytes (lo * stride) (i * stride) ((lo + i) * stride) (sym (add-mul lo i
+    (items_behind v.bytes (lo * stride) (i * stride) ((lo + i) * stride) (sym (add-mul lo i
     stride)))

@@ -1,9 +1,11 @@
 -- What the ranges of the table are, what is left of them after steps from both ends, and which
 -- items sub-views have.
 use Rattle.std.specs.Prelude.{◌≡◌, ℕ, ◌+◌, ◌-◌, ◌*◌, ◌<◌, ◌≤◌, ◌↔◌, ℤ, Bool, List, [], ◌∷◌, ◌++◌}
-use Rattle.std.specs.Prelude.{length, take, drop, slice_get, Some}
+use Rattle.std.specs.Prelude.{length, take, drop, slice_get, Some, Result}
 use Rattle.std.specs.Int.{Width}
-use Rattle.planus_read.specs.Reading.{NumberThere, SignedThere, TruthThere}
+use Rattle.planus_read.specs.declared.errors.ErrorKind.{ErrorKind}
+use Rattle.planus_read.specs.Clauses.{Answer}
+use Rattle.planus_read.specs.Reading.{NumberThere, SignedThere, TruthThere, text_reading}
 use Rattle.planus_view.specs.Ranges.{chunk, chunks, rchunk, rchunks, exact_chunk, chunks_exact}
 use Rattle.planus_view.specs.Ranges.{rchunks_exact, window, windows, remainder, ends}
 use Rattle.planus_view.specs.Views.{View, IsSubView}
@@ -52,14 +54,17 @@ pub record StepsOfEnds (R : List (ℕ × ℕ)) (a b : ℕ) : Type 0 where
 abbrev pub EndsStep : Type 0
 EndsStep = (R : List (ℕ × ℕ)) (a b : ℕ) → StepsOfEnds R a b
 
--- The same number, signed number and truth value stand at f of S and at g of R, or none at both.
-pub record SameScalars (S : List ℕ) (f : ℕ) (R : List ℕ) (g : ℕ) : Type 0 where
+-- The same number, signed number and truth value stand at f of S and at g of R, or none at both; a
+-- text is answered alike at both, be it with the text or with the kind of the error.
+pub record SameItems (S : List ℕ) (f : ℕ) (R : List ℕ) (g : ℕ) : Type 0 where
   pub numbers : (width : Width) (x : ℕ) → NumberThere S f width x ↔ NumberThere R g width x
   pub signed : (width : Width) (x : ℤ) → SignedThere S f width x ↔ SignedThere R g width x
   pub truths : (x : Bool) → TruthThere S f x ↔ TruthThere R g x
+  pub texts :
+      (r : Result (List ℕ) ErrorKind) → Answer (text_reading S f) r ↔ Answer (text_reading R g) r
 
 -- Item i of a sub-view is the item of the view at the position where it stands there.
 abbrev pub ItemsOfSubViews : Type 0
 ItemsOfSubViews =
     (stride : ℕ) (v u : View) (lo hi i : ℕ) → IsSubView stride v lo hi u
-    → SameScalars u.bytes (i * stride) v.bytes ((lo + i) * stride)
+    → SameItems u.bytes (i * stride) v.bytes ((lo + i) * stride)

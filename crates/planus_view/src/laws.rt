@@ -19,8 +19,9 @@ pub fn ends_add_up()
     ensures steps { EndsStep }
 {}
 
-/// Item i of a sub-view from `lo` on is item `lo + i` of the view, for numbers and truth values. So
-/// `get(i)` returns item i of `iter`, which reads it from the sub-view from i on.
+/// Item i of a sub-view from `lo` on is item `lo + i` of the view, for numbers, truth values and
+/// texts; where a text can't be read, the kinds of the errors are equal. So `get(i)` returns item i
+/// of `iter`, which reads it from the sub-view from i on, except for the offset in an error.
 pub fn sub_views_have_the_items()
     ensures { ItemsOfSubViews }
 {}
