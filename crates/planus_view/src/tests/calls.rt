@@ -47,9 +47,9 @@ struct ItemCalls {
 }
 
 fn item_calls<'buf, T: VectorRead<'buf> + Drop>(v: Vector<'buf, T>) -> ItemCalls {
-    let mut rest = 0;
+    let mut rest: usize = 0;
     for _item in v {
-        rest = v.len();
+        rest = rest.wrapping_add(1);
     }
     let mut back = v.iter();
     let _last = back.next_back();
