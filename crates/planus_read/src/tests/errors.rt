@@ -9,6 +9,19 @@ fn kinds_print_their_texts(rt: HostRuntime) -> Result<(), Fail> {
     let rows = [
         (ErrorKind::InvalidOffset, "Invalid offset"),
         (ErrorKind::InvalidLength, "Invalid length"),
+        (ErrorKind::MissingRequired, "Missing required field"),
+        (ErrorKind::MissingNullTerminator, "Missing null terminator"),
+    ];
+    for (kind, text) in rows {
+        let shown = format!(in rt.alloc(); "{kind}")?;
+        assert_eq!(rt; shown.as_str(), text);
+    }
+    Ok(())
+}
+
+#[test]
+fn kinds_print_their_numbers(rt: HostRuntime) -> Result<(), Fail> {
+    let rows = [
         (
             ErrorKind::UnionVectorLengthsMismatched {
                 tags_len: 2,
@@ -28,13 +41,16 @@ fn kinds_print_their_texts(rt: HostRuntime) -> Result<(), Fail> {
             ErrorKind::InvalidVtableLength { length: 3 },
             "Invalid vtable length (length = 3)",
         ),
-        (ErrorKind::MissingRequired, "Missing required field"),
-        (ErrorKind::MissingNullTerminator, "Missing null terminator"),
     ];
     for (kind, text) in rows {
         let shown = format!(in rt.alloc(); "{kind}")?;
         assert_eq!(rt; shown.as_str(), text);
     }
+    Ok(())
+}
+
+#[test]
+fn unknown_tags_alone_print_their_texts(rt: HostRuntime) -> Result<(), Fail> {
     let tag = UnknownEnumTagKind { tag: -1 };
     let shown = format!(in rt.alloc(); "{tag}")?;
     assert_eq!(rt; shown.as_str(), "Unknown enum (tag = -1)");
@@ -92,10 +108,15 @@ fn texts_name_their_first_fault(rt: HostRuntime) -> Result<(), Fail> {
 }
 
 #[test]
-fn locations_print_their_texts(rt: HostRuntime) -> Result<(), Fail> {
+fn errors_print_their_texts(rt: HostRuntime) -> Result<(), Fail> {
     let error: Error = ErrorKind::InvalidLength.with_error_location("Monster", "name", 255);
     let shown = format!(in rt.alloc(); "{error}")?;
     assert_eq!(rt; shown.as_str(), "In <Monster@ff>::name(): Invalid length");
+    Ok(())
+}
+
+#[test]
+fn locations_print_their_texts(rt: HostRuntime) -> Result<(), Fail> {
     for (byte_offset, text) in [(255, "<T@ff>::m()"), (usize::MAX, "<T>::m()")] {
         let location = ErrorLocation {
             type_: "T",
@@ -108,16 +129,24 @@ fn locations_print_their_texts(rt: HostRuntime) -> Result<(), Fail> {
     Ok(())
 }
 
+const UNKNOWN_TAG: &str = "In <Color@10>::color(): Unknown enum (tag = -1)";
+
+fn unknown_tag() -> UnknownEnumTag {
+    UnknownEnumTagKind { tag: -1 }.with_error_location("Color", "color", 16)
+}
+
 #[test]
 fn unknown_tags_print_their_texts(rt: HostRuntime) -> Result<(), Fail> {
-    let tag: UnknownEnumTag = UnknownEnumTagKind { tag: -1 }.with_error_location(
-        "Color", "color", 16,
-    );
-    let text = "In <Color@10>::color(): Unknown enum (tag = -1)";
+    let tag = unknown_tag();
     let shown = format!(in rt.alloc(); "{tag}")?;
-    assert_eq!(rt; shown.as_str(), text);
-    let error = Error::from(tag.clone()?);
+    assert_eq!(rt; shown.as_str(), UNKNOWN_TAG);
+    Ok(())
+}
+
+#[test]
+fn unknown_tags_become_errors(rt: HostRuntime) -> Result<(), Fail> {
+    let error = Error::from(unknown_tag().clone()?);
     let shown = format!(in rt.alloc(); "{error}")?;
-    assert_eq!(rt; shown.as_str(), text);
+    assert_eq!(rt; shown.as_str(), UNKNOWN_TAG);
     Ok(())
 }

@@ -115,10 +115,16 @@ fn damaged_weapon(rt: HostRuntime) -> Result<(), Fail> {
 }
 
 #[test]
-fn whole_weapon(rt: HostRuntime) -> Result<(), Fail> {
+fn name_of_the_weapon(rt: HostRuntime) -> Result<(), Fail> {
     let table = table_at(&WEAPON)?;
     assert_eq!(rt; table.access::<&str>(0, "Weapon", "name")?, Some("Axe"));
     assert_eq!(rt; table.access_required::<&str>(0, "Weapon", "name")?, "Axe");
+    Ok(())
+}
+
+#[test]
+fn damage_of_the_weapon(rt: HostRuntime) -> Result<(), Fail> {
+    let table = table_at(&WEAPON)?;
     assert_eq!(rt; table.access::<i16>(1, "Weapon", "damage")?, Some(24));
     Ok(())
 }
@@ -146,6 +152,12 @@ fn u16_table(rt: HostRuntime) -> Result<(), Fail> {
     assert_eq!(rt; table.access::<u16>(0, "T", "n")?, Some(24));
     assert_eq!(rt; table.access::<u16>(1, "T", "n")?, None);
     assert_eq!(rt; table.access::<u16>(usize::MAX, "T", "n")?, None);
+    Ok(())
+}
+
+#[test]
+fn u16_table_lacks_a_field(rt: HostRuntime) -> Result<(), Fail> {
+    let table = table_at(&U16_TABLE)?;
     match table.access_required::<u16>(1, "T", "n") {
         Ok(_) => assert!(rt; false, "a number"),
         Err(e) => {
@@ -153,8 +165,13 @@ fn u16_table(rt: HostRuntime) -> Result<(), Fail> {
             assert_eq!(rt; text.as_str(), "In <T@4>::n(): Missing required field");
         }
     }
-    let vtable_first = table_at(&U16_TABLE_VTABLE_FIRST)?;
-    assert_eq!(rt; vtable_first.access::<u16>(0, "T", "n")?, Some(24));
+    Ok(())
+}
+
+#[test]
+fn u16_table_after_its_vtable(rt: HostRuntime) -> Result<(), Fail> {
+    let table = table_at(&U16_TABLE_VTABLE_FIRST)?;
+    assert_eq!(rt; table.access::<u16>(0, "T", "n")?, Some(24));
     Ok(())
 }
 
@@ -233,19 +250,38 @@ fn field_past_the_end(rt: HostRuntime) -> Result<(), Fail> {
 }
 
 #[test]
-fn unions(rt: HostRuntime) -> Result<(), Fail> {
+fn a_union(rt: HostRuntime) -> Result<(), Fail> {
     let table = table_at(&UNIONS)?;
     let union = table.access_union_required::<TaggedPlace<'_>>(0, "T", "u")?;
     assert_eq!(rt; union.tag(), 1);
     assert_eq!(rt; union.place().read::<&str>()?, "Hi");
-    let vector = table.access_union_vector_required::<Heads<'_>>(2, "T", "v")?;
-    let (tags, tag_count) = vector.tags;
-    let (values, value_count) = vector.values;
+    Ok(())
+}
+
+// The vector of unions of a table's slots 2 and 3.
+fn heads_of(bytes: &[u8]) -> Result<Heads<'_>, Fail> {
+    let table = table_at(bytes)?;
+    Ok(table.access_union_vector_required::<Heads<'_>>(2, "T", "v")?)
+}
+
+#[test]
+fn counts_of_two_unions(rt: HostRuntime) -> Result<(), Fail> {
+    let heads = heads_of(&UNIONS)?;
+    let (tags, tag_count) = heads.tags;
+    let (values, value_count) = heads.values;
     assert_eq!(rt; (tag_count, value_count), (2, 2));
     assert_eq!(rt;
         (tags.offset_from_start(), values.offset_from_start()),
         (48, 56)
     );
+    Ok(())
+}
+
+#[test]
+fn tags_and_texts_of_two_unions(rt: HostRuntime) -> Result<(), Fail> {
+    let heads = heads_of(&UNIONS)?;
+    let (tags, _) = heads.tags;
+    let (values, _) = heads.values;
     assert!(rt; tags.as_slice().starts_with(&[1, 2]));
     for (offset, text) in [(0, "A"), (4, "B")] {
         let item = <Place<'_> as TableRead<'_>>::from_buffer(values, offset)?;
@@ -278,6 +314,13 @@ fn advance_to_the_end(rt: HostRuntime) -> Result<(), Fail> {
     let bytes = [1, 2, 3, 4, 5, 6, 7, 8];
     let piece = SliceWithStartOffset::new(&bytes, 16);
     assert!(rt; piece.advance(8)?.is_empty());
+    Ok(())
+}
+
+#[test]
+fn advance_to_the_rest(rt: HostRuntime) -> Result<(), Fail> {
+    let bytes = [1, 2, 3, 4, 5, 6, 7, 8];
+    let piece = SliceWithStartOffset::new(&bytes, 16);
     let rest = piece.advance(3)?;
     assert_eq!(rt; rest.offset_from_start(), 19);
     assert_eq!(rt; rest.len(), 5);

@@ -78,46 +78,78 @@ fn vector_name<T: VectorName>() -> &'static str {
 }
 
 #[test]
-fn numbers_are_fields(rt: HostRuntime) -> Result<(), Fail> {
+fn unsigned_numbers_are_fields(rt: HostRuntime) -> Result<(), Fail> {
     assert_eq!(rt; field::<u8>(&BYTES, 0)?, 0xff);
     assert_eq!(rt; field::<u16>(&BYTES, 0)?, 0xfeff);
     assert_eq!(rt; field::<u32>(&BYTES, 0)?, 0xfcfd_feff);
     assert_eq!(rt; field::<u64>(&BYTES, 0)?, 0xf8f9_fafb_fcfd_feff);
-    assert_eq!(rt; field::<i8>(&BYTES, 0)?, -1);
-    assert_eq!(rt; field::<i16>(&BYTES, 0)?, -257);
-    assert_eq!(rt; field::<i32>(&BYTES, 0)?, -50_462_977);
-    assert_eq!(rt; field::<i64>(&BYTES, 8)?, 0x3_0002_0001);
-    assert!(rt; field::<bool>(&BYTES, 0)?);
-    assert!(rt; !field::<bool>(&BYTES, 9)?);
-    assert!(rt; matches!(field::<u64>(&BYTES, 9), Err(ErrorKind::InvalidOffset)));
     Ok(())
 }
 
 #[test]
-fn numbers_are_items(rt: HostRuntime) {
+fn signed_numbers_are_fields(rt: HostRuntime) -> Result<(), Fail> {
+    assert_eq!(rt; field::<i8>(&BYTES, 0)?, -1);
+    assert_eq!(rt; field::<i16>(&BYTES, 0)?, -257);
+    assert_eq!(rt; field::<i32>(&BYTES, 0)?, -50_462_977);
+    assert_eq!(rt; field::<i64>(&BYTES, 8)?, 0x3_0002_0001);
+    Ok(())
+}
+
+#[test]
+fn bools_are_fields(rt: HostRuntime) -> Result<(), Fail> {
+    assert!(rt; field::<bool>(&BYTES, 0)?);
+    assert!(rt; !field::<bool>(&BYTES, 9)?);
+    Ok(())
+}
+
+#[test]
+fn a_number_past_the_end(rt: HostRuntime) {
+    assert!(rt; matches!(field::<u64>(&BYTES, 9), Err(ErrorKind::InvalidOffset)));
+    assert_eq!(rt; item::<u64>(&BYTES, 9), None);
+}
+
+#[test]
+fn unsigned_numbers_are_items(rt: HostRuntime) {
     assert_eq!(rt; item::<u16>(&BYTES, 8), Some(1));
     assert_eq!(rt; item::<u32>(&BYTES, 8), Some(0x2_0001));
     assert_eq!(rt; item::<u64>(&BYTES, 8), Some(0x3_0002_0001));
+}
+
+#[test]
+fn signed_numbers_and_bools_are_items(rt: HostRuntime) {
     assert_eq!(rt; item::<i16>(&BYTES, 0), Some(-257));
     assert_eq!(rt; item::<i32>(&BYTES, 8), Some(0x2_0001));
     assert_eq!(rt; item::<i64>(&BYTES, 8), Some(0x3_0002_0001));
     assert_eq!(rt; item::<bool>(&BYTES, 8), Some(true));
-    assert_eq!(rt; item::<u64>(&BYTES, 9), None);
 }
 
 // A reference to the text `Hi` at 0, and one to damage at 4.
 const TEXTS: [u8; 16] = [8, 0, 0, 0, 99, 0, 0, 0, 2, 0, 0, 0, 72, 105, 0, 0];
 
 #[test]
-fn texts_and_byte_lists(rt: HostRuntime) -> Result<(), Fail> {
+fn texts_are_fields(rt: HostRuntime) -> Result<(), Fail> {
     assert_eq!(rt; field::<&str>(&TEXTS, 0)?, "Hi");
     assert_eq!(rt; field::<&[u8]>(&TEXTS, 0)?, b"Hi".as_slice());
-    let signed = field::<SignedBytes<'_>>(&[4, 0, 0, 0, 1, 0, 0, 0, 0xff], 0)?;
+    Ok(())
+}
+
+// A reference to a list of one byte.
+const ONE_BYTE: [u8; 9] = [4, 0, 0, 0, 1, 0, 0, 0, 0xff];
+
+#[test]
+fn signed_bytes_are_fields(rt: HostRuntime) -> Result<(), Fail> {
+    let signed = field::<SignedBytes<'_>>(&ONE_BYTE, 0)?;
     assert_eq!(rt; signed.len(), 1);
     assert!(rt; !signed.is_empty());
+    assert_eq!(rt; signed.as_bytes(), [0xff].as_slice());
+    Ok(())
+}
+
+#[test]
+fn signed_bytes_have_items(rt: HostRuntime) -> Result<(), Fail> {
+    let signed = field::<SignedBytes<'_>>(&ONE_BYTE, 0)?;
     assert_eq!(rt; signed.get(0), Some(-1));
     assert_eq!(rt; signed.get(1), None);
-    assert_eq!(rt; signed.as_bytes(), [0xff].as_slice());
     Ok(())
 }
 
@@ -125,10 +157,20 @@ fn texts_and_byte_lists(rt: HostRuntime) -> Result<(), Fail> {
 fn texts_are_items(rt: HostRuntime) -> Result<(), Fail> {
     assert_eq!(rt; stride::<&str>(), 4);
     assert_eq!(rt; inner_item::<&str>(&TEXTS, 0).ok_or("no item")??, "Hi");
+    Ok(())
+}
+
+#[test]
+fn texts_or_errors_are_items(rt: HostRuntime) -> Result<(), Fail> {
     assert_eq!(rt;
         item::<Result<&str, Error>>(&TEXTS, 0).ok_or("no item")??,
         "Hi"
     );
+    Ok(())
+}
+
+#[test]
+fn items_name_their_fault(rt: HostRuntime) -> Result<(), Fail> {
     match item::<Result<&str, Error>>(&TEXTS, 4) {
         Some(Err(e)) => {
             let text = format!(in rt.alloc(); "{e}")?;
@@ -144,12 +186,18 @@ fn places_are_read_later(rt: HostRuntime) -> Result<(), Fail> {
     assert_eq!(rt; field::<Place<'_>>(&TEXTS, 0)?.read::<&str>()?, "Hi");
     let outside = field::<Place<'_>>(&TEXTS, 99)?.read::<u8>();
     assert!(rt; matches!(outside, Err(ErrorKind::InvalidOffset)));
-    assert_eq!(rt;
-        item::<Place<'_>>(&TEXTS, 0)
-            .ok_or("no item")?
-            .read::<u32>()?,
-        8
-    );
+    Ok(())
+}
+
+#[test]
+fn places_are_items(rt: HostRuntime) -> Result<(), Fail> {
+    let place = item::<Place<'_>>(&TEXTS, 0).ok_or("no item")?;
+    assert_eq!(rt; place.read::<u32>()?, 8);
+    Ok(())
+}
+
+#[test]
+fn unions_are_fields(rt: HostRuntime) -> Result<(), Fail> {
     let union = union_field::<TaggedPlace<'_>>(&TEXTS, 7, 0)?;
     assert_eq!(rt; union.tag(), 7);
     assert_eq!(rt; union.place().read::<&str>()?, "Hi");
@@ -190,11 +238,16 @@ impl<'buf> VectorName for OneText<'buf> {
 }
 
 #[test]
-fn unions_are_items(rt: HostRuntime) -> Result<(), Fail> {
+fn tagged_places_are_items(rt: HostRuntime) -> Result<(), Fail> {
     assert_eq!(rt; vector_name::<TaggedPlace<'_>>(), "[union]");
     let union = union_item::<TaggedPlace<'_>>(&TEXTS, 3, 0)?;
     assert_eq!(rt; union.tag(), 3);
     assert_eq!(rt; union.place().read::<&str>()?, "Hi");
+    Ok(())
+}
+
+#[test]
+fn unions_are_items(rt: HostRuntime) -> Result<(), Fail> {
     let OneText(text) = union_item::<OneText<'_>>(&TEXTS, 1, 0)?;
     assert_eq!(rt; text, "Hi");
     let rows = [
@@ -239,13 +292,24 @@ impl<'a> ReadAsRoot<'a> for Root<'a> {
     }
 }
 
+const ROOT: [u8; 16] = [4, 0, 0, 0, 0xfa, 0xff, 0xff, 0xff, 24, 0, 6, 0, 6, 0, 4, 0];
+
 #[test]
 fn roots(rt: HostRuntime) -> Result<(), Fail> {
-    let bytes = [4, 0, 0, 0, 0xfa, 0xff, 0xff, 0xff, 24, 0, 6, 0, 6, 0, 4, 0];
-    let Root(table) = read_root::<Root<'_>>(&bytes)?;
+    let Root(table) = read_root::<Root<'_>>(&ROOT)?;
     assert_eq!(rt; table.access::<u16>(0, "Root", "n")?, Some(24));
-    let nested = field::<Table<'_>>(&bytes, 0)?;
+    Ok(())
+}
+
+#[test]
+fn tables_are_fields(rt: HostRuntime) -> Result<(), Fail> {
+    let nested = field::<Table<'_>>(&ROOT, 0)?;
     assert_eq!(rt; nested.access_required::<u8>(0, "Root", "n")?, 24);
+    Ok(())
+}
+
+#[test]
+fn no_bytes_are_no_root(rt: HostRuntime) -> Result<(), Fail> {
     match read_root::<Root<'_>>(&[]) {
         Ok(_) => assert!(rt; false, "a root"),
         Err(e) => {
