@@ -1,14 +1,14 @@
 -- Contents that were seen are found after a write, and so are those that it added.
-use Rattle.std.proofs.Common.{◌≡◌, ℕ, ◌+◌, ◌-◌, ◌<◌, ◌≤◌, List, [], ◌∷◌, ◌++◌, length, take, drop, Bool, true, false}
-use Rattle.std.proofs.Common.{◌↔◌, ◌&&◌, refl, sym, ap, ◌∙◌, subst, arith, Option, Some, None, inl, inr, length-append}
+use Rattle.std.proofs.Common.{◌≡◌, ℕ, List, [], ◌∷◌, ◌++◌, Bool, true, false}
+use Rattle.std.proofs.Common.{◌↔◌, ◌&&◌, refl, sym, ap, ◌∙◌, subst, Option, Some, None, inl, inr}
 use Rattle.std.specs.Prelude.{if◌then◌else◌}
 use Rattle.std.specs.Str.{bytes_eq}
 use Rattle.std.proofs.lemmas.Slice.Eq.{bytes_eq-Decides}
 use Rattle.planus_back.specs.CacheKeys.{key_at}
-use Rattle.planus_back.specs.Caches.{Held, Has, Fits, IsEmpty, Adds, FitsWhereKeyStands}
+use Rattle.planus_back.specs.Caches.{Has, IsEmpty, Adds, FitsWhereKeyStands}
 use Rattle.planus_back.proofs.Caches.{key_at-front, Fits-front, Fits-empty, Has-stands}
-use Rattle.planus_write.specs.Shared.{Kind, texts, byte_lists, vtables, same_kind, Contents, same_contents, Seen, distance_seen}
-use Rattle.planus_write.specs.State.{State, FindsSeen, Holdings, held, contents_in}
+use Rattle.planus_write.specs.Shared.{Kind, texts, byte_lists, vtables, same_kind, Seen, distance_seen}
+use Rattle.planus_write.specs.State.{State, FindsSeen, held, contents_in}
 
 pub none_is_not_some : {A : Type 0} (x : A) → None ≡ Some x → ⊥
 none_is_not_some x e = cc

@@ -5,7 +5,7 @@ use Rattle.planus_back.specs.Caches.{Held, IsBucketOf, IsFound, Adds, FitsWhereK
 use Rattle.planus_back.specs.declared.bucket.Bucket.{Bucket}
 use Rattle.planus_write.specs.Backed.{Backed, MakesRoom, HasPlace, LacksRoom}
 use Rattle.planus_write.specs.declared.errors.BuildError.{BuildError}
-use Rattle.planus_write.specs.declared.errors.BuildError.TheVariants.{OutOfMemory, TooLarge}
+use Rattle.planus_write.specs.declared.errors.BuildError.TheVariants.{OutOfMemory}
 use Rattle.planus_write.specs.declared.start.Start.{Start}
 use Rattle.planus_write.specs.declared.start.Start.TheVariants.{Found, Begun}
 

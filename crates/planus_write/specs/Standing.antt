@@ -1,22 +1,17 @@
 -- What entries that were put down come to: the values that they are the entries of stand.
-use Rattle.std.specs.Prelude.{ℕ, ◌-◌, ◌≤◌, List, [], ◌++◌, length, Option, Some, None, ⊤, Ok, Err}
-use Rattle.std.specs.List.{AllByRecursion}
-use Rattle.std.specs.Int.{◌∣◌}
-use Rattle.planus_back.specs.Promises.{Keep}
+use Rattle.std.specs.Prelude.{ℕ, ◌≤◌, List, [], length, Option, Ok, Err}
 use Rattle.planus_back.specs.Parts.{Written, Placed}
-use Rattle.planus_read.specs.Bytes.{BytesStand, position_of}
-use Rattle.planus_read.specs.Values.{Value, text, byte_list}
-use Rattle.planus_read.specs.Stands.{Stands, ReferenceStands}
-use Rattle.planus_read.specs.Moves.{moved}
-use Rattle.planus_read.specs.Aligned.{AlignedAt}
-use Rattle.planus_write.specs.Shared.{Kind, texts, byte_lists, vtables, Switches, Seen}
+use Rattle.planus_read.specs.Bytes.{BytesStand}
+use Rattle.planus_read.specs.Values.{Value}
+use Rattle.planus_read.specs.Stands.{ReferenceStands}
+use Rattle.planus_write.specs.Shared.{Switches}
 use Rattle.planus_write.specs.Past.{Past, Entry, PutsAll, ComesToTooLarge}
 use Rattle.planus_write.specs.Kept.{IsKept, AllSeenKept}
 use Rattle.planus_write.specs.State.{State, IsPast, Extends}
 use Rattle.planus_write.specs.Preparing.{WritesEntries}
 use Rattle.planus_write.specs.declared.errors.BuildError.TheVariants.{TooLarge}
 use Rattle.planus_write.specs.Parts.{finish_part, identifier_bytes, IsWritten, entries_of, Named}
-use Rattle.planus_write.specs.Parts.{named_by, position_in}
+use Rattle.planus_write.specs.Parts.{named_by}
 
 -- What is kept stays so, whatever is written in front of it.
 abbrev pub KeptStays : Type 0

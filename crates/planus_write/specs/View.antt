@@ -1,5 +1,5 @@
 -- What the fields of a builder say to its callers.
-use Rattle.std.specs.Prelude.{◌≡◌, ℕ, ◌+◌, ◌≤◌, ◌^◌, length}
+use Rattle.std.specs.Prelude.{ℕ, ◌+◌, ◌≤◌, ◌^◌, length}
 use Rattle.planus_back.specs.Padding.{greatest_place}
 use Rattle.planus_write.specs.Shared.{Switches}
 use Rattle.planus_write.specs.Backed.{Backed}

@@ -1,6 +1,4 @@
 use Rattle.planus_write.specs.Past.{no_past}
-use Rattle.planus_write.specs.State.{IsPast}
-use Rattle.planus_write.specs.View.{state_of}
 use Rattle.planus_write.proofs.PlacedParts.{nothing_written}
 use Rattle.planus_write.proofs.builder.Builder.with_caches.Goals as goal
 

@@ -1,8 +1,8 @@
-use Rattle.std.proofs.Common.{◌≡◌, ◌+◌, ◌++◌, [], ◌∷◌, length, replicate, refl, sym, ap, subst, arith, ◌∙◌, Ok, Err, length-append}
+use Rattle.std.proofs.Common.{◌≡◌, ◌+◌, ◌++◌, [], ◌∷◌, length, replicate, refl, sym, ap, subst, arith, Ok, length-append}
 use Rattle.std.proofs.lemmas.Result.{err_from_is_err_and}
 use Rattle.planus_back.specs.CacheKeys.{bytes_in}
 use Rattle.planus_write.specs.Parts.{text_entry, text_part}
-use Rattle.planus_write.specs.Placing.{PutsDown, Refuses}
+use Rattle.planus_write.specs.Placing.{PutsDown}
 use Rattle.planus_write.specs.Shared.{texts}
 use Rattle.planus_write.specs.Sharing.{Starts}
 use Rattle.planus_write.specs.View.{state_of}

@@ -1,4 +1,4 @@
-use Rattle.std.proofs.Common.{◌≡◌, ◌+◌, ◌++◌, [], length, replicate, refl, sym, ap, subst, arith, ◌∙◌, Ok, Err, Some, append_assoc}
+use Rattle.std.proofs.Common.{◌≡◌, ◌++◌, [], length, replicate, refl, ap, subst, ◌∙◌, Ok, Some, append_assoc}
 use Rattle.std.proofs.lemmas.Result.{err_from_is_err_and}
 use Rattle.planus_back.specs.CacheKeys.{vtable_in}
 use Rattle.planus_write.specs.Tables.{vtable_entry, vtable_part}
