@@ -1,5 +1,6 @@
 //! The texts of errors.
 
+use super::prints;
 use super::traits::field;
 use crate::errors::{Error, ErrorKind, ErrorLocation, UnknownEnumTag, UnknownEnumTagKind};
 use std::test::Fail;
@@ -13,8 +14,7 @@ fn kinds_print_their_texts(rt: HostRuntime) -> Result<(), Fail> {
         (ErrorKind::MissingNullTerminator, "Missing null terminator"),
     ];
     for (kind, text) in rows {
-        let shown = format!(in rt.alloc(); "{kind}")?;
-        assert_eq!(rt; shown.as_str(), text);
+        prints(&rt, rt.alloc(), &kind, text)?;
     }
     Ok(())
 }
@@ -43,8 +43,7 @@ fn kinds_print_their_numbers(rt: HostRuntime) -> Result<(), Fail> {
         ),
     ];
     for (kind, text) in rows {
-        let shown = format!(in rt.alloc(); "{kind}")?;
-        assert_eq!(rt; shown.as_str(), text);
+        prints(&rt, rt.alloc(), &kind, text)?;
     }
     Ok(())
 }
@@ -52,8 +51,7 @@ fn kinds_print_their_numbers(rt: HostRuntime) -> Result<(), Fail> {
 #[test]
 fn unknown_tags_alone_print_their_texts(rt: HostRuntime) -> Result<(), Fail> {
     let tag = UnknownEnumTagKind { tag: -1 };
-    let shown = format!(in rt.alloc(); "{tag}")?;
-    assert_eq!(rt; shown.as_str(), "Unknown enum (tag = -1)");
+    prints(&rt, rt.alloc(), &tag, "Unknown enum (tag = -1)")?;
     Ok(())
 }
 
@@ -97,11 +95,12 @@ fn texts_name_their_first_fault(rt: HostRuntime) -> Result<(), Fail> {
         Ok(_) => assert!(rt; false, "a text"),
         Err(kind) => {
             let error: Error = kind.with_error_location("T", "m", 255);
-            let shown = format!(in rt.alloc(); "{error}")?;
-            assert_eq!(rt;
-                shown.as_str(),
-                "In <T@ff>::m(): Invalid utf-8: invalid utf-8 sequence of 1 bytes from index 2"
-            );
+            prints(
+                &rt,
+                rt.alloc(),
+                &error,
+                "In <T@ff>::m(): Invalid utf-8: invalid utf-8 sequence of 1 bytes from index 2",
+            )?;
         }
     }
     Ok(())
@@ -110,8 +109,12 @@ fn texts_name_their_first_fault(rt: HostRuntime) -> Result<(), Fail> {
 #[test]
 fn errors_print_their_texts(rt: HostRuntime) -> Result<(), Fail> {
     let error: Error = ErrorKind::InvalidLength.with_error_location("Monster", "name", 255);
-    let shown = format!(in rt.alloc(); "{error}")?;
-    assert_eq!(rt; shown.as_str(), "In <Monster@ff>::name(): Invalid length");
+    prints(
+        &rt,
+        rt.alloc(),
+        &error,
+        "In <Monster@ff>::name(): Invalid length",
+    )?;
     Ok(())
 }
 
@@ -123,8 +126,7 @@ fn locations_print_their_texts(rt: HostRuntime) -> Result<(), Fail> {
             method: "m",
             byte_offset,
         };
-        let shown = format!(in rt.alloc(); "{location}")?;
-        assert_eq!(rt; shown.as_str(), text);
+        prints(&rt, rt.alloc(), &location, text)?;
     }
     Ok(())
 }
@@ -138,15 +140,13 @@ fn unknown_tag() -> UnknownEnumTag {
 #[test]
 fn unknown_tags_print_their_texts(rt: HostRuntime) -> Result<(), Fail> {
     let tag = unknown_tag();
-    let shown = format!(in rt.alloc(); "{tag}")?;
-    assert_eq!(rt; shown.as_str(), UNKNOWN_TAG);
+    prints(&rt, rt.alloc(), &tag, UNKNOWN_TAG)?;
     Ok(())
 }
 
 #[test]
 fn unknown_tags_become_errors(rt: HostRuntime) -> Result<(), Fail> {
     let error = Error::from(unknown_tag().clone()?);
-    let shown = format!(in rt.alloc(); "{error}")?;
-    assert_eq!(rt; shown.as_str(), UNKNOWN_TAG);
+    prints(&rt, rt.alloc(), &error, UNKNOWN_TAG)?;
     Ok(())
 }

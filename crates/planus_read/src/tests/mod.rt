@@ -3,6 +3,10 @@ mod rows;
 mod traits;
 
 use crate::plain;
+use std::alloc::Global;
+use std::fmt::Display;
+use std::process::Abort;
+use std::test::Fail;
 
 const WEAPON: [u8; 32] = [
     4, 0, 0, 0, 0xf4, 0xff, 0xff, 0xff, 16, 0, 0, 0, 24, 0, 0, 0, 8, 0, 10, 0, 4, 0, 8, 0, 3, 0, 0,
@@ -17,6 +21,13 @@ const UNIONS: [u8; 78] = [
     17, 0, 16, 0, 4, 0, 8, 0, 12, 0, 2, 0, 0, 0, b'H', b'i', 0, 0, 2, 0, 0, 0, 1, 2, 0, 0, 2, 0, 0,
     0, 16, 0, 0, 0, 4, 0, 0, 0, 1, 0, 0, 0, b'B', 0, 0, 0, 1, 0, 0, 0, b'A', 0,
 ];
+
+// Shows what a value prints. A function that makes more than one such text is proved slowly.
+fn prints<T: Display>(rt: &impl Abort, alloc: Global, value: &T, text: &str) -> Result<(), Fail> {
+    let shown = format!(in alloc; "{value}")?;
+    assert_eq!(rt; shown.as_str(), text);
+    Ok(())
+}
 
 #[test]
 fn plain_programs_read_the_weapon(rt: HostRuntime) {

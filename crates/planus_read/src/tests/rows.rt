@@ -1,6 +1,6 @@
 //! The worked rows, with expected values written out.
 
-use super::{UNIONS, WEAPON};
+use super::{UNIONS, WEAPON, prints};
 use crate::errors::ErrorKind;
 use crate::table_reader::Table;
 use crate::{
@@ -105,11 +105,12 @@ fn damaged_weapon(rt: HostRuntime) -> Result<(), Fail> {
             assert!(rt; false, "a name");
             return Ok(());
         };
-        let text = format!(in rt.alloc(); "{e}")?;
-        assert_eq!(rt;
-            text.as_str(),
-            "In <Weapon@4>::name(): Missing null terminator"
-        );
+        prints(
+            &rt,
+            rt.alloc(),
+            &e,
+            "In <Weapon@4>::name(): Missing null terminator",
+        )?;
     }
     Ok(())
 }
@@ -136,11 +137,12 @@ fn names_of_any_lifetime(rt: HostRuntime) -> Result<(), Fail> {
     match table.access_required::<u8>(2, type_.as_str(), "price") {
         Ok(_) => assert!(rt; false, "a price"),
         Err(e) => {
-            let text = format!(in rt.alloc(); "{e}")?;
-            assert_eq!(rt;
-                text.as_str(),
-                "In <Weapon2@4>::price(): Missing required field"
-            );
+            prints(
+                &rt,
+                rt.alloc(),
+                &e,
+                "In <Weapon2@4>::price(): Missing required field",
+            )?;
         }
     }
     Ok(())
@@ -149,9 +151,9 @@ fn names_of_any_lifetime(rt: HostRuntime) -> Result<(), Fail> {
 #[test]
 fn u16_table(rt: HostRuntime) -> Result<(), Fail> {
     let table = table_at(&U16_TABLE)?;
-    assert_eq!(rt; table.access::<u16>(0, "T", "n")?, Some(24));
-    assert_eq!(rt; table.access::<u16>(1, "T", "n")?, None);
-    assert_eq!(rt; table.access::<u16>(usize::MAX, "T", "n")?, None);
+    for (slot, number) in [(0, Some(24)), (1, None), (usize::MAX, None)] {
+        assert_eq!(rt; table.access::<u16>(slot, "T", "n")?, number);
+    }
     Ok(())
 }
 
@@ -161,8 +163,7 @@ fn u16_table_lacks_a_field(rt: HostRuntime) -> Result<(), Fail> {
     match table.access_required::<u16>(1, "T", "n") {
         Ok(_) => assert!(rt; false, "a number"),
         Err(e) => {
-            let text = format!(in rt.alloc(); "{e}")?;
-            assert_eq!(rt; text.as_str(), "In <T@4>::n(): Missing required field");
+            prints(&rt, rt.alloc(), &e, "In <T@4>::n(): Missing required field")?;
         }
     }
     Ok(())
@@ -222,8 +223,7 @@ fn tag_past_the_end(rt: HostRuntime) -> Result<(), Fail> {
     match table.access_union::<TaggedPlace<'_>>(0, "T", "u") {
         Ok(_) => assert!(rt; false, "a union"),
         Err(e) => {
-            let text = format!(in rt.alloc(); "{e}")?;
-            assert_eq!(rt; text.as_str(), "In <T@4>::u(): Invalid offset");
+            prints(&rt, rt.alloc(), &e, "In <T@4>::u(): Invalid offset")?;
         }
     }
     Ok(())

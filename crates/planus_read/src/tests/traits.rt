@@ -1,7 +1,7 @@
 //! Each trait at concrete types, through its bound.
 
-use super::UNIONS;
 use super::rows::Heads;
+use super::{UNIONS, prints};
 use crate::errors::{Error, ErrorKind};
 use crate::table_reader::Table;
 use crate::{
@@ -79,19 +79,27 @@ fn vector_name<T: VectorName>() -> &'static str {
 
 #[test]
 fn unsigned_numbers_are_fields(rt: HostRuntime) -> Result<(), Fail> {
-    assert_eq!(rt; field::<u8>(&BYTES, 0)?, 0xff);
-    assert_eq!(rt; field::<u16>(&BYTES, 0)?, 0xfeff);
-    assert_eq!(rt; field::<u32>(&BYTES, 0)?, 0xfcfd_feff);
-    assert_eq!(rt; field::<u64>(&BYTES, 0)?, 0xf8f9_fafb_fcfd_feff);
+    let one = field::<u8>(&BYTES, 0)?;
+    let two = field::<u16>(&BYTES, 0)?;
+    let four = field::<u32>(&BYTES, 0)?;
+    let eight = field::<u64>(&BYTES, 0)?;
+    assert_eq!(rt;
+        (one, two, four, eight),
+        (0xff, 0xfeff, 0xfcfd_feff, 0xf8f9_fafb_fcfd_feff)
+    );
     Ok(())
 }
 
 #[test]
 fn signed_numbers_are_fields(rt: HostRuntime) -> Result<(), Fail> {
-    assert_eq!(rt; field::<i8>(&BYTES, 0)?, -1);
-    assert_eq!(rt; field::<i16>(&BYTES, 0)?, -257);
-    assert_eq!(rt; field::<i32>(&BYTES, 0)?, -50_462_977);
-    assert_eq!(rt; field::<i64>(&BYTES, 8)?, 0x3_0002_0001);
+    let one = field::<i8>(&BYTES, 0)?;
+    let two = field::<i16>(&BYTES, 0)?;
+    let four = field::<i32>(&BYTES, 0)?;
+    let eight = field::<i64>(&BYTES, 8)?;
+    assert_eq!(rt;
+        (one, two, four, eight),
+        (-1, -257, -50_462_977, 0x3_0002_0001)
+    );
     Ok(())
 }
 
@@ -110,16 +118,24 @@ fn a_number_past_the_end(rt: HostRuntime) {
 
 #[test]
 fn unsigned_numbers_are_items(rt: HostRuntime) {
-    assert_eq!(rt; item::<u16>(&BYTES, 8), Some(1));
-    assert_eq!(rt; item::<u32>(&BYTES, 8), Some(0x2_0001));
-    assert_eq!(rt; item::<u64>(&BYTES, 8), Some(0x3_0002_0001));
+    let two = item::<u16>(&BYTES, 8);
+    let four = item::<u32>(&BYTES, 8);
+    let eight = item::<u64>(&BYTES, 8);
+    assert_eq!(rt;
+        (two, four, eight),
+        (Some(1), Some(0x2_0001), Some(0x3_0002_0001))
+    );
 }
 
 #[test]
 fn signed_numbers_and_bools_are_items(rt: HostRuntime) {
-    assert_eq!(rt; item::<i16>(&BYTES, 0), Some(-257));
-    assert_eq!(rt; item::<i32>(&BYTES, 8), Some(0x2_0001));
-    assert_eq!(rt; item::<i64>(&BYTES, 8), Some(0x3_0002_0001));
+    let two = item::<i16>(&BYTES, 0);
+    let four = item::<i32>(&BYTES, 8);
+    let eight = item::<i64>(&BYTES, 8);
+    assert_eq!(rt;
+        (two, four, eight),
+        (Some(-257), Some(0x2_0001), Some(0x3_0002_0001))
+    );
     assert_eq!(rt; item::<bool>(&BYTES, 8), Some(true));
 }
 
@@ -173,8 +189,7 @@ fn texts_or_errors_are_items(rt: HostRuntime) -> Result<(), Fail> {
 fn items_name_their_fault(rt: HostRuntime) -> Result<(), Fail> {
     match item::<Result<&str, Error>>(&TEXTS, 4) {
         Some(Err(e)) => {
-            let text = format!(in rt.alloc(); "{e}")?;
-            assert_eq!(rt; text.as_str(), "In <[str]@0>::get(): Invalid offset");
+            prints(&rt, rt.alloc(), &e, "In <[str]@0>::get(): Invalid offset")?;
         }
         _ => assert!(rt; false, "no error"),
     }
@@ -258,8 +273,7 @@ fn unions_are_items(rt: HostRuntime) -> Result<(), Fail> {
         match union_item::<OneText<'_>>(&TEXTS, tag, offset) {
             Ok(_) => assert!(rt; false, "a union"),
             Err(e) => {
-                let shown = format!(in rt.alloc(); "{e}")?;
-                assert_eq!(rt; shown.as_str(), error);
+                prints(&rt, rt.alloc(), &e, error)?;
             }
         }
     }
@@ -313,11 +327,12 @@ fn no_bytes_are_no_root(rt: HostRuntime) -> Result<(), Fail> {
     match read_root::<Root<'_>>(&[]) {
         Ok(_) => assert!(rt; false, "a root"),
         Err(e) => {
-            let text = format!(in rt.alloc(); "{e}")?;
-            assert_eq!(rt;
-                text.as_str(),
-                "In <[Root]@0>::read_as_root(): Invalid offset"
-            );
+            prints(
+                &rt,
+                rt.alloc(),
+                &e,
+                "In <[Root]@0>::read_as_root(): Invalid offset",
+            )?;
         }
     }
     Ok(())
