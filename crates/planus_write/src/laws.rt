@@ -19,8 +19,8 @@ pub fn written_values_are_kept()
     ensures stays { KeptStays }
 {}
 
-/// The reference at the front of a finish that was placed leads to its root, which lies in what was
-/// written before, and the file identifier stands behind it.
+/// The reference at the front of a finish that was placed leads to its root, if that lies in what
+/// was written before, and the file identifier stands behind it.
 pub fn placed_finishes_lead()
     ensures root { FinishesLead }
     ensures identifier { FinishesAreIdentified }
