@@ -12,8 +12,6 @@ mod run;
 mod slots;
 mod steps;
 mod table_body;
-#[cfg(test)]
-mod tests;
 mod version;
 mod written;
 

@@ -24,6 +24,3 @@ pub use cache::Cache;
 pub use cache_keys::{ByteVec, GetCacheKey, VTable};
 pub use fill::{Fill, Overwrite};
 pub use promises::{Promises, TooLarge};
-
-#[cfg(test)]
-mod tests;

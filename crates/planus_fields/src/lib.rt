@@ -12,6 +12,3 @@ pub use traits::{
     WriteAs, WriteAsDefault, WriteAsDefaultUnionVector, WriteAsOptional, WriteAsOptionalUnion,
     WriteAsOptionalUnionVector,
 };
-
-#[cfg(test)]
-mod tests;

@@ -12,8 +12,6 @@ pub mod plain;
 mod signed_bytes;
 mod slice_helpers;
 pub mod table_reader;
-#[cfg(test)]
-mod tests;
 mod traits;
 pub mod worked_rows;
 

@@ -4,8 +4,6 @@
 
 mod item_errors;
 pub mod laws;
-#[cfg(test)]
-mod tests;
 mod union_vector;
 pub mod union_vectors;
 

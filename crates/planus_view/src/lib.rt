@@ -8,8 +8,6 @@ mod items;
 pub mod laws;
 pub mod splits;
 mod sub_views;
-#[cfg(test)]
-mod tests;
 mod vector;
 pub mod vectors;
 mod view;

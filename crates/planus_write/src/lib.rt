@@ -36,6 +36,3 @@ pub use traits::{
 };
 pub use union_offset::UnionOffset;
 pub use union_vector_offset::UnionVectorOffset;
-
-#[cfg(test)]
-mod tests;

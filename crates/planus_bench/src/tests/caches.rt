@@ -1,10 +1,9 @@
 //! Equal contents, which a builder writes once, and its caches while memory is refused.
 
-use super::tables::put;
+use super::tables::{ONE_VTABLE, TWO_VTABLES, put};
 use planus::{BuildError, Builder, ByteList, Caches, Field, FieldValue, Step, replay};
 use planus_exhaust::exhaust;
 use std::alloc::{AllocError, Global};
-use std::process::Abort;
 use std::test::Fail;
 
 // A table with one number of two bytes in slot 0.
@@ -15,72 +14,102 @@ fn one_number(alloc: Global, value: u64) -> Result<Step, AllocError> {
     Ok(Step::Table(fields))
 }
 
-#[test]
-fn equal_vtables(rt: HostRuntime) -> Result<(), Fail> {
-    let alloc = rt.alloc();
+// Whether a replay gives one finish, of these bytes.
+fn replays_to(alloc: Global, caches: Caches, steps: &[Step], want: &[u8]) -> bool {
+    match replay(alloc, caches, steps) {
+        Ok(got) => matches!(got.as_slice(), [finished] if finished.bytes.as_slice() == want),
+        Err(_) => false,
+    }
+}
+
+// Two tables with equal vtables, of which the second is the root.
+fn equal_tables(alloc: Global) -> Result<Vec<Step>, AllocError> {
     let mut steps = Vec::new(alloc);
     steps.push(one_number(alloc, 24)?)?;
     steps.push(one_number(alloc, 7)?)?;
     steps.push(Step::Finish { root: 1, id: None })?;
-    let once = b"\x04\0\0\0\xf2\xff\xff\xff\x07\0\0\0\xfa\xff\xff\xff\x18\0\x06\0\x06\0\x04\0";
-    let twice = b"\x04\0\0\0\xfa\xff\xff\xff\x07\0\x06\0\x06\0\x04\0\
-        \xfa\xff\xff\xff\x18\0\x06\0\x06\0\x04\0";
-    for (vtables, want) in [(true, once.as_slice()), (false, twice.as_slice())] {
+    Ok(steps)
+}
+
+#[test]
+fn equal_vtables(rt: HostRuntime) -> Result<(), Fail> {
+    let steps = equal_tables(rt.alloc())?;
+    for (vtables, want) in [(true, ONE_VTABLE), (false, TWO_VTABLES)] {
         let caches = Caches {
             vtables,
             ..Caches::all()
         };
-        let got = replay(alloc, caches, steps.as_slice()).expect(&rt, "a clean run");
-        let bytes = got.first().map(|finished| finished.bytes.as_slice());
-        assert_eq!(rt; bytes, Some(want));
+        assert!(rt;
+            replays_to(rt.alloc(), caches, steps.as_slice(), want),
+            "{caches:?}"
+        );
     }
     Ok(())
 }
 
-// Writes a text, a byte list and a table, whose vtable is another where it is wide. Answers the
-// distance of each.
-fn write_three(builder: &mut Builder, letters: &str, wide: bool) -> [Result<u32, BuildError>; 3] {
-    let text = builder.create_string(letters);
-    let bytes = builder.create_vector(ByteList(letters.as_bytes()));
-    let table = if wide {
-        put::<u32, u32>(builder, 7)
+// The distances of a text, a byte list and a table, or their refusals.
+type Three = [Result<u32, BuildError>; 3];
+
+fn text_at(builder: &mut Builder, letters: &str) -> Result<u32, BuildError> {
+    match builder.create_string(letters) {
+        Ok(text) => Ok(text.distance()),
+        Err(error) => Err(error),
+    }
+}
+
+fn bytes_at(builder: &mut Builder, letters: &str) -> Result<u32, BuildError> {
+    match builder.create_vector(ByteList(letters.as_bytes())) {
+        Ok(bytes) => Ok(bytes.distance()),
+        Err(error) => Err(error),
+    }
+}
+
+// A table, whose vtable is another where it is wide.
+fn table_at(builder: &mut Builder, wide: bool) -> Result<u32, BuildError> {
+    if wide {
+        put::<u32, u32>(builder, 7)?;
     } else {
-        put::<u16, u16>(builder, 7)
-    };
-    let last = builder.current_offset::<()>();
+        put::<u16, u16>(builder, 7)?;
+    }
+    Ok(builder.current_offset::<()>().distance())
+}
+
+fn write_three(builder: &mut Builder, letters: &str, wide: bool) -> Three {
     [
-        text.map(|text| text.distance()),
-        bytes.map(|bytes| bytes.distance()),
-        table.map(|()| last.distance()),
+        text_at(builder, letters),
+        bytes_at(builder, letters),
+        table_at(builder, wide),
     ]
 }
 
-// What calls gave while memory was refused.
-#[derive(Clone, Copy)]
-struct Refused {
-    exhausted: bool,
-    different: [Result<u32, BuildError>; 3],
-    unchanged: bool,
-    equal: [Result<u32, BuildError>; 3],
+fn are_at(three: Three, want: [u32; 3]) -> bool {
+    let [text, bytes, table] = three;
+    text == Ok(want[0]) && bytes == Ok(want[1]) && table == Ok(want[2])
 }
 
-// Writes contents that the caches don't have, and then those that they have, while memory is
-// refused.
-fn write_refused(alloc: Global, builder: &mut Builder) -> Result<Refused, AllocError> {
-    let before = Vec::from_slice(alloc, builder.as_slice())?;
+fn are_refused(three: Three) -> bool {
+    let none = Err(BuildError::OutOfMemory);
+    let [text, bytes, table] = three;
+    text == none && bytes == none && table == none
+}
+
+// Whether contents that the caches don't have are refused, and those that they have are found.
+fn only_equal_contents_are_found(builder: &mut Builder, before: &[u8]) -> bool {
     let room = builder.room();
+    are_refused(write_three(builder, "Hi", true))
+        && builder.as_slice() == before
+        && builder.room() == room
+        && are_at(write_three(builder, "Axe", false), [8, 16, 40])
+}
+
+// Tells that with all memory taken; nothing where memory was left.
+fn found_without_memory(alloc: Global, builder: &mut Builder) -> Result<Option<bool>, AllocError> {
+    let before = Vec::from_slice(alloc, builder.as_slice())?;
     let mut held: Vec<Vec<u8>> = Vec::with_capacity(alloc, 262144)?;
     let exhausted = exhaust(alloc, &mut held);
-    let different = write_three(builder, "Hi", true);
-    let unchanged = builder.as_slice() == before.as_slice() && builder.room() == room;
-    let equal = write_three(builder, "Axe", false);
+    let found = only_equal_contents_are_found(builder, before.as_slice());
     drop(held);
-    Ok(Refused {
-        exhausted,
-        different,
-        unchanged,
-        equal,
-    })
+    Ok(if exhausted { Some(found) } else { None })
 }
 
 // What stands at the end, the last of it first. The second of the three tables, which was written
@@ -90,33 +119,23 @@ const WRITTEN: &[u8] = b"\xf8\xff\xff\xff\x07\0\0\0\x08\0\x08\0\0\0\x04\0\
     \xf0\xff\xff\xff\x07\0\0\0\xf8\xff\xff\xff\x07\0\0\0\x08\0\x06\0\0\0\x04\0\
     \x03\0\0\0Axe\0\x03\0\0\0Axe\0";
 
-// Answers false where memory was left.
-fn entries_with_refused_memory_in(
-    rt: &impl Abort,
-    alloc: Global,
-    builder: &mut Builder,
-) -> Result<bool, Fail> {
-    let first = write_three(builder, "Axe", false);
-    assert_eq!(rt; first, [Ok(8), Ok(16), Ok(32)]);
-    let refused = write_refused(alloc, builder)?;
-    if !refused.exhausted {
-        return Ok(false);
-    }
-    assert_eq!(rt; refused.different, [Err(BuildError::OutOfMemory); 3]);
-    assert!(rt; refused.unchanged, "the bytes and the room");
-    assert_eq!(rt; refused.equal, [Ok(8), Ok(16), Ok(40)]);
-    let again = write_three(builder, "Hi", true);
-    assert_eq!(rt; again, [Ok(48), Ok(56), Ok(72)]);
-    assert_eq!(rt; builder.as_slice(), WRITTEN);
-    Ok(true)
+// Whether what was refused is written once memory is there again.
+fn written_again(builder: &mut Builder) -> bool {
+    are_at(write_three(builder, "Hi", true), [48, 56, 72]) && builder.as_slice() == WRITTEN
 }
 
-// A builder with room writes what it has no entry for once memory is there again.
+// A builder with room refuses contents that are new where there is no memory for their entries.
 #[test]
 fn entries_with_refused_memory(rt: HostRuntime) -> Result<(), Fail> {
     let mut builder = Builder::with_capacity(rt.alloc(), 256)?;
-    if !entries_with_refused_memory_in(&rt, rt.alloc(), &mut builder)? {
-        println!(rt; "memory was left: this test does not apply")?;
+    let first = write_three(&mut builder, "Axe", false);
+    assert!(rt; are_at(first, [8, 16, 32]), "before");
+    match found_without_memory(rt.alloc(), &mut builder)? {
+        Some(found) => {
+            assert!(rt; found, "without memory");
+            assert!(rt; written_again(&mut builder), "with memory");
+        }
+        None => println!(rt; "memory was left: this test does not apply")?,
     }
     Ok(())
 }

@@ -8,6 +8,7 @@ mod plain_run;
 mod read_back;
 mod runs;
 mod settings;
+mod surface;
 mod tables;
 mod unions;
 

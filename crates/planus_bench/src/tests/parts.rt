@@ -6,7 +6,6 @@ use super::alignments::mask_of;
 use planus::{BuildError, Builder, Fill};
 use planus_back::Promises;
 use std::alloc::{AllocError, Global};
-use std::process::Abort;
 use std::test::Fail;
 
 const FOUR_WRITES: &[u8] = b"\x05\0\0\0\x000123456ABCDEFGHIJKLMNO";
@@ -89,25 +88,73 @@ fn finish_last(builder: &mut Builder) -> Result<&[u8], BuildError> {
     builder.finish(root, None)
 }
 
-fn parts_and_clear_in(rt: &impl Abort, builder: &mut Builder) -> Result<(), Fail> {
-    assert_eq!(rt; finish_last(builder)?, b"\x04\0\0\0".as_slice());
-    builder.clear();
-    put_four(builder)?;
-    assert_eq!(rt; finish_last(builder)?, FOUR_WRITES);
-    builder.clear();
+// Whether that gives these bytes.
+fn last_is(builder: &mut Builder, want: &[u8]) -> bool {
+    match finish_last(builder) {
+        Ok(bytes) => bytes == want,
+        Err(_) => false,
+    }
+}
+
+fn put_after_clear(builder: &mut Builder) -> Result<(), BuildError> {
     put(builder, b"IJKL", 4)?;
     put(builder, b"X", 1)?;
     put(builder, b"Y", 1)?;
-    put(builder, b"ABCDEFGH", 8)?;
+    put(builder, b"ABCDEFGH", 8)
+}
+
+fn parts_and_clear_agree(builder: &mut Builder) -> Result<bool, BuildError> {
+    let nothing = last_is(builder, b"\x04\0\0\0");
+    builder.clear();
+    put_four(builder)?;
+    let four = last_is(builder, FOUR_WRITES);
+    builder.clear();
+    put_after_clear(builder)?;
     let after_clear = b"\x08\0\0\0\0\0\0\0ABCDEFGH\0\0YXIJKL";
-    assert_eq!(rt; finish_last(builder)?, after_clear.as_slice());
-    Ok(())
+    Ok(nothing && four && last_is(builder, after_clear))
+}
+
+fn a_filler_is_told_its_place(builder: &mut Builder) -> Result<bool, BuildError> {
+    put(builder, b"MNO", 1)?;
+    builder.write_with(4, mask_of(16), &OwnPlace)?;
+    let first = builder.as_slice() == b"\x07\0\0\0MNO".as_slice();
+    put(builder, b"X", 8)?;
+    builder.write_with(4, mask_of(16), &OwnPlace)?;
+    let bytes = b"\x17\0\0\0\0\0\0\0X\0\0\0\0\0\0\0\x07\0\0\0MNO".as_slice();
+    Ok(first && builder.as_slice() == bytes)
 }
 
 #[test]
-fn parts_and_clear(rt: HostRuntime) -> Result<(), Fail> {
+fn parts(rt: HostRuntime) -> Result<(), Fail> {
     let mut builder = Builder::new(rt.alloc())?;
-    parts_and_clear_in(&rt, &mut builder)
+    assert!(rt;
+        matches!(parts_and_clear_agree(&mut builder), Ok(true)),
+        "and a clear"
+    );
+    builder.clear();
+    assert!(rt;
+        matches!(a_filler_is_told_its_place(&mut builder), Ok(true)),
+        "places"
+    );
+    Ok(())
+}
+
+fn too_large_is_refused(builder: &mut Builder, size: usize) -> Result<bool, BuildError> {
+    put_four(builder)?;
+    let refused = builder.write_with(size, mask_of(1), &Repeated { byte: 7 });
+    Ok(
+        refused == Err(BuildError::TooLarge)
+            && builder.len() == 22
+            && builder.room() == 42
+            && last_is(builder, FOUR_WRITES),
+    )
+}
+
+#[test]
+fn too_large(rt: HostRuntime) -> Result<(), Fail> {
+    let mut builder = Builder::with_capacity(rt.alloc(), 64)?;
+    assert!(rt; matches!(too_large_is_refused(&mut builder, 2147483648), Ok(true)));
+    Ok(())
 }
 
 // None where the part is too large.
@@ -121,54 +168,22 @@ fn request(promises: Promises, len: usize, size: usize, alignment: usize) -> Opt
     }
 }
 
+// Whether parts, each after those before it, leave these remainders.
+fn delays_are(rows: &[(usize, usize, usize, usize)]) -> bool {
+    let mut promises = Promises::new();
+    for (len, size, alignment, delayed) in rows {
+        match request(promises, *len, *size, *alignment) {
+            Some(next) if next.delayed() == *delayed => promises = next,
+            _ => return false,
+        }
+    }
+    true
+}
+
 #[test]
 fn delays_after_clear(rt: HostRuntime) {
-    let mut promises = Promises::new();
-    for (len, size, alignment, delayed) in [
-        (0, 4, 4, 0),
-        (4, 1, 1, 3),
-        (5, 1, 1, 2),
-        (6, 8, 8, 0),
-    ] {
-        let Some(next) = request(promises, len, size, alignment) else {
-            assert!(rt; false, "too large at {len}");
-            return;
-        };
-        assert_eq!(rt; next.delayed(), delayed, "at {len}");
-        promises = next;
-    }
-}
-
-fn the_filler_is_told_its_place_in(rt: &impl Abort, builder: &mut Builder) -> Result<(), Fail> {
-    put(builder, b"MNO", 1)?;
-    builder.write_with(4, mask_of(16), &OwnPlace)?;
-    assert_eq!(rt; builder.as_slice(), b"\x07\0\0\0MNO".as_slice());
-    put(builder, b"X", 8)?;
-    builder.write_with(4, mask_of(16), &OwnPlace)?;
-    let bytes = b"\x17\0\0\0\0\0\0\0X\0\0\0\0\0\0\0\x07\0\0\0MNO".as_slice();
-    assert_eq!(rt; builder.as_slice(), bytes);
-    Ok(())
-}
-
-#[test]
-fn the_filler_is_told_its_place(rt: HostRuntime) -> Result<(), Fail> {
-    let mut builder = Builder::new(rt.alloc())?;
-    the_filler_is_told_its_place_in(&rt, &mut builder)
-}
-
-fn too_large_in(rt: &impl Abort, builder: &mut Builder) -> Result<(), Fail> {
-    put_four(builder)?;
-    let refused = builder.write_with(2147483648, mask_of(1), &Repeated { byte: 7 });
-    assert_eq!(rt; refused, Err(BuildError::TooLarge));
-    assert_eq!(rt; (builder.len(), builder.room()), (22, 42));
-    assert_eq!(rt; finish_last(builder)?, FOUR_WRITES);
-    Ok(())
-}
-
-#[test]
-fn too_large(rt: HostRuntime) -> Result<(), Fail> {
-    let mut builder = Builder::with_capacity(rt.alloc(), 64)?;
-    too_large_in(&rt, &mut builder)
+    let rows = [(0, 4, 4, 0), (4, 1, 1, 3), (5, 1, 1, 2), (6, 8, 8, 0)];
+    assert!(rt; delays_are(&rows));
 }
 
 // The numbers of the test with random sizes.
@@ -255,44 +270,56 @@ fn random_bytes(alloc: Global, numbers: &mut Numbers) -> Result<Vec<u8>, AllocEr
     Ok(bytes)
 }
 
-// Writes random parts and a root, and looks at them in the finished bytes.
-fn random_parts_in(
-    rt: &impl Abort,
+// Whether the parts and the root stand in the finished bytes, and the root's word leads to it.
+fn all_stand(bytes: &[u8], parts: &[Written], root: &[u8], distance: usize) -> bool {
+    for part in parts {
+        if !stands(bytes, *part) {
+            return false;
+        }
+    }
+    let Some(start) = bytes.len().checked_sub(distance) else {
+        return false;
+    };
+    let (front, rest) = bytes.split_at(start);
+    start % 2 == 0
+        && rest.starts_with(root)
+        && front.starts_with(&(start as u64).to_le_bytes()[..4])
+}
+
+// Writes random parts and a root, and tells whether they stand in the finished bytes.
+fn random_parts_stand(
     alloc: Global,
     builder: &mut Builder,
     numbers: &mut Numbers,
-) -> Result<(), Fail> {
+) -> Result<bool, Fail> {
     let parts = write_parts(alloc, builder, numbers)?;
     let root = random_bytes(alloc, numbers)?;
     put(builder, root.as_slice(), 2)?;
     let distance = builder.len();
-    let bytes = finish_last(builder)?;
-    for part in &parts {
-        assert!(rt; stands(bytes, *part), "byte {}", part.byte);
+    match finish_last(builder) {
+        Ok(bytes) => Ok(all_stand(bytes, parts.as_slice(), root.as_slice(), distance)),
+        Err(_) => Ok(false),
     }
-    let Some(start) = bytes.len().checked_sub(distance) else {
-        return Err(Fail::new("no root"));
-    };
-    let (front, rest) = bytes.split_at(start);
-    assert_eq!(rt; start % 2, 0);
-    assert!(rt; rest.starts_with(root.as_slice()), "the root");
-    assert!(rt;
-        front.starts_with(&(start as u64).to_le_bytes()[..4]),
-        "the word that leads to the root"
-    );
-    Ok(())
+}
+
+// A round of random parts, whose fillers then tell where they were called.
+fn a_round(alloc: Global, builder: &mut Builder, numbers: &mut Numbers) -> Result<bool, Fail> {
+    let mut again = Numbers { last: numbers.last };
+    let stand = random_parts_stand(alloc, builder, numbers)?;
+    builder.clear();
+    let told = fillers_know_their_places(builder, &mut again)?;
+    Ok(stand && told)
 }
 
 #[test]
 fn random_parts_stand_aligned(rt: HostRuntime) -> Result<(), Fail> {
     let mut numbers = Numbers { last: 1 };
     for round in 0..50 {
-        let mut again = Numbers { last: numbers.last };
         let mut builder = Builder::new(rt.alloc())?;
-        random_parts_in(&rt, rt.alloc(), &mut builder, &mut numbers)?;
-        builder.clear();
-        let told = fillers_know_their_places(&mut builder, &mut again)?;
-        assert!(rt; told, "round {round}");
+        assert!(rt;
+            a_round(rt.alloc(), &mut builder, &mut numbers)?,
+            "round {round}"
+        );
     }
     Ok(())
 }

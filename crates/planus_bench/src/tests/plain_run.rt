@@ -6,6 +6,14 @@ use planus::{Field, FieldValue, Finished, Step, StepPlace};
 use std::alloc::{AllocError, Global};
 use std::test::Fail;
 
+// Contents of a kind, and the distance at which they stand.
+#[derive(Drop)]
+struct Shared {
+    kind: Kind,
+    contents: Vec<u8>,
+    distance: usize,
+}
+
 // What was written since the last clear.
 #[derive(Drop)]
 struct Written {
@@ -14,8 +22,8 @@ struct Written {
     // The distance of each part from the end, and its alignment: 2, 4 or 8.
     parts: Vec<(usize, usize)>,
     values: Vec<StepPlace>,
-    // Of the kinds that are on, the contents that were written, and their distances.
-    shared: Vec<(Kind, Vec<u8>, usize)>,
+    // Of the kinds that are on, the contents that were written.
+    shared: Vec<Shared>,
     switches: Switches,
     alloc: Global,
 }
@@ -116,9 +124,9 @@ impl Written {
 
     // The distance of equal contents of a kind that is on.
     fn shared_at(&self, kind: Kind, contents: &[u8]) -> Option<usize> {
-        for (written, bytes, distance) in &self.shared {
-            if *written == kind && bytes.as_slice() == contents {
-                return Some(*distance);
+        for shared in &self.shared {
+            if shared.kind == kind && shared.contents.as_slice() == contents {
+                return Some(shared.distance);
             }
         }
         None
@@ -127,9 +135,11 @@ impl Written {
     // Contents of this kind begin at the front of the bytes.
     fn share(&mut self, kind: Kind, contents: &[u8]) -> Result<(), AllocError> {
         if self.switches.is_on(kind) {
-            let bytes = Vec::from_slice(self.alloc, contents)?;
-            let distance = self.reversed.len();
-            self.shared.push((kind, bytes, distance))?;
+            self.shared.push(Shared {
+                kind,
+                contents: Vec::from_slice(self.alloc, contents)?,
+                distance: self.reversed.len(),
+            })?;
         }
         Ok(())
     }
@@ -325,25 +335,57 @@ impl Written {
     }
 }
 
+impl Written {
+    // Forgets all that was written.
+    fn clear(&mut self) {
+        self.reversed.clear();
+        self.parts.clear();
+        self.values.clear();
+        self.shared.clear();
+    }
+
+    // Takes a step that writes a value.
+    fn value(&mut self, number: usize, step: &Step) -> Result<(), Fail> {
+        match step {
+            Step::Text(text) => self.text(number, text.as_bytes()),
+            Step::Bytes(bytes) => self.bytes(number, bytes.as_slice()),
+            Step::Numbers { width, items } => self.numbers(number, *width, items.as_slice()),
+            Step::Refs(steps) => self.refs(number, steps.as_slice()),
+            Step::Unions(items) => self.unions(number, items.as_slice()),
+            Step::Table(fields) => self.table(number, fields.as_slice()),
+            Step::Finish { .. } | Step::Clear => Ok(()),
+        }
+    }
+
+    // Takes a step. What a finish gives comes behind what was given before.
+    fn step(
+        &mut self,
+        number: usize,
+        step: &Step,
+        finished: &mut Vec<Finished>,
+    ) -> Result<(), Fail> {
+        match step {
+            Step::Clear => {
+                self.clear();
+                Ok(())
+            }
+            Step::Finish { root, id } => {
+                let root = self.distance(*root).ok_or("no such value")?;
+                self.finish(root, *id)?;
+                finished.push(self.given()?)?;
+                Ok(())
+            }
+            _ => self.value(number, step),
+        }
+    }
+}
+
 // What each finish of the steps gives.
 pub fn plain_run(alloc: Global, switches: Switches, steps: &[Step]) -> Result<Vec<Finished>, Fail> {
     let mut finished = Vec::new(alloc);
     let mut written = Written::nothing(alloc, switches);
     for (number, step) in steps.iter().enumerate() {
-        match step {
-            Step::Text(text) => written.text(number, text.as_bytes())?,
-            Step::Bytes(bytes) => written.bytes(number, bytes.as_slice())?,
-            Step::Numbers { width, items } => written.numbers(number, *width, items.as_slice())?,
-            Step::Refs(steps) => written.refs(number, steps.as_slice())?,
-            Step::Unions(items) => written.unions(number, items.as_slice())?,
-            Step::Table(fields) => written.table(number, fields.as_slice())?,
-            Step::Finish { root, id } => {
-                let root = written.distance(*root).ok_or("no such value")?;
-                written.finish(root, *id)?;
-                finished.push(written.given()?)?;
-            }
-            Step::Clear => written = Written::nothing(alloc, switches),
-        }
+        written.step(number, step, &mut finished)?;
     }
     Ok(finished)
 }

@@ -8,7 +8,6 @@ use planus::{
     WriteAsPrimitive,
 };
 use std::marker::PhantomData;
-use std::process::Abort;
 use std::test::Fail;
 
 // One field.
@@ -70,67 +69,68 @@ fn read<'a, T: TableRead<'a>>(bytes: &'a [u8]) -> Result<T, Fail> {
     Ok(table.access_required::<T>(1, "Table", "field")?)
 }
 
-fn numbers_and_truth_values_in(rt: &impl Abort, builder: &mut Builder) -> Result<(), Fail> {
-    assert_eq!(rt; read::<u8>(finished::<u8, u8>(builder, 255)?)?, 255);
-    assert_eq!(rt; read::<u16>(finished::<u16, u16>(builder, 513)?)?, 513);
-    assert_eq!(rt;
-        read::<u32>(finished::<u32, u32>(builder, u32::MAX)?)?,
-        u32::MAX
-    );
-    assert_eq!(rt;
-        read::<u64>(finished::<u64, u64>(builder, 1 << 63)?)?,
-        1 << 63
-    );
-    assert_eq!(rt; read::<i8>(finished::<i8, i8>(builder, -1)?)?, -1);
-    assert_eq!(rt; read::<i16>(finished::<i16, i16>(builder, -2)?)?, -2);
-    assert_eq!(rt;
-        read::<i32>(finished::<i32, i32>(builder, i32::MIN)?)?,
-        i32::MIN
-    );
-    assert_eq!(rt; read::<i64>(finished::<i64, i64>(builder, -3)?)?, -3);
-    assert_eq!(rt; read::<bool>(finished::<bool, bool>(builder, true)?)?, true);
-    Ok(())
+fn unsigned_numbers_read_back(builder: &mut Builder) -> Result<bool, Fail> {
+    Ok(
+        read::<u8>(finished::<u8, u8>(builder, 255)?)? == 255
+            && read::<u16>(finished::<u16, u16>(builder, 513)?)? == 513
+            && read::<u32>(finished::<u32, u32>(builder, u32::MAX)?)? == u32::MAX
+            && read::<u64>(finished::<u64, u64>(builder, 1 << 63)?)? == 1 << 63,
+    )
 }
 
-#[test]
-fn numbers_and_truth_values(rt: HostRuntime) -> Result<(), Fail> {
-    let mut builder = Builder::new(rt.alloc())?;
-    numbers_and_truth_values_in(&rt, &mut builder)
+fn signed_numbers_read_back(builder: &mut Builder) -> Result<bool, Fail> {
+    Ok(
+        read::<i8>(finished::<i8, i8>(builder, -1)?)? == -1
+            && read::<i16>(finished::<i16, i16>(builder, -2)?)? == -2
+            && read::<i32>(finished::<i32, i32>(builder, i32::MIN)?)? == i32::MIN
+            && read::<i64>(finished::<i64, i64>(builder, -3)?)? == -3
+            && read::<bool>(finished::<bool, bool>(builder, true)?)?,
+    )
 }
 
-fn references_in(rt: &impl Abort, builder: &mut Builder) -> Result<(), Fail> {
+fn texts_and_bytes_read_back(builder: &mut Builder) -> Result<bool, Fail> {
     let text = builder.create_string("Axe")?;
-    assert_eq!(rt;
-        read::<&str>(finished::<Offset<_>, _>(builder, text)?)?,
-        "Axe"
-    );
+    let same_text = read::<&str>(finished::<Offset<_>, _>(builder, text)?)? == "Axe";
     let bytes = builder.create_vector(ByteList(b"\x01\x02"))?;
-    let read_back = read::<&[u8]>(finished::<Offset<_>, _>(builder, bytes)?)?;
-    assert_eq!(rt; read_back, b"\x01\x02".as_slice());
+    let same_bytes = read::<&[u8]>(finished::<Offset<_>, _>(builder, bytes)?)? == [1, 2].as_slice();
+    Ok(same_text && same_bytes)
+}
+
+fn lists_read_back(builder: &mut Builder) -> Result<bool, Fail> {
     let signed = builder.create_vector(SignedList(&[-1, 2]))?;
-    let read_back = read::<SignedBytes>(finished::<Offset<_>, _>(builder, signed)?)?;
-    assert_eq!(rt; (read_back.get(0), read_back.get(1)), (Some(-1), Some(2)));
-    let list = builder.create_vector([7u16, 8])?;
-    let read_back = read::<Vector<u16>>(finished::<Offset<_>, _>(builder, list)?)?;
-    assert_eq!(rt; (read_back.get(0), read_back.get(1)), (Some(7), Some(8)));
-    Ok(())
+    let list = read::<SignedBytes>(finished::<Offset<_>, _>(builder, signed)?)?;
+    let same_signed = list.get(0) == Some(-1) && list.get(1) == Some(2);
+    let numbers = builder.create_vector([7u16, 8])?;
+    let list = read::<Vector<u16>>(finished::<Offset<_>, _>(builder, numbers)?)?;
+    Ok(same_signed && list.get(0) == Some(7) && list.get(1) == Some(8))
 }
 
 #[test]
-fn references(rt: HostRuntime) -> Result<(), Fail> {
+fn a_field_of_each_type(rt: HostRuntime) -> Result<(), Fail> {
     let mut builder = Builder::new(rt.alloc())?;
-    references_in(&rt, &mut builder)
+    assert!(rt;
+        unsigned_numbers_read_back(&mut builder)?,
+        "unsigned numbers"
+    );
+    assert!(rt; signed_numbers_read_back(&mut builder)?, "signed numbers");
+    assert!(rt; texts_and_bytes_read_back(&mut builder)?, "texts and bytes");
+    assert!(rt; lists_read_back(&mut builder)?, "lists");
+    Ok(())
+}
+
+fn a_free_slot_is_none(bytes: &[u8]) -> bool {
+    let Ok(table) = Table::from_buffer(SliceWithStartOffset::new(bytes, 0), 0) else {
+        return false;
+    };
+    matches!(table.access::<u64>(0, "Table", "first"), Ok(Some(1)))
+        && matches!(table.access::<u8>(1, "Table", "between"), Ok(None))
+        && matches!(table.access::<u8>(2, "Table", "last"), Ok(Some(2)))
 }
 
 #[test]
-fn a_table_with_a_free_slot_between(rt: HostRuntime) -> Result<(), Fail> {
+fn a_table_with_a_free_slot_between(rt: HostRuntime) {
     let bytes = b"\x04\0\0\0\xf2\xff\xff\xff\x01\0\0\0\0\0\0\0\x02\0\x0a\0\x0d\0\x04\0\0\0\x0c\0";
-    let whole = SliceWithStartOffset::new(bytes.as_slice(), 0);
-    let table = Table::from_buffer(whole, 0)?;
-    assert_eq!(rt; table.access::<u64>(0, "Table", "first")?, Some(1));
-    assert_eq!(rt; table.access::<u8>(1, "Table", "between")?, None);
-    assert_eq!(rt; table.access::<u8>(2, "Table", "last")?, Some(2));
-    Ok(())
+    assert!(rt; a_free_slot_is_none(bytes));
 }
 
 // Writes a table with one number in slot 0.
@@ -141,42 +141,33 @@ fn put_number(builder: &mut Builder, field: u16) -> Result<(), BuildError> {
     writer.finish(builder, &One { field, of })
 }
 
-// Two tables of one number each, of which the second is the root.
-fn two_tables_in(builder: &mut Builder) -> Result<&[u8], Fail> {
-    put_number(builder, 24)?;
-    put_number(builder, 7)?;
+// Whether two tables of one number each, of which the second is the root, are these bytes.
+fn two_tables_are(builder: &mut Builder, want: &[u8]) -> bool {
+    if put_number(builder, 24).is_err() || put_number(builder, 7).is_err() {
+        return false;
+    }
     let root = builder.current_offset::<()>();
-    Ok(builder.finish(root, None)?)
+    match builder.finish(root, None) {
+        Ok(bytes) => bytes == want,
+        Err(_) => false,
+    }
 }
 
-#[test]
-fn two_tables_share_their_vtable(rt: HostRuntime) -> Result<(), Fail> {
-    let mut builder = Builder::new(rt.alloc())?;
-    assert_eq!(rt;
-        two_tables_in(&mut builder)?,
-        [
-            4, 0, 0, 0, 0xf2, 0xff, 0xff, 0xff, 7, 0, 0, 0, 0xfa, 0xff, 0xff, 0xff, 24, 0, 6, 0, 6,
-            0, 4, 0,
-        ]
-        .as_slice()
-    );
-    Ok(())
-}
+pub const ONE_VTABLE: &[u8] =
+    b"\x04\0\0\0\xf2\xff\xff\xff\x07\0\0\0\xfa\xff\xff\xff\x18\0\x06\0\x06\0\x04\0";
+
+pub const TWO_VTABLES: &[u8] = b"\x04\0\0\0\xfa\xff\xff\xff\x07\0\x06\0\x06\0\x04\0\
+    \xfa\xff\xff\xff\x18\0\x06\0\x06\0\x04\0";
 
 #[test]
-fn two_tables_have_their_own_vtables(rt: HostRuntime) -> Result<(), Fail> {
-    let caches = Caches {
-        vtables: false,
-        ..Caches::all()
-    };
-    let mut builder = Builder::with_caches(rt.alloc(), 0, caches)?;
-    assert_eq!(rt;
-        two_tables_in(&mut builder)?,
-        [
-            4, 0, 0, 0, 0xfa, 0xff, 0xff, 0xff, 7, 0, 6, 0, 6, 0, 4, 0, 0xfa, 0xff, 0xff, 0xff, 24,
-            0, 6, 0, 6, 0, 4, 0,
-        ]
-        .as_slice()
-    );
+fn two_tables(rt: HostRuntime) -> Result<(), Fail> {
+    for (vtables, want) in [(true, ONE_VTABLE), (false, TWO_VTABLES)] {
+        let caches = Caches {
+            vtables,
+            ..Caches::all()
+        };
+        let mut builder = Builder::with_caches(rt.alloc(), 0, caches)?;
+        assert!(rt; two_tables_are(&mut builder, want), "{caches:?}");
+    }
     Ok(())
 }

@@ -1,0 +1,263 @@
+//! Each trait at concrete types, through its bound.
+
+use super::tables::Heads;
+use super::{UNIONS, fails_printing, same_kind};
+use planus_read::errors::{Error, ErrorKind};
+use planus_read::table_reader::Table;
+use planus_read::{
+    Place, ReadAsRoot, SignedBytes, SliceWithStartOffset, Stride, TableRead, TableReadUnion,
+    TableReadUnionVector, TaggedPlace, VectorName, VectorRead, VectorReadInner, VectorReadUnion,
+    located,
+};
+use std::alloc::Global;
+
+const BYTES: [u8; 16] = [
+    0xff, 0xfe, 0xfd, 0xfc, 0xfb, 0xfa, 0xf9, 0xf8, 1, 0, 2, 0, 3, 0, 0, 0,
+];
+
+pub fn field<'buf, T: TableRead<'buf>>(bytes: &'buf [u8], offset: usize) -> Result<T, ErrorKind> {
+    T::from_buffer(SliceWithStartOffset::new(bytes, 0), offset)
+}
+
+// The item at an offset, where all of it is there.
+fn item<'buf, T: VectorRead<'buf>>(bytes: &'buf [u8], offset: usize) -> Option<T> {
+    let stride = T::stride();
+    if offset > bytes.len() || bytes.len() - offset < stride {
+        return None;
+    }
+    Some(T::from_buffer(SliceWithStartOffset::new(bytes, 0), offset))
+}
+
+fn inner_item<'buf, T: VectorReadInner<'buf>>(
+    bytes: &'buf [u8],
+    offset: usize,
+) -> Option<Result<T, T::Error>> {
+    let stride = T::stride();
+    if offset > bytes.len() || bytes.len() - offset < stride {
+        return None;
+    }
+    Some(T::from_buffer(SliceWithStartOffset::new(bytes, 0), offset))
+}
+
+fn union_field<'buf, T: TableReadUnion<'buf>>(
+    bytes: &'buf [u8],
+    tag: u8,
+    offset: usize,
+) -> Result<T, ErrorKind> {
+    T::from_buffer(SliceWithStartOffset::new(bytes, 0), tag, offset)
+}
+
+fn union_vector_field<'buf, T: TableReadUnionVector<'buf>>(
+    bytes: &'buf [u8],
+    tags: usize,
+    values: usize,
+) -> Result<T, ErrorKind> {
+    T::from_buffer(SliceWithStartOffset::new(bytes, 0), tags, values)
+}
+
+// The union item at an offset of bytes that start at 1000.
+fn union_item<'buf, 'n, T: VectorReadUnion<'buf>>(
+    bytes: &'buf [u8],
+    tag: u8,
+    offset: usize,
+) -> Result<T, located::Error<'n>> {
+    let piece = SliceWithStartOffset::new(bytes, 1000);
+    <T as VectorReadUnion<'buf>>::from_buffer(piece, tag, offset)
+}
+
+fn read_root<'a, 'n, T: ReadAsRoot<'a>>(bytes: &'a [u8]) -> Result<T, located::Error<'n>> {
+    T::read_as_root(bytes)
+}
+
+fn stride<T: Stride>() -> usize {
+    T::stride()
+}
+
+fn vector_name<T: VectorName>() -> &'static str {
+    T::vector_name()
+}
+
+pub fn numbers_are_fields() -> bool {
+    matches!(field::<u8>(&BYTES, 0), Ok(0xff))
+        && matches!(field::<u16>(&BYTES, 0), Ok(0xfeff))
+        && matches!(field::<u32>(&BYTES, 0), Ok(0xfcfd_feff))
+        && matches!(field::<u64>(&BYTES, 0), Ok(0xf8f9_fafb_fcfd_feff))
+        && matches!(field::<i8>(&BYTES, 0), Ok(-1))
+        && matches!(field::<i16>(&BYTES, 0), Ok(-257))
+        && matches!(field::<i32>(&BYTES, 0), Ok(-50_462_977))
+        && matches!(field::<i64>(&BYTES, 8), Ok(0x3_0002_0001))
+        && matches!(field::<bool>(&BYTES, 0), Ok(true))
+        && matches!(field::<bool>(&BYTES, 9), Ok(false))
+        && matches!(field::<u64>(&BYTES, 9), Err(ErrorKind::InvalidOffset))
+}
+
+pub fn numbers_are_items() -> bool {
+    item::<u16>(&BYTES, 8) == Some(1)
+        && item::<u32>(&BYTES, 8) == Some(0x2_0001)
+        && item::<u64>(&BYTES, 8) == Some(0x3_0002_0001)
+        && item::<i16>(&BYTES, 0) == Some(-257)
+        && item::<i32>(&BYTES, 8) == Some(0x2_0001)
+        && item::<i64>(&BYTES, 8) == Some(0x3_0002_0001)
+        && item::<bool>(&BYTES, 8) == Some(true)
+        && item::<u64>(&BYTES, 9).is_none()
+}
+
+// A reference to the text `Hi` at 0, and one to damage at 4.
+const TEXTS: [u8; 16] = [8, 0, 0, 0, 99, 0, 0, 0, 2, 0, 0, 0, 72, 105, 0, 0];
+
+// A reference to a list of one byte.
+const ONE_BYTE: [u8; 9] = [4, 0, 0, 0, 1, 0, 0, 0, 0xff];
+
+fn is_minus_one(list: SignedBytes<'_>) -> bool {
+    list.len() == 1
+        && !list.is_empty()
+        && list.as_bytes() == [0xff].as_slice()
+        && list.get(0) == Some(-1)
+        && list.get(1).is_none()
+}
+
+pub fn lists_are_fields() -> bool {
+    let signed = field::<SignedBytes<'_>>(&ONE_BYTE, 0);
+    matches!(field::<&str>(&TEXTS, 0), Ok("Hi"))
+        && matches!(field::<&str>(&TEXTS, 4), Err(ErrorKind::InvalidOffset))
+        && matches!(field::<&[u8]>(&TEXTS, 0), Ok(b"Hi"))
+        && matches!(field::<Table<'_>>(&TEXTS, 4), Err(ErrorKind::InvalidOffset))
+        && matches!(signed, Ok(list) if is_minus_one(list))
+}
+
+// Whether a place is read as this text.
+fn reads(place: Place<'_>, text: &str) -> bool {
+    matches!(place.read::<&str>(), Ok(read) if read == text)
+}
+
+pub fn texts_are_items() -> bool {
+    let place = item::<Place<'_>>(&TEXTS, 0).map(|place| place.read::<u32>());
+    let outside = field::<Place<'_>>(&TEXTS, 99).map(|place| place.read::<u8>());
+    stride::<&str>() == 4
+        && matches!(inner_item::<&str>(&TEXTS, 0), Some(Ok("Hi")))
+        && matches!(item::<Result<&str, Error>>(&TEXTS, 0), Some(Ok("Hi")))
+        && matches!(place, Some(Ok(8)))
+        && matches!(field::<Place<'_>>(&TEXTS, 0), Ok(place) if reads(place, "Hi"))
+        && matches!(outside, Ok(Err(ErrorKind::InvalidOffset)))
+}
+
+// A union with one variant, a text of tag 1.
+#[derive(Clone, Copy)]
+struct OneText<'a>(&'a str);
+
+impl<'buf> TableReadUnion<'buf> for OneText<'buf> {
+    ghost use Rattle.std.specs.Prelude.{⊤};
+
+    ghost reads = { λ S start tag f r. ⊤ };
+
+    fn from_buffer(
+        buffer: SliceWithStartOffset<'buf>,
+        tag: u8,
+        offset: usize,
+    ) -> Result<OneText<'buf>, ErrorKind> {
+        match tag {
+            1 => Ok(OneText(<&str as TableRead<'_>>::from_buffer(buffer, offset)?)),
+            _ => Err(ErrorKind::UnknownUnionTag { tag }),
+        }
+    }
+}
+
+impl<'buf> VectorName for OneText<'buf> {
+    ghost use Rattle.std.specs.Prelude.{◌≡◌, codes};
+
+    ghost name = { codes "[OneText]" };
+
+    fn vector_name() -> &'static str
+        ensures { result.now ≡ codes "[OneText]" }
+    {
+        "[OneText]"
+    }
+}
+
+// Whether this is a union of this tag, and the text `Hi`.
+fn is_hi(union: TaggedPlace<'_>, tag: u8) -> bool {
+    union.tag() == tag && reads(union.place(), "Hi")
+}
+
+// Whether the heads of a vector of two unions are read.
+fn heads_are_read() -> bool {
+    match union_vector_field::<Heads<'_>>(&UNIONS, 12, 16) {
+        Ok(heads) => heads.tags.1 == 2 && heads.values.1 == 2,
+        Err(_) => false,
+    }
+}
+
+// Whether a head past the end is an error.
+fn head_past_the_end_fails() -> bool {
+    match union_vector_field::<Heads<'_>>(&UNIONS, 12, 77) {
+        Ok(_) => false,
+        Err(kind) => same_kind(kind, ErrorKind::InvalidOffset),
+    }
+}
+
+pub fn unions_are_read() -> bool {
+    vector_name::<TaggedPlace<'_>>() == "[union]"
+        && matches!(union_field::<TaggedPlace<'_>>(&TEXTS, 7, 0), Ok(union) if is_hi(union, 7))
+        && matches!(union_item::<TaggedPlace<'_>>(&TEXTS, 3, 0), Ok(union) if is_hi(union, 3))
+        && matches!(union_item::<OneText<'_>>(&TEXTS, 1, 0), Ok(OneText("Hi")))
+        && heads_are_read()
+        && head_past_the_end_fails()
+}
+
+// A root table with one number.
+#[derive(Clone, Copy)]
+struct Root<'a>(Table<'a>);
+
+impl<'a> ReadAsRoot<'a> for Root<'a> {
+    ghost use Rattle.std.specs.Prelude.{⊤};
+
+    ghost reads_root = { λ S r. ⊤ };
+
+    fn read_as_root(slice: &'a [u8]) -> planus_read::Result<Root<'a>> {
+        match Table::from_buffer(SliceWithStartOffset::new(slice, 0), 0) {
+            Ok(table) => Ok(Root(table)),
+            Err(kind) => Err(kind.with_error_location("[Root]", "read_as_root", 0)),
+        }
+    }
+}
+
+const ROOT: [u8; 16] = [4, 0, 0, 0, 0xfa, 0xff, 0xff, 0xff, 24, 0, 6, 0, 6, 0, 4, 0];
+
+pub fn roots_are_read() -> bool {
+    let (Ok(Root(root)), Ok(nested)) = (read_root::<Root<'_>>(&ROOT), field::<Table<'_>>(&ROOT, 0))
+    else {
+        return false;
+    };
+    matches!(root.access::<u16>(0, "Root", "n"), Ok(Some(24)))
+        && matches!(nested.access_required::<u8>(0, "Root", "n"), Ok(24))
+}
+
+// Whether a text's error is that of a list's item.
+fn item_fails(alloc: Global) -> bool {
+    match item::<Result<&str, Error>>(&TEXTS, 4) {
+        Some(text) => fails_printing(alloc, text, "In <[str]@0>::get(): Invalid offset"),
+        None => false,
+    }
+}
+
+// Whether the error of a union in a vector prints this text.
+fn union_fails(alloc: Global, tag: u8, offset: usize, text: &str) -> bool {
+    fails_printing(alloc, union_item::<OneText<'_>>(&TEXTS, tag, offset), text)
+}
+
+// Whether an error of no bytes is that of a root.
+fn root_fails(alloc: Global) -> bool {
+    let text = "In <[Root]@0>::read_as_root(): Invalid offset";
+    fails_printing(alloc, read_root::<Root<'_>>(&[]), text)
+}
+
+#[test]
+fn errors_of_traits(rt: HostRuntime) {
+    assert!(rt; item_fails(rt.alloc()), "an item");
+    let unknown = "In <[OneText]@3e8>::get(): Unknown union (tag = 9)";
+    let outside = "In <[OneText]@3e8>::get(): Invalid offset";
+    for (tag, offset, text) in [(9, 0, unknown), (1, 4, outside)] {
+        assert!(rt; union_fails(rt.alloc(), tag, offset, text), "{text}");
+    }
+    assert!(rt; root_fails(rt.alloc()), "a root");
+}

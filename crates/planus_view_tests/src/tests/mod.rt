@@ -1,0 +1,3 @@
+mod no_memory;
+mod unions;
+mod vectors;

@@ -1,0 +1,186 @@
+//! Every call once on views of none, one and five items.
+
+ghost use Rattle.std.specs.Prelude.{◌≡◌, ⊤, codes};
+
+use super::unions;
+use planus_read::errors::ErrorKind;
+use planus_read::{Error, SliceWithStartOffset, TableRead, TableReadUnion, VectorName};
+use planus_unions::UnionVector;
+use planus_view::{CopyError, Cut, SubViews};
+use std::alloc::Global;
+
+// A number of four bytes, in place of a reference; its tag is 2.
+#[derive(Clone, Copy, PartialEq, Debug)]
+struct Number(u32);
+
+impl<'buf> TableReadUnion<'buf> for Number {
+    ghost reads = { λ S start tag f r. ⊤ };
+
+    fn from_buffer(
+        buffer: SliceWithStartOffset<'buf>,
+        tag: u8,
+        offset: usize,
+    ) -> Result<Number, ErrorKind> {
+        match tag {
+            2 => Ok(Number(TableRead::from_buffer(buffer, offset)?)),
+            _ => Err(ErrorKind::UnknownUnionTag { tag }),
+        }
+    }
+}
+
+impl VectorName for Number {
+    ghost name = { codes "[Number]" };
+
+    fn vector_name() -> &'static str
+        ensures { result.now ≡ codes "[Number]" }
+    {
+        "[Number]"
+    }
+}
+
+// One item, the number 0 of tag 2, which stands in place of its reference.
+const ONE: [u8; 24] = [
+    8, 0, 0, 0, 12, 0, 0, 0, 1, 0, 0, 0, 2, 0, 0, 0, 1, 0, 0, 0, 0, 0, 0, 0,
+];
+
+// Five, the numbers 10 to 14.
+const FIVE: [u8; 44] = [
+    8, 0, 0, 0, 16, 0, 0, 0, 5, 0, 0, 0, 2, 2, 2, 2, 2, 0, 0, 0, 5, 0, 0, 0, 10, 0, 0, 0, 11, 0, 0,
+    0, 12, 0, 0, 0, 13, 0, 0, 0, 14, 0, 0, 0,
+];
+
+// The number of an item, or none.
+fn held(item: Option<Result<Number, Error>>) -> Option<u32> {
+    match item {
+        Some(Ok(number)) => Some(number.0),
+        _ => None,
+    }
+}
+
+// How many items the sub-vectors have.
+fn taken<C: Cut>(parts: SubViews<UnionVector<'_, Number>, C>) -> usize {
+    let mut items: usize = 0;
+    for part in parts {
+        items = items.wrapping_add(part.len());
+    }
+    items
+}
+
+// How many items a split leaves.
+fn rest_of(split: Option<(Result<Number, Error>, UnionVector<'_, Number>)>) -> Option<usize> {
+    match split {
+        Some((_item, rest)) => Some(rest.len()),
+        None => None,
+    }
+}
+
+// Whether a split gives parts of these lengths.
+fn parts_are(
+    parts: (UnionVector<'_, Number>, UnionVector<'_, Number>),
+    want: (usize, usize),
+) -> bool {
+    let (front, back) = parts;
+    front.len() == want.0 && back.len() == want.1
+}
+
+// Whether the calls of items agree with the numbers `first` to `last` of `len` items.
+fn item_calls_agree(v: UnionVector<'_, Number>, first: Option<u32>, last: Option<u32>) -> bool {
+    let rest = v.len().checked_sub(1);
+    let mut behind = v.iter();
+    held(v.first()) == first
+        && held(v.last()) == last
+        && held(v.get(0usize)) == first
+        && held(behind.next_back()) == last
+        && rest_of(v.split_first()) == rest
+        && match v.split_last() {
+            Some((_last, front)) => Some(front.len()) == rest,
+            None => rest.is_none(),
+        }
+        && v.into_iter().count() == v.len()
+}
+
+// Whether the calls of sub-vectors agree with so many items.
+fn part_calls_agree(v: UnionVector<'_, Number>, len: usize) -> bool {
+    let even = len - len % 2;
+    v.len() == len
+        && v.is_empty() == (len == 0)
+        && matches!(v.get(..), Some(all) if all.len() == len)
+        && v.get_unchecked(0..0).len() == 0
+        && parts_are(v.split_at_unchecked(0), (0, len))
+        && match v.split_at(1) {
+            Some(parts) => parts_are(parts, (1, len.saturating_sub(1))),
+            None => len == 0,
+        }
+        && taken(v.chunks(2)) == len
+        && taken(v.rchunks(2)) == len
+        && taken(v.chunks_exact(2)) == even
+        && v.chunks_exact(2).remainder().len() == len % 2
+        && taken(v.rchunks_exact(2)) == even
+        && v.rchunks_exact(2).remainder().len() == len % 2
+        && taken(v.windows(1)) == len
+}
+
+// Whether all calls agree with the numbers that stand in these bytes.
+fn bytes_agree(bytes: &[u8], len: usize, first: u32, last: u32) -> bool {
+    match unions(bytes, 0, 4) {
+        Ok(v) => item_calls_agree(v, Some(first), Some(last)) && part_calls_agree(v, len),
+        Err(_) => false,
+    }
+}
+
+// Whether the last chunk, counted from the back, begins with this number.
+fn last_chunk_begins(five: UnionVector<'_, Number>, number: u32) -> bool {
+    let mut from_the_back = five.rchunks(2);
+    match from_the_back.next() {
+        Some(chunk) => held(chunk.first()) == Some(number),
+        None => false,
+    }
+}
+
+pub fn union_calls_agree() -> bool {
+    let none = UnionVector::new_empty();
+    item_calls_agree(none, None, None)
+        && part_calls_agree(none, 0)
+        && bytes_agree(&ONE, 1, 0, 0)
+        && bytes_agree(&FIVE, 5, 10, 14)
+        && matches!(unions(&FIVE, 0, 4), Ok(five) if last_chunk_begins(five, 13))
+}
+
+// The second and the fourth tag are unknown.
+const DAMAGED: [u8; 44] = [
+    8, 0, 0, 0, 16, 0, 0, 0, 5, 0, 0, 0, 2, 7, 2, 9, 2, 0, 0, 0, 5, 0, 0, 0, 10, 0, 0, 0, 11, 0, 0,
+    0, 12, 0, 0, 0, 13, 0, 0, 0, 14, 0, 0, 0,
+];
+
+// All items of these bytes.
+fn copies_of(alloc: Global, bytes: &[u8]) -> Result<Vec<Number>, CopyError> {
+    match unions::<Number>(bytes, 0, 4) {
+        Ok(v) => v.to_vec::<Number>(alloc),
+        Err(kind) => Err(CopyError::Read(kind.with_error_location("", "", 0))),
+    }
+}
+
+fn five_are_copied(alloc: Global) -> bool {
+    let numbers = [Number(10), Number(11), Number(12), Number(13), Number(14)];
+    match copies_of(alloc, &FIVE) {
+        Ok(copies) => copies.as_slice() == numbers.as_slice(),
+        Err(_) => false,
+    }
+}
+
+// Whether the error is that of the second item, at the start of the references from there on.
+fn damaged_are_refused(alloc: Global) -> bool {
+    match copies_of(alloc, &DAMAGED) {
+        Err(CopyError::Read(error)) => match error.to_string(alloc) {
+            Ok(text) => text.as_str() == "In <[Number]@1c>::get(): Unknown union (tag = 7)",
+            Err(_) => false,
+        },
+        _ => false,
+    }
+}
+
+#[test]
+fn copies(rt: HostRuntime) {
+    assert!(rt; five_are_copied(rt.alloc()), "five");
+    assert!(rt; damaged_are_refused(rt.alloc()), "damaged");
+}

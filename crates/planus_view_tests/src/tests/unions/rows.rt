@@ -1,0 +1,136 @@
+//! Worked buffers, read item by item.
+
+use super::{Choice, unions};
+use planus_read::errors::ErrorKind;
+use planus_read::table_reader::Table;
+use planus_read::{Error, SliceWithStartOffset, TaggedPlace};
+use planus_unions::UnionVector;
+use std::alloc::Global;
+use std::test::Fail;
+
+// A table whose slots 0 and 1 hold the tags 1 and 2 and the texts `A` and `B`: the tags stand at 24
+// and the references at 32.
+const UNIONS: &[u8] = b"\x04\0\0\0\xf4\xff\xff\xff\x10\0\0\0\x14\0\0\0\x08\0\x0c\0\x04\0\x08\0\
+    \x02\0\0\0\x01\x02\0\0\x02\0\0\0\x10\0\0\0\x04\0\0\0\x01\0\0\0B\0\0\0\x01\0\0\0A\0";
+
+// Two tags and one reference.
+const HALF: [u8; 24] = [
+    8, 0, 0, 0, 12, 0, 0, 0, 2, 0, 0, 0, 1, 1, 0, 0, 1, 0, 0, 0, 4, 0, 0, 0,
+];
+
+// Whether an item is this text, of this tag.
+fn is_text(item: Option<Result<TaggedPlace<'_>, Error>>, tag: u8, text: &str) -> bool {
+    match item {
+        Some(Ok(union)) => {
+            union.tag() == tag && matches!(union.place().read::<&str>(), Ok(read) if read == text)
+        }
+        _ => false,
+    }
+}
+
+// Whether the vector of the slots 0 and 1 is that of the texts, and there is none behind it.
+fn loot_is_read(table: Table<'_>) -> bool {
+    let loot = table.access_union_vector::<UnionVector<'_, TaggedPlace<'_>>>(0, "Monster", "loot");
+    let behind = table.access_union_vector::<UnionVector<'_, TaggedPlace<'_>>>(
+        2, "Monster", "none",
+    );
+    let Ok(Some(unions)) = loot else {
+        return false;
+    };
+    let mut items = unions.into_iter();
+    is_text(items.next(), 1, "A")
+        && is_text(items.next(), 2, "B")
+        && items.next().is_none()
+        && matches!(behind, Ok(None))
+}
+
+// Whether a vector of unions fails with this error.
+fn fails_with(bytes: &[u8], values: usize, kind: ErrorKind) -> bool {
+    match (unions::<Choice<'_>>(bytes, 0, values), kind) {
+        (Err(ErrorKind::InvalidLength), ErrorKind::InvalidLength)
+        | (Err(ErrorKind::InvalidOffset), ErrorKind::InvalidOffset) => true,
+        (
+            Err(
+                ErrorKind::UnionVectorLengthsMismatched {
+                    tags_len,
+                    values_len,
+                },
+            ),
+            ErrorKind::UnionVectorLengthsMismatched {
+                tags_len: tags,
+                values_len: values,
+            },
+        ) => tags_len == tags && values_len == values,
+        _ => false,
+    }
+}
+
+#[test]
+fn a_field_of_a_table(rt: HostRuntime) -> Result<(), Fail> {
+    let whole = SliceWithStartOffset::new(UNIONS, 0);
+    assert!(rt; loot_is_read(Table::from_buffer(whole, 0)?));
+    Ok(())
+}
+
+// Two tags and two references, of which the second would pass the end.
+const LONGER: [u8; 24] = [
+    8, 0, 0, 0, 12, 0, 0, 0, 2, 0, 0, 0, 1, 1, 0, 0, 2, 0, 0, 0, 4, 0, 0, 0,
+];
+
+// 255 tags, which would pass the end, and one reference.
+const TAGS: [u8; 24] = [
+    8, 0, 0, 0, 12, 0, 0, 0, 255, 0, 0, 0, 1, 1, 0, 0, 1, 0, 0, 0, 4, 0, 0, 0,
+];
+
+// The bounds are tested before the counts are compared, and the head of the references before the
+// tags themselves.
+#[test]
+fn counts_and_lengths(rt: HostRuntime) {
+    let mismatched = ErrorKind::UnionVectorLengthsMismatched {
+        tags_len: 2,
+        values_len: 1,
+    };
+    for (bytes, values, kind) in [
+        (&HALF, 4, mismatched),
+        (&LONGER, 4, ErrorKind::InvalidLength),
+        (&TAGS, 23, ErrorKind::InvalidOffset),
+        (&TAGS, 4, ErrorKind::InvalidLength),
+    ] {
+        assert!(rt; fails_with(bytes, values, kind), "{kind}");
+    }
+}
+
+// The second tag is 9.
+const UNKNOWN: &[u8] = b"\x04\0\0\0\xf4\xff\xff\xff\x10\0\0\0\x14\0\0\0\x08\0\x0c\0\x04\0\x08\0\
+    \x02\0\0\0\x01\x09\0\0\x02\0\0\0\x10\0\0\0\x04\0\0\0\x01\0\0\0B\0\0\0\x01\0\0\0A\0";
+
+// Whether there is an item whose error prints this text.
+fn prints(alloc: Global, item: Option<Result<Choice<'_>, Error>>, text: &str) -> bool {
+    match item {
+        Some(Err(error)) => match error.to_string(alloc) {
+            Ok(printed) => printed.as_str() == text,
+            Err(_) => false,
+        },
+        _ => false,
+    }
+}
+
+// Whether the error of an item has the start of the references of the vector that was held when it
+// was read.
+fn errors_have_starts<'a>(alloc: Global, choices: UnionVector<'a, Choice<'a>>) -> bool {
+    let whole = "In <[Choice]@24>::get(): Unknown union (tag = 9)";
+    let rest = "In <[Choice]@28>::get(): Unknown union (tag = 9)";
+    let mut items = choices.iter();
+    matches!(items.next(), Some(Ok(Choice::Text("A"))))
+        && matches!(choices.first(), Some(Ok(Choice::Text("A"))))
+        && prints(alloc, choices.get(1usize), whole)
+        && prints(alloc, items.next(), rest)
+        && prints(alloc, choices.last(), whole)
+}
+
+#[test]
+fn errors_of_items(rt: HostRuntime) -> Result<(), Fail> {
+    let choices = unions::<Choice<'_>>(UNKNOWN, 8, 12)?;
+    assert!(rt; errors_have_starts(rt.alloc(), choices));
+    Ok(())
+}

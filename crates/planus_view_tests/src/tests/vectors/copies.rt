@@ -1,0 +1,94 @@
+//! Copies of items.
+
+ghost use Rattle.std.specs.Prelude.{⊤};
+
+use super::five;
+use super::rows::{DAMAGED, TEXTS, texts};
+use planus_read::errors::ErrorKind;
+use planus_view::{CopyError, FromItem};
+use std::alloc::Global;
+
+// A number that must be below 5.
+#[derive(Clone, Copy, PartialEq, Debug)]
+struct Small(u16);
+
+impl FromItem<u16> for Small {
+    ghost converts = { λ item r. ⊤ };
+
+    fn from_item(_alloc: Global, item: u16) -> Result<Small, CopyError> {
+        if item > 4 {
+            return Err(CopyError::Read(ErrorKind::InvalidLength.with_error_location(
+                "Small",
+                "from_item",
+                0,
+            )));
+        }
+        Ok(Small(item))
+    }
+}
+
+pub fn numbers_are_copied(alloc: Global) -> bool {
+    match five().to_vec::<u16>(alloc) {
+        Ok(same) => same.as_slice() == [1, 2, 3, 4, 5].as_slice(),
+        Err(_) => false,
+    }
+}
+
+// Whether the first four are copied, and the fifth is refused by its conversion.
+fn small_numbers_are_copied(alloc: Global) -> bool {
+    let Some(four) = five().get(..4) else {
+        return false;
+    };
+    let four_are = match four.to_vec::<Small>(alloc) {
+        Ok(small) => small.len() == 4,
+        Err(_) => false,
+    };
+    let five_are_not = match five().to_vec::<Small>(alloc) {
+        Err(CopyError::Read(e)) => e.source_location.type_ == "Small",
+        _ => false,
+    };
+    four_are && five_are_not
+}
+
+// Whether there is no memory for the copies.
+pub fn copies_are_refused(alloc: Global) -> bool {
+    matches!(five().to_vec::<u16>(alloc), Err(CopyError::OutOfMemory))
+}
+
+fn texts_of(alloc: Global, bytes: &[u8]) -> Result<Vec<String>, CopyError> {
+    match texts(bytes) {
+        Ok(texts) => texts.to_vec_result::<String>(alloc),
+        Err(kind) => Err(CopyError::Read(kind.with_error_location("", "", 0))),
+    }
+}
+
+fn texts_are_copied(alloc: Global) -> bool {
+    match texts_of(alloc, &TEXTS) {
+        Ok(copies) => {
+            matches!(copies.as_slice(), [a, b] if a.as_str() == "A" && b.as_str() == "B")
+        }
+        Err(_) => false,
+    }
+}
+
+fn damaged_texts_are_refused(alloc: Global) -> bool {
+    match texts_of(alloc, &DAMAGED) {
+        Err(CopyError::Read(e)) => match e.to_string(alloc) {
+            Ok(printed) => printed.as_str() == "In <[str]@c>::get(): Missing null terminator",
+            Err(_) => false,
+        },
+        _ => false,
+    }
+}
+
+#[test]
+fn items_are_copied(rt: HostRuntime) {
+    assert!(rt; small_numbers_are_copied(rt.alloc()), "converted");
+    assert!(rt; texts_are_copied(rt.alloc()), "texts");
+    assert!(rt; damaged_texts_are_refused(rt.alloc()), "damaged texts");
+    let error = ErrorKind::InvalidOffset.with_error_location("T", "get", 0);
+    assert!(rt;
+        matches!(CopyError::from(error), CopyError::Read(e) if e.source_location.type_ == "T"),
+        "an error"
+    );
+}

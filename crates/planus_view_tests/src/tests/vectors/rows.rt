@@ -1,0 +1,188 @@
+//! The worked rows, with expected values written out.
+
+ghost use Rattle.std.specs.Prelude.{◌<◌};
+
+use super::{FIVE, five, has, numbers, some_has};
+use planus_read::errors::ErrorKind;
+use planus_read::{Error, SliceWithStartOffset, TableRead};
+use planus_view::{Cut, SubViews, Vector};
+use std::alloc::Global;
+use std::ops::Bound;
+
+// The list of the texts `A` and `B`, finished.
+pub const TEXTS: [u8; 30] = [
+    4, 0, 0, 0, 2, 0, 0, 0, 16, 0, 0, 0, 4, 0, 0, 0, 1, 0, 0, 0, 66, 0, 0, 0, 1, 0, 0, 0, 65, 0,
+];
+
+// The same with the byte 1 behind the second text.
+pub const DAMAGED: [u8; 30] = [
+    4, 0, 0, 0, 2, 0, 0, 0, 16, 0, 0, 0, 4, 0, 0, 0, 1, 0, 0, 0, 66, 1, 0, 0, 1, 0, 0, 0, 65, 0,
+];
+
+const ALL: [u16; 5] = [1, 2, 3, 4, 5];
+
+#[test]
+fn limits(rt: HostRuntime) {
+    let short = [4, 0, 0, 0, 3, 0, 0, 0, 1, 0];
+    assert!(rt; matches!(numbers(&short), Err(ErrorKind::InvalidLength)));
+}
+
+// Returns whether the two are the same numbers, or there are none.
+fn same(part: Option<Vector<'_, u16>>, want: Option<&[u16]>) -> bool {
+    match (part, want) {
+        (Some(part), Some(want)) => has(part, want),
+        (None, None) => true,
+        _ => false,
+    }
+}
+
+// Returns whether an iterator gives these parts and then none.
+fn gives<C: Cut>(mut parts: SubViews<Vector<'_, u16>, C>, want: &[&[u16]]) -> bool {
+    let mut all = true;
+    for part in want {
+        all = all && some_has(parts.next(), part);
+    }
+    all && parts.next().is_none()
+}
+
+// The same from the back.
+fn gives_back<C: Cut>(mut parts: SubViews<Vector<'_, u16>, C>, want: &[&[u16]]) -> bool {
+    let mut all = true;
+    for part in want {
+        all = all && some_has(parts.next_back(), part);
+    }
+    all && parts.next_back().is_none()
+}
+
+fn five_are_cut(five: Vector<'_, u16>) -> bool {
+    gives(five.rchunks(2), &[&[4, 5], &[2, 3], &[1]])
+        && some_has(five.rchunks(2).next_back(), &[1])
+        && has(five.rchunks_exact(2).remainder(), &[1])
+        && gives_back(five.windows(2), &[&[4, 5], &[3, 4], &[2, 3], &[1, 2]])
+        && some_has(five.chunks(2).nth(1), &[3, 4])
+        && some_has(five.chunks(2).nth_back(1), &[3, 4])
+        && some_has(five.rchunks(2).nth_back(1), &[2, 3])
+        && has(five.chunks_exact(2).remainder(), &[5])
+}
+
+fn items_end(five: Vector<'_, u16>) -> bool {
+    let mut items = five.iter();
+    items.nth(9).is_none() && items.next().is_none()
+}
+
+#[test]
+fn five_u16(rt: HostRuntime) {
+    assert!(rt; five_are_cut(five()), "parts");
+    assert!(rt; items_end(five()), "items");
+    assert!(rt; five().split_at(6).is_none());
+}
+
+// Returns whether the sub-vectors are this many, the first is this one, and none is far behind it.
+fn are<C: Cut>(
+    mut parts: SubViews<Vector<'_, u16>, C>,
+    count: usize,
+    first: Option<&[u16]>,
+) -> bool {
+    let all = parts.clone().unwrap();
+    all.count() == count && same(parts.next(), first) && parts.nth(usize::MAX).is_none()
+}
+
+// Returns whether sub-vectors of a size above five hold all five numbers, or are none.
+fn are_at_the_limits(five: Vector<'_, u16>, size: usize) -> bool
+    requires { 0 < size }
+{
+    are(five.chunks(size), 1, Some(&ALL))
+        && are(five.rchunks(size), 1, Some(&ALL))
+        && are(five.chunks_exact(size), 0, None)
+        && are(five.rchunks_exact(size), 0, None)
+        && are(five.windows(size), 0, None)
+        && has(five.chunks_exact(size).remainder(), &ALL)
+}
+
+// The same of sub-vectors of two, from any of which a step of the greatest length leads to none.
+fn are_of_two(five: Vector<'_, u16>) -> bool {
+    are(five.chunks(2), 3, Some(&[1, 2]))
+        && are(five.rchunks(2), 3, Some(&[4, 5]))
+        && are(five.chunks_exact(2), 2, Some(&[1, 2]))
+        && are(five.rchunks_exact(2), 2, Some(&[4, 5]))
+        && are(five.windows(2), 4, Some(&[1, 2]))
+}
+
+#[test]
+fn five_u16_at_the_limits(rt: HostRuntime) {
+    for size in [6, usize::MAX] {
+        assert!(rt; are_at_the_limits(five(), size), "{size}");
+    }
+    assert!(rt; are_of_two(five()));
+}
+
+// Returns whether each kind of range gives its numbers, or none.
+fn ranges_agree(five: Vector<'_, u16>, max: usize) -> bool {
+    some_has(five.get(1..3), &[2, 3])
+        && some_has(five.get(3..), &[4, 5])
+        && some_has(five.get(5..), &[])
+        && some_has(five.get(..), &ALL)
+        && some_has(five.get(1..=2), &[2, 3])
+        && some_has(five.get(..2), &[1, 2])
+        && some_has(five.get(..=1), &[1, 2])
+        && some_has(five.get((Bound::Excluded(0), Bound::Included(2))), &[2, 3])
+        && five.get(3..2).is_none()
+        && five.get(2..=max).is_none()
+        && five.get(..=max).is_none()
+        && five.get((Bound::Excluded(max), Bound::Unbounded)).is_none()
+}
+
+#[test]
+fn five_u16_by_each_index(rt: HostRuntime) {
+    let five = five();
+    assert!(rt; ranges_agree(five, usize::MAX));
+    assert!(rt; five.get(2) == Some(3) && five.get(5).is_none());
+    assert!(rt; five.iter().nth(usize::MAX).is_none());
+}
+
+pub fn texts<'buf>(bytes: &'buf [u8]) -> Result<Vector<'buf, Result<&'buf str, Error>>, ErrorKind> {
+    Vector::from_buffer(SliceWithStartOffset::new(bytes, 0), 0)
+}
+
+// Returns whether there is an item, and it or the error of its read prints this text.
+fn prints(alloc: Global, item: Option<Result<&str, Error>>, text: &str) -> bool {
+    match item {
+        Some(Ok(item)) => item == text,
+        Some(Err(error)) => match error.to_string(alloc) {
+            Ok(printed) => printed.as_str() == text,
+            Err(_) => false,
+        },
+        None => false,
+    }
+}
+
+fn texts_are_read(alloc: Global) -> bool {
+    match texts(&TEXTS) {
+        Ok(whole) => {
+            prints(alloc, whole.get(0), "A") && prints(alloc, whole.iter().next_back(), "B")
+        }
+        Err(_) => false,
+    }
+}
+
+fn damaged_texts_are_read(alloc: Global) -> bool {
+    let Ok(damaged) = texts(&DAMAGED) else {
+        return false;
+    };
+    let error = "In <[str]@8>::get(): Missing null terminator";
+    let mut items = damaged.iter();
+    prints(alloc, damaged.get(1), error)
+        && prints(alloc, damaged.iter().next_back(), error)
+        && prints(alloc, items.next(), "A")
+        && prints(
+            alloc,
+            items.next(),
+            "In <[str]@c>::get(): Missing null terminator",
+        )
+}
+
+#[test]
+fn list_of_texts(rt: HostRuntime) {
+    assert!(rt; texts_are_read(rt.alloc()), "whole");
+    assert!(rt; damaged_texts_are_read(rt.alloc()), "damaged");
+}

@@ -1,0 +1,5 @@
+//! Tests of `planus_write` and `planus_fields`: the worked rows, and each type that can be written.
+#![tactic(auto)]
+
+#[cfg(test)]
+mod tests;

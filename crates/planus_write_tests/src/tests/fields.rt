@@ -1,0 +1,346 @@
+//! Fields of a table: always there, with a default, and optional.
+
+ghost use Rattle.std.specs.Prelude.{◌≤◌, length};
+ghost use Rattle.planus_write.specs.Unions.{union_reach};
+
+use super::{holds, without_caches};
+use planus_fields::{
+    DefaultValue, WriteAs, WriteAsDefault, WriteAsDefaultUnionVector, WriteAsOptional,
+    WriteAsOptionalUnion, WriteAsOptionalUnionVector,
+};
+use planus_write::{
+    BuildError, Builder, ByRef, ByteList, List, Offset, Primitive, SignedList, Text, UnionOffset,
+    UnionVectorOffset,
+};
+use std::alloc::Global;
+use std::test::Fail;
+
+// A kind of unions.
+struct Drinks;
+
+// Prepares a field that is always there, of which only the bound is known.
+fn always<P: Primitive, T: WriteAs<P>>(
+    builder: &mut Builder,
+    field: &T,
+) -> Result<T::Prepared, BuildError>
+    requires { T.may field.now builder.old }
+{
+    field.prepare(builder)
+}
+
+// What a field that may be left out can be.
+#[derive(Clone, Copy, PartialEq)]
+enum Answer {
+    There,
+    LeftOut,
+    Refused,
+}
+
+// Prepares a field that may be absent; tells whether it is there.
+fn optional<P: Primitive, T: WriteAsOptional<P>>(builder: &mut Builder, field: &T) -> Answer
+    requires { T.may field.now builder.old }
+{
+    match field.prepare(builder) {
+        Ok(Some(_)) => Answer::There,
+        Ok(None) => Answer::LeftOut,
+        Err(_) => Answer::Refused,
+    }
+}
+
+// Prepares a field with a default; tells whether it is there.
+fn defaulted<P: Primitive, D, T: WriteAsDefault<P, D>>(
+    builder: &mut Builder,
+    field: &T,
+    default: &D,
+) -> Answer
+    requires { T.may field.now builder.old }
+{
+    match field.prepare(builder, default) {
+        Ok(Some(_)) => Answer::There,
+        Ok(None) => Answer::LeftOut,
+        Err(_) => Answer::Refused,
+    }
+}
+
+fn is_there(answer: Answer) -> bool {
+    answer == Answer::There
+}
+
+fn is_left_out(answer: Answer) -> bool {
+    answer == Answer::LeftOut
+}
+
+// Prepares a union that may be absent; tells whether it is of this tag and at distance 6, or isn't
+// there where no tag is wanted.
+fn drink_is<X: WriteAsOptionalUnion<Drinks>>(
+    builder: &mut Builder,
+    field: &X,
+    tag: Option<u8>,
+) -> bool
+    requires { X.may field.now builder.old }
+{
+    match (field.prepare(builder), tag) {
+        (Ok(None), None) => true,
+        (Ok(Some(union)), Some(tag)) => union.tag() == tag && union.offset().distance() == 6,
+        _ => false,
+    }
+}
+
+// Whether a list of unions has its values and its tags at these distances, or isn't there.
+fn stands(prepared: Option<UnionVectorOffset<Drinks>>, want: Option<(u32, u32)>) -> bool {
+    match (prepared, want) {
+        (None, None) => true,
+        (Some(vector), Some((values, tags))) => {
+            vector.values_offset().distance() == values && vector.tags_offset().distance() == tags
+        }
+        _ => false,
+    }
+}
+
+// Prepares a list of unions that is left out where it is empty; tells whether it is as wanted.
+fn order_is<X: WriteAsDefaultUnionVector<Drinks>>(
+    builder: &mut Builder,
+    field: &X,
+    want: Option<(u32, u32)>,
+) -> bool
+    requires { X.may field.now builder.old }
+{
+    match field.prepare(builder) {
+        Ok(prepared) => stands(prepared, want),
+        Err(_) => false,
+    }
+}
+
+// The same of one that may be absent.
+fn optional_order_is<X: WriteAsOptionalUnionVector<Drinks>>(
+    builder: &mut Builder,
+    field: &X,
+    want: Option<(u32, u32)>,
+) -> bool
+    requires { X.may field.now builder.old }
+{
+    match field.prepare(builder) {
+        Ok(prepared) => stands(prepared, want),
+        Err(_) => false,
+    }
+}
+
+fn numbers_are_prepared(builder: &mut Builder) -> Result<bool, BuildError> {
+    Ok(
+        always::<u8, u8>(builder, &7)? == 7
+            && always::<u16, u16>(builder, &7)? == 7
+            && always::<u32, u32>(builder, &7)? == 7
+            && always::<u64, u64>(builder, &7)? == 7
+            && always::<i8, i8>(builder, &-7)? == -7
+            && always::<i16, i16>(builder, &-7)? == -7
+            && always::<i32, i32>(builder, &-7)? == -7
+            && always::<i64, i64>(builder, &-7)? == -7
+            && always::<bool, bool>(builder, &true)?
+            && builder.is_empty(),
+    )
+}
+
+fn numbers_are_left_out(builder: &mut Builder) -> bool {
+    is_there(optional::<i16, i16>(builder, &24))
+        && is_there(optional::<i16, Option<i16>>(builder, &Some(24)))
+        && is_left_out(optional::<i16, Option<i16>>(builder, &None))
+        && is_left_out(optional::<i16, ()>(builder, &()))
+        && is_left_out(defaulted::<bool, bool, bool>(builder, &false, &false))
+        && is_left_out(defaulted::<i16, i16, i16>(builder, &24, &24))
+        && is_there(defaulted::<i16, i16, i16>(builder, &25, &24))
+        && is_left_out(defaulted::<i16, i16, DefaultValue>(builder, &DefaultValue, &24))
+        && builder.is_empty()
+}
+
+#[test]
+fn numbers(rt: HostRuntime) -> Result<(), Fail> {
+    let mut builder = without_caches(rt.alloc())?;
+    assert!(rt; holds(numbers_are_prepared(&mut builder)), "always there");
+    assert!(rt; numbers_are_left_out(&mut builder), "left out");
+    Ok(())
+}
+
+fn texts_are_left_out(builder: &mut Builder, owned: &String) -> bool {
+    is_left_out(defaulted::<Offset<Text>, &str, &str>(builder, &"Axe", &"Axe"))
+        && is_left_out(defaulted::<Offset<Text>, &str, String>(builder, owned, &"Axe"))
+        && is_left_out(optional::<Offset<Text>, Option<&str>>(builder, &None))
+        && builder.is_empty()
+}
+
+fn texts_are_there(builder: &mut Builder, owned: &String) -> Result<bool, BuildError> {
+    let text = is_there(defaulted::<Offset<Text>, &str, &str>(builder, &"Axe", &""));
+    let after_text = builder.len() == 8;
+    let second = always::<Offset<Text>, String>(builder, owned)?.distance();
+    let by_ref = ByRef(owned);
+    Ok(
+        text && after_text
+            && second == 16
+            && is_there(optional::<Offset<Text>, ByRef<'_, String>>(builder, &by_ref))
+            && is_there(defaulted::<Offset<Text>, &str, ByRef<'_, String>>(builder, &by_ref, &""))
+            && builder.len() == 32,
+    )
+}
+
+fn boxed_texts_are_there(alloc: Global, builder: &mut Builder) -> Result<bool, BuildError> {
+    let Ok(boxed) = Box::new(alloc, "Axe") else {
+        return Ok(false);
+    };
+    let distance = always::<Offset<Text>, Box<&str>>(builder, &boxed)?.distance();
+    Ok(distance == 8)
+}
+
+fn texts_of_before_are_there(builder: &mut Builder) -> Result<bool, BuildError> {
+    builder.create_string("Axe")?;
+    let last = builder.current_offset::<Text>();
+    let same = always::<Offset<Text>, Offset<Text>>(builder, &last)?.distance() == 8;
+    let last = builder.current_offset::<Text>();
+    let there = is_there(optional::<Offset<Text>, Offset<Text>>(builder, &last));
+    let last = builder.current_offset::<Text>();
+    let written = is_there(defaulted::<Offset<Text>, &str, Offset<Text>>(builder, &last, &"Axe"));
+    Ok(same && there && written && builder.len() == 8)
+}
+
+#[test]
+fn texts(rt: HostRuntime) -> Result<(), Fail> {
+    let owned = String::from_str(rt.alloc(), "Axe")?;
+    let mut builder = without_caches(rt.alloc())?;
+    assert!(rt; texts_are_left_out(&mut builder, &owned), "left out");
+    assert!(rt; holds(texts_are_there(&mut builder, &owned)), "there");
+    builder.clear();
+    assert!(rt;
+        holds(boxed_texts_are_there(rt.alloc(), &mut builder)),
+        "boxed"
+    );
+    builder.clear();
+    assert!(rt; holds(texts_of_before_are_there(&mut builder)), "of before");
+    Ok(())
+}
+
+fn empty_lists_are_left_out(builder: &mut Builder, owned: &Vec<u16>) -> bool {
+    let none: &[u16] = &[];
+    let (bytes, signed) = (ByteList(&[]), SignedList(&[]));
+    is_left_out(defaulted::<Offset<List<u16>>, (), &[u16]>(builder, &none, &()))
+        && is_left_out(defaulted::<Offset<List<u16>>, (), Vec<u16>>(builder, owned, &()))
+        && is_left_out(defaulted::<Offset<List<u8>>, (), ByteList<'_>>(builder, &bytes, &()))
+        && is_left_out(defaulted::<Offset<List<i8>>, (), SignedList<'_>>(builder, &signed, &()))
+        && builder.is_empty()
+}
+
+// Each takes its count alone, four bytes.
+fn empty_lists_are_there(builder: &mut Builder, owned: &Vec<u16>) -> bool {
+    let none: &[u16] = &[];
+    let (bytes, signed) = (ByteList(&[]), SignedList(&[]));
+    is_there(optional::<Offset<List<u16>>, &[u16]>(builder, &none))
+        && is_there(optional::<Offset<List<u16>>, Vec<u16>>(builder, owned))
+        && is_there(optional::<Offset<List<u8>>, ByteList<'_>>(builder, &bytes))
+        && is_there(optional::<Offset<List<i8>>, SignedList<'_>>(builder, &signed))
+        && builder.len() == 16
+}
+
+fn lists_are_there(builder: &mut Builder) -> bool {
+    let one: &[u16] = &[1];
+    let written = is_there(defaulted::<Offset<List<u16>>, (), &[u16]>(builder, &one, &()));
+    let after_one = builder.len() == 6;
+    written
+        && after_one
+        && is_there(optional::<Offset<List<u16>>, [u16; 0]>(builder, &[]))
+        && builder.len() == 10
+}
+
+fn lists_are_prepared(builder: &mut Builder, owned: &Vec<u16>) -> Result<bool, BuildError> {
+    let one: &[u16] = &[1];
+    let array = always::<Offset<List<u16>>, [u16; 1]>(builder, &[1])?.distance();
+    let list = always::<Offset<List<u16>>, Vec<u16>>(builder, owned)?.distance();
+    let slice = always::<Offset<List<u16>>, &[u16]>(builder, &one)?.distance();
+    Ok(array == 6 && list == 10 && slice == 18)
+}
+
+fn lists_of_bytes_are_prepared(builder: &mut Builder) -> Result<bool, BuildError> {
+    let bytes = always::<Offset<List<u8>>, ByteList<'_>>(builder, &ByteList(&[1]))?.distance();
+    let signed = always::<Offset<List<i8>>, SignedList<'_>>(builder, &SignedList(&[1]))?.distance();
+    Ok(bytes == 5 && signed == 13)
+}
+
+#[test]
+fn lists(rt: HostRuntime) -> Result<(), Fail> {
+    let owned: Vec<u16> = Vec::new(rt.alloc());
+    let mut builder = without_caches(rt.alloc())?;
+    assert!(rt; empty_lists_are_left_out(&mut builder, &owned), "left out");
+    assert!(rt; empty_lists_are_there(&mut builder, &owned), "empty ones");
+    builder.clear();
+    assert!(rt; lists_are_there(&mut builder), "there");
+    builder.clear();
+    assert!(rt; holds(lists_are_prepared(&mut builder, &owned)), "prepared");
+    builder.clear();
+    assert!(rt; holds(lists_of_bytes_are_prepared(&mut builder)), "bytes");
+    Ok(())
+}
+
+fn unions_are_left_out(builder: &mut Builder) -> bool {
+    let absent: Option<UnionOffset<Drinks>> = None;
+    drink_is(builder, &absent, None) && drink_is(builder, &(), None) && builder.is_empty()
+}
+
+// A union of this tag and what was written last.
+fn last_as_union(builder: &Builder, tag: u8) -> UnionOffset<Drinks>
+    ensures { union_reach result ≤ length builder.now.bytes }
+{
+    UnionOffset::new(tag, builder.current_offset())
+}
+
+fn unions_are_there(alloc: Global, builder: &mut Builder) -> Result<bool, BuildError> {
+    builder.create_string("A")?;
+    let one = last_as_union(builder, 1);
+    let plain = drink_is(builder, &one, Some(1));
+    let one = last_as_union(builder, 2);
+    let optional = drink_is(builder, &Some(one), Some(2));
+    let Ok(one) = Box::new(alloc, last_as_union(builder, 3)) else {
+        return Ok(false);
+    };
+    let boxed = drink_is(builder, &one, Some(3));
+    let one = last_as_union(builder, 4);
+    let by_ref = drink_is(builder, &ByRef(&one), Some(4));
+    Ok(plain && optional && boxed && by_ref && builder.len() == 6)
+}
+
+fn union_vectors_are_left_out(builder: &mut Builder) -> bool {
+    let none: &[UnionOffset<Drinks>] = &[];
+    let absent: Option<&[UnionOffset<Drinks>]> = None;
+    order_is(builder, &none, None)
+        && order_is(builder, &DefaultValue, None)
+        && optional_order_is(builder, &(), None)
+        && optional_order_is(builder, &absent, None)
+        && builder.is_empty()
+}
+
+fn empty_union_vectors_are_there(builder: &mut Builder) -> bool {
+    let none: &[UnionOffset<Drinks>] = &[];
+    optional_order_is(builder, &Some(none), Some((4, 8)))
+        && builder.as_slice() == [0u8; 8].as_slice()
+}
+
+fn written_union_vectors_are_there(builder: &mut Builder) -> Result<bool, BuildError> {
+    let none: &[UnionOffset<Drinks>] = &[];
+    let vector = builder.create_union_vector::<Drinks, &[UnionOffset<Drinks>]>(none)?;
+    let (tags, values) = (vector.tags_offset(), vector.values_offset());
+    if tags.distance() as usize > builder.len() || values.distance() as usize > builder.len() {
+        return Ok(false);
+    }
+    Ok(order_is(builder, &vector, Some((4, 8))) && builder.len() == 8)
+}
+
+#[test]
+fn unions(rt: HostRuntime) -> Result<(), Fail> {
+    let mut builder = without_caches(rt.alloc())?;
+    assert!(rt; unions_are_left_out(&mut builder), "left out");
+    assert!(rt; union_vectors_are_left_out(&mut builder), "lists left out");
+    assert!(rt; empty_union_vectors_are_there(&mut builder), "empty lists");
+    builder.clear();
+    assert!(rt; holds(unions_are_there(rt.alloc(), &mut builder)), "there");
+    builder.clear();
+    assert!(rt;
+        holds(written_union_vectors_are_there(&mut builder)),
+        "written lists"
+    );
+    Ok(())
+}

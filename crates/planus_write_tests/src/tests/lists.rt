@@ -1,0 +1,105 @@
+//! Lists of numbers, truth values and texts.
+
+ghost use Rattle.planus_write.specs.Preparing.{AllMay};
+
+use super::{finishes, holds, prepared};
+use planus_write::{
+    BuildError, Builder, ByRef, ByteList, List, Offset, Primitive, SignedList, Text, VectorWrite,
+};
+use std::alloc::{AllocError, Global};
+use std::test::Fail;
+
+// Whether a list of the items, of which only the bound is known, is finished as these bytes. The
+// builder is empty afterwards.
+fn list_is<P: Primitive, T: VectorWrite<P>>(builder: &mut Builder, items: &[T], want: &[u8]) -> bool
+    requires { AllMay T.may items.now builder.old }
+{
+    let same = match builder.create_vector::<P, &[T]>(items) {
+        Ok(list) => match builder.finish(list, None) {
+            Ok(bytes) => bytes == want,
+            Err(_) => false,
+        },
+        Err(_) => false,
+    };
+    builder.clear();
+    same
+}
+
+const TEXTS: &[u8] = b"\x04\0\0\0\x02\0\0\0\x10\0\0\0\x04\0\0\0\x01\0\0\0B\0\0\0\x01\0\0\0A\0";
+
+fn lists_of_numbers(builder: &mut Builder) -> bool {
+    list_is::<bool, bool>(
+        builder,
+        &[true, false, true],
+        b"\x04\0\0\0\x03\0\0\0\x01\0\x01",
+    ) && list_is::<i16, i16>(builder, &[-2], b"\x04\0\0\0\x01\0\0\0\xfe\xff")
+        && list_is::<i32, ByRef<'_, i32>>(
+            builder,
+            &[ByRef(&-2)],
+            b"\x04\0\0\0\x01\0\0\0\xfe\xff\xff\xff",
+        )
+        && list_is::<u32, u32>(builder, &[], b"\x04\0\0\0\0\0\0\0")
+        && list_is::<Offset<Text>, &str>(builder, &["A", "B"], TEXTS)
+}
+
+fn lists_of_wide_numbers(builder: &mut Builder) -> Result<bool, BuildError> {
+    let wide = b"\x04\0\0\0\x01\0\0\0\x01\0\0\0\0\0\0\0\x02\0\0\0Hi\0".as_slice();
+    builder.create_string("Hi")?;
+    let of_slice = list_is::<u64, u64>(builder, &[1], wide);
+    builder.create_string("Hi")?;
+    let array = builder.create_vector::<u64, [u64; 1]>([1])?;
+    Ok(of_slice && finishes(builder, array, None, wide))
+}
+
+fn lists_of_owned_texts(alloc: Global, builder: &mut Builder) -> Result<bool, AllocError> {
+    let owned = [String::from_str(alloc, "A")?, String::from_str(alloc, "B")?];
+    Ok(list_is::<Offset<Text>, String>(builder, &owned, TEXTS))
+}
+
+fn lists_of_bytes(builder: &mut Builder) -> Result<bool, BuildError> {
+    let bytes = prepared::<List<u8>, ByteList<'_>>(builder, &ByteList(&[72, 105]))?;
+    let signed = prepared::<List<i8>, SignedList<'_>>(builder, &SignedList(&[72, -2]))?;
+    let written = b"\x02\0\0\0H\xfe\0\0\x02\0\0\0Hi".as_slice();
+    Ok(bytes.distance() == 6 && signed.distance() == 14 && builder.as_slice() == written)
+}
+
+#[test]
+fn lists(rt: HostRuntime) -> Result<(), Fail> {
+    let mut builder = Builder::new(rt.alloc())?;
+    assert!(rt; lists_of_numbers(&mut builder), "numbers and texts");
+    assert!(rt; holds(lists_of_wide_numbers(&mut builder)), "wide numbers");
+    builder.clear();
+    let owned = lists_of_owned_texts(rt.alloc(), &mut builder);
+    assert!(rt; matches!(owned, Ok(true)), "owned texts");
+    assert!(rt; holds(lists_of_bytes(&mut builder)), "bytes");
+    Ok(())
+}
+
+// The numbers below 1000, and the finished bytes of their list.
+fn a_thousand(alloc: Global) -> Result<(Vec<u16>, Vec<u8>), AllocError> {
+    let mut items: Vec<u16> = Vec::new(alloc);
+    let mut want: Vec<u8> = Vec::from_slice(alloc, b"\x04\0\0\0\xe8\x03\0\0")?;
+    for index in 0..1000u16 {
+        items.push(index)?;
+        want.extend_from_slice(&index.to_le_bytes())?;
+    }
+    Ok((items, want))
+}
+
+fn a_list_of_a_thousand_numbers_in(
+    builder: &mut Builder,
+    items: Vec<u16>,
+    want: &[u8],
+) -> Result<bool, BuildError> {
+    let list = builder.create_vector::<u16, Vec<u16>>(items)?;
+    Ok(finishes(builder, list, None, want))
+}
+
+#[test]
+fn a_list_of_a_thousand_numbers(rt: HostRuntime) -> Result<(), Fail> {
+    let (items, want) = a_thousand(rt.alloc())?;
+    let mut builder = Builder::new(rt.alloc())?;
+    let found = a_list_of_a_thousand_numbers_in(&mut builder, items, want.as_slice());
+    assert!(rt; holds(found));
+    Ok(())
+}

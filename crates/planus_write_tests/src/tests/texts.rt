@@ -1,0 +1,95 @@
+//! Texts, with and without an identifier, and a long one.
+
+use super::{finishes, holds, prepared};
+use planus_write::{BuildError, Builder, ByRef, Text};
+use std::alloc::{AllocError, Global};
+use std::test::Fail;
+
+const AXE: &[u8] = b"\x04\0\0\0\x03\0\0\0Axe\0";
+
+fn texts_are_finished(builder: &mut Builder) -> Result<bool, BuildError> {
+    let alone = builder.finish("Axe", None)? == AXE;
+    builder.clear();
+    let text = builder.create_string("Axe")?;
+    let again = b"\x08\0\0\0\x04\0\0\0\x03\0\0\0Axe\0";
+    Ok(alone && finishes(builder, text, None, AXE) && finishes(builder, text, None, again))
+}
+
+fn a_named_text_is_finished(builder: &mut Builder) -> Result<bool, BuildError> {
+    builder.finish("Axe", None)?;
+    builder.clear();
+    let text = builder.create_string("Axe")?;
+    let named = b"\x08\0\0\0TEST\x03\0\0\0Axe\0";
+    Ok(finishes(builder, text, Some(*b"TEST"), named))
+}
+
+#[test]
+fn texts(rt: HostRuntime) -> Result<(), Fail> {
+    let mut builder = Builder::new(rt.alloc())?;
+    assert!(rt; holds(texts_are_finished(&mut builder)), "texts");
+    builder.clear();
+    assert!(rt;
+        holds(a_named_text_is_finished(&mut builder)),
+        "a named text"
+    );
+    Ok(())
+}
+
+// The letters up to `p`, over and over.
+fn letters(alloc: Global, times: usize) -> Result<String, AllocError> {
+    let mut text = String::new(alloc);
+    for _ in 0..times {
+        text.push_str("abcdefghijklmnop")?;
+    }
+    Ok(text)
+}
+
+// The finished bytes of a text of one mebibyte, after the text `Hi`.
+fn one_mebibyte(alloc: Global, text: &str) -> Result<Vec<u8>, AllocError> {
+    let mut bytes: Vec<u8> = Vec::new(alloc);
+    bytes.extend_from_slice(b"\x0c\0\0\0\x02\0\0\0Hi\0\0\0\0\x10\0")?;
+    bytes.extend_from_slice(text.as_bytes())?;
+    bytes.push(0)?;
+    Ok(bytes)
+}
+
+fn a_long_text_is_finished(
+    builder: &mut Builder,
+    text: &str,
+    want: &[u8],
+) -> Result<bool, BuildError> {
+    let root = builder.create_string(text)?;
+    builder.create_string("Hi")?;
+    Ok(finishes(builder, root, None, want))
+}
+
+fn a_text_of_one_mebibyte_in(alloc: Global, builder: &mut Builder) -> Result<bool, Fail> {
+    let text = letters(alloc, 65536)?;
+    let want = one_mebibyte(alloc, text.as_str())?;
+    let same = holds(a_long_text_is_finished(builder, text.as_str(), want.as_slice()));
+    Ok(same && want.len() == 1048593)
+}
+
+#[test]
+fn a_text_of_one_mebibyte(rt: HostRuntime) -> Result<(), Fail> {
+    let mut builder = Builder::new(rt.alloc())?;
+    assert!(rt; a_text_of_one_mebibyte_in(rt.alloc(), &mut builder)?);
+    Ok(())
+}
+
+fn wrapped_texts_in(alloc: Global, builder: &mut Builder) -> Result<bool, BuildError> {
+    let Ok(boxed) = Box::new(alloc, "Hi") else {
+        return Ok(false);
+    };
+    let boxed = prepared::<Text, Box<&str>>(builder, &boxed)?;
+    let by_ref = prepared::<Text, ByRef<'_, &str>>(builder, &ByRef(&"Ho"))?;
+    let owned = prepared::<Text, String>(builder, &String::from_str(alloc, "Ha")?)?;
+    Ok(boxed.distance() == 7 && by_ref.distance() == 15 && owned.distance() == 23)
+}
+
+#[test]
+fn wrapped_texts(rt: HostRuntime) -> Result<(), Fail> {
+    let mut builder = Builder::new(rt.alloc())?;
+    assert!(rt; holds(wrapped_texts_in(rt.alloc(), &mut builder)));
+    Ok(())
+}

@@ -1,0 +1,149 @@
+//! Unions and lists of them.
+
+ghost use Rattle.std.specs.Prelude.{◌≤◌, length, IsTrue, IfOk};
+ghost use Rattle.planus_write.specs.Preparing.{AllMay};
+ghost use Rattle.planus_write.specs.Unions.{union_reach};
+
+use super::holds;
+use planus_write::{BuildError, Builder, ByRef, UnionOffset, WriteAsUnion, WriteAsUnionVector};
+use std::alloc::Global;
+use std::test::Fail;
+
+// The union of a tag and a text.
+fn tagged(builder: &mut Builder, tag: u8, text: &str) -> Result<UnionOffset<()>, BuildError> {
+    let text = builder.create_string(text)?;
+    Ok(UnionOffset::new(tag, text.downcast()))
+}
+
+// Whether a list of unions, of which only the bound is known, stands at these distances, its
+// references' first, and the builder has these bytes.
+fn list_stands<X: WriteAsUnionVector<()> + Drop>(
+    builder: &mut Builder,
+    list: X,
+    distances: (u32, u32),
+    want: &[u8],
+) -> bool
+    requires { X.may list builder.old }
+{
+    match builder.create_union_vector(list) {
+        Ok(vector) => {
+            vector.values_offset().distance() == distances.0
+                && vector.tags_offset().distance() == distances.1
+                && builder.as_slice() == want
+        }
+        Err(_) => false,
+    }
+}
+
+// The builder still has what the unions refer to.
+fn are_written(builder: &Builder, first: UnionOffset<()>, second: UnionOffset<()>) -> bool
+    ensures { IsTrue result → (union_reach first ≤ length builder.now.bytes)
+        × (union_reach second ≤ length builder.now.bytes) }
+{
+    first.offset().distance() as usize <= builder.len()
+        && second.offset().distance() as usize <= builder.len()
+}
+
+// The unions of the tags 1 and 2 and the texts `A` and `B`, which the builder has.
+fn two_unions(builder: &mut Builder) -> Result<[UnionOffset<()>; 2], BuildError>
+    ensures { IfOk result (λ unions.
+        AllMay (λ union old. union_reach union ≤ length old.bytes) unions builder.new) }
+{
+    let first = tagged(builder, 1, "A")?;
+    let second = tagged(builder, 2, "B")?;
+    if !are_written(builder, first, second) {
+        return Err(BuildError::TooLarge);
+    }
+    Ok([first, second])
+}
+
+// The bytes of a list of these two.
+const TWO_UNIONS: &[u8] =
+    b"\x02\0\0\0\x01\x02\0\0\x02\0\0\0\x10\0\0\0\x04\0\0\0\x01\0\0\0B\0\0\0\x01\0\0\0A\0";
+
+fn a_list_of_no_unions(builder: &mut Builder) -> bool {
+    let no_unions: [UnionOffset<()>; 0] = [];
+    list_stands(builder, no_unions, (4, 8), b"\0\0\0\0\0\0\0\0")
+}
+
+fn a_list_of_unions(builder: &mut Builder) -> Result<bool, BuildError> {
+    let unions = two_unions(builder)?;
+    let tag = unions[0].tag();
+    Ok(tag == 1 && list_stands(builder, unions, (26, 34), TWO_UNIONS))
+}
+
+fn a_list_of_unions_by_reference(builder: &mut Builder) -> Result<bool, BuildError> {
+    let unions = two_unions(builder)?;
+    Ok(list_stands(builder, ByRef(&unions), (26, 34), TWO_UNIONS))
+}
+
+fn an_owned_list_of_unions(alloc: Global, builder: &mut Builder) -> Result<bool, BuildError> {
+    let unions = two_unions(builder)?;
+    let mut owned: Vec<UnionOffset<()>> = Vec::new(alloc);
+    owned.extend_from_slice(&unions)?;
+    Ok(list_stands(builder, owned, (26, 34), TWO_UNIONS))
+}
+
+// A list that is written already is its own preparing.
+fn a_written_list_of_unions(builder: &mut Builder) -> Result<bool, BuildError> {
+    let unions = two_unions(builder)?;
+    let vector = builder.create_union_vector::<(), [UnionOffset<()>; 2]>(unions)?;
+    let (tags, values) = (vector.tags_offset(), vector.values_offset());
+    if tags.distance() as usize > builder.len() || values.distance() as usize > builder.len() {
+        return Ok(false);
+    }
+    Ok(list_stands(builder, vector, (26, 34), TWO_UNIONS))
+}
+
+#[test]
+fn lists_of_unions(rt: HostRuntime) -> Result<(), Fail> {
+    let mut builder = Builder::new(rt.alloc())?;
+    assert!(rt; a_list_of_no_unions(&mut builder), "none");
+    builder.clear();
+    assert!(rt; holds(a_list_of_unions(&mut builder)), "two");
+    builder.clear();
+    assert!(rt;
+        holds(a_list_of_unions_by_reference(&mut builder)),
+        "by reference"
+    );
+    builder.clear();
+    assert!(rt;
+        holds(an_owned_list_of_unions(rt.alloc(), &mut builder)),
+        "owned"
+    );
+    builder.clear();
+    assert!(rt; holds(a_written_list_of_unions(&mut builder)), "written");
+    Ok(())
+}
+
+// Whether a union, of which only the bound is known, is of tag 7 and at distance 6.
+fn union_stands<X: WriteAsUnion<()>>(builder: &mut Builder, value: &X) -> bool
+    requires { X.may value.now builder.old }
+{
+    match value.prepare(builder) {
+        Ok(union) => union.tag() == 7 && union.offset().distance() == 6,
+        Err(_) => false,
+    }
+}
+
+fn wrapped_unions_in(alloc: Global, builder: &mut Builder) -> Result<bool, BuildError> {
+    let union = tagged(builder, 7, "A")?;
+    if !are_written(builder, union, union) || !union_stands(builder, &ByRef(&union)) {
+        return Ok(false);
+    }
+    let again = tagged(builder, 7, "A")?;
+    if !are_written(builder, again, again) {
+        return Ok(false);
+    }
+    match Box::new(alloc, again) {
+        Ok(boxed) => Ok(union_stands(builder, &boxed)),
+        Err(_) => Ok(false),
+    }
+}
+
+#[test]
+fn wrapped_unions(rt: HostRuntime) -> Result<(), Fail> {
+    let mut builder = Builder::new(rt.alloc())?;
+    assert!(rt; holds(wrapped_unions_in(rt.alloc(), &mut builder)));
+    Ok(())
+}

@@ -1,0 +1,72 @@
+//! Bytes that a filler writes, and what a builder tells of itself.
+
+ghost use Rattle.std.specs.Prelude.{replicate, ⊤};
+
+use super::holds;
+use planus_back::Fill;
+use planus_write::{BuildError, Builder, Text};
+use std::alloc::Global;
+use std::test::Fail;
+
+// Leaves one byte over and over, as often as there is room.
+#[derive(Drop)]
+struct Repeated {
+    byte: u8,
+}
+
+impl Fill for Repeated {
+    ghost fits = { λ _ _ _. ⊤ };
+
+    ghost leaves = { λ filler _ n. replicate n filler.byte };
+
+    fn fill(&self, _place: u32, bytes: &mut [u8]) {
+        bytes.fill(self.byte);
+    }
+}
+
+// Whether the builder has so many bytes, and room for so many.
+fn lengths_are(builder: &Builder, len: usize, room: usize) -> bool {
+    builder.len() == len && builder.is_empty() == (len == 0) && builder.room() == room
+}
+
+fn lengths(builder: &mut Builder) -> Result<bool, BuildError> {
+    let before = lengths_are(builder, 0, 64);
+    builder.write_with(5, 0, &Repeated { byte: 7 })?;
+    let after = lengths_are(builder, 5, 59);
+    builder.clear();
+    Ok(before && after && lengths_are(builder, 0, 64))
+}
+
+// Whether the builder's text begins with its bytes.
+fn shows_bytes(alloc: Global, builder: &Builder) -> bool {
+    let text = "Builder { backing: Backing { inner: [7, 7, 7, 7, 7]";
+    match format!(in alloc; "{builder:?}") {
+        Ok(shown) => shown.as_str().starts_with(text),
+        Err(_) => false,
+    }
+}
+
+fn what_is_last(alloc: Global, builder: &mut Builder) -> Result<bool, BuildError> {
+    builder.write_with(5, 0, &Repeated { byte: 7 })?;
+    let last = builder.current_offset::<Text>();
+    let cloned = matches!(last.clone(), Ok(copy) if copy.distance() == 5);
+    Ok(
+        cloned
+            && last.distance() == 5
+            && last.downcast().distance() == 5
+            && builder.as_slice() == [7; 5].as_slice()
+            && shows_bytes(alloc, builder),
+    )
+}
+
+#[test]
+fn writes(rt: HostRuntime) -> Result<(), Fail> {
+    let mut builder = Builder::with_capacity(rt.alloc(), 64)?;
+    assert!(rt; holds(lengths(&mut builder)), "lengths");
+    builder.clear();
+    assert!(rt;
+        holds(what_is_last(rt.alloc(), &mut builder)),
+        "what is last"
+    );
+    Ok(())
+}
