@@ -71,11 +71,17 @@ FindsUnions replay items answer =
     FindsAll (union_of (values_listed replay)) (union_fault (name_fault replay a_value)) item_of
     replay items answer
 
+-- a number that is the number, if it fits the width; none, if it doesn't
+abbrev pub IsNarrowed : {A : Type 0} → (A → ℕ) → Width → ℕ → Option A → Type 0
+IsNarrowed number_of width number (Some narrow) =
+    (fits_width width number ≡ true) × (number_of narrow ≡ number)
+IsNarrowed number_of width number None = fits_width width number ≡ false
+
 -- the numbers, if all of them fit the width; none, if one doesn't
-abbrev pub Narrowed : Width → List ℕ → Option (Vec ℕ Global) → Type 0
-Narrowed width items (Some numbers) =
-    (list_all (fits_width width) items ≡ true) × (numbers.items ≡ items)
-Narrowed width items None = list_all (fits_width width) items ≡ false
+abbrev pub Narrowed : {A : Type 0} → (A → ℕ) → Width → List ℕ → Option (Vec A Global) → Type 0
+Narrowed number_of width items (Some numbers) =
+    (list_all (fits_width width) items ≡ true) × (map number_of numbers.items ≡ items)
+Narrowed number_of width items None = list_all (fits_width width) items ≡ false
 
 -- A value was written, and noted by what it is named by.
 pub record Noted {A : Type 0} (name : A → Named) (outcome : Outcome A)

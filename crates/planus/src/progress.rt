@@ -13,13 +13,13 @@ ghost use Rattle.planus.specs.Replays.{place_of};
 ghost use Rattle.planus.specs.Kinds.{a_value};
 ghost use Rattle.planus.specs.Names.{name_of, offset_named, vector_named, listed_from, FindsNamed};
 ghost use Rattle.planus.specs.Replaying.{names, state_with, FindsValues, FindsUnions, HasTaken};
-ghost use Rattle.planus.specs.Replaying.{Advanced, AreReached, Narrowed, WritesValue};
+ghost use Rattle.planus.specs.Replaying.{Advanced, AreReached, IsNarrowed, Narrowed, WritesValue};
 ghost use Rattle.planus.specs.Prepared.{PreparesUnion};
 ghost use Rattle.planus.specs.Declaring.{DeclaresTable};
 ghost use Rattle.planus.specs.declared.faults.ReplayError.TheVariants.{BadStep};
-ghost use Rattle.std.specs.Int.{w16, w32, w64};
+ghost use Rattle.std.specs.Int.{Width, w16, w32, w64};
 ghost use Rattle.std.specs.List.{list_all};
-ghost use Rattle.std.specs.Prelude.{true};
+ghost use Rattle.std.specs.Prelude.{ℕ, true};
 ghost use Rattle.planus.specs.Runs.{fits_width};
 ghost use Rattle.planus.specs.Steps as step;
 
@@ -71,29 +71,50 @@ fn places_of(
     Ok(places)
 }
 
-/// The numbers as those of 2 bytes, if all of them fit.
-fn u16s(alloc: Global, items: &[u64]) -> std::result::Result<Option<Vec<u16>>, AllocError>
-    ensures { IfOk result (Narrowed w16 items.now) }
-{
-    let mut numbers = Vec::with_capacity(alloc, items.len())?;
-    for item in items {
-        match u16::try_from(*item) {
-            Ok(number) => numbers.push(number)?,
-            Err(_) => return Ok(None),
-        }
-    }
-    Ok(Some(numbers))
+/// A number of 2 or 4 bytes, as a list of a step may have it.
+trait Narrow: Drop + Sized {
+    ghost width: { Width };
+
+    // Which number it is.
+    ghost number: { Self → ℕ };
+
+    /// The number in this width, if it fits.
+    fn narrow(wide: u64) -> Option<Self>
+        ensures { IsNarrowed number width wide result };
 }
 
-/// The numbers as those of 4 bytes, if all of them fit.
-fn u32s(alloc: Global, items: &[u64]) -> std::result::Result<Option<Vec<u32>>, AllocError>
-    ensures { IfOk result (Narrowed w32 items.now) }
+impl Narrow for u16 {
+    ghost width = { w16 };
+
+    ghost number = { λ n. n };
+
+    fn narrow(wide: u64) -> Option<u16> {
+        u16::try_from(wide).ok()
+    }
+}
+
+impl Narrow for u32 {
+    ghost width = { w32 };
+
+    ghost number = { λ n. n };
+
+    fn narrow(wide: u64) -> Option<u32> {
+        u32::try_from(wide).ok()
+    }
+}
+
+/// The numbers as narrower ones, if all of them fit.
+fn narrowed<T: Narrow>(
+    alloc: Global,
+    items: &[u64],
+) -> std::result::Result<Option<Vec<T>>, AllocError>
+    ensures { IfOk result (Narrowed T.number T.width items.now) }
 {
     let mut numbers = Vec::with_capacity(alloc, items.len())?;
     for item in items {
-        match u32::try_from(*item) {
-            Ok(number) => numbers.push(number)?,
-            Err(_) => return Ok(None),
+        match T::narrow(*item) {
+            Some(number) => numbers.push(number)?,
+            None => return Ok(None),
         }
     }
     Ok(Some(numbers))
@@ -208,11 +229,11 @@ impl Progress {
         ensures { Advanced self.old (step.numbers width items.now) result self.new }
     {
         match width {
-            2 => match u16s(alloc, items)? {
+            2 => match narrowed::<u16>(alloc, items)? {
                 Some(items) => self.write(&items),
                 None => Err(self.bad_step(Why::ValueTooBig)),
             },
-            4 => match u32s(alloc, items)? {
+            4 => match narrowed::<u32>(alloc, items)? {
                 Some(items) => self.write(&items),
                 None => Err(self.bad_step(Why::ValueTooBig)),
             },

@@ -3,65 +3,75 @@
 use crate::names::{NamesError, names_in};
 use crate::ship::Ship;
 use crate::ship_ref::ShipRef;
-use planus::{Builder, ReadAsRoot};
+use planus::{BuildError, Builder, ReadAsRoot};
 use std::alloc::Global;
-use std::process::Abort;
 use std::test::Fail;
 
-fn fields_left_out_in(rt: &impl Abort, builder: &mut Builder) -> Result<(), Fail> {
+// Whether the root is a ship with this name, a hull of 100, and no cargo.
+fn is_empty_ship(bytes: &[u8], name: &str) -> bool {
+    match ShipRef::read_as_root(bytes) {
+        Ok(ship) => {
+            matches!(ship.name(), Ok(read) if read == name)
+                && matches!(ship.hull(), Ok(100))
+                && matches!(ship.cargo(), Ok(None))
+        }
+        Err(_) => false,
+    }
+}
+
+fn fields_are_left_out(builder: &mut Builder) -> Result<bool, BuildError> {
     let ship = Ship::create(builder, "Argo", 100, None)?;
     let bytes = builder.finish(ship, None)?;
-    let ship = ShipRef::read_as_root(bytes)?;
-    assert_eq!(rt; (ship.name()?, ship.hull()?), ("Argo", 100));
-    assert!(rt; ship.cargo()?.is_none(), "no cargo");
-    Ok(())
+    Ok(is_empty_ship(bytes, "Argo"))
 }
 
-#[test]
-fn fields_left_out(rt: HostRuntime) -> Result<(), Fail> {
-    let mut builder = Builder::new(rt.alloc())?;
-    fields_left_out_in(&rt, &mut builder)
+// Whether these are the names of the ships of a list.
+fn names_are(alloc: Global, bytes: &[u8], first: &str, second: &str) -> bool {
+    match names_in(alloc, bytes) {
+        Ok(names) => matches!(names.as_slice(), [a, b] if *a == first && *b == second),
+        Err(_) => false,
+    }
 }
 
-fn a_damaged_name_in(rt: &impl Abort, alloc: Global, builder: &mut Builder) -> Result<(), Fail> {
+// Whether the names can't be read, and the error's text ends so.
+fn names_fail(alloc: Global, bytes: &[u8], end: &str) -> bool {
+    match names_in(alloc, bytes) {
+        Err(NamesError::Read(error)) => match format!(in alloc; "{error}") {
+            Ok(text) => text.as_str().ends_with(end),
+            Err(_) => false,
+        },
+        _ => false,
+    }
+}
+
+fn a_damaged_name_fails(alloc: Global, builder: &mut Builder) -> Result<bool, BuildError> {
     let first = Ship::create(builder, "Argo", 100, None)?;
     let second = Ship::create(builder, "Beagle", 90, Some(&[7]))?;
     let list = [second, first];
     let bytes = builder.finish(&list[..], None)?;
-    let names = match names_in(alloc, bytes) {
-        Ok(names) => names,
-        Err(_) => return Err(Fail::new("no names")),
-    };
-    assert_eq!(rt; names.as_slice(), ["Beagle", "Argo"].as_slice());
     // The last byte of the buffer is the zero byte behind the name that was written first.
     let Some((_last, damaged)) = bytes.split_last() else {
-        return Err(Fail::new("no bytes"));
+        return Ok(false);
     };
-    match names_in(alloc, damaged) {
-        Err(NamesError::Read(e)) => {
-            let text = format!(in alloc; "{e}")?;
-            assert!(rt;
-                text.as_str().ends_with("::name(): Missing null terminator"),
-                "its error"
-            );
-        }
-        _ => assert!(rt; false, "an error"),
-    }
-    match names_in(alloc, &[1]) {
-        Err(NamesError::Read(e)) => {
-            let text = format!(in alloc; "{e}")?;
-            assert_eq!(rt;
-                text.as_str(),
-                "In <[ShipRef]@0>::names_in(): Invalid offset"
-            );
-        }
-        _ => assert!(rt; false, "an error"),
-    }
-    Ok(())
+    Ok(
+        names_are(alloc, bytes, "Beagle", "Argo")
+            && names_fail(alloc, damaged, "::name(): Missing null terminator"),
+    )
 }
 
 #[test]
-fn a_list_with_a_damaged_name(rt: HostRuntime) -> Result<(), Fail> {
+fn ships(rt: HostRuntime) -> Result<(), Fail> {
     let mut builder = Builder::new(rt.alloc())?;
-    a_damaged_name_in(&rt, rt.alloc(), &mut builder)
+    assert!(rt;
+        matches!(fields_are_left_out(&mut builder), Ok(true)),
+        "left out"
+    );
+    builder.clear();
+    assert!(rt;
+        matches!(a_damaged_name_fails(rt.alloc(), &mut builder), Ok(true)),
+        "damaged"
+    );
+    let text = "In <[ShipRef]@0>::names_in(): Invalid offset";
+    assert!(rt; names_fail(rt.alloc(), &[1], text), "one byte");
+    Ok(())
 }

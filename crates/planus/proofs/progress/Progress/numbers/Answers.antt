@@ -1,5 +1,6 @@
-use Rattle.std.proofs.Common.{◌≡◌, ℕ, suc, ◌<◌, List, [], ◌∷◌, Some, ap, subst, true, refl, get_or, arith}
+use Rattle.std.proofs.Common.{◌≡◌, ℕ, suc, ◌<◌, List, [], ◌∷◌, Some, ap, map, subst, true, refl, get_or, arith}
 use Rattle.std.specs.List.{list_all}
+use Rattle.std.proofs.lemmas.List.{map-id}
 use Rattle.std.proofs.lemmas.Bool.Decides.{nat_tests}
 use Rattle.std.proofs.Math.Facts.{Fits-lt-pow}
 use Rattle.planus.specs.Runs.{fits_width}
@@ -14,17 +15,21 @@ use Rattle.planus.specs.Replaying.{Narrowed, WritesValue}
 use Rattle.planus.proofs.Stepping.{numbers_advanced}
 use Rattle.planus.proofs.progress.Progress.numbers.Goals as goal
 
+-- numbers that are the items, each as itself
+same : {items : List ℕ} (numbers : List ℕ) → map (λ n. n) numbers ≡ items → numbers ≡ items
+same {items} numbers are = subst (λ ns. ns ≡ items) (map-id numbers) are
+
 pub returns-in-Some : goal.returns-in-Some
 returns-in-Some c =
-    let narrowed : Narrowed w16 c.args.items.now (Some c.in-Some.items) = subst (Narrowed w16 c.args.items.now) c.in-Some.is c.in_ok-items-in-2.ensures in
+    let narrowed : Narrowed (λ n. n) w16 c.args.items.now (Some c.in-Some.items) = subst (Narrowed (λ n. n) w16 c.args.items.now) c.in-Some.is c.in_ok-items-in-2.ensures in
     numbers_advanced c.args.width w16 c.args.items.now (ap width_of c.in-2.is) narrowed.0 c.args.self.now (ListOf ℕ) c.write.result c.write.new.self
-    (subst (λ xs. WritesValue {A = Offset (ListOf ℕ)} offset_named (WritesList Answers (λ number. plain_item (to_le_bytes w16 number)) 2 2 xs) c.args.self.now c.write.result c.write.new.self) narrowed.1 c.write.ensures)
+    (subst (λ xs. WritesValue {A = Offset (ListOf ℕ)} offset_named (WritesList Answers (λ number. plain_item (to_le_bytes w16 number)) 2 2 xs) c.args.self.now c.write.result c.write.new.self) (same c.in-Some.items.items narrowed.1) c.write.ensures)
 
 pub returns-in-Some-2 : goal.returns-in-Some-2
 returns-in-Some-2 c =
-    let narrowed : Narrowed w32 c.args.items.now (Some c.in-Some-2.items) = subst (Narrowed w32 c.args.items.now) c.in-Some-2.is c.in_ok-items-in-4.ensures in
+    let narrowed : Narrowed (λ n. n) w32 c.args.items.now (Some c.in-Some-2.items) = subst (Narrowed (λ n. n) w32 c.args.items.now) c.in-Some-2.is c.in_ok-items-in-4.ensures in
     numbers_advanced c.args.width w32 c.args.items.now (ap width_of c.in-4.is) narrowed.0 c.args.self.now (ListOf ℕ) c.write-in-Some-2.result c.write-in-Some-2.new.self
-    (subst (λ xs. WritesValue {A = Offset (ListOf ℕ)} offset_named (WritesList Answers (λ number. plain_item (to_le_bytes w32 number)) 4 4 xs) c.args.self.now c.write-in-Some-2.result c.write-in-Some-2.new.self) narrowed.1 c.write-in-Some-2.ensures)
+    (subst (λ xs. WritesValue {A = Offset (ListOf ℕ)} offset_named (WritesList Answers (λ number. plain_item (to_le_bytes w32 number)) 4 4 xs) c.args.self.now c.write-in-Some-2.result c.write-in-Some-2.new.self) (same c.in-Some-2.items.items narrowed.1) c.write-in-Some-2.ensures)
 
 -- numbers of 64 bits fit 8 bytes
 all_fit : (numbers : List ℕ) → ((k : ℕ) → get_or numbers k 0 < 18446744073709551616) → list_all (fits_width w64) numbers ≡ true
