@@ -1,11 +1,13 @@
 //! A weapon, written and read back.
 
+use super::{fails_printing, finish_with, holds};
 use crate::weapon::{Weapon, WeaponRef};
+use planus::errors::ErrorKind;
 use planus::{
-    Builder, DefaultValue, Error, Offset, ReadAsRoot, SliceWithStartOffset, TableRead, Vector,
+    BuildError, Builder, DefaultValue, Error, Offset, ReadAsRoot, SliceWithStartOffset, TableRead,
+    Vector,
 };
 use std::alloc::Global;
-use std::process::Abort;
 use std::test::Fail;
 
 // A weapon with the name `Axe` and a damage of 24, finished.
@@ -19,119 +21,151 @@ const DAMAGED: [&[u8]; 3] = [
     b"\x04\0\0\0\xf4\xff\xff\xff\x10\0\0\0\x18\0\0\0\x08\0\x0a\0\x04\0\x08\0\x03\0\0\0Ax",
 ];
 
-// Finishes with a weapon of before, which the builder still has.
-fn finish_with(builder: &mut Builder, root: Offset<Weapon>) -> Result<&[u8], Fail> {
-    if root.distance() as usize > builder.len() {
-        return Err(Fail::new("the builder has no such weapon"));
-    }
-    Ok(builder.finish(root, None)?)
+// Writes a weapon.
+pub fn weapon(
+    builder: &mut Builder,
+    name: &str,
+    damage: i16,
+) -> Result<Offset<Weapon>, BuildError> {
+    Weapon::create(builder, name, damage)
 }
 
-fn an_axe_in(rt: &impl Abort, builder: &mut Builder) -> Result<(), Fail> {
-    let axe = Weapon::create(builder, "Axe", 24i16)?;
-    let bytes = finish_with(builder, axe)?;
-    assert_eq!(rt; bytes, AXE);
-    let axe = WeaponRef::read_as_root(bytes)?;
-    assert_eq!(rt; axe.name()?, Some("Axe"));
-    assert_eq!(rt; axe.damage()?, 24);
-    Ok(())
+// Whether a weapon has this name.
+fn is_named(weapon: WeaponRef<'_>, name: Option<&str>) -> bool {
+    match weapon.name() {
+        Ok(Some(read)) => matches!(name, Some(name) if name == read),
+        Ok(None) => name.is_none(),
+        Err(_) => false,
+    }
+}
+
+// Whether it has this name and this damage.
+pub fn is_weapon(weapon: WeaponRef<'_>, name: Option<&str>, damage: i16) -> bool {
+    is_named(weapon, name) && matches!(weapon.damage(), Ok(read) if read == damage)
+}
+
+// Whether an item is a weapon of this name and this damage.
+pub fn item_is(item: Option<planus::Result<WeaponRef<'_>>>, name: &str, damage: i16) -> bool {
+    match item {
+        Some(Ok(weapon)) => is_weapon(weapon, Some(name), damage),
+        _ => false,
+    }
+}
+
+// Whether a finish with the weapon gives these bytes, which are read as its name and its damage.
+fn finishes(
+    builder: &mut Builder,
+    root: Offset<Weapon>,
+    want: &[u8],
+    name: Option<&str>,
+    damage: i16,
+) -> bool {
+    match finish_with(builder, root) {
+        Ok(bytes) => bytes == want && reads(bytes, name, damage),
+        Err(_) => false,
+    }
+}
+
+fn reads(bytes: &[u8], name: Option<&str>, damage: i16) -> bool {
+    match WeaponRef::read_as_root(bytes) {
+        Ok(weapon) => is_weapon(weapon, name, damage),
+        Err(_) => false,
+    }
+}
+
+fn an_axe_in(builder: &mut Builder) -> Result<bool, BuildError> {
+    let axe = weapon(builder, "Axe", 24)?;
+    Ok(finishes(builder, axe, AXE, Some("Axe"), 24))
 }
 
 #[test]
 fn an_axe(rt: HostRuntime) -> Result<(), Fail> {
     let mut builder = Builder::new(rt.alloc())?;
-    an_axe_in(&rt, &mut builder)
+    assert!(rt; holds(an_axe_in(&mut builder)));
+    Ok(())
 }
 
-fn fields_left_out_in(rt: &impl Abort, builder: &mut Builder) -> Result<(), Fail> {
+// The word leads to the vtable behind it, which has no slots.
+fn fields_left_out_in(builder: &mut Builder) -> Result<bool, BuildError> {
     let unnamed: Option<&str> = None;
     let nothing = Weapon::create(builder, unnamed, 0i16)?;
-    let bytes = finish_with(builder, nothing)?;
-    // The word leads to the vtable behind it, which has no slots.
-    assert_eq!(rt; bytes, b"\x04\0\0\0\xfc\xff\xff\xff\x04\0\x04\0".as_slice());
-    let weapon = WeaponRef::read_as_root(bytes)?;
-    assert_eq!(rt; (weapon.name()?, weapon.damage()?), (None, 0));
-    Ok(())
+    let want = b"\x04\0\0\0\xfc\xff\xff\xff\x04\0\x04\0";
+    Ok(finishes(builder, nothing, want, None, 0))
 }
 
-fn name_left_out_in(rt: &impl Abort, builder: &mut Builder) -> Result<(), Fail> {
+fn name_left_out_in(builder: &mut Builder) -> Result<bool, BuildError> {
     let unnamed = Weapon::create(builder, (), -3i16)?;
-    let weapon = WeaponRef::read_as_root(finish_with(builder, unnamed)?)?;
-    assert_eq!(rt; (weapon.name()?, weapon.damage()?), (None, -3));
-    Ok(())
+    let want = b"\x04\0\0\0\xfa\xff\xff\xff\xfd\xff\x08\0\x06\0\0\0\x04\0";
+    Ok(finishes(builder, unnamed, want, None, -3))
 }
 
-fn damage_left_out_in(rt: &impl Abort, builder: &mut Builder) -> Result<(), Fail> {
+fn damage_left_out_in(builder: &mut Builder) -> Result<bool, BuildError> {
     let harmless = Weapon::create(builder, Some("Feather"), DefaultValue)?;
-    let weapon = WeaponRef::read_as_root(finish_with(builder, harmless)?)?;
-    assert_eq!(rt; (weapon.name()?, weapon.damage()?), (Some("Feather"), 0));
-    Ok(())
+    let want = b"\x04\0\0\0\xf6\xff\xff\xff\x0c\0\0\0\0\0\x06\0\x08\0\x04\0\x07\0\0\0Feather\0";
+    Ok(finishes(builder, harmless, want, Some("Feather"), 0))
 }
 
 #[test]
 fn fields_left_out(rt: HostRuntime) -> Result<(), Fail> {
     let mut builder = Builder::new(rt.alloc())?;
-    fields_left_out_in(&rt, &mut builder)?;
+    assert!(rt; holds(fields_left_out_in(&mut builder)), "both");
     builder.clear();
-    name_left_out_in(&rt, &mut builder)?;
+    assert!(rt; holds(name_left_out_in(&mut builder)), "the name");
     builder.clear();
-    damage_left_out_in(&rt, &mut builder)
+    assert!(rt; holds(damage_left_out_in(&mut builder)), "the damage");
+    Ok(())
+}
+
+// Whether the name isn't read, and the damage is.
+fn name_fails(alloc: Global, bytes: &[u8]) -> bool {
+    let Ok(weapon) = WeaponRef::read_as_root(bytes) else {
+        return false;
+    };
+    let text = "In <Weapon@4>::name(): Missing null terminator";
+    fails_printing(alloc, weapon.name(), text) && matches!(weapon.damage(), Ok(24))
+}
+
+// Whether three bytes are no weapon.
+fn root_fails(alloc: Global) -> bool {
+    let text = "In <[WeaponRef]@0>::read_as_root(): Invalid offset";
+    fails_printing(alloc, WeaponRef::read_as_root(&[0, 0, 0]), text)
 }
 
 #[test]
-fn damaged_bytes(rt: HostRuntime) -> Result<(), Fail> {
+fn damaged_bytes(rt: HostRuntime) {
     for bytes in DAMAGED {
-        let weapon = WeaponRef::read_as_root(bytes)?;
-        match weapon.name() {
-            Ok(_) => assert!(rt; false, "a name"),
-            Err(e) => {
-                let text = format!(in rt.alloc(); "{e}")?;
-                assert_eq!(rt;
-                    text.as_str(),
-                    "In <Weapon@4>::name(): Missing null terminator"
-                );
-            }
-        }
-        assert_eq!(rt; weapon.damage()?, 24);
+        assert!(rt; name_fails(rt.alloc(), bytes), "{} bytes", bytes.len());
     }
-    match WeaponRef::read_as_root(&[0, 0, 0]) {
-        Ok(_) => assert!(rt; false, "a weapon"),
-        Err(e) => {
-            let text = format!(in rt.alloc(); "{e}")?;
-            assert_eq!(rt;
-                text.as_str(),
-                "In <[WeaponRef]@0>::read_as_root(): Invalid offset"
-            );
-        }
-    }
-    Ok(())
+    assert!(rt; root_fails(rt.alloc()), "a root");
 }
 
-fn a_list_of_weapons_in(rt: &impl Abort, alloc: Global, builder: &mut Builder) -> Result<(), Fail> {
-    let axe = Weapon::create(builder, "Axe", 24i16)?;
-    let bow = Weapon::create(builder, "Bow", 12i16)?;
+// Whether a finished list is that of an axe and a bow.
+fn axe_and_bow_are_read(bytes: &[u8]) -> bool {
+    let whole = SliceWithStartOffset::new(bytes, 0);
+    let list: Result<Vector<'_, Result<WeaponRef<'_>, Error>>, ErrorKind> = TableRead::from_buffer(
+        whole, 0,
+    );
+    let Ok(weapons) = list else {
+        return false;
+    };
+    let mut items = weapons.iter();
+    item_is(items.next(), "Axe", 24) && item_is(items.next(), "Bow", 12) && items.next().is_none()
+}
+
+fn a_list_of_weapons_in(builder: &mut Builder) -> Result<bool, BuildError> {
+    let axe = weapon(builder, "Axe", 24)?;
+    let bow = weapon(builder, "Bow", 12)?;
     let length = builder.len();
     if axe.distance() as usize > length || bow.distance() as usize > length {
-        return Err(Fail::new("the builder has no such weapon"));
+        return Ok(false);
     }
     let list = [axe, bow];
-    let bytes = builder.finish(&list[..], None)?;
-    let whole = SliceWithStartOffset::new(bytes, 0);
-    let weapons: Vector<'_, Result<WeaponRef<'_>, Error>> = TableRead::from_buffer(whole, 0)?;
-    let mut read = Vec::new(alloc);
-    for weapon in weapons.iter() {
-        let weapon = weapon?;
-        read.push((weapon.name()?, weapon.damage()?))?;
-    }
-    assert_eq!(rt;
-        read.as_slice(),
-        [(Some("Axe"), 24), (Some("Bow"), 12)].as_slice()
-    );
-    Ok(())
+    Ok(axe_and_bow_are_read(builder.finish(&list[..], None)?))
 }
 
 #[test]
 fn a_list_of_weapons(rt: HostRuntime) -> Result<(), Fail> {
     let mut builder = Builder::new(rt.alloc())?;
-    a_list_of_weapons_in(&rt, rt.alloc(), &mut builder)
+    assert!(rt; holds(a_list_of_weapons_in(&mut builder)));
+    Ok(())
 }

@@ -1,0 +1,191 @@
+//! Scripts and what they print.
+
+use super::prints;
+
+// Scripts, what they print, and whether they are clean.
+const ROWS: &[(&str, &str, bool)] = &[
+    ("", "", true),
+    (
+        "text Axe\nfinish 0\n",
+        "04 00 00 00 03 00 00 00 41 78 65 00\n",
+        true,
+    ),
+    (
+        "text Axe\nfinish 0",
+        "04 00 00 00 03 00 00 00 41 78 65 00\n",
+        true,
+    ),
+    (
+        "text Hi\ntext Hi\nfinish 1\n",
+        "04 00 00 00 02 00 00 00 48 69 00\n",
+        true,
+    ),
+    (
+        "text\nfinish 0 TEST\n",
+        "08 00 00 00 54 45 53 54 00 00 00 00 00\n",
+        true,
+    ),
+    ("text\nfinish 0\n", "04 00 00 00 00 00 00 00 00\n", true),
+    (
+        "text Axe\nfinish 0\nfinish 0\n",
+        "04 00 00 00 03 00 00 00 41 78 65 00\n08 00 00 00 04 00 00 00 03 00 00 00 41 78 65 00\n",
+        true,
+    ),
+    (
+        "text Hi\nclear\ntext Axe\nfinish 2\n",
+        "04 00 00 00 03 00 00 00 41 78 65 00\n",
+        true,
+    ),
+    (
+        "# a comment\n\ntext Axe\nfinish 0\n",
+        "04 00 00 00 03 00 00 00 41 78 65 00\n",
+        true,
+    ),
+    (
+        "text A\nfinish 0\nfinish 1\n",
+        "line 3: wrong kind\n",
+        false,
+    ),
+    ("text A\nfinish 1\n", "line 2: no such step\n", false),
+    ("text A\nclear\nfinish 0\n", "line 3: no such step\n", false),
+    ("clear\nfinish 0\n", "line 2: no such step\n", false),
+    ("finish 0\n", "line 1: no such step\n", false),
+    ("\n# a comment\nfinish 0\n", "line 3: no such step\n", false),
+    (
+        "text A\nfinish 18446744073709551615\n",
+        "line 2: no such step\n",
+        false,
+    ),
+    ("text A\ntexts\n", "line 2: unknown command\n", false),
+    ("text A\nfinish\n", "line 2: unknown command\n", false),
+    (
+        "text A\nfinish 0 TEST more\n",
+        "line 2: unknown command\n",
+        false,
+    ),
+    ("clear now\n", "line 1: unknown command\n", false),
+    ("text A\nfinish  0\n", "line 2: bad number\n", false),
+    (
+        "text A\nfinish 18446744073709551616\n",
+        "line 2: bad number\n",
+        false,
+    ),
+    ("text A\nfinish +0\n", "line 2: bad number\n", false),
+    ("text A\nfinish 0 TES\n", "line 2: bad identifier\n", false),
+    ("text A\nfinish 0 \n", "line 2: bad identifier\n", false),
+    ("text A\nfinish x TES\n", "line 2: bad number\n", false),
+    ("finish 0\ntexts\n", "line 2: unknown command\n", false),
+    (
+        "u16 1 2\nfinish 0\n",
+        "04 00 00 00 02 00 00 00 01 00 02 00\n",
+        true,
+    ),
+    (
+        "text Hi\nu64 1\nfinish 1\n",
+        "04 00 00 00 01 00 00 00 01 00 00 00 00 00 00 00 02 00 00 00 48 69 00\n",
+        true,
+    ),
+    (
+        "u32 4294967295\nfinish 0\n",
+        "04 00 00 00 01 00 00 00 ff ff ff ff\n",
+        true,
+    ),
+    (
+        "bytes 417865\nfinish 0\n",
+        "04 00 00 00 03 00 00 00 41 78 65\n",
+        true,
+    ),
+    ("bytes\nfinish 0\n", "04 00 00 00 00 00 00 00\n", true),
+    (
+        "text A\ntext B\nrefs 0 1\nfinish 2\n",
+        "04 00 00 00 02 00 00 00 10 00 00 00 04 00 00 00 \
+        01 00 00 00 42 00 00 00 01 00 00 00 41 00\n",
+        true,
+    ),
+    ("u16 65536\n", "line 1: value too big\n", false),
+    ("u16 65535 65536\ntext\n", "line 1: value too big\n", false),
+    ("u32 4294967296\n", "line 1: value too big\n", false),
+    ("u16 1  2\n", "line 1: bad number\n", false),
+    ("u16 1 \n", "line 1: bad number\n", false),
+    ("bytes 0\n", "line 1: bad hex\n", false),
+    ("bytes 0g\n", "line 1: bad hex\n", false),
+    ("bytes 00 \n", "line 1: bad hex\n", false),
+    ("bytes \n", "line 1: bad hex\n", false),
+    ("bytes 00 11\n", "line 1: bad hex\n", false),
+    ("refs 5\n", "line 1: no such step\n", false),
+    (
+        "text A\nfinish 0\nrefs 0 1 7\n",
+        "line 3: wrong kind\n",
+        false,
+    ),
+    (
+        "table\nfinish 0\n",
+        "04 00 00 00 fc ff ff ff 04 00 04 00\n",
+        true,
+    ),
+    (
+        "table 0=u64:1 2=u8:2\nfinish 0\n",
+        "04 00 00 00 f2 ff ff ff 01 00 00 00 00 00 00 00 \
+        02 00 0a 00 0d 00 04 00 00 00 0c 00\n",
+        true,
+    ),
+    (
+        "text Axe\ntable 0=ref:0 1=u16:24\nfinish 1\n",
+        "04 00 00 00 f4 ff ff ff 10 00 00 00 18 00 00 00 \
+        08 00 0a 00 04 00 08 00 03 00 00 00 41 78 65 00\n",
+        true,
+    ),
+    (
+        "table 0=u16:24\ntable 0=u16:7\nfinish 1\n",
+        "04 00 00 00 f2 ff ff ff 07 00 00 00 fa ff ff ff 18 00 06 00 06 00 04 00\n",
+        true,
+    ),
+    ("table 0:u8=1\n", "line 1: bad field\n", false),
+    ("table 0=u24:1\n", "line 1: bad field\n", false),
+    ("table \n", "line 1: bad field\n", false),
+    ("table x=y\n", "line 1: bad field\n", false),
+    ("table x=u8:1\n", "line 1: bad number\n", false),
+    ("table 0=u8:x\n", "line 1: bad number\n", false),
+    ("table 3=u8:1 3=u8:2\n", "line 1: slot twice\n", false),
+    (
+        "table 0=u16:1 1=u32:2\n",
+        "line 1: rising alignment\n",
+        false,
+    ),
+    ("table 256=u8:1\n", "line 1: slot too big\n", false),
+    ("table 65536=u8:1\n", "line 1: slot too big\n", false),
+    (
+        "table 18446744073709551615=u8:1\n",
+        "line 1: slot too big\n",
+        false,
+    ),
+    ("table 0=u8:256\n", "line 1: value too big\n", false),
+    ("table 0=ref:0\n", "line 1: no such step\n", false),
+    (
+        "text A\ntext B\nunions 1:0 2:1\ntable 0=tags:2 1=values:2\nfinish 3\n",
+        "04 00 00 00 f4 ff ff ff 10 00 00 00 14 00 00 00 08 00 0c 00 04 00 08 00 \
+        02 00 00 00 01 02 00 00 02 00 00 00 10 00 00 00 04 00 00 00 \
+        01 00 00 00 42 00 00 00 01 00 00 00 41 00\n",
+        true,
+    ),
+    ("unions\nfinish 0\n", "line 2: wrong kind\n", false),
+    ("unions 0:0\n", "line 1: zero tag\n", false),
+    ("unions 1:1\n", "line 1: no such step\n", false),
+    ("unions \n", "line 1: bad field\n", false),
+    ("unions 1\n", "line 1: bad field\n", false),
+    ("unions 256:x\n", "line 1: bad field\n", false),
+    ("unions x:0\n", "line 1: bad number\n", false),
+    ("unions 1:x\n", "line 1: bad number\n", false),
+    ("text A\ntable 0=tags:0\n", "line 2: wrong kind\n", false),
+    ("unions\ntable 0=ref:0\n", "line 2: wrong kind\n", false),
+];
+
+#[test]
+fn scripts(rt: HostRuntime) {
+    for (script, printed, clean) in ROWS {
+        let same = prints(rt.alloc(), script.as_bytes(), 0, printed.as_bytes(), *clean);
+        assert!(rt; same, "{script}");
+    }
+    let (script, printed) = (b"text \xff\n", b"line 1: not utf-8\n");
+    assert!(rt; prints(rt.alloc(), script, 0, printed, false), "not utf-8");
+}
