@@ -1,4 +1,4 @@
-ghost use Rattle.std.specs.Prelude.{◌≡◌, ◌%◌, [], ◌∷◌, map, OnOk};
+ghost use Rattle.std.specs.Prelude.{◌≡◌, ◌≤◌, ◌+◌, ◌%◌, [], ◌∷◌, map, OnOk};
 ghost use Rattle.std.specs.Int.{w8, cast_unsigned};
 ghost use Rattle.planus_back.specs.CacheKeys.{bytes_in};
 ghost use Rattle.planus_back.specs.Caches.{Fits, IsFound};
@@ -6,16 +6,18 @@ ghost use Rattle.planus_back.specs.Caches.{Fits, IsFound};
 use planus_back::{
     BackVec, ByteVec, Cache, Fill, GetCacheKey, Overwrite, Promises, TooLarge, VTable, laws,
 };
+use std::alloc::AllocError;
 use std::test::Fail;
+
+// Whether a part of this size is too large behind 2147483640 bytes.
+fn is_too_large(size: usize) -> bool {
+    matches!(Promises::new().request(2147483640, size, 0), Err(TooLarge))
+}
 
 #[test]
 fn greatest_place_is_the_last(rt: HostRuntime) {
-    let last = Promises::new().request(2147483640, 7, 0);
-    assert!(rt; matches!(last, Ok((_, 0))));
-    let refused = Promises::new().request(2147483640, 8, 0);
-    assert!(rt; matches!(refused, Err(TooLarge)));
-    let refused = Promises::new().request(2147483640, usize::MAX, 0);
-    assert!(rt; matches!(refused, Err(TooLarge)));
+    assert!(rt; matches!(Promises::new().request(2147483640, 7, 0), Ok((_, 0))));
+    assert!(rt; is_too_large(8) && is_too_large(usize::MAX));
 }
 
 // Writes its place, modulo 256, into its one byte.
@@ -41,76 +43,129 @@ impl Overwrite for PlaceByte {
     }
 }
 
-#[test]
-fn grows_at_its_front(rt: HostRuntime) -> Result<(), Fail> {
-    let mut bytes = BackVec::with_capacity(rt.alloc(), 0)?;
-    assert_eq!(rt; bytes.room(), 16);
+// Whether the vector has these bytes, and room for so many more.
+fn holds(vector: &BackVec, bytes: &[u8], room: usize) -> bool {
+    vector.as_slice() == bytes && vector.len() == bytes.len() && vector.room() == room
+}
+
+fn grows_by_each_call(bytes: &mut BackVec) -> Result<bool, AllocError> {
+    let empty = holds(bytes, b"", 16);
     bytes.extend_from_slice(b"end")?;
     bytes.extend_with_zeros(2)?;
     bytes.extend_write(262, 1, &PlaceByte)?;
-    assert_eq!(rt; bytes.as_slice(), [6u8, 0, 0, 101, 110, 100].as_slice());
-    assert_eq!(rt; (bytes.len(), bytes.room()), (6, 10));
+    let fits = holds(bytes, b"\x06\0\0end", 10);
     bytes.extend_from_slice(b"0123456789x")?;
-    assert_eq!(rt; bytes.as_slice(), b"0123456789x\x06\0\0end".as_slice());
-    assert_eq!(rt; bytes.room(), 15);
+    Ok(empty && fits && holds(bytes, b"0123456789x\x06\0\0end", 15))
+}
+
+fn goes_on_after_clear(bytes: &mut BackVec) -> Result<bool, AllocError> {
     bytes.clear();
-    assert_eq!(rt; (bytes.len(), bytes.room()), (0, 32));
+    let cleared = holds(bytes, b"", 32);
     bytes.extend_with_zeros(2)?;
     let text = format!(in bytes.alloc(); "{bytes:?}")?;
-    assert_eq!(rt; text.as_str(), "[0, 0]");
     bytes.reserve(100)?;
-    assert_eq!(rt; (bytes.len(), bytes.room()), (2, 100));
-    Ok(())
+    Ok(cleared && text.as_str() == "[0, 0]" && holds(bytes, b"\0\0", 100))
 }
 
 #[test]
-fn puts_into_its_room(rt: HostRuntime) -> Result<(), Fail> {
-    let mut bytes = BackVec::with_capacity(rt.alloc(), 40)?;
-    if bytes.room() < 40 {
-        assert!(rt; false, "no room");
-        return Ok(());
-    }
+fn grows_at_its_front(rt: HostRuntime) -> Result<(), Fail> {
+    let mut bytes = BackVec::with_capacity(rt.alloc(), 0)?;
+    assert!(rt;
+        matches!(grows_by_each_call(&mut bytes), Ok(true)),
+        "each call"
+    );
+    assert!(rt;
+        matches!(goes_on_after_clear(&mut bytes), Ok(true)),
+        "after a clear"
+    );
+    Ok(())
+}
+
+// Puts 15 bytes by each call.
+fn put_each(bytes: &mut BackVec)
+    requires { 15 ≤ bytes.old.room }
+    ensures { bytes.new.room + 15 ≡ bytes.old.room }
+{
     bytes.put_slice(b"end");
     bytes.put_three(b"<", b"body", b">>");
     bytes.put_zeros(0);
     bytes.put_zeros(3);
     bytes.put_filled(262, 1, &PlaceByte);
     bytes.put_overwritten(7, 1, &PlaceByte);
-    assert_eq!(rt; bytes.as_slice(), b"\x07\x06\0\0\0<body>>end".as_slice());
-    assert_eq!(rt; (bytes.len(), bytes.room()), (15, 25));
+}
+
+fn puts_each(bytes: &mut BackVec) -> bool {
+    if bytes.room() != 40 {
+        return false;
+    }
+    put_each(bytes);
+    let put = holds(bytes, b"\x07\x06\0\0\0<body>>end", 25);
     bytes.put_zeros(9);
     bytes.put_zeros(16);
-    assert_eq!(rt; (bytes.len(), bytes.room()), (40, 0));
-    assert_eq!(rt; &bytes.as_slice()[..25], [0u8; 25].as_slice());
+    put && bytes.room() == 0 && bytes.as_slice().starts_with(&[0; 25]) && bytes.len() == 40
+}
+
+#[test]
+fn puts_into_its_room(rt: HostRuntime) -> Result<(), Fail> {
+    let mut bytes = BackVec::with_capacity(rt.alloc(), 40)?;
+    assert!(rt; puts_each(&mut bytes));
     Ok(())
+}
+
+// Whether growths beyond all memory are refused, and change nothing.
+fn refusals_change_nothing(bytes: &mut BackVec) -> Result<bool, AllocError> {
+    bytes.extend_from_slice(b"end")?;
+    Ok(
+        bytes.reserve(1 << 62).is_err()
+            && bytes.extend_with_zeros(usize::MAX).is_err()
+            && holds(bytes, b"end", 17),
+    )
 }
 
 #[test]
 fn a_refusal_changes_nothing(rt: HostRuntime) -> Result<(), Fail> {
     assert!(rt; BackVec::with_capacity(rt.alloc(), 1 << 62).is_err());
     let mut bytes = BackVec::with_capacity(rt.alloc(), 20)?;
-    bytes.extend_from_slice(b"end")?;
-    assert!(rt; bytes.reserve(1 << 62).is_err());
-    assert!(rt; bytes.extend_with_zeros(usize::MAX).is_err());
-    assert_eq!(rt; (bytes.as_slice(), bytes.room()), (&b"end"[..], 17));
+    assert!(rt; matches!(refusals_change_nothing(&mut bytes), Ok(true)));
     Ok(())
 }
 
+// Whether this key, or none, stands at the distance.
+fn has_key<K: GetCacheKey>(bytes: &[u8], distance: u32, want: Option<&[u8]>) -> bool {
+    match (K::key_at(bytes, distance), want) {
+        (Some(key), Some(want)) => key == want,
+        (None, None) => true,
+        _ => false,
+    }
+}
+
+const KEYS: &[u8] = b"\x09\0\x02\0\0\0Hi\x06\0\x04\0\x01\0";
+
+const VTABLE: &[u8] = b"\x06\0\x04\0\x01\0";
+
 #[test]
 fn keys_lie_wholly_in_the_bytes(rt: HostRuntime) {
-    let bytes = b"\x09\0\x02\0\0\0Hi\x06\0\x04\0\x01\0".as_slice();
-    assert_eq!(rt; ByteVec::key_at(bytes, 12), Some(b"Hi".as_slice()));
-    assert_eq!(rt; ByteVec::key_at(bytes, 14), None);
-    assert_eq!(rt; ByteVec::key_at(bytes, 15), None);
-    assert_eq!(rt; ByteVec::key_at(bytes, 3), None);
-    assert_eq!(rt; ByteVec::key_at(bytes, 0), None);
-    assert_eq!(rt; ByteVec::key_at(b"\0\0\0\0", 4), Some(b"".as_slice()));
-    let vtable = b"\x06\0\x04\0\x01\0".as_slice();
-    assert_eq!(rt; VTable::key_at(bytes, 6), Some(vtable));
-    assert_eq!(rt; VTable::key_at(vtable, 4), Some(b"\x04\0\x01\0".as_slice()));
-    assert_eq!(rt; VTable::key_at(b"\x07\0\x04\0\x01\0", 6), None);
-    assert_eq!(rt; VTable::key_at(bytes, 1), None);
-    assert_eq!(rt; VTable::key_at(bytes, 15), None);
+    let lists: [(&[u8], u32, Option<&[u8]>); 6] = [
+        (KEYS, 12, Some(b"Hi")),
+        (KEYS, 14, None),
+        (KEYS, 15, None),
+        (KEYS, 3, None),
+        (KEYS, 0, None),
+        (b"\0\0\0\0", 4, Some(b"")),
+    ];
+    for (bytes, distance, want) in lists {
+        assert!(rt; has_key::<ByteVec>(bytes, distance, want), "at {distance}");
+    }
+    let vtables: [(&[u8], u32, Option<&[u8]>); 5] = [
+        (KEYS, 6, Some(VTABLE)),
+        (VTABLE, 4, Some(b"\x04\0\x01\0")),
+        (b"\x07\0\x04\0\x01\0", 6, None),
+        (KEYS, 1, None),
+        (KEYS, 15, None),
+    ];
+    for (bytes, distance, want) in vtables {
+        assert!(rt; has_key::<VTable>(bytes, distance, want), "at {distance}");
+    }
 }
 
 // Adds a distance at which the key stands in the bytes.
@@ -161,24 +216,33 @@ fn get_signed(cache: &Cache<ByteVec>, bytes: &[u8], key: &[i8]) -> Option<u32>
     cache.get_signed_in(cache.bucket_of_signed(key), bytes, key)
 }
 
+const TWO_KEYS: &[u8] = b"\x02\0\0\0H\xfe\x02\0\0\0Hi";
+
+// Adds the two keys, and tells what is found before and behind each.
+fn keys_are_found(cache: &mut Cache<ByteVec>, bytes: &[u8]) -> Result<bool, Fail>
+    requires { Fits bytes_in cache.old bytes.now }
+{
+    let none = cache.get(bytes, b"Hi").is_none();
+    add(cache, bytes, b"Hi", 6)?;
+    let first = cache.get(bytes, b"Hi") == Some(6)
+        && get_signed(cache, bytes, &[72, 105]) == Some(6)
+        && get_signed(cache, bytes, &SIGNED).is_none();
+    add_signed(cache, bytes, 12)?;
+    let second = cache.get(bytes, b"Hi") == Some(6)
+        && cache.get(bytes, b"H\xfe") == Some(12)
+        && get_signed(cache, bytes, &SIGNED) == Some(12)
+        && cache.get(bytes, b"H").is_none();
+    Ok(none && first && second)
+}
+
 #[test]
 fn caches_find_equal_keys(rt: HostRuntime) -> Result<(), Fail> {
-    let bytes = b"\x02\0\0\0H\xfe\x02\0\0\0Hi".as_slice();
+    laws::empty_caches_fit::<ByteVec>();
     for mask in [u64::MAX, 1, 0] {
         let mut cache: Cache<ByteVec> = Cache::new(rt.alloc(), mask)?;
-        laws::empty_caches_fit::<ByteVec>();
-        assert_eq!(rt; cache.get(bytes, b"Hi"), None);
-        add(&mut cache, bytes, b"Hi", 6)?;
-        assert_eq!(rt; cache.get(bytes, b"Hi"), Some(6));
-        assert_eq!(rt; get_signed(&cache, bytes, &[72, 105]), Some(6));
-        assert_eq!(rt; get_signed(&cache, bytes, &SIGNED), None);
-        add_signed(&mut cache, bytes, 12)?;
-        assert_eq!(rt; cache.get(bytes, b"Hi"), Some(6));
-        assert_eq!(rt; cache.get(bytes, b"H\xfe"), Some(12));
-        assert_eq!(rt; get_signed(&cache, bytes, &SIGNED), Some(12));
-        assert_eq!(rt; cache.get(bytes, b"H"), None);
+        assert!(rt; keys_are_found(&mut cache, TWO_KEYS)?, "{mask}");
         cache.clear();
-        assert_eq!(rt; cache.get(bytes, b"Hi"), None);
+        assert!(rt; cache.get(TWO_KEYS, b"Hi").is_none(), "{mask}");
     }
     Ok(())
 }

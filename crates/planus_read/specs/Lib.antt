@@ -13,6 +13,7 @@ pub mod Heads
 pub mod Located
 pub mod SignedBytes
 pub mod Tables
+pub mod Items
 pub mod Places
 pub mod Converted
 pub mod ReadingLaws

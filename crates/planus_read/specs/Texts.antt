@@ -1,5 +1,5 @@
 -- The texts that errors print.
-use Rattle.std.specs.Prelude.{ℕ, List, [], ◌++◌, ◌==◌, false, codes, Option, Some, None}
+use Rattle.std.specs.Prelude.{ℕ, ◌-◌, ◌^◌, List, [], ◌++◌, ◌==◌, false, codes, Option, Some, None}
 use Rattle.std.specs.Prelude.{if◌then◌else◌}
 use Rattle.std.specs.Fmt.{decimal, signed_decimal, digits}
 use Rattle.std.specs.Str.{valid_up_to, error_len}
@@ -12,7 +12,6 @@ use Rattle.planus_read.specs.declared.errors.ErrorKind.TheVariants.{InvalidVtabl
 use Rattle.planus_read.specs.declared.errors.ErrorKind.TheVariants.{InvalidUtf8, MissingRequired}
 use Rattle.planus_read.specs.declared.errors.ErrorKind.TheVariants.{MissingNullTerminator}
 use Rattle.planus_read.specs.declared.errors.UnknownEnumTagKind.{UnknownEnumTagKind}
-use Rattle.planus_read.specs.declared.located.TheConstants.{NO_OFFSET}
 use Rattle.planus_read.specs.declared.located.ErrorLocation.{ErrorLocation}
 use Rattle.planus_read.specs.declared.located.Error.{Error}
 use Rattle.planus_read.specs.declared.located.UnknownEnumTag.{UnknownEnumTag}
@@ -45,11 +44,15 @@ kind_text (InvalidUtf8 source) =
 kind_text MissingRequired = codes "Missing required field"
 kind_text MissingNullTerminator = codes "Missing null terminator"
 
+-- the offset of a location that has none: the greatest of 64 bits
+abbrev pub no_offset : ℕ
+no_offset = 2 ^ 64 - 1
+
 -- the type, the offset in lower-case hexadecimal where there is one, and the method
 abbrev pub location_text : ErrorLocation → List ℕ
 location_text location =
     codes "<" ++ location.type_.now
-    ++ (if location.byte_offset == NO_OFFSET then []
+    ++ (if location.byte_offset == no_offset then []
     else codes "@" ++ digits 16 false location.byte_offset)
     ++ codes ">::" ++ location.method.now ++ codes "()"
 

@@ -55,15 +55,15 @@ impl<'buf> TableRead<'buf> for Place<'buf> {
 }
 
 impl<'buf> Stride for Place<'buf> {
-    ghost use Rattle.planus_read.specs.declared.heads.TheConstants.{REFERENCE_SIZE};
+    ghost use Rattle.planus_read.specs.Items.{reference_size};
 
-    ghost STRIDE = { REFERENCE_SIZE };
+    ghost STRIDE = { reference_size };
 
     ghost is_positive = { lit≤ tt };
 
     #[inline]
     fn stride() -> usize
-        ensures { result ≡ REFERENCE_SIZE }
+        ensures { result ≡ reference_size }
     {
         REFERENCE_SIZE
     }
@@ -119,13 +119,13 @@ impl<'buf> TableReadUnion<'buf> for TaggedPlace<'buf> {
 }
 
 impl<'buf> VectorName for TaggedPlace<'buf> {
-    ghost use Rattle.planus_read.specs.declared.place.TheConstants.{VECTOR_NAME};
+    ghost use Rattle.planus_read.specs.Items.{unions_name};
 
-    ghost name = { VECTOR_NAME.now };
+    ghost name = { unions_name };
 
     #[inline]
     fn vector_name() -> &'static str
-        ensures { result.now ≡ VECTOR_NAME.now }
+        ensures { result.now ≡ unions_name }
     {
         VECTOR_NAME
     }

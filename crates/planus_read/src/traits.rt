@@ -4,6 +4,7 @@ ghost use Rattle.std.specs.Prelude.{◌≡◌, ◌≤◌, ◌+◌, ℕ, List, le
 ghost use Rattle.planus_read.specs.declared.errors.ErrorKind.{ErrorKind};
 ghost use Rattle.planus_read.specs.declared.located.Error.{Error};
 ghost use Rattle.planus_read.specs.Pieces.{slice_bytes, slice_start};
+ghost use Rattle.planus_read.specs.Items.{item_method};
 ghost use Rattle.planus_read.specs.Located.{Located};
 
 use crate::Result;
@@ -149,7 +150,7 @@ pub trait VectorReadUnion<'buf>: TableReadUnion<'buf> + VectorName {
         offset: usize,
     ) -> std::result::Result<Self, located::Error<'n>>
         ensures { let S = slice_bytes buffer.entry in let start = slice_start buffer.entry in
-            Located (Self.reads S start tag offset) Self.name ITEM_METHOD.now start result };
+            Located (Self.reads S start tag offset) Self.name item_method start result };
 }
 
 impl<'buf, T: TableReadUnion<'buf> + VectorName> VectorReadUnion<'buf> for T {

@@ -1,4 +1,3 @@
-pub mod ItemErrors
 pub mod UnionViews
 pub mod UnionVectorView
 pub mod ReadBack

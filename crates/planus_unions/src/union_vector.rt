@@ -2,7 +2,7 @@
 
 ghost use Rattle.std.specs.Prelude.{◌≡◌, ◌*◌, ◌<◌, ◌≤◌, ◌==◌, [], length, IfOk, IfErr};
 ghost use Rattle.planus_read.specs.Pieces.{slice_bytes};
-ghost use Rattle.planus_unions.specs.ItemErrors.{item_method};
+ghost use Rattle.planus_read.specs.Items.{item_method};
 
 use crate::item_errors::ItemError;
 use planus_read::errors::ErrorKind;

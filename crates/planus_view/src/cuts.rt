@@ -24,18 +24,23 @@ pub trait Cut {
 }
 
 /// Ranges of a size from the front on; the last may be shorter.
+#[derive(Debug)]
 pub struct ByChunks;
 
 /// Ranges of a size from the back on; the last, at the front, may be shorter.
+#[derive(Debug)]
 pub struct ByRChunks;
 
 /// Ranges of exactly a size from the front on.
+#[derive(Debug)]
 pub struct ByChunksExact;
 
 /// Ranges of exactly a size from the back on.
+#[derive(Debug)]
 pub struct ByRChunksExact;
 
 /// All ranges of exactly a size, which overlap.
+#[derive(Debug)]
 pub struct ByWindows;
 
 impl Cut for ByChunks {

@@ -2,6 +2,9 @@
 ghost use Rattle.std.specs.Prelude.{◌≡◌, ◌-◌, ◌^◌, true};
 
 /// Which contents a builder writes once: equal ones are found by the hashes of their bytes.
+///
+/// The hash has no secret. Who chooses the contents can make them collide, and each of them is then
+/// compared with all that collided before: turn the cache off for contents that a stranger chooses.
 #[derive(Clone, Copy, Debug)]
 pub struct Caches {
     /// Equal vtables.

@@ -74,7 +74,7 @@ fn push_finishes(script: &mut Vec<u8>) -> Result<(), AllocError> {
 fn push_references(printed: &mut Vec<u8>, count: usize) -> Result<(), AllocError> {
     for behind in 0..count {
         let reference = count.wrapping_sub(behind).wrapping_mul(4);
-        push_bytes(printed, &(reference as u32).to_le_bytes())?;
+        push_bytes(printed, &(reference as u64).to_le_bytes()[..4])?;
     }
     Ok(())
 }

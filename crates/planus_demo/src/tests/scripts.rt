@@ -178,6 +178,53 @@ const ROWS: &[(&str, &str, bool)] = &[
     ("unions 1:x\n", "line 1: bad number\n", false),
     ("text A\ntable 0=tags:0\n", "line 2: wrong kind\n", false),
     ("unions\ntable 0=ref:0\n", "line 2: wrong kind\n", false),
+    ("unions\nrefs 0\n", "line 2: wrong kind\n", false),
+    ("unions\nunions 1:0\n", "line 2: wrong kind\n", false),
+    (
+        "bytes 4a4B\nfinish 0\n",
+        "04 00 00 00 02 00 00 00 4a 4b\n",
+        true,
+    ),
+    (
+        "u16 007\nfinish 0\n",
+        "04 00 00 00 01 00 00 00 07 00\n",
+        true,
+    ),
+    (
+        "u16 00000000000000000007\nfinish 0\n",
+        "04 00 00 00 01 00 00 00 07 00\n",
+        true,
+    ),
+    ("u16 000000000000000000007\n", "line 1: bad number\n", false),
+    (
+        "u64 18446744073709551615\nfinish 0\n",
+        "04 00 00 00 01 00 00 00 ff ff ff ff ff ff ff ff\n",
+        true,
+    ),
+    (
+        "text A\r\nfinish 0\n",
+        "04 00 00 00 02 00 00 00 41 0d 00\n",
+        true,
+    ),
+    (
+        "text A\tB\nfinish 0\n",
+        "04 00 00 00 03 00 00 00 41 09 42 00\n",
+        true,
+    ),
+    ("text A\nfinish 0\r\n", "line 2: bad number\n", false),
+    ("u16\t1\n", "line 1: unknown command\n", false),
+    ("clear \n", "line 1: unknown command\n", false),
+    (
+        "text\nfinish 0 !~!~\n",
+        "08 00 00 00 21 7e 21 7e 00 00 00 00 00\n",
+        true,
+    ),
+    (
+        "text\nfinish 0 AB\x7fC\n",
+        "line 2: bad identifier\n",
+        false,
+    ),
+    ("table 0=u8:1:2\n", "line 1: bad number\n", false),
 ];
 
 #[test]
@@ -188,4 +235,8 @@ fn scripts(rt: HostRuntime) {
     }
     let (script, printed) = (b"text \xff\n", b"line 1: not utf-8\n");
     assert!(rt; prints(rt.alloc(), script, 0, printed, false), "not utf-8");
+    assert!(rt;
+        prints(rt.alloc(), b"# \xff\n", 0, b"", true),
+        "a comment that isn't utf-8"
+    );
 }

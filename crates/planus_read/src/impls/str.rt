@@ -43,15 +43,15 @@ impl<'buf> TableRead<'buf> for &'buf str {
 }
 
 impl<'buf> Stride for &'buf str {
-    ghost use Rattle.planus_read.specs.declared.heads.TheConstants.{REFERENCE_SIZE};
+    ghost use Rattle.planus_read.specs.Items.{reference_size};
 
-    ghost STRIDE = { REFERENCE_SIZE };
+    ghost STRIDE = { reference_size };
 
     ghost is_positive = { lit≤ tt };
 
     #[inline]
     fn stride() -> usize
-        ensures { result ≡ REFERENCE_SIZE }
+        ensures { result ≡ reference_size }
     {
         REFERENCE_SIZE
     }
@@ -62,12 +62,10 @@ impl<'buf> ReadError for &'buf str {
 }
 
 impl<'buf> VectorReadInner<'buf> for &'buf str {
-    ghost use Rattle.planus_read.specs.declared.impls.str.TheConstants.{VECTOR_NAME};
-    ghost use Rattle.planus_read.specs.declared.located.TheConstants.{ITEM_METHOD};
+    ghost use Rattle.planus_read.specs.Items.{texts_name, item_method};
 
     ghost gives = { λ S start f r.
-        Located (Answer (shown ShowsBytes (text_reading S f))) VECTOR_NAME.now ITEM_METHOD.now
-        start r };
+        Located (Answer (shown ShowsBytes (text_reading S f))) texts_name item_method start r };
 
     #[inline]
     fn from_buffer(buffer: SliceWithStartOffset<'buf>, offset: usize) -> Result<&'buf str, Error> {

@@ -49,6 +49,11 @@ fn masks_are_one_less_than_alignments() -> bool {
         && u16::ALIGNMENT_MASK == 1
         && u32::ALIGNMENT_MASK == 3
         && u64::ALIGNMENT_MASK == 7
+        && i8::ALIGNMENT_MASK == 0
+        && i16::ALIGNMENT_MASK == 1
+        && i32::ALIGNMENT_MASK == 3
+        && i64::ALIGNMENT_MASK == 7
+        && bool::ALIGNMENT_MASK == 0
         && <Offset<Text> as Primitive>::ALIGNMENT_MASK == 3
 }
 

@@ -2,12 +2,14 @@
 
 ghost use Rattle.std.specs.Prelude.{◌≡◌, ⊤, codes};
 
+use super::super::shows;
 use super::unions;
 use planus_read::errors::ErrorKind;
 use planus_read::{Error, SliceWithStartOffset, TableRead, TableReadUnion, VectorName};
 use planus_unions::UnionVector;
 use planus_view::{CopyError, Cut, SubViews};
 use std::alloc::Global;
+use std::test::Fail;
 
 // A number of four bytes, in place of a reference; its tag is 2.
 #[derive(Clone, Copy, PartialEq, Debug)]
@@ -144,6 +146,20 @@ pub fn union_calls_agree() -> bool {
         && bytes_agree(&ONE, 1, 0, 0)
         && bytes_agree(&FIVE, 5, 10, 14)
         && matches!(unions(&FIVE, 0, 4), Ok(five) if last_chunk_begins(five, 13))
+}
+
+fn parts_are_shown(alloc: Global, five: UnionVector<'_, Number>) -> bool {
+    shows(alloc, &five.chunks(2))
+        && shows(alloc, &five.rchunks(2))
+        && shows(alloc, &five.chunks_exact(2))
+        && shows(alloc, &five.rchunks_exact(2))
+        && shows(alloc, &five.windows(2))
+}
+
+#[test]
+fn five_unions_are_shown(rt: HostRuntime) -> Result<(), Fail> {
+    assert!(rt; parts_are_shown(rt.alloc(), unions(&FIVE, 0, 4)?));
+    Ok(())
 }
 
 // The second and the fourth tag are unknown.

@@ -2,7 +2,8 @@
 
 ghost use Rattle.std.specs.Prelude.{◌<◌};
 
-use super::{FIVE, five, has, numbers, some_has};
+use super::super::shows;
+use super::{five, has, numbers, some_has};
 use planus_read::errors::ErrorKind;
 use planus_read::{Error, SliceWithStartOffset, TableRead};
 use planus_view::{Cut, SubViews, Vector};
@@ -106,6 +107,19 @@ fn are_of_two(five: Vector<'_, u16>) -> bool {
         && are(five.chunks_exact(2), 2, Some(&[1, 2]))
         && are(five.rchunks_exact(2), 2, Some(&[4, 5]))
         && are(five.windows(2), 4, Some(&[1, 2]))
+}
+
+fn parts_are_shown(alloc: Global, five: Vector<'_, u16>) -> bool {
+    shows(alloc, &five.chunks(2))
+        && shows(alloc, &five.rchunks(2))
+        && shows(alloc, &five.chunks_exact(2))
+        && shows(alloc, &five.rchunks_exact(2))
+        && shows(alloc, &five.windows(2))
+}
+
+#[test]
+fn five_u16_are_shown(rt: HostRuntime) {
+    assert!(rt; parts_are_shown(rt.alloc(), five()));
 }
 
 #[test]

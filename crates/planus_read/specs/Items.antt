@@ -1,0 +1,18 @@
+-- Items of vectors: the size of a reference, and what the errors of items name.
+use Rattle.std.specs.Prelude.{ℕ, List, codes}
+
+-- the bytes of a reference
+abbrev pub reference_size : ℕ
+reference_size = 4
+
+-- the method that the error of an item names
+abbrev pub item_method : List ℕ
+item_method = codes "get"
+
+-- the type that the error of a text in a vector names
+abbrev pub texts_name : List ℕ
+texts_name = codes "[str]"
+
+-- the type that the error of a union in a vector names, where its reading is chosen later
+abbrev pub unions_name : List ℕ
+unions_name = codes "[union]"
