@@ -30,8 +30,8 @@ fn ran_without_memory(
     Ok((exhausted, answer))
 }
 
-// Tells whether the memory was taken, and whether such a run gives this answer, of this exit status,
-// and prints this text.
+// Tells whether the memory was taken, and whether such a run gives this answer, of this exit
+// status, and prints this text.
 fn gives_without_memory(
     alloc: Global,
     script: &[u8],

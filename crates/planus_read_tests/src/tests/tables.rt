@@ -81,6 +81,7 @@ pub fn the_weapon_is_read() -> bool {
         )
         && matches!(table.access::<i16>(1, "Weapon", "damage"), Ok(Some(24)))
         && matches!(table.access::<&str>(2, "Weapon", "none"), Ok(None))
+        && required_fields_are_read(table)
 }
 
 // Whether a slot of the worked table of one number holds this number.
@@ -109,6 +110,15 @@ fn no_union_fails(table: Table<'_>, slot: usize) -> bool {
         table.access_union_required::<TaggedPlace<'_>>(slot, "T", "u"),
         ErrorKind::MissingRequired,
     )
+}
+
+// Whether a field that must be there is read, and is missed where it isn't.
+fn required_fields_are_read(weapon: Table<'_>) -> bool {
+    matches!(weapon.access_required::<u16>(1, "Weapon", "damage"), Ok(24))
+        && fails_with(
+            weapon.access_required::<u16>(9, "Weapon", "none"),
+            ErrorKind::MissingRequired,
+        )
 }
 
 pub fn the_u16_table_is_read() -> bool {

@@ -1,7 +1,7 @@
 //! Each trait at concrete types, through its bound.
 
 use super::tables::Heads;
-use super::{UNIONS, fails_printing, same_kind};
+use super::{UNIONS, fails_printing, fails_with, same_kind};
 use planus_read::errors::{Error, ErrorKind};
 use planus_read::table_reader::Table;
 use planus_read::{
@@ -195,11 +195,18 @@ fn head_past_the_end_fails() -> bool {
     }
 }
 
+// Whether a union in a vector of a tag that isn't known is an error.
+fn unknown_tag_fails() -> bool {
+    let unknown = ErrorKind::UnknownUnionTag { tag: 9 };
+    fails_with(union_item::<OneText<'_>>(&TEXTS, 9, 0), unknown)
+}
+
 pub fn unions_are_read() -> bool {
     vector_name::<TaggedPlace<'_>>() == "[union]"
         && matches!(union_field::<TaggedPlace<'_>>(&TEXTS, 7, 0), Ok(union) if is_hi(union, 7))
         && matches!(union_item::<TaggedPlace<'_>>(&TEXTS, 3, 0), Ok(union) if is_hi(union, 3))
         && matches!(union_item::<OneText<'_>>(&TEXTS, 1, 0), Ok(OneText("Hi")))
+        && unknown_tag_fails()
         && heads_are_read()
         && head_past_the_end_fails()
 }
