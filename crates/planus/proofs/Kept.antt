@@ -1,7 +1,7 @@
 -- What every run keeps, by the definitions alone.
 use Rattle.std.proofs.Common.{◌≡◌, ℕ, ◌+◌, ◌≤◌, List, [], ◌∷◌, ◌++◌, length, take}
 use Rattle.std.proofs.Common.{refl, sym, ap, ◌∙◌, subst, arith, Option, Some, None, append_assoc}
-use Rattle.std.proofs.Common.{append-nil, length-append, lit≤, false}
+use Rattle.std.proofs.Common.{append-nil, length-append, lit≤, false, inl, inr}
 use Rattle.std.specs.Prelude.{slice_get}
 use Rattle.std.specs.Option.{option_map}
 use Rattle.std.specs.List.{AllByRecursion}
@@ -30,7 +30,7 @@ use Rattle.planus_write.proofs.Staying.{kept_stays, seen_stays}
 use Rattle.planus_write.proofs.Standing.{values_are_kept, finishes_lead}
 use Rattle.planus_write.proofs.Standing.{finishes_are_identified}
 use Rattle.planus.specs.Steps.{Step, text, bytes, numbers, refs, unions, table, finish, clear}
-use Rattle.planus.specs.Kinds.{kind_of, kind_named}
+use Rattle.planus.specs.Kinds.{Kind, kind_of, kind_named}
 use Rattle.planus.specs.Names.{IsReached}
 use Rattle.planus.specs.Runs.{Listed, State, nothing_written, Advances, LeadsTo, cleared}
 use Rattle.planus.specs.Runs.{named_at, value_of, finish_of, Writes, values_added, finishes_added}
@@ -47,8 +47,17 @@ use Rattle.planus.proofs.WrittenValues.{unions_behind}
 use Rattle.planus.proofs.TableFields.{fields_more}
 use Rattle.planus.proofs.WrittenTables.{tables_are_written}
 use Rattle.planus.proofs.Lists.{all_weaker, all_push, all_named, get_last, made_of}
-use Rattle.planus.proofs.Lists.{all_more, distance_more, union_more}
-use Rattle.planus.proofs.Naming.{named_push, named_last}
+use Rattle.planus.proofs.Lists.{all_more, distance_more, union_more, named_more, named_new}
+use Rattle.planus.proofs.Naming.{named_push, named_last, named_back, named_inside, none_named}
+use Rattle.planus.proofs.Naming.{not_behind_clear}
+
+-- every text of the steps is UTF-8
+abbrev pub AllUtf8 : List Step → Type 0
+AllUtf8 all = (i : ℕ) (content : List ℕ) → slice_get all i ≡ Some (text content) → IsUtf8 content
+
+-- if a step is a text, that is UTF-8
+abbrev TextIsUtf8 : Step → Type 0
+TextIsUtf8 step = (content : List ℕ) → step ≡ text content → IsUtf8 content
 
 -- A value is kept under what it is named by, and no clear is behind its step.
 pub record ValueKept (all done : List Step) (past : Past) (listed : List Listed) (one : Listed) : Type 0 where
@@ -58,24 +67,26 @@ pub record ValueKept (all done : List Step) (past : Past) (listed : List Listed)
   pub named : named_step done one.step ≡ Some step
   pub is_value : value_of listed step ≡ Some value
   pub kind : kind_of step ≡ Some (kind_named one.named)
-  pub well_formed : WellFormed value
+  pub well_formed : AllUtf8 all → WellFormed value
   pub kept : IsKept past value one.named
 
 -- so it lies in the bytes
-value_reaches : (all done : List Step) (past : Past) (listed : List Listed) (one : Listed) → ValueKept all done past listed one → IsReached (length past.written.bytes) one.named
+pub value_reaches : (all done : List Step) (past : Past) (listed : List Listed) (one : Listed) → ValueKept all done past listed one → IsReached (length past.written.bytes) one.named
 value_reaches all done past listed one h = record { distance = h.kept.reached; tags = h.kept.tags_reached }
+
+-- each step that may be named and writes a value is listed with one of its kind
+abbrev pub ListsAll : List Step → List Listed → Type 0
+ListsAll done listed = (n : ℕ) (step : Step) (kind : Kind) → named_step done n ≡ Some step → kind_of step ≡ Some kind
+    → (named : Named) × (named_at listed n ≡ Some named) × (kind_named named ≡ kind)
 
 pub record Kept (switches : Switches) (all done : List Step) (state : State) : Type 0 where
   pub numbered : state.next ≡ length done
   pub placed : IsPlacedInTurn state.past
   pub seen : AllSeenKept state.past
   pub values : AllByRecursion (ValueKept all done state.past state.listed) state.listed
+  pub lists : ListsAll done state.listed
   pub run : LeadsTo switches nothing_written done state
-  pub finished : AllByRecursion (FinishHolds switches all) state.finished
-
--- every text of the steps is UTF-8
-abbrev pub AllUtf8 : List Step → Type 0
-AllUtf8 all = (i : ℕ) (content : List ℕ) → slice_get all i ≡ Some (text content) → IsUtf8 content
+  pub finished : AllUtf8 all → AllByRecursion (FinishHolds switches all) state.finished
 
 pub leads_on : (switches : Switches) (before between after : State) (steps : List Step) (step : Step) → LeadsTo switches before steps between → Advances switches between step after
     → LeadsTo switches before (steps ++ step ∷ []) after
@@ -118,7 +129,7 @@ value_moves all done step before after listed more kind extends one v = record {
 
 -- a value that a step puts down is kept
 module _ (switches : Switches) (all done : List Step) (step : Step) (v : Value) (before after : State) (kind : is_clear step ≡ false) (there : slice_get all (length done) ≡ Some step)
-    (is_value : value_of before.listed step ≡ Some v) (written : IsWritten (length before.past.written.bytes) v) (well_formed : WellFormed v) (got : List ℕ)
+    (is_value : value_of before.listed step ≡ Some v) (written : IsWritten (length before.past.written.bytes) v) (well_formed : AllUtf8 all → WellFormed v) (got : List ℕ)
     (puts : PutsAll switches (entries_of v) [] before.past got after.past) (listed : after.listed ≡ before.listed ++ record { step = before.next; named = named_by v got } ∷ [])
     (next : after.next ≡ before.next + 1) (finished : after.finished ≡ before.finished ++ []) (run : LeadsTo switches nothing_written (done ++ step ∷ []) after)
     (h : Kept switches all done before) where
@@ -146,14 +157,40 @@ module _ (switches : Switches) (all done : List Step) (step : Step) (v : Value) 
       (all_weaker (ValueKept all done before.past before.listed) (ValueKept all (done ++ step ∷ []) after.past (before.listed ++ added ∷ []))
       (value_moves all done step before.past after.past before.listed (added ∷ []) kind law.2) before.listed h.values) new_value
 
+  -- no other value has its number
+  none_yet : named_at before.listed (length done) ≡ None
+  none_yet = by_name (named_at before.listed (length done)) refl
+    where
+      by_name : (name : Option Named) → named_at before.listed (length done) ≡ name → name ≡ None
+      by_name None e = refl
+      by_name (Some named) e =
+          let v = all_named (ValueKept all done before.past before.listed) before.listed (length done) named h.values e in
+          let inside = named_inside done v.step (length done) v.named in
+          absurd (omega (arith, inside))
+
+  lists_new : ListsAll (done ++ step ∷ []) (before.listed ++ added ∷ [])
+  lists_new n c of named is_kind = elim (named_back done step c n named) as (λ _. (name : Named) × (named_at (before.listed ++ added ∷ []) n ≡ Some name) × (kind_named name ≡ of)) [
+    | inl earlier ↦
+        let there = h.lists n c of earlier is_kind in
+        (there.0, named_more before.listed (added ∷ []) n there.0 there.1, there.2)
+    | inr last ↦
+        let number : before.next ≡ n = h.numbered ∙ sym last.0 in
+        let same : Some (kind_named (named_by v got)) ≡ Some of = sym (kind_written before.listed step v got is_value) ∙ ap kind_of last.1 ∙ is_kind in (
+          named_by v got,
+          named_new before.listed added n number (ap (named_at before.listed) last.0 ∙ none_yet),
+          (let kinds : kind_named (named_by v got) ≡ of = cc in kinds),
+        )
+  ]
+
   pub value_kept : Kept switches all (done ++ step ∷ []) after
   value_kept = record {
     numbered = counted done step before.next after.next next h.numbered;
     placed = all_in_turn switches (entries_of v) [] before.past got after.past (values_are_fit (length before.past.written.bytes) v written) puts h.placed;
     seen = law.1;
     values = subst (λ vs. AllByRecursion (ValueKept all (done ++ step ∷ []) after.past vs) vs) (sym listed) all_values;
+    lists = subst (ListsAll (done ++ step ∷ [])) (sym listed) lists_new;
     run = run;
-    finished = subst (λ fs. AllByRecursion (FinishHolds switches all) fs) (sym (finished ∙ append-nil before.finished)) h.finished;
+    finished = λ utf8. subst (λ fs. AllByRecursion (FinishHolds switches all) fs) (sym (finished ∙ append-nil before.finished)) (h.finished utf8);
   }
 
 greatest_rises : (promises : List Promise) → greatest_alignment 1 promises ≤ greatest_alignment 4 promises
@@ -212,8 +249,8 @@ module _ (switches : Switches) (all done : List Step) (root to : ℕ) (identifie
       subst (λ ps. IsFewest after.past.parts ps new.bytes) (sym adds.places)
       (fewest new after.past.parts before.past.places distance last keep (subst (λ ps. InTurn new after.past.parts ps) adds.places in_turn.turns))
 
-  value_holds : (one : Listed) → ValueKept all done before.past before.listed one → ValueHolds all (record { bytes = new.bytes; places = before.listed }) one
-  value_holds one v =
+  value_holds : AllUtf8 all → (one : Listed) → ValueKept all done before.past before.listed one → ValueHolds all (record { bytes = new.bytes; places = before.listed }) one
+  value_holds utf8 one v =
       let kept : IsKept after.past v.value one.named = kept_stays before.past after.past v.value one.named extends v.kept in
       record {
         step = v.step;
@@ -224,11 +261,11 @@ module _ (switches : Switches) (all done : List Step) (root to : ℕ) (identifie
         tags_reached = kept.tags_reached;
         stands = kept.stands;
         aligned = subst (λ p. AlignedAt new.bytes p v.value) (moved_nowhere (position_in new.bytes one.named)) (kept.aligned [] keep);
-        reads_back = what_stands_reads_back new.bytes (position_in new.bytes one.named) v.value v.well_formed kept.stands;
+        reads_back = what_stands_reads_back new.bytes (position_in new.bytes one.named) v.value (v.well_formed utf8) kept.stands;
       }
 
-  holds : FinishHolds switches all (record { bytes = new.bytes; places = before.listed })
-  holds =
+  holds : AllUtf8 all → FinishHolds switches all (record { bytes = new.bytes; places = before.listed })
+  holds utf8 =
       let root_kept : to ≤ length old.bytes = value_behind (ValueKept all done before.past before.listed) (length old.bytes) (value_reaches all done before.past before.listed) before.listed h.values root to found in
       record {
         number = length done;
@@ -239,11 +276,21 @@ module _ (switches : Switches) (all done : List Step) (root to : ℕ) (identifie
         run = subst (λ steps. LeadsTo switches nothing_written steps after) (sym up_to) run;
         bytes = refl;
         places = sym (listed ∙ append-nil before.listed);
-        values = all_weaker (ValueKept all done before.past before.listed) (ValueHolds all (record { bytes = new.bytes; places = before.listed })) value_holds before.listed h.values;
+        values = all_weaker (ValueKept all done before.past before.listed) (ValueHolds all (record { bytes = new.bytes; places = before.listed })) (value_holds utf8) before.listed h.values;
         leads = (to, found, finishes_lead to identifier old new root_kept placed);
         identified = finishes_are_identified to identifier old new placed;
+        keeps = keep;
         fewest = few;
       }
+
+  -- and no value is listed more
+  lists_still : ListsAll (done ++ finish root identifier ∷ []) (before.listed ++ [])
+  lists_still n c of named is_kind = elim (named_back done (finish root identifier) c n named) as (λ _. (name : Named) × (named_at (before.listed ++ []) n ≡ Some name) × (kind_named name ≡ of)) [
+    | inl earlier ↦
+        let there = h.lists n c of earlier is_kind in
+        (there.0, named_more before.listed [] n there.0 there.1, there.2)
+    | inr last ↦ (let none : None ≡ Some of = ap kind_of last.1 ∙ is_kind in cc)
+  ]
 
   pub finish_kept : Kept switches all (done ++ finish root identifier ∷ []) after
   finish_kept = record {
@@ -254,8 +301,9 @@ module _ (switches : Switches) (all done : List Step) (root to : ℕ) (identifie
         (subst (λ vs. AllByRecursion (ValueKept all (done ++ finish root identifier ∷ []) after.past (before.listed ++ [])) vs) (sym (append-nil before.listed))
         (all_weaker (ValueKept all done before.past before.listed) (ValueKept all (done ++ finish root identifier ∷ []) after.past (before.listed ++ []))
         (value_moves all done (finish root identifier) before.past after.past before.listed [] refl extends) before.listed h.values));
+    lists = subst (ListsAll (done ++ finish root identifier ∷ [])) (sym listed) lists_still;
     run = run;
-    finished = subst (λ fs. AllByRecursion (FinishHolds switches all) fs) (sym finished) (all_push (FinishHolds switches all) before.finished _ h.finished holds);
+    finished = λ utf8. subst (λ fs. AllByRecursion (FinishHolds switches all) fs) (sym finished) (all_push (FinishHolds switches all) before.finished _ (h.finished utf8) (holds utf8));
   }
 
 -- a clear keeps what was given
@@ -265,64 +313,66 @@ clear_kept switches all done before h = record {
   placed = nothing_in_turn;
   seen = tt;
   values = tt;
+  lists = λ n c of named is_kind. absurd (not_behind_clear done c n named);
   run = leads_on switches nothing_written before (cleared before) done clear h.run refl;
   finished = h.finished;
 }
 
 -- a value that a step writes can be written, and reads back
-values_are_written : (switches : Switches) (all done : List Step) (step : Step) (before : State) → Kept switches all done before → ((content : List ℕ) → step ≡ text content → IsUtf8 content)
-    → (v : Value) → value_of before.listed step ≡ Some v → IsWritten (length before.past.written.bytes) v × WellFormed v
-values_are_written switches all done (text content) before h utf8 v e =
+pub values_are_written : (switches : Switches) (all done : List Step) (step : Step) (before : State) → Kept switches all done before
+    → (v : Value) → value_of before.listed step ≡ Some v → IsWritten (length before.past.written.bytes) v × (TextIsUtf8 step → WellFormed v)
+values_are_written switches all done (text content) before h v e =
     let same : value.text content ≡ v = cc in
-    subst (λ v. IsWritten (length before.past.written.bytes) v × WellFormed v) same (tt, utf8 content refl)
-values_are_written switches all done (bytes content) before h utf8 v e =
+    subst (λ v. IsWritten (length before.past.written.bytes) v × (TextIsUtf8 (text content) → WellFormed v)) same (tt, λ utf8. utf8 content refl)
+values_are_written switches all done (bytes content) before h v e =
     let same : value.byte_list content ≡ v = cc in
-    subst (λ v. IsWritten (length before.past.written.bytes) v × WellFormed v) same (tt, tt)
-values_are_written switches all done (numbers width items) before h utf8 v e = numbers_are_written (length before.past.written.bytes) (width_of width) items v e
-values_are_written switches all done (refs steps) before h utf8 v e =
+    subst (λ v. IsWritten (length before.past.written.bytes) v × (TextIsUtf8 (bytes content) → WellFormed v)) same (tt, λ _. tt)
+values_are_written switches all done (numbers width items) before h v e =
+    let good = numbers_are_written (length before.past.written.bytes) (width_of width) items v e in (good.0, λ _. good.1)
+values_are_written switches all done (refs steps) before h v e =
     let made = made_of value.reference_list (all_of (value_at before.listed) steps) v e in
-    subst (λ v. IsWritten (length before.past.written.bytes) v × WellFormed v) made.2
-    (references_behind (ValueKept all done before.past before.listed) (length before.past.written.bytes) (value_reaches all done before.past before.listed) before.listed h.values steps made.0 made.1, tt)
-values_are_written switches all done (unions items) before h utf8 v e =
+    subst (λ v. IsWritten (length before.past.written.bytes) v × (TextIsUtf8 (refs steps) → WellFormed v)) made.2
+    (references_behind (ValueKept all done before.past before.listed) (length before.past.written.bytes) (value_reaches all done before.past before.listed) before.listed h.values steps made.0 made.1, λ _. tt)
+values_are_written switches all done (unions items) before h v e =
     let made = made_of value.union_list (all_of (union_of before.listed) items) v e in
-    subst (λ v. IsWritten (length before.past.written.bytes) v × WellFormed v) made.2
-    (unions_behind (ValueKept all done before.past before.listed) (length before.past.written.bytes) (value_reaches all done before.past before.listed) before.listed h.values items made.0 made.1, tt)
-values_are_written switches all done (table fields) before h utf8 v e =
+    subst (λ v. IsWritten (length before.past.written.bytes) v × (TextIsUtf8 (unions items) → WellFormed v)) made.2
+    (unions_behind (ValueKept all done before.past before.listed) (length before.past.written.bytes) (value_reaches all done before.past before.listed) before.listed h.values items made.0 made.1, λ _. tt)
+values_are_written switches all done (table fields) before h v e =
     let made = made_of value.table (fields_of before.listed [] greatest_field fields) v e in
-    subst (λ v. IsWritten (length before.past.written.bytes) v × WellFormed v) made.2
-    (tables_are_written (ValueKept all done before.past before.listed) (length before.past.written.bytes) (value_reaches all done before.past before.listed) before.listed h.values fields made.0 made.1, tt)
-values_are_written switches all done (finish root identifier) before h utf8 v e = (cc)
-values_are_written switches all done clear before h utf8 v e = (cc)
+    subst (λ v. IsWritten (length before.past.written.bytes) v × (TextIsUtf8 (table fields) → WellFormed v)) made.2
+    (tables_are_written (ValueKept all done before.past before.listed) (length before.past.written.bytes) (value_reaches all done before.past before.listed) before.listed h.values fields made.0 made.1, λ _. tt)
+values_are_written switches all done (finish root identifier) before h v e = (cc)
+values_are_written switches all done clear before h v e = (cc)
 
 -- a step that writes a value
 written_kept : (switches : Switches) (all done : List Step) (step : Step) (before after : State) → is_clear step ≡ false
     → ((s : State) (past : Past) → finishes_added step s past ≡ []) → (writes : Writes switches before step after) → Advances switches before step after
-    → option_map entries_of (value_of before.listed step) ≡ Some writes.entries → slice_get all (length done) ≡ Some step → AllUtf8 all
+    → option_map entries_of (value_of before.listed step) ≡ Some writes.entries → slice_get all (length done) ≡ Some step
     → Kept switches all done before → Kept switches all (done ++ step ∷ []) after
-written_kept switches all done step before after kind gives writes advances are there utf8 h =
+written_kept switches all done step before after kind gives writes advances are there h =
     let run = leads_on switches nothing_written before after done step h.run advances in
     let made = made_of entries_of (value_of before.listed step) writes.entries are in
-    let good = values_are_written switches all done step before h (λ content is. utf8 (length done) content (there ∙ ap Some is)) made.0 made.1 in
-    value_kept switches all done step made.0 before after kind there made.1 good.0 good.1 writes.got
+    let good = values_are_written switches all done step before h made.0 made.1 in
+    value_kept switches all done step made.0 before after kind there made.1 good.0 (λ utf8. good.1 (λ content is. utf8 (length done) content (there ∙ ap Some is))) writes.got
     (subst (λ entries. PutsAll switches entries [] before.past writes.got after.past) (sym made.2) writes.puts)
     (writes.listed ∙ ap (λ v. before.listed ++ values_added v before.next writes.got) made.1) writes.next
     (writes.finished ∙ ap (λ fs. before.finished ++ fs) (gives before after.past)) run h
 
-step_kept : (switches : Switches) (all done : List Step) (step : Step) (before after : State) → slice_get all (length done) ≡ Some step → take (length done + 1) all ≡ done ++ step ∷ [] → AllUtf8 all
+pub step_kept : (switches : Switches) (all done : List Step) (step : Step) (before after : State) → slice_get all (length done) ≡ Some step → take (length done + 1) all ≡ done ++ step ∷ []
     → Advances switches before step after → Kept switches all done before → Kept switches all (done ++ step ∷ []) after
-step_kept switches all done (text content) before after there up_to utf8 writes h =
-    written_kept switches all done (text content) before after refl (λ s past. refl) writes writes writes.are there utf8 h
-step_kept switches all done (bytes content) before after there up_to utf8 writes h =
-    written_kept switches all done (bytes content) before after refl (λ s past. refl) writes writes writes.are there utf8 h
-step_kept switches all done (numbers width items) before after there up_to utf8 writes h =
-    written_kept switches all done (numbers width items) before after refl (λ s past. refl) writes writes writes.are there utf8 h
-step_kept switches all done (refs steps) before after there up_to utf8 writes h =
-    written_kept switches all done (refs steps) before after refl (λ s past. refl) writes writes writes.are there utf8 h
-step_kept switches all done (unions items) before after there up_to utf8 writes h =
-    written_kept switches all done (unions items) before after refl (λ s past. refl) writes writes writes.are there utf8 h
-step_kept switches all done (table fields) before after there up_to utf8 writes h =
-    written_kept switches all done (table fields) before after refl (λ s past. refl) writes writes writes.are there utf8 h
-step_kept switches all done (finish root identifier) before after there up_to utf8 writes h =
+step_kept switches all done (text content) before after there up_to writes h =
+    written_kept switches all done (text content) before after refl (λ s past. refl) writes writes writes.are there h
+step_kept switches all done (bytes content) before after there up_to writes h =
+    written_kept switches all done (bytes content) before after refl (λ s past. refl) writes writes writes.are there h
+step_kept switches all done (numbers width items) before after there up_to writes h =
+    written_kept switches all done (numbers width items) before after refl (λ s past. refl) writes writes writes.are there h
+step_kept switches all done (refs steps) before after there up_to writes h =
+    written_kept switches all done (refs steps) before after refl (λ s past. refl) writes writes writes.are there h
+step_kept switches all done (unions items) before after there up_to writes h =
+    written_kept switches all done (unions items) before after refl (λ s past. refl) writes writes writes.are there h
+step_kept switches all done (table fields) before after there up_to writes h =
+    written_kept switches all done (table fields) before after refl (λ s past. refl) writes writes writes.are there h
+step_kept switches all done (finish root identifier) before after there up_to writes h =
     let run = leads_on switches nothing_written before after done (finish root identifier) h.run writes in
     let made = made_of (finish_of identifier) (value_at before.listed root) writes.entries writes.are in
     let puts : PutsAll switches (finish_of identifier made.0) [] before.past writes.got after.past
@@ -330,28 +380,28 @@ step_kept switches all done (finish root identifier) before after there up_to ut
     let adds : Adds (finish_part made.0 identifier before.past.written.promises) None before.past puts.0 after.past
     = subst (Adds (finish_part made.0 identifier before.past.written.promises) None before.past puts.0) (sym puts.3.1) puts.2 in
     finish_kept switches all done root made.0 identifier before after made.1 puts.0 adds writes.listed writes.next writes.finished there up_to run h
-step_kept switches all done clear before after there up_to utf8 is_clear h = subst (λ s. Kept switches all (done ++ clear ∷ []) s) (sym is_clear) (clear_kept switches all done before h)
+step_kept switches all done clear before after there up_to is_clear h = subst (λ s. Kept switches all (done ++ clear ∷ []) s) (sym is_clear) (clear_kept switches all done before h)
 
-leads_kept : (switches : Switches) (all done rest : List Step) → all ≡ done ++ rest → AllUtf8 all → (before after : State) → LeadsTo switches before rest after → Kept switches all done before
+leads_kept : (switches : Switches) (all done rest : List Step) → all ≡ done ++ rest → (before after : State) → LeadsTo switches before rest after → Kept switches all done before
     → Kept switches all all after
-leads_kept switches all done [] e utf8 before after leads h = subst (λ s. Kept switches all all s) (sym leads) (subst (λ d. Kept switches all d before) (sym (e ∙ append-nil done)) h)
-leads_kept switches all done (step ∷ rest) e utf8 before after leads h =
+leads_kept switches all done [] e before after leads h = subst (λ s. Kept switches all all s) (sym leads) (subst (λ d. Kept switches all d before) (sym (e ∙ append-nil done)) h)
+leads_kept switches all done (step ∷ rest) e before after leads h =
     let there : slice_get all (length done) ≡ Some step = ap (λ xs. slice_get xs (length done)) e ∙ get_last done step rest in
     let again : all ≡ (done ++ step ∷ []) ++ rest = e ∙ sym (append_assoc done (step ∷ []) rest) in
     let count : length done + 1 ≡ length (done ++ step ∷ []) = sym (length-append done (step ∷ [])) in
     let up_to : take (length done + 1) all ≡ done ++ step ∷ [] = ap (take (length done + 1)) again ∙ ap (λ n. take n ((done ++ step ∷ []) ++ rest)) count ∙ take-append_seam (done ++ step ∷ []) rest in
-    leads_kept switches all (done ++ step ∷ []) rest again utf8 leads.0 after leads.2
-    (step_kept switches all done step before leads.0 there up_to utf8 leads.1 h)
+    leads_kept switches all (done ++ step ∷ []) rest again leads.0 after leads.2
+    (step_kept switches all done step before leads.0 there up_to leads.1 h)
 
-nothing_kept : (switches : Switches) (all : List Step) → Kept switches all [] nothing_written
-nothing_kept switches all = record { numbered = refl; placed = nothing_in_turn; seen = tt; values = tt; run = refl; finished = tt }
+pub nothing_kept : (switches : Switches) (all : List Step) → Kept switches all [] nothing_written
+nothing_kept switches all = record { numbered = refl; placed = nothing_in_turn; seen = tt; values = tt; lists = λ n c of named is_kind. absurd (none_named n c named); run = refl; finished = λ _. tt }
 
 -- what every run keeps
-pub run_kept : (switches : Switches) (steps : List Step) → AllUtf8 steps → (end : State) → LeadsTo switches nothing_written steps end → Kept switches steps steps end
-run_kept switches steps utf8 end leads = leads_kept switches steps [] steps refl utf8 nothing_written end leads (nothing_kept switches steps)
+pub run_kept : (switches : Switches) (steps : List Step) (end : State) → LeadsTo switches nothing_written steps end → Kept switches steps steps end
+run_kept switches steps end leads = leads_kept switches steps [] steps refl nothing_written end leads (nothing_kept switches steps)
 
 -- a value of a run may be named, and is kept
-pub run_value : (switches : Switches) (steps : List Step) → AllUtf8 steps → (end : State) → LeadsTo switches nothing_written steps end → (n : ℕ) (named : Named) → named_at end.listed n ≡ Some named
+pub run_value : (switches : Switches) (steps : List Step) (end : State) → LeadsTo switches nothing_written steps end → (n : ℕ) (named : Named) → named_at end.listed n ≡ Some named
     → ValueKept steps steps end.past end.listed (record { step = n; named = named })
-run_value switches steps utf8 end leads n named found =
-    all_named (ValueKept steps steps end.past end.listed) end.listed n named (run_kept switches steps utf8 end leads).values found
+run_value switches steps end leads n named found =
+    all_named (ValueKept steps steps end.past end.listed) end.listed n named (run_kept switches steps end leads).values found

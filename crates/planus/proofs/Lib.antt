@@ -9,6 +9,7 @@ pub mod WrittenValues
 pub mod WrittenTables
 pub mod Declaring
 pub mod Kept
+pub mod Answering
 pub mod Turns
 pub mod Walking
 pub mod Stepping
@@ -16,4 +17,5 @@ pub mod SteppingTables
 pub mod Replayed
 pub mod OneAnswer
 pub mod Once
+pub mod SameTrees
 pub mod Found

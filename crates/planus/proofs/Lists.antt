@@ -125,6 +125,18 @@ named_more (one ∷ listed) more step named h = by_test (named_more listed more 
     by_test further true h = h
     by_test further false h = further h
 
+-- and what is listed last is found, where nothing was by its number
+pub named_new : (listed : List Listed) (one : Listed) (n : ℕ) → one.step ≡ n → named_at listed n ≡ None → named_at (listed ++ one ∷ []) n ≡ Some one.named
+named_new [] one n number none =
+    let test : (one.step == n) ≡ true = grind (arith, nat_tests, number) in
+    ap (λ found. if found then Some one.named else None) test
+named_new (first ∷ listed) one n number none = by_test (named_new listed one n number) (first.step == n) none
+  where
+    by_test : (named_at listed n ≡ None → named_at (listed ++ one ∷ []) n ≡ Some one.named) → (equal : Bool) → (if equal then Some first.named else named_at listed n) ≡ None
+        → (if equal then Some first.named else named_at (listed ++ one ∷ []) n) ≡ Some one.named
+    by_test further true none = (cc)
+    by_test further false none = further none
+
 -- and so do its distances
 pub distance_more : (which : Named → Option ℕ) (listed more : List Listed) (step distance : ℕ) → distance_at which listed step ≡ Some distance → distance_at which (listed ++ more) step ≡ Some distance
 distance_more which listed more step distance h =

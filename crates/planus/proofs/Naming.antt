@@ -1,5 +1,5 @@
 -- What a number names, and what a replay says of it.
-use Rattle.std.proofs.Common.{◌≡◌, ℕ, zero, suc, ◌+◌, ◌-◌, ◌≤◌, List, [], ◌∷◌, ◌++◌, length, map}
+use Rattle.std.proofs.Common.{◌≡◌, ℕ, zero, suc, ◌+◌, ◌-◌, ◌≤◌, ◌<◌, List, [], ◌∷◌, ◌++◌, length, map}
 use Rattle.std.proofs.Common.{drop, refl, sym, ap, ◌∙◌, subst, arith, Option, Some, None, Bool}
 use Rattle.std.proofs.Common.{true, false, inl, inr, length-append}
 use Rattle.std.specs.Prelude.{slice_get, nat_lt, if◌then◌else◌, ◌⊎◌, ◌||◌, ◌==◌}
@@ -50,6 +50,75 @@ named_push (x ∷ steps) step c (suc n) kind h = named_push steps step c n kind 
 pub named_last : (steps : List Step) (step : Step) → is_clear step ≡ false → named_step (steps ++ step ∷ []) (length steps) ≡ Some step
 named_last [] step kind = rw kind refl
 named_last (x ∷ steps) step kind = named_last steps step kind
+
+-- what may be named is inside
+pub named_inside : (steps : List Step) (c : Step) (n : ℕ) → named_step steps n ≡ Some c → n < length steps
+named_inside [] c zero h = (cc)
+named_inside [] c (suc n) h = (cc)
+named_inside (x ∷ steps) c zero h = omega arith
+named_inside (x ∷ steps) c (suc n) h = let rest = named_inside steps c n h in omega (arith, rest)
+
+none_there : (any : Bool) (c : Step) → (if any then None else None) ≡ Some c → ⊥
+none_there true c h = (cc)
+none_there false c h = (cc)
+
+-- of no steps none may be named
+pub none_named : (n : ℕ) (c : Step) → named_step [] n ≡ Some c → ⊥
+none_named zero c h = (cc)
+none_named (suc n) c h = (cc)
+
+-- what may be named with one step more may be named before, or is that step
+pub named_back : (steps : List Step) (step c : Step) (n : ℕ) → named_step (steps ++ step ∷ []) n ≡ Some c → (named_step steps n ≡ Some c) ⊎ ((n ≡ length steps) × (step ≡ c))
+named_back [] step c zero h = by_kind (is_clear step) h
+  where
+    by_kind : (kind : Bool) → (if kind || false then None else Some step) ≡ Some c → (named_step [] zero ≡ Some c) ⊎ ((zero ≡ zero) × (step ≡ c))
+    by_kind true h = (cc)
+    by_kind false h = inr (refl, (let same : step ≡ c = cc in same))
+named_back [] step c (suc n) h = absurd (none_there (list_any is_clear (drop n [])) c h)
+named_back (x ∷ steps) step c zero h = inl (by_kind (is_clear x) (list_any is_clear (steps ++ step ∷ [])) refl h)
+  where
+    none_among : (xs : List Step) → list_any is_clear (xs ++ step ∷ []) ≡ false → list_any is_clear xs ≡ false
+    none_among [] e = refl
+    none_among (text content ∷ xs) e = none_among xs e
+    none_among (bytes content ∷ xs) e = none_among xs e
+    none_among (numbers width items ∷ xs) e = none_among xs e
+    none_among (refs named ∷ xs) e = none_among xs e
+    none_among (unions items ∷ xs) e = none_among xs e
+    none_among (table fields ∷ xs) e = none_among xs e
+    none_among (finish root identifier ∷ xs) e = none_among xs e
+    none_among (clear ∷ xs) e = (cc)
+
+    by_kind : (kind any : Bool) → list_any is_clear (steps ++ step ∷ []) ≡ any → (if kind || any then None else Some x) ≡ Some c → (if kind || list_any is_clear steps then None else Some x) ≡ Some c
+    by_kind true any e h = (cc)
+    by_kind false true e h = (cc)
+    by_kind false false e h = rw (none_among steps e) h
+named_back (x ∷ steps) step c (suc n) h = elim (named_back steps step c n h) as (λ _. (named_step steps n ≡ Some c) ⊎ ((suc n ≡ suc (length steps)) × (step ≡ c))) [
+  | inl earlier ↦ inl earlier
+  | inr last ↦ inr (ap suc last.0, last.1)
+]
+
+-- behind a clear nothing may be named
+pub not_behind_clear : (steps : List Step) (c : Step) (n : ℕ) → named_step (steps ++ clear ∷ []) n ≡ Some c → ⊥
+not_behind_clear [] c zero h = (cc)
+not_behind_clear [] c (suc n) h = none_there (list_any is_clear (drop n [])) c h
+not_behind_clear (x ∷ steps) c zero h = (let e : (if is_clear x || list_any is_clear (steps ++ clear ∷ []) then None else Some x) ≡ Some c = h in by_kind (is_clear x) (list_any is_clear (steps ++ clear ∷ [])) (last_clear steps) e)
+  where
+    last_clear : (xs : List Step) → list_any is_clear (xs ++ clear ∷ []) ≡ true
+    last_clear [] = refl
+    last_clear (text content ∷ xs) = last_clear xs
+    last_clear (bytes content ∷ xs) = last_clear xs
+    last_clear (numbers width items ∷ xs) = last_clear xs
+    last_clear (refs named ∷ xs) = last_clear xs
+    last_clear (unions items ∷ xs) = last_clear xs
+    last_clear (table fields ∷ xs) = last_clear xs
+    last_clear (finish root identifier ∷ xs) = last_clear xs
+    last_clear (clear ∷ xs) = refl
+
+    by_kind : (kind any : Bool) → any ≡ true → (if kind || any then None else Some x) ≡ Some c → ⊥
+    by_kind true any e h = (cc)
+    by_kind false true e h = (cc)
+    by_kind false false e h = (cc)
+not_behind_clear (x ∷ steps) c (suc n) h = not_behind_clear steps c n h
 
 -- nothing is named at or before a clear
 clear_from : (steps : List Step) (n k : ℕ) → slice_get steps (n + k) ≡ Some clear → list_any is_clear (drop n steps) ≡ true

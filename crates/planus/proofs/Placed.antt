@@ -7,7 +7,11 @@ use Rattle.std.proofs.lemmas.List.{length-map}
 use Rattle.std.specs.List.{AllByRecursion}
 use Rattle.std.proofs.lemmas.Bool.{cases_lt}
 use Rattle.planus_back.specs.Promises.{Promise, IsPowerOfTwo, greatest_alignment}
+use Rattle.planus_back.specs.Padding.{promise_of}
 use Rattle.planus_back.specs.Parts.{Part, Written, Placed}
+use Rattle.planus_back.specs.Descriptions.{Describes}
+use Rattle.planus_back.specs.Requests.{Delay, DescribesAll}
+use Rattle.planus_back.proofs.PaddingLaws.{stay_described}
 use Rattle.planus_read.specs.Values as value
 use Rattle.planus_read.specs.Values.{Value}
 use Rattle.planus_write.specs.Shared.{Contents, Switches, shared_as}
@@ -25,11 +29,16 @@ use Rattle.planus.proofs.Lists.{all_weaker}
 pub record IsPlacedInTurn (past : Past) : Type 0 where
   pub powers : AllByRecursion (λ (p : Promise). IsPowerOfTwo p.alignment) past.written.promises
   pub reached : AllByRecursion (λ (p : Promise). p.distance ≤ length past.written.bytes) past.written.promises
+  pub described : (delay : Delay) × DescribesAll delay (length past.written.bytes) past.written.promises
   pub turns : InTurn past.written past.parts past.places
+
+-- with no promise every length is kept
+nothing_described : Describes 0 0 0 []
+nothing_described = record { powers = tt; reached = tt; kept = λ finished from. (λ _. (finished, omega arith), λ _. tt) }
 
 -- nothing that is written is in turn
 pub nothing_in_turn : IsPlacedInTurn (nothing_written.past)
-nothing_in_turn = record { powers = tt; reached = tt; turns = record { powers = tt; turns = tt; ended = refl; promised = refl } }
+nothing_in_turn = record { powers = tt; reached = tt; described = (record { delayed = 0; mask = 0 }, nothing_described); turns = record { powers = tt; turns = tt; ended = refl; promised = refl } }
 
 -- one part placed
 module _ (part : Part) (before after : Written) (placed : Placed part before after)
@@ -53,6 +62,14 @@ module _ (part : Part) (before after : Written) (placed : Placed part before aft
       subst (λ ps. AllByRecursion (λ (p : Promise). p.distance ≤ length after.bytes) ps) (sym placed.promises)
       (here, all_weaker (λ (p : Promise). p.distance ≤ length before.bytes) (λ (p : Promise). p.distance ≤ length after.bytes) (λ p le. omega arith) before.promises h)
 
+  described_after : IsPowerOfTwo part.alignment → (delay : Delay) → DescribesAll delay (length before.bytes) before.promises
+      → (later : Delay) × DescribesAll later (length after.bytes) after.promises
+  described_after power delay h =
+      let more = stay_described delay (length before.bytes) before.promises part.size part.alignment placed.padding h power placed.is_least in
+      let there : DescribesAll more.0 placed.place (promise_of placed.place part.alignment ∷ before.promises)
+      = subst (λ n. DescribesAll more.0 n (promise_of n part.alignment ∷ before.promises)) (sym placed.is_place) more.1 in
+      (more.0, subst (λ n. DescribesAll more.0 n after.promises) (sym length_is) (subst (λ ps. DescribesAll more.0 placed.place ps) (sym placed.promises) there))
+
 -- one part more of a run is placed in turn
 module _ (part : Part) (shared : Option Contents) (before : Past) (distance : ℕ) (after : Past)
     (adds : Adds part shared before distance after)
@@ -69,6 +86,7 @@ module _ (part : Part) (shared : Option Contents) (before : Past) (distance : �
   added_in_turn = record {
     powers = powers_after part before.written after.written adds.placed sized h.powers power;
     reached = reached_after part before.written after.written adds.placed sized h.reached;
+    described = described_after part before.written after.written adds.placed sized power h.described.0 h.described.1;
     turns = turned;
   }
 
@@ -82,7 +100,7 @@ pub record IsFit (entry : Entry) (got : List ℕ) (past : Past) : Type 0 where
 abbrev pub AreFit : List Entry → Type 0
 AreFit entries = AllByRecursion (λ entry. (got : List ℕ) (past : Past) → IsPlacedInTurn past → IsFit entry got past) entries
 
-put_in_turn : (earlier : Option ℕ) (part : Part) (shared : Option Contents) (before : Past)
+pub put_in_turn : (earlier : Option ℕ) (part : Part) (shared : Option Contents) (before : Past)
     (distance : ℕ) (after : Past) → PutsAfter earlier part shared before distance after
     → ((place : ℕ) → length (part.bytes_at place) ≡ part.size) → IsPowerOfTwo part.alignment
     → IsPlacedInTurn before → IsPlacedInTurn after

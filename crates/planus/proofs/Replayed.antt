@@ -36,7 +36,7 @@ pub record Reaches (switches : Switches) (steps : List code.Step) (i : ℕ) (pro
 
 pub are_reached : (switches : Switches) (steps : List code.Step) (i : ℕ) (progress : Progress) → Reaches switches steps i progress → AreReached progress
 are_reached switches steps i progress h step named e =
-    let v = run_value switches (first_steps steps i) (all_utf8 (take i steps)) (state_with progress h.run.0) h.run.2 (progress.first + step) named
+    let v = run_value switches (first_steps steps i) (state_with progress h.run.0) h.run.2 (progress.first + step) named
     (found_at progress.first (names progress) step named e) in
     subst (λ bytes. IsReached (length bytes) named) h.run.1.bytes (record { distance = v.kept.reached; tags = v.kept.tags_reached })
 
@@ -66,7 +66,7 @@ module _ (switches : Switches) (steps : List code.Step) (i : ℕ) (item : code.S
         );
         switched = advanced.switches ∙ h.switched;
         clean = ap first_bad next
-            ∙ still_clean switches (map bare_step steps) (first_steps steps i) (bare_step item) (map bare_step (drop (suc i) steps)) whole (state_with progress h.run.0) (all_utf8 (take i steps)) h.run.2 h.clean (state_with after a.0) on;
+            ∙ still_clean switches (map bare_step steps) (first_steps steps i) (bare_step item) (map bare_step (drop (suc i) steps)) whole (state_with progress h.run.0) h.run.2 h.clean (state_with after a.0) on;
         taken = subst (λ cs. HasTaken after cs) (sym next) (advanced.taken (first_steps steps i) h.taken);
       }
 
@@ -74,10 +74,10 @@ module _ (switches : Switches) (steps : List code.Step) (i : ℕ) (item : code.S
   stopped_at c is OutOfMemory stopped = tt
   stopped_at c is TooLarge stopped =
       too_large switches (map bare_step steps) (first_steps steps i) c (map bare_step (drop (suc i) steps)) (subst (λ x. map bare_step steps ≡ first_steps steps i ++ x ∷ map bare_step (drop (suc i) steps)) is whole)
-      (state_with progress h.run.0) (all_utf8 (take i steps)) h.run.2 h.clean (subst (λ s. StepTooLarge s (state_with progress h.run.0) c) h.switched (stopped h.run.0 h.run.1))
+      (state_with progress h.run.0) h.run.2 h.clean (subst (λ s. StepTooLarge s (state_with progress h.run.0) c) h.switched (stopped h.run.0 h.run.1))
   stopped_at c is (BadStep number why) stopped =
       bad_step switches (map bare_step steps) (first_steps steps i) c (map bare_step (drop (suc i) steps)) (subst (λ x. map bare_step steps ≡ first_steps steps i ++ x ∷ map bare_step (drop (suc i) steps)) is whole)
-      (state_with progress h.run.0) (all_utf8 (take i steps)) h.run.2 h.clean number why (stopped.0 ∙ h.taken.counted) (sym (checked progress (first_steps steps i) h.taken c) ∙ stopped.1)
+      (state_with progress h.run.0) h.run.2 h.clean number why (stopped.0 ∙ h.taken.counted) (sym (checked progress (first_steps steps i) h.taken c) ∙ stopped.1)
 
   pub stops : (error : ReplayError) → Stopped progress (bare_step item) error → Replays switches (map bare_step steps) (Err error)
   stops error stopped = stopped_at (bare_step item) refl error stopped
@@ -86,4 +86,4 @@ pub all_hold : (switches : Switches) (steps : List code.Step) (i : ℕ) (progres
 all_hold switches steps i progress past h =
     let all : first_steps steps i ≡ map bare_step steps = ap (map bare_step) (take_all i steps past) in
     subst (λ cs. AllByRecursion (FinishHolds switches cs) (map finish_given progress.finished.items)) all
-    (run_kept switches (first_steps steps i) (all_utf8 (take i steps)) (state_with progress h.run.0) h.run.2).finished
+    ((run_kept switches (first_steps steps i) (state_with progress h.run.0) h.run.2).finished (all_utf8 (take i steps)))

@@ -82,7 +82,7 @@ numbers_good (Some width) items v h = by_test (list_all (fits_width width) items
     by_test false h = (cc)
 
 -- The steps cs lead to a state, none of them bad; then comes the step c, and then the rest.
-module _ (switches : Switches) (all cs : List Step) (c : Step) (rest : List Step) (whole : all ≡ cs ++ c ∷ rest) (state : State) (utf8 : AllUtf8 cs)
+module _ (switches : Switches) (all cs : List Step) (c : Step) (rest : List Step) (whole : all ≡ cs ++ c ∷ rest) (state : State)
     (run : LeadsTo switches nothing_written cs state) (clean : first_bad cs ≡ None) where
   there : slice_get all (length cs) ≡ Some c
   there = ap (λ xs. slice_get xs (length cs)) whole ∙ get_last cs c rest
@@ -96,7 +96,7 @@ module _ (switches : Switches) (all cs : List Step) (c : Step) (rest : List Step
 
   name_good : NamedAreGood state.listed fault_here
   name_good number named h =
-      let v = run_value switches cs utf8 state run number named h in
+      let v = run_value switches cs state run number named h in
       ap (fault_of (kind_named named)) v.named ∙ ap (λ k. naming_fault (kind_named named) (Some k)) v.kind ∙ no_wrong_kind (kind_named named)
 
   value_named : (number distance : ℕ) → value_at state.listed number ≡ Some distance → fault_here a_value number ≡ None

@@ -2,6 +2,7 @@
 use Rattle.std.specs.Prelude.{◌≡◌, ℕ, ◌+◌, ◌≤◌, List, [], ◌∷◌, ◌++◌, length, take, slice_get}
 use Rattle.std.specs.Prelude.{Option, Some}
 use Rattle.std.specs.List.{AllByRecursion}
+use Rattle.planus_back.specs.Promises.{Keep}
 use Rattle.planus_back.specs.Parts.{Part}
 use Rattle.planus_back.specs.Placings.{IsPlacing, NoneIsGreater}
 use Rattle.planus_read.specs.Bytes.{BytesStand}
@@ -36,7 +37,8 @@ pub record IsFewest (parts : List Part) (places : List ℕ) (bytes : List ℕ) :
 
 -- What is given by the finish of one step, to which the steps with it lead: it lists every value
 -- since the last clear, and each holds in its bytes; the reference at their front leads to the
--- value of its root's step, and its identifier stands behind that; and its bytes are the fewest.
+-- value of its root's step, and its identifier stands behind that; its length keeps every promise
+-- that was made of a part since the last clear; and its bytes are the fewest.
 -- The format: a buffer begins with a reference to its root; four bytes that identify the file may
 -- follow.
 pub record FinishHolds (switches : Switches) (steps : List Step) (given : Finish) : Type 0 where
@@ -52,4 +54,5 @@ pub record FinishHolds (switches : Switches) (steps : List Step) (given : Finish
   pub leads : (distance : ℕ) × (value_at given.places root ≡ Some distance)
       × ReferenceStands given.bytes 0 distance
   pub identified : BytesStand given.bytes 4 (identifier_bytes identifier)
+  pub keeps : Keep state.past.written.promises (length given.bytes)
   pub fewest : IsFewest state.past.parts state.past.places given.bytes

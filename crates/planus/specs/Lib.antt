@@ -8,6 +8,7 @@ pub mod TableChecks
 pub mod Replays
 pub mod Headline
 pub mod Once
+pub mod SameTrees
 pub mod Replaying
 pub mod Prepared
 pub mod Filling

@@ -133,3 +133,13 @@ AnswersAreOne =
     (switches : Switches) (steps : List Step) (a b : Result (List Finish) ReplayError)
     → Replays switches steps a → Replays switches steps b
     → WantsMemory a ⊎ WantsMemory b ⊎ (a ≡ b)
+
+-- an answer that isn't a want of memory
+abbrev pub IsAnswered : Switches → List Step → Type 0
+IsAnswered switches steps = (answer : Result (List Finish) ReplayError)
+    × Replays switches steps answer × (WantsMemory answer → ⊥)
+
+-- There is one to every list of steps: a step that isn't bad can be taken, or comes to a part that
+-- is too large.
+abbrev pub AnAnswerIsThere : Type 0
+AnAnswerIsThere = (switches : Switches) (steps : List Step) → IsAnswered switches steps

@@ -1,5 +1,5 @@
 -- The laws of padding.
-use Rattle.std.proofs.Common.{◌≡◌, ℕ, ◌+◌, ◌-◌, ◌*◌, ◌/◌, ◌%◌, ◌^◌, ◌<◌, ◌≤◌, inl, inr, arith, sym, subst, List, ◌∷◌}
+use Rattle.std.proofs.Common.{◌≡◌, ℕ, ◌+◌, ◌-◌, ◌*◌, ◌/◌, ◌%◌, ◌^◌, ◌<◌, ◌≤◌, max, inl, inr, arith, sym, subst, List, ◌∷◌}
 use Rattle.std.specs.Int.{◌∣◌}
 use Rattle.std.specs.List.{AllByRecursion}
 use Rattle.std.proofs.lemmas.Bool.{cases_lt}
@@ -9,9 +9,9 @@ use Rattle.std.proofs.Math.Nat.{dvd-add, mod-lt}
 use Rattle.planus_back.specs.Promises.{Promise, IsPowerOfTwo, Keeps, Keep, greatest_alignment}
 use Rattle.planus_back.specs.Padding.{promise_of, IsLeast, IsLeastPadding}
 use Rattle.planus_back.specs.Descriptions.{Describes}
-use Rattle.planus_back.specs.Requests.{Delay, LeavesSome}
-use Rattle.planus_back.proofs.Lengths.{Computed, combined, turns_of, least_of_request}
-use Rattle.planus_back.proofs.Lists.{mask_is_greatest, greatest_is_power, delayed_is_below, least_padding_of, kept_before, reached_later}
+use Rattle.planus_back.specs.Requests.{Delay, LeavesSome, DescribesAll}
+use Rattle.planus_back.proofs.Lengths.{Computed, combined, turns_of, least_of_request, those_of_request}
+use Rattle.planus_back.proofs.Lists.{mask_is_greatest, greatest_is_power, delayed_is_below, least_padding_of, kept_before, reached_later, described_after}
 
 pub below_alignment : (length : ℕ) (promises : List Promise) (size alignment padding : ℕ) → 0 < alignment
     → IsLeastPadding length promises size alignment padding → padding < alignment
@@ -48,9 +48,11 @@ computed d m s a e q c small positive below f = record {
   small = mod-lt e positive;
 }
 
-pub exists : (length delayed mask : ℕ) (promises : List Promise) (size alignment : ℕ) → Describes length delayed mask promises
+-- in front of described promises there is a least padding, and with the part's promise they stay described
+pub exists_described : (length delayed mask : ℕ) (promises : List Promise) (size alignment : ℕ) → Describes length delayed mask promises
     → IsPowerOfTwo alignment → (padding : ℕ) × IsLeastPadding length promises size alignment padding
-exists length delayed mask promises size alignment h power =
+    × ((later : Delay) × DescribesAll later (length + padding + size) (promise_of (length + padding + size) alignment ∷ promises))
+exists_described length delayed mask promises size alignment h power =
     let m : ℕ = mask + 1 in
     let same : greatest_alignment 1 promises ≡ m = mask_is_greatest length delayed mask promises h in
     let turns : IsPowerOfTwo m = subst (λ x. IsPowerOfTwo x) same (greatest_is_power promises h.powers) in
@@ -61,12 +63,34 @@ exists length delayed mask promises size alignment h power =
     let whole : ℕ = delayed + size * mask in
     let parts : whole / m * m + whole % m ≡ whole = div-add-mod' whole m in
     let e : ℕ = whole % m in
+    let p : ℕ = e % (asked + 1) in
     let f : e + size + whole / m * m ≡ delayed + size * m = omega (arith, parts) in
     let delay : Delay = record { delayed = delayed; mask = mask } in
-    let done = combined length delayed size mask asked e (e % (asked + 1)) (computed delayed m size (asked + 1) e (whole / m) size small (omega arith) (mod-lt whole (omega arith)) f) turns (subst (λ x. IsPowerOfTwo x) back power) in
-    let least : IsLeast (LeavesSome delay length size (asked + 1)) (e % (asked + 1)) = least_of_request delay length size asked e (e % (asked + 1)) done in
-    let result : IsLeastPadding length promises size (asked + 1) (e % (asked + 1)) = least_padding_of delay length size (asked + 1) (e % (asked + 1)) promises h least in
-    (e % (asked + 1), subst (λ x. IsLeastPadding length promises size x (e % (asked + 1))) (sym back) result)
+    let done = combined length delayed size mask asked e p (computed delayed m size (asked + 1) e (whole / m) size small (omega arith) (mod-lt whole (omega arith)) f) turns (subst (λ x. IsPowerOfTwo x) back power) in
+    let least : IsLeast (LeavesSome delay length size (asked + 1)) p = least_of_request delay length size asked e p done in
+    let result : IsLeastPadding length promises size (asked + 1) p = least_padding_of delay length size (asked + 1) p promises h least in
+    let later : Delay = record { delayed = e - p; mask = max mask asked } in
+    let described : DescribesAll later (length + p + size) (promise_of (length + p + size) (asked + 1) ∷ promises)
+    = described_after delay later length (length + p + size) (asked + 1) promises (omega arith) (subst (λ x. IsPowerOfTwo x) back power) (those_of_request delay length size asked e p done) h in (
+      p,
+      subst (λ x. IsLeastPadding length promises size x p) (sym back) result,
+      (later, subst (λ x. DescribesAll later (length + p + size) (promise_of (length + p + size) x ∷ promises)) (sym back) described),
+    )
+
+pub exists : (length delayed mask : ℕ) (promises : List Promise) (size alignment : ℕ) → Describes length delayed mask promises
+    → IsPowerOfTwo alignment → (padding : ℕ) × IsLeastPadding length promises size alignment padding
+exists length delayed mask promises size alignment h power =
+    let found = exists_described length delayed mask promises size alignment h power in
+    (found.0, found.1)
+
+-- with a part behind the least padding described promises stay described
+pub stay_described : (delay : Delay) (length : ℕ) (promises : List Promise) (size alignment padding : ℕ) → DescribesAll delay length promises
+    → IsPowerOfTwo alignment → IsLeastPadding length promises size alignment padding
+    → (later : Delay) × DescribesAll later (length + padding + size) (promise_of (length + padding + size) alignment ∷ promises)
+stay_described delay length promises size alignment padding h power least =
+    let found = exists_described length delay.delayed delay.mask promises size alignment h power in
+    let same : found.0 ≡ padding = is_unique length promises size alignment found.0 padding found.1 least in
+    subst (λ p. (later : Delay) × DescribesAll later (length + p + size) (promise_of (length + p + size) alignment ∷ promises)) same found.2
 
 pub keeps_all : (length : ℕ) (promises : List Promise) (size alignment padding : ℕ)
     → AllByRecursion (λ (p : Promise). IsPowerOfTwo p.alignment) promises → AllByRecursion (λ (p : Promise). p.distance ≤ length) promises → IsPowerOfTwo alignment → greatest_alignment 1 promises ≤ alignment

@@ -6,6 +6,7 @@ pub mod Printing
 pub mod Named
 pub mod Limited
 pub mod OneText
+pub mod SomeText
 pub mod Lists
 pub mod FieldLists
 pub mod WrittenWeapons

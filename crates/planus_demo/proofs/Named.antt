@@ -18,7 +18,7 @@ use Rattle.planus.specs.declared.faults.ReplayError.{ReplayError}
 use Rattle.planus.specs.declared.faults.ReplayError.TheVariants.{OutOfMemory, TooLarge, BadStep}
 
 -- as many numbers as steps
-abbrev AsMany : Result Read (ℕ × ReadFault) → Type 0
+abbrev pub AsMany : Result Read (ℕ × ReadFault) → Type 0
 AsMany (Ok read) = length read.numbers ≡ length read.commands
 AsMany (Err fault) = Unit {0}
 
@@ -34,7 +34,7 @@ if_as_many : (b : Bool) (x y : Result Read (ℕ × ReadFault)) → AsMany x → 
 if_as_many true x y hx hy = hx
 if_as_many false x y hx hy = hy
 
-lines_as_many : (number : ℕ) (lines : List (List ℕ)) → AsMany (read_lines number lines)
+pub lines_as_many : (number : ℕ) (lines : List (List ℕ)) → AsMany (read_lines number lines)
 lines_as_many number [] = refl
 lines_as_many number (line ∷ lines) =
     if_as_many (is_skipped line) (read_lines (number + 1) lines) (then_read number (command_of line) (read_lines (number + 1) lines)) (lines_as_many (number + 1) lines)
@@ -45,7 +45,7 @@ number_of_bad None = 0
 number_of_bad (Some bad) = bad.0
 
 -- a bad step is one of the steps
-bad_within : (earlier steps : List Step) (n : ℕ) (why : Why) → first_bad_after earlier steps ≡ Some (n, why) → n < length earlier + length steps
+pub bad_within : (earlier steps : List Step) (n : ℕ) (why : Why) → first_bad_after earlier steps ≡ Some (n, why) → n < length earlier + length steps
 bad_within earlier [] n why h = (cc)
 bad_within earlier (step ∷ steps) n why h = at_check (broken_check earlier step) h (bad_within (earlier ++ step ∷ []) steps n why)
   where

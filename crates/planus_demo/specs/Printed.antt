@@ -79,3 +79,8 @@ abbrev pub PrintedIsOne : Type 0
 PrintedIsOne =
     (input : List ℕ) (a b : Bool) (x y : List ℕ) → Printed input a x → Printed input b y → (a ≡ b)
     × (x ≡ y)
+
+-- Of every input a text is printed.
+abbrev pub ATextIsPrinted : Type 0
+ATextIsPrinted = (input : List ℕ) → (clean : Bool) × (printed : List ℕ)
+    × Printed input clean printed

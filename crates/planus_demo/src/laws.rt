@@ -1,8 +1,13 @@
-//! A law over what is printed. The function does nothing: it states the law by its contract.
+//! Laws over what is printed. The functions do nothing: each states a law by its contract.
 
-ghost use Rattle.planus_demo.specs.Printed.{PrintedIsOne};
+ghost use Rattle.planus_demo.specs.Printed.{ATextIsPrinted, PrintedIsOne};
 
 /// Of each input one text is printed, want of memory aside.
 pub fn printed_is_one()
     ensures { PrintedIsOne }
+{}
+
+/// Of each input there is a text that is printed. So want of memory aside it is exactly one.
+pub fn a_text_is_printed()
+    ensures { ATextIsPrinted }
 {}
