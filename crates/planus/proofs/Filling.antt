@@ -1,15 +1,13 @@
 -- The body of a table, field by field.
-use Rattle.std.proofs.Common.{◌≡◌, ℕ, ◌+◌, ◌-◌, ◌≤◌, List, [], ◌∷◌, ◌++◌, length, map, take, drop, refl, sym}
+use Rattle.std.proofs.Common.{◌≡◌, ℕ, ◌+◌, ◌-◌, ◌≤◌, List, [], ◌∷◌, ◌++◌, map, take, drop, refl, sym}
 use Rattle.std.proofs.Common.{ap, ◌∙◌, subst, arith, Option, Some, None, append_assoc, append-nil}
-use Rattle.std.proofs.Common.{length-append, drop-drop}
 use Rattle.std.specs.Option.{option_or, option_map}
-use Rattle.std.proofs.lemmas.List.{length-drop, map-append}
-use Rattle.std.proofs.Math.Seq.{take-append_seam, drop-append-add}
+use Rattle.std.proofs.lemmas.List.{map-append}
 use Rattle.planus_read.specs.Values.{Field}
 use Rattle.planus_write.specs.Tables.{field_item, field_size, body_size, body_bytes}
 use Rattle.planus_write.specs.Parts.{Named}
-use Rattle.planus_write.proofs.TableBytes.{body_length}
-use Rattle.planus_write.specs.declared.object_writer.ObjectWriter.{ObjectWriter}
+use Rattle.planus_write.specs.ObjectWriting.{ObjectBody, wrote}
+use Rattle.planus_write.proofs.WrittenBodies.{wrote_both}
 use Rattle.planus.specs.Steps.{FieldStep, content_of, bare_field}
 use Rattle.planus.specs.declared.steps.Field as code
 use Rattle.planus.specs.Slots.{slot_fault, rising_fault, place_fault, alignment_of, greatest_field}
@@ -120,13 +118,10 @@ content_apart fault slots before (entry ∷ xs) x rest e =
     (none_of (field_fault fault slots before entry) (fields_fault fault (slots ++ entry.0 ∷ []) (alignment_of entry.1) (xs ++ x ∷ rest)) e).1
 
 -- The first fields of a table are written, and nothing behind them.
-pub record Filled (body : TableBody) (index : ℕ) (old new : ObjectWriter) : Type 0 where
+pub record Filled (body : TableBody) (index : ℕ) (old new : ObjectBody) : Type 0 where
   pub front : List (ℕ × Field)
   pub are : fields_of (listed_since body) [] greatest_field (map bare_field (take index body.fields.now)) ≡ Some front
-  pub same_reference : new.bytes.ghost_name ≡ old.bytes.ghost_name
-  pub place : new.place ≡ old.place
-  pub at : new.at ≡ body_size front
-  pub bytes : new.bytes.now ≡ body_bytes old.place front ++ drop (body_size front) old.bytes.now
+  pub written : new ≡ wrote (body_size front) (λ place. body_bytes place front) old
 
 -- the fields of a table without a fault
 pub fields_are_in : (body : TableBody) → fields_of (listed_since body) [] greatest_field (map bare_field body.fields.now) ≡ Some (fields_in body)
@@ -135,18 +130,10 @@ fields_are_in body =
     (map bare_field body.fields.now) body.good in
     made.1 ∙ ap (λ (all : List (ℕ × Field)). Some all) (sym (ap fields_or_none made.1))
 
--- the bytes behind what is written, and one field over them
-seam : (front old item : List ℕ) (n s : ℕ) → length front ≡ n → take n (front ++ drop n old) ++ item ++ drop (n + s) (front ++ drop n old) ≡ front ++ item ++ drop (n + s) old
-seam front old item n s long =
-    let first : take n (front ++ drop n old) ≡ front = subst (λ m. take m (front ++ drop n old) ≡ front) long (take-append_seam front (drop n old)) in
-    let rest : drop (n + s) (front ++ drop n old) ≡ drop (n + s) old
-    = ap (λ m. drop (m + s) (front ++ drop n old)) (sym long) ∙ drop-append-add front (drop n old) s ∙ drop-drop s n old in
-    ap (λ bytes. bytes ++ item ++ drop (n + s) (front ++ drop n old)) first ∙ ap (λ bytes. front ++ item ++ bytes) rest
-
 no_fault : (why : Why) → None ≡ Some why → ⊥
 no_fault why e = (cc)
 
-module _ (body : TableBody) (i : ℕ) (x : code.Field) (step : take (i + 1) body.fields.now ≡ take i body.fields.now ++ x ∷ []) (old new : ObjectWriter) (filled : Filled body i old new) where
+module _ (body : TableBody) (i : ℕ) (x : code.Field) (step : take (i + 1) body.fields.now ≡ take i body.fields.now ++ x ∷ []) (old new : ObjectBody) (filled : Filled body i old new) where
   abbrev behind : List (ℕ × FieldStep)
   behind = map bare_field (drop (i + 1) body.fields.now)
 
@@ -180,39 +167,29 @@ module _ (body : TableBody) (i : ℕ) (x : code.Field) (step : take (i + 1) body
     size_is = ap body_size whole ∙ size_around filled.front (x.slot, field) apart.back
 
     -- there is room for it, and it may be written where it comes
-    pub room : length old.bytes.now ≡ body_size (fields_in body) → new.at + field_size field ≤ length new.bytes.now
+    pub room : old.remaining ≡ body_size (fields_in body) → field_size field ≤ new.remaining
     room size =
-        let at = filled.at in
+        let left = ap (λ (b : ObjectBody). b.remaining) filled.written in
         let all = size_is in
-        let written = body_length filled.front old.place in
-        let rest = length-drop (body_size filled.front) old.bytes.now in
-        let bytes = ap length filled.bytes ∙ length-append (body_bytes old.place filled.front) (drop (body_size filled.front) old.bytes.now) in
-        omega (arith, at, all, size, written, rest, bytes)
+        omega (arith, left, all, size)
 
-    pub reach : fields_reach (fields_in body) + body_size (fields_in body) ≤ old.place → new.at + field_reach field ≤ new.place
+    pub reach : fields_reach (fields_in body) + body_size (fields_in body) ≤ old.place → field_reach field ≤ new.place
     reach le =
         let far : field_reach field ≤ fields_reach (fields_in body)
         = subst (λ fields. field_reach field ≤ fields_reach fields) (sym whole) (reach_inside filled.front (x.slot, field) apart.back) in
-        let at = filled.at in let place = filled.place in let all = size_is in omega (arith, le, far, at, place, all)
+        let place = ap (λ (b : ObjectBody). b.place) filled.written in let all = size_is in omega (arith, le, far, place, all)
 
     -- and then one field more is written
-    pub filled_on : (after : ObjectWriter) → after.bytes.ghost_name ≡ new.bytes.ghost_name → after.at ≡ new.at + field_size field → after.place ≡ new.place
-        → after.bytes.now ≡ take new.at new.bytes.now ++ field_item field (new.place - new.at) ++ drop (new.at + field_size field) new.bytes.now → Filled body (i + 1) old after
-    filled_on after same_reference at place bytes =
-        let size : body_size (filled.front ++ (x.slot, field) ∷ []) ≡ body_size filled.front + field_size field = (let e = size_around filled.front (x.slot, field) [] in omega (arith, e)) in
+    pub filled_on : (after : ObjectBody) → after ≡ wrote (field_size field) (field_item field) new → Filled body (i + 1) old after
+    filled_on after one_more =
+        let size : body_size filled.front + field_size field ≡ body_size (filled.front ++ (x.slot, field) ∷ []) = (let e = size_around filled.front (x.slot, field) [] in omega (arith, e)) in
         record {
           front = filled.front ++ (x.slot, field) ∷ [];
           are = ap (λ (fields : List code.Field). fields_of (listed_since body) [] greatest_field (map bare_field fields)) step
               ∙ ap (fields_of (listed_since body) [] greatest_field) (map-append bare_field (take i body.fields.now) (x ∷ [])) ∙ apart.next
               ∙ ap (λ (f : List (ℕ × Field)). Some (f ++ (x.slot, apart.field) ∷ [])) front_is ∙ ap (λ (f : Field). Some (filled.front ++ (x.slot, f) ∷ [])) field_is_it;
-          same_reference = same_reference ∙ filled.same_reference;
-          place = place ∙ filled.place;
-          at = at ∙ ap (λ n. n + field_size field) filled.at ∙ sym size;
-          bytes = bytes
-              ∙ ap (λ n. take n new.bytes.now ++ field_item field (new.place - n) ++ drop (n + field_size field) new.bytes.now) filled.at
-              ∙ ap (λ p. take (body_size filled.front) new.bytes.now ++ field_item field (p - body_size filled.front) ++ drop (body_size filled.front + field_size field) new.bytes.now) filled.place
-              ∙ ap (λ bs. take (body_size filled.front) bs ++ field_item field (old.place - body_size filled.front) ++ drop (body_size filled.front + field_size field) bs) filled.bytes
-              ∙ seam (body_bytes old.place filled.front) old.bytes.now (field_item field (old.place - body_size filled.front)) (body_size filled.front) (field_size field) (body_length filled.front old.place)
-              ∙ ap (λ bs. bs ++ drop (body_size filled.front + field_size field) old.bytes.now) (sym (bytes_push old.place filled.front (x.slot, field)))
-              ∙ ap (λ n. body_bytes old.place (filled.front ++ (x.slot, field) ∷ []) ++ drop n old.bytes.now) (sym size);
+          written = one_more ∙ ap (wrote (field_size field) (field_item field)) filled.written
+              ∙ wrote_both (body_size filled.front) (field_size field) (λ place. body_bytes place filled.front) (field_item field)
+              (λ place. body_bytes place (filled.front ++ (x.slot, field) ∷ [])) old (bytes_push old.place filled.front (x.slot, field))
+              ∙ ap (λ n. wrote n (λ place. body_bytes place (filled.front ++ (x.slot, field) ∷ [])) old) size;
         }

@@ -1,8 +1,9 @@
 //! A field of a table on its way into the buffer.
-ghost use Rattle.std.specs.Prelude.{◌≡◌, ◌+◌, ◌-◌, ◌≤◌, ◌++◌, List, [], ◌∷◌, length, take, drop};
+ghost use Rattle.std.specs.Prelude.{◌≡◌, ◌+◌, ◌≤◌, ◌++◌, List, [], ◌∷◌};
 ghost use Rattle.planus_read.specs.Aligned.{field_alignment};
 ghost use Rattle.planus_read.specs.Bytes.{BytesStand};
 ghost use Rattle.planus_write.specs.Tables.{Declared, field_item, field_size};
+ghost use Rattle.planus_write.specs.ObjectWriting.{body_of, wrote};
 ghost use Rattle.planus_write.specs.TableWriting.{WasTold, entered, slot_position};
 ghost use Rattle.planus.specs.Runs.{field_width};
 ghost use Rattle.planus.specs.Prepared.{field_is, field_reach, PreparesNumber};
@@ -84,15 +85,10 @@ impl PreparedField {
 
     /// Writes it behind what is written.
     pub(crate) fn write(&self, writer: &mut ObjectWriter<'_>)
-        requires room { writer.old.at + field_size (field_is self.now)
-            ≤ length writer.old.bytes.now }
-        requires reach { writer.old.at + field_reach (field_is self.now) ≤ writer.old.place }
-        ensures same_reference { writer.new.bytes.ghost_name ≡ writer.old.bytes.ghost_name }
-        ensures at { writer.new.at ≡ writer.old.at + field_size (field_is self.now) }
-        ensures place { writer.new.place ≡ writer.old.place }
-        ensures bytes { writer.new.bytes.now ≡ take writer.old.at writer.old.bytes.now
-            ++ field_item (field_is self.now) (writer.old.place - writer.old.at)
-            ++ drop (writer.old.at + field_size (field_is self.now)) writer.old.bytes.now }
+        requires room { field_size (field_is self.now) ≤ (body_of writer.old).remaining }
+        requires reach { field_reach (field_is self.now) ≤ (body_of writer.old).place }
+        ensures { body_of writer.new ≡ wrote (field_size (field_is self.now))
+            (field_item (field_is self.now)) (body_of writer.old) }
     {
         match self {
             PreparedField::U8(number) => writer.write::<u8, u8>(number),

@@ -1,19 +1,20 @@
 -- Fields that are declared and written one after another.
 use Rattle.std.proofs.Common.{◌≡◌, ℕ, suc, ◌+◌, ◌-◌, ◌≤◌, List, [], ◌∷◌, ◌++◌, length, take, drop, replicate}
 use Rattle.std.proofs.Common.{Option, Some, None, refl, sym, ap, ◌∙◌, subst, arith, append_assoc}
-use Rattle.std.proofs.Common.{length-append, inl, inr}
+use Rattle.std.proofs.Common.{inl, inr}
 use Rattle.std.specs.Prelude.{◌⊎◌}
 use Rattle.std.specs.Int.{w16, to_le_bytes}
 use Rattle.std.proofs.lemmas.Bool.{cases_lt}
-use Rattle.std.proofs.lemmas.List.{map-append, append-nil, take_all, length-take, length-drop, drop-replicate}
-use Rattle.std.proofs.Math.Seq.{take-append_seam}
+use Rattle.std.proofs.lemmas.List.{map-append, append-nil, length-take, length-drop, drop-replicate}
 use Rattle.planus_read.specs.Bytes.{BytesStand}
 use Rattle.planus_write.specs.Items.{Item}
 use Rattle.planus_write.specs.Tables.{Declared, total_size}
 use Rattle.planus_write.specs.TableWriting.{Writer, WasTold, slot_position, blank, entered}
+use Rattle.planus_write.specs.ObjectWriting.{ObjectBody, wrote}
 use Rattle.planus_write.proofs.ToldTables.{pair_elsewhere}
+use Rattle.planus_write.proofs.WrittenBodies.{wrote_both}
 use Rattle.planus_demo.specs.TableFields.{TableField, field_if, size_if, entries_of, bytes_of}
-use Rattle.planus_demo.specs.TableFields.{IsUnused, HasWritten}
+use Rattle.planus_demo.specs.TableFields.{item_if, IsUnused}
 
 -- the entries of fields that follow others
 pub entries_append : (fields others : List TableField)
@@ -39,7 +40,13 @@ pub size_of_field : {A : Type 0} (entry : Declared) (leaves : A → Item) (field
 size_of_field entry leaves None = refl
 size_of_field entry leaves (Some prepared) = omega arith
 
--- and their bytes
+-- and its bytes
+bytes_of_field : {A : Type 0} (entry : Declared) (leaves : A → Item) (field : Option A) (place : ℕ)
+    → bytes_of (field_if entry leaves field) place ≡ item_if leaves field place
+bytes_of_field entry leaves None place = refl
+bytes_of_field entry leaves (Some prepared) place = append-nil (leaves prepared place)
+
+-- the bytes of all of them
 bytes_append : (fields others : List TableField) (place : ℕ)
     → bytes_of (fields ++ others) place
     ≡ bytes_of fields place ++ bytes_of others (place - total_size (entries_of fields))
@@ -102,52 +109,34 @@ pub blank_unused : (writer : Writer) (N slot : ℕ) → writer ≡ blank N → s
 blank_unused writer N slot is_blank inside =
     subst (λ writer. IsUnused writer slot) (sym is_blank) (zeros_stand N (slot_position slot) inside)
 
--- nothing is written at first
-pub nothing_written : (at place : ℕ) (bytes : List ℕ) → at ≡ 0 → HasWritten [] at place bytes
-nothing_written at place bytes start =
-    record { position = start; written = ap (λ n. take n bytes) start }
+-- These fields, of so many bytes, were written behind what was.
+pub record HasWritten (fields : List TableField) (size : ℕ) (old new : ObjectBody) : Type 0 where
+  pub sized : size ≡ total_size (entries_of fields)
+  pub written : new ≡ wrote size (bytes_of fields) old
 
--- one field more is written behind the others
-pub written_field : (fields : List TableField) (field : TableField) (at place size : ℕ)
-    (before after : List ℕ)
-    → HasWritten fields at place before → field.entry.size ≡ size → at + size ≤ length before
-    → length after ≡ length before
-    → after ≡ take at before ++ field.item (place - at) ++ drop (at + size) before
-    → HasWritten (fields ++ field ∷ []) (at + size) place after
-written_field fields field at place size before after written is_size room same is_after = record {
-  position = (let sizes = size_append fields (field ∷ []) in let e = written.position in omega (arith, sizes, e, is_size));
-  written = taken ∙ ap (λ front. front ++ field.item (place - at)) written.written ∙ sym joined;
+-- the first of them
+pub first_written : {A : Type 0} (entry : Declared) (leaves : A → Item) (field : Option A)
+    (old new : ObjectBody) → new ≡ wrote (size_if entry.size field) (item_if leaves field) old
+    → HasWritten (field_if entry leaves field) (size_if entry.size field) old new
+first_written entry leaves field old new is_new = record {
+  sized = sym (size_of_field entry leaves field);
+  written =
+      is_new ∙ ap (λ bytes. wrote (size_if entry.size field) (λ place. bytes) old)
+      (sym (bytes_of_field entry leaves field old.place));
 }
-  where
-    front : List ℕ
-    front = take at before ++ field.item (place - at)
 
-    long : length front ≡ at + size
-    long =
-        let all : length after ≡ length front + length (drop (at + size) before) = ap length is_after ∙ length-append front (drop (at + size) before) in
-        let rest = length-drop (at + size) before in
-        omega (arith, all, rest, same, room)
-
-    taken : take (at + size) after ≡ front
-    taken =
-        ap (take (at + size)) is_after
-        ∙ ap (λ n. take n (front ++ drop (at + size) before)) (sym long)
-        ∙ take-append_seam front (drop (at + size) before)
-
-    joined : bytes_of (fields ++ field ∷ []) place ≡ bytes_of fields place ++ field.item (place - at)
-    joined =
-        bytes_append fields (field ∷ []) place
-        ∙ ap (λ n. bytes_of fields place ++ (field.item (place - n) ++ [])) (sym written.position)
-        ∙ ap (λ bytes. bytes_of fields place ++ bytes) (append-nil (field.item (place - at)))
-
--- or nothing more
-pub written_nothing_more : (fields : List TableField) (at place : ℕ) (bytes : List ℕ)
-    → HasWritten fields at place bytes → HasWritten (fields ++ []) at place bytes
-written_nothing_more fields at place bytes written =
-    subst (λ all. HasWritten all at place bytes) (sym (append-nil fields)) written
-
--- all of the bytes are written
-pub all_written : (fields : List TableField) (at place : ℕ) (bytes : List ℕ)
-    → HasWritten fields at place bytes → length bytes ≡ at → bytes ≡ bytes_of fields place
-all_written fields at place bytes written whole =
-    sym (take_all at bytes (omega (arith, whole))) ∙ written.written
+-- and one more
+pub field_written : {A : Type 0} (entry : Declared) (leaves : A → Item) (field : Option A)
+    (fields : List TableField) (size : ℕ) (old now new : ObjectBody)
+    → HasWritten fields size old now
+    → new ≡ wrote (size_if entry.size field) (item_if leaves field) now
+    → HasWritten (fields ++ field_if entry leaves field) (size + size_if entry.size field) old new
+field_written entry leaves field fields size old now new before is_new = record {
+  sized = (let sizes = size_append fields (field_if entry leaves field) in let one = size_of_field entry leaves field in let e = before.sized in omega (arith, sizes, one, e));
+  written =
+      is_new ∙ ap (wrote (size_if entry.size field) (item_if leaves field)) before.written
+      ∙ wrote_both size (size_if entry.size field) (bytes_of fields) (item_if leaves field) (bytes_of (fields ++ field_if entry leaves field)) old
+      (bytes_append fields (field_if entry leaves field) old.place
+      ∙ ap (λ n. bytes_of fields old.place ++ bytes_of (field_if entry leaves field) (old.place - n)) (sym before.sized)
+      ∙ ap (λ bytes. bytes_of fields old.place ++ bytes) (bytes_of_field entry leaves field (old.place - size)));
+}

@@ -1,10 +1,10 @@
 -- The fields of a table as code has them that is generated from a schema: those that are there, in
 -- the order in which they are declared and written.
-use Rattle.std.specs.Prelude.{◌≡◌, ℕ, ◌-◌, List, [], ◌∷◌, ◌++◌, map, take, Option, Some, None}
+use Rattle.std.specs.Prelude.{◌≡◌, ℕ, ◌-◌, List, [], ◌∷◌, ◌++◌, map, Option, Some, None}
 use Rattle.planus_read.specs.Bytes.{BytesStand}
 use Rattle.planus_write.specs.Items.{Item}
 use Rattle.planus_write.specs.Placing.{Outcome}
-use Rattle.planus_write.specs.Tables.{Declared, total_size}
+use Rattle.planus_write.specs.Tables.{Declared}
 use Rattle.planus_write.specs.TableWriting.{Writer, AnswersTable, slot_position}
 use Rattle.planus_write.specs.declared.offset.Offset.{Offset}
 
@@ -28,6 +28,11 @@ abbrev pub size_if : {A : Type 0} → ℕ → Option A → ℕ
 size_if size None = 0
 size_if size (Some prepared) = size
 
+-- its bytes by its place, none if it isn't there
+abbrev pub item_if : {A : Type 0} → (A → Item) → Option A → Item
+item_if leaves None place = []
+item_if leaves (Some prepared) place = leaves prepared place
+
 -- their entries
 abbrev pub entries_of : List TableField → List Declared
 entries_of fields = map (λ field. field.entry) fields
@@ -44,9 +49,3 @@ WritesFields fields = AnswersTable (entries_of fields) (bytes_of fields)
 -- nothing is declared for the slot yet: its two bytes are 0
 abbrev pub IsUnused : Writer → ℕ → Type 0
 IsUnused writer slot = BytesStand writer.vtable (slot_position slot) (0 ∷ 0 ∷ [])
-
--- These fields are written over the first of the bytes, up to a position; the first byte has this
--- place.
-pub record HasWritten (fields : List TableField) (at place : ℕ) (bytes : List ℕ) : Type 0 where
-  pub position : at ≡ total_size (entries_of fields)
-  pub written : take at bytes ≡ bytes_of fields place

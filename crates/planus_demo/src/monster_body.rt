@@ -7,7 +7,7 @@ ghost use Rattle.planus_demo.specs.TableFields.{entries_of, bytes_of, WritesFiel
 ghost use Rattle.planus_demo.specs.Monsters.{monster_fields, monster_size, monster_reach};
 
 use crate::monster::Monster;
-use crate::table_fields::{declare, declare_if, write, write_if};
+use crate::table_fields::{declare, declare_if, write_if};
 use crate::weapon::Weapon;
 use planus::{
     BuildError, Builder, List, ObjectFill, ObjectWriter, Offset, TableWriter, Text,
@@ -46,7 +46,7 @@ where
         H.leaves N.leaves I.leaves W.leaves) };
 
     fn fill(&self, writer: &mut ObjectWriter<'_>) {
-        write::<Offset<Text>, N>(writer, &self.name);
+        writer.write::<Offset<Text>, N>(&self.name);
         write_if::<Offset<List<u8>>, I>(writer, &self.inventory);
         write_if::<Offset<List<Offset<Weapon>>>, W>(writer, &self.weapons);
         write_if::<Offset<()>, Offset<()>>(writer, &self.equipped);

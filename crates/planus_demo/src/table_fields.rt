@@ -1,13 +1,13 @@
 //! The fields of a table, declared and written one after another, those that may be absent if they
 //! are there.
 
-ghost use Rattle.std.specs.Prelude.{◌≡◌, ◌≤◌, ◌+◌, ℕ, List, [], ◌∷◌, ◌++◌, length};
+ghost use Rattle.std.specs.Prelude.{◌≡◌, ◌≤◌, ◌+◌, ℕ, List, [], ◌∷◌, ◌++◌};
 ghost use Rattle.planus_fields.specs.Fields.{reach_if};
 ghost use Rattle.planus_write.specs.Items.{Item};
-ghost use Rattle.planus_write.specs.Tables.{Declared};
+ghost use Rattle.planus_write.specs.ObjectWriting.{body_of, wrote};
 ghost use Rattle.planus_write.specs.TableWriting.{WasTold, slot_position};
-ghost use Rattle.planus_demo.specs.TableFields.{TableField, field_if, size_if, entries_of};
-ghost use Rattle.planus_demo.specs.TableFields.{IsUnused, HasWritten};
+ghost use Rattle.planus_demo.specs.TableFields.{TableField, field_if, size_if, item_if};
+ghost use Rattle.planus_demo.specs.TableFields.{entries_of, IsUnused};
 
 use planus::{ObjectWriter, Primitive, TableWriter, WriteAsPrimitive};
 
@@ -57,40 +57,18 @@ pub(crate) fn declare_if<P: Primitive, A, const N: usize>(
     }
 }
 
-/// Writes a field behind what is written.
-pub(crate) fn write<P: Primitive, A: WriteAsPrimitive<P>>(writer: &mut ObjectWriter<'_>, field: &A)
-    requires room { writer.old.at + P.SIZE ≤ length writer.old.bytes.now }
-    requires reach { writer.old.at + A.reach field.now ≤ writer.old.place }
-    ensures same_reference { writer.new.bytes.ghost_name ≡ writer.old.bytes.ghost_name }
-    ensures at { writer.new.at ≡ writer.old.at + P.SIZE }
-    ensures place { writer.new.place ≡ writer.old.place }
-    ensures length { length writer.new.bytes.now ≡ length writer.old.bytes.now }
-    ensures written { (entry : Declared) (fields : List TableField) → entry.size ≡ P.SIZE
-        → HasWritten fields writer.old.at writer.old.place writer.old.bytes.now
-        → HasWritten (fields ++ record { entry = entry; item = A.leaves field.now } ∷ [])
-        writer.new.at writer.new.place writer.new.bytes.now }
-{
-    writer.write::<P, A>(field);
-}
-
 /// Writes a field behind what is written, if it is there.
 pub(crate) fn write_if<P: Primitive, A: WriteAsPrimitive<P>>(
     writer: &mut ObjectWriter<'_>,
     field: &Option<A>,
 )
-    requires room { writer.old.at + size_if P.SIZE field.now ≤ length writer.old.bytes.now }
-    requires reach { writer.old.at + reach_if A.reach field.now ≤ writer.old.place }
-    ensures same_reference { writer.new.bytes.ghost_name ≡ writer.old.bytes.ghost_name }
-    ensures at { writer.new.at ≡ writer.old.at + size_if P.SIZE field.now }
-    ensures place { writer.new.place ≡ writer.old.place }
-    ensures length { length writer.new.bytes.now ≡ length writer.old.bytes.now }
-    ensures written { (entry : Declared) (fields : List TableField) → entry.size ≡ P.SIZE
-        → HasWritten fields writer.old.at writer.old.place writer.old.bytes.now
-        → HasWritten (fields ++ field_if entry A.leaves field.now)
-        writer.new.at writer.new.place writer.new.bytes.now }
+    requires room { size_if P.SIZE field.now ≤ (body_of writer.old).remaining }
+    requires reach { reach_if A.reach field.now ≤ (body_of writer.old).place }
+    ensures { body_of writer.new ≡ wrote (size_if P.SIZE field.now) (item_if A.leaves field.now)
+        (body_of writer.old) }
 {
     match field {
         None => {}
-        Some(field) => write::<P, A>(writer, field),
+        Some(field) => writer.write::<P, A>(field),
     }
 }

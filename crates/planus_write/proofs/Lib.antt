@@ -16,3 +16,4 @@ pub mod WrittenUnions
 pub mod PutEntries
 pub mod ToldTables
 pub mod WrittenTables
+pub mod WrittenBodies

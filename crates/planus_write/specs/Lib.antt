@@ -8,6 +8,7 @@ pub mod Backed
 pub mod State
 pub mod Sharing
 pub mod Placing
+pub mod ObjectWriting
 pub mod View
 pub mod Preparing
 pub mod Unions

@@ -1,5 +1,5 @@
 -- What the fields of a builder say to its callers.
-use Rattle.std.specs.Prelude.{ℕ, ◌+◌, ◌≤◌, ◌^◌, length}
+use Rattle.std.specs.Prelude.{ℕ, ◌+◌, ◌≤◌, ◌^◌, List, length}
 use Rattle.planus_back.specs.Padding.{greatest_place}
 use Rattle.planus_write.specs.Shared.{Switches}
 use Rattle.planus_write.specs.Backed.{Backed}
@@ -9,7 +9,8 @@ use Rattle.planus_write.specs.declared.backing.Backing.TheInside as backing
 use Rattle.planus_write.specs.declared.builder.Builder.TheInside as builder
 use Rattle.planus_write.specs.declared.caches.Caches.{Caches}
 use Rattle.planus_write.specs.declared.table_writer.TableWriter.TheInside as table_writer
-use Rattle.planus_write.specs.TableWriting.{Writer}
+use Rattle.planus_write.specs.Tables.{Declared}
+use Rattle.planus_write.specs.TableWriting.{Writer, WasTold}
 use Rattle.planus_back.specs.Promises.{IsPowerOfTwo}
 
 -- the switches that caches are
@@ -71,7 +72,8 @@ writer_of a = record {
   mask = a.mask;
 }
 
--- Its sizes are those of a vtable and an object, and its alignment is one of a part.
+-- Its sizes are those of a vtable and an object, and its alignment is one of a part. Where there is
+-- room for both sizes, it has been told some entries.
 pub record IsWriter {N : ℕ} (a : table_writer.Inside N) : Type 0 where
   pub small : a.object_size ≤ 65535
   pub vtable_small : a.vtable_size ≤ 65534
@@ -80,3 +82,4 @@ pub record IsWriter {N : ℕ} (a : table_writer.Inside N) : Type 0 where
   pub whole : 4 ≤ a.object_size
   pub sizes : 4 ≤ a.vtable_size
   pub inside : 4 ≤ N → a.vtable_size ≤ N
+  pub told : 4 ≤ N → (declared : List Declared) × WasTold (writer_of a) declared

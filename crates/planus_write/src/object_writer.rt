@@ -1,25 +1,32 @@
 //! The body of a table, written in place.
-ghost use Rattle.std.specs.Prelude.{◌≡◌, ◌+◌, ◌-◌, ◌≤◌, ◌++◌, ℕ, length, take, drop};
+ghost use Rattle.std.specs.Prelude.{◌≡◌, ◌+◌, ◌≤◌, ℕ, [], length};
 ghost use Rattle.planus_write.specs.Items.{Item};
 
 use crate::traits::{Primitive, WriteAsPrimitive};
 
-/// The fields of a table's object, which are written one behind the other.
+/// The fields of a table's object, which are written one behind the other. Contracts see it as the
+/// body that it is at: the bytes so far, how many remain, and the place of the next of them.
 #[derive(Drop)]
 pub struct ObjectWriter<'a> {
     bytes: &'a mut [u8],
     at: usize,
     // The distance in bytes from the end of the buffer to the first of the bytes.
     place: u32,
+    ghost inside: { length bytes.now ≤ place },
 }
 
 impl<'a> ObjectWriter<'a> {
+    ghost use Rattle.planus_write.specs.ObjectWriting.{body_of, wrote};
+
     // All of `bytes`, the first of which has this distance in bytes from the end of the buffer.
     pub(crate) fn new(bytes: &'a mut [u8], place: u32) -> ObjectWriter<'a>
-        ensures same_reference { result.bytes.ghost_name ≡ bytes.entry.ghost_name }
-        ensures bytes { result.bytes.now ≡ bytes.entry.now }
-        ensures at { result.at ≡ 0 }
-        ensures place { result.place ≡ place }
+        requires { length bytes.old ≤ place }
+        ensures { body_of result ≡ record {
+          written = [];
+          remaining = length bytes.old;
+          place = place;
+          reference = bytes.entry.ghost_name;
+        } }
     {
         ObjectWriter {
             bytes,
@@ -31,7 +38,7 @@ impl<'a> ObjectWriter<'a> {
     /// The number of bytes that are still to be written.
     #[inline]
     pub fn remaining(&self) -> usize
-        ensures { result ≡ length self.now.bytes.now - self.now.at }
+        ensures { result ≡ (body_of self.now).remaining }
     {
         self.bytes.len().saturating_sub(self.at)
     }
@@ -39,15 +46,10 @@ impl<'a> ObjectWriter<'a> {
     /// Writes a field. `P::SIZE` bytes remain, and what it refers to lies behind it.
     #[inline]
     pub fn write<P: Primitive, T: WriteAsPrimitive<P>>(&mut self, value: &T)
-        requires room { self.old.at + P.SIZE ≤ length self.old.bytes.now }
-        requires reach { self.old.at + T.reach value.now ≤ self.old.place }
-        ensures same_reference { self.new.bytes.ghost_name ≡ self.old.bytes.ghost_name }
-        ensures at { self.new.at ≡ self.old.at + P.SIZE }
-        ensures place { self.new.place ≡ self.old.place }
-        ensures length { length self.new.bytes.now ≡ length self.old.bytes.now }
-        ensures bytes { self.new.bytes.now ≡ take self.old.at self.old.bytes.now
-            ++ T.leaves value.now (self.old.place - self.old.at)
-            ++ drop (self.old.at + P.SIZE) self.old.bytes.now }
+        requires room { P.SIZE ≤ (body_of self.old).remaining }
+        requires reach { T.reach value.now ≤ (body_of self.old).place }
+        ensures written { body_of self.new ≡ wrote P.SIZE (T.leaves value.now) (body_of self.old) }
+        ensures size { length (T.leaves value.now (body_of self.old).place) ≡ P.SIZE }
     {
         let at = self.at;
         let place = self.place - at as u32;
@@ -62,6 +64,8 @@ impl<'a> ObjectWriter<'a> {
 /// The ghost member `size` is the number of their bytes, and `leaves` names these by the place of
 /// the first of them. `reach` is how far from the end of the buffer they refer, in bytes.
 pub trait ObjectFill {
+    ghost use Rattle.planus_write.specs.ObjectWriting.{body_of, wrote};
+
     ghost size: { Self → ℕ };
 
     ghost reach: { Self → ℕ };
@@ -70,9 +74,9 @@ pub trait ObjectFill {
 
     /// Writes all fields.
     fn fill(&self, writer: &mut ObjectWriter<'_>)
-        requires start { writer.old.at ≡ 0 }
-        requires size { length writer.old.bytes.now ≡ size self.now }
-        requires reach { reach self.now + size self.now ≤ writer.old.place }
-        ensures same_reference { writer.new.bytes.ghost_name ≡ writer.old.bytes.ghost_name }
-        ensures bytes { writer.new.bytes.now ≡ leaves self.now writer.old.place };
+        requires start { (body_of writer.old).written ≡ [] }
+        requires size { (body_of writer.old).remaining ≡ size self.now }
+        requires reach { reach self.now + size self.now ≤ (body_of writer.old).place }
+        ensures { body_of writer.new
+            ≡ wrote (size self.now) (leaves self.now) (body_of writer.old) };
 }

@@ -80,6 +80,15 @@ impl<'a, F: ObjectFill> Overwrite for Body<'a, F> {
 }
 
 impl<const N: usize> TableWriter<N> {
+    /// Says, to a caller who was handed a writer, that it was told some list of entries: clauses
+    /// that speak of every such list speak of one, where `N` is at least 4. It does nothing.
+    #[inline]
+    pub fn was_told(&self)
+        ensures { 4 ≤ N → (declared : List Declared) × WasTold self.now declared }
+    {
+        let _mask = self.mask;
+    }
+
     /// Declares a field for a slot.
     ///
     /// The slot's two bytes lie in the first `N` bytes of a vtable and in 65534, nothing is declared

@@ -1,5 +1,5 @@
 //! Truth values: one byte, 0 or 1.
-ghost use Rattle.std.specs.Prelude.{[], ◌∷◌};
+ghost use Rattle.std.specs.Prelude.{[], ◌∷◌, refl};
 ghost use Rattle.std.specs.Int.{from_bool};
 ghost use Rattle.std.proofs.Common.{lit≤};
 ghost use Rattle.planus_write.specs.Laws.{layout_of_one};
@@ -23,6 +23,8 @@ impl Primitive for bool {
 
 impl Scalar for bool {
     ghost encoded = { λ truth. from_bool truth ∷ [] };
+
+    ghost is_aligned = { refl };
 
     #[inline]
     fn put(&self, bytes: &mut [u8]) {

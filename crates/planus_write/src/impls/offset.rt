@@ -1,6 +1,9 @@
 //! Offsets: values that are written already.
-ghost use Rattle.std.specs.Prelude.{◌≤◌, length, refl};
+ghost use Rattle.std.specs.Prelude.{◌≡◌, ◌≤◌, ℕ, length, refl};
 ghost use Rattle.std.proofs.Common.{lit≤};
+ghost use Rattle.planus_read.specs.Aligned.{field_alignment};
+ghost use Rattle.planus_read.specs.Values.{reference};
+ghost use Rattle.planus_write.specs.Tables.{field_size};
 ghost use Rattle.planus_write.specs.Items.{reference_item};
 ghost use Rattle.planus_write.specs.Preparing.{IsPrepared};
 ghost use Rattle.planus_write.specs.Laws.{layout_of_four, offset_is_lawful};
@@ -10,6 +13,15 @@ use crate::errors::BuildError;
 use crate::lists::write_each;
 use crate::offset::Offset;
 use crate::traits::{Primitive, VectorWrite, WriteAsOffset, WriteAsPrimitive};
+
+/// What stands in a table or in a list as a reference.
+pub trait Reference: Primitive {
+    /// Its size is that of a reference in a table, whatever it leads to.
+    ghost is_sized: { (distance : ℕ) → Self.SIZE ≡ field_size (reference distance) };
+
+    /// So is its alignment.
+    ghost is_aligned: { (distance : ℕ) → Self.ALIGNMENT ≡ field_alignment (reference distance) };
+}
 
 impl<T> Primitive for Offset<T> {
     ghost ALIGNMENT = { 4 };
@@ -23,6 +35,12 @@ impl<T> Primitive for Offset<T> {
     const ALIGNMENT: usize = 4;
 
     const SIZE: usize = 4;
+}
+
+impl<T> Reference for Offset<T> {
+    ghost is_sized = { λ distance. refl };
+
+    ghost is_aligned = { λ distance. refl };
 }
 
 impl<T> WriteAsPrimitive<Offset<T>> for Offset<T> {

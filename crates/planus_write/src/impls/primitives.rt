@@ -1,5 +1,5 @@
 //! Numbers.
-ghost use Rattle.std.specs.Prelude.{[], ◌∷◌};
+ghost use Rattle.std.specs.Prelude.{[], ◌∷◌, refl};
 ghost use Rattle.std.specs.Int.{w8, w16, w32, w64, to_le_bytes, cast_unsigned};
 ghost use Rattle.std.proofs.Common.{lit≤};
 ghost use Rattle.planus_write.specs.Laws.{layout_of_one, layout_of_two, layout_of_four};
@@ -25,6 +25,8 @@ impl Primitive for u8 {
 impl Scalar for u8 {
     ghost encoded = { λ number. to_le_bytes w8 number };
 
+    ghost is_aligned = { refl };
+
     #[inline]
     fn put(&self, bytes: &mut [u8]) {
         bytes.copy_from_slice(&self.to_le_bytes());
@@ -47,6 +49,8 @@ impl Primitive for u16 {
 
 impl Scalar for u16 {
     ghost encoded = { λ number. to_le_bytes w16 number };
+
+    ghost is_aligned = { refl };
 
     #[inline]
     fn put(&self, bytes: &mut [u8]) {
@@ -73,6 +77,8 @@ impl Primitive for u32 {
 impl Scalar for u32 {
     ghost encoded = { λ number. to_le_bytes w32 number };
 
+    ghost is_aligned = { refl };
+
     #[inline]
     fn put(&self, bytes: &mut [u8]) {
         bytes.copy_from_slice(&self.to_le_bytes());
@@ -97,6 +103,8 @@ impl Primitive for u64 {
 
 impl Scalar for u64 {
     ghost encoded = { λ number. to_le_bytes w64 number };
+
+    ghost is_aligned = { refl };
 
     #[inline]
     fn put(&self, bytes: &mut [u8]) {
@@ -123,6 +131,8 @@ impl Primitive for i8 {
 impl Scalar for i8 {
     ghost encoded = { λ number. cast_unsigned w8 number ∷ [] };
 
+    ghost is_aligned = { refl };
+
     #[inline]
     fn put(&self, bytes: &mut [u8]) {
         bytes.copy_from_slice(&self.to_le_bytes());
@@ -145,6 +155,8 @@ impl Primitive for i16 {
 
 impl Scalar for i16 {
     ghost encoded = { λ number. to_le_bytes w16 (cast_unsigned w16 number) };
+
+    ghost is_aligned = { refl };
 
     #[inline]
     fn put(&self, bytes: &mut [u8]) {
@@ -171,6 +183,8 @@ impl Primitive for i32 {
 impl Scalar for i32 {
     ghost encoded = { λ number. to_le_bytes w32 (cast_unsigned w32 number) };
 
+    ghost is_aligned = { refl };
+
     #[inline]
     fn put(&self, bytes: &mut [u8]) {
         bytes.copy_from_slice(&self.to_le_bytes());
@@ -195,6 +209,8 @@ impl Primitive for i64 {
 
 impl Scalar for i64 {
     ghost encoded = { λ number. to_le_bytes w64 (cast_unsigned w64 number) };
+
+    ghost is_aligned = { refl };
 
     #[inline]
     fn put(&self, bytes: &mut [u8]) {

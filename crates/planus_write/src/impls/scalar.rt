@@ -18,6 +18,9 @@ pub trait Scalar: Primitive + Copy {
     fn put(&self, bytes: &mut [u8])
         requires { length bytes.old ≡ Self.SIZE }
         ensures { bytes.new ≡ encoded self.now };
+
+    /// The format: a scalar is aligned to its size.
+    ghost is_aligned: { Self.ALIGNMENT ≡ Self.SIZE };
 }
 
 /// A scalar that is an item of lists. One of a single byte is none, but for truth values: a list of

@@ -1,9 +1,10 @@
-use Rattle.std.proofs.Common.{◌≡◌, ◌+◌, ◌-◌, ◌<◌, ◌≤◌, ◌^◌, max, length, arith, rules, subst, sym, ap, ◌∙◌, [], ◌∷◌}
+use Rattle.std.proofs.Common.{◌≡◌, ◌+◌, ◌-◌, ◌<◌, ◌≤◌, ◌^◌, max, length, arith, rules, subst, sym, ap, ◌∙◌, [], ◌∷◌, ◌++◌}
 use Rattle.planus_read.specs.Bytes.{BytesStand}
 use Rattle.planus_write.specs.Tables.{Declared}
 use Rattle.planus_write.specs.TableWriting.{Writer, WasTold, slot_position}
 use Rattle.std.proofs.lemmas.Nat.{pow_pos}
 use Rattle.planus_back.specs.Promises.{IsPowerOfTwo}
+use Rattle.planus_write.specs.View.{writer_of}
 use Rattle.planus_write.proofs.ToldTables.{told_more, greater_power}
 use Rattle.planus_write.proofs.table_writer.TableWriter.write_entry.Given as given
 use Rattle.planus_write.proofs.table_writer.TableWriter.write_entry.Goals as goal
@@ -14,6 +15,19 @@ positive g =
     let some : 0 < 2 ^ power.0 = pow_pos power.0 in
     let same : g.P.Primitive.ALIGNMENT ≡ 2 ^ power.0 = power.2 in
     omega (arith, some, same)
+
+pub returns-clause-told : goal.returns-clause-told
+returns-clause-told g c = λ declared told.
+    let long : length c.self.inside.vtable ≡ g.row.N = search rules in
+    let old : Writer = writer_of c.self.inside in
+    let one : Declared = record { slot = c.args.slot; size = g.P.Primitive.SIZE; alignment = g.P.Primitive.ALIGNMENT } in
+    let new : Writer = record { vtable = c.put_pair.new.bytes; vtable_size = c.max-self-inside.result; object_size = c.self.inside.object_size + c.SIZE.result; mask = c.max-self-inside-2.result } in
+    let within = c.requires.inside in
+    let fits : old.object_size + g.P.Primitive.SIZE ≤ 65535 = subst (λ (writer : Writer). writer.object_size + g.P.Primitive.SIZE ≤ 65535) (sym c.self.view_is) c.requires.fits in
+    let unused : BytesStand old.vtable (slot_position c.args.slot) (0 ∷ 0 ∷ []) = subst (λ (writer : Writer). BytesStand writer.vtable (slot_position c.args.slot) (0 ∷ 0 ∷ [])) (sym c.self.view_is) c.requires.unused in
+    let before : WasTold old declared = subst (λ (writer : Writer). WasTold writer declared) (sym c.self.view_is) told in
+    let mask : new.mask ≡ max old.mask (one.alignment - 1) = c.max-self-inside-2.ensures ∙ ap (λ n. max old.mask (n - 1)) c.ALIGNMENT.ensures in
+    told_more old one new (omega (arith, within, long)) unused fits (positive g) c.put_pair.ensures c.max-self-inside.ensures (ap (λ n. old.object_size + n) c.SIZE.ensures) mask declared before
 
 pub invariant_of-self : goal.invariant_of-self
 invariant_of-self g c =
@@ -32,6 +46,7 @@ invariant_of-self g c =
     let whole = c.self.invariant.whole in
     let inside = c.requires.inside in
     let sizes = c.self.invariant.sizes in
+    let one : Declared = record { slot = c.args.slot; size = g.P.Primitive.SIZE; alignment = g.P.Primitive.ALIGNMENT } in
     record {
       small = omega (arith, size, fits);
       vtable_small = omega (arith, vtable, vtable_small, within);
@@ -40,17 +55,8 @@ invariant_of-self g c =
       whole = omega (arith, whole);
       sizes = omega (arith, sizes, vtable);
       inside = λ enough. (let old = c.self.invariant.inside enough in omega (arith, vtable, old, inside));
+      told = λ enough. (let before = c.self.invariant.told enough in (
+        before.0 ++ one ∷ [],
+        returns-clause-told g c before.0 (subst (λ (writer : Writer). WasTold writer before.0) c.self.view_is before.1),
+      ));
     }
-
-pub returns-clause-told : goal.returns-clause-told
-returns-clause-told g c = λ declared told.
-    let long : length c.self.inside.vtable ≡ g.row.N = search rules in
-    let old : Writer = record { vtable = c.self.inside.vtable; vtable_size = c.self.inside.vtable_size; object_size = c.self.inside.object_size; mask = c.self.inside.mask } in
-    let one : Declared = record { slot = c.args.slot; size = g.P.Primitive.SIZE; alignment = g.P.Primitive.ALIGNMENT } in
-    let new : Writer = record { vtable = c.put_pair.new.bytes; vtable_size = c.max-self-inside.result; object_size = c.self.inside.object_size + c.SIZE.result; mask = c.max-self-inside-2.result } in
-    let within = c.requires.inside in
-    let fits : old.object_size + g.P.Primitive.SIZE ≤ 65535 = subst (λ (writer : Writer). writer.object_size + g.P.Primitive.SIZE ≤ 65535) (sym c.self.view_is) c.requires.fits in
-    let unused : BytesStand old.vtable (slot_position c.args.slot) (0 ∷ 0 ∷ []) = subst (λ (writer : Writer). BytesStand writer.vtable (slot_position c.args.slot) (0 ∷ 0 ∷ [])) (sym c.self.view_is) c.requires.unused in
-    let before : WasTold old declared = subst (λ (writer : Writer). WasTold writer declared) (sym c.self.view_is) told in
-    let mask : new.mask ≡ max old.mask (one.alignment - 1) = c.max-self-inside-2.ensures ∙ ap (λ n. max old.mask (n - 1)) c.ALIGNMENT.ensures in
-    told_more old one new (omega (arith, within, long)) unused fits (positive g) c.put_pair.ensures c.max-self-inside.ensures (ap (λ n. old.object_size + n) c.SIZE.ensures) mask declared before
