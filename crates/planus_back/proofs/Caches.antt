@@ -13,9 +13,9 @@ use Rattle.planus_back.specs.CacheKeys.{key_at}
 use Rattle.planus_back.specs.declared.bucket.Bucket.{Bucket}
 use Rattle.planus_back.specs.Caches.{Held, Has, Fits, bucket, cut_hash}
 use Rattle.planus_back.specs.Caches.{IsEmpty, Adds, FitsWhereKeyStands, FitsWhereItsKeyStands, IsBucketOf, IsFound}
-use Rattle.planus_back.specs.Buckets.{listed, AddsAt, FoundAmong}
+use Rattle.planus_back.specs.Buckets.{distances_in, listed, AddsAt, FoundAmong}
 use Rattle.planus_back.proofs.Buckets.{lookup-listed}
-use Rattle.std.specs.declared.vec.Vec.{Vec}
+use Rattle.planus_back.specs.declared.distances.Distances.{Distances}
 
 none_is_not_some : (ds : List ℕ) → None ≡ Some ds → ⊥
 none_is_not_some ds e = cc
@@ -134,14 +134,14 @@ unfolding IsBucketOf
 insert_fits key_in s t old b d (Ok x) e mask adds = λ key is. rw (← e) (Fits-from s t b.hash d adds key_in key mask (ap (λ held. cut_hash held.mask key) e ∙ sym is))
 insert_fits key_in s t old b d (Err x) e mask adds = tt
 
-module _ {Z : Type 0} (key_in : List ℕ → Option (List ℕ)) (es : List (ℕ × Vec ℕ Z)) (s old : Held) (b : Bucket) (bytes key : List ℕ) (opened : s ≡ old) (is : s.buckets ≡ listed es)
+module _ (key_in : List ℕ → Option (List ℕ)) (es : List (ℕ × Distances)) (s old : Held) (b : Bucket) (bytes key : List ℕ) (opened : s ≡ old) (is : s.buckets ≡ listed es)
     (its : IsBucketOf old key b) (fits : Fits key_in old bytes) where
-  at_bucket : (o : Option (Vec ℕ Z)) → lookup (nat_eq b.hash) es ≡ o → bucket old (cut_hash old.mask key) ≡ option_map (λ v. v.items) o
+  at_bucket : (o : Option Distances) → lookup (nat_eq b.hash) es ≡ o → bucket old (cut_hash old.mask key) ≡ option_map distances_in o
   unfolding IsBucketOf
   at_bucket o e = rw (← its, ← opened, is, ← e) (lookup-listed (nat_eq b.hash) es)
 
-  pub got_some : (v : Vec ℕ Z) (ds : List ℕ) (r : Option ℕ) → lookup (nat_eq b.hash) es ≡ Some v → ds ≡ v.items → FoundAmong key_in ds bytes key r → IsFound key_in old bytes key r
-  got_some v ds r e same found = found_in_bucket key_in old bytes key ds r fits (rw same (at_bucket (Some v) e)) found
+  pub got_some : (v : Distances) (r : Option ℕ) → lookup (nat_eq b.hash) es ≡ Some v → FoundAmong key_in (distances_in v) bytes key r → IsFound key_in old bytes key r
+  got_some v r e found = found_in_bucket key_in old bytes key (distances_in v) r fits (at_bucket (Some v) e) found
 
   pub got_none : lookup (nat_eq b.hash) es ≡ None → IsFound key_in old bytes key None
   got_none e = none_in_bucket key_in old bytes key fits (λ ds there. absurd (none_is_not_some ds (sym (at_bucket None e) ∙ there)))

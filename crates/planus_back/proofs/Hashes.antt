@@ -1,40 +1,45 @@
 -- How a hash takes more bytes.
-use Rattle.std.proofs.Common.{◌≡◌, ℕ, ℤ, ◌+◌, ◌<◌, List, [], ◌∷◌, ◌++◌, length, take, drop, map, refl, sym, ap, ◌∙◌, arith, get_or}
+use Rattle.std.proofs.Common.{◌≡◌, ℕ, ℤ, zero, suc, ◌+◌, ◌<◌, ◌≤◌, List, [], ◌∷◌, ◌++◌, length, take, drop, map, refl, sym, ap, ◌∙◌, arith, get_or}
 use Rattle.std.proofs.lemmas.Grind.{common_steps}
 use Rattle.std.proofs.lemmas.List.{take-append-drop, drop_more, length-drop, length-map}
 use Rattle.std.specs.Int.{w64, from_le_bytes}
-use Rattle.planus_back.specs.Caches.{mixed, hash_on}
+use Rattle.planus_back.specs.Caches.{joined, number_on, mixed, hash_on}
 
 -- eight bytes at once
-pub word_more : (hash : ℕ) (word rest : List ℕ) → length word ≡ 8 → hash_on hash (word ++ rest) ≡ hash_on (mixed hash (from_le_bytes w64 word)) rest
-word_more hash (a ∷ b ∷ c ∷ d ∷ e ∷ f ∷ g ∷ h ∷ []) rest eight = refl
-word_more hash (a ∷ b ∷ c ∷ d ∷ e ∷ f ∷ g ∷ h ∷ i ∷ more) rest eight = absurd (omega (arith, eight))
-word_more hash [] rest eight = absurd (omega (arith, eight))
-word_more hash (a ∷ []) rest eight = absurd (omega (arith, eight))
-word_more hash (a ∷ b ∷ []) rest eight = absurd (omega (arith, eight))
-word_more hash (a ∷ b ∷ c ∷ []) rest eight = absurd (omega (arith, eight))
-word_more hash (a ∷ b ∷ c ∷ d ∷ []) rest eight = absurd (omega (arith, eight))
-word_more hash (a ∷ b ∷ c ∷ d ∷ e ∷ []) rest eight = absurd (omega (arith, eight))
-word_more hash (a ∷ b ∷ c ∷ d ∷ e ∷ f ∷ []) rest eight = absurd (omega (arith, eight))
-word_more hash (a ∷ b ∷ c ∷ d ∷ e ∷ f ∷ g ∷ []) rest eight = absurd (omega (arith, eight))
+pub word_more : (one other : ℕ) (word rest : List ℕ) → length word ≡ 8 → hash_on one other (word ++ rest) ≡ hash_on other (mixed one (from_le_bytes w64 word)) rest
+word_more one other (a ∷ b ∷ c ∷ d ∷ e ∷ f ∷ g ∷ h ∷ []) rest eight = refl
+word_more one other (a ∷ b ∷ c ∷ d ∷ e ∷ f ∷ g ∷ h ∷ i ∷ more) rest eight = absurd (omega (arith, eight))
+word_more one other [] rest eight = absurd (omega (arith, eight))
+word_more one other (a ∷ []) rest eight = absurd (omega (arith, eight))
+word_more one other (a ∷ b ∷ []) rest eight = absurd (omega (arith, eight))
+word_more one other (a ∷ b ∷ c ∷ []) rest eight = absurd (omega (arith, eight))
+word_more one other (a ∷ b ∷ c ∷ d ∷ []) rest eight = absurd (omega (arith, eight))
+word_more one other (a ∷ b ∷ c ∷ d ∷ e ∷ []) rest eight = absurd (omega (arith, eight))
+word_more one other (a ∷ b ∷ c ∷ d ∷ e ∷ f ∷ []) rest eight = absurd (omega (arith, eight))
+word_more one other (a ∷ b ∷ c ∷ d ∷ e ∷ f ∷ g ∷ []) rest eight = absurd (omega (arith, eight))
 
--- one byte, where there are fewer than eight
-pub byte_more : (hash byte : ℕ) (rest : List ℕ) → length rest < 7 → hash_on hash (byte ∷ rest) ≡ hash_on (mixed hash byte) rest
-byte_more hash byte [] few = refl
-byte_more hash byte (a ∷ []) few = refl
-byte_more hash byte (a ∷ b ∷ []) few = refl
-byte_more hash byte (a ∷ b ∷ c ∷ []) few = refl
-byte_more hash byte (a ∷ b ∷ c ∷ d ∷ []) few = refl
-byte_more hash byte (a ∷ b ∷ c ∷ d ∷ e ∷ []) few = refl
-byte_more hash byte (a ∷ b ∷ c ∷ d ∷ e ∷ f ∷ []) few = refl
-byte_more hash byte (a ∷ b ∷ c ∷ d ∷ e ∷ f ∷ g ∷ more) few = absurd (omega (arith, few))
+-- the rest, which are fewer than eight
+pub few_more : (one other : ℕ) (rest : List ℕ) → length rest < 8 → hash_on one other rest ≡ mixed (mixed one (number_on 0 rest)) other
+few_more one other [] few = refl
+few_more one other (a ∷ []) few = refl
+few_more one other (a ∷ b ∷ []) few = refl
+few_more one other (a ∷ b ∷ c ∷ []) few = refl
+few_more one other (a ∷ b ∷ c ∷ d ∷ []) few = refl
+few_more one other (a ∷ b ∷ c ∷ d ∷ e ∷ []) few = refl
+few_more one other (a ∷ b ∷ c ∷ d ∷ e ∷ f ∷ []) few = refl
+few_more one other (a ∷ b ∷ c ∷ d ∷ e ∷ f ∷ g ∷ []) few = refl
+few_more one other (a ∷ b ∷ c ∷ d ∷ e ∷ f ∷ g ∷ h ∷ more) few = absurd (omega (arith, few))
 
--- the next of fewer than eight bytes
-pub byte_taken : (hash i : ℕ) (bytes : List ℕ) → i < length bytes → length bytes < 8 → hash_on hash (drop i bytes) ≡ hash_on (mixed hash (get_or bytes i 0)) (drop (i + 1) bytes)
-byte_taken hash i bytes within few =
-    let here : drop i bytes ≡ get_or bytes i 0 ∷ drop (i + 1) bytes = drop_more bytes i 0 within in
-    let left : length (drop (i + 1) bytes) < 7 = (let n = length-drop (i + 1) bytes in omega (arith, n, few)) in
-    ap (hash_on hash) here ∙ byte_more hash (get_or bytes i 0) (drop (i + 1) bytes) left
+-- the next byte of a number
+pub byte_taken : (number i : ℕ) (bytes : List ℕ) → i < length bytes → number_on number (drop i bytes) ≡ number_on (joined number (get_or bytes i 0)) (drop (i + 1) bytes)
+byte_taken number i bytes within = ap (number_on number) (drop_more bytes i 0 within)
+
+-- all of them taken
+pub none_left : {A : Type 0} (i : ℕ) (xs : List A) → length xs ≤ i → drop i xs ≡ []
+none_left zero [] h = refl
+none_left zero (x ∷ xs) h = absurd (omega (arith, h))
+none_left (suc i) [] h = refl
+none_left (suc i) (x ∷ xs) h = none_left i xs (omega (arith, h))
 
 -- a list and its first eight
 pub cut_at : {A : Type 0} (all word behind : List A) → word ≡ take 8 all → behind ≡ drop 8 all → all ≡ word ++ behind
@@ -43,12 +48,9 @@ cut_at all word behind front back = sym (rw (front, back) (take-append-drop 8 al
 pub eight_of : {A : Type 0} (all word behind : List A) → word ≡ take 8 all → length behind + 8 ≡ length all → length word ≡ 8
 eight_of all word behind front long = grind (arith, common_steps, front, long)
 
-pub number_taken : (byte : ℤ → ℕ) (hash i : ℕ) (d : ℤ) (numbers : List ℤ) → i < length numbers → length numbers < 8
-    → hash_on hash (map byte (drop i numbers)) ≡ hash_on (mixed hash (byte (get_or numbers i d))) (map byte (drop (i + 1) numbers))
-number_taken byte hash i d numbers within few =
-    let here : drop i numbers ≡ get_or numbers i d ∷ drop (i + 1) numbers = drop_more numbers i d within in
-    let left : length (map byte (drop (i + 1) numbers)) < 7 = (let m = length-map (drop (i + 1) numbers) byte in let n = length-drop (i + 1) numbers in omega (arith, m, n, few)) in
-    ap (λ xs. hash_on hash (map byte xs)) here ∙ byte_more hash (byte (get_or numbers i d)) (map byte (drop (i + 1) numbers)) left
+pub number_taken : (byte : ℤ → ℕ) (number i : ℕ) (d : ℤ) (numbers : List ℤ) → i < length numbers
+    → number_on number (map byte (drop i numbers)) ≡ number_on (joined number (byte (get_or numbers i d))) (map byte (drop (i + 1) numbers))
+number_taken byte number i d numbers within = ap (λ xs. number_on number (map byte xs)) (drop_more numbers i d within)
 
 -- the number of eight
 pub word_of_eight : {A : Type 0} (byte : A → ℕ) (numbers : List A) (d : A) → length numbers ≡ 8

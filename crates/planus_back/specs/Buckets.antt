@@ -2,13 +2,19 @@
 use Rattle.std.specs.Prelude.{◌≡◌, ℕ, ◌<◌, ◌++◌, List, [], ◌∷◌, map, length, slice_index, Option}
 use Rattle.std.specs.Prelude.{Some, MatchOption, nat_eq, cond, unwrap_or}
 use Rattle.std.specs.Map.{lookup}
-use Rattle.std.specs.declared.vec.Vec.{Vec}
 use mathlib.Core.Logic.{◌≢◌}
 use Rattle.planus_back.specs.CacheKeys.{key_at}
+use Rattle.planus_back.specs.declared.distances.Distances.{Distances}
+use Rattle.planus_back.specs.declared.distances.Distances.TheVariants.{One, More}
 
--- a map, without where its lists lie in memory
-abbrev pub listed : {Z : Type 0} → List (ℕ × Vec ℕ Z) → List (ℕ × List ℕ)
-listed entries = map (λ entry. (entry.0, entry.1.items)) entries
+-- the distances, one or more
+abbrev pub distances_in : Distances → List ℕ
+distances_in (One distance) = distance ∷ []
+distances_in (More distances) = distances.items
+
+-- a map, without how its lists lie in memory
+abbrev pub listed : List (ℕ × Distances) → List (ℕ × List ℕ)
+listed entries = map (λ entry. (entry.0, distances_in entry.1)) entries
 
 -- the distance is added at the end of the list at this hash, and nothing else changes
 abbrev pub AddsAt : List (ℕ × List ℕ) → ℕ → ℕ → List (ℕ × List ℕ) → Type 0

@@ -1,5 +1,5 @@
 -- A cache as a set of distances that fits some bytes, and what its calls do.
-use Rattle.std.specs.Prelude.{◌≡◌, ℕ, ◌*◌, ◌/◌, ◌%◌, ◌^◌, ◌<◌, List, [], ◌∷◌, length, slice_index, Option, Some}
+use Rattle.std.specs.Prelude.{◌≡◌, ℕ, ◌+◌, ◌*◌, ◌/◌, ◌%◌, ◌^◌, ◌<◌, List, [], ◌∷◌, length, slice_index, Option, Some}
 use Rattle.std.specs.Prelude.{nat_eq, bit_and, bit_xor, ◌↔◌, ◌⊎◌, MatchOption}
 use Rattle.std.specs.Int.{w64, from_le_bytes}
 use Rattle.std.specs.Map.{lookup}
@@ -13,21 +13,30 @@ pub record Held : Type 0 where
   pub mask : ℕ
   pub buckets : List (ℕ × List ℕ)
 
--- a number of 8 bytes more of a hash
+-- a number more of a hash
 abbrev pub mixed : ℕ → ℕ → ℕ
 mixed hash number =
     ((bit_xor (bit_xor hash number) (bit_xor hash number / 2 ^ 32)) * 11400714819323198485) % 2 ^ 64
 
--- some bytes more of a hash: 8 at a time, and then one at a time
-abbrev pub hash_on : ℕ → List ℕ → ℕ
-hash_on hash (a ∷ b ∷ c ∷ d ∷ e ∷ f ∷ g ∷ h ∷ rest) =
-    hash_on (mixed hash (from_le_bytes w64 (a ∷ b ∷ c ∷ d ∷ e ∷ f ∷ g ∷ h ∷ []))) rest
-hash_on hash (byte ∷ rest) = hash_on (mixed hash byte) rest
-hash_on hash [] = hash
+-- one byte more of a number, the first of its bytes being the highest
+abbrev pub joined : ℕ → ℕ → ℕ
+joined number byte = (number * 256 + byte) % 2 ^ 64
+
+-- some bytes more of a number
+abbrev pub number_on : ℕ → List ℕ → ℕ
+number_on number [] = number
+number_on number (byte ∷ bytes) = number_on (joined number byte) bytes
+
+-- some bytes more of two hashes, which take turns: 8 at a time, and then the rest, which are fewer,
+-- as one number
+abbrev pub hash_on : ℕ → ℕ → List ℕ → ℕ
+hash_on one other (a ∷ b ∷ c ∷ d ∷ e ∷ f ∷ g ∷ h ∷ rest) =
+    hash_on other (mixed one (from_le_bytes w64 (a ∷ b ∷ c ∷ d ∷ e ∷ f ∷ g ∷ h ∷ []))) rest
+hash_on one other rest = mixed (mixed one (number_on 0 rest)) other
 
 -- the hash of a key
 abbrev pub hash_of : List ℕ → ℕ
-hash_of key = hash_on (length key) key
+hash_of key = hash_on (length key) 0 key
 
 -- the hash of a key, cut to the bits that are used
 abbrev pub cut_hash : ℕ → List ℕ → ℕ

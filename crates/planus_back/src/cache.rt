@@ -1,15 +1,17 @@
 //! A cache of what stands in bytes that grow at their front.
 ghost use Rattle.std.specs.Prelude.{◌≡◌, map, OnOk, OnErr, IfOk};
 ghost use Rattle.std.specs.Int.{w8, cast_unsigned};
-ghost use Rattle.planus_back.specs.Buckets.{listed, AddsAt, FoundAmong};
+ghost use Rattle.planus_back.specs.Buckets.{distances_in, listed, AddsAt, FoundAmong};
 ghost use Rattle.planus_back.specs.Caches.{Fits, IsEmpty, IsBucketOf, IsFound, Adds};
 ghost use Rattle.planus_back.specs.Caches.{FitsWhereKeyStands, FitsWhereItsKeyStands};
 
 use crate::bucket::Bucket;
 use crate::cache_keys::GetCacheKey;
+use crate::distances::Distances;
 use crate::keys::{Bytes, Key, Signed};
 use std::alloc::{AllocError, Global};
 use std::collections::HashMap;
+use std::collections::hash_map::Entry;
 use std::marker::{Model, PhantomData};
 
 /// The distances at which keys of one kind stand in some bytes, so that an equal key is found.
@@ -20,7 +22,7 @@ use std::marker::{Model, PhantomData};
 #[derive(Drop)]
 pub struct Cache<C> {
     // The distances at which keys stand, by the hashes of these, cut by the mask.
-    buckets: HashMap<u64, Vec<u32>>,
+    buckets: HashMap<u64, Distances>,
     hash_mask: u64,
     alloc: Global,
     of: PhantomData<C>,
@@ -36,7 +38,20 @@ impl<C> Model for Cache<C> {
 }
 
 /// The first of the distances at which the key stands.
-fn find<C: GetCacheKey, K: Key>(distances: &[u32], serialized: &[u8], key: &K) -> Option<u32>
+fn find<C: GetCacheKey, K: Key>(distances: &Distances, serialized: &[u8], key: &K) -> Option<u32>
+    ensures { FoundAmong C.key_in (distances_in distances.now) serialized.now (K.bytes_of key.now)
+        result }
+{
+    match distances {
+        Distances::One(distance) => find_among::<C, K>(&[*distance], serialized, key),
+        Distances::More(distances) => {
+            find_among::<C, K>(distances.as_slice(), serialized, key)
+        }
+    }
+}
+
+/// The first of these distances at which the key stands.
+fn find_among<C: GetCacheKey, K: Key>(distances: &[u32], serialized: &[u8], key: &K) -> Option<u32>
     ensures { FoundAmong C.key_in distances.now serialized.now (K.bytes_of key.now) result }
 {
     for distance in distances {
@@ -51,7 +66,7 @@ fn find<C: GetCacheKey, K: Key>(distances: &[u32], serialized: &[u8], key: &K) -
 
 /// Adds a distance to those at a hash. A refusal changes nothing.
 fn add(
-    buckets: &mut HashMap<u64, Vec<u32>>,
+    buckets: &mut HashMap<u64, Distances>,
     alloc: Global,
     hash: u64,
     distance: u32,
@@ -60,17 +75,14 @@ fn add(
         (listed buckets.new.entries)) }
     ensures err { OnErr result (listed buckets.new.entries ≡ listed buckets.old.entries) }
 {
-    match buckets.get_mut(&hash) {
-        Some(distances) => {
-            distances.push(distance)?;
+    match buckets.entry(hash) {
+        Ok(Entry::Occupied(mut entry)) => entry.get_mut().push(alloc, distance),
+        Ok(Entry::Vacant(entry)) => {
+            entry.insert(Distances::One(distance));
+            Ok(())
         }
-        None => {
-            let mut distances = Vec::with_capacity(alloc, 1)?;
-            distances.push(distance)?;
-            buckets.insert(hash, distances)?;
-        }
+        Err(_) => Err(AllocError),
     }
-    Ok(())
 }
 
 impl<C: GetCacheKey> Cache<C> {
@@ -91,7 +103,12 @@ impl<C: GetCacheKey> Cache<C> {
     pub fn clear(&mut self)
         ensures { IsEmpty self.new }
     {
-        self.buckets.clear();
+        // A clear of a map takes time by its capacity, however few entries it has.
+        if self.buckets.len() < self.buckets.capacity() / 32 {
+            self.buckets = HashMap::new(self.alloc);
+        } else {
+            self.buckets.clear();
+        }
     }
 
     // Where the distances of a key in whatever form are.
@@ -111,7 +128,7 @@ impl<C: GetCacheKey> Cache<C> {
         ensures { IsFound C.key_in self.now serialized.now (K.bytes_of key.now) result }
     {
         match self.buckets.get(&bucket.hash) {
-            Some(distances) => find::<C, K>(distances.as_slice(), serialized, key),
+            Some(distances) => find::<C, K>(distances, serialized, key),
             None => None,
         }
     }

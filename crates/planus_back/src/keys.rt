@@ -1,13 +1,14 @@
 //! What is looked for in a cache: bytes, as they are or as signed numbers.
 ghost use Rattle.std.specs.Prelude.{◌≡◌, ◌↔◌, ℕ, List, map, IsTrue};
 ghost use Rattle.std.specs.Int.{w8, w64, cast_unsigned, from_le_bytes};
-ghost use Rattle.planus_back.specs.Caches.{mixed, hash_of};
+ghost use Rattle.planus_back.specs.Caches.{joined, mixed, hash_of};
 
 /// Bytes, in whatever form, that can be hashed and compared.
 pub(crate) trait Key {
     ghost bytes_of: { Self → List ℕ };
 
-    // The hash of the bytes: 8 at a time, and then one at a time.
+    // The hash of the bytes: 8 at a time by two hashes in turn, so that neither waits for the other,
+    // and then the rest as one number.
     fn hash(&self) -> u64
         ensures { result ≡ hash_of (bytes_of self.now) };
 
@@ -32,6 +33,14 @@ fn mix(hash: u64, number: u64) -> u64
 {
     let both = hash ^ number;
     (both ^ (both >> 32)).wrapping_mul(11400714819323198485)
+}
+
+// One byte more of a number.
+#[inline]
+fn join(number: u64, byte: u8) -> u64
+    ensures { result ≡ joined number byte }
+{
+    number.wrapping_mul(256).wrapping_add(byte as u64)
 }
 
 // The byte of a signed number.
@@ -64,16 +73,18 @@ impl<'a> Key for Bytes<'a> {
 
     #[inline]
     fn hash(&self) -> u64 {
-        let mut hash = self.0.len() as u64;
+        let mut one = self.0.len() as u64;
+        let mut other = 0;
         let mut rest = self.0;
         while let Some((word, behind)) = rest.split_first_chunk::<8>() {
-            hash = mix(hash, u64::from_le_bytes(*word));
+            (one, other) = (other, mix(one, u64::from_le_bytes(*word)));
             rest = behind;
         }
+        let mut last = 0;
         for byte in rest {
-            hash = mix(hash, *byte as u64);
+            last = join(last, *byte);
         }
-        hash
+        mix(mix(one, last), other)
     }
 
     #[inline]
@@ -87,16 +98,18 @@ impl<'a> Key for Signed<'a> {
 
     #[inline]
     fn hash(&self) -> u64 {
-        let mut hash = self.0.len() as u64;
+        let mut one = self.0.len() as u64;
+        let mut other = 0;
         let mut rest = self.0;
         while let Some((word, behind)) = rest.split_first_chunk::<8>() {
-            hash = mix(hash, word_of(word));
+            (one, other) = (other, mix(one, word_of(word)));
             rest = behind;
         }
+        let mut last = 0;
         for number in rest {
-            hash = mix(hash, byte_of(*number) as u64);
+            last = join(last, byte_of(*number));
         }
-        hash
+        mix(mix(one, last), other)
     }
 
     #[inline]

@@ -12,6 +12,7 @@ pub mod backvec;
 pub mod bucket;
 pub mod cache;
 pub mod cache_keys;
+mod distances;
 pub mod fill;
 mod keys;
 pub mod laws;

@@ -1,19 +1,33 @@
-use Rattle.std.proofs.Common.{refl, ap, sym, ◌∙◌, nat_eq, None, Some}
-use Rattle.std.specs.Option.{option_copied_mut}
-use Rattle.planus_back.proofs.Buckets.{listed_same, adds_at, on_err}
+use Rattle.std.proofs.Common.{◌≡◌, refl, ap, sym, subst, ◌∙◌, nat_eq, None, Some}
+use Rattle.std.specs.Map.{lookup}
+use Rattle.std.specs.HashMap.{ContainsKey, get_key}
+use Rattle.std.specs.HashMap.Entry.{MatchEntry, entry_key}
+use Rattle.planus_back.specs.Buckets.{distances_in}
+use Rattle.planus_back.proofs.Buckets.{adds_at, listed_same, if_some, on_ok, on_err}
 use Rattle.planus_back.proofs.cache.add.Goals as goal
 
-pub returns-in_err-push-in-Some-clause-err : goal.returns-in_err-push-in-Some-clause-err
-returns-in_err-push-in-Some-clause-err c =
-    on_err c.from_residual.result (listed_same (nat_eq c.args.hash) c.args.buckets.now.entries _ c.in-Some.distances.now c.push.new.self (c.get_mut.follows.holds c.push.new.self).0 (sym c.get_mut.ensures.value ∙ ap option_copied_mut c.in-Some.is) c.in_err-push-in-Some.ensures.items)
+pub returns-in-Ok-Vacant-clause-ok : goal.returns-in-Ok-Vacant-clause-ok
+returns-in-Ok-Vacant-clause-ok c =
+    let here : c.entry-arg-1.given ≡ c.in-Ok-Vacant.entry.map.ghost_name = (let map = c.in-Ok-Vacant.ensures.same_map in let is = c.in-Ok-Vacant.field-0-is in cc) in
+    let after = c.buckets-in-Ok-Vacant-2-1.given.1 here in
+    let none : lookup (nat_eq c.args.hash) c.args.buckets.now.entries ≡ None = subst (λ entry. MatchEntry entry (ContainsKey nat_eq c.args.buckets.now c.args.hash × (get_key nat_eq c.args.buckets.now c.args.hash ≡ Some (entry_key entry))) (lookup (nat_eq c.args.hash) c.args.buckets.now.entries ≡ None)) c.in-Ok-Vacant.field-0-is c.in-Ok-Vacant.ensures.found in
+    rw (after, ← c.in-Ok-Vacant.field-0-is)
+    (adds_at c.args.hash c.args.distance c.args.buckets.now.entries _ None c.insert.result.now (λ q. (c.in-Ok-Vacant.ensures.update.0 c.insert.result.now).0 q) none (ap distances_in c.insert.ensures.value))
 
-pub returns-in_ok-push-in-Some-clause-ok : goal.returns-in_ok-push-in-Some-clause-ok
-returns-in_ok-push-in-Some-clause-ok c =
-    let found = sym c.get_mut.ensures.value ∙ ap option_copied_mut c.in-Some.is in
-    adds_at c.args.hash c.args.distance c.args.buckets.now.entries _ (Some c.in-Some.distances.now) c.push.new.self ((c.get_mut.follows.holds c.push.new.self).3 (rw found refl)).0 found c.in_ok-push-in-Some.ensures.items
+pub returns-in-Ok-Occupied-clause-ok : goal.returns-in-Ok-Occupied-clause-ok
+returns-in-Ok-Occupied-clause-ok c =
+    let here : c.entry-arg-1.given ≡ c.in-Ok-Occupied.entry.map.ghost_name = (let map = c.in-Ok-Occupied.ensures.same_map in let is = c.in-Ok-Occupied.field-0-is in cc) in
+    let after = c.buckets-1.given.1 here in
+    let some : lookup (nat_eq c.args.hash) c.args.buckets.now.entries ≡ Some c.get_mut.result.now
+    = (let value = c.in-Ok-Occupied.ensures.value in let is = c.in-Ok-Occupied.field-0-is in let got = c.get_mut.ensures.value in cc) in
+    rw (after, ← c.in-Ok-Occupied.field-0-is)
+    (on_ok c.push.result (adds_at c.args.hash c.args.distance c.args.buckets.now.entries _ (Some c.get_mut.result.now) c.push.new.self (λ q. (c.in-Ok-Occupied.ensures.update.0 c.push.new.self).0 q) some) c.push.ensures.ok)
 
-pub returns-in_ok-insert-in-None-clause-ok : goal.returns-in_ok-insert-in-None-clause-ok
-returns-in_ok-insert-in-None-clause-ok c =
-    let found = sym c.get_mut.ensures.value ∙ ap option_copied_mut c.in-None.is in
-    let same = c.get_mut.follows.holds-at-none in
-    adds_at c.args.hash c.args.distance c.args.buckets.now.entries c.insert.new.self.entries None c.push-in-None.new.self (λ q. rw (← same) (c.in_ok-insert-in-None.ensures.updates.0 q)) found (rw (c.in_ok-push-in-None.ensures.items, c.in_ok-distances-in-None.ensures.items) refl)
+pub returns-in-Ok-Occupied-clause-err : goal.returns-in-Ok-Occupied-clause-err
+returns-in-Ok-Occupied-clause-err c =
+    let here : c.entry-arg-1.given ≡ c.in-Ok-Occupied.entry.map.ghost_name = (let map = c.in-Ok-Occupied.ensures.same_map in let is = c.in-Ok-Occupied.field-0-is in cc) in
+    let after = c.buckets-1.given.1 here in
+    let some : lookup (nat_eq c.args.hash) c.args.buckets.now.entries ≡ Some c.get_mut.result.now
+    = (let value = c.in-Ok-Occupied.ensures.value in let is = c.in-Ok-Occupied.field-0-is in let got = c.get_mut.ensures.value in cc) in
+    rw (after, ← c.in-Ok-Occupied.field-0-is)
+    (on_err c.push.result (listed_same (nat_eq c.args.hash) c.args.buckets.now.entries _ c.get_mut.result.now c.push.new.self (if_some _ c.get_mut.result.now _ _ some (c.in-Ok-Occupied.ensures.update.1 c.push.new.self)) some) c.push.ensures.err)

@@ -3,5 +3,8 @@ use Rattle.planus_back.specs.Buckets.{listed}
 use Rattle.planus_back.proofs.Caches.{IsEmpty-nil}
 use Rattle.planus_back.proofs.cache.Cache.clear.Goals as goal
 
-pub returns : goal.returns
-returns g c = IsEmpty-nil _ (ap listed c.clear.ensures.empty)
+pub returns-else-len-capacity : goal.returns-else-len-capacity
+returns-else-len-capacity g c = IsEmpty-nil _ (ap listed c.clear.ensures.empty)
+
+pub returns-then-len-capacity : goal.returns-then-len-capacity
+returns-then-len-capacity g c = IsEmpty-nil _ (ap listed c.new.ensures.empty)

@@ -5,7 +5,7 @@ use Rattle.planus_back.proofs.cache.Cache.get_by.Goals as goal
 
 pub returns-in-Some : goal.returns-in-Some
 returns-in-Some g c =
-    got_some g.C.GetCacheKey.key_in c.self.inside.buckets.entries _ _ _ _ _ c.self.view_is refl c.requires.bucket c.requires.fits c.in-Some.distances.now _ _ (sym c.get.ensures.value ∙ ap option_copied c.in-Some.is) c.as_slice.ensures.value c.find.ensures
+    got_some g.C.GetCacheKey.key_in c.self.inside.buckets.entries _ _ _ _ _ c.self.view_is refl c.requires.bucket c.requires.fits c.in-Some.distances.now _ (sym c.get.ensures.value ∙ ap option_copied c.in-Some.is) c.find.ensures
 
 pub returns-in-None : goal.returns-in-None
 returns-in-None g c =
