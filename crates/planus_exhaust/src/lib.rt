@@ -1,15 +1,34 @@
 //! Takes all memory, for tests with refused memory.
 #![tactic(auto)]
 
-use std::alloc::Global;
+use std::alloc::{AllocError, Global};
+
+// A block of which a sanitizer's malloc keeps the addresses for a while once it is given back.
+const SPARE: usize = 1 << 25;
 
 /// Takes blocks until not even one byte is to be had, and holds them in `held`, which needs room
 /// for them: 262144 is enough.
 ///
 /// That rests on Linux, where a program has 47 bits of addresses, and on the C library's malloc,
 /// which refuses when they are used up. Returns whether it went so: a sanitizer's malloc keeps
-/// small blocks back, and then a test with refused memory says nothing.
-pub fn exhaust(alloc: Global, held: &mut Vec<Vec<u8>>) -> bool {
+/// small blocks back, and then a test with refused memory says nothing. It is told by its keeping
+/// back what it is given back, too; where another malloc leaves memory, that is an error, so that
+/// the test fails.
+pub fn exhaust(alloc: Global, held: &mut Vec<Vec<u8>>) -> Result<bool, AllocError> {
+    let spare: Vec<u8> = Vec::with_capacity(alloc, SPARE)?;
+    if take_all(alloc, held) {
+        held.push(spare)?;
+        return Ok(true);
+    }
+    drop(spare);
+    match Vec::<u8>::with_capacity(alloc, SPARE) {
+        Ok(_) => Err(AllocError),
+        Err(_) => Ok(false),
+    }
+}
+
+// Takes the blocks, and returns whether no byte is left.
+fn take_all(alloc: Global, held: &mut Vec<Vec<u8>>) -> bool {
     let mut size: usize = 1 << 40;
     for _ in 0..41 {
         for _ in 0..70000 {

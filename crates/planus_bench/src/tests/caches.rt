@@ -106,7 +106,7 @@ fn only_equal_contents_are_found(builder: &mut Builder, before: &[u8]) -> bool {
 fn found_without_memory(alloc: Global, builder: &mut Builder) -> Result<Option<bool>, AllocError> {
     let before = Vec::from_slice(alloc, builder.as_slice())?;
     let mut held: Vec<Vec<u8>> = Vec::with_capacity(alloc, 262144)?;
-    let exhausted = exhaust(alloc, &mut held);
+    let exhausted = exhaust(alloc, &mut held)?;
     let found = only_equal_contents_are_found(builder, before.as_slice());
     drop(held);
     Ok(if exhausted { Some(found) } else { None })

@@ -1,5 +1,7 @@
 mod alignments;
 mod caches;
+mod long_runs;
+mod many;
 mod no_memory;
 mod padding;
 mod parts;

@@ -1,5 +1,6 @@
 //! A builder, a replay and a cache while memory is refused.
 
+use super::parts::{FOUR_WRITES, last_is, put_four};
 use super::settings::Switches;
 use planus::{BuildError, Builder, Caches, ReplayError, Step, replay};
 use planus_back::{ByteVec, Cache};
@@ -7,7 +8,7 @@ use planus_exhaust::exhaust;
 use std::alloc::{AllocError, Global};
 use std::test::Fail;
 
-// What is left of a room of 64 bytes can't hold this text.
+// What four writes leave of a room of 64 bytes can't hold this text.
 const TEXT: &str = "sixty-three bytes, which are more than are left of a room of 64";
 
 // Whether there is no memory for one more builder.
@@ -30,16 +31,22 @@ fn list_is_at(builder: &mut Builder) -> Result<u32, BuildError> {
     }
 }
 
-// Whether a builder finishes in its room, and refuses a text that doesn't fit, and a list that
-// fits, for whose prepared items there is no memory.
+// Whether the four writes and their finish take no more than their bytes.
+fn writes_in_its_room(builder: &mut Builder) -> bool {
+    put_four(builder).is_ok() && last_is(builder, FOUR_WRITES) && builder.room() == 37
+}
+
+// Whether a builder writes and finishes in its room, and refuses a text that doesn't fit, and a
+// list that fits, for whose prepared items there is no memory.
 fn goes_on_in_its_room(alloc: Global, builder: &mut Builder) -> bool {
-    let axe = b"\x04\0\0\0\x03\0\0\0Axe\0".as_slice();
+    let all = b"\x04\0\0\0\x03\0\0\0Axe\0\x05\0\0\0\x000123456ABCDEFGHIJKLMNO".as_slice();
     new_is_refused(alloc)
+        && writes_in_its_room(builder)
         && builder.finish("Axe", None).is_ok()
         && text_is_at(builder) == Err(BuildError::OutOfMemory)
         && list_is_at(builder) == Err(BuildError::OutOfMemory)
-        && builder.as_slice() == axe
-        && builder.room() == 52
+        && builder.as_slice() == all
+        && builder.room() == 25
 }
 
 // Tells that with all memory taken; nothing where memory was left.
@@ -48,7 +55,7 @@ fn builder_without_memory(
     builder: &mut Builder,
 ) -> Result<Option<bool>, AllocError> {
     let mut held: Vec<Vec<u8>> = Vec::with_capacity(alloc, 262144)?;
-    let exhausted = exhaust(alloc, &mut held);
+    let exhausted = exhaust(alloc, &mut held)?;
     let goes_on = goes_on_in_its_room(alloc, builder);
     drop(held);
     Ok(if exhausted { Some(goes_on) } else { None })
@@ -56,7 +63,7 @@ fn builder_without_memory(
 
 // Whether what was refused is written once memory is there again.
 fn writes_again(builder: &mut Builder) -> bool {
-    text_is_at(builder) == Ok(80) && list_is_at(builder) == Ok(88)
+    text_is_at(builder) == Ok(107) && list_is_at(builder) == Ok(115)
 }
 
 #[test]
@@ -91,7 +98,7 @@ fn replay_is_refused(alloc: Global, steps: &[Step]) -> bool {
 // Tells that with all memory taken; nothing where memory was left.
 fn replay_without_memory(alloc: Global, steps: &[Step]) -> Result<Option<bool>, AllocError> {
     let mut held: Vec<Vec<u8>> = Vec::with_capacity(alloc, 262144)?;
-    let exhausted = exhaust(alloc, &mut held);
+    let exhausted = exhaust(alloc, &mut held)?;
     let refused = replay_is_refused(alloc, steps);
     drop(held);
     Ok(if exhausted { Some(refused) } else { None })
@@ -119,7 +126,7 @@ fn entry_without_memory(
     cache: &mut Cache<ByteVec>,
 ) -> Result<Option<bool>, AllocError> {
     let mut held: Vec<Vec<u8>> = Vec::with_capacity(alloc, 262144)?;
-    let exhausted = exhaust(alloc, &mut held);
+    let exhausted = exhaust(alloc, &mut held)?;
     let refused = cache.insert(b"Hi", 6).is_err();
     drop(held);
     Ok(if exhausted { Some(refused) } else { None })

@@ -8,7 +8,7 @@ use planus_back::Promises;
 use std::alloc::{AllocError, Global};
 use std::test::Fail;
 
-const FOUR_WRITES: &[u8] = b"\x05\0\0\0\x000123456ABCDEFGHIJKLMNO";
+pub const FOUR_WRITES: &[u8] = b"\x05\0\0\0\x000123456ABCDEFGHIJKLMNO";
 
 // Leaves these very bytes, at any place.
 #[derive(Drop)]
@@ -75,7 +75,7 @@ fn put(builder: &mut Builder, bytes: &[u8], alignment: usize) -> Result<(), Buil
     builder.write_with(bytes.len(), mask_of(alignment), &Same { bytes })
 }
 
-fn put_four(builder: &mut Builder) -> Result<(), BuildError> {
+pub fn put_four(builder: &mut Builder) -> Result<(), BuildError> {
     put(builder, b"MNO", 1)?;
     put(builder, b"IJKL", 2)?;
     put(builder, b"ABCDEFGH", 4)?;
@@ -89,7 +89,7 @@ fn finish_last(builder: &mut Builder) -> Result<&[u8], BuildError> {
 }
 
 // Whether that gives these bytes.
-fn last_is(builder: &mut Builder, want: &[u8]) -> bool {
+pub fn last_is(builder: &mut Builder, want: &[u8]) -> bool {
     match finish_last(builder) {
         Ok(bytes) => bytes == want,
         Err(_) => false,

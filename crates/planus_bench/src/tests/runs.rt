@@ -23,7 +23,7 @@ impl Numbers {
 }
 
 // A text of `count` letters.
-fn text(alloc: Global, count: usize) -> Result<Step, AllocError> {
+pub fn text(alloc: Global, count: usize) -> Result<Step, AllocError> {
     let mut text = String::new(alloc);
     for index in 0..count {
         text.push(char::from(b'a' + (index % 26) as u8))?;
@@ -32,7 +32,7 @@ fn text(alloc: Global, count: usize) -> Result<Step, AllocError> {
 }
 
 // A list of `count` numbers of 2, 4 or 8 bytes.
-fn list(alloc: Global, width: u8, count: usize) -> Result<Step, AllocError> {
+pub fn list(alloc: Global, width: u8, count: usize) -> Result<Step, AllocError> {
     let mut items = Vec::new(alloc);
     for index in 0..count {
         items.push(index as u64)?;
@@ -41,7 +41,7 @@ fn list(alloc: Global, width: u8, count: usize) -> Result<Step, AllocError> {
 }
 
 // A list of `count` references to one value.
-fn refs(alloc: Global, root: usize, count: usize) -> Result<Step, AllocError> {
+pub fn refs(alloc: Global, root: usize, count: usize) -> Result<Step, AllocError> {
     let mut steps = Vec::new(alloc);
     for _ in 0..count {
         steps.push(root)?;
@@ -50,7 +50,7 @@ fn refs(alloc: Global, root: usize, count: usize) -> Result<Step, AllocError> {
 }
 
 // A list of `count` unions of one value, of tags from 1 on.
-fn unions(alloc: Global, root: usize, count: usize) -> Result<Step, AllocError> {
+pub fn unions(alloc: Global, root: usize, count: usize) -> Result<Step, AllocError> {
     let mut items = Vec::new(alloc);
     for index in 0..count {
         items.push(((index % 255) as u8 + 1, root))?;
@@ -60,13 +60,13 @@ fn unions(alloc: Global, root: usize, count: usize) -> Result<Step, AllocError> 
 
 // What a table may refer to: a value, and a list of unions, if there is one.
 #[derive(Clone, Copy)]
-struct Named {
-    root: usize,
-    unions: Option<usize>,
+pub struct Named {
+    pub root: usize,
+    pub unions: Option<usize>,
 }
 
 // References to the tags and to the references of a list of unions, or else to one value.
-fn two_references(named: Named) -> [FieldValue; 2] {
+pub fn two_references(named: Named) -> [FieldValue; 2] {
     match named.unions {
         Some(unions) => [FieldValue::Tags(unions), FieldValue::Values(unions)],
         None => [FieldValue::Ref(named.root), FieldValue::Ref(named.root)],
@@ -75,7 +75,7 @@ fn two_references(named: Named) -> [FieldValue; 2] {
 
 // A table of at most six fields: numbers, and references. The slots are `apart` from each other, and
 // the fields are declared from the greatest slot on.
-fn table(alloc: Global, named: Named, count: usize, apart: u16) -> Result<Step, AllocError> {
+pub fn table(alloc: Global, named: Named, count: usize, apart: u16) -> Result<Step, AllocError> {
     let mut fields = Vec::new(alloc);
     let [first, second] = two_references(named);
     let values = [
@@ -106,7 +106,7 @@ fn table(alloc: Global, named: Named, count: usize, apart: u16) -> Result<Step, 
 }
 
 // A byte list of `count` bytes.
-fn bytes(alloc: Global, count: usize) -> Result<Step, AllocError> {
+pub fn bytes(alloc: Global, count: usize) -> Result<Step, AllocError> {
     let mut bytes = Vec::new(alloc);
     for index in 0..count {
         bytes.push((index % 256) as u8)?;
@@ -183,7 +183,7 @@ fn mixed_steps(alloc: Global, count: usize) -> Result<Vec<Step>, Fail> {
 }
 
 // The numbers of clears, of finishes without an identifier, of those with one, and of lists of unions.
-fn counts(steps: &[Step]) -> (usize, usize, usize, usize) {
+pub fn counts(steps: &[Step]) -> (usize, usize, usize, usize) {
     let mut counts: (usize, usize, usize, usize) = (0, 0, 0, 0);
     for step in steps {
         match step {
@@ -263,12 +263,12 @@ fn gives(alloc: Global, caches: Caches, steps: &[Step], want: &[Finished]) -> Re
     Ok(got.len() == want.len())
 }
 
-// Compares replays in every setting, with none, one or all of the bits of a hash, with plain runs.
+// Compares replays in every setting, with none, some or all of the bits of a hash, with plain runs.
 fn replays_agree(rt: &impl Abort, alloc: Global, steps: &[Step]) -> Result<(), Fail> {
     for number in 0..8 {
         let switches = Switches::of(number);
         let want = plain_run(alloc, switches, steps)?;
-        for mask in [0, 1, u64::MAX] {
+        for mask in [0, 1, 2, 0xff, 1 << 63, u64::MAX] {
             let caches = switches.caches(mask);
             let agrees = gives(alloc, caches, steps, want.as_slice())?;
             assert!(rt; agrees, "{} steps, {caches:?}", steps.len());

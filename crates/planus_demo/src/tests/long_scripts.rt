@@ -1,4 +1,4 @@
-//! Long scripts, long texts and a table of all its slots.
+//! Long scripts, long texts, long lists and a table of all its slots.
 
 use super::prints;
 use std::alloc::{AllocError, Global};
@@ -42,9 +42,22 @@ fn end_line(printed: &mut Vec<u8>) -> Result<(), AllocError> {
     printed.extend_from_slice(b"\n")
 }
 
+// Adds the four bytes of a number.
+pub fn push_word(printed: &mut Vec<u8>, word: usize) -> Result<(), AllocError> {
+    push_bytes(printed, &(word as u64).to_le_bytes()[..4])
+}
+
+// Adds the references to what was written before the finishes, of which each has written one.
+pub fn push_references(printed: &mut Vec<u8>, count: usize) -> Result<(), AllocError> {
+    for behind in 0..count {
+        push_word(printed, count.wrapping_sub(behind).wrapping_mul(4))?;
+    }
+    Ok(())
+}
+
 // Adds the bytes of a text of so many letters, which end a finish.
 pub fn push_text(printed: &mut Vec<u8>, count: usize) -> Result<(), AllocError> {
-    push_bytes(printed, &(count as u64).to_le_bytes()[..4])?;
+    push_word(printed, count)?;
     for index in 0..count {
         push_byte(printed, letter(index))?;
     }
@@ -132,4 +145,215 @@ fn longest_script(rt: HostRuntime) {
         let found = comment_prints(rt.alloc(), count, unread, printed);
         assert!(rt; matches!(found, Ok(true)), "{count} bytes");
     }
+}
+
+// A text of 43 letters, which no other number below 26 * 26 * 26 has.
+fn text(number: usize) -> [u8; 43] {
+    let mut text = *b"abc is a text of forty-three letters in all";
+    text[0] = letter(number);
+    text[1] = letter(number / 26);
+    text[2] = letter(number / 676);
+    text
+}
+
+// What a script has one after the other.
+#[derive(Clone, Copy)]
+enum Item {
+    // A line of a text.
+    Text,
+    // A number of a list.
+    Number,
+    // A reference to a text of the last stretch.
+    Reference,
+    // The same with a tag.
+    Union,
+    // A field of a table behind the first four.
+    Field,
+}
+
+fn push_number(
+    alloc: Global,
+    script: &mut Vec<u8>,
+    before: u8,
+    number: usize,
+) -> Result<(), AllocError> {
+    script.extend_from_slice(&[before])?;
+    let digits = format!(in alloc; "{number}")?;
+    script.extend_from_slice(digits.as_bytes())
+}
+
+fn push_item(
+    alloc: Global,
+    script: &mut Vec<u8>,
+    item: Item,
+    index: usize,
+) -> Result<(), AllocError> {
+    let step = index.wrapping_add(15000);
+    match item {
+        Item::Text => {
+            script.extend_from_slice(b"text ")?;
+            script.extend_from_slice(&text(index))?;
+            script.extend_from_slice(b"\n")
+        }
+        Item::Number => push_number(alloc, script, b' ', index),
+        Item::Reference => push_number(alloc, script, b' ', step),
+        Item::Union => {
+            push_number(alloc, script, b' ', index % 255 + 1)?;
+            push_number(alloc, script, b':', step)
+        }
+        Item::Field => push_field(alloc, script, index.wrapping_add(4)),
+    }
+}
+
+fn push_items(
+    alloc: Global,
+    script: &mut Vec<u8>,
+    item: Item,
+    count: usize,
+) -> Result<(), AllocError> {
+    for index in 0..count {
+        push_item(alloc, script, item, index)?;
+    }
+    Ok(())
+}
+
+// Adds 300 stretches of 48 texts, each with a finish and a clear.
+fn push_stretches(alloc: Global, script: &mut Vec<u8>) -> Result<(), AllocError> {
+    for stretch in 0..300usize {
+        push_items(alloc, script, Item::Text, 48)?;
+        script.extend_from_slice(b"finish")?;
+        push_number(
+            alloc,
+            script,
+            b' ',
+            stretch.wrapping_mul(50).wrapping_add(47),
+        )?;
+        script.extend_from_slice(b"\nclear\n")?;
+    }
+    Ok(())
+}
+
+const TABLE: &[u8] = b"\ntable 0=ref:20000 1=ref:19999 2=tags:20001 3=values:20001";
+
+// Adds a stretch of 5003 values, of which the last is a table that refers to lists of numbers, of
+// references and of unions, and seven finishes.
+fn push_last_stretch(alloc: Global, script: &mut Vec<u8>) -> Result<(), AllocError> {
+    let rows: [(&[u8], Item, usize); 5] = [
+        (b"", Item::Text, 4999),
+        (b"u16", Item::Number, 5003),
+        (b"\nrefs", Item::Reference, 2003),
+        (b"\nunions", Item::Union, 2003),
+        (TABLE, Item::Field, 252),
+    ];
+    for (before, item, count) in rows {
+        script.extend_from_slice(before)?;
+        push_items(alloc, script, item, count)?;
+    }
+    for _ in 0..7 {
+        script.extend_from_slice(b"\nfinish 20002")?;
+    }
+    script.extend_from_slice(b"\n")
+}
+
+// What a finish has one after the other.
+#[derive(Clone, Copy)]
+enum Part {
+    // The texts, the last one first.
+    Text { last: usize },
+    Number,
+    // A reference to a text. The first of them is this one, and each stands four bytes nearer to the
+    // end than the one before, and its text 48 bytes further.
+    Reference { first: usize },
+    Tag,
+    // The offset of a field of one byte.
+    Offset,
+}
+
+fn push_part(printed: &mut Vec<u8>, part: Part, index: usize) -> Result<(), AllocError> {
+    match part {
+        Part::Text { last } => {
+            push_word(printed, 43)?;
+            push_bytes(printed, &text(last.wrapping_sub(index)))?;
+            push_byte(printed, 0)
+        }
+        Part::Number => push_bytes(printed, &(index as u64).to_le_bytes()[..2]),
+        Part::Reference { first } => {
+            push_word(printed, first.wrapping_sub(index.wrapping_mul(52)))
+        }
+        Part::Tag => push_byte(printed, (index % 255) as u8 + 1),
+        Part::Offset => push_bytes(printed, &(index as u64).wrapping_add(20).to_le_bytes()[..2]),
+    }
+}
+
+fn push_parts(printed: &mut Vec<u8>, part: Part, count: usize) -> Result<(), AllocError> {
+    for index in 0..count {
+        push_part(printed, part, index)?;
+    }
+    Ok(())
+}
+
+// The word of the table, which is 272 bytes in front of its vtable, and its four references.
+const REFERENCES: &[u8] = b"\xf0\xfe\xff\xff\x38\x2a\0\0\x84\x49\0\0\x08\x03\0\0\xdc\x0a\0\0";
+
+// The sizes of the vtable and of the table, and the offsets of its references.
+const OFFSETS: &[u8] = b"\x04\x02\x10\x01\x04\0\x08\0\x0c\0\x10\0";
+
+// Adds what a finish of the last stretch prints that is the first, the second and so on.
+fn push_last_line(printed: &mut Vec<u8>, finishes: usize) -> Result<(), AllocError> {
+    push_references(printed, finishes)?;
+    push_bytes(printed, REFERENCES)?;
+    push_bytes(printed, &[1; 252])?;
+    // The texts end 239952 bytes before the end, the numbers and their padding of two bytes at
+    // 249960, the references at 257976, those of the unions at 265992 and the tags, with a padding
+    // of one byte, at 268000; in front of each stands a count.
+    let rows: [(&[u8], Part, usize); 6] = [
+        (OFFSETS, Part::Offset, 252),
+        (b"\xd3\x07\0\0", Part::Tag, 2003),
+        (b"\0\xd3\x07\0\0", Part::Reference { first: 265944 }, 2003),
+        (b"\xd3\x07\0\0", Part::Reference { first: 257928 }, 2003),
+        (b"\x8b\x13\0\0", Part::Number, 5003),
+        (b"\0\0", Part::Text { last: 4998 }, 4999),
+    ];
+    for (before, part, count) in rows {
+        push_bytes(printed, before)?;
+        push_parts(printed, part, count)?;
+    }
+    end_line(printed)
+}
+
+fn push_lines(printed: &mut Vec<u8>) -> Result<(), AllocError> {
+    for _ in 0..300usize {
+        push_word(printed, 4)?;
+        push_parts(printed, Part::Text { last: 47 }, 48)?;
+        end_line(printed)?;
+    }
+    for finishes in 1..8 {
+        push_last_line(printed, finishes)?;
+    }
+    Ok(())
+}
+
+fn lines_are_printed(alloc: Global, script: &[u8]) -> Result<bool, AllocError> {
+    let mut want = Vec::new(alloc);
+    push_lines(&mut want)?;
+    Ok(prints(alloc, script, 0, want.as_slice(), true))
+}
+
+#[test]
+fn a_script_of_20010_steps(rt: HostRuntime) -> Result<(), Fail> {
+    let mut script = Vec::new(rt.alloc());
+    push_stretches(rt.alloc(), &mut script)?;
+    push_last_stretch(rt.alloc(), &mut script)?;
+    assert!(rt; script.len() > 1010000, "near the longest script");
+    assert!(rt;
+        lines_are_printed(rt.alloc(), script.as_slice())?,
+        "finishes"
+    );
+    script.extend_from_slice(b"finish 20010\n")?;
+    let printed = b"line 20011: no such step\n";
+    assert!(rt;
+        prints(rt.alloc(), script.as_slice(), 0, printed, false),
+        "a bad step"
+    );
+    Ok(())
 }

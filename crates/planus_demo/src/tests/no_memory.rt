@@ -1,6 +1,6 @@
 //! Runs while memory is refused.
 
-use super::long_scripts::{push_bytes, push_text, push_text_step};
+use super::long_scripts::{push_references, push_text, push_text_step};
 use super::{prints, ran};
 use crate::run::{RunError, status};
 use planus_exhaust::exhaust;
@@ -10,7 +10,7 @@ use std::test::Fail;
 // Takes all memory but so many bytes. Tells whether it was taken.
 fn exhaust_but(alloc: Global, held: &mut Vec<Vec<u8>>, spare: usize) -> Result<bool, AllocError> {
     let given_back: Vec<u8> = Vec::with_capacity(alloc, spare)?;
-    let exhausted = exhaust(alloc, held);
+    let exhausted = exhaust(alloc, held)?;
     drop(given_back);
     Ok(exhausted)
 }
@@ -66,15 +66,6 @@ fn push_finishes(script: &mut Vec<u8>) -> Result<(), AllocError> {
     push_text_step(script, 50003)?;
     for _ in 0..100usize {
         script.extend_from_slice(b"finish 0\n")?;
-    }
-    Ok(())
-}
-
-// Adds the references in front of the text, of which each finish writes one.
-fn push_references(printed: &mut Vec<u8>, count: usize) -> Result<(), AllocError> {
-    for behind in 0..count {
-        let reference = count.wrapping_sub(behind).wrapping_mul(4);
-        push_bytes(printed, &(reference as u64).to_le_bytes()[..4])?;
     }
     Ok(())
 }

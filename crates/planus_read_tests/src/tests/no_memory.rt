@@ -57,7 +57,7 @@ struct Answers {
 // Makes all calls with all memory taken. Tells whether it was.
 fn answers_without_memory(alloc: Global) -> Result<(bool, Answers), AllocError> {
     let mut held: Vec<Vec<u8>> = Vec::with_capacity(alloc, 262144)?;
-    let exhausted = exhaust(alloc, &mut held);
+    let exhausted = exhaust(alloc, &mut held)?;
     let answers = Answers {
         rows: worked_rows_are_read(),
         traits: traits_answer(),

@@ -2,7 +2,7 @@ mod no_memory;
 mod unions;
 mod vectors;
 
-use std::alloc::Global;
+use std::alloc::{AllocError, Global};
 use std::fmt::Debug;
 
 // Whether the Debug text of an iterator over sub-views names what it goes over.
@@ -11,4 +11,13 @@ fn shows<T: Debug>(alloc: Global, parts: &T) -> bool {
         Ok(text) => text.as_str().starts_with("SubViews { whole: "),
         Err(_) => false,
     }
+}
+
+// Adds the numbers below 5003, two bytes each, with these bytes behind every one.
+fn push_numbers(bytes: &mut Vec<u8>, behind: &[u8]) -> Result<(), AllocError> {
+    for number in 0..5003u16 {
+        bytes.extend_from_slice(&number.to_le_bytes())?;
+        bytes.extend_from_slice(behind)?;
+    }
+    Ok(())
 }

@@ -18,7 +18,7 @@ struct Refused {
 
 fn without_memory(alloc: Global) -> Result<Refused, AllocError> {
     let mut held: Vec<Vec<u8>> = Vec::with_capacity(alloc, 262144)?;
-    let exhausted = exhaust(alloc, &mut held);
+    let exhausted = exhaust(alloc, &mut held)?;
     let refused = Refused {
         exhausted,
         vectors: vector_calls_agree(),

@@ -75,31 +75,31 @@ fn lists(rt: HostRuntime) -> Result<(), Fail> {
     Ok(())
 }
 
-// The numbers below 1000, and the finished bytes of their list.
-fn a_thousand(alloc: Global) -> Result<(Vec<u16>, Vec<u8>), AllocError> {
-    let mut items: Vec<u16> = Vec::new(alloc);
-    let mut want: Vec<u8> = Vec::from_slice(alloc, b"\x04\0\0\0\xe8\x03\0\0")?;
-    for index in 0..1000u16 {
+// The numbers below 100003, and the finished bytes of their list.
+fn many_numbers(alloc: Global) -> Result<(Vec<u32>, Vec<u8>), AllocError> {
+    let mut items: Vec<u32> = Vec::new(alloc);
+    let mut want: Vec<u8> = Vec::from_slice(alloc, b"\x04\0\0\0\xa3\x86\x01\0")?;
+    for index in 0..100003u32 {
         items.push(index)?;
         want.extend_from_slice(&index.to_le_bytes())?;
     }
     Ok((items, want))
 }
 
-fn a_list_of_a_thousand_numbers_in(
+fn a_list_of_many_numbers_in(
     builder: &mut Builder,
-    items: Vec<u16>,
+    items: Vec<u32>,
     want: &[u8],
 ) -> Result<bool, BuildError> {
-    let list = builder.create_vector::<u16, Vec<u16>>(items)?;
+    let list = builder.create_vector::<u32, Vec<u32>>(items)?;
     Ok(finishes(builder, list, None, want))
 }
 
 #[test]
-fn a_list_of_a_thousand_numbers(rt: HostRuntime) -> Result<(), Fail> {
-    let (items, want) = a_thousand(rt.alloc())?;
+fn a_list_of_100003_numbers(rt: HostRuntime) -> Result<(), Fail> {
+    let (items, want) = many_numbers(rt.alloc())?;
     let mut builder = Builder::new(rt.alloc())?;
-    let found = a_list_of_a_thousand_numbers_in(&mut builder, items, want.as_slice());
+    let found = a_list_of_many_numbers_in(&mut builder, items, want.as_slice());
     assert!(rt; holds(found));
     Ok(())
 }

@@ -5,6 +5,7 @@ ghost use Rattle.std.specs.Int.{w8, w16, w32, w64, to_le_bytes, cast_unsigned};
 
 use super::holds;
 use planus_write::{BuildError, Builder, ObjectFill, ObjectWriter, Offset, TableWriter, Text};
+use std::alloc::{AllocError, Global};
 use std::test::Fail;
 
 // A number of eight bytes, and one of one byte.
@@ -104,6 +105,39 @@ fn a_table_with_a_text(builder: &mut Builder) -> Result<bool, BuildError> {
     let want =
         b"\x04\0\0\0\xf4\xff\xff\xff\x10\0\0\0\x18\0\0\0\x08\0\x0a\0\x04\0\x08\0\x03\0\0\0Axe\0";
     Ok(last_is(builder, want))
+}
+
+// Two numbers, of which one has the greatest slot of all.
+fn a_table_with_the_greatest_slot(builder: &mut Builder, want: &[u8]) -> Result<bool, BuildError> {
+    let mut writer: TableWriter<65534> = TableWriter::default();
+    writer.write_entry::<u64>(32764);
+    writer.write_entry::<u8>(2);
+    let wide = Wide {
+        first: 1,
+        second: 2,
+    };
+    writer.finish(builder, &wide)?;
+    Ok(last_is(builder, want))
+}
+
+// The bytes of this table, whose vtable is of 65534.
+fn its_bytes(alloc: Global) -> Result<Vec<u8>, AllocError> {
+    let front = b"\x04\0\0\0\xf2\xff\xff\xff\x01\0\0\0\0\0\0\0\x02\0\
+        \xfe\xff\x0d\0\0\0\0\0\x0c\0";
+    let mut bytes: Vec<u8> = Vec::from_slice(alloc, front)?;
+    let free_slots = vec![in alloc; 0; 65522]?;
+    bytes.extend_from_slice(free_slots.as_slice())?;
+    bytes.extend_from_slice(b"\x04\0")?;
+    Ok(bytes)
+}
+
+#[test]
+fn the_greatest_slot(rt: HostRuntime) -> Result<(), Fail> {
+    let want = its_bytes(rt.alloc())?;
+    let mut builder = Builder::new(rt.alloc())?;
+    let found = a_table_with_the_greatest_slot(&mut builder, want.as_slice());
+    assert!(rt; holds(found));
+    Ok(())
 }
 
 #[test]

@@ -1,6 +1,6 @@
 //! Texts, with and without an identifier, and a long one.
 
-use super::{finishes, holds, prepared};
+use super::{finishes, holds, prepared, without_caches};
 use planus_write::{BuildError, Builder, ByRef, Text};
 use std::alloc::{AllocError, Global};
 use std::test::Fail;
@@ -74,6 +74,24 @@ fn a_text_of_one_mebibyte_in(alloc: Global, builder: &mut Builder) -> Result<boo
 fn a_text_of_one_mebibyte(rt: HostRuntime) -> Result<(), Fail> {
     let mut builder = Builder::new(rt.alloc())?;
     assert!(rt; a_text_of_one_mebibyte_in(rt.alloc(), &mut builder)?);
+    Ok(())
+}
+
+// Whether a text of 524336 bytes is written so often. It takes 524341 bytes, and each one behind the
+// first three more, by which it stands aligned.
+fn texts_are_repeated(builder: &mut Builder, text: &str, count: usize) -> Result<bool, BuildError> {
+    for _ in 0..count {
+        builder.create_string(text)?;
+    }
+    Ok(text.len() == 524336 && builder.len() == 68689061)
+}
+
+#[test]
+fn texts_of_more_than_64_mebibytes(rt: HostRuntime) -> Result<(), Fail> {
+    let text = letters(rt.alloc(), 32771)?;
+    let mut builder = without_caches(rt.alloc())?;
+    let found = texts_are_repeated(&mut builder, text.as_str(), 131);
+    assert!(rt; holds(found));
     Ok(())
 }
 

@@ -2,13 +2,13 @@
 
 ghost use Rattle.std.specs.Prelude.{◌≡◌, ⊤, codes};
 
-use super::super::shows;
+use super::super::{push_numbers, shows};
 use super::unions;
 use planus_read::errors::ErrorKind;
 use planus_read::{Error, SliceWithStartOffset, TableRead, TableReadUnion, VectorName};
 use planus_unions::UnionVector;
 use planus_view::{CopyError, Cut, SubViews};
-use std::alloc::Global;
+use std::alloc::{AllocError, Global};
 use std::test::Fail;
 
 // A number of four bytes, in place of a reference; its tag is 2.
@@ -193,6 +193,36 @@ fn damaged_are_refused(alloc: Global) -> bool {
         },
         _ => false,
     }
+}
+
+// Unions of the numbers below 5003.
+fn many_unions(alloc: Global) -> Result<Vec<u8>, AllocError> {
+    let mut bytes = Vec::from_slice(alloc, b"\x08\0\0\0\x94\x13\0\0\x8b\x13\0\0")?;
+    let tags = vec![in alloc; 2; 5003]?;
+    bytes.extend_from_slice(tags.as_slice())?;
+    bytes.extend_from_slice(b"\0\x8b\x13\0\0")?;
+    push_numbers(&mut bytes, b"\0\0")?;
+    Ok(bytes)
+}
+
+fn many_are_copied(alloc: Global, bytes: &[u8]) -> bool {
+    match copies_of(alloc, bytes) {
+        Ok(copies) => {
+            copies.len() == 5003
+                && copies
+                    .iter()
+                    .zip(0..5003u32)
+                    .all(|(number, want)| number.0 == want)
+        }
+        Err(_) => false,
+    }
+}
+
+#[test]
+fn copies_of_5003_unions(rt: HostRuntime) -> Result<(), Fail> {
+    let bytes = many_unions(rt.alloc())?;
+    assert!(rt; many_are_copied(rt.alloc(), bytes.as_slice()));
+    Ok(())
 }
 
 #[test]

@@ -68,7 +68,7 @@ fn parts_are<'buf, T: Stride>(
 }
 
 // How many items the sub-vectors have, by a copy of the iterator.
-fn taken<'buf, T: Stride, C: Cut>(parts: SubViews<Vector<'buf, T>, C>) -> usize {
+pub fn taken<'buf, T: Stride, C: Cut>(parts: SubViews<Vector<'buf, T>, C>) -> usize {
     let mut items: usize = 0;
     for part in parts.clone().unwrap() {
         items = items.wrapping_add(part.len());

@@ -2,11 +2,14 @@
 
 ghost use Rattle.std.specs.Prelude.{⊤};
 
-use super::five;
+use super::super::push_numbers;
+use super::calls::taken;
 use super::rows::{DAMAGED, TEXTS, texts};
+use super::{five, numbers};
 use planus_read::errors::ErrorKind;
-use planus_view::{CopyError, FromItem};
-use std::alloc::Global;
+use planus_view::{CopyError, FromItem, Vector};
+use std::alloc::{AllocError, Global};
+use std::test::Fail;
 
 // A number that must be below 5.
 #[derive(Clone, Copy, PartialEq, Debug)]
@@ -91,4 +94,59 @@ fn items_are_copied(rt: HostRuntime) {
         matches!(CopyError::from(error), CopyError::Read(e) if e.source_location.type_ == "T"),
         "an error"
     );
+}
+
+// A list of the numbers below 5003.
+fn many_numbers(alloc: Global) -> Result<Vec<u8>, AllocError> {
+    let mut bytes = Vec::from_slice(alloc, b"\x04\0\0\0\x8b\x13\0\0")?;
+    push_numbers(&mut bytes, b"")?;
+    Ok(bytes)
+}
+
+// Whether the copies are these numbers, and the copies of iterators go over as many.
+fn many_are_copied(alloc: Global, many: Vector<'_, u16>) -> bool {
+    let copied = match many.to_vec::<u16>(alloc) {
+        Ok(copies) => {
+            copies.len() == 5003
+                && copies
+                    .iter()
+                    .zip(0..5003u16)
+                    .all(|(number, want)| *number == want)
+        }
+        Err(_) => false,
+    };
+    copied && many.iter().clone().unwrap().count() == 5003 && taken(many.chunks(7)) == 5003
+}
+
+// A list of a text of 5003 letters and one of one letter.
+fn a_long_text(alloc: Global) -> Result<Vec<u8>, AllocError> {
+    let front = b"\x04\0\0\0\x02\0\0\0\x08\0\0\0\x94\x13\0\0\x8b\x13\0\0";
+    let mut bytes: Vec<u8> = Vec::from_slice(alloc, front)?;
+    let letters = vec![in alloc; b'A'; 5003]?;
+    bytes.extend_from_slice(letters.as_slice())?;
+    bytes.extend_from_slice(b"\0\x01\0\0\0B\0")?;
+    Ok(bytes)
+}
+
+fn a_long_text_is_copied(alloc: Global, bytes: &[u8]) -> bool {
+    match texts_of(alloc, bytes) {
+        Ok(copies) => {
+            matches!(copies.as_slice(), [a, b] if a.len() == 5003
+                && a.bytes().all(|letter| letter == b'A')
+                && b.as_str() == "B")
+        }
+        Err(_) => false,
+    }
+}
+
+#[test]
+fn many_and_long_items_are_copied(rt: HostRuntime) -> Result<(), Fail> {
+    let list = many_numbers(rt.alloc())?;
+    assert!(rt;
+        many_are_copied(rt.alloc(), numbers(list.as_slice())?),
+        "many"
+    );
+    let text = a_long_text(rt.alloc())?;
+    assert!(rt; a_long_text_is_copied(rt.alloc(), text.as_slice()), "long");
+    Ok(())
 }
