@@ -23,7 +23,7 @@ use Rattle.planus.specs.Slots.{greatest_field}
 use Rattle.planus.specs.Kinds.{Kind, a_value, a_union_list, kind_of, kind_named, naming_fault}
 use Rattle.planus.specs.Runs.{State, nothing_written, cleared, Advances, LeadsTo, Writes, StepTooLarge}
 use Rattle.planus.specs.Runs.{named_at, value_at, union_of, all_of, width_of, fits_width, numbers_value, value_of}
-use Rattle.planus.specs.Runs.{fields_of, entries_put, finish_of, values_added, finishes_added}
+use Rattle.planus.specs.Runs.{entries_put, finish_of, values_added, finishes_added}
 use Rattle.planus.specs.Replays.{is_clear, named_step, fault_of, first_fault, union_fault, numbers_fault}
 use Rattle.planus.specs.Replays.{broken_check, first_bad, AnAnswerIsThere, IsAnswered}
 use Rattle.planus.specs.declared.faults.Why.{Why}

@@ -18,7 +18,7 @@ use Rattle.planus_write.proofs.Standing.{finishes_lead}
 use Rattle.planus.specs.Steps.{Step, text, bytes, numbers, refs, unions, table, finish, clear}
 use Rattle.planus.specs.Steps.{FieldStep, number_field, ref_field, tags_field, values_field}
 use Rattle.planus.specs.Slots.{greatest_field, place_fault, alignment_of}
-use Rattle.planus.specs.Runs.{Finish, Listed, State, cleared, Writes, Advances, LeadsTo, nothing_written, value_of}
+use Rattle.planus.specs.Runs.{Listed, State, cleared, Writes, Advances, LeadsTo, nothing_written, value_of}
 use Rattle.planus.specs.Runs.{value_at, distance_at, value_distance, tags_distance, references_distance}
 use Rattle.planus.specs.Runs.{union_of, all_of, width_of, fits_width, numbers_value, field_width, plain_field}
 use Rattle.planus.specs.Runs.{field_of, fields_of, values_added, finishes_added, finish_of}

@@ -44,9 +44,7 @@ fn find<C: GetCacheKey, K: Key>(distances: &Distances, serialized: &[u8], key: &
 {
     match distances {
         Distances::One(distance) => find_among::<C, K>(&[*distance], serialized, key),
-        Distances::More(distances) => {
-            find_among::<C, K>(distances.as_slice(), serialized, key)
-        }
+        Distances::More(more) => find_among::<C, K>(more.as_slice(), serialized, key),
     }
 }
 

@@ -1,6 +1,6 @@
 -- The fields of a table as code has them that is generated from a schema: those that are there, in
 -- the order in which they are declared and written.
-use Rattle.std.specs.Prelude.{◌≡◌, ℕ, ◌-◌, List, [], ◌∷◌, ◌++◌, map, Option, Some, None}
+use Rattle.std.specs.Prelude.{ℕ, ◌-◌, List, [], ◌∷◌, ◌++◌, map, Option, Some, None}
 use Rattle.planus_read.specs.Bytes.{BytesStand}
 use Rattle.planus_write.specs.Items.{Item}
 use Rattle.planus_write.specs.Placing.{Outcome}

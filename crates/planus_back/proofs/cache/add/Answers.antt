@@ -1,4 +1,4 @@
-use Rattle.std.proofs.Common.{◌≡◌, refl, ap, sym, subst, ◌∙◌, nat_eq, None, Some}
+use Rattle.std.proofs.Common.{◌≡◌, ap, subst, nat_eq, None, Some}
 use Rattle.std.specs.Map.{lookup}
 use Rattle.std.specs.HashMap.{ContainsKey, get_key}
 use Rattle.std.specs.HashMap.Entry.{MatchEntry, entry_key}

@@ -1,4 +1,4 @@
-use Rattle.std.proofs.Common.{◌≡◌, ◌<◌, drop, length}
+use Rattle.std.proofs.Common.{◌≡◌, drop, length}
 use Rattle.planus_back.specs.Caches.{number_on, hash_on, hash_of}
 use Rattle.planus_back.proofs.keys.BytesKey.hash.Given as goal
 

@@ -1,4 +1,4 @@
-use Rattle.std.proofs.Common.{◌≡◌, ◌<◌, ℤ, drop, length, map}
+use Rattle.std.proofs.Common.{◌≡◌, ℤ, drop, length, map}
 use Rattle.std.specs.Int.{w8, cast_unsigned}
 use Rattle.planus_back.specs.Caches.{number_on, hash_on, hash_of}
 use Rattle.planus_back.proofs.keys.SignedKey.hash.Given as goal
