@@ -1,5 +1,6 @@
 //! Equal contents, which a builder writes once, and its caches while memory is refused.
 
+use super::settings::Switches;
 use super::tables::{ONE_VTABLE, TWO_VTABLES, put};
 use planus::{BuildError, Builder, ByteList, Caches, Field, FieldValue, Step, replay};
 use planus_exhaust::exhaust;
@@ -124,10 +125,11 @@ fn written_again(builder: &mut Builder) -> bool {
     are_at(write_three(builder, "Hi", true), [48, 56, 72]) && builder.as_slice() == WRITTEN
 }
 
-// A builder with room refuses contents that are new where there is no memory for their entries.
+// A builder with room refuses contents that are new where there is no memory for their entries. All
+// have one hash, of which the first distance takes no block of memory, and the second does.
 #[test]
 fn entries_with_refused_memory(rt: HostRuntime) -> Result<(), Fail> {
-    let mut builder = Builder::with_capacity(rt.alloc(), 256)?;
+    let mut builder = Builder::with_caches(rt.alloc(), 256, Switches::of(7).caches(0))?;
     let first = write_three(&mut builder, "Axe", false);
     assert!(rt; are_at(first, [8, 16, 32]), "before");
     match found_without_memory(rt.alloc(), &mut builder)? {
