@@ -5,6 +5,9 @@ pub mod PaddingLaws
 pub mod Asked
 pub mod Periods
 pub mod Places
+pub mod Blocks
 pub mod Buckets
 pub mod Caches
 pub mod Hashes
+mod Runs
+mod Deeds

@@ -6,8 +6,11 @@ pub mod Descriptions
 pub mod Requests
 pub mod Sound
 pub mod BackBytes
+pub mod Blocks
 pub mod BackView
 pub mod Pairs
 pub mod CacheKeys
 pub mod Caches
+pub mod Handing
+pub mod Cells
 pub mod Buckets

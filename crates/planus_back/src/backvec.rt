@@ -1,21 +1,20 @@
 //! A byte vector that grows towards its front.
-ghost use Rattle.std.specs.Prelude.{◌≡◌, ℕ, ◌+◌, ◌-◌, ◌≤◌, List, [], ◌++◌, length, take, drop};
+ghost use Rattle.std.specs.Prelude.{◌≡◌, ℕ, ◌+◌, ◌≤◌, List, [], ◌++◌, length};
 ghost use Rattle.std.specs.Prelude.{replicate, IfOk, OnOk, OnErr, IsOk};
-ghost use Rattle.std.specs.Prelude.{vec_len};
 
+use crate::block::Block;
 use crate::fill::{Fill, Overwrite};
 use std::alloc::{AllocError, Global};
-use std::fmt;
 use std::marker::Model;
+use std::{fmt, mem};
 
 /// The least number of bytes that a vector asks memory for.
 const LEAST_CAPACITY: usize = 16;
 
 /// A list of bytes that grows at its front.
-#[derive(Drop)]
 pub struct BackVec {
-    // The whole block that was asked for; the vector's bytes are its end.
-    block: Vec<u8>,
+    // The vector's bytes are the end of the block.
+    block: Block,
     start: usize,
 }
 
@@ -31,108 +30,11 @@ impl Model for BackVec {
     ghost invariant = { StartsInside };
 }
 
-/// A block of `room` zeros and then `bytes`, of `room + bytes.len()` bytes in all. Asks for memory
-/// once.
-fn block_behind(
-    alloc: Global,
-    room: usize,
-    capacity: usize,
-    bytes: &[u8],
-) -> Result<Vec<u8>, AllocError>
-    requires { room + length bytes.now ≡ capacity }
-    ensures { IfOk result (λ v. v.items ≡ replicate room 0 ++ bytes.now) }
-{
-    let mut block = Vec::with_capacity(alloc, capacity)?;
-    block.resize(room, 0)?;
-    block.extend_from_slice(bytes)?;
-    Ok(block)
-}
-
-// Writes the slice in front of position `start`.
-#[inline]
-fn put_slice(block: &mut [u8], start: usize, bytes: &[u8])
-    requires inside { start ≤ length block.old }
-    requires room { length bytes.now ≤ start }
-    ensures { drop (start - length bytes.now) block.new ≡ bytes.now ++ drop start block.old }
-{
-    let (front, _back) = block.split_at_mut(start);
-    let (_rest, gap) = front.split_at_mut(start - bytes.len());
-    gap.copy_from_slice(bytes);
-}
-
-// Writes 8 zeros in front of position `start`, of which the last n are asked for.
-#[inline]
-fn put_few_zeros(block: &mut [u8], start: usize, n: usize)
-    requires inside { start ≤ length block.old }
-    requires room { 8 ≤ start }
-    requires few { n ≤ 8 }
-    ensures { drop (start - n) block.new ≡ replicate n 0 ++ drop start block.old }
-{
-    let (front, _back) = block.split_at_mut(start);
-    let (_rest, gap) = front.split_at_mut(start - 8);
-    gap.copy_from_slice(&[0; 8]);
-}
-
-// Writes n zeros in front of position `start`.
-#[cold]
-#[inline(never)]
-fn put_many_zeros(block: &mut [u8], start: usize, n: usize)
-    requires inside { start ≤ length block.old }
-    requires room { n ≤ start }
-    ensures { drop (start - n) block.new ≡ replicate n 0 ++ drop start block.old }
-{
-    let (front, _back) = block.split_at_mut(start);
-    let (_rest, gap) = front.split_at_mut(start - n);
-    gap.fill(0);
-}
-
-// Writes n zeros in front of position `start`. Padding is mostly below 8 bytes, and is then one
-// store of 8 where there is room for it.
-#[inline]
-fn put_zeros(block: &mut [u8], start: usize, n: usize)
-    requires inside { start ≤ length block.old }
-    requires room { n ≤ start }
-    ensures { drop (start - n) block.new ≡ replicate n 0 ++ drop start block.old }
-{
-    if n == 0 {
-        return;
+impl Drop for BackVec {
+    fn drop(self) {
+        let BackVec { block, start: _ } = self;
+        block.free();
     }
-    if n <= 8 && 8 <= start {
-        put_few_zeros(block, start, n);
-    } else {
-        put_many_zeros(block, start, n);
-    }
-}
-
-// Lets the filler write n bytes in front of position `start`, over zeros.
-#[inline]
-fn put_filled<F: Fill>(block: &mut [u8], start: usize, place: u32, n: usize, filler: &F)
-    requires inside { start ≤ length block.old }
-    requires room { n ≤ start }
-    requires fits { F.fits filler.now place n }
-    ensures bytes { drop (start - n) block.new
-        ≡ F.leaves filler.now place n ++ drop start block.old }
-    ensures count { length (F.leaves filler.now place n) ≡ n }
-{
-    let (front, _back) = block.split_at_mut(start);
-    let (_rest, gap) = front.split_at_mut(start - n);
-    gap.fill(0);
-    filler.fill(place, gap);
-}
-
-// Lets the writer write n bytes in front of position `start`, over whatever is there.
-#[inline]
-fn put_overwritten<W: Overwrite>(block: &mut [u8], start: usize, place: u32, n: usize, writer: &W)
-    requires inside { start ≤ length block.old }
-    requires room { n ≤ start }
-    requires fits { W.fits writer.now place n }
-    ensures bytes { drop (start - n) block.new
-        ≡ W.leaves writer.now place n ++ drop start block.old }
-    ensures count { length (W.leaves writer.now place n) ≡ n }
-{
-    let (front, _back) = block.split_at_mut(start);
-    let (_rest, gap) = front.split_at_mut(start - n);
-    writer.overwrite(place, gap);
 }
 
 impl BackVec {
@@ -143,7 +45,7 @@ impl BackVec {
         ensures room { IfOk result (λ v. n ≤ v.room) }
     {
         let capacity = n.max(LEAST_CAPACITY);
-        let block = block_behind(alloc, capacity, capacity, &[])?;
+        let block = Block::new(alloc, capacity)?;
         Ok(BackVec {
             block,
             start: capacity,
@@ -152,7 +54,7 @@ impl BackVec {
 
     /// The allocator that the vector takes memory from.
     pub fn alloc(&self) -> Global {
-        *self.block.allocator()
+        self.block.alloc()
     }
 
     /// The number of bytes.
@@ -160,7 +62,7 @@ impl BackVec {
     pub fn len(&self) -> usize
         ensures { result ≡ length self.now.bytes }
     {
-        self.block.len() - self.start
+        self.block.capacity() - self.start
     }
 
     /// How many more bytes fit in front without memory.
@@ -176,7 +78,7 @@ impl BackVec {
     pub fn as_slice(&self) -> &[u8]
         ensures { result.now ≡ self.now.bytes }
     {
-        &self.block[self.start..]
+        self.block.as_slice(self.start)
     }
 
     /// Takes all bytes away. The memory is kept, so that there is room for as many bytes more.
@@ -184,7 +86,7 @@ impl BackVec {
         ensures bytes { self.new.bytes ≡ [] }
         ensures room { self.new.room ≡ length self.old.bytes + self.old.room }
     {
-        self.start = self.block.len();
+        self.start = self.block.capacity();
     }
 
     /// Makes room for `n` more bytes in front, and leaves the bytes as they are. Takes no memory
@@ -217,11 +119,13 @@ impl BackVec {
         let Some(needed) = len.checked_add(n) else {
             return Err(AllocError);
         };
-        let capacity = needed.max(self.block.len().saturating_mul(2));
+        let capacity = needed.max(self.block.capacity().saturating_mul(2));
         let room = capacity - len;
-        let block = block_behind(self.alloc(), room, capacity, self.as_slice())?;
-        self.block = block;
+        let mut larger = Block::new(self.alloc(), capacity)?;
+        larger.put_slice(room, self.as_slice());
+        let old = mem::replace(&mut self.block, larger);
         self.start = room;
+        old.free();
         Ok(())
     }
 
@@ -232,8 +136,9 @@ impl BackVec {
         ensures bytes { self.new.bytes ≡ bytes.now ++ self.old.bytes }
         ensures room { self.new.room + length bytes.now ≡ self.old.room }
     {
-        put_slice(self.block.as_mut_slice(), self.start, bytes);
-        self.start -= bytes.len();
+        let start = self.start - bytes.len();
+        self.block.put_slice(start, bytes);
+        self.start = start;
     }
 
     /// Puts the bytes of three slices in front, those of the first foremost. There is room for all
@@ -245,14 +150,9 @@ impl BackVec {
         ensures room { self.new.room + length
             (first.now ++ second.now ++ third.now) ≡ self.old.room }
     {
-        let block = self.block.as_mut_slice();
-        let mut start = self.start;
-        put_slice(block, start, third);
-        start -= third.len();
-        put_slice(block, start, second);
-        start -= second.len();
-        put_slice(block, start, first);
-        self.start = start - first.len();
+        self.put_slice(third);
+        self.put_slice(second);
+        self.put_slice(first);
     }
 
     /// Puts `n` zeros in front. There is room for them.
@@ -262,8 +162,9 @@ impl BackVec {
         ensures bytes { self.new.bytes ≡ replicate n 0 ++ self.old.bytes }
         ensures room { self.new.room + n ≡ self.old.room }
     {
-        put_zeros(self.block.as_mut_slice(), self.start, n);
-        self.start -= n;
+        let start = self.start - n;
+        self.block.put_zeros(start, n);
+        self.start = start;
     }
 
     /// Puts `n` bytes in front, which the filler writes over zeros. There is room for them.
@@ -276,8 +177,9 @@ impl BackVec {
         ensures count { length (F.leaves filler.now place n) ≡ n }
         ensures room { self.new.room + n ≡ self.old.room }
     {
-        put_filled(self.block.as_mut_slice(), self.start, place, n, filler);
-        self.start -= n;
+        let start = self.start - n;
+        self.block.put_filled(start, place, n, filler);
+        self.start = start;
     }
 
     /// Puts `n` bytes in front, all of which the writer writes, over whatever was there. There is
@@ -291,8 +193,9 @@ impl BackVec {
         ensures count { length (W.leaves writer.now place n) ≡ n }
         ensures room { self.new.room + n ≡ self.old.room }
     {
-        put_overwritten(self.block.as_mut_slice(), self.start, place, n, writer);
-        self.start -= n;
+        let start = self.start - n;
+        self.block.put_overwritten(start, place, n, writer);
+        self.start = start;
     }
 
     /// Puts the bytes of the slice in front. A refusal of memory changes nothing.

@@ -8,6 +8,7 @@ ghost use Rattle.planus_back.specs.Caches.{FitsWhereKeyStands, FitsWhereItsKeySt
 use crate::bucket::Bucket;
 use crate::cache_keys::GetCacheKey;
 use crate::distances::Distances;
+use crate::handed::Handed;
 use crate::keys::{Bytes, Key, Signed};
 use std::alloc::{AllocError, Global};
 use std::collections::HashMap;
@@ -22,7 +23,7 @@ use std::marker::{Model, PhantomData};
 #[derive(Drop)]
 pub struct Cache<C> {
     // The distances at which keys stand, by the hashes of these, cut by the mask.
-    buckets: HashMap<u64, Distances>,
+    buckets: HashMap<u64, Distances, Handed>,
     hash_mask: u64,
     alloc: Global,
     of: PhantomData<C>,
@@ -64,7 +65,7 @@ fn find_among<C: GetCacheKey, K: Key>(distances: &[u32], serialized: &[u8], key:
 
 /// Adds a distance to those at a hash. A refusal changes nothing.
 fn add(
-    buckets: &mut HashMap<u64, Distances>,
+    buckets: &mut HashMap<u64, Distances, Handed>,
     alloc: Global,
     hash: u64,
     distance: u32,
@@ -90,7 +91,7 @@ impl<C: GetCacheKey> Cache<C> {
         ensures { IfOk result IsEmpty }
     {
         Ok(Cache {
-            buckets: HashMap::new(alloc),
+            buckets: HashMap::with_hasher(alloc, Handed::new()),
             hash_mask,
             alloc,
             of: PhantomData,
@@ -103,7 +104,7 @@ impl<C: GetCacheKey> Cache<C> {
     {
         // A clear of a map takes time by its capacity, however few entries it has.
         if self.buckets.len() < self.buckets.capacity() / 32 {
-            self.buckets = HashMap::new(self.alloc);
+            self.buckets = HashMap::with_hasher(self.alloc, Handed::new());
         } else {
             self.buckets.clear();
         }

@@ -118,10 +118,8 @@ impl Promises {
     {
         let ahead = self.delayed.wrapping_sub(size) & self.mask;
         let padding = ahead & mask;
-        if size > GREATEST_PLACE {
-            return Err(TooLarge);
-        }
-        let place = len + padding + size;
+        // A size above `usize::MAX` less the rest counts as that.
+        let place = (len + padding).saturating_add(size);
         if place > GREATEST_PLACE {
             return Err(TooLarge);
         }

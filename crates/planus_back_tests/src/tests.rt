@@ -3,6 +3,8 @@ ghost use Rattle.std.specs.Int.{w8, cast_unsigned};
 ghost use Rattle.planus_back.specs.CacheKeys.{bytes_in};
 ghost use Rattle.planus_back.specs.Caches.{Fits, IsFound};
 
+mod random;
+
 use planus_back::{
     BackVec, ByteVec, Cache, Fill, GetCacheKey, Overwrite, Promises, TooLarge, VTable, laws,
 };

@@ -1,14 +1,14 @@
-use Rattle.std.proofs.Common.{◌≡◌, ap, subst, nat_eq, None, Some}
+use Rattle.std.proofs.Common.{◌≡◌, ◌∙◌, sym, ap, subst, nat_eq, None, Some}
 use Rattle.std.specs.Map.{lookup}
 use Rattle.std.specs.HashMap.{ContainsKey, get_key}
-use Rattle.std.specs.HashMap.Entry.{MatchEntry, entry_key}
+use Rattle.std.specs.HashMap.Entry.{MatchEntry, entry_key, entry_map_ref}
 use Rattle.planus_back.specs.Buckets.{distances_in}
 use Rattle.planus_back.proofs.Buckets.{adds_at, listed_same, if_some, on_ok, on_err}
 use Rattle.planus_back.proofs.cache.add.Goals as goal
 
 pub returns-in-Ok-Vacant-clause-ok : goal.returns-in-Ok-Vacant-clause-ok
 returns-in-Ok-Vacant-clause-ok c =
-    let here : c.entry-arg-1.given ≡ c.in-Ok-Vacant.entry.map.ghost_name = (let map = c.in-Ok-Vacant.ensures.same_map in let is = c.in-Ok-Vacant.field-0-is in cc) in
+    let here = sym c.in-Ok-Vacant.ensures.same_map ∙ ap (λ entry. (entry_map_ref entry).ghost_name) c.in-Ok-Vacant.field-0-is in
     let after = c.buckets-in-Ok-Vacant-2-1.given.1 here in
     let none : lookup (nat_eq c.args.hash) c.args.buckets.now.entries ≡ None = subst (λ entry. MatchEntry entry (ContainsKey nat_eq c.args.buckets.now c.args.hash × (get_key nat_eq c.args.buckets.now c.args.hash ≡ Some (entry_key entry))) (lookup (nat_eq c.args.hash) c.args.buckets.now.entries ≡ None)) c.in-Ok-Vacant.field-0-is c.in-Ok-Vacant.ensures.found in
     rw (after, ← c.in-Ok-Vacant.field-0-is)
@@ -16,7 +16,7 @@ returns-in-Ok-Vacant-clause-ok c =
 
 pub returns-in-Ok-Occupied-clause-ok : goal.returns-in-Ok-Occupied-clause-ok
 returns-in-Ok-Occupied-clause-ok c =
-    let here : c.entry-arg-1.given ≡ c.in-Ok-Occupied.entry.map.ghost_name = (let map = c.in-Ok-Occupied.ensures.same_map in let is = c.in-Ok-Occupied.field-0-is in cc) in
+    let here = sym c.in-Ok-Occupied.ensures.same_map ∙ ap (λ entry. (entry_map_ref entry).ghost_name) c.in-Ok-Occupied.field-0-is in
     let after = c.buckets-1.given.1 here in
     let some : lookup (nat_eq c.args.hash) c.args.buckets.now.entries ≡ Some c.get_mut.result.now
     = (let value = c.in-Ok-Occupied.ensures.value in let is = c.in-Ok-Occupied.field-0-is in let got = c.get_mut.ensures.value in cc) in
@@ -25,7 +25,7 @@ returns-in-Ok-Occupied-clause-ok c =
 
 pub returns-in-Ok-Occupied-clause-err : goal.returns-in-Ok-Occupied-clause-err
 returns-in-Ok-Occupied-clause-err c =
-    let here : c.entry-arg-1.given ≡ c.in-Ok-Occupied.entry.map.ghost_name = (let map = c.in-Ok-Occupied.ensures.same_map in let is = c.in-Ok-Occupied.field-0-is in cc) in
+    let here = sym c.in-Ok-Occupied.ensures.same_map ∙ ap (λ entry. (entry_map_ref entry).ghost_name) c.in-Ok-Occupied.field-0-is in
     let after = c.buckets-1.given.1 here in
     let some : lookup (nat_eq c.args.hash) c.args.buckets.now.entries ≡ Some c.get_mut.result.now
     = (let value = c.in-Ok-Occupied.ensures.value in let is = c.in-Ok-Occupied.field-0-is in let got = c.get_mut.ensures.value in cc) in

@@ -7,4 +7,4 @@ pub returns-else-len-capacity : goal.returns-else-len-capacity
 returns-else-len-capacity g c = IsEmpty-nil _ (ap listed c.clear.ensures.empty)
 
 pub returns-then-len-capacity : goal.returns-then-len-capacity
-returns-then-len-capacity g c = IsEmpty-nil _ (ap listed c.new.ensures.empty)
+returns-then-len-capacity g c = IsEmpty-nil _ (ap listed c.with_hasher.ensures.empty)

@@ -4,4 +4,4 @@ use Rattle.planus_back.proofs.Caches.{IsEmpty-nil}
 use Rattle.planus_back.proofs.cache.Cache.new.Goals as goal
 
 pub returns : goal.returns
-returns g c = IsEmpty-nil _ (ap listed c.new.ensures.empty)
+returns g c = IsEmpty-nil _ (ap listed c.with_hasher.ensures.empty)

@@ -23,18 +23,6 @@ pub returns-clause-kept : goal.returns-clause-kept
 returns-clause-kept c =
     rw (← c.self.view_is) (λ promises h greatest. keeps_every c.args.len c.self.inside.delayed c.self.inside.mask promises c.args.size (c.args.mask + 1) _ h c.requires.power greatest ((granted c).least_padding promises h))
 
-pub returns-then-size-gt-GREATEST_PLACE-clause-too_large : goal.returns-then-size-gt-GREATEST_PLACE-clause-too_large
-returns-then-size-gt-GREATEST_PLACE-clause-too_large c =
-    let inside : Delay = record { delayed = c.self.inside.delayed; mask = c.self.inside.mask } in
-    let asked = asked_for inside c.args.len c.args.size c.args.mask c.self.invariant (omega arith) c.requires.power in
-    rw (← c.self.view_is) (padding_for inside c.args.size c.args.mask, asked.least, omega arith)
-
-pub returns-then-size-gt-GREATEST_PLACE-clause-too_large_padding : goal.returns-then-size-gt-GREATEST_PLACE-clause-too_large_padding
-returns-then-size-gt-GREATEST_PLACE-clause-too_large_padding c =
-    let inside : Delay = record { delayed = c.self.inside.delayed; mask = c.self.inside.mask } in
-    let asked = asked_for inside c.args.len c.args.size c.args.mask c.self.invariant (omega arith) c.requires.power in
-    rw (← c.self.view_is) (λ promises h. (padding_for inside c.args.size c.args.mask, asked.least_padding promises h, omega arith))
-
 pub returns-then-place-gt-GREATEST_PLACE-clause-too_large : goal.returns-then-place-gt-GREATEST_PLACE-clause-too_large
 returns-then-place-gt-GREATEST_PLACE-clause-too_large c =
     let inside : Delay = record { delayed = c.self.inside.delayed; mask = c.self.inside.mask } in

@@ -1,0 +1,38 @@
+-- How a block of memory holds the bytes of a back vector: its places from one on hold bytes.
+use Rattle.std.specs.Prelude.{◌≡◌, ℕ, ◌+◌, ◌≤◌, List, ◌++◌, length, drop}
+use Rattle.core.specs.Mem.Slots.{slots_items, slots_filled, slots_ptr, slots_len}
+use Rattle.core.specs.Mem.Slots.Ownership.{Filled}
+use denote.RawPtr.{InBlock}
+use Rattle.planus_back.specs.declared.block.Block.{Block}
+
+-- the number of places
+abbrev pub capacity_of : Block → ℕ
+capacity_of b = slots_len b.places
+
+-- the bytes in the places from the k-th on
+abbrev pub bytes_from : Block → ℕ → List ℕ
+bytes_from b k = drop k (slots_items b.places)
+
+-- the pointer and the right to give the block back are those of the places, and each place from
+-- `written` on holds a byte
+pub record IsBlock (b : Block) : Type 0 where
+  pub inside : InBlock b.base
+  pub base : b.base ≡ slots_ptr b.places
+  pub deed : (b.deed.at ≡ slots_ptr b.places) × (b.deed.len ≡ capacity_of b) × (b.deed.alloc ≡ b.alloc)
+  pub written : b.written ≤ capacity_of b
+  pub filled : Filled (slots_filled b.places) b.written (capacity_of b)
+
+-- the block holds the bytes from the place on, and behind them what it held
+pub record Puts (b : Block) (at : ℕ) (part : List ℕ) (b' : Block) : Type 0 where
+  pub is_block : IsBlock b'
+  pub capacity : capacity_of b' ≡ capacity_of b
+  pub written : b'.written ≤ at
+  pub bytes : bytes_from b' at ≡ part ++ bytes_from b (at + length part)
+
+-- what was written in the first block stands in the second, in which each place from `at` on holds
+-- a byte
+pub record Readies (b : Block) (at : ℕ) (b' : Block) : Type 0 where
+  pub is_block : IsBlock b'
+  pub capacity : capacity_of b' ≡ capacity_of b
+  pub written : b'.written ≤ at
+  pub bytes : (k : ℕ) → b.written ≤ k → bytes_from b' k ≡ bytes_from b k

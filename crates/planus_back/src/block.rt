@@ -1,0 +1,201 @@
+//! A block of memory that is written from its end on.
+ghost use Rattle.std.specs.Prelude.{◌≡◌, ◌+◌, ◌≤◌, ℕ, ◌++◌, length, take, drop, replicate, IfOk};
+ghost use Rattle.std.specs.Prelude.{false};
+ghost use Rattle.core.specs.Mem.Slots.Ownership.{Filled, SameOutside};
+ghost use Rattle.core.specs.Mem.Slots.{SamePlaces, slots_filled, slots_items, slots_len};
+ghost use Rattle.planus_back.specs.Blocks.{IsBlock, Puts, Readies, bytes_from, capacity_of};
+
+use crate::cells::{Deed, allocate, deallocate, lend, lend_mut};
+use crate::fill::{Fill, Overwrite};
+use core::slots::Slots;
+use std::alloc::{AllocError, Global};
+use std_alloc::room::may_hold;
+
+/// How many places in front of a part are made ready with it, where a part is the first to be
+/// written there.
+const AHEAD: usize = 256;
+
+/// A block of places, of which those from `written` on hold bytes.
+pub struct Block {
+    base: *mut u8,
+    places: Slots<u8>,
+    written: usize,
+    deed: Deed<u8, Global>,
+    alloc: Global,
+}
+
+// Puts `n` zeros into the places from `at` on.
+fn zero(places: &mut Slots<u8>, at: usize, n: usize)
+    requires { at + n ≤ slots_len places.old }
+    ensures items { slots_items places.new
+        ≡ take at (slots_items places.old) ++ replicate n 0 ++ drop (at + n) (slots_items places.old) }
+    ensures filled { Filled (slots_filled places.new) at (at + n)
+        × SameOutside false (slots_filled places.old) (slots_filled places.new) at (at + n) }
+    ensures places { SamePlaces places.old places.new }
+{
+    let mut i = 0;
+    while i < n {
+        places.put(at + i, 0);
+        i += 1;
+    }
+}
+
+impl Block {
+    /// A block of `capacity` places that hold nothing. Asks for memory once.
+    pub(crate) fn new(alloc: Global, capacity: usize) -> Result<Block, AllocError>
+        ensures { IfOk result (λ b. IsBlock b × (capacity_of b ≡ capacity) × (b.written ≡ capacity)) }
+    {
+        if !may_hold::<u8>(capacity) {
+            return Err(AllocError);
+        }
+        let (base, places, deed) = allocate(&alloc, capacity)?;
+        Ok(Block {
+            base,
+            places,
+            written: capacity,
+            deed,
+            alloc,
+        })
+    }
+
+    /// Gives the block back.
+    pub(crate) fn free(self)
+        requires { IsBlock self }
+    {
+        let Block {
+            base: _,
+            places,
+            written: _,
+            deed,
+            alloc,
+        } = self;
+        deallocate(&alloc, places, deed);
+    }
+
+    /// The allocator that the block was taken from.
+    pub(crate) fn alloc(&self) -> Global {
+        self.alloc
+    }
+
+    /// The number of places.
+    #[inline]
+    pub(crate) fn capacity(&self) -> usize
+        ensures { result ≡ capacity_of self.now }
+    {
+        self.places.len()
+    }
+
+    /// The bytes from the place `from` on, all of which hold one.
+    #[inline]
+    pub(crate) fn as_slice(&self, from: usize) -> &[u8]
+        requires block { IsBlock self.now }
+        requires written { self.now.written ≤ from }
+        requires inside { from ≤ capacity_of self.now }
+        ensures { result.now ≡ bytes_from self.now from }
+    {
+        lend(&self.places, self.base, from, self.places.len() - from)
+    }
+
+    /// Puts the bytes of the slice from the place `at` on, up to places that hold bytes.
+    #[inline]
+    pub(crate) fn put_slice(&mut self, at: usize, bytes: &[u8])
+        requires block { IsBlock self.old }
+        requires inside { at + length bytes.now ≤ capacity_of self.old }
+        requires no_gap { self.old.written ≤ at + length bytes.now }
+        ensures { Puts self.old at bytes.now self.new }
+    {
+        self.places.copy_in(at, bytes);
+        self.written = self.written.min(at);
+    }
+
+    /// Puts `n` zeros from the place `at` on, up to places that hold bytes. Padding is mostly below
+    /// 8 bytes, and is then one store of 8 where there is room for it.
+    #[inline]
+    pub(crate) fn put_zeros(&mut self, at: usize, n: usize)
+        requires block { IsBlock self.old }
+        requires inside { at + n ≤ capacity_of self.old }
+        requires no_gap { self.old.written ≤ at + n }
+        ensures { Puts self.old at (replicate n 0) self.new }
+    {
+        if n == 0 {
+            return;
+        }
+        if n <= 8 && 8 <= at + n {
+            self.put_slice(at + n - 8, &[0; 8]);
+        } else {
+            self.put_many_zeros(at, n);
+        }
+    }
+
+    #[cold]
+    #[inline(never)]
+    fn put_many_zeros(&mut self, at: usize, n: usize)
+        requires block { IsBlock self.old }
+        requires inside { at + n ≤ capacity_of self.old }
+        requires no_gap { self.old.written ≤ at + n }
+        ensures { Puts self.old at (replicate n 0) self.new }
+    {
+        zero(&mut self.places, at, n);
+        self.written = self.written.min(at);
+    }
+
+    /// Lets the filler write `n` bytes from the place `at` on, over zeros, up to places that hold
+    /// bytes.
+    #[inline]
+    pub(crate) fn put_filled<F: Fill>(&mut self, at: usize, place: u32, n: usize, filler: &F)
+        requires block { IsBlock self.old }
+        requires inside { at + n ≤ capacity_of self.old }
+        requires no_gap { self.old.written ≤ at + n }
+        requires fits { F.fits filler.now place n }
+        ensures puts { Puts self.old at (F.leaves filler.now place n) self.new }
+        ensures count { length (F.leaves filler.now place n) ≡ n }
+    {
+        self.put_zeros(at, n);
+        filler.fill(place, lend_mut(&mut self.places, self.base, at, n));
+    }
+
+    /// Lets the writer write `n` bytes from the place `at` on, over whatever is there, up to places
+    /// that hold bytes.
+    #[inline]
+    pub(crate) fn put_overwritten<W: Overwrite>(
+        &mut self,
+        at: usize,
+        place: u32,
+        n: usize,
+        writer: &W,
+    )
+        requires block { IsBlock self.old }
+        requires inside { at + n ≤ capacity_of self.old }
+        requires no_gap { self.old.written ≤ at + n }
+        requires fits { W.fits writer.now place n }
+        ensures puts { Puts self.old at (W.leaves writer.now place n) self.new }
+        ensures count { length (W.leaves writer.now place n) ≡ n }
+    {
+        self.make_ready(at);
+        writer.overwrite(place, lend_mut(&mut self.places, self.base, at, n));
+    }
+
+    // Makes each place from `at` on hold a byte, since a place that holds nothing can't be lent.
+    #[inline]
+    fn make_ready(&mut self, at: usize)
+        requires block { IsBlock self.old }
+        requires inside { at ≤ capacity_of self.old }
+        ensures { Readies self.old at self.new }
+    {
+        if at < self.written {
+            self.fill_fresh(at);
+        }
+    }
+
+    // Puts zeros into the places up to the written ones, from a little in front of `at` on.
+    #[cold]
+    #[inline(never)]
+    fn fill_fresh(&mut self, at: usize)
+        requires block { IsBlock self.old }
+        requires fresh { at ≤ self.old.written }
+        ensures { Readies self.old at self.new }
+    {
+        let from = at.saturating_sub(AHEAD);
+        self.put_many_zeros(from, self.written - from);
+    }
+}
