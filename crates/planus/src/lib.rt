@@ -17,7 +17,7 @@ mod written;
 
 pub use faults::{ReplayError, Why};
 pub use finishes::{Finished, StepPlace};
-pub use planus_back::Fill;
+pub use planus_back::{Fill, Overwrite};
 pub use planus_fields::{
     DefaultValue, LeftOut, WriteAs, WriteAsDefault, WriteAsDefaultUnionVector, WriteAsOptional,
     WriteAsOptionalUnion, WriteAsOptionalUnionVector,

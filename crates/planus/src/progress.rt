@@ -58,7 +58,9 @@ fn places_of(
     ensures { IfOk result (λ places. map place_of places.items ≡ listed_from first
         (map name_of offsets.now)) }
 {
-    let mut places = Vec::with_capacity(alloc, offsets.len())?;
+    // Finishes are among the steps too, and can be most of them.
+    let values = offsets.iter().flatten().count();
+    let mut places = Vec::with_capacity(alloc, values)?;
     for (index, offset) in offsets.iter().enumerate() {
         if let Some(written) = offset {
             places.push(StepPlace {

@@ -55,12 +55,8 @@ impl Cut for ByChunks {
     #[inline]
     fn range(len: usize, size: usize, i: usize) -> (usize, usize) {
         let begin = i * size;
-        let end = if size < len - begin {
-            begin + size
-        } else {
-            len
-        };
-        (begin, end)
+        let count = size.min(len - begin);
+        (begin, begin + count)
     }
 }
 

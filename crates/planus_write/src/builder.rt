@@ -182,27 +182,6 @@ impl Builder {
         }
     }
 
-    // One part of `size` bytes, all of which the writer writes. Answers its place.
-    #[inline]
-    pub(crate) fn write_over<W: Overwrite>(
-        &mut self,
-        size: usize,
-        alignment_mask: usize,
-        writer: &W,
-    ) -> std::result::Result<u32, BuildError>
-        requires power { IsPowerOfTwo (alignment_mask + 1) }
-        requires bound { alignment_mask + 1 ≤ 2 ^ 30 }
-        requires fits { (place : ℕ) → length self.old.bytes + size ≤ place
-            → place ≤ greatest_place → W.fits writer.now place size }
-        ensures entry { WritesEntry (just (filled_part size (alignment_mask + 1)
-            (W.leaves writer.now))) [] self.old result self.new }
-        ensures inside { IfOk result (λ place. size ≤ place) }
-    {
-        let place = self.backing.make_room(size, alignment_mask)?;
-        self.backing.put_overwritten(place, size, writer);
-        Ok(place)
-    }
-
     // A byte list as one part.
     #[inline]
     pub(crate) fn write_byte_list<T, L: ByteItems>(
@@ -306,6 +285,30 @@ impl Builder {
         Ok(())
     }
 
+    /// Writes a part as [`Builder::write_with`] does, under the same conditions, but by a writer of
+    /// all its `size` bytes, whatever stood there before: nothing is zeroed first. A refusal is that
+    /// of [`Builder::write_with`].
+    #[inline]
+    pub fn write_over<W: Overwrite>(
+        &mut self,
+        size: usize,
+        alignment_mask: usize,
+        writer: &W,
+    ) -> std::result::Result<(), BuildError>
+        requires power { IsPowerOfTwo (alignment_mask + 1) }
+        requires bound { alignment_mask + 1 ≤ 2 ^ 30 }
+        requires fits { (place : ℕ) → length self.old.bytes + size ≤ place
+            → place ≤ length self.old.bytes + size + alignment_mask → place ≤ greatest_place
+            → W.fits writer.now place size }
+        ensures written { WritesPart (just (filled_part size (alignment_mask + 1)
+            (W.leaves writer.now))) self.old result self.new }
+        ensures small { IfOk result (λ done. size ≤ greatest_place) }
+    {
+        let place = self.backing.make_room(size, alignment_mask)?;
+        self.backing.put_overwritten(place, size, writer);
+        Ok(())
+    }
+
     /// Writes a text: one part of a count of 4 bytes, its bytes and a zero byte, aligned to 4
     /// bytes. Answers its offset. Nothing is written for an offset, which must be one that this
     /// builder answered since the last clear, nor where an equal text is found that was written
@@ -332,9 +335,10 @@ impl Builder {
     /// answered since the last clear.
     ///
     /// [`BuildError::TooLarge`] where a part's place would be above 2147483647 bytes from the end;
-    /// [`BuildError::OutOfMemory`] where memory for the prepared items is refused, or a part doesn't
-    /// fit [`Builder::room`] and memory is refused, or memory to find a byte list again is. What was
-    /// written before the refused write stays, and nothing after it is begun.
+    /// [`BuildError::OutOfMemory`] where memory for the prepared items is refused, which numbers,
+    /// truth values and offsets need none of; or a part doesn't fit [`Builder::room`] and memory is
+    /// refused, or memory to find a byte list again is. What was written before the refused write
+    /// stays, and nothing after it is begun.
     pub fn create_vector<P: Primitive, X: WriteAsOffset<List<P>> + Drop>(
         &mut self,
         list: X,

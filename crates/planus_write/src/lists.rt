@@ -109,7 +109,7 @@ pub(crate) fn write_prepared<P: Primitive, T: VectorWrite<P>>(
     Ok(Offset::at(place))
 }
 
-/// A list: its items are prepared in order, and then written.
+/// A list: its items are prepared in order, unless they need none, and then written.
 pub(crate) fn write_list<P: Primitive, T: VectorWrite<P>>(
     builder: &mut Builder,
     items: &[T],
@@ -118,6 +118,9 @@ pub(crate) fn write_list<P: Primitive, T: VectorWrite<P>>(
     ensures { WritesList T.outcome T.Value.leaves P.SIZE P.ALIGNMENT items.now
         builder.old result builder.new }
 {
+    if let Some(values) = T::as_prepared(items) {
+        return write_prepared::<P, T>(builder, values);
+    }
     let values = prepare_items::<P, T>(builder, items)?;
     write_prepared::<P, T>(builder, values.as_slice())
 }

@@ -1,8 +1,8 @@
 //! What can be written.
-ghost use Rattle.std.specs.Prelude.{◌≡◌, ◌≤◌, ◌*◌, ℕ, length, map, Result};
+ghost use Rattle.std.specs.Prelude.{◌≡◌, ◌≤◌, ◌*◌, ℕ, length, map, Result, Ok, IfSome};
 ghost use Rattle.planus_write.specs.Parts.{items_bytes};
 ghost use Rattle.planus_write.specs.Items.{Item};
-ghost use Rattle.planus_write.specs.Preparing.{IsLayout, IsLawful, MayStand};
+ghost use Rattle.planus_write.specs.Preparing.{IsLayout, IsLawful, MayStand, AllMay, PreparesAll};
 ghost use Rattle.planus_write.specs.State.{State};
 ghost use Rattle.planus_write.specs.declared.errors.BuildError.{BuildError};
 ghost use Rattle.planus_write.specs.declared.offset.Offset.{Offset};
@@ -69,9 +69,10 @@ pub trait WriteAsOffset<T> {
     /// Writes the value, if it isn't an offset already, and answers its offset.
     ///
     /// [`BuildError::TooLarge`] where a part's place would be above 2147483647 bytes from the end;
-    /// [`BuildError::OutOfMemory`] where memory is refused: for the prepared items of a list, for a
-    /// part that doesn't fit the builder's room, or to find contents again that are shared. A
-    /// refusal leaves what was written before it, and nothing of the refused write.
+    /// [`BuildError::OutOfMemory`] where memory is refused: for the prepared items of a list, unless
+    /// they need no preparing, for a part that doesn't fit the builder's room, or to find contents
+    /// again that are shared. A refusal leaves what was written before it, and nothing of the refused
+    /// write.
     fn prepare(&self, builder: &mut Builder) -> std::result::Result<Offset<T>, BuildError>
         requires { may self.now builder.old }
         ensures { outcome self.now builder.old result builder.new };
@@ -124,7 +125,7 @@ pub trait WriteAsUnionVector<T> {
 /// What a builder can write as an item of a list of `P`.
 ///
 /// The ghost members `may` and `outcome` are as those of [`WriteAsOffset`].
-pub trait VectorWrite<P: Primitive> {
+pub trait VectorWrite<P: Primitive>: Sized {
     /// What stands in the list: the item, prepared.
     type Value: WriteAsPrimitive<P> + Drop;
 
@@ -143,6 +144,17 @@ pub trait VectorWrite<P: Primitive> {
     fn prepare(&self, builder: &mut Builder) -> std::result::Result<Self::Value, BuildError>
         requires { may self.now builder.old }
         ensures { outcome self.now builder.old result builder.new };
+
+    /// Returns the items themselves where each of them is what stands in the list, as a number, a
+    /// truth value and an offset are: preparing them does nothing, and a list asks for no memory for
+    /// prepared ones. `None` where items are to be prepared.
+    #[inline]
+    fn as_prepared(items: &[Self]) -> Option<&[Self::Value]>
+        ensures { IfSome result (λ values. (old : State) → AllMay may items.now old
+            → PreparesAll outcome items.now old (Ok values.now) old) }
+    {
+        None
+    }
 
     /// Writes all of `bytes`: the items one after another, each [`VectorWrite::stride`] bytes
     /// behind the one before. `place` is the distance in bytes from the end of the buffer to the

@@ -74,6 +74,12 @@ impl<T> VectorWrite<Offset<T>> for Offset<T> {
     }
 
     #[inline]
+    #[tactic(auto, using(crate::proofs::PreparedItems::all_ready))]
+    fn as_prepared(items: &[Offset<T>]) -> Option<&[Offset<T>]> {
+        Some(items)
+    }
+
+    #[inline]
     fn write_values(values: &[Offset<T>], bytes: &mut [u8], place: u32) {
         write_each::<Offset<T>, Offset<T>>(values, bytes, place);
     }

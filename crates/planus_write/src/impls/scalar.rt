@@ -58,6 +58,12 @@ impl<S: ScalarItem> VectorWrite<S> for S {
     }
 
     #[inline]
+    #[tactic(auto, using(crate::proofs::PreparedItems::all_ready))]
+    fn as_prepared(items: &[S]) -> Option<&[S]> {
+        Some(items)
+    }
+
+    #[inline]
     fn write_values(values: &[S], bytes: &mut [u8], place: u32) {
         write_each::<S, S>(values, bytes, place);
     }

@@ -1,9 +1,9 @@
-//! Bytes that a filler writes, and what a builder tells of itself.
+//! Bytes that a filler or a writer leaves, and what a builder tells of itself.
 
 ghost use Rattle.std.specs.Prelude.{replicate, ⊤};
 
 use super::holds;
-use planus_back::Fill;
+use planus_back::{Fill, Overwrite};
 use planus_write::{BuildError, Builder, Text};
 use std::alloc::Global;
 use std::test::Fail;
@@ -24,6 +24,16 @@ impl Fill for Repeated {
     }
 }
 
+impl Overwrite for Repeated {
+    ghost fits = { λ _ _ _. ⊤ };
+
+    ghost leaves = { λ writer _ n. replicate n writer.byte };
+
+    fn overwrite(&self, _place: u32, bytes: &mut [u8]) {
+        bytes.fill(self.byte);
+    }
+}
+
 // Whether the builder has so many bytes, and room for so many.
 fn lengths_are(builder: &Builder, len: usize, room: usize) -> bool {
     builder.len() == len && builder.is_empty() == (len == 0) && builder.room() == room
@@ -31,7 +41,7 @@ fn lengths_are(builder: &Builder, len: usize, room: usize) -> bool {
 
 fn lengths(builder: &mut Builder) -> Result<bool, BuildError> {
     let before = lengths_are(builder, 0, 64);
-    builder.write_with(5, 0, &Repeated { byte: 7 })?;
+    builder.write_with(5, 0, &Repeated { byte: 9 })?;
     let after = lengths_are(builder, 5, 59);
     builder.clear();
     Ok(before && after && lengths_are(builder, 0, 64))
@@ -46,8 +56,9 @@ fn shows_bytes(alloc: Global, builder: &Builder) -> bool {
     }
 }
 
+// Where other bytes stood before.
 fn what_is_last(alloc: Global, builder: &mut Builder) -> Result<bool, BuildError> {
-    builder.write_with(5, 0, &Repeated { byte: 7 })?;
+    builder.write_over(5, 0, &Repeated { byte: 7 })?;
     let last = builder.current_offset::<Text>();
     let cloned = matches!(last.clone(), Ok(copy) if copy.distance() == 5);
     Ok(

@@ -28,7 +28,7 @@ returns-in_default g c =
     (refused_by_size part [] c.args.builder.now (items_power g.P.Primitive.SIZE g.P.Primitive.ALIGNMENT g.P.Primitive.is_layout) far)
 
 pub write_over-requires-clause-fits : goal.write_over-requires-clause-fits
-write_over-requires-clause-fits g c = λ place behind within.
+write_over-requires-clause-fits g c = λ place behind near within.
     let n_is : c.in-Some.size ≡ length c.args.values.now * g.T.VectorWrite.STRIDE = c.in-Some.ensures.1 ∙ ap (λ n. length c.args.values.now * n) c.stride.ensures in
     (n_is, may_stand g.T.Value.WriteAsPrimitive.leaves g.T.Value.WriteAsPrimitive.reach c.args.values.now g.T.VectorWrite.STRIDE g.P.Primitive.SIZE g.P.Primitive.ALIGNMENT g.met.T.VectorWrite.is_size (length c.args.builder.now.bytes) c.in-Some.size place n_is c.requires behind)
 
@@ -41,7 +41,7 @@ returns-in_err-write_over g c =
     rw (p.1, p.2)
     (part_refused (items_part g.P.Primitive.SIZE g.P.Primitive.ALIGNMENT (map leaves c.args.values.now)) (length (map leaves c.args.values.now)) c.args.builder.now
     (list.List g.row.P.Denot) c.in_err-write_over.field-0.0 c.write_over.new.self
-    (subst (λ (part : Part). Refuses (just part) [] c.args.builder.now c.in_err-write_over.field-0.0 c.write_over.new.self) part c.in_err-write_over.ensures.entry))
+    (subst (λ (part : Part). Refuses (just part) [] c.args.builder.now c.in_err-write_over.field-0.0 c.write_over.new.self) part c.in_err-write_over.ensures.written))
 
 pub returns-in_err-place : goal.returns-in_err-place
 returns-in_err-place g c =
@@ -51,8 +51,8 @@ returns-in_err-place g c =
     let part = part_is leaves g.T.Value.WriteAsPrimitive.reach c.args.values.now g.T.VectorWrite.STRIDE g.P.Primitive.SIZE g.P.Primitive.ALIGNMENT g.met.T.VectorWrite.is_size c.in-Some.size (c.items_mask.result + 1) n_is c.items_mask.ensures.greatest in
     rw (p.1, p.2)
     (count_refused (items_part g.P.Primitive.SIZE g.P.Primitive.ALIGNMENT (map leaves c.args.values.now)) (length (map leaves c.args.values.now)) c.args.builder.now
-    c.in_ok-write_over.field-0 c.write_over.new.self
-    (subst (λ (part : Part). PutsDown (just part) [] c.args.builder.now c.in_ok-write_over.field-0 c.write_over.new.self) part c.in_ok-write_over.ensures.entry)
+    (length c.write_over.new.self.bytes) c.write_over.new.self
+    (subst (λ (part : Part). PutsDown (just part) [] c.args.builder.now (length c.write_over.new.self.bytes) c.write_over.new.self) part c.in_ok-write_over.ensures.written)
     (list.List g.row.P.Denot) c.in_err-place.field-0.0 c.write_count.new.self
     (subst (λ n. Refuses (just (count_part n)) [] c.write_over.new.self c.in_err-place.field-0.0 c.write_count.new.self) (sym (length-map c.args.values.now leaves)) c.in_err-place.ensures))
 
@@ -63,6 +63,6 @@ returns g c =
     let part = part_is leaves g.T.Value.WriteAsPrimitive.reach c.args.values.now g.T.VectorWrite.STRIDE g.P.Primitive.SIZE g.P.Primitive.ALIGNMENT g.met.T.VectorWrite.is_size c.in-Some.size (c.items_mask.result + 1) n_is c.items_mask.ensures.greatest in
     let put_count = subst (λ n. PutsDown (just (count_part n)) [] c.write_over.new.self c.in_ok-place.place c.write_count.new.self) (sym (length-map c.args.values.now leaves)) c.in_ok-place.ensures in
     counted_written (items_part g.P.Primitive.SIZE g.P.Primitive.ALIGNMENT (map leaves c.args.values.now)) (length (map leaves c.args.values.now)) c.args.builder.now
-    c.in_ok-write_over.field-0 c.write_over.new.self
-    (subst (λ (part : Part). PutsDown (just part) [] c.args.builder.now c.in_ok-write_over.field-0 c.write_over.new.self) part c.in_ok-write_over.ensures.entry)
+    (length c.write_over.new.self.bytes) c.write_over.new.self
+    (subst (λ (part : Part). PutsDown (just part) [] c.args.builder.now (length c.write_over.new.self.bytes) c.write_over.new.self) part c.in_ok-write_over.ensures.written)
     c.at.result c.write_count.new.self (subst (λ n. PutsDown (just (count_part (length (map leaves c.args.values.now)))) [] c.write_over.new.self n c.write_count.new.self) (sym c.at.ensures) put_count)

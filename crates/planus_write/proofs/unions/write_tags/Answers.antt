@@ -15,14 +15,14 @@ returns-in_err-place c =
     let p = err_from_is_err_and c.from_residual-in_err-place.result c.from_residual-in_err-place.ensures.1 in
     rw (p.1, p.2)
     (count_refused (tags_part c.args.tags.now) (length c.args.tags.now) c.args.builder.now
-    c.in_ok-write_over.field-0 c.write_over.new.self
-    c.in_ok-write_over.ensures.entry
+    (length c.write_over.new.self.bytes) c.write_over.new.self
+    c.in_ok-write_over.ensures.written
     (list.List ℕ) c.in_err-place.field-0.0 c.write_count.new.self
     c.in_err-place.ensures)
 
 pub returns : goal.returns
 returns c =
     counted_written (tags_part c.args.tags.now) (length c.args.tags.now) c.args.builder.now
-    c.in_ok-write_over.field-0 c.write_over.new.self
-    c.in_ok-write_over.ensures.entry
+    (length c.write_over.new.self.bytes) c.write_over.new.self
+    c.in_ok-write_over.ensures.written
     c.at.result c.write_count.new.self (subst (λ n. PutsDown (just (count_part (length c.args.tags.now))) [] c.write_over.new.self n c.write_count.new.self) (sym c.at.ensures) c.in_ok-place.ensures)

@@ -12,21 +12,22 @@ overflow_sub-len c =
     let at = chunks_at c.args.len c.args.size c.args.i c.requires.positive c.requires.inside in
     omega (arith, at.1)
 
-pub returns-else-size-len-clause-order : goal.returns-else-size-len-clause-order
-returns-else-size-len-clause-order c =
+pub overflow_add-result : goal.overflow_add-result
+overflow_add-result c =
     let at = chunks_at c.args.len c.args.size c.args.i c.requires.positive c.requires.inside in
-    omega (arith, at.1)
+    let count = c.min-count.ensures in
+    omega (arith, at.1, count)
 
-pub returns-then-size-len-clause-range : goal.returns-then-size-len-clause-range
-returns-then-size-len-clause-range c =
+pub returns-clause-end : goal.returns-clause-end
+returns-clause-end c =
     let at = chunks_at c.args.len c.args.size c.args.i c.requires.positive c.requires.inside in
-    let e : min ((c.args.i + 1) * c.args.size) c.args.len ≡ c.args.i * c.args.size + c.args.size =
-    omega (arith, at.1, c.if-size-len.true, suc_times c.args.i c.args.size) in
-    at.0 ∙ ap (λ k. Some (c.args.i * c.args.size, k)) e
+    let count = c.min-count.ensures in
+    omega (arith, at.1, count)
 
-pub returns-else-size-len-clause-range : goal.returns-else-size-len-clause-range
-returns-else-size-len-clause-range c =
+pub returns-clause-range : goal.returns-clause-range
+returns-clause-range c =
     let at = chunks_at c.args.len c.args.size c.args.i c.requires.positive c.requires.inside in
-    let e : min ((c.args.i + 1) * c.args.size) c.args.len ≡ c.args.len =
-    omega (arith, at.1, c.if-size-len.false, suc_times c.args.i c.args.size) in
+    let count = c.min-count.ensures in
+    let e : min ((c.args.i + 1) * c.args.size) c.args.len ≡ c.args.i * c.args.size + c.min-count.result =
+    omega (arith, at.1, count, suc_times c.args.i c.args.size) in
     at.0 ∙ ap (λ k. Some (c.args.i * c.args.size, k)) e

@@ -1,4 +1,4 @@
-use Rattle.std.proofs.Common.{◌≡◌, ℕ, List, take, sym, ap, ◌∙◌, subst}
+use Rattle.std.proofs.Common.{◌≡◌, ℕ, List, length, take, sym, ap, ◌∙◌, subst}
 use Rattle.std.specs.Int.{w16, to_le_bytes}
 use Rattle.std.proofs.lemmas.Result.{err_from_is_err_and}
 use Rattle.planus_write.specs.Tables.{Declared, slots_used, vtable_of}
@@ -28,7 +28,7 @@ returns-in_err-write_over g c = λ declared told.
     let was : WasTold writer declared = subst (λ (w : Writer). WasTold w declared) (sym c.self.view_is) told in
     rw (p.1, p.2) (body_refused writer (take c.self.inside.vtable_size c.put_pair-2.new.bytes) (g.F.ObjectFill.leaves c.args.filler.now) declared was
     (made writer declared was c.put_pair.new.bytes c.put_pair-2.new.bytes c.put_pair.ensures c.put_pair-2.ensures) c.args.builder.now c.in_ok-place.place c.write_vtable.new.self c.in_ok-place.ensures
-    c.in_err-write_over.field-0.0 c.write_over.new.self c.in_err-write_over.ensures.entry)
+    c.in_err-write_over.field-0.0 c.write_over.new.self c.in_err-write_over.ensures.written)
 
 pub returns-in_err-write_word : goal.returns-in_err-write_word
 returns-in_err-write_word g c = λ declared told.
@@ -37,7 +37,7 @@ returns-in_err-write_word g c = λ declared told.
     let was : WasTold writer declared = subst (λ (w : Writer). WasTold w declared) (sym c.self.view_is) told in
     rw (p.1, p.2) (word_refused writer (take c.self.inside.vtable_size c.put_pair-2.new.bytes) (g.F.ObjectFill.leaves c.args.filler.now) declared was
     (made writer declared was c.put_pair.new.bytes c.put_pair-2.new.bytes c.put_pair.ensures c.put_pair-2.ensures) c.args.builder.now c.in_ok-place.place c.write_vtable.new.self c.in_ok-place.ensures
-    c.in_ok-write_over.field-0 c.write_over.new.self c.in_ok-write_over.ensures.entry c.in_err-write_word.field-0.0 c.write_word.new.self c.in_err-write_word.ensures.entry)
+    (length c.write_over.new.self.bytes) c.write_over.new.self c.in_ok-write_over.ensures.written c.in_err-write_word.field-0.0 c.write_word.new.self c.in_err-write_word.ensures.entry)
 
 pub returns : goal.returns
 returns g c = λ declared told.
@@ -45,4 +45,4 @@ returns g c = λ declared told.
     let was : WasTold writer declared = subst (λ (w : Writer). WasTold w declared) (sym c.self.view_is) told in
     table_written writer (take c.self.inside.vtable_size c.put_pair-2.new.bytes) (g.F.ObjectFill.leaves c.args.filler.now) declared was
     (made writer declared was c.put_pair.new.bytes c.put_pair-2.new.bytes c.put_pair.ensures c.put_pair-2.ensures) c.args.builder.now c.in_ok-place.place c.write_vtable.new.self c.in_ok-place.ensures
-    c.in_ok-write_over.field-0 c.write_over.new.self c.in_ok-write_over.ensures.entry c.in_ok-write_word.field-0 c.write_word.new.self c.in_ok-write_word.ensures.entry c.in_ok-write_word.ensures.last
+    (length c.write_over.new.self.bytes) c.write_over.new.self c.in_ok-write_over.ensures.written c.in_ok-write_word.field-0 c.write_word.new.self c.in_ok-write_word.ensures.entry c.in_ok-write_word.ensures.last
