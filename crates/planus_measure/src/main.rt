@@ -3,25 +3,57 @@
 //! once, and the table has what it did and no times.
 #![tactic(auto)]
 
+mod reads;
+mod tables;
 mod works;
 
 use std::time::Instant;
 use std::{env, io};
 use works::{OPERATIONS, Work, Works};
 
-/// All works, in the order of the table.
-const ALL: [Work; 11] = [
-    Work::ShortTexts,
-    Work::LongTexts,
-    Work::MixedTexts,
-    Work::GrowingTexts,
-    Work::DifferentTexts,
-    Work::KeptTexts,
-    Work::FoundTexts,
-    Work::SmallParts,
-    Work::LargeParts,
-    Work::Weapons,
-    Work::Numbers,
+/// All works and their names, in the order of the table.
+const ALL: [(&str, Work); 29] = [
+    ("texts of 3 bytes", Work::Texts(3, 3)),
+    ("texts of 100 bytes", Work::Texts(100, 100)),
+    ("texts of 0 to 60 bytes", Work::Texts(0, 60)),
+    ("texts of 100 bytes, builder grows", Work::GrowingTexts),
+    (
+        "different texts of 20 bytes, with caches",
+        Work::NewTexts(20),
+    ),
+    (
+        "different texts of 100 bytes, with caches",
+        Work::NewTexts(100),
+    ),
+    ("equal texts of 20 bytes, with caches", Work::FoundTexts(20)),
+    (
+        "equal texts of 100 bytes, with caches",
+        Work::FoundTexts(100),
+    ),
+    ("clear, text, finish", Work::AfterTexts(0)),
+    ("the same after 1000 texts", Work::AfterTexts(1000)),
+    ("the same after 10000 texts", Work::AfterTexts(10000)),
+    ("the same after 100000 texts", Work::AfterTexts(100000)),
+    ("lists of 64 texts", Work::TextLists),
+    ("byte lists of 100 bytes", Work::ByteLists(100)),
+    ("byte lists of 64 KiB", Work::ByteLists(65536)),
+    ("lists of 4 numbers", Work::NumberLists(4)),
+    ("lists of 64 numbers", Work::NumberLists(64)),
+    ("lists of 4096 numbers", Work::NumberLists(4096)),
+    ("write_with of 8 bytes", Work::Parts(8)),
+    ("write_with of 4096 bytes", Work::Parts(4096)),
+    (
+        "write_with of 16 KiB, builder grows",
+        Work::GrowingParts(16384),
+    ),
+    ("tables of 2 fields", Work::TwoFields),
+    ("tables of 8 fields", Work::EightFields),
+    ("clear, weapon, finish", Work::Weapons),
+    ("read a weapon", Work::ReadWeapons),
+    ("read 2 of 8 fields", Work::ReadFields(2)),
+    ("read 8 of 8 fields", Work::ReadFields(8)),
+    ("read a monster", Work::ReadMonsters),
+    ("read 16 numbers of a list", Work::ReadChunks),
 ];
 
 /// The number of rounds that was asked for, 0 where none was.
@@ -36,24 +68,29 @@ fn rounds(rt: &HostRuntime) -> io::Result<u64> {
 
 /// Prints what one round does, and the nanoseconds that an operation takes, if rounds are asked
 /// for.
-fn measure(rt: &HostRuntime, works: &mut Works, work: Work, rounds: u64) -> io::Result<()> {
-    let name = work.name();
-    let Some(done) = works.round(work) else {
-        return println!(rt; "{name:<40} refused");
+fn measure(
+    rt: &HostRuntime,
+    works: &mut Works,
+    name: &str,
+    work: Work,
+    rounds: u64,
+) -> io::Result<()> {
+    let Some(done) = works.first_round(work) else {
+        return println!(rt; "{name:<42} refused");
     };
     if rounds == 0 {
-        return println!(rt; "{name:<40} {done:>8}");
+        return println!(rt; "{name:<42} {done:>8}");
     }
     let start = Instant::now(rt)?;
     for _ in 0..rounds {
         if works.round(work) != Some(done) {
-            return println!(rt; "{name:<40} {done:>8} differs");
+            return println!(rt; "{name:<42} {done:>8} differs");
         }
     }
     let nanos = start.elapsed(rt)?.as_nanos();
     let tenths = nanos.saturating_mul(10) / (u128::from(rounds) * OPERATIONS as u128);
     let (whole, tenth) = (tenths / 10, tenths % 10);
-    println!(rt; "{name:<40} {done:>8} {whole:>8}.{tenth}")
+    println!(rt; "{name:<42} {done:>8} {whole:>8}.{tenth}")
 }
 
 fn main(rt: HostRuntime) -> io::Result<()> {
@@ -62,11 +99,11 @@ fn main(rt: HostRuntime) -> io::Result<()> {
         return println!(rt; "out of memory");
     };
     println!(rt;
-        "{:<40} {:>8} {:>10}",
+        "{:<42} {:>8} {:>10}",
         "a thousand times", "done", "ns each"
     )?;
-    for work in ALL {
-        measure(&rt, &mut works, work, rounds)?;
+    for (name, work) in ALL {
+        measure(&rt, &mut works, name, work, rounds)?;
     }
     Ok(())
 }

@@ -2,9 +2,9 @@
 
 ghost use Rattle.std.specs.Prelude.{◌≡◌, length};
 
-use planus::errors::Error;
-use planus::table_reader::Table;
-use planus::{BuildError, Builder, Caches, Fill, SliceWithStartOffset};
+use crate::reads::{self, MONSTER, NUMBERS, WEAPON};
+use crate::tables;
+use planus::{BuildError, Builder, ByteList, Caches, Fill, Offset, Text};
 use std::alloc::{AllocError, Global};
 
 /// The number of operations in a round.
@@ -14,18 +14,6 @@ pub const OPERATIONS: usize = 1000;
 const LETTERS: &str =
     "abcdefghijklmnopqrstuvwxyzabcdefghijklmnopqrstuvwxyzabcdefghijklmnopqrstuvwxyzabcdefghijklmnopqrstuv";
 
-/// A finished table with the text `Axe` in slot 0 and the number 24 of 2 bytes in slot 1.
-const WEAPON: [u8; 32] = [
-    4, 0, 0, 0, 244, 255, 255, 255, 16, 0, 0, 0, 24, 0, 0, 0, 8, 0, 10, 0, 4, 0, 8, 0, 3, 0, 0, 0,
-    65, 120, 101, 0,
-];
-
-/// A finished table with the numbers 1 to 8, of 2 bytes each, in slots 0 to 7.
-const NUMBERS: [u8; 44] = [
-    4, 0, 0, 0, 236, 255, 255, 255, 1, 0, 2, 0, 3, 0, 4, 0, 5, 0, 6, 0, 7, 0, 8, 0, 20, 0, 20, 0,
-    4, 0, 6, 0, 8, 0, 10, 0, 12, 0, 14, 0, 16, 0, 18, 0,
-];
-
 /// Nothing is written once.
 const NO_CACHES: Caches = Caches {
     vtables: false,
@@ -34,50 +22,44 @@ const NO_CACHES: Caches = Caches {
     hash_mask: 0,
 };
 
-/// One kind of operation. Where nothing else is said, the builder has no caches.
+/// One kind of operation. Sizes are in bytes. Where nothing else is said, the builder has no caches,
+/// and room for what is written.
 #[derive(Clone, Copy)]
 pub enum Work {
-    /// Texts of 3 bytes, in a builder with room for them.
-    ShortTexts,
-    /// Texts of 100 bytes, in a builder with room for them.
-    LongTexts,
-    /// Texts of 0 to 60 bytes, in a builder with room for them.
-    MixedTexts,
+    /// Texts whose sizes go round from the first number up to the second.
+    Texts(usize, usize),
     /// Texts of 100 bytes, in a new builder that grows.
     GrowingTexts,
-    /// Different texts of 20 to 58 bytes, in a builder with room for them.
-    DifferentTexts,
-    /// The same in a builder with caches, which looks for each of them, and finds none.
-    KeptTexts,
-    /// Equal texts of 100 bytes in a builder with caches, which finds them.
-    FoundTexts,
-    /// Parts of 8 bytes.
-    SmallParts,
-    /// Parts of 4096 bytes.
-    LargeParts,
-    /// A table from its buffer, a number and a text.
+    /// Different texts of this size, of at least 7, in a builder with caches, which finds none.
+    NewTexts(usize),
+    /// Equal texts of this size in a builder with caches, which finds them.
+    FoundTexts(usize),
+    /// A clear, a text and a finish, by a builder with caches that had so many texts before.
+    AfterTexts(usize),
+    /// Lists of 64 texts, of 0 to 63 bytes.
+    TextLists,
+    /// Byte lists of this size.
+    ByteLists(usize),
+    /// Lists of so many numbers of 4 bytes.
+    NumberLists(usize),
+    /// Parts of this size.
+    Parts(usize),
+    /// Parts of this size, in a new builder that grows.
+    GrowingParts(usize),
+    /// Tables of two numbers of 2 bytes.
+    TwoFields,
+    /// Tables of eight numbers of 2 bytes.
+    EightFields,
+    /// A clear, a text, a table with it and a number, and a finish.
     Weapons,
-    /// A table from its buffer and eight numbers.
-    Numbers,
-}
-
-impl Work {
-    /// The name in the table.
-    pub fn name(self) -> &'static str {
-        match self {
-            Work::ShortTexts => "texts of 3 bytes",
-            Work::LongTexts => "texts of 100 bytes",
-            Work::MixedTexts => "texts of 0 to 60 bytes",
-            Work::GrowingTexts => "texts of 100 bytes, builder grows",
-            Work::DifferentTexts => "different texts of 20 to 58 bytes",
-            Work::KeptTexts => "different texts, with caches",
-            Work::FoundTexts => "equal texts of 100 bytes, with caches",
-            Work::SmallParts => "write_with of 8 bytes",
-            Work::LargeParts => "write_with of 4096 bytes",
-            Work::Weapons => "read a root, a number and a text",
-            Work::Numbers => "read a root and eight numbers",
-        }
-    }
+    /// A table from its buffer, a number and a text.
+    ReadWeapons,
+    /// A table of eight numbers from its buffer, and so many of them.
+    ReadFields(usize),
+    /// A table of five fields from its buffer, with a list and a union, and all of them.
+    ReadMonsters,
+    /// Pieces of 16 numbers of 4 bytes of a vector, each of them read.
+    ReadChunks,
 }
 
 /// A filler of equal bytes.
@@ -96,53 +78,112 @@ impl Fill for Sevens {
     }
 }
 
-/// The texts that are written, and the buffers that are read.
-#[derive(Drop)]
-struct Inputs {
-    short: Vec<&'static str>,
-    long: Vec<&'static str>,
-    mixed: Vec<&'static str>,
-    different: Vec<&'static str>,
-    weapons: Vec<u8>,
-    numbers: Vec<u8>,
-}
-
-/// What the works need, made once.
+/// What the works need.
 #[derive(Drop)]
 pub struct Works {
     alloc: Global,
-    inputs: Inputs,
     builder: Builder,
     caching: Builder,
+    // Of the work that is measured, what is written, or the buffers that are read, one behind the
+    // other.
+    texts: Vec<String>,
+    bytes: Vec<u8>,
+    numbers: Vec<u32>,
 }
 
-/// Texts whose lengths go round from `least` up to `most` bytes.
-fn texts(alloc: Global, least: usize, most: usize) -> Result<Vec<&'static str>, AllocError> {
-    let mut texts = Vec::with_capacity(alloc, OPERATIONS)?;
+/// So many texts, whose sizes go round from `least` up to `most` bytes.
+fn texts(
+    alloc: Global,
+    count: usize,
+    least: usize,
+    most: usize,
+) -> Result<Vec<String>, AllocError> {
+    let mut texts = Vec::with_capacity(alloc, count)?;
     let mut len = least;
-    for _ in 0..OPERATIONS {
-        texts.push(LETTERS.get(..len).unwrap_or(""))?;
+    for _ in 0..count {
+        texts.push(String::from_str(alloc, LETTERS.get(..len).unwrap_or(""))?)?;
         len = if len < most { len + 1 } else { least };
     }
     Ok(texts)
 }
 
-/// Texts of which no two are equal: from each of 26 letters on, and of 20 bytes and more.
-fn different_texts(alloc: Global) -> Result<Vec<&'static str>, AllocError> {
-    let mut texts = Vec::with_capacity(alloc, OPERATIONS)?;
-    for number in 0..OPERATIONS {
-        let first = number % 26;
-        let len = 20 + number / 26;
-        texts.push(LETTERS.get(first..first + len).unwrap_or(""))?;
+/// A number of 7 digits, and then letters.
+fn different_text(alloc: Global, number: usize, letters: &str) -> Result<String, AllocError> {
+    let number = number.saturating_add(1000000);
+    Ok(format!(in alloc; "{number}{letters}")?)
+}
+
+/// So many texts of `len` bytes, of which no two are equal.
+fn different_texts(alloc: Global, count: usize, len: usize) -> Result<Vec<String>, AllocError> {
+    let letters = LETTERS.get(..len.saturating_sub(7)).unwrap_or("");
+    let mut texts = Vec::with_capacity(alloc, count)?;
+    for number in 0..count {
+        texts.push(different_text(alloc, number, letters)?)?;
     }
     Ok(texts)
 }
 
+/// A thousand times the same bytes.
+fn repeated(alloc: Global, bytes: &[u8]) -> Result<Vec<u8>, AllocError> {
+    let mut all = Vec::new(alloc);
+    for _ in 0..OPERATIONS {
+        all.extend_from_slice(bytes)?;
+    }
+    Ok(all)
+}
+
+/// A finished list of these numbers.
+fn finished_list(
+    alloc: Global,
+    builder: &mut Builder,
+    numbers: &[u32],
+) -> Result<Vec<u8>, BuildError> {
+    builder.clear();
+    Ok(Vec::from_slice(alloc, builder.finish(numbers, None)?)?)
+}
+
 /// Writes each text, and returns the length of all.
-fn write_texts(builder: &mut Builder, texts: &[&'static str]) -> Result<usize, BuildError> {
+fn write_texts(builder: &mut Builder, texts: &[String]) -> Result<usize, BuildError> {
     builder.clear();
     for text in texts {
-        builder.create_string(*text)?;
+        builder.create_string(text.as_str())?;
+    }
+    Ok(builder.len())
+}
+
+/// Clears, writes a text and finishes it, and returns the sum of the lengths.
+fn write_messages(builder: &mut Builder) -> Result<usize, BuildError> {
+    let mut sum: usize = 0;
+    for _ in 0..OPERATIONS {
+        builder.clear();
+        sum = sum.wrapping_add(builder.finish("Axe", None)?.len());
+    }
+    Ok(sum)
+}
+
+/// Writes lists of these texts, and returns the length of all.
+fn write_text_lists(builder: &mut Builder, texts: &[String]) -> Result<usize, BuildError> {
+    builder.clear();
+    for _ in 0..OPERATIONS {
+        builder.create_vector::<Offset<Text>, &[String]>(texts)?;
+    }
+    Ok(builder.len())
+}
+
+/// Writes these bytes as lists, and returns the length of all.
+fn write_byte_lists(builder: &mut Builder, bytes: &[u8]) -> Result<usize, BuildError> {
+    builder.clear();
+    for _ in 0..OPERATIONS {
+        builder.create_vector(ByteList(bytes))?;
+    }
+    Ok(builder.len())
+}
+
+/// Writes these numbers as lists, and returns the length of all.
+fn write_number_lists(builder: &mut Builder, numbers: &[u32]) -> Result<usize, BuildError> {
+    builder.clear();
+    for _ in 0..OPERATIONS {
+        builder.create_vector::<u32, &[u32]>(numbers)?;
     }
     Ok(builder.len())
 }
@@ -156,73 +197,9 @@ fn write_parts(builder: &mut Builder, size: usize) -> Result<usize, BuildError> 
     Ok(builder.len())
 }
 
-/// Reads the root of a weapon, its number and its text; returns the number and the text's length.
-fn read_weapon(buffer: &[u8]) -> Result<usize, Error> {
-    let piece = SliceWithStartOffset::new(buffer, 0);
-    let table = Table::from_buffer(piece, 0).map_err(|kind| kind.with_error_location(
-        "Weapon",
-        "read_as_root",
-        0,
-    ))?;
-    let damage = table.access::<u16>(1, "Weapon", "damage")?.unwrap_or(0);
-    let name = table.access::<&str>(0, "Weapon", "name")?.unwrap_or("");
-    Ok(usize::from(damage) + name.len())
-}
-
-/// Reads the root of a table and its eight numbers; returns their sum.
-fn read_numbers(buffer: &[u8]) -> Result<usize, Error> {
-    let piece = SliceWithStartOffset::new(buffer, 0);
-    let table = Table::from_buffer(piece, 0).map_err(|kind| kind.with_error_location(
-        "Numbers",
-        "read_as_root",
-        0,
-    ))?;
-    let mut sum: usize = 0;
-    for slot in 0..8 {
-        let number = table.access::<u16>(slot, "Numbers", "number")?;
-        sum = sum.wrapping_add(usize::from(number.unwrap_or(0)));
-    }
-    Ok(sum)
-}
-
-/// Reads each of the weapons, and returns the sum.
-fn read_weapons(buffers: &[u8]) -> Result<usize, Error> {
-    let mut sum: usize = 0;
-    for buffer in buffers.chunks_exact(WEAPON.len()) {
-        sum = sum.wrapping_add(read_weapon(buffer)?);
-    }
-    Ok(sum)
-}
-
-/// Reads each of the tables of numbers, and returns the sum.
-fn read_tables(buffers: &[u8]) -> Result<usize, Error> {
-    let mut sum: usize = 0;
-    for buffer in buffers.chunks_exact(NUMBERS.len()) {
-        sum = sum.wrapping_add(read_numbers(buffer)?);
-    }
-    Ok(sum)
-}
-
-/// A thousand times the same bytes.
-fn repeated(alloc: Global, bytes: &[u8]) -> Result<Vec<u8>, AllocError> {
-    let mut all = Vec::new(alloc);
-    for _ in 0..OPERATIONS {
-        all.extend_from_slice(bytes)?;
-    }
-    Ok(all)
-}
-
-impl Inputs {
-    fn new(alloc: Global) -> Result<Inputs, AllocError> {
-        Ok(Inputs {
-            short: texts(alloc, 3, 3)?,
-            long: texts(alloc, 100, 100)?,
-            mixed: texts(alloc, 0, 60)?,
-            different: different_texts(alloc)?,
-            weapons: repeated(alloc, &WEAPON)?,
-            numbers: repeated(alloc, &NUMBERS)?,
-        })
-    }
+/// A builder with no room and no caches.
+fn small_builder(alloc: Global) -> Result<Builder, BuildError> {
+    Builder::with_caches(alloc, 0, NO_CACHES)
 }
 
 impl Works {
@@ -230,31 +207,72 @@ impl Works {
     pub fn new(alloc: Global) -> Result<Works, BuildError> {
         Ok(Works {
             alloc,
-            inputs: Inputs::new(alloc)?,
             builder: Builder::with_caches(alloc, 1 << 23, NO_CACHES)?,
             caching: Builder::with_capacity(alloc, 1 << 23)?,
+            texts: Vec::new(alloc),
+            bytes: Vec::new(alloc),
+            numbers: Vec::new(alloc),
         })
+    }
+
+    /// Makes what a kind of operation needs that others don't.
+    fn prepare(&mut self, work: Work) -> Result<(), BuildError> {
+        match work {
+            Work::Texts(least, most) => self.texts = texts(self.alloc, OPERATIONS, least, most)?,
+            Work::GrowingTexts => self.texts = texts(self.alloc, OPERATIONS, 100, 100)?,
+            Work::FoundTexts(len) => self.texts = texts(self.alloc, OPERATIONS, len, len)?,
+            Work::TextLists => self.texts = texts(self.alloc, 64, 0, 63)?,
+            Work::NewTexts(len) => self.texts = different_texts(self.alloc, OPERATIONS, len)?,
+            Work::AfterTexts(count) => {
+                self.texts = different_texts(self.alloc, count, 20)?;
+                self.caching = Builder::new(self.alloc)?;
+                write_texts(&mut self.caching, self.texts.as_slice())?;
+            }
+            Work::ReadWeapons => self.bytes = repeated(self.alloc, &WEAPON)?,
+            Work::ReadFields(_) => self.bytes = repeated(self.alloc, &NUMBERS)?,
+            Work::ReadMonsters => self.bytes = repeated(self.alloc, &MONSTER)?,
+            Work::ReadChunks => {
+                self.numbers = vec![in self.alloc; 7; 16 * OPERATIONS]?;
+                self.bytes = finished_list(self.alloc, &mut self.builder, &self.numbers)?;
+            }
+            Work::ByteLists(len) => self.bytes = vec![in self.alloc; 7; len]?,
+            Work::NumberLists(len) => self.numbers = vec![in self.alloc; 7; len]?,
+            _ => {}
+        }
+        Ok(())
+    }
+
+    /// The first round of a kind of operation, as [`Works::round`] is.
+    pub fn first_round(&mut self, work: Work) -> Option<usize> {
+        self.prepare(work).ok()?;
+        self.round(work)
     }
 
     /// One round of a kind of operation. Returns the number of bytes that were written, or the sum
     /// of what was read; `None` where it was refused.
     pub fn round(&mut self, work: Work) -> Option<usize> {
         let builder = &mut self.builder;
+        let texts = self.texts.as_slice();
+        let bytes = self.bytes.as_slice();
         match work {
-            Work::ShortTexts => write_texts(builder, &self.inputs.short).ok(),
-            Work::LongTexts => write_texts(builder, &self.inputs.long).ok(),
-            Work::MixedTexts => write_texts(builder, &self.inputs.mixed).ok(),
-            Work::GrowingTexts => {
-                let mut builder = Builder::with_caches(self.alloc, 0, NO_CACHES).ok()?;
-                write_texts(&mut builder, &self.inputs.long).ok()
+            Work::Texts(_, _) => write_texts(builder, texts).ok(),
+            Work::GrowingTexts => write_texts(&mut small_builder(self.alloc).ok()?, texts).ok(),
+            Work::NewTexts(_) | Work::FoundTexts(_) => write_texts(&mut self.caching, texts).ok(),
+            Work::AfterTexts(_) => write_messages(&mut self.caching).ok(),
+            Work::TextLists => write_text_lists(builder, texts).ok(),
+            Work::ByteLists(_) => write_byte_lists(builder, bytes).ok(),
+            Work::NumberLists(_) => write_number_lists(builder, &self.numbers).ok(),
+            Work::Parts(size) => write_parts(builder, size).ok(),
+            Work::GrowingParts(size) => {
+                write_parts(&mut small_builder(self.alloc).ok()?, size).ok()
             }
-            Work::DifferentTexts => write_texts(builder, &self.inputs.different).ok(),
-            Work::KeptTexts => write_texts(&mut self.caching, &self.inputs.different).ok(),
-            Work::FoundTexts => write_texts(&mut self.caching, &self.inputs.long).ok(),
-            Work::SmallParts => write_parts(builder, 8).ok(),
-            Work::LargeParts => write_parts(builder, 4096).ok(),
-            Work::Weapons => read_weapons(&self.inputs.weapons).ok(),
-            Work::Numbers => read_tables(&self.inputs.numbers).ok(),
+            Work::TwoFields => tables::write_two(builder).ok(),
+            Work::EightFields => tables::write_eight(builder).ok(),
+            Work::Weapons => tables::write_weapons(builder).ok(),
+            Work::ReadWeapons => reads::weapons(bytes).ok(),
+            Work::ReadFields(count) => reads::fields(bytes, count).ok(),
+            Work::ReadMonsters => reads::monsters(bytes).ok(),
+            Work::ReadChunks => reads::chunks(bytes).ok(),
         }
     }
 }

@@ -1,5 +1,6 @@
 //! Equal contents, which a builder writes once, and its caches while memory is refused.
 
+use super::no_memory::holds_or_says;
 use super::settings::Switches;
 use super::tables::{ONE_VTABLE, TWO_VTABLES, put};
 use planus::{BuildError, Builder, ByteList, Caches, Field, FieldValue, Step, replay};
@@ -26,32 +27,30 @@ fn replays_to(alloc: Global, caches: Caches, steps: &[Step], want: &[u8]) -> boo
 // Two tables with equal vtables, of which the second is the root.
 fn equal_tables(alloc: Global) -> Result<Vec<Step>, AllocError> {
     let mut steps = Vec::new(alloc);
-    steps.push(one_number(alloc, 24)?)?;
-    steps.push(one_number(alloc, 7)?)?;
+    for number in [24, 7] {
+        steps.push(one_number(alloc, number)?)?;
+    }
     steps.push(Step::Finish { root: 1, id: None })?;
     Ok(steps)
+}
+
+// Whether their vtable is written once where equal vtables are, and else twice.
+fn vtables_are_shared(alloc: Global, steps: &[Step]) -> bool {
+    replays_to(alloc, Switches::of(7).caches(u64::MAX), steps, ONE_VTABLE)
+        && replays_to(alloc, Switches::of(6).caches(u64::MAX), steps, TWO_VTABLES)
 }
 
 #[test]
 fn equal_vtables(rt: HostRuntime) -> Result<(), Fail> {
     let steps = equal_tables(rt.alloc())?;
-    for (vtables, want) in [(true, ONE_VTABLE), (false, TWO_VTABLES)] {
-        let caches = Caches {
-            vtables,
-            ..Caches::all()
-        };
-        assert!(rt;
-            replays_to(rt.alloc(), caches, steps.as_slice(), want),
-            "{caches:?}"
-        );
-    }
+    assert!(rt; vtables_are_shared(rt.alloc(), steps.as_slice()));
     Ok(())
 }
 
 // The distances of a text, a byte list and a table, or their refusals.
 type Three = [Result<u32, BuildError>; 3];
 
-fn text_at(builder: &mut Builder, letters: &str) -> Result<u32, BuildError> {
+pub fn text_at(builder: &mut Builder, letters: &str) -> Result<u32, BuildError> {
     match builder.create_string(letters) {
         Ok(text) => Ok(text.distance()),
         Err(error) => Err(error),
@@ -85,13 +84,20 @@ fn write_three(builder: &mut Builder, letters: &str, wide: bool) -> Three {
 
 fn are_at(three: Three, want: [u32; 3]) -> bool {
     let [text, bytes, table] = three;
-    text == Ok(want[0]) && bytes == Ok(want[1]) && table == Ok(want[2])
+    matches!(text, Ok(at) if at == want[0])
+        && matches!(bytes, Ok(at) if at == want[1])
+        && matches!(table, Ok(at) if at == want[2])
 }
 
 fn are_refused(three: Three) -> bool {
-    let none = Err(BuildError::OutOfMemory);
-    let [text, bytes, table] = three;
-    text == none && bytes == none && table == none
+    matches!(
+        three,
+        [
+            Err(BuildError::OutOfMemory),
+            Err(BuildError::OutOfMemory),
+            Err(BuildError::OutOfMemory),
+        ]
+    )
 }
 
 // Whether contents that the caches don't have are refused, and those that they have are found.
@@ -125,19 +131,21 @@ fn written_again(builder: &mut Builder) -> bool {
     are_at(write_three(builder, "Hi", true), [48, 56, 72]) && builder.as_slice() == WRITTEN
 }
 
-// A builder with room refuses contents that are new where there is no memory for their entries. All
-// have one hash, of which the first distance takes no block of memory, and the second does.
+// Whether a builder with room refuses contents that are new where there is no memory for their
+// entries, and writes them once there is; nothing where memory was left. All have one hash, of which
+// the first distance takes no block of memory, and the second does.
+fn entries_are_refused(alloc: Global) -> Result<Option<bool>, BuildError> {
+    let mut builder = Builder::with_caches(alloc, 256, Switches::of(7).caches(0))?;
+    let first = are_at(write_three(&mut builder, "Axe", false), [8, 16, 32]);
+    match found_without_memory(alloc, &mut builder)? {
+        Some(found) => Ok(Some(first && found && written_again(&mut builder))),
+        None => Ok(None),
+    }
+}
+
 #[test]
 fn entries_with_refused_memory(rt: HostRuntime) -> Result<(), Fail> {
-    let mut builder = Builder::with_caches(rt.alloc(), 256, Switches::of(7).caches(0))?;
-    let first = write_three(&mut builder, "Axe", false);
-    assert!(rt; are_at(first, [8, 16, 32]), "before");
-    match found_without_memory(rt.alloc(), &mut builder)? {
-        Some(found) => {
-            assert!(rt; found, "without memory");
-            assert!(rt; written_again(&mut builder), "with memory");
-        }
-        None => println!(rt; "memory was left: this test does not apply")?,
-    }
+    let refused = entries_are_refused(rt.alloc())?;
+    assert!(rt; holds_or_says(&rt, refused)?);
     Ok(())
 }

@@ -1,14 +1,15 @@
 //! Thousands of different contents of each kind that is shared, each of them written twice.
 
+use super::caches::text_at;
 use super::settings::Kind;
-use planus::{Caches, Field, FieldValue, Step, StepPlace, replay};
+use planus::{Builder, Caches, Field, FieldValue, Step, StepPlace, replay};
 use std::alloc::{AllocError, Global};
 use std::test::Fail;
 
-// A text of seven letters, which no other number has.
-fn text(alloc: Global, number: usize) -> Result<Step, AllocError> {
+// Seven letters, which no other number has.
+fn letters(alloc: Global, number: usize) -> Result<String, AllocError> {
     let number = number.saturating_add(1000000);
-    Ok(Step::Text(format!(in alloc; "{number}")?))
+    Ok(format!(in alloc; "{number}")?)
 }
 
 // A list of eight bytes, which no other number has.
@@ -28,15 +29,20 @@ fn table(alloc: Global, number: usize) -> Result<Step, AllocError> {
     Ok(Step::Table(fields))
 }
 
+// A value of this kind, whose contents no other number has.
+fn value(alloc: Global, kind: Kind, number: usize) -> Result<Step, AllocError> {
+    match kind {
+        Kind::Text => Ok(Step::Text(letters(alloc, number)?)),
+        Kind::Bytes => bytes(alloc, number),
+        Kind::Vtable => table(alloc, number),
+    }
+}
+
 // A value of this kind for each of so many numbers, twice, and a finish.
 fn values_twice(alloc: Global, kind: Kind, count: usize) -> Result<Vec<Step>, AllocError> {
     let mut steps = Vec::new(alloc);
     for number in (0..count).chain(0..count) {
-        steps.push(match kind {
-            Kind::Text => text(alloc, number)?,
-            Kind::Bytes => bytes(alloc, number)?,
-            Kind::Vtable => table(alloc, number)?,
-        })?;
+        steps.push(value(alloc, kind, number)?)?;
     }
     steps.push(Step::Finish { root: 0, id: None })?;
     Ok(steps)
@@ -116,6 +122,41 @@ fn vtables_are_found_again(rt: HostRuntime) -> Result<(), Fail> {
             are_found_again(rt.alloc(), Kind::Vtable, mask, 5003, want)?,
             "with {mask}"
         );
+    }
+    Ok(())
+}
+
+// Whether the text of a number is at this distance, if it can be written.
+fn letters_are_at(
+    alloc: Global,
+    builder: &mut Builder,
+    number: usize,
+    distance: usize,
+) -> Result<bool, AllocError> {
+    let letters = letters(alloc, number)?;
+    Ok(matches!(text_at(builder, letters.as_str()), Ok(at) if at as usize == distance))
+}
+
+// Whether the texts of so many numbers are written one in front of the other, in an empty builder,
+// and found when they are written again.
+fn texts_are_found(alloc: Global, builder: &mut Builder, count: usize) -> Result<bool, AllocError> {
+    builder.clear();
+    for number in (0..count).chain(0..count) {
+        let distance = number.saturating_add(1).saturating_mul(12);
+        if !letters_are_at(alloc, builder, number, distance)? {
+            return Ok(false);
+        }
+    }
+    Ok(true)
+}
+
+// A clear of many texts, and then one of few, where many were before.
+#[test]
+fn few_texts_after_many(rt: HostRuntime) -> Result<(), Fail> {
+    let mut builder = Builder::new(rt.alloc())?;
+    for count in [5003, 3, 5, 5003, 3] {
+        let found = texts_are_found(rt.alloc(), &mut builder, count);
+        assert!(rt; matches!(found, Ok(true)), "{count} texts");
     }
     Ok(())
 }

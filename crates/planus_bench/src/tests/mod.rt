@@ -47,20 +47,11 @@ fn all_agree(bytes: &[u8], f: usize) -> bool {
 #[test]
 fn readers_agree_at_every_prefix(rt: HostRuntime) {
     let far = [usize::MAX / 2, usize::MAX - 8, usize::MAX - 1, usize::MAX];
-    for len in 0..33 {
-        for f in (0..34).chain(far) {
-            assert!(rt;
-                all_agree(&WEAPON[..len], f),
-                "the first {len} bytes at {f}"
-            );
-        }
-    }
-    for len in 0..79 {
-        for f in 0..24 {
-            assert!(rt;
-                all_agree(&UNIONS[..len], f),
-                "the first {len} bytes at {f}"
-            );
+    for bytes in [WEAPON.as_slice(), UNIONS.as_slice()] {
+        for len in 0..=bytes.len() {
+            for f in (0..34).chain(far) {
+                assert!(rt; all_agree(&bytes[..len], f), "the first {len} bytes at {f}");
+            }
         }
     }
 }

@@ -1,31 +1,34 @@
 //! A builder, a replay and a cache while memory is refused.
 
+use super::caches::text_at;
 use super::parts::{FOUR_WRITES, last_is, put_four};
 use super::settings::Switches;
-use planus::{BuildError, Builder, Caches, ReplayError, Step, replay};
+use planus::{BuildError, Builder, Caches, Offset, ReplayError, Step, Text, replay};
 use planus_back::{ByteVec, Cache};
 use planus_exhaust::exhaust;
 use std::alloc::{AllocError, Global};
+use std::io;
 use std::test::Fail;
 
 // What four writes leave of a room of 64 bytes can't hold this text.
 const TEXT: &str = "sixty-three bytes, which are more than are left of a room of 64";
+
+// Whether it holds, or memory was left, which is said.
+pub fn holds_or_says(rt: &HostRuntime, found: Option<bool>) -> io::Result<bool> {
+    if found.is_none() {
+        println!(rt; "memory was left: this test does not apply")?;
+    }
+    Ok(found != Some(false))
+}
 
 // Whether there is no memory for one more builder.
 fn new_is_refused(alloc: Global) -> bool {
     matches!(Builder::new(alloc), Err(BuildError::OutOfMemory))
 }
 
-// The distance of the text, and of a list of two numbers.
-fn text_is_at(builder: &mut Builder) -> Result<u32, BuildError> {
-    match builder.create_string(TEXT) {
-        Ok(text) => Ok(text.distance()),
-        Err(error) => Err(error),
-    }
-}
-
+// The distance of a list of one text.
 fn list_is_at(builder: &mut Builder) -> Result<u32, BuildError> {
-    match builder.create_vector::<u16, &[u16]>(&[1, 2]) {
+    match builder.create_vector::<Offset<Text>, &[&str]>(&["B"]) {
         Ok(list) => Ok(list.distance()),
         Err(error) => Err(error),
     }
@@ -43,7 +46,7 @@ fn goes_on_in_its_room(alloc: Global, builder: &mut Builder) -> bool {
     new_is_refused(alloc)
         && writes_in_its_room(builder)
         && builder.finish("Axe", None).is_ok()
-        && text_is_at(builder) == Err(BuildError::OutOfMemory)
+        && text_at(builder, TEXT) == Err(BuildError::OutOfMemory)
         && list_is_at(builder) == Err(BuildError::OutOfMemory)
         && builder.as_slice() == all
         && builder.room() == 25
@@ -63,19 +66,22 @@ fn builder_without_memory(
 
 // Whether what was refused is written once memory is there again.
 fn writes_again(builder: &mut Builder) -> bool {
-    text_is_at(builder) == Ok(107) && list_is_at(builder) == Ok(115)
+    text_at(builder, TEXT) == Ok(107) && list_is_at(builder) == Ok(123)
+}
+
+// Both; nothing where memory was left.
+fn builder_goes_on(alloc: Global) -> Result<Option<bool>, BuildError> {
+    let mut builder = Builder::with_caches(alloc, 64, Switches::of(0).caches(0))?;
+    match builder_without_memory(alloc, &mut builder)? {
+        Some(goes_on) => Ok(Some(goes_on && writes_again(&mut builder))),
+        None => Ok(None),
+    }
 }
 
 #[test]
 fn a_builder_with_refused_memory(rt: HostRuntime) -> Result<(), Fail> {
-    let mut builder = Builder::with_caches(rt.alloc(), 64, Switches::of(0).caches(0))?;
-    match builder_without_memory(rt.alloc(), &mut builder)? {
-        Some(goes_on) => {
-            assert!(rt; goes_on, "in its room");
-            assert!(rt; writes_again(&mut builder), "with memory");
-        }
-        None => println!(rt; "memory was left: this test does not apply")?,
-    }
+    let goes_on = builder_goes_on(rt.alloc())?;
+    assert!(rt; holds_or_says(&rt, goes_on)?);
     Ok(())
 }
 
@@ -104,19 +110,22 @@ fn replay_without_memory(alloc: Global, steps: &[Step]) -> Result<Option<bool>, 
     Ok(if exhausted { Some(refused) } else { None })
 }
 
+// Whether a replay is refused, and isn't once memory is there again; nothing where memory was left.
+fn replay_goes_on(alloc: Global) -> Result<Option<bool>, AllocError> {
+    let steps = one_text(alloc)?;
+    match replay_without_memory(alloc, steps.as_slice())? {
+        Some(refused) => {
+            let again = replay(alloc, Caches::all(), steps.as_slice()).is_ok();
+            Ok(Some(refused && again))
+        }
+        None => Ok(None),
+    }
+}
+
 #[test]
 fn a_replay_with_refused_memory(rt: HostRuntime) -> Result<(), Fail> {
-    let steps = one_text(rt.alloc())?;
-    match replay_without_memory(rt.alloc(), steps.as_slice())? {
-        Some(refused) => {
-            assert!(rt; refused, "without memory");
-            assert!(rt;
-                replay(rt.alloc(), Caches::all(), steps.as_slice()).is_ok(),
-                "with memory"
-            );
-        }
-        None => println!(rt; "memory was left: this test does not apply")?,
-    }
+    let refused = replay_goes_on(rt.alloc())?;
+    assert!(rt; holds_or_says(&rt, refused)?);
     Ok(())
 }
 
@@ -132,15 +141,18 @@ fn entry_without_memory(
     Ok(if exhausted { Some(refused) } else { None })
 }
 
+// Whether an entry is refused, and isn't once memory is there again; nothing where memory was left.
+fn cache_goes_on(alloc: Global) -> Result<Option<bool>, AllocError> {
+    let mut cache: Cache<ByteVec> = Cache::new(alloc, u64::MAX)?;
+    match entry_without_memory(alloc, &mut cache)? {
+        Some(refused) => Ok(Some(refused && cache.insert(b"Hi", 6).is_ok())),
+        None => Ok(None),
+    }
+}
+
 #[test]
 fn an_entry_of_a_cache_with_refused_memory(rt: HostRuntime) -> Result<(), Fail> {
-    let mut cache: Cache<ByteVec> = Cache::new(rt.alloc(), u64::MAX)?;
-    match entry_without_memory(rt.alloc(), &mut cache)? {
-        Some(refused) => {
-            assert!(rt; refused, "without memory");
-            assert!(rt; cache.insert(b"Hi", 6).is_ok(), "with memory");
-        }
-        None => println!(rt; "memory was left: this test does not apply")?,
-    }
+    let refused = cache_goes_on(rt.alloc())?;
+    assert!(rt; holds_or_says(&rt, refused)?);
     Ok(())
 }

@@ -145,21 +145,19 @@ fn values_after_each_part(rt: HostRuntime) {
     assert!(rt; values_are(&rows));
 }
 
+// A part of 0 to 5 bytes with an alignment of 1, 2, 4 or 8.
+fn part(number: usize) -> (usize, usize) {
+    (number / 4, 1 << (number % 4))
+}
+
 // Every list of three parts, and with it every shorter one.
 #[test]
 fn short_lists_as_the_plain_program_has_them(rt: HostRuntime) -> Result<(), Fail> {
-    let alloc = rt.alloc();
-    let mut parts: Vec<(usize, usize)> = Vec::new(alloc);
-    for size in 0..6 {
-        for alignment in [1, 2, 4, 8] {
-            parts.push((size, alignment))?;
-        }
-    }
-    for a in &parts {
-        for b in &parts {
-            for c in &parts {
-                let same = paddings(alloc, &[*a, *b, *c])?.is_some();
-                assert!(rt; same, "after {a:?}, {b:?}, {c:?}");
+    for a in 0..24 {
+        for b in 0..24 {
+            for c in 0..24 {
+                let same = paddings(rt.alloc(), &[part(a), part(b), part(c)])?.is_some();
+                assert!(rt; same, "parts {a}, {b}, {c}");
             }
         }
     }

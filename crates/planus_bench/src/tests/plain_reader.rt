@@ -382,17 +382,26 @@ impl<'a> Found<'a> {
     }
 }
 
+fn slots_agree(found: &Found<'_>, slots: &[usize]) -> bool {
+    for slot in slots {
+        if !found.agree_at(*slot) {
+            return false;
+        }
+    }
+    true
+}
+
 fn tables_agree(piece: SliceWithStartOffset<'_>, f: usize, slots: &[usize]) -> bool {
+    let start = piece.offset_from_start();
     match (Table::from_buffer(piece, f), table(piece.as_slice(), f)) {
-        (Ok(table), Ok(plain)) => {
-            let start = piece.offset_from_start();
-            let found = Found {
+        (Ok(table), Ok(plain)) => slots_agree(
+            &Found {
                 table,
                 plain,
                 start,
-            };
-            slots.iter().all(|slot| found.agree_at(*slot))
-        }
+            },
+            slots,
+        ),
         (Err(kind), Err(plain)) => same_kind(kind, plain),
         _ => false,
     }

@@ -171,12 +171,7 @@ impl Written {
         let alignment = if width == 8 { 8 } else { 4 };
         self.pad(items.len().wrapping_mul(width as usize), alignment)?;
         for item in items.iter().rev() {
-            let bytes = item.to_le_bytes();
-            match width {
-                2 => self.put(&bytes[..2])?,
-                4 => self.put(&bytes[..4])?,
-                _ => self.put(&bytes)?,
-            }
+            self.put_number(width, *item)?;
         }
         self.put_word(items.len())?;
         self.add(step)
@@ -191,20 +186,30 @@ impl Written {
         self.add(step)
     }
 
-    // The references and their count, and in front of them the tags and theirs.
-    fn unions(&mut self, step: usize, items: &[(u8, usize)]) -> Result<(), Fail> {
+    // The references of unions and their count, of which the distance is answered.
+    fn union_references(&mut self, items: &[(u8, usize)]) -> Result<u32, Fail> {
         self.pad(items.len().wrapping_mul(4), 4)?;
         for (_, named) in items.iter().rev() {
             self.put_reference(*named)?;
         }
         self.put_word(items.len())?;
-        let distance = u32::try_from(self.reversed.len())?;
+        Ok(u32::try_from(self.reversed.len())?)
+    }
+
+    // The same of their tags.
+    fn union_tags(&mut self, items: &[(u8, usize)]) -> Result<u32, Fail> {
         self.pad(items.len(), 4)?;
         for (tag, _) in items.iter().rev() {
-            self.put(&[*tag])?;
+            self.reversed.push(*tag)?;
         }
         self.put_word(items.len())?;
-        let tags = Some(u32::try_from(self.reversed.len())?);
+        Ok(u32::try_from(self.reversed.len())?)
+    }
+
+    // The references, and in front of them the tags.
+    fn unions(&mut self, step: usize, items: &[(u8, usize)]) -> Result<(), Fail> {
+        let distance = self.union_references(items)?;
+        let tags = Some(self.union_tags(items)?);
         self.values.push(StepPlace {
             step,
             distance,
@@ -254,6 +259,26 @@ impl Written {
         Ok(self.reversed.len())
     }
 
+    // The bytes of a number, of which so many are asked for.
+    fn put_number(&mut self, width: u8, value: u64) -> Result<(), AllocError> {
+        let bytes = value.to_le_bytes();
+        match width {
+            1 => self.put(&bytes[..1]),
+            2 => self.put(&bytes[..2]),
+            4 => self.put(&bytes[..4]),
+            _ => self.put(&bytes),
+        }
+    }
+
+    // What a field holds.
+    fn field(&mut self, value: &FieldValue) -> Result<(), Fail> {
+        match value {
+            FieldValue::Number { width, value } => Ok(self.put_number(*width, *value)?),
+            FieldValue::Ref(named) | FieldValue::Values(named) => self.put_reference(*named),
+            FieldValue::Tags(named) => self.put_reference_to(self.tags(*named)),
+        }
+    }
+
     fn table(&mut self, step: usize, fields: &[Field]) -> Result<(), Fail> {
         let vtable = self.vtable(fields)?;
         let mut size: usize = 0;
@@ -264,14 +289,7 @@ impl Written {
         }
         self.pad(size, alignment)?;
         for field in fields.iter().rev() {
-            match &field.value {
-                FieldValue::Number { width: 1, value } => self.put(&value.to_le_bytes()[..1])?,
-                FieldValue::Number { width: 2, value } => self.put(&value.to_le_bytes()[..2])?,
-                FieldValue::Number { width: 4, value } => self.put(&value.to_le_bytes()[..4])?,
-                FieldValue::Number { value, .. } => self.put(&value.to_le_bytes())?,
-                FieldValue::Ref(named) | FieldValue::Values(named) => self.put_reference(*named)?,
-                FieldValue::Tags(named) => self.put_reference_to(self.tags(*named))?,
-            }
+            self.field(&field.value)?;
         }
         let place = self.reversed.len().wrapping_add(4);
         self.put_word(vtable.wrapping_sub(place))?;
@@ -380,12 +398,23 @@ impl Written {
     }
 }
 
+// Takes all steps from nothing on.
+fn take_steps(
+    alloc: Global,
+    switches: Switches,
+    steps: &[Step],
+    finished: &mut Vec<Finished>,
+) -> Result<(), Fail> {
+    let mut written = Written::nothing(alloc, switches);
+    for (number, step) in steps.iter().enumerate() {
+        written.step(number, step, finished)?;
+    }
+    Ok(())
+}
+
 // What each finish of the steps gives.
 pub fn plain_run(alloc: Global, switches: Switches, steps: &[Step]) -> Result<Vec<Finished>, Fail> {
     let mut finished = Vec::new(alloc);
-    let mut written = Written::nothing(alloc, switches);
-    for (number, step) in steps.iter().enumerate() {
-        written.step(number, step, &mut finished)?;
-    }
+    take_steps(alloc, switches, steps, &mut finished)?;
     Ok(finished)
 }

@@ -140,6 +140,27 @@ impl<'a> Reading<'a> {
             _ => Ok(false),
         }
     }
+
+    // Whether all values that are still to be read stand where they should. `read` has how far from
+    // the end the value of each step stands, once it is read.
+    fn all_are_read(&mut self, read: &mut [Option<usize>]) -> Result<bool, Fail> {
+        for _ in 0..100000 {
+            let Some(Value { step, place }) = self.later.pop() else {
+                return Ok(true);
+            };
+            let distance = self.distance(place)?;
+            match read.get(step) {
+                Some(Some(before)) if *before == distance => continue,
+                Some(None) => {}
+                _ => return Ok(false),
+            }
+            read[step] = Some(distance);
+            if !self.has_value(place, step)? {
+                return Ok(false);
+            }
+        }
+        Err(Fail::new("too many references"))
+    }
 }
 
 // Whether the value of the root's step is read back as the steps say it, with all that it refers
@@ -156,27 +177,8 @@ pub fn reads_back(
         finished,
         later: Vec::new(alloc),
     };
-    // How far from the end the value of each step stands, once it is read.
-    let mut read: Vec<Option<usize>> = Vec::new(alloc);
-    for _ in steps {
-        read.push(None)?;
-    }
     let place = <Place<'_> as TableRead<'_>>::from_buffer(whole, 0)?;
     reading.later.push(Value { step: root, place })?;
-    for _ in 0..100000 {
-        let Some(Value { step, place }) = reading.later.pop() else {
-            return Ok(true);
-        };
-        let distance = reading.distance(place)?;
-        match read.get(step) {
-            Some(Some(before)) if *before == distance => continue,
-            Some(None) => {}
-            _ => return Ok(false),
-        }
-        read[step] = Some(distance);
-        if !reading.has_value(place, step)? {
-            return Ok(false);
-        }
-    }
-    Err(Fail::new("too many references"))
+    let mut read = vec![in alloc; None; steps.len()]?;
+    reading.all_are_read(read.as_mut_slice())
 }

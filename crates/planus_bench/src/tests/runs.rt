@@ -120,65 +120,87 @@ fn one_of(numbers: &[usize], draw: usize) -> Option<usize> {
     numbers.get(index).copied()
 }
 
-// Texts, lists, lists of unions and tables of mixed lengths, finishes with and without an identifier, and a clear now and
-// then.
-fn mixed_steps(alloc: Global, count: usize) -> Result<Vec<Step>, Fail> {
-    let mut numbers = Numbers { last: 1 };
-    let mut steps = Vec::new(alloc);
-    let mut values = Vec::new(alloc);
-    let mut last_unions = None;
-    for number in 0..count {
-        let kind = numbers.draw() % 32;
-        let root = one_of(values.as_slice(), numbers.draw());
+// Steps that look random.
+#[derive(Drop)]
+struct Mixed {
+    alloc: Global,
+    numbers: Numbers,
+    steps: Vec<Step>,
+    // The steps since the last clear that wrote a value other than a list of unions.
+    values: Vec<usize>,
+    last_unions: Option<usize>,
+}
+
+impl Mixed {
+    // A table of a drawn shape.
+    fn table(&mut self, root: usize) -> Result<Step, AllocError> {
+        let shape = self.numbers.draw();
+        let apart = (shape / 7 % 40) as u16 + 1;
+        let unions = self.last_unions;
+        table(self.alloc, Named { root, unions }, shape % 7, apart)
+    }
+
+    // A step of this kind, which names this step, if there is one that it can name.
+    fn step(&mut self, kind: usize, root: Option<usize>) -> Result<Step, AllocError> {
+        let alloc = self.alloc;
         match (kind, root) {
-            (0, _) => {
-                values.clear();
-                last_unions = None;
-                steps.push(Step::Clear)?;
-            }
-            (1..=6, Some(root)) => steps.push(Step::Finish { root, id: None })?,
+            (0, _) => Ok(Step::Clear),
+            (1..=6, Some(root)) => Ok(Step::Finish { root, id: None }),
             (7..=12, Some(root)) => {
                 let id = Some(*b"TEST");
-                steps.push(Step::Finish { root, id })?;
+                Ok(Step::Finish { root, id })
             }
-            (13, _) => {
-                values.push(number)?;
-                steps.push(text(alloc, numbers.draw() % 20000)?)?;
-            }
-            (14 | 15, _) => {
-                values.push(number)?;
-                steps.push(bytes(alloc, numbers.draw() % 50)?)?;
-            }
-            (17..=22, _) => {
-                let width = match kind {
-                    17 | 18 => 2,
-                    19 | 20 => 4,
-                    _ => 8,
-                };
-                values.push(number)?;
-                steps.push(list(alloc, width, numbers.draw() % 20)?)?;
-            }
-            (23..=25, Some(root)) => {
-                values.push(number)?;
-                steps.push(refs(alloc, root, numbers.draw() % 20)?)?;
-            }
-            (26..=28, Some(root)) => {
-                let shape = numbers.draw();
-                let apart = (shape / 7 % 40) as u16 + 1;
-                let unions = last_unions;
-                values.push(number)?;
-                steps.push(table(alloc, Named { root, unions }, shape % 7, apart)?)?;
-            }
-            (29..=31, Some(root)) => {
-                last_unions = Some(number);
-                steps.push(unions(alloc, root, numbers.draw() % 20)?)?;
-            }
-            _ => {
-                values.push(number)?;
-                steps.push(text(alloc, numbers.draw() % 50)?)?;
-            }
+            (13, _) => text(alloc, self.numbers.draw() % 20000),
+            (14 | 15, _) => bytes(alloc, self.numbers.draw() % 50),
+            (17 | 18, _) => list(alloc, 2, self.numbers.draw() % 20),
+            (19 | 20, _) => list(alloc, 4, self.numbers.draw() % 20),
+            (21 | 22, _) => list(alloc, 8, self.numbers.draw() % 20),
+            (23..=25, Some(root)) => refs(alloc, root, self.numbers.draw() % 20),
+            (26..=28, Some(root)) => self.table(root),
+            (29..=31, Some(root)) => unions(alloc, root, self.numbers.draw() % 20),
+            _ => text(alloc, self.numbers.draw() % 50),
         }
     }
+
+    // Keeps what later steps may name of the last step, which has this number.
+    fn note_last(&mut self, number: usize) -> Result<(), AllocError> {
+        match self.steps.last() {
+            Some(Step::Clear) => {
+                self.values.clear();
+                self.last_unions = None;
+            }
+            Some(Step::Finish { .. }) | None => {}
+            Some(Step::Unions(_)) => self.last_unions = Some(number),
+            Some(_) => self.values.push(number)?,
+        }
+        Ok(())
+    }
+
+    // Adds a step of a drawn kind.
+    fn push(&mut self) -> Result<(), AllocError> {
+        let number = self.steps.len();
+        let kind = self.numbers.draw() % 32;
+        let root = one_of(self.values.as_slice(), self.numbers.draw());
+        let step = self.step(kind, root)?;
+        self.steps.push(step)?;
+        self.note_last(number)
+    }
+}
+
+// Texts, lists, lists of unions and tables of mixed lengths, finishes with and without an
+// identifier, and a clear now and then.
+fn mixed_steps(alloc: Global, count: usize) -> Result<Vec<Step>, AllocError> {
+    let mut mixed = Mixed {
+        alloc,
+        numbers: Numbers { last: 1 },
+        steps: Vec::new(alloc),
+        values: Vec::new(alloc),
+        last_unions: None,
+    };
+    for _ in 0..count {
+        mixed.push()?;
+    }
+    let Mixed { steps, .. } = mixed;
     Ok(steps)
 }
 
@@ -219,28 +241,48 @@ fn with_name(alloc: Global, name: usize, value: u64) -> Result<Step, AllocError>
     Ok(Step::Table(fields))
 }
 
-// Twice the same texts, byte lists and tables, each with one between that differs. They are written,
-// finished, cleared, and written again.
+// Adds a text and a byte list of this word, a table that refers to the step `first`, and a list.
+fn push_values(
+    alloc: Global,
+    steps: &mut Vec<Step>,
+    first: usize,
+    word: &str,
+) -> Result<(), AllocError> {
+    steps.push(Step::Text(String::from_str(alloc, word)?))?;
+    steps.push(Step::Bytes(Vec::from_slice(alloc, word.as_bytes())?))?;
+    steps.push(with_name(alloc, first, 24)?)?;
+    steps.push(list(alloc, 2, word.len())?)?;
+    Ok(())
+}
+
+// References to all steps from this one on.
+fn refs_from(alloc: Global, first: usize, end: usize) -> Result<Step, AllocError> {
+    let mut all = Vec::new(alloc);
+    for step in first..end {
+        all.push(step)?;
+    }
+    Ok(Step::Refs(all))
+}
+
+// Adds twice the same texts, byte lists and tables, each with one between that differs, a finish,
+// and a clear.
+fn push_repeated(alloc: Global, steps: &mut Vec<Step>) -> Result<(), AllocError> {
+    let first = steps.len();
+    for word in ["Hi", "Ho", "Hi"] {
+        push_values(alloc, steps, first, word)?;
+    }
+    let root = steps.len();
+    steps.push(refs_from(alloc, first, root)?)?;
+    steps.push(Step::Finish { root, id: None })?;
+    steps.push(Step::Clear)?;
+    Ok(())
+}
+
+// These, written, finished, cleared, and written again.
 fn repeated(alloc: Global) -> Result<Vec<Step>, AllocError> {
     let mut steps = Vec::new(alloc);
-    for _ in 0..2 {
-        let first = steps.len();
-        let mut all = Vec::new(alloc);
-        for word in ["Hi", "Ho", "Hi"] {
-            all.push(steps.len())?;
-            steps.push(Step::Text(String::from_str(alloc, word)?))?;
-            all.push(steps.len())?;
-            steps.push(Step::Bytes(Vec::from_slice(alloc, word.as_bytes())?))?;
-            all.push(steps.len())?;
-            steps.push(with_name(alloc, first, 24)?)?;
-            all.push(steps.len())?;
-            steps.push(list(alloc, 2, word.len())?)?;
-        }
-        let root = steps.len();
-        steps.push(Step::Refs(all))?;
-        steps.push(Step::Finish { root, id: None })?;
-        steps.push(Step::Clear)?;
-    }
+    push_repeated(alloc, &mut steps)?;
+    push_repeated(alloc, &mut steps)?;
     Ok(steps)
 }
 
@@ -277,14 +319,21 @@ fn replays_agree(rt: &impl Abort, alloc: Global, steps: &[Step]) -> Result<(), F
     Ok(())
 }
 
+// The same of steps that are handed over.
+fn replays_of(rt: &impl Abort, alloc: Global, steps: Vec<Step>) -> Result<(), Fail> {
+    replays_agree(rt, alloc, steps.as_slice())
+}
+
 #[test]
 fn runs_in_every_setting(rt: HostRuntime) -> Result<(), Fail> {
     let alloc = rt.alloc();
-    replays_agree(&rt, alloc, weapon(alloc)?.as_slice())?;
-    replays_agree(&rt, alloc, two_texts(alloc)?.as_slice())?;
-    replays_agree(&rt, alloc, repeated(alloc)?.as_slice())?;
+    replays_of(&rt, alloc, weapon(alloc)?)?;
+    replays_of(&rt, alloc, two_texts(alloc)?)?;
+    replays_of(&rt, alloc, repeated(alloc)?)?;
     let mixed = mixed_steps(alloc, 300)?;
-    assert_eq!(rt; mixed.len(), 300);
-    assert_eq!(rt; counts(mixed.as_slice()), (14, 65, 50, 22));
-    replays_agree(&rt, alloc, mixed.as_slice())
+    assert!(rt;
+        mixed.len() == 300 && counts(mixed.as_slice()) == (14, 65, 50, 22),
+        "mixed steps"
+    );
+    replays_of(&rt, alloc, mixed)
 }

@@ -96,26 +96,38 @@ fn texts_and_bytes_read_back(builder: &mut Builder) -> Result<bool, Fail> {
     Ok(same_text && same_bytes)
 }
 
-fn lists_read_back(builder: &mut Builder) -> Result<bool, Fail> {
+fn signed_bytes_read_back(builder: &mut Builder) -> Result<bool, Fail> {
     let signed = builder.create_vector(SignedList(&[-1, 2]))?;
     let list = read::<SignedBytes>(finished::<Offset<_>, _>(builder, signed)?)?;
-    let same_signed = list.get(0) == Some(-1) && list.get(1) == Some(2);
+    Ok(list.get(0) == Some(-1) && list.get(1) == Some(2))
+}
+
+fn lists_read_back(builder: &mut Builder) -> Result<bool, Fail> {
     let numbers = builder.create_vector([7u16, 8])?;
     let list = read::<Vector<u16>>(finished::<Offset<_>, _>(builder, numbers)?)?;
-    Ok(same_signed && list.get(0) == Some(7) && list.get(1) == Some(8))
+    Ok(list.get(0) == Some(7) && list.get(1) == Some(8))
+}
+
+fn fields_read_back(builder: &mut Builder) -> Result<(), Fail> {
+    if !unsigned_numbers_read_back(builder)? {
+        return Err(Fail::new("unsigned numbers"));
+    }
+    if !signed_numbers_read_back(builder)? {
+        return Err(Fail::new("signed numbers"));
+    }
+    if !texts_and_bytes_read_back(builder)? {
+        return Err(Fail::new("texts and bytes"));
+    }
+    if !signed_bytes_read_back(builder)? || !lists_read_back(builder)? {
+        return Err(Fail::new("lists"));
+    }
+    Ok(())
 }
 
 #[test]
 fn a_field_of_each_type(rt: HostRuntime) -> Result<(), Fail> {
     let mut builder = Builder::new(rt.alloc())?;
-    assert!(rt;
-        unsigned_numbers_read_back(&mut builder)?,
-        "unsigned numbers"
-    );
-    assert!(rt; signed_numbers_read_back(&mut builder)?, "signed numbers");
-    assert!(rt; texts_and_bytes_read_back(&mut builder)?, "texts and bytes");
-    assert!(rt; lists_read_back(&mut builder)?, "lists");
-    Ok(())
+    fields_read_back(&mut builder)
 }
 
 fn a_free_slot_is_none(bytes: &[u8]) -> bool {

@@ -14,20 +14,25 @@ const TWO_TEXTS: [u8; 58] = [
     b'A', 0,
 ];
 
-pub fn two_texts(alloc: Global) -> Result<Vec<Step>, AllocError> {
-    let mut items = Vec::new(alloc);
-    items.push((1, 0))?;
-    items.push((2, 1))?;
+// A table of the tags and the references of the list of unions of a step.
+fn tags_and_values(alloc: Global, unions: usize) -> Result<Step, AllocError> {
     let mut fields = Vec::new(alloc);
-    let value = FieldValue::Tags(2);
-    fields.push(Field { slot: 0, value })?;
-    let value = FieldValue::Values(2);
-    fields.push(Field { slot: 1, value })?;
+    for (slot, value) in [
+        (0, FieldValue::Tags(unions)),
+        (1, FieldValue::Values(unions)),
+    ] {
+        fields.push(Field { slot, value })?;
+    }
+    Ok(Step::Table(fields))
+}
+
+pub fn two_texts(alloc: Global) -> Result<Vec<Step>, AllocError> {
     let mut steps = Vec::new(alloc);
-    steps.push(Step::Text(String::from_str(alloc, "A")?))?;
-    steps.push(Step::Text(String::from_str(alloc, "B")?))?;
-    steps.push(Step::Unions(items))?;
-    steps.push(Step::Table(fields))?;
+    for letter in ["A", "B"] {
+        steps.push(Step::Text(String::from_str(alloc, letter)?))?;
+    }
+    steps.push(Step::Unions(Vec::from_slice(alloc, &[(1, 0), (2, 1)])?))?;
+    steps.push(tags_and_values(alloc, 2)?)?;
     steps.push(Step::Finish { root: 3, id: None })?;
     Ok(steps)
 }

@@ -1,11 +1,14 @@
 //! A weapon, written and read back.
+ghost use Rattle.std.specs.Prelude.{List};
+ghost use Rattle.planus_write.specs.Tables.{Declared};
+ghost use Rattle.planus_write.specs.TableWriting.{WasTold};
 
 use super::{fails_printing, finish_with, holds};
 use crate::weapon::{Weapon, WeaponRef};
 use planus::errors::ErrorKind;
 use planus::{
     BuildError, Builder, DefaultValue, Error, Offset, ReadAsRoot, SliceWithStartOffset, TableRead,
-    Vector,
+    TableWriter, Vector,
 };
 use std::alloc::Global;
 use std::test::Fail;
@@ -168,4 +171,19 @@ fn a_list_of_weapons(rt: HostRuntime) -> Result<(), Fail> {
     let mut builder = Builder::new(rt.alloc())?;
     assert!(rt; holds(a_list_of_weapons_in(&mut builder)));
     Ok(())
+}
+
+// Knows of a writer that it was handed that it was told some list of entries.
+fn was_told(writer: &TableWriter<8>)
+    ensures { (declared : List Declared) × WasTold writer.now declared }
+{
+    writer.was_told();
+}
+
+#[test]
+fn a_writer_was_told(_rt: HostRuntime) {
+    let mut writer: TableWriter<8> = TableWriter::default();
+    was_told(&writer);
+    writer.write_entry::<u16>(0);
+    was_told(&writer);
 }

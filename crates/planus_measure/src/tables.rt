@@ -1,0 +1,134 @@
+//! Tables that are written.
+
+ghost use Rattle.std.specs.Prelude.{◌-◌, ◌++◌};
+ghost use Rattle.std.specs.Int.{w16, w32, to_le_bytes};
+
+use crate::works::OPERATIONS;
+use planus::{BuildError, Builder, ObjectFill, ObjectWriter, Offset, TableWriter, Text};
+
+/// Two fields of equal numbers.
+#[derive(Drop)]
+struct Two {
+    number: u16,
+}
+
+impl ObjectFill for Two {
+    ghost size = { λ two. 4 };
+
+    ghost reach = { λ two. 0 };
+
+    ghost leaves = { λ two place. to_le_bytes w16 two.number ++ to_le_bytes w16 two.number };
+
+    fn fill(&self, writer: &mut ObjectWriter<'_>) {
+        writer.write::<u16, u16>(&self.number);
+        writer.write::<u16, u16>(&self.number);
+    }
+}
+
+/// Eight fields of equal numbers.
+#[derive(Drop)]
+struct Eight {
+    number: u16,
+}
+
+impl ObjectFill for Eight {
+    ghost size = { λ eight. 16 };
+
+    ghost reach = { λ eight. 0 };
+
+    ghost leaves = { λ eight place.
+        to_le_bytes w16 eight.number ++ (to_le_bytes w16 eight.number
+        ++ (to_le_bytes w16 eight.number ++ (to_le_bytes w16 eight.number
+        ++ (to_le_bytes w16 eight.number ++ (to_le_bytes w16 eight.number
+        ++ (to_le_bytes w16 eight.number ++ to_le_bytes w16 eight.number)))))) };
+
+    fn fill(&self, writer: &mut ObjectWriter<'_>) {
+        writer.write::<u16, u16>(&self.number);
+        writer.write::<u16, u16>(&self.number);
+        writer.write::<u16, u16>(&self.number);
+        writer.write::<u16, u16>(&self.number);
+        writer.write::<u16, u16>(&self.number);
+        writer.write::<u16, u16>(&self.number);
+        writer.write::<u16, u16>(&self.number);
+        writer.write::<u16, u16>(&self.number);
+    }
+}
+
+/// A text and a number.
+#[derive(Drop)]
+struct Weapon {
+    name: Offset<Text>,
+    damage: u16,
+}
+
+impl ObjectFill for Weapon {
+    ghost size = { λ weapon. 6 };
+
+    ghost reach = { λ weapon. weapon.name.distance };
+
+    ghost leaves = { λ weapon place.
+        to_le_bytes w32 (place - weapon.name.distance) ++ to_le_bytes w16 weapon.damage };
+
+    fn fill(&self, writer: &mut ObjectWriter<'_>) {
+        writer.write::<Offset<Text>, Offset<Text>>(&self.name);
+        writer.write::<u16, u16>(&self.damage);
+    }
+}
+
+fn write_table_of_two(builder: &mut Builder) -> Result<(), BuildError> {
+    let mut writer: TableWriter<8> = TableWriter::default();
+    writer.write_entry::<u16>(0);
+    writer.write_entry::<u16>(1);
+    writer.finish(builder, &Two { number: 7 })
+}
+
+fn write_table_of_eight(builder: &mut Builder) -> Result<(), BuildError> {
+    let mut writer: TableWriter<20> = TableWriter::default();
+    writer.write_entry::<u16>(0);
+    writer.write_entry::<u16>(1);
+    writer.write_entry::<u16>(2);
+    writer.write_entry::<u16>(3);
+    writer.write_entry::<u16>(4);
+    writer.write_entry::<u16>(5);
+    writer.write_entry::<u16>(6);
+    writer.write_entry::<u16>(7);
+    writer.finish(builder, &Eight { number: 7 })
+}
+
+fn write_weapon(builder: &mut Builder) -> Result<(), BuildError> {
+    let name = builder.create_string("Axe")?;
+    let mut writer: TableWriter<8> = TableWriter::default();
+    writer.write_entry::<Offset<Text>>(0);
+    writer.write_entry::<u16>(1);
+    writer.finish(builder, &Weapon { name, damage: 24 })
+}
+
+/// Writes tables of two fields, and returns the length of all.
+pub fn write_two(builder: &mut Builder) -> Result<usize, BuildError> {
+    builder.clear();
+    for _ in 0..OPERATIONS {
+        write_table_of_two(builder)?;
+    }
+    Ok(builder.len())
+}
+
+/// Writes tables of eight fields, and returns the length of all.
+pub fn write_eight(builder: &mut Builder) -> Result<usize, BuildError> {
+    builder.clear();
+    for _ in 0..OPERATIONS {
+        write_table_of_eight(builder)?;
+    }
+    Ok(builder.len())
+}
+
+/// Clears, writes a weapon and finishes it, and returns the sum of the lengths.
+pub fn write_weapons(builder: &mut Builder) -> Result<usize, BuildError> {
+    let mut sum: usize = 0;
+    for _ in 0..OPERATIONS {
+        builder.clear();
+        write_weapon(builder)?;
+        let root = builder.current_offset::<()>();
+        sum = sum.wrapping_add(builder.finish(root, None)?.len());
+    }
+    Ok(sum)
+}
