@@ -23,11 +23,11 @@ impl Model for BackVec {
 
     ghost Value = { BackBytes };
 
-    ghost use Rattle.planus_back.specs.BackView.{back_bytes, StartsInside};
+    ghost use Rattle.planus_back.specs.BackView.{back_bytes, BeginsAtStart};
 
     ghost view = { back_bytes };
 
-    ghost invariant = { StartsInside };
+    ghost invariant = { BeginsAtStart };
 }
 
 impl Drop for BackVec {
@@ -86,6 +86,7 @@ impl BackVec {
         ensures bytes { self.new.bytes ≡ [] }
         ensures room { self.new.room ≡ length self.old.bytes + self.old.room }
     {
+        self.block.keep_initialized(self.start);
         self.start = self.block.capacity();
     }
 
@@ -150,9 +151,13 @@ impl BackVec {
         ensures room { self.new.room + length
             (first.now ++ second.now ++ third.now) ≡ self.old.room }
     {
-        self.put_slice(third);
-        self.put_slice(second);
-        self.put_slice(first);
+        let third_at = self.start - third.len();
+        let second_at = third_at - second.len();
+        let start = second_at - first.len();
+        self.block.put_slice(third_at, third);
+        self.block.put_slice(second_at, second);
+        self.block.put_slice(start, first);
+        self.start = start;
     }
 
     /// Puts `n` zeros in front. There is room for them.

@@ -1,9 +1,9 @@
-//! A block of memory that is written from its end on.
+//! A block of memory that is written from its end towards its front.
 ghost use Rattle.std.specs.Prelude.{◌≡◌, ◌+◌, ◌≤◌, ℕ, ◌++◌, length, take, drop, replicate, IfOk};
 ghost use Rattle.std.specs.Prelude.{false};
 ghost use Rattle.core.specs.Mem.Slots.Ownership.{Filled, SameOutside};
 ghost use Rattle.core.specs.Mem.Slots.{SamePlaces, slots_filled, slots_items, slots_len};
-ghost use Rattle.planus_back.specs.Blocks.{IsBlock, Puts, Readies, bytes_from, capacity_of};
+ghost use Rattle.planus_back.specs.Blocks.{HoldsFrom, IsBlock, Puts, Readies, bytes_from, capacity_of};
 
 use crate::cells::{Deed, allocate, deallocate, lend, lend_mut};
 use crate::fill::{Fill, Overwrite};
@@ -15,11 +15,16 @@ use std_alloc::room::may_hold;
 /// written there.
 const AHEAD: usize = 256;
 
-/// A block of places, of which those from `written` on hold bytes.
+/// What zeros are copied from.
+const ZEROS: [u8; 256] = [0; 256];
+
+/// A block of places. Who writes to it knows from which place on each holds a byte.
 pub struct Block {
     base: *mut u8,
     places: Slots<u8>,
-    written: usize,
+    // Each place from here on holds a byte. It isn't kept up at each write: what is written in
+    // front of it counts from the next call of `keep_initialized` on.
+    initialized: usize,
     deed: Deed<u8, Global>,
     alloc: Global,
 }
@@ -35,15 +40,16 @@ fn zero(places: &mut Slots<u8>, at: usize, n: usize)
 {
     let mut i = 0;
     while i < n {
-        places.put(at + i, 0);
-        i += 1;
+        let count = (n - i).min(ZEROS.len());
+        places.copy_in(at + i, &ZEROS[..count]);
+        i += count;
     }
 }
 
 impl Block {
     /// A block of `capacity` places that hold nothing. Asks for memory once.
     pub(crate) fn new(alloc: Global, capacity: usize) -> Result<Block, AllocError>
-        ensures { IfOk result (λ b. IsBlock b × (capacity_of b ≡ capacity) × (b.written ≡ capacity)) }
+        ensures { IfOk result (λ b. HoldsFrom b capacity × (capacity_of b ≡ capacity)) }
     {
         if !may_hold::<u8>(capacity) {
             return Err(AllocError);
@@ -52,7 +58,7 @@ impl Block {
         Ok(Block {
             base,
             places,
-            written: capacity,
+            initialized: capacity,
             deed,
             alloc,
         })
@@ -65,7 +71,7 @@ impl Block {
         let Block {
             base: _,
             places,
-            written: _,
+            initialized: _,
             deed,
             alloc,
         } = self;
@@ -88,9 +94,7 @@ impl Block {
     /// The bytes from the place `from` on, all of which hold one.
     #[inline]
     pub(crate) fn as_slice(&self, from: usize) -> &[u8]
-        requires block { IsBlock self.now }
-        requires written { self.now.written ≤ from }
-        requires inside { from ≤ capacity_of self.now }
+        requires { HoldsFrom self.now from }
         ensures { result.now ≡ bytes_from self.now from }
     {
         lend(&self.places, self.base, from, self.places.len() - from)
@@ -99,22 +103,17 @@ impl Block {
     /// Puts the bytes of the slice from the place `at` on, up to places that hold bytes.
     #[inline]
     pub(crate) fn put_slice(&mut self, at: usize, bytes: &[u8])
-        requires block { IsBlock self.old }
-        requires inside { at + length bytes.now ≤ capacity_of self.old }
-        requires no_gap { self.old.written ≤ at + length bytes.now }
+        requires { HoldsFrom self.old (at + length bytes.now) }
         ensures { Puts self.old at bytes.now self.new }
     {
         self.places.copy_in(at, bytes);
-        self.written = self.written.min(at);
     }
 
     /// Puts `n` zeros from the place `at` on, up to places that hold bytes. Padding is mostly below
     /// 8 bytes, and is then one store of 8 where there is room for it.
     #[inline]
     pub(crate) fn put_zeros(&mut self, at: usize, n: usize)
-        requires block { IsBlock self.old }
-        requires inside { at + n ≤ capacity_of self.old }
-        requires no_gap { self.old.written ≤ at + n }
+        requires { HoldsFrom self.old (at + n) }
         ensures { Puts self.old at (replicate n 0) self.new }
     {
         if n == 0 {
@@ -130,22 +129,17 @@ impl Block {
     #[cold]
     #[inline(never)]
     fn put_many_zeros(&mut self, at: usize, n: usize)
-        requires block { IsBlock self.old }
-        requires inside { at + n ≤ capacity_of self.old }
-        requires no_gap { self.old.written ≤ at + n }
+        requires { HoldsFrom self.old (at + n) }
         ensures { Puts self.old at (replicate n 0) self.new }
     {
         zero(&mut self.places, at, n);
-        self.written = self.written.min(at);
     }
 
     /// Lets the filler write `n` bytes from the place `at` on, over zeros, up to places that hold
     /// bytes.
     #[inline]
     pub(crate) fn put_filled<F: Fill>(&mut self, at: usize, place: u32, n: usize, filler: &F)
-        requires block { IsBlock self.old }
-        requires inside { at + n ≤ capacity_of self.old }
-        requires no_gap { self.old.written ≤ at + n }
+        requires holds { HoldsFrom self.old (at + n) }
         requires fits { F.fits filler.now place n }
         ensures puts { Puts self.old at (F.leaves filler.now place n) self.new }
         ensures count { length (F.leaves filler.now place n) ≡ n }
@@ -164,38 +158,50 @@ impl Block {
         n: usize,
         writer: &W,
     )
-        requires block { IsBlock self.old }
-        requires inside { at + n ≤ capacity_of self.old }
-        requires no_gap { self.old.written ≤ at + n }
+        requires holds { HoldsFrom self.old (at + n) }
         requires fits { W.fits writer.now place n }
         ensures puts { Puts self.old at (W.leaves writer.now place n) self.new }
         ensures count { length (W.leaves writer.now place n) ≡ n }
     {
-        self.make_ready(at);
+        self.make_ready(at, at + n);
         writer.overwrite(place, lend_mut(&mut self.places, self.base, at, n));
     }
 
-    // Makes each place from `at` on hold a byte, since a place that holds nothing can't be lent.
+    // Makes each place from `at` up to the start of what is held hold a byte, since a place that
+    // holds nothing can't be lent.
     #[inline]
-    fn make_ready(&mut self, at: usize)
-        requires block { IsBlock self.old }
-        requires inside { at ≤ capacity_of self.old }
-        ensures { Readies self.old at self.new }
+    fn make_ready(&mut self, at: usize, start: usize)
+        requires holds { HoldsFrom self.old start }
+        requires inside { at ≤ start }
+        ensures { Readies self.old at start self.new }
     {
-        if at < self.written {
-            self.fill_fresh(at);
+        if at < self.initialized {
+            self.fill_fresh(at, start);
         }
     }
 
-    // Puts zeros into the places up to the written ones, from a little in front of `at` on.
+    // Puts zeros into those of the places that may never have been written, from a little in front
+    // of `at` on.
     #[cold]
     #[inline(never)]
-    fn fill_fresh(&mut self, at: usize)
-        requires block { IsBlock self.old }
-        requires fresh { at ≤ self.old.written }
-        ensures { Readies self.old at self.new }
+    fn fill_fresh(&mut self, at: usize, start: usize)
+        requires holds { HoldsFrom self.old start }
+        requires inside { at ≤ start }
+        requires fresh { at ≤ self.old.initialized }
+        ensures { Readies self.old at start self.new }
     {
         let from = at.saturating_sub(AHEAD);
-        self.put_many_zeros(from, self.written - from);
+        let to = self.initialized.min(start);
+        self.put_many_zeros(from, to - from);
+        self.initialized = from;
+    }
+
+    /// Remembers that each place from `start` on was written, whatever is put there later.
+    pub(crate) fn keep_initialized(&mut self, start: usize)
+        requires { HoldsFrom self.old start }
+        ensures holds { HoldsFrom self.new (capacity_of self.old) }
+        ensures capacity { capacity_of self.new ≡ capacity_of self.old }
+    {
+        self.initialized = self.initialized.min(start);
     }
 }
