@@ -6,29 +6,29 @@ use Rattle.std.specs.Int.{w64, from_le_bytes}
 use Rattle.planus_back.specs.Caches.{joined, number_on, mixed, hash_on}
 
 -- eight bytes at once
-pub word_more : (one other : ℕ) (word rest : List ℕ) → length word ≡ 8 → hash_on one other (word ++ rest) ≡ hash_on other (mixed one (from_le_bytes w64 word)) rest
-word_more one other (a ∷ b ∷ c ∷ d ∷ e ∷ f ∷ g ∷ h ∷ []) rest eight = refl
-word_more one other (a ∷ b ∷ c ∷ d ∷ e ∷ f ∷ g ∷ h ∷ i ∷ more) rest eight = absurd (omega (arith, eight))
-word_more one other [] rest eight = absurd (omega (arith, eight))
-word_more one other (a ∷ []) rest eight = absurd (omega (arith, eight))
-word_more one other (a ∷ b ∷ []) rest eight = absurd (omega (arith, eight))
-word_more one other (a ∷ b ∷ c ∷ []) rest eight = absurd (omega (arith, eight))
-word_more one other (a ∷ b ∷ c ∷ d ∷ []) rest eight = absurd (omega (arith, eight))
-word_more one other (a ∷ b ∷ c ∷ d ∷ e ∷ []) rest eight = absurd (omega (arith, eight))
-word_more one other (a ∷ b ∷ c ∷ d ∷ e ∷ f ∷ []) rest eight = absurd (omega (arith, eight))
-word_more one other (a ∷ b ∷ c ∷ d ∷ e ∷ f ∷ g ∷ []) rest eight = absurd (omega (arith, eight))
+pub word_more : (one two three four last : ℕ) (word rest : List ℕ) → length word ≡ 8 → hash_on one two three four last (word ++ rest) ≡ hash_on two three four (mixed one (from_le_bytes w64 word)) last rest
+word_more one two three four last (a ∷ b ∷ c ∷ d ∷ e ∷ f ∷ g ∷ h ∷ []) rest eight = refl
+word_more one two three four last (a ∷ b ∷ c ∷ d ∷ e ∷ f ∷ g ∷ h ∷ i ∷ more) rest eight = absurd (omega (arith, eight))
+word_more one two three four last [] rest eight = absurd (omega (arith, eight))
+word_more one two three four last (a ∷ []) rest eight = absurd (omega (arith, eight))
+word_more one two three four last (a ∷ b ∷ []) rest eight = absurd (omega (arith, eight))
+word_more one two three four last (a ∷ b ∷ c ∷ []) rest eight = absurd (omega (arith, eight))
+word_more one two three four last (a ∷ b ∷ c ∷ d ∷ []) rest eight = absurd (omega (arith, eight))
+word_more one two three four last (a ∷ b ∷ c ∷ d ∷ e ∷ []) rest eight = absurd (omega (arith, eight))
+word_more one two three four last (a ∷ b ∷ c ∷ d ∷ e ∷ f ∷ []) rest eight = absurd (omega (arith, eight))
+word_more one two three four last (a ∷ b ∷ c ∷ d ∷ e ∷ f ∷ g ∷ []) rest eight = absurd (omega (arith, eight))
 
 -- the rest, which are fewer than eight
-pub few_more : (one other : ℕ) (rest : List ℕ) → length rest < 8 → hash_on one other rest ≡ mixed (mixed one (number_on 0 rest)) other
-few_more one other [] few = refl
-few_more one other (a ∷ []) few = refl
-few_more one other (a ∷ b ∷ []) few = refl
-few_more one other (a ∷ b ∷ c ∷ []) few = refl
-few_more one other (a ∷ b ∷ c ∷ d ∷ []) few = refl
-few_more one other (a ∷ b ∷ c ∷ d ∷ e ∷ []) few = refl
-few_more one other (a ∷ b ∷ c ∷ d ∷ e ∷ f ∷ []) few = refl
-few_more one other (a ∷ b ∷ c ∷ d ∷ e ∷ f ∷ g ∷ []) few = refl
-few_more one other (a ∷ b ∷ c ∷ d ∷ e ∷ f ∷ g ∷ h ∷ more) few = absurd (omega (arith, few))
+pub few_more : (one two three four last : ℕ) (rest : List ℕ) → length rest < 8 → hash_on one two three four last rest ≡ mixed (mixed two three) (mixed four (mixed one last))
+few_more one two three four last [] few = refl
+few_more one two three four last (a ∷ []) few = refl
+few_more one two three four last (a ∷ b ∷ []) few = refl
+few_more one two three four last (a ∷ b ∷ c ∷ []) few = refl
+few_more one two three four last (a ∷ b ∷ c ∷ d ∷ []) few = refl
+few_more one two three four last (a ∷ b ∷ c ∷ d ∷ e ∷ []) few = refl
+few_more one two three four last (a ∷ b ∷ c ∷ d ∷ e ∷ f ∷ []) few = refl
+few_more one two three four last (a ∷ b ∷ c ∷ d ∷ e ∷ f ∷ g ∷ []) few = refl
+few_more one two three four last (a ∷ b ∷ c ∷ d ∷ e ∷ f ∷ g ∷ h ∷ more) few = absurd (omega (arith, few))
 
 -- the next byte of a number
 pub byte_taken : (number i : ℕ) (bytes : List ℕ) → i < length bytes → number_on number (drop i bytes) ≡ number_on (joined number (get_or bytes i 0)) (drop (i + 1) bytes)

@@ -1,6 +1,6 @@
 -- A cache as a set of distances that fits some bytes, and what its calls do.
-use Rattle.std.specs.Prelude.{◌≡◌, ℕ, ◌+◌, ◌*◌, ◌/◌, ◌%◌, ◌^◌, ◌<◌, List, [], ◌∷◌, length, slice_index, Option, Some}
-use Rattle.std.specs.Prelude.{nat_eq, bit_and, bit_xor, ◌↔◌, ◌⊎◌, MatchOption}
+use Rattle.std.specs.Prelude.{◌≡◌, ℕ, ◌+◌, ◌*◌, ◌/◌, ◌%◌, ◌^◌, ◌-◌, ◌<◌, List, [], ◌∷◌, length, drop, slice_index, Option, Some}
+use Rattle.std.specs.Prelude.{nat_eq, nat_le, if◌then◌else◌, bit_and, bit_xor, ◌↔◌, ◌⊎◌, MatchOption}
 use Rattle.std.specs.Int.{w64, from_le_bytes}
 use Rattle.std.specs.Map.{lookup}
 use mathlib.Core.Logic.{◌≢◌}
@@ -27,16 +27,21 @@ abbrev pub number_on : ℕ → List ℕ → ℕ
 number_on number [] = number
 number_on number (byte ∷ bytes) = number_on (joined number byte) bytes
 
--- some bytes more of two hashes, which take turns: 8 at a time, and then the rest, which are fewer,
--- as one number
-abbrev pub hash_on : ℕ → ℕ → List ℕ → ℕ
-hash_on one other (a ∷ b ∷ c ∷ d ∷ e ∷ f ∷ g ∷ h ∷ rest) =
-    hash_on other (mixed one (from_le_bytes w64 (a ∷ b ∷ c ∷ d ∷ e ∷ f ∷ g ∷ h ∷ []))) rest
-hash_on one other rest = mixed (mixed one (number_on 0 rest)) other
+-- the last 8 bytes of a key as a number, or all of them where they are fewer
+abbrev pub last_number : List ℕ → ℕ
+last_number key =
+    if nat_le 8 (length key) then from_le_bytes w64 (drop (length key - 8) key) else number_on 0 key
+
+-- some bytes more of four hashes, which take turns: 8 at a time; and then, in place of the rest,
+-- which are fewer, the last number
+abbrev pub hash_on : ℕ → ℕ → ℕ → ℕ → ℕ → List ℕ → ℕ
+hash_on one two three four last (a ∷ b ∷ c ∷ d ∷ e ∷ f ∷ g ∷ h ∷ rest) =
+    hash_on two three four (mixed one (from_le_bytes w64 (a ∷ b ∷ c ∷ d ∷ e ∷ f ∷ g ∷ h ∷ []))) last rest
+hash_on one two three four last rest = mixed (mixed two three) (mixed four (mixed one last))
 
 -- the hash of a key
 abbrev pub hash_of : List ℕ → ℕ
-hash_of key = hash_on (length key) 0 key
+hash_of key = hash_on (length key) 0 0 0 (last_number key) key
 
 -- the hash of a key, cut to the bits that are used
 abbrev pub cut_hash : ℕ → List ℕ → ℕ

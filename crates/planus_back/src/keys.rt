@@ -1,14 +1,14 @@
 //! What is looked for in a cache: bytes, as they are or as signed numbers.
 ghost use Rattle.std.specs.Prelude.{◌≡◌, ◌↔◌, ℕ, List, map, IsTrue};
 ghost use Rattle.std.specs.Int.{w8, w64, cast_unsigned, from_le_bytes};
-ghost use Rattle.planus_back.specs.Caches.{joined, mixed, hash_of};
+ghost use Rattle.planus_back.specs.Caches.{joined, mixed, last_number, hash_of};
 
 /// Bytes, in whatever form, that can be hashed and compared.
 pub(crate) trait Key {
     ghost bytes_of: { Self → List ℕ };
 
-    // The hash of the bytes: 8 at a time by two hashes in turn, so that neither waits for the other,
-    // and then the rest as one number.
+    // The hash of the bytes: 8 at a time by four hashes in turn, so that none waits for another, and
+    // then the last 8, some of which may have been among these.
     fn hash(&self) -> u64
         ensures { result ≡ hash_of (bytes_of self.now) };
 
@@ -43,6 +43,21 @@ fn join(number: u64, byte: u8) -> u64
     number.wrapping_mul(256).wrapping_add(byte as u64)
 }
 
+// The last 8 bytes as a number, or all of them where they are fewer.
+#[inline]
+fn last_of(bytes: &[u8]) -> u64
+    ensures { result ≡ last_number bytes.now }
+{
+    if let Some(word) = bytes.last_chunk::<8>() {
+        return u64::from_le_bytes(*word);
+    }
+    let mut number = 0;
+    for byte in bytes {
+        number = join(number, *byte);
+    }
+    number
+}
+
 // The byte of a signed number.
 #[inline]
 fn byte_of(number: i8) -> u8
@@ -68,23 +83,35 @@ fn word_of(numbers: &[i8; 8]) -> u64
     ])
 }
 
+// The number of the last 8 bytes which are signed numbers, or of all of them.
+#[inline]
+fn last_of_signed(numbers: &[i8]) -> u64
+    ensures { result ≡ last_number (map (λ number. cast_unsigned w8 number) numbers.now) }
+{
+    if let Some(word) = numbers.last_chunk::<8>() {
+        return word_of(word);
+    }
+    let mut joined = 0;
+    for number in numbers {
+        joined = join(joined, byte_of(*number));
+    }
+    joined
+}
+
 impl<'a> Key for Bytes<'a> {
     ghost bytes_of = { λ key. key.0.now };
 
     #[inline]
     fn hash(&self) -> u64 {
+        let last = last_of(self.0);
         let mut one = self.0.len() as u64;
-        let mut other = 0;
+        let (mut two, mut three, mut four) = (0, 0, 0);
         let mut rest = self.0;
         while let Some((word, behind)) = rest.split_first_chunk::<8>() {
-            (one, other) = (other, mix(one, u64::from_le_bytes(*word)));
+            (one, two, three, four) = (two, three, four, mix(one, u64::from_le_bytes(*word)));
             rest = behind;
         }
-        let mut last = 0;
-        for byte in rest {
-            last = join(last, *byte);
-        }
-        mix(mix(one, last), other)
+        mix(mix(two, three), mix(four, mix(one, last)))
     }
 
     #[inline]
@@ -98,18 +125,15 @@ impl<'a> Key for Signed<'a> {
 
     #[inline]
     fn hash(&self) -> u64 {
+        let last = last_of_signed(self.0);
         let mut one = self.0.len() as u64;
-        let mut other = 0;
+        let (mut two, mut three, mut four) = (0, 0, 0);
         let mut rest = self.0;
         while let Some((word, behind)) = rest.split_first_chunk::<8>() {
-            (one, other) = (other, mix(one, word_of(word)));
+            (one, two, three, four) = (two, three, four, mix(one, word_of(word)));
             rest = behind;
         }
-        let mut last = 0;
-        for number in rest {
-            last = join(last, byte_of(*number));
-        }
-        mix(mix(one, last), other)
+        mix(mix(two, three), mix(four, mix(one, last)))
     }
 
     #[inline]

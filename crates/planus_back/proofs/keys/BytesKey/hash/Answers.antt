@@ -1,23 +1,18 @@
-use Rattle.std.proofs.Common.{◌≡◌, ◌+◌, ◌<◌, ◌++◌, rules, length, drop, sym, ap, ◌∙◌}
-use Rattle.planus_back.specs.Caches.{number_on, mixed, hash_on}
-use Rattle.planus_back.proofs.Hashes.{word_more, few_more, byte_taken, none_left, cut_at, eight_of}
+use Rattle.std.proofs.Common.{◌≡◌, ◌+◌, ◌<◌, ◌++◌, rules, length, sym, ap, ◌∙◌}
+use Rattle.planus_back.specs.Caches.{mixed, last_number, hash_on}
+use Rattle.planus_back.proofs.Hashes.{word_more, few_more, cut_at, eight_of}
 use Rattle.planus_back.proofs.keys.BytesKey.hash.Goals as goal
 
 pub loop-word-preserved : goal.loop-word-preserved
 loop-word-preserved c =
-    let cut : c.loop-word.rest.now ≡ c.in-Some.word.now ++ c.in-Some.behind.now = cut_at c.loop-word.rest.now c.in-Some.word.now c.in-Some.behind.now c.in-Some.ensures.cases.0 c.in-Some.ensures.cases.1 in
-    let eight : length c.in-Some.word.now ≡ 8 = eight_of c.loop-word.rest.now c.in-Some.word.now c.in-Some.behind.now c.in-Some.ensures.cases.0 c.in-Some.ensures.cases.2 in
-    ap (λ h. hash_on c.loop-word.other h c.in-Some.behind.now) (c.mix.ensures ∙ ap (mixed c.loop-word.one) c.from_le_bytes.ensures)
-    ∙ sym (word_more c.loop-word.one c.loop-word.other c.in-Some.word.now c.in-Some.behind.now eight) ∙ ap (hash_on c.loop-word.one c.loop-word.other) (sym cut) ∙ c.loop-word.invariant
-
-pub loop-byte-preserved : goal.loop-byte-preserved
-loop-byte-preserved c =
-    ap (λ n. number_on n (drop (c.loop-byte.byte-index + 1) c.loop-word.rest.now)) c.join-last.ensures
-    ∙ sym (byte_taken c.loop-byte.last c.loop-byte.byte-index c.loop-word.rest.now c.loop-byte-test.true) ∙ c.loop-byte.invariant
+    let l = c.loop-word in let word = c.in-Some.word.now in let behind = c.in-Some.behind.now in let last = last_number c.args.self.now.0.now in
+    let cut : l.rest.now ≡ word ++ behind = cut_at l.rest.now word behind c.in-Some.ensures.cases.0 c.in-Some.ensures.cases.1 in
+    let eight : length word ≡ 8 = eight_of l.rest.now word behind c.in-Some.ensures.cases.0 c.in-Some.ensures.cases.2 in
+    ap (λ h. hash_on l.two l.three l.four h last behind) (c.mix.ensures ∙ ap (mixed l.one) c.from_le_bytes.ensures)
+    ∙ sym (word_more l.one l.two l.three l.four last word behind eight) ∙ ap (hash_on l.one l.two l.three l.four last) (sym cut) ∙ l.invariant
 
 pub returns : goal.returns
 returns c =
-    let few : length c.loop-word.rest.now < 8 = search rules in
-    let last : c.loop-byte.last ≡ number_on 0 c.loop-word.rest.now
-    = ap (number_on c.loop-byte.last) (sym (none_left c.loop-byte.byte-index c.loop-word.rest.now c.loop-byte-test.false)) ∙ c.loop-byte.invariant in
-    c.mix-3.ensures ∙ ap (λ n. mixed n c.loop-word.other) c.mix-2.ensures ∙ ap (λ n. mixed (mixed c.loop-word.one n) c.loop-word.other) last ∙ sym (few_more c.loop-word.one c.loop-word.other c.loop-word.rest.now few) ∙ c.loop-word.invariant
+    let l = c.loop-word in let rest = l.rest.now in let fewer : length rest < 8 = search rules in
+    c.mix-5.ensures ∙ ap (λ n. mixed n c.mix-4.result) c.mix-2.ensures ∙ ap (mixed (mixed l.two l.three)) (c.mix-4.ensures ∙ ap (mixed l.four) (c.mix-3.ensures ∙ ap (mixed l.one) c.last_of-last.ensures))
+    ∙ sym (few_more l.one l.two l.three l.four (last_number c.args.self.now.0.now) rest fewer) ∙ l.invariant
