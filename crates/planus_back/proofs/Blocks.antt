@@ -1,12 +1,12 @@
 -- How writing to a block's places changes the bytes that it holds.
-use Rattle.std.proofs.Common.{◌≡◌, ℕ, suc, ◌+◌, ◌-◌, ◌<◌, ◌≤◌, min, Bool, true, false, List, ◌∷◌, ◌++◌, length, take, drop, replicate, slice_index_or, slice_set, refl, sym, ap, ◌∙◌, inl, inr, arith}
+use Rattle.std.proofs.Common.{◌≡◌, ℕ, ◌+◌, ◌-◌, ◌≤◌, min, Bool, true, false, List, ◌++◌, length, take, drop, replicate, slice_index_or, refl, sym, ap, ◌∙◌, inl, inr, arith}
 use Rattle.std.proofs.lemmas.Bool.{cases_lt}
 use Rattle.std.proofs.lemmas.List.{append_assoc, length-append, length-take, length-drop, length-replicate, replicate-append-replicate, drop-drop, drop_at, take_at}
 use Rattle.core.specs.Mem.Slots.Ownership.{Filled, SameOutside}
 use Rattle.core.specs.Mem.Slots.{slots_items, slots_filled, slots_len}
 use Rattle.core.specs.declared.slots.Slots.{Slots}
 use Rattle.planus_back.specs.Cells.{slots_with_run}
-use Rattle.planus_back.specs.Blocks.{IsBlock, HoldsFrom, Puts, Readies, bytes_from, capacity_of}
+use Rattle.planus_back.specs.Blocks.{HoldsFrom, Puts, Readies, bytes_from, capacity_of}
 use Rattle.planus_back.specs.declared.block.Block.{Block}
 
 -- some zeros more behind others

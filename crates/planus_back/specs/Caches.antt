@@ -33,15 +33,19 @@ last_number key =
     if nat_le 8 (length key) then from_le_bytes w64 (drop (length key - 8) key) else number_on 0 key
 
 -- some bytes more of four hashes, which take turns: 8 at a time; and then, in place of the rest,
--- which are fewer, the last number
+-- which are fewer than 8, the last number
 abbrev pub hash_on : ℕ → ℕ → ℕ → ℕ → ℕ → List ℕ → ℕ
 hash_on one two three four last (a ∷ b ∷ c ∷ d ∷ e ∷ f ∷ g ∷ h ∷ rest) =
     hash_on two three four (mixed one (from_le_bytes w64 (a ∷ b ∷ c ∷ d ∷ e ∷ f ∷ g ∷ h ∷ []))) last rest
-hash_on one two three four last rest = mixed (mixed two three) (mixed four (mixed one last))
+hash_on one two three four last rest =
+    mixed (bit_xor (mixed two three) four) (mixed one last)
 
--- the hash of a key
+-- The hash of a key. The four begin with numbers that have nothing in common, so that keys whose
+-- words stand in another order have other hashes: the length, and multiples of the factor of `mixed`.
 abbrev pub hash_of : List ℕ → ℕ
-hash_of key = hash_on (length key) 0 0 0 (last_number key) key
+hash_of key =
+    hash_on (length key) 11400714819323198485 4354685564936845354 15755400384260043839
+    (last_number key) key
 
 -- the hash of a key, cut to the bits that are used
 abbrev pub cut_hash : ℕ → List ℕ → ℕ

@@ -3,6 +3,15 @@ ghost use Rattle.std.specs.Prelude.{◌≡◌, ◌↔◌, ℕ, List, map, IsTrue
 ghost use Rattle.std.specs.Int.{w8, w64, cast_unsigned, from_le_bytes};
 ghost use Rattle.planus_back.specs.Caches.{joined, mixed, last_number, hash_of};
 
+/// What a hash is multiplied by: an odd number whose bits have no order.
+const FACTOR: u64 = 11400714819323198485;
+
+/// Twice the factor, without what is carried.
+const TWO_FACTORS: u64 = 4354685564936845354;
+
+/// Three times the factor, without what is carried.
+const THREE_FACTORS: u64 = 15755400384260043839;
+
 /// Bytes, in whatever form, that can be hashed and compared.
 pub(crate) trait Key {
     ghost bytes_of: { Self → List ℕ };
@@ -32,7 +41,7 @@ fn mix(hash: u64, number: u64) -> u64
     ensures { result ≡ mixed hash number }
 {
     let both = hash ^ number;
-    (both ^ (both >> 32)).wrapping_mul(11400714819323198485)
+    (both ^ (both >> 32)).wrapping_mul(FACTOR)
 }
 
 // One byte more of a number.
@@ -105,13 +114,13 @@ impl<'a> Key for Bytes<'a> {
     fn hash(&self) -> u64 {
         let last = last_of(self.0);
         let mut one = self.0.len() as u64;
-        let (mut two, mut three, mut four) = (0, 0, 0);
+        let (mut two, mut three, mut four) = (FACTOR, TWO_FACTORS, THREE_FACTORS);
         let mut rest = self.0;
         while let Some((word, behind)) = rest.split_first_chunk::<8>() {
             (one, two, three, four) = (two, three, four, mix(one, u64::from_le_bytes(*word)));
             rest = behind;
         }
-        mix(mix(two, three), mix(four, mix(one, last)))
+        mix(mix(two, three) ^ four, mix(one, last))
     }
 
     #[inline]
@@ -127,13 +136,13 @@ impl<'a> Key for Signed<'a> {
     fn hash(&self) -> u64 {
         let last = last_of_signed(self.0);
         let mut one = self.0.len() as u64;
-        let (mut two, mut three, mut four) = (0, 0, 0);
+        let (mut two, mut three, mut four) = (FACTOR, TWO_FACTORS, THREE_FACTORS);
         let mut rest = self.0;
         while let Some((word, behind)) = rest.split_first_chunk::<8>() {
             (one, two, three, four) = (two, three, four, mix(one, word_of(word)));
             rest = behind;
         }
-        mix(mix(two, three), mix(four, mix(one, last)))
+        mix(mix(two, three) ^ four, mix(one, last))
     }
 
     #[inline]

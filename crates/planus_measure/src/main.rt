@@ -12,7 +12,7 @@ use std::{env, io};
 use works::{OPERATIONS, Work, Works};
 
 /// All works and their names, in the order of the table.
-const ALL: [(&str, Work); 29] = [
+const ALL: [(&str, Work); 30] = [
     ("texts of 3 bytes", Work::Texts(3, 3)),
     ("texts of 100 bytes", Work::Texts(100, 100)),
     ("texts of 0 to 60 bytes", Work::Texts(0, 60)),
@@ -49,6 +49,7 @@ const ALL: [(&str, Work); 29] = [
     ("tables of 2 fields", Work::TwoFields),
     ("tables of 8 fields", Work::EightFields),
     ("clear, weapon, finish", Work::Weapons),
+    ("requests for padding", Work::Requests),
     ("read a weapon", Work::ReadWeapons),
     ("read 2 of 8 fields", Work::ReadFields(2)),
     ("read 8 of 8 fields", Work::ReadFields(8)),

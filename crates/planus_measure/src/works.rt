@@ -5,6 +5,7 @@ ghost use Rattle.std.specs.Prelude.{◌≡◌, length};
 use crate::reads::{self, MONSTER, NUMBERS, WEAPON};
 use crate::tables;
 use planus::{BuildError, Builder, ByteList, Caches, Fill, Offset, Text};
+use planus_back::Promises;
 use std::alloc::{AllocError, Global};
 
 /// The number of operations in a round.
@@ -52,6 +53,8 @@ pub enum Work {
     EightFields,
     /// A clear, a text, a table with it and a number, and a finish.
     Weapons,
+    /// Requests for padding alone.
+    Requests,
     /// A table from its buffer, a number and a text.
     ReadWeapons,
     /// A table of eight numbers from its buffer, and so many of them.
@@ -197,6 +200,29 @@ fn write_parts(builder: &mut Builder, size: usize) -> Result<usize, BuildError> 
     Ok(builder.len())
 }
 
+/// Asks for padding for parts of 1 to 8 bytes in turn, aligned to 8, each in front of those before,
+/// and returns the place of the last.
+fn request_padding() -> Option<usize> {
+    let mut promises = Promises::new();
+    let mut len: usize = 0;
+    for part in 0..OPERATIONS {
+        let size = part % 8 + 1;
+        let (next, padding) = next_padding(promises, len, size)?;
+        promises = next;
+        len = len.saturating_add(padding).saturating_add(size);
+    }
+    Some(len)
+}
+
+/// One request.
+#[inline]
+fn next_padding(promises: Promises, len: usize, size: usize) -> Option<(Promises, usize)> {
+    if len > 1 << 20 {
+        return None;
+    }
+    promises.request(len, size, 7).ok()
+}
+
 /// A builder with no room and no caches.
 fn small_builder(alloc: Global) -> Result<Builder, BuildError> {
     Builder::with_caches(alloc, 0, NO_CACHES)
@@ -269,6 +295,7 @@ impl Works {
             Work::TwoFields => tables::write_two(builder).ok(),
             Work::EightFields => tables::write_eight(builder).ok(),
             Work::Weapons => tables::write_weapons(builder).ok(),
+            Work::Requests => request_padding(),
             Work::ReadWeapons => reads::weapons(bytes).ok(),
             Work::ReadFields(count) => reads::fields(bytes, count).ok(),
             Work::ReadMonsters => reads::monsters(bytes).ok(),

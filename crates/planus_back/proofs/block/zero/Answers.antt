@@ -1,4 +1,4 @@
-use Rattle.std.proofs.Common.{◌+◌, ◌<◌, ◌≤◌, ◌≡◌, Bool, ℕ, List, arith, length, replicate, take, ◌∙◌, sym, subst, ap, false}
+use Rattle.std.proofs.Common.{◌+◌, ◌≤◌, ◌≡◌, ℕ, List, arith, length, replicate, take, ◌∙◌, subst, ap, false}
 use Rattle.std.proofs.lemmas.List.{take-replicate, length-replicate}
 use Rattle.core.specs.Mem.Slots.{slots_items, slots_filled}
 use Rattle.core.specs.Mem.Slots.Ownership.{Filled, SameOutside}
