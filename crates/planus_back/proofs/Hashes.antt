@@ -1,5 +1,5 @@
 -- How a hash takes more bytes.
-use Rattle.std.proofs.Common.{◌≡◌, ℕ, ℤ, zero, suc, ◌+◌, ◌<◌, ◌≤◌, List, [], ◌∷◌, ◌++◌, length, take, drop, map, bit_xor, refl, sym, ap, arith, get_or}
+use Rattle.std.proofs.Common.{◌≡◌, ℕ, ℤ, zero, suc, ◌+◌, ◌<◌, ◌≤◌, List, [], ◌∷◌, ◌++◌, length, take, drop, map, refl, sym, ap, arith, get_or}
 use Rattle.std.proofs.lemmas.Grind.{common_steps}
 use Rattle.std.proofs.lemmas.List.{take-append-drop, drop_more}
 use Rattle.std.specs.Int.{w64, from_le_bytes}
@@ -19,7 +19,7 @@ word_more one two three four last (a ∷ b ∷ c ∷ d ∷ e ∷ f ∷ []) rest 
 word_more one two three four last (a ∷ b ∷ c ∷ d ∷ e ∷ f ∷ g ∷ []) rest eight = absurd (omega (arith, eight))
 
 -- the rest, which are fewer than eight
-pub few_more : (one two three four last : ℕ) (rest : List ℕ) → length rest < 8 → hash_on one two three four last rest ≡ mixed (bit_xor (mixed two three) four) (mixed one last)
+pub few_more : (one two three four last : ℕ) (rest : List ℕ) → length rest < 8 → hash_on one two three four last rest ≡ mixed (mixed (mixed two three) one) (mixed four last)
 few_more one two three four last [] few = refl
 few_more one two three four last (a ∷ []) few = refl
 few_more one two three four last (a ∷ b ∷ []) few = refl

@@ -1,6 +1,6 @@
 -- What a cache does with the distances at one cut hash.
 use Rattle.std.specs.Prelude.{◌≡◌, ℕ, ◌<◌, ◌++◌, List, [], ◌∷◌, map, length, slice_index, Option}
-use Rattle.std.specs.Prelude.{Some, MatchOption, nat_eq, cond, unwrap_or}
+use Rattle.std.specs.Prelude.{Some, MatchOption, box_value, nat_eq, cond, unwrap_or}
 use Rattle.std.specs.Map.{lookup}
 use mathlib.Core.Logic.{◌≢◌}
 use Rattle.planus_back.specs.CacheKeys.{key_at}
@@ -10,7 +10,7 @@ use Rattle.planus_back.specs.declared.distances.Distances.TheVariants.{One, More
 -- the distances, one or more
 abbrev pub distances_in : Distances → List ℕ
 distances_in (One distance) = distance ∷ []
-distances_in (More distances) = distances.items
+distances_in (More distances) = (box_value distances).items
 
 -- a map, without how its lists lie in memory
 abbrev pub listed : List (ℕ × Distances) → List (ℕ × List ℕ)

@@ -37,8 +37,7 @@ last_number key =
 abbrev pub hash_on : ℕ → ℕ → ℕ → ℕ → ℕ → List ℕ → ℕ
 hash_on one two three four last (a ∷ b ∷ c ∷ d ∷ e ∷ f ∷ g ∷ h ∷ rest) =
     hash_on two three four (mixed one (from_le_bytes w64 (a ∷ b ∷ c ∷ d ∷ e ∷ f ∷ g ∷ h ∷ []))) last rest
-hash_on one two three four last rest =
-    mixed (bit_xor (mixed two three) four) (mixed one last)
+hash_on one two three four last rest = mixed (mixed (mixed two three) one) (mixed four last)
 
 -- The hash of a key. The four begin with numbers that have nothing in common, so that keys whose
 -- words stand in another order have other hashes: the length, and multiples of the factor of `mixed`.

@@ -5,11 +5,11 @@ ghost use Rattle.planus_back.specs.Buckets.{distances_in};
 use std::alloc::{AllocError, Global};
 
 /// The distances at which keys of one hash stand. Mostly there is one, which takes no block of
-/// memory for itself.
+/// memory for itself. More are boxed, so that this takes 16 bytes of an entry.
 #[derive(Drop)]
 pub(crate) enum Distances {
     One(u32),
-    More(Vec<u32>),
+    More(Box<Vec<u32>>),
 }
 
 impl Distances {
@@ -23,7 +23,7 @@ impl Distances {
                 let mut more = Vec::with_capacity(alloc, 2)?;
                 more.push(*first)?;
                 more.push(distance)?;
-                *self = Distances::More(more);
+                *self = Distances::More(Box::new(alloc, more)?);
             }
             Distances::More(distances) => distances.push(distance)?,
         }

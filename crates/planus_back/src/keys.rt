@@ -120,7 +120,7 @@ impl<'a> Key for Bytes<'a> {
             (one, two, three, four) = (two, three, four, mix(one, u64::from_le_bytes(*word)));
             rest = behind;
         }
-        mix(mix(two, three) ^ four, mix(one, last))
+        mix(mix(mix(two, three), one), mix(four, last))
     }
 
     #[inline]
@@ -142,7 +142,7 @@ impl<'a> Key for Signed<'a> {
             (one, two, three, four) = (two, three, four, mix(one, word_of(word)));
             rest = behind;
         }
-        mix(mix(two, three) ^ four, mix(one, last))
+        mix(mix(mix(two, three), one), mix(four, last))
     }
 
     #[inline]

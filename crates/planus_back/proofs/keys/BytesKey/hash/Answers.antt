@@ -1,4 +1,4 @@
-use Rattle.std.proofs.Common.{◌≡◌, ◌<◌, ◌++◌, bit_xor, rules, length, sym, ap, ◌∙◌}
+use Rattle.std.proofs.Common.{◌≡◌, ◌<◌, ◌++◌, rules, length, sym, ap, ◌∙◌}
 use Rattle.planus_back.specs.Caches.{mixed, last_number, hash_on}
 use Rattle.planus_back.proofs.Hashes.{word_more, few_more, cut_at, eight_of}
 use Rattle.planus_back.proofs.keys.BytesKey.hash.Goals as goal
@@ -14,5 +14,5 @@ loop-word-preserved c =
 pub returns : goal.returns
 returns c =
     let l = c.loop-word in let rest = l.rest.now in let fewer : length rest < 8 = search rules in
-    c.mix-4.ensures ∙ (λ k. mixed (bit_xor (c.mix-2.ensures k) l.four) (c.mix-3.ensures k)) ∙ ap (λ n. mixed (bit_xor (mixed l.two l.three) l.four) (mixed l.one n)) c.last_of-last.ensures
+    c.mix-5.ensures ∙ (λ k. mixed (c.mix-3.ensures k) (c.mix-4.ensures k)) ∙ (λ k. mixed (mixed (c.mix-2.ensures k) l.one) (mixed l.four (c.last_of-last.ensures k)))
     ∙ sym (few_more l.one l.two l.three l.four (last_number c.args.self.now.0.now) rest fewer) ∙ l.invariant

@@ -1,4 +1,4 @@
-use Rattle.std.proofs.Common.{◌≡◌, ℤ, ◌<◌, ◌++◌, bit_xor, arith, rules, length, map, sym, ap, ◌∙◌}
+use Rattle.std.proofs.Common.{◌≡◌, ℤ, ◌<◌, ◌++◌, arith, rules, length, map, sym, ap, ◌∙◌}
 use Rattle.std.proofs.lemmas.List.{map-append, length-map}
 use Rattle.std.specs.Int.{w8, cast_unsigned}
 use Rattle.planus_back.specs.Caches.{mixed, last_number, hash_on}
@@ -20,5 +20,5 @@ returns c =
     let byte = λ (number : ℤ). cast_unsigned w8 number in
     let l = c.loop-word in let rest = l.rest.now in let fewer : length rest < 8 = search rules in
     let few : length (map byte rest) < 8 = let same = length-map rest byte in omega (arith, fewer, same) in
-    c.mix-4.ensures ∙ (λ k. mixed (bit_xor (c.mix-2.ensures k) l.four) (c.mix-3.ensures k)) ∙ ap (λ n. mixed (bit_xor (mixed l.two l.three) l.four) (mixed l.one n)) c.last_of_signed-last.ensures
+    c.mix-5.ensures ∙ (λ k. mixed (c.mix-3.ensures k) (c.mix-4.ensures k)) ∙ (λ k. mixed (mixed (c.mix-2.ensures k) l.one) (mixed l.four (c.last_of_signed-last.ensures k)))
     ∙ sym (few_more l.one l.two l.three l.four (last_number (map byte c.args.self.now.0.now)) (map byte rest) few) ∙ l.invariant
