@@ -1,0 +1,38 @@
+-- What is written for a list of fields.
+use Rattle.std.specs.Prelude.{ℕ, List, Ok, Err, ◌⊎◌, None}
+use Rattle.planus_read.specs.Values.{Value, Field}
+use Rattle.planus_write.specs.Kept.{IsKept}
+use Rattle.planus_write.specs.Parts.{Named}
+use Rattle.planus_write.specs.Past.{Past}
+use Rattle.planus_write.specs.Placing.{Outcome, then_does}
+use Rattle.planus_write.specs.State.{State}
+use Rattle.planus_write.specs.Tables.{body_bytes, declared_of}
+use Rattle.planus_write.specs.TableWriting.{AnswersTable}
+use Rattle.planus_write.specs.declared.offset.Offset.{Offset}
+
+-- One field is prepared, and then the others; both answers are parts of one. A refusal of the first
+-- is that of both.
+abbrev pub PreparesBoth : {A B C : Type 0} → (C → A) → (C → B) → Outcome A → Outcome B → Outcome C
+PreparesBoth {A} {B} {C} of_first of_rest first rest old (Ok prepared) new =
+    (between : State) × first old (Ok (of_first prepared)) between
+    × rest between (Ok (of_rest prepared)) new
+PreparesBoth {A} {B} {C} of_first of_rest first rest old (Err error) new =
+    first old (Err error) new
+    ⊎ ((a : A) × (between : State) × first old (Ok a) between × rest between (Err error) new)
+
+-- The table of these fields was written, and its distance is answered; or it was refused.
+abbrev pub AnswersFields : {T : Type 0} → List (ℕ × Field) → Outcome (Offset T)
+AnswersFields fields = AnswersTable (declared_of fields) (λ place. body_bytes place fields)
+
+-- The fields were prepared, and then their table was written; or one of these was refused.
+abbrev pub CreatesTable : {A T : Type 0} → Outcome A → (A → List (ℕ × Field)) → Outcome (Offset T)
+CreatesTable prepare there = then_does prepare (λ prepared. AnswersFields (there prepared))
+
+-- named by one distance
+abbrev pub named_at : ℕ → Named
+named_at distance = record { distance = distance; tags = None }
+
+-- what was kept before is still kept
+abbrev pub StillKept : Past → Past → Type 0
+StillKept before after =
+    (value : Value) (named : Named) → IsKept before value named → IsKept after value named

@@ -1,0 +1,15 @@
+//! What stands in a table as a field.
+ghost use Rattle.planus_read.specs.Values.{Field};
+ghost use Rattle.planus_tables.specs.TableFields.{IsItem};
+
+use planus_write::{Primitive, WriteAsPrimitive};
+
+/// What is written in place as a `P`, and is a field of the format: a plain item, or a reference.
+pub trait TableItem<P: Primitive>: WriteAsPrimitive<P> {
+    /// The field.
+    ghost field: { Self → Field };
+
+    /// It has the size, the alignment and the bytes of the field.
+    ghost is_item: { (value : Self)
+        → IsItem P.SIZE P.ALIGNMENT (Self.leaves value) (Self.reach value) (field value) };
+}

@@ -1,0 +1,103 @@
+//! The fields of a table, prepared.
+ghost use Rattle.std.specs.Prelude.{◌≡◌, ◌≤◌, ◌+◌, ℕ, List, [], ◌∷◌, ◌++◌, length, max, IsTrue};
+ghost use Rattle.std.specs.List.{AllByRecursion};
+ghost use Rattle.planus_fields.specs.Fields.{reach_if};
+ghost use Rattle.planus_read.specs.Values.{Field};
+ghost use Rattle.planus_write.specs.ObjectWriting.{body_of, wrote};
+ghost use Rattle.planus_write.specs.Tables.{Declared, IsField, declared_of, body_size};
+ghost use Rattle.planus_write.specs.Tables.{body_bytes, total_size};
+ghost use Rattle.planus_write.specs.TableWriting.{WasTold};
+ghost use Rattle.planus_tables.specs.TableFields.{field_in, IsUnused};
+ghost use Rattle.planus_tables.specs.TableRules.{Among, has_slots};
+ghost use Rattle.planus_tables.specs.RecordLaws.{all_stand, all_among};
+
+use crate::fields::FieldAt;
+use crate::item::TableItem;
+use crate::put::{declare_if, write_if};
+use planus_write::{ObjectWriter, Primitive, TableWriter};
+
+/// The fields of a table with `N` bytes for its vtable, prepared: `()`, or one field and the others.
+///
+/// The ghost member `all` has the entries of all fields that may be there, and `there` those fields
+/// that are. `reach` is how far from the end of the buffer they refer, in bytes.
+pub trait PreparedFields<const N: usize> {
+    ghost all: { List Declared };
+
+    ghost there: { Self → List (ℕ × Field) };
+
+    ghost reach: { Self → ℕ };
+
+    /// Declares the fields that are there.
+    fn declare(&self, writer: &mut TableWriter<N>)
+        requires small { N ≤ 65534 }
+        requires slots { IsTrue (has_slots N all) }
+        requires unused { AllByRecursion (λ one. IsUnused writer.old one.slot) all }
+        requires fits { writer.old.object_size + total_size all ≤ 65535 }
+        ensures told { (fields : List (ℕ × Field)) → WasTold writer.old (declared_of fields)
+            → WasTold writer.new (declared_of (fields ++ there self.now)) };
+
+    /// Writes the fields that are there, behind what is written.
+    fn write(&self, writer: &mut ObjectWriter<'_>)
+        requires room { body_size (there self.now) ≤ (body_of writer.old).remaining }
+        requires reach { reach self.now + body_size (there self.now) ≤ (body_of writer.old).place }
+        ensures { body_of writer.new ≡ wrote (body_size (there self.now))
+            (λ place. body_bytes place (there self.now)) (body_of writer.old) };
+
+    /// They are fields of the format, where what they refer to lies in the bytes before.
+    ghost stand: { (fields : Self) (before : ℕ) → reach fields ≤ before
+        → AllByRecursion (λ entry. IsField before entry.1) (there fields) };
+
+    /// Those that are there are among all.
+    ghost among: { (fields : Self) → Among (declared_of (there fields)) all };
+}
+
+impl<const N: usize> PreparedFields<N> for () {
+    ghost all = { [] };
+
+    ghost there = { λ fields. [] };
+
+    ghost reach = { λ fields. 0 };
+
+    #[inline]
+    fn declare(&self, _writer: &mut TableWriter<N>) {}
+
+    #[inline]
+    fn write(&self, _writer: &mut ObjectWriter<'_>) {}
+
+    ghost stand = { λ fields before reached. tt };
+
+    ghost among = { λ fields. tt };
+}
+
+impl<
+    const N: usize,
+    const SLOT: usize,
+    P: Primitive,
+    A: TableItem<P>,
+    R: PreparedFields<N>,
+> PreparedFields<N> for (FieldAt<SLOT, P, Option<A>>, R) {
+    ghost all = { record { slot = SLOT; size = P.SIZE; alignment = P.ALIGNMENT } ∷ R.all };
+
+    ghost there = { λ fields. field_in SLOT A.field fields.0.value ++ R.there fields.1 };
+
+    ghost reach = { λ fields. max (reach_if A.reach fields.0.value) (R.reach fields.1) };
+
+    #[inline]
+    fn declare(&self, writer: &mut TableWriter<N>) {
+        declare_if::<P, A, N>(writer, SLOT, &self.0.value);
+        self.1.declare(writer);
+    }
+
+    #[inline]
+    fn write(&self, writer: &mut ObjectWriter<'_>) {
+        write_if::<P, A>(writer, &self.0.value);
+        self.1.write(writer);
+    }
+
+    ghost stand = { λ fields before reached.
+        all_stand SLOT A.field A.reach A.leaves P.SIZE P.ALIGNMENT A.is_item fields.0.value
+        (R.there fields.1) before (R.reach fields.1) reached (R.stand fields.1 before) };
+
+    ghost among = { λ fields. all_among SLOT A.field A.reach A.leaves P.SIZE P.ALIGNMENT A.is_item
+        fields.0.value (R.there fields.1) R.all (R.among fields.1) };
+}

@@ -1,0 +1,114 @@
+//! Tables, read in place.
+ghost use Rattle.std.specs.Prelude.{◌≡◌, ℕ, List, codes, ⊤};
+ghost use Rattle.std.proofs.Common.{lit≤};
+ghost use Rattle.planus_read.specs.Clauses.{Answer, shown};
+ghost use Rattle.planus_read.specs.Located.{Located, Required};
+ghost use Rattle.planus_read.specs.Reading.{table_reading};
+ghost use Rattle.planus_read.specs.Tables.{FieldAnswer, table_start};
+ghost use Rattle.planus_tables.specs.Views.{ShowsView};
+
+use planus_read::errors::ErrorKind;
+use planus_read::table_reader::Table;
+use planus_read::{
+    Error, ReadAsRoot, ReadError, Result, SliceWithStartOffset, Stride, TableRead, VectorReadInner,
+};
+use std::alloc::AllocError;
+use std::marker::PhantomData;
+
+/// The kind of a table.
+pub trait TableKind {
+    /// Its name, under which errors come.
+    ghost name: { List ℕ };
+
+    /// Returns its name.
+    fn name() -> &'static str
+        ensures { result.now ≡ name };
+}
+
+/// A table of a kind, in a buffer.
+pub struct TableRef<'a, K> {
+    pub table: Table<'a>,
+    pub of: PhantomData<K>,
+}
+
+impl<'a, K> Clone for TableRef<'a, K> {
+    ghost is_clone = { λ view copy. copy ≡ view };
+
+    ghost is_infallible = { λ _. ⊤ };
+
+    #[inline]
+    fn clone(&self) -> std::result::Result<Self, AllocError> {
+        Ok(*self)
+    }
+}
+
+impl<'a, K> Copy for TableRef<'a, K> {}
+
+impl<'a, K> TableRef<'a, K> {
+    // The table, as one of this kind.
+    fn of_table(table: Table<'a>) -> TableRef<'a, K>
+        ensures { result.table ≡ table.entry }
+    {
+        TableRef {
+            table,
+            of: PhantomData,
+        }
+    }
+}
+
+impl<'a, K> TableRead<'a> for TableRef<'a, K> {
+    ghost reads = { λ S start f r. Answer (shown (ShowsView S start) (table_reading S f)) r };
+
+    fn from_buffer(
+        buffer: SliceWithStartOffset<'a>,
+        offset: usize,
+    ) -> std::result::Result<TableRef<'a, K>, ErrorKind> {
+        let table = Table::from_buffer(buffer, offset)?;
+        Ok(TableRef::of_table(table))
+    }
+}
+
+impl<'a, K: TableKind> ReadAsRoot<'a> for TableRef<'a, K> {
+    ghost reads_root = { λ S r.
+        Located (Answer (shown (ShowsView S 0) (table_reading S 0)))
+        K.name (codes "read_as_root") 0 r };
+
+    fn read_as_root(slice: &'a [u8]) -> Result<TableRef<'a, K>> {
+        let whole = SliceWithStartOffset::new(slice, 0);
+        match <TableRef<'a, K> as TableRead<'a>>::from_buffer(whole, 0) {
+            Ok(view) => Ok(view),
+            Err(kind) => Err(kind.with_error_location(K::name(), "read_as_root", 0)),
+        }
+    }
+}
+
+impl<'a, K> Stride for TableRef<'a, K> {
+    ghost STRIDE = { 4 };
+
+    ghost is_positive = { lit≤ tt };
+
+    fn stride() -> usize
+        ensures { result ≡ 4 }
+    {
+        4
+    }
+}
+
+impl<'a, K> ReadError for TableRef<'a, K> {
+    type Error = Error;
+}
+
+impl<'a, K: TableKind> VectorReadInner<'a> for TableRef<'a, K> {
+    ghost gives = { λ S start f r.
+        Located (Answer (shown (ShowsView S start) (table_reading S f)))
+        K.name (codes "get") start r };
+
+    fn from_buffer(buffer: SliceWithStartOffset<'a>, offset: usize) -> Result<TableRef<'a, K>> {
+        match <TableRef<'a, K> as TableRead<'a>>::from_buffer(buffer, offset) {
+            Ok(view) => Ok(view),
+            Err(kind) => {
+                Err(kind.with_error_location(K::name(), "get", buffer.offset_from_start()))
+            }
+        }
+    }
+}
