@@ -91,12 +91,3 @@ optional_is_lawful {X} {A} {may} {outcome} {reach} lawful =
     stays : (x : Option X) (old new : State) → Grows old new → MayIf may x old → MayIf may x new
     stays None old new grows may = tt
     stays (Some x) old new grows may = lawful.stays x old new grows may
-
--- what is answered as it is, and refers to nothing, is lawful
-pub scalar_is_lawful : {A : Type 0} {reach : A → ℕ} → ((x : A) → reach x ≡ 0)
-    → IsLawful {X = A} (λ x old. ⊤) Answers reach
-scalar_is_lawful {A} {reach} nothing = record {
-  grows = λ x old answer new may done. unchanged_grows old new done.1;
-  reaches = λ x old answer new may done. (let none = nothing answer in omega (arith, none));
-  stays = λ x old new grows may. tt;
-}

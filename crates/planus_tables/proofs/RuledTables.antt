@@ -20,9 +20,9 @@ use Rattle.planus_write.proofs.Standing.{values_are_kept}
 use Rattle.planus_write.proofs.Staying.{kept_stays}
 use Rattle.planus_tables.specs.TableFields.{IsUnused}
 use Rattle.planus_tables.specs.TableRules.{is_apart, has_slots, is_falling, can_hold, Among}
-use Rattle.planus_tables.specs.Records.{CreatesTable, StillKept, named_at}
+use Rattle.planus_tables.specs.Preparing.{CreatesTable}
 use Rattle.planus_write.specs.Laws.{extends_on}
-use Rattle.planus_tables.specs.Contents.{Content, FieldsAre, there_of, Comes, TableIsKept}
+use Rattle.planus_tables.specs.Contents.{Content, FieldsAre, there_of, Comes, StillKept, TableIsKept, named_at}
 use Rattle.planus_tables.specs.ContentLaws.{fields_stay}
 use Rattle.planus_tables.proofs.FieldLists.{blank_unused}
 

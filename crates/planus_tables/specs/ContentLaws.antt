@@ -1,26 +1,36 @@
 -- The laws of what fields hold.
-use Rattle.std.specs.Prelude.{◌≡◌, ℕ, ◌==◌, List, [], ◌∷◌, ◌++◌, length, map, Bool, if◌then◌else◌, Option, Some, None, Ok, ⊤}
-use Rattle.std.specs.List.{AllByRecursion}
-use Rattle.std.proofs.Common.{refl, subst, sym, ap}
-use Rattle.std.proofs.lemmas.Bool.{ne_eqb, eq-eqb}
-use Rattle.planus_read.specs.Values.{Value, Field, reference, text, plain_list}
-use Rattle.planus_fields.specs.Fields.{MayIf, PreparesIf, AlwaysWritten, LeftOutWhere}
-use Rattle.planus_write.specs.Items.{plain_item}
+use Rattle.std.specs.Prelude.{◌≡◌, ℕ, List, [], ◌∷◌, ◌++◌, length, Bool, true, false, if◌then◌else◌, Option, Some, None, Ok, ⊤}
+use Rattle.std.specs.Bool.{Decides}
+use Rattle.std.proofs.Common.{refl, subst, sym}
+use Rattle.planus_read.specs.Values.{Value, Field, reference, text, byte_list}
+use Rattle.planus_fields.specs.Fields.{MayIf, PreparesIf, LeftOutWhere}
 use Rattle.planus_write.specs.Kept.{IsKept}
 use Rattle.planus_write.specs.Laws.{extends_on, extends_itself}
-use Rattle.planus_write.specs.ListLaws.{ready_list_is_put, plain_items_are}
-use Rattle.planus_write.specs.Parts.{IsWritten, entries_of, list_entries, last_of, Named, named_by}
-use Rattle.planus_write.specs.Past.{Past, Entry}
+use Rattle.planus_write.specs.Parts.{IsWritten, entries_of, last_of, Named, named_by}
+use Rattle.planus_write.specs.Past.{Past}
 use Rattle.planus_write.specs.Placing.{Outcome}
-use Rattle.planus_write.specs.Preparing.{Answers, IsLawful, IsLayout, WritesEntries, WritesList, WritesText}
+use Rattle.planus_write.specs.Preparing.{Answers, IsLawful, WritesEntries, WritesByteList, WritesText}
 use Rattle.planus_write.specs.State.{State, IsPast, Extends, Grows}
 use Rattle.planus_write.specs.declared.offset.Offset.{Offset}
 use Rattle.planus_write.proofs.PutEntries.{entries_put}
 use Rattle.planus_write.proofs.Standing.{values_are_kept}
 use Rattle.planus_write.proofs.Staying.{kept_stays}
-use Rattle.planus_tables.specs.Contents.{Content, item, value, written, FieldIs, HoldsIf, FieldsAre, content_in, there_of, Comes, PreparesContent, PreparesContents, unless, holds_if}
-use Rattle.planus_tables.specs.Records.{named_at, PreparesBoth}
+use Rattle.planus_tables.specs.Contents.{Content, item, value, values, written, named_at, AllKept, FieldIs, HoldsIf}
+use Rattle.planus_tables.specs.Contents.{FieldsAre, content_in, there_of, Comes, unless, holds_if}
+use Rattle.planus_tables.specs.Contents.{PreparesContent, PreparesOptional, PreparesContents}
+use Rattle.planus_tables.specs.Preparing.{PreparesBoth}
 use Rattle.planus_tables.specs.TableFields.{field_in}
+
+-- values that are kept still are later
+pub all_stay : (before after : Past) (contents : List Value) (distances : List ℕ)
+    → Extends before after → AllKept before contents distances → AllKept after contents distances
+all_stay before after [] [] extends kept = tt
+all_stay before after (content ∷ contents) (distance ∷ distances) extends kept = (
+  kept_stays before after content (named_at distance) extends kept.0,
+  all_stay before after contents distances extends kept.1,
+)
+all_stay before after [] (distance ∷ distances) extends kept = kept
+all_stay before after (content ∷ contents) [] extends kept = kept
 
 -- what a field holds it still holds later
 pub field_stays : (before after : Past) (content : Content) (field : Field) → Extends before after
@@ -28,6 +38,15 @@ pub field_stays : (before after : Past) (content : Content) (field : Field) → 
 field_stays before after (item content) field extends is = is
 field_stays before after (value content) field extends is =
     (is.0, is.1, kept_stays before after content (named_at is.0) extends is.2)
+field_stays before after (values contents) field extends is = (
+  is.0,
+  is.1,
+  (
+    is.2.0,
+    kept_stays before after _ (named_at is.0) extends is.2.1,
+    all_stay before after contents is.2.0 extends is.2.2,
+  ),
+)
 field_stays before after (written distance) field extends is = is
 
 holds_stays : {A : Type 0} (before after : Past) (content : Option Content) (field : A → Field)
@@ -61,8 +80,8 @@ one_more past slot None field (Some prepared) contents fields holds are = elim h
 one_more past slot (Some content) field None contents fields holds are = elim holds [ ]
 
 -- nothing is done, so that what holds of every past holds
-stays_there : (past : Past) (old new : State) (Holds : Past → Type 0) → new ≡ old → IsPast old past
-    → Holds past → Comes past new Holds
+pub stays_there : (past : Past) (old new : State) (Holds : Past → Type 0) → new ≡ old
+    → IsPast old past → Holds past → Comes past new Holds
 stays_there past old new Holds same is_past holds =
     (past, subst (λ state. IsPast state past) (sym same) is_past, extends_itself past, holds)
 
@@ -82,7 +101,7 @@ pub both_prepared : {X Y Z A B C : Type 0} {may_first : X → State → Type 0}
     (contents : Y → List (ℕ × Option Content)) (there : B → List (ℕ × Field))
     → IsLawful may_first first first_reach
     → ((y : Y) (old new : State) → Grows old new → may_rest y old → may_rest y new)
-    → PreparesContent may_first first content field → PreparesContents may_rest rest contents there
+    → PreparesOptional may_first first content field → PreparesContents may_rest rest contents there
     → PreparesContents {X = Z} (λ fields old. may_first (x_of fields) old × may_rest (y_of fields) old)
     (λ fields old answer new. PreparesBoth of_first of_rest (first (x_of fields)) (rest (y_of fields)) old answer new)
     (λ fields. (slot, content (x_of fields)) ∷ contents (y_of fields))
@@ -105,46 +124,72 @@ both_prepared slot x_of y_of of_first of_rest content field contents there first
           ));
     }
 
--- what is answered as it is, always
-pub ready_prepared : {X : Type 0} {may : X → State → Type 0} (content : X → Content)
-    (field : X → Field) → ((x : X) (past : Past) → FieldIs past (content x) (field x))
-    → PreparesContent may (λ x old answer new. AlwaysWritten (Answers x) old answer new)
-    (λ x. Some (content x)) field
-ready_prepared {X} {may} content field is = record { comes = prepared }
-  where
-    prepared : (x : X) (old : State) (prepared : Option X) (new : State) (past : Past) → may x old
-        → AlwaysWritten (Answers x) old (Ok prepared) new → IsPast old past
-        → Comes past new (λ after. HoldsIf after (Some (content x)) field prepared)
-    prepared x old None new past may done is_past = elim done.0 [ ]
-    prepared x old (Some found) new past may done is_past =
-        let same : x ≡ found = cc in
-        stays_there past old new (λ after. FieldIs after (content x) (field found)) done.1.1 is_past
-        (subst (λ (y : X). FieldIs past (content x) (field y)) same (is x past))
+-- what is prepared already
+pub ready_prepared : {A : Type 0} {may : A → State → Type 0} (content : A → Content)
+    (field : A → Field) → ((a : A) (past : Past) → FieldIs past (content a) (field a))
+    → PreparesContent may Answers content field
+ready_prepared {A} {may} content field is = record {
+  comes = λ a old prepared new past may done is_past.
+      (let same : a ≡ prepared = cc in
+      stays_there past old new (λ after. FieldIs after (content a) (field prepared)) done.1 is_past
+      (subst (λ (b : A). FieldIs past (content a) (field b)) same (is a past)));
+}
 
--- a number that is left out where it is the default
-pub default_prepared : {may : ℕ → State → Type 0} (default : ℕ) (content : ℕ → Content)
-    (field : ℕ → Field) → ((x : ℕ) (past : Past) → FieldIs past (content x) (field x))
-    → PreparesContent may (λ x old answer new. LeftOutWhere (x ≡ default) (Answers x) old answer new)
-    (λ x. unless (x == default) (Some (content x))) field
-default_prepared {may} default content field is = record { comes = prepared }
+-- a value that is left out where a test says so
+pub left_out_prepared : {X A : Type 0} {may : X → State → Type 0} {outcome : X → Outcome A}
+    {content : X → Content} {field : A → Field} (is_default : X → Bool) (Default : X → Type 0)
+    → ((x : X) → Decides (is_default x) (Default x)) → PreparesContent may outcome content field
+    → PreparesOptional may (λ x old answer new. LeftOutWhere (Default x) (outcome x) old answer new)
+    (λ x. unless (is_default x) (Some (content x))) field
+left_out_prepared {X} {A} {may} {outcome} {content} {field} is_default Default decides lawful =
+    record { comes = comes }
   where
-    prepared : (x : ℕ) (old : State) (prepared : Option ℕ) (new : State) (past : Past) → may x old
-        → LeftOutWhere (x ≡ default) (Answers x) old (Ok prepared) new → IsPast old past
-        → Comes past new (λ after. HoldsIf after (unless (x == default) (Some (content x))) field prepared)
-    prepared x old None new past may done is_past =
-        subst (λ (b : Bool). Comes past new (λ after. HoldsIf after (if b then None else Some (content x)) field None))
-        (sym (eq-eqb x default done.0)) (stays_there past old new (λ after. ⊤) done.1 is_past tt)
-    prepared x old (Some found) new past may done is_past =
-        let same : x ≡ found = cc in
-        subst (λ (b : Bool). Comes past new (λ after. HoldsIf after (if b then None else Some (content x)) field (Some found)))
-        (sym (ne_eqb x default done.0))
-        (stays_there past old new (λ after. FieldIs after (content x) (field found)) done.1.1 is_past
-        (subst (λ (y : ℕ). FieldIs past (content x) (field y)) same (is x past)))
+    holds : (x : X) (prepared : Option A) (new : State) (past : Past) (b : Bool) → is_default x ≡ b
+        → Comes past new (λ after. HoldsIf after (unless b (Some (content x))) field prepared)
+        → Comes past new (λ after. HoldsIf after (unless (is_default x) (Some (content x))) field prepared)
+    holds x prepared new past b is there =
+        subst (λ (b : Bool). Comes past new (λ after. HoldsIf after (unless b (Some (content x))) field prepared))
+        (sym is) there
+
+    written : (x : X) (old : State) (found : A) (new : State) (past : Past) (b : Bool) → may x old
+        → is_default x ≡ b → (Default x → ⊥) → outcome x old (Ok found) new → IsPast old past
+        → Comes past new (λ after. HoldsIf after (unless (is_default x) (Some (content x))) field (Some found))
+    written x old found new past false may is other done is_past =
+        holds x (Some found) new past false is (lawful.comes x old found new past may done is_past)
+    written x old found new past true may is other done is_past =
+        absurd (other ((decides x).0 is))
+
+    comes : (x : X) (old : State) (prepared : Option A) (new : State) (past : Past) → may x old
+        → LeftOutWhere (Default x) (outcome x) old (Ok prepared) new → IsPast old past
+        → Comes past new (λ after. HoldsIf after (unless (is_default x) (Some (content x))) field prepared)
+    comes x old None new past may done is_past =
+        holds x None new past true ((decides x).1 done.0)
+        (stays_there past old new (λ after. ⊤) done.1 is_past tt)
+    comes x old (Some found) new past may done is_past =
+        written x old found new past (is_default x) may refl done.0 done.1 is_past
+
+-- one that is never left out
+pub always_prepared : {X A : Type 0} {may : X → State → Type 0} {outcome : X → Outcome A}
+    {content : X → Content} {field : A → Field} → PreparesContent may outcome content field
+    → PreparesOptional may (λ x old answer new. LeftOutWhere ⊥ (outcome x) old answer new)
+    (λ x. Some (content x)) field
+always_prepared lawful =
+    left_out_prepared (λ x. false) (λ x. ⊥) (λ x. ((λ same. cc), (λ none. absurd none))) lawful
+
+-- one that is always left out
+pub never_prepared : {X A : Type 0} {may : X → State → Type 0} {field : A → Field}
+    → PreparesOptional {X = X} may (λ x old answer new. Answers None old answer new) (λ x. None) field
+never_prepared {X} {A} {may} {field} = record {
+  comes = λ x old prepared new past may done is_past.
+      (let same : None ≡ prepared = cc in
+      subst (λ (prepared : Option A). Comes past new (λ after. HoldsIf after None field prepared)) same
+      (stays_there past old new (λ after. ⊤) done.1 is_past tt));
+}
 
 -- a field that may be absent
 pub optional_prepared : {X A : Type 0} {may : X → State → Type 0} {outcome : X → Outcome (Option A)}
-    {content : X → Option Content} {field : A → Field} → PreparesContent may outcome content field
-    → PreparesContent (λ x old. MayIf may x old) (λ x old answer new. PreparesIf outcome x old answer new)
+    {content : X → Option Content} {field : A → Field} → PreparesOptional may outcome content field
+    → PreparesOptional (λ x old. MayIf may x old) (λ x old answer new. PreparesIf outcome x old answer new)
     (λ x. holds_if content x) field
 optional_prepared {X} {A} {may} {outcome} {content} {field} lawful = record { comes = prepared }
   where
@@ -156,8 +201,16 @@ optional_prepared {X} {A} {may} {outcome} {content} {field} lawful = record { co
     prepared None old (Some found) new past may done is_past = cc
     prepared (Some x) old found new past may done is_past = lawful.comes x old found new past may done is_past
 
+-- what is prepared as something else
+pub prepared_as : {X Y A : Type 0} {may : X → State → Type 0} {outcome : X → Outcome (Option A)}
+    {content : X → Option Content} {field : A → Field} (of : Y → X)
+    → PreparesOptional may outcome content field
+    → PreparesOptional (λ y old. may (of y) old) (λ y old answer new. outcome (of y) old answer new)
+    (λ y. content (of y)) field
+prepared_as of lawful = record { comes = λ y. lawful.comes (of y) }
+
 -- a value whose entries are put down
-value_added : (content : Value) (old : State) (got : List ℕ) (new : State) (past : Past)
+pub value_added : (content : Value) (old : State) (got : List ℕ) (new : State) (past : Past)
     → WritesEntries (entries_of content) [] old (Ok got) new → IsPast old past
     → IsWritten (length past.written.bytes) content
     → named_by content got ≡ record { distance = last_of got; tags = None }
@@ -169,63 +222,22 @@ value_added content old got new past writes is_past is_written named =
 
 -- a text
 pub text_prepared : {T X : Type 0} {may : X → State → Type 0} (bytes : X → List ℕ)
-    → PreparesContent {A = Offset T} may
-    (λ x old answer new. AlwaysWritten (WritesText (bytes x)) old answer new)
-    (λ x. Some (value (text (bytes x)))) (λ offset. reference offset.distance)
-text_prepared {T} {X} {may} bytes = record { comes = prepared }
-  where
-    prepared : (x : X) (old : State) (prepared : Option (Offset T)) (new : State) (past : Past)
-        → may x old → AlwaysWritten (WritesText (bytes x)) old (Ok prepared) new → IsPast old past
-        → Comes past new (λ after. HoldsIf after (Some (value (text (bytes x)))) (λ offset. reference offset.distance) prepared)
-    prepared x old None new past may done is_past = elim done.0 [ ]
-    prepared x old (Some offset) new past may done is_past =
-        let added = value_added (text (bytes x)) old (offset.distance ∷ []) new past
-        (offset.distance, new, done.1, (refl, refl)) is_past tt refl in
-        (added.0, added.1, added.2, (offset.distance, refl, added.3))
+    → PreparesContent {A = Offset T} may (λ x old answer new. WritesText (bytes x) old answer new)
+    (λ x. value (text (bytes x))) (λ offset. reference offset.distance)
+text_prepared bytes = record {
+  comes = λ x old offset new past may done is_past.
+      (let added = value_added (text (bytes x)) old (offset.distance ∷ []) new past
+      (offset.distance, new, done, (refl, refl)) is_past tt refl in
+      (added.0, added.1, added.2, (offset.distance, refl, added.3)));
+}
 
--- each number has its bytes
-all_sized : {X : Type 0} (bytes : X → List ℕ) (size : ℕ) → ((x : X) → length (bytes x) ≡ size)
-    → (xs : List X) → AllByRecursion (λ item. length item ≡ size) (map bytes xs)
-all_sized bytes size sized [] = tt
-all_sized bytes size sized (x ∷ xs) = (sized x, all_sized bytes size sized xs)
-
--- a list of plain items
-pub list_prepared : {T Y X : Type 0} {may : X → State → Type 0} (bytes : Y → List ℕ)
-    (size alignment : ℕ) → IsLayout size alignment → ((y : Y) → length (bytes y) ≡ size)
-    → (items : X → List Y)
-    → PreparesContent {A = Offset T} may
-    (λ x old answer new. AlwaysWritten (WritesList Answers (λ y. plain_item (bytes y)) size alignment (items x)) old answer new)
-    (λ x. Some (value (plain_list size alignment (map bytes (items x))))) (λ offset. reference offset.distance)
-list_prepared {T} {Y} {X} {may} bytes size alignment layout sized items = record { comes = prepared }
-  where
-    list : X → Value
-    list x = plain_list size alignment (map bytes (items x))
-
-    prepared : (x : X) (old : State) (prepared : Option (Offset T)) (new : State) (past : Past)
-        → may x old
-        → AlwaysWritten (WritesList Answers (λ y. plain_item (bytes y)) size alignment (items x)) old (Ok prepared) new
-        → IsPast old past
-        → Comes past new (λ after. HoldsIf after (Some (value (plain_list size alignment (map bytes (items x))))) (λ offset. reference offset.distance) prepared)
-    prepared x old None new past may done is_past = elim done.0 [ ]
-    prepared x old (Some offset) new past may done is_past =
-        let content = plain_list size alignment (map bytes (items x)) in
-        let entries : list_entries size alignment (map (λ y. plain_item (bytes y)) (items x)) ≡ entries_of content
-        = ap (list_entries size alignment) (plain_items_are bytes (items x)) in
-        let put = ready_list_is_put (λ y. plain_item (bytes y)) size alignment (items x) old offset new done.1 in
-        let added = value_added content old put.0 new past
-        (subst (λ (all : List Entry). WritesEntries all [] old (Ok put.0) new) entries put.1) is_past
-        (record {
-          sizes = all_sized bytes size sized (items x);
-          positive = layout.positive;
-          multiple = layout.multiple;
-          power = (layout.power.0, layout.power.2);
-        }) refl in (
-          added.0,
-          added.1,
-          added.2,
-          (
-            offset.distance,
-            refl,
-            subst (λ (d : ℕ). IsKept added.0 content (named_at d)) (sym put.2) added.3,
-          ),
-        )
+-- a byte list
+pub byte_list_prepared : {T X : Type 0} {may : X → State → Type 0} (bytes : X → List ℕ)
+    → PreparesContent {A = Offset T} may (λ x old answer new. WritesByteList (bytes x) old answer new)
+    (λ x. value (byte_list (bytes x))) (λ offset. reference offset.distance)
+byte_list_prepared bytes = record {
+  comes = λ x old offset new past may done is_past.
+      (let added = value_added (byte_list (bytes x)) old (offset.distance ∷ []) new past
+      (offset.distance, new, done, (refl, refl)) is_past tt refl in
+      (added.0, added.1, added.2, (offset.distance, refl, added.3)));
+}

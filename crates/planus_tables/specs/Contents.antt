@@ -1,25 +1,42 @@
--- What a table holds, in the words of its caller.
-use Rattle.std.specs.Prelude.{◌≡◌, ℕ, List, [], ◌∷◌, ◌++◌, map, Bool, if◌then◌else◌, Option, Some, None, Ok, ⊤}
-use Rattle.std.specs.Int.{w16, w32, to_le_bytes}
-use Rattle.planus_read.specs.Values.{Value, Field, Plain, plain, reference, text, plain_list, table}
+-- What the fields of a table hold, in the words of its caller.
+use Rattle.std.specs.Prelude.{◌≡◌, ℕ, List, [], ◌∷◌, ◌++◌, Bool, if◌then◌else◌, Option, Some, None, Ok, ⊤}
+use Rattle.planus_read.specs.Values.{Value, Field, Plain, plain, reference, reference_list, table}
 use Rattle.planus_write.specs.Kept.{IsKept}
+use Rattle.planus_write.specs.Parts.{Named}
 use Rattle.planus_write.specs.Past.{Past}
 use Rattle.planus_write.specs.Placing.{Outcome}
 use Rattle.planus_write.specs.State.{State, IsPast, Extends}
-use Rattle.planus_tables.specs.Records.{named_at, StillKept}
 
--- What a field holds: a plain item; a value, to which it refers; or a reference to what was written
--- already, at a distance.
+-- What a field holds: a number or a truth value; a reference to a value; a reference to a list of
+-- references to values; or a reference to what was written before, at this distance.
 pub data Content : Type 0 where
   item : Plain → Content
   value : Value → Content
+  values : List Value → Content
   written : ℕ → Content
 
--- the field holds this
+-- named by one distance
+abbrev pub named_at : ℕ → Named
+named_at distance = record { distance = distance; tags = None }
+
+-- the values are kept at these distances, one by one
+abbrev pub AllKept : Past → List Value → List ℕ → Type 0
+AllKept past [] [] = ⊤
+AllKept past (one ∷ others) (distance ∷ distances) =
+    IsKept past one (named_at distance) × AllKept past others distances
+AllKept past [] (distance ∷ distances) = ⊥
+AllKept past (one ∷ others) [] = ⊥
+
+-- The field holds this. What it refers to is kept; of what was written before that is the caller's
+-- to know.
 abbrev pub FieldIs : Past → Content → Field → Type 0
 FieldIs past (item content) field = field ≡ plain content
 FieldIs past (value content) field =
     (distance : ℕ) × (field ≡ reference distance) × IsKept past content (named_at distance)
+FieldIs past (values contents) field =
+    (distance : ℕ) × (field ≡ reference distance)
+    × ((distances : List ℕ) × IsKept past (reference_list distances) (named_at distance)
+    × AllKept past contents distances)
 FieldIs past (written distance) field = field ≡ reference distance
 
 -- a field that may be left out holds this, or it is left out
@@ -34,7 +51,7 @@ abbrev pub content_in : ℕ → Option Content → List (ℕ × Content)
 content_in slot None = []
 content_in slot (Some content) = (slot, content) ∷ []
 
--- those of some contents that are there
+-- those of some slots that hold anything
 abbrev pub there_of : List (ℕ × Option Content) → List (ℕ × Content)
 there_of [] = []
 there_of (content ∷ contents) = content_in content.0 content.1 ++ there_of contents
@@ -47,8 +64,8 @@ FieldsAre past (content ∷ contents) (field ∷ fields) =
 FieldsAre past [] (field ∷ fields) = ⊥
 FieldsAre past (content ∷ contents) [] = ⊥
 
--- A table with exactly these contents is kept at the distance, and so are the values to which it
--- refers.
+-- A table is kept at the distance that has exactly the fields that hold these contents, and so are
+-- the values to which it refers.
 pub record TableIsKept (past : Past) (contents : List (ℕ × Option Content)) (distance : ℕ) : Type 0 where
   pub fields : List (ℕ × Field)
   pub are : FieldsAre past (there_of contents) fields
@@ -58,6 +75,11 @@ pub record TableIsKept (past : Past) (contents : List (ℕ × Option Content)) (
 abbrev pub Comes : Past → State → (Past → Type 0) → Type 0
 Comes past new Holds = (after : Past) × IsPast new after × Extends past after × Holds after
 
+-- what was kept before is still kept
+abbrev pub StillKept : Past → Past → Type 0
+StillKept before after =
+    (one : Value) (named : Named) → IsKept before one named → IsKept after one named
+
 -- Whatever was written before, a table with these contents is kept at the distance; all that was
 -- written before is still there, and all that was kept still is.
 abbrev pub WritesContents : List (ℕ × Option Content) → State → ℕ → State → Type 0
@@ -65,8 +87,16 @@ WritesContents contents old distance new =
     (past : Past) → IsPast old past
     → Comes past new (λ after. StillKept past after × TableIsKept after contents distance)
 
--- Once a field is prepared, it holds its content.
-pub record PreparesContent {X A : Type 0} (may : X → State → Type 0)
+-- Once a value is prepared, the field that it becomes holds its content.
+pub record PreparesContent {X A : Type 0} (may : X → State → Type 0) (outcome : X → Outcome A)
+    (content : X → Content) (field : A → Field) : Type 0 where
+  pub comes :
+      (x : X) (old : State) (prepared : A) (new : State) (past : Past) → may x old
+      → outcome x old (Ok prepared) new → IsPast old past
+      → Comes past new (λ after. FieldIs after (content x) (field prepared))
+
+-- The same of a value that may be left out.
+pub record PreparesOptional {X A : Type 0} (may : X → State → Type 0)
     (outcome : X → Outcome (Option A)) (content : X → Option Content) (field : A → Field) : Type 0 where
   pub comes :
       (x : X) (old : State) (prepared : Option A) (new : State) (past : Past) → may x old
@@ -81,21 +111,11 @@ pub record PreparesContents {X A : Type 0} (may : X → State → Type 0) (outco
       → outcome x old (Ok prepared) new → IsPast old past
       → Comes past new (λ after. FieldsAre after (there_of (contents x)) (there prepared))
 
--- a text, a number of 2 bytes, and a list of numbers of 4 bytes
-abbrev pub holds_text : List ℕ → Option Content
-holds_text bytes = Some (value (text bytes))
-
-abbrev pub holds_u16 : ℕ → Option Content
-holds_u16 number = Some (item (record { bytes = to_le_bytes w16 number; alignment = 2 }))
-
-abbrev pub holds_u32s : List ℕ → Option Content
-holds_u32s numbers = Some (value (plain_list 4 4 (map (λ number. to_le_bytes w32 number) numbers)))
-
--- what a field with a default holds
+-- nothing where the value is the default, else this
 abbrev pub unless : {A : Type 0} → Bool → Option A → Option A
 unless is_default content = if is_default then None else content
 
--- what a field that may be absent holds
+-- nothing of an absent field, else what the value holds
 abbrev pub holds_if : {X : Type 0} → (X → Option Content) → Option X → Option Content
 holds_if content None = None
 holds_if content (Some x) = content x

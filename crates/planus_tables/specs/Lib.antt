@@ -1,7 +1,9 @@
 pub mod TableFields
 pub mod TableRules
-pub mod Records
-pub mod RecordLaws
+pub mod Preparing
+pub mod PreparingLaws
 pub mod Contents
 pub mod ContentLaws
+pub mod ListContents
+pub mod Holds
 pub mod Views

@@ -3,11 +3,11 @@ ghost use Rattle.std.specs.Prelude.{◌≤◌, length, IfOk, IsTrue};
 ghost use Rattle.planus_write.specs.State.{Grows};
 ghost use Rattle.planus_write.specs.Tables.{body_size, body_bytes};
 ghost use Rattle.planus_tables.specs.TableRules.{can_hold};
-ghost use Rattle.planus_tables.specs.Records.{CreatesTable};
+ghost use Rattle.planus_tables.specs.Preparing.{CreatesTable};
 ghost use Rattle.planus_tables.specs.Contents.{WritesContents};
 
 use crate::fields::Fields;
-use crate::prepared::PreparedFields;
+use crate::prepared_fields::PreparedFields;
 use planus_write::{BuildError, Builder, ObjectFill, ObjectWriter, Offset, TableWriter};
 
 /// The body of a table.

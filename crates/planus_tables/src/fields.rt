@@ -4,128 +4,43 @@ ghost use Rattle.planus_write.specs.State.{State};
 ghost use Rattle.planus_write.specs.Preparing.{Answers, IsLawful};
 ghost use Rattle.planus_write.specs.Laws.{ready_is_lawful};
 ghost use Rattle.planus_write.specs.declared.errors.BuildError.{BuildError};
-ghost use Rattle.planus_tables.specs.Records.{PreparesBoth};
-ghost use Rattle.planus_tables.specs.RecordLaws.{both_is_lawful};
-ghost use Rattle.planus_tables.specs.Contents.{Content, PreparesContent, PreparesContents};
+ghost use Rattle.planus_tables.specs.Preparing.{PreparesBoth};
+ghost use Rattle.planus_tables.specs.PreparingLaws.{both_is_lawful};
+ghost use Rattle.planus_tables.specs.Contents.{Content, PreparesContents};
 ghost use Rattle.planus_tables.specs.ContentLaws.{none_prepared, both_prepared};
 
-use crate::item::TableItem;
-use crate::prepared::PreparedFields;
-use planus_fields::{WriteAsDefault, WriteAsOptional};
+use crate::contents::HasContent;
+use crate::field_at::FieldAt;
+use crate::prepared_fields::PreparedFields;
+use crate::table_item::TableItem;
 use planus_write::{BuildError, Builder, Primitive};
 use std::marker::PhantomData;
 
-/// A value for a slot, which stands there as a `P`. [`fields`] writes lists of these.
-#[derive(Drop)]
-pub struct FieldAt<const SLOT: usize, P, V> {
-    pub value: V,
-    pub of: PhantomData<P>,
-}
-
-/// Writes a list of fields, each as its slot, what stands there, and its value.
-#[macro_export]
-macro_rules! fields {
-    () => { () };
-    ($slot:literal: $kind:ty = $value:expr $(, $($rest:tt)*)?) => {
-        (
-            $crate::FieldAt::<$slot, $kind, _> {
-                value: $value,
-                of: std::marker::PhantomData,
-            },
-            $crate::fields!($($($rest)*)?),
-        )
-    };
-}
-
-/// What can be written as a field that may be absent, and says what the field then holds.
-pub trait HasContent<P: Primitive>: WriteAsOptional<P>
-where
-    Self::Prepared: TableItem<P>,
-{
-    /// What the field holds, unless it is left out.
-    ghost content: { Self → option Content };
-
-    /// Once it is prepared, it holds this.
-    ghost has_content: { PreparesContent Self.may Self.outcome content Self.Prepared.field };
-}
-
-/// What can be written as a field with a default, and says what the field then holds.
-pub trait HasDefaultContent<P: Primitive, D>: WriteAsDefault<P, D>
-where
-    Self::Prepared: TableItem<P>,
-{
-    /// What the field holds, by its default, unless it is left out.
-    ghost content: { Self → D → option Content };
-
-    /// Once it is prepared, it holds this.
-    ghost has_content: { (default : D) → PreparesContent Self.may
-        (λ value old answer new. Self.outcome value default old answer new)
-        (λ value. content value default) Self.Prepared.field };
-}
-
-/// A value that is left out where it is the default.
-#[derive(Drop)]
-pub struct OrDefault<V, D> {
-    pub value: V,
-    pub default: D,
-}
-
-impl<P: Primitive, D, V: WriteAsDefault<P, D>> WriteAsOptional<P> for OrDefault<V, D> {
-    type Prepared = V::Prepared;
-
-    ghost may = { λ field old. V.may field.value old };
-
-    ghost outcome = { λ field old answer new. V.outcome field.value field.default old answer new };
-
-    #[inline]
-    fn prepare(
-        &self,
-        builder: &mut Builder,
-    ) -> std::result::Result<Option<V::Prepared>, BuildError> {
-        self.value.prepare(builder, &self.default)
-    }
-
-    ghost is_lawful = { record {
-      grows = λ field. (V.is_lawful field.default).grows field.value;
-      reaches = λ field. (V.is_lawful field.default).reaches field.value;
-      stays = λ field. (V.is_lawful field.default).stays field.value;
-    } };
-}
-
-impl<P: Primitive, D, V: HasDefaultContent<P, D>> HasContent<P> for OrDefault<V, D>
-where
-    V::Prepared: TableItem<P>,
-{
-    ghost content = { λ field. V.content field.value field.default };
-
-    ghost has_content = { record {
-      comes = λ field. (V.has_content field.default).comes field.value;
-    } };
-}
-
 /// The fields of a table with `N` bytes for its vtable, in the order in which they are prepared and
-/// written: `()`, or one field and the others.
+/// written: `()`, or a pair of one field and the others.
 ///
 /// The ghost members `may` and `outcome` are as those of [`planus_write::WriteAsOffset`].
 pub trait Fields<const N: usize> {
     /// The fields, prepared.
     type Prepared: PreparedFields<N> + Drop;
 
-    /// What the fields hold, slot by slot.
+    /// What the slots of the fields hold, each what it is or nothing.
     ghost contents: { Self → List (ℕ × option Content) };
 
     ghost may: { Self → State → Type 0 };
 
     ghost outcome: { Self → State → Result Self.Prepared BuildError → State → Type 0 };
 
-    /// Prepares the fields, one after another.
+    /// Prepares the fields, one after another. A refusal is that of the first that is refused.
     fn prepare(&self, builder: &mut Builder) -> std::result::Result<Self::Prepared, BuildError>
         requires { may self.now builder.old }
         ensures { outcome self.now builder.old result builder.new };
 
+    /// As that of [`planus_write::WriteAsOffset`]: the bytes before are the end of the bytes after,
+    /// every promise stays, and what the prepared fields refer to lies in the bytes.
     ghost is_lawful: { IsLawful may outcome Self.Prepared.reach };
 
-    /// Once they are prepared, they hold these.
+    /// Once the fields are prepared, they hold these.
     ghost have_contents: { PreparesContents may outcome contents Self.Prepared.there };
 }
 

@@ -1,17 +1,26 @@
-//! A table of one's own, from a list of its fields: what writes it, once for all tables.
+//! Tables from lists of their fields: one call that writes any table, and one view that reads it.
 #![tactic(auto)]
 
-mod content_impls;
+mod contents;
 mod create;
+mod field_at;
+mod field_parts;
 mod fields;
-mod item;
-mod item_impls;
-mod prepared;
-mod put;
+mod impls;
+mod or_default;
+mod prepared_fields;
+mod table_item;
+mod table_kind;
 mod table_ref;
+mod table_scalar;
 
+pub use contents::{HasContent, HasDefaultContent, HasListContent};
 pub use create::create_table;
-pub use fields::{FieldAt, Fields, HasContent, HasDefaultContent, OrDefault};
-pub use item::TableItem;
-pub use prepared::PreparedFields;
-pub use table_ref::{TableKind, TableRef};
+pub use field_at::FieldAt;
+pub use fields::Fields;
+pub use or_default::OrDefault;
+pub use prepared_fields::PreparedFields;
+pub use table_item::TableItem;
+pub use table_kind::TableKind;
+pub use table_ref::TableRef;
+pub use table_scalar::TableScalar;

@@ -7,6 +7,7 @@ ghost use Rattle.planus_read.specs.Reading.{table_reading};
 ghost use Rattle.planus_read.specs.Tables.{FieldAnswer, table_start};
 ghost use Rattle.planus_tables.specs.Views.{ShowsView};
 
+use crate::table_kind::TableKind;
 use planus_read::errors::ErrorKind;
 use planus_read::table_reader::Table;
 use planus_read::{
@@ -14,16 +15,6 @@ use planus_read::{
 };
 use std::alloc::AllocError;
 use std::marker::PhantomData;
-
-/// The kind of a table.
-pub trait TableKind {
-    /// Its name, under which errors come.
-    ghost name: { List ℕ };
-
-    /// Returns its name.
-    fn name() -> &'static str
-        ensures { result.now ≡ name };
-}
 
 /// A table of a kind, in a buffer.
 pub struct TableRef<'a, K> {

@@ -14,3 +14,5 @@ mod string;
 mod union_offset;
 mod union_vector_offset;
 mod vec;
+
+pub use scalar::{Scalar, ScalarItem};

@@ -11,8 +11,8 @@ ghost use Rattle.planus_read.specs.Located.{Located, OrDefault as OrElse};
 ghost use Rattle.planus_read.specs.Reading.{number_reading};
 ghost use Rattle.planus_read.specs.Tables.{FieldAnswer, table_start};
 ghost use Rattle.planus_write.specs.State.{Grows};
-ghost use Rattle.planus_tables.specs.Contents.{WritesContents, holds_text, holds_u16};
-ghost use Rattle.planus_tables.specs.Contents.{holds_u32s, holds_if, unless};
+ghost use Rattle.planus_tables.specs.Contents.{WritesContents, holds_if, unless};
+ghost use Rattle.planus_tables.specs.Holds.{holds_text, holds_u16, holds_u32s};
 
 use planus_read::Result;
 use planus_tables::{OrDefault, TableKind, TableRef, create_table, fields};

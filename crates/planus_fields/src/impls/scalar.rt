@@ -1,23 +1,20 @@
 //! Numbers and truth values: one implementation for all of them.
-ghost use Rattle.std.specs.Prelude.{◌≡◌, IsTrue, ◌↔◌, ⊤, refl};
+ghost use Rattle.std.specs.Prelude.{◌≡◌, IsTrue, ◌↔◌, ⊤};
+ghost use Rattle.planus_write.specs.Laws.{ready_is_lawful};
 ghost use Rattle.planus_write.specs.Preparing.{Answers};
 ghost use Rattle.planus_fields.specs.Fields.{AlwaysWritten, LeftOutWhere, left_out_is_lawful};
-ghost use Rattle.planus_fields.specs.Fields.{scalar_is_lawful};
 
 use crate::traits::{WriteAs, WriteAsDefault, WriteAsOptional};
-use planus_write::{BuildError, Builder, Primitive, WriteAsPrimitive};
+use planus_write::{BuildError, Builder, Scalar};
 
-/// A number or a truth value.
-pub trait Scalar: Primitive + WriteAsPrimitive<Self> + Copy {
+/// A number or a truth value as a field.
+pub trait ScalarField: Scalar {
     /// Returns whether it is equal to the other one.
     fn is(&self, other: &Self) -> bool
         ensures { IsTrue result ↔ (self.now ≡ other.now) };
-
-    /// It refers to nothing.
-    ghost refers_to_nothing: { (x : Self) → Self.reach x ≡ 0 };
 }
 
-impl<S: Scalar> WriteAs<S> for S {
+impl<S: ScalarField> WriteAs<S> for S {
     type Prepared = S;
 
     ghost may = { λ scalar old. ⊤ };
@@ -29,10 +26,10 @@ impl<S: Scalar> WriteAs<S> for S {
         Ok(*self)
     }
 
-    ghost is_lawful = { scalar_is_lawful S.refers_to_nothing };
+    ghost is_lawful = { ready_is_lawful };
 }
 
-impl<S: Scalar> WriteAsOptional<S> for S {
+impl<S: ScalarField> WriteAsOptional<S> for S {
     type Prepared = S;
 
     ghost may = { λ scalar old. ⊤ };
@@ -44,10 +41,10 @@ impl<S: Scalar> WriteAsOptional<S> for S {
         Ok(Some(*self))
     }
 
-    ghost is_lawful = { left_out_is_lawful (λ scalar. ⊥) (scalar_is_lawful S.refers_to_nothing) };
+    ghost is_lawful = { left_out_is_lawful (λ scalar. ⊥) (ready_is_lawful) };
 }
 
-impl<S: Scalar> WriteAsDefault<S, S> for S {
+impl<S: ScalarField> WriteAsDefault<S, S> for S {
     type Prepared = S;
 
     ghost may = { λ scalar old. ⊤ };
@@ -68,86 +65,68 @@ impl<S: Scalar> WriteAsDefault<S, S> for S {
     }
 
     ghost is_lawful = { λ default.
-        left_out_is_lawful (λ scalar. scalar ≡ default) (scalar_is_lawful S.refers_to_nothing) };
+        left_out_is_lawful (λ scalar. scalar ≡ default) (ready_is_lawful) };
 }
 
-impl Scalar for u8 {
+impl ScalarField for u8 {
     #[inline]
     fn is(&self, other: &u8) -> bool {
         *self == *other
     }
-
-    ghost refers_to_nothing = { λ scalar. refl };
 }
 
-impl Scalar for u16 {
+impl ScalarField for u16 {
     #[inline]
     fn is(&self, other: &u16) -> bool {
         *self == *other
     }
-
-    ghost refers_to_nothing = { λ scalar. refl };
 }
 
-impl Scalar for u32 {
+impl ScalarField for u32 {
     #[inline]
     fn is(&self, other: &u32) -> bool {
         *self == *other
     }
-
-    ghost refers_to_nothing = { λ scalar. refl };
 }
 
-impl Scalar for u64 {
+impl ScalarField for u64 {
     #[inline]
     fn is(&self, other: &u64) -> bool {
         *self == *other
     }
-
-    ghost refers_to_nothing = { λ scalar. refl };
 }
 
-impl Scalar for i8 {
+impl ScalarField for i8 {
     #[inline]
     fn is(&self, other: &i8) -> bool {
         *self == *other
     }
-
-    ghost refers_to_nothing = { λ scalar. refl };
 }
 
-impl Scalar for i16 {
+impl ScalarField for i16 {
     #[inline]
     fn is(&self, other: &i16) -> bool {
         *self == *other
     }
-
-    ghost refers_to_nothing = { λ scalar. refl };
 }
 
-impl Scalar for i32 {
+impl ScalarField for i32 {
     #[inline]
     fn is(&self, other: &i32) -> bool {
         *self == *other
     }
-
-    ghost refers_to_nothing = { λ scalar. refl };
 }
 
-impl Scalar for i64 {
+impl ScalarField for i64 {
     #[inline]
     fn is(&self, other: &i64) -> bool {
         *self == *other
     }
-
-    ghost refers_to_nothing = { λ scalar. refl };
 }
 
-impl Scalar for bool {
+impl ScalarField for bool {
     #[inline]
     fn is(&self, other: &bool) -> bool {
         *self == *other
     }
-
-    ghost refers_to_nothing = { λ scalar. refl };
 }

@@ -1,9 +1,6 @@
--- What is written for a list of fields.
-use Rattle.std.specs.Prelude.{ℕ, List, Ok, Err, ◌⊎◌, None}
-use Rattle.planus_read.specs.Values.{Value, Field}
-use Rattle.planus_write.specs.Kept.{IsKept}
-use Rattle.planus_write.specs.Parts.{Named}
-use Rattle.planus_write.specs.Past.{Past}
+-- How the fields of a list are prepared, and their table is written.
+use Rattle.std.specs.Prelude.{ℕ, List, Ok, Err, ◌⊎◌}
+use Rattle.planus_read.specs.Values.{Field}
 use Rattle.planus_write.specs.Placing.{Outcome, then_does}
 use Rattle.planus_write.specs.State.{State}
 use Rattle.planus_write.specs.Tables.{body_bytes, declared_of}
@@ -11,7 +8,7 @@ use Rattle.planus_write.specs.TableWriting.{AnswersTable}
 use Rattle.planus_write.specs.declared.offset.Offset.{Offset}
 
 -- One field is prepared, and then the others; both answers are parts of one. A refusal of the first
--- is that of both.
+-- is that of both; where the others are refused, the first is prepared.
 abbrev pub PreparesBoth : {A B C : Type 0} → (C → A) → (C → B) → Outcome A → Outcome B → Outcome C
 PreparesBoth {A} {B} {C} of_first of_rest first rest old (Ok prepared) new =
     (between : State) × first old (Ok (of_first prepared)) between
@@ -24,15 +21,7 @@ PreparesBoth {A} {B} {C} of_first of_rest first rest old (Err error) new =
 abbrev pub AnswersFields : {T : Type 0} → List (ℕ × Field) → Outcome (Offset T)
 AnswersFields fields = AnswersTable (declared_of fields) (λ place. body_bytes place fields)
 
--- The fields were prepared, and then their table was written; or one of these was refused.
+-- The fields were prepared, and then the table of those that are there was written; or one of these
+-- was refused.
 abbrev pub CreatesTable : {A T : Type 0} → Outcome A → (A → List (ℕ × Field)) → Outcome (Offset T)
 CreatesTable prepare there = then_does prepare (λ prepared. AnswersFields (there prepared))
-
--- named by one distance
-abbrev pub named_at : ℕ → Named
-named_at distance = record { distance = distance; tags = None }
-
--- what was kept before is still kept
-abbrev pub StillKept : Past → Past → Type 0
-StillKept before after =
-    (value : Value) (named : Named) → IsKept before value named → IsKept after value named

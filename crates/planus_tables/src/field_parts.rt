@@ -7,7 +7,7 @@ ghost use Rattle.planus_write.specs.TableWriting.{WasTold, slot_position};
 ghost use Rattle.planus_write.specs.ObjectWriting.{body_of, wrote};
 ghost use Rattle.planus_tables.specs.TableFields.{field_in, size_if, item_if, IsUnused};
 
-use crate::item::TableItem;
+use crate::table_item::TableItem;
 use planus_write::{ObjectWriter, Primitive, TableWriter, WriteAsPrimitive};
 
 /// Declares a field for a slot.

@@ -1,4 +1,4 @@
--- The laws of items and of lists of fields.
+-- The laws of what stands in a table, and of lists of fields.
 use Rattle.std.specs.Prelude.{◌≡◌, ℕ, ◌<◌, ◌≤◌, max, List, [], ◌∷◌, ◌++◌, length, replicate, Option, Some, None, Result, Ok, Err}
 use Rattle.std.specs.Int.{◌∣◌}
 use Rattle.std.specs.List.{AllByRecursion}
@@ -16,18 +16,22 @@ use Rattle.planus_write.specs.declared.errors.BuildError.{BuildError}
 use Rattle.planus_fields.specs.Fields.{reach_if}
 use Rattle.planus_tables.specs.TableFields.{IsItem, field_in}
 use Rattle.planus_tables.specs.TableRules.{Among}
-use Rattle.planus_tables.specs.Records.{PreparesBoth}
+use Rattle.planus_tables.specs.Preparing.{PreparesBoth}
 
--- bytes with the size of a layout
-pub plain_is_item : (alignment : ℕ) (bytes : List ℕ) → IsLayout (length bytes) alignment
-    → IsItem (length bytes) alignment (plain_item bytes) 0
+-- bytes that are as many as the size
+pub plain_is_item : (size alignment : ℕ) (bytes : List ℕ) → length bytes ≡ size
+    → IsLayout size alignment
+    → IsItem size alignment (plain_item bytes) 0
     (plain (record { bytes = bytes; alignment = alignment }))
-plain_is_item alignment bytes layout = record {
-  size_is = refl;
+plain_is_item size alignment bytes sized layout = record {
+  size_is = sized;
   alignment_is = refl;
   leaves_is = refl;
-  stands = λ before reached.
-      (layout.positive, layout.multiple, (layout.power.0, layout.power.2));
+  stands = λ before reached. (
+    subst (λ n. 0 < n) (sym sized) layout.positive,
+    subst (λ n. alignment ∣ n) (sym sized) layout.multiple,
+    (layout.power.0, layout.power.2),
+  );
 }
 
 -- zeros in the place of a field that is always left out
@@ -35,18 +39,9 @@ pub zeros_are_item : (size alignment : ℕ) → IsLayout size alignment
     → IsItem size alignment (plain_item (replicate size 0)) 0
     (plain (record { bytes = replicate size 0; alignment = alignment }))
 zeros_are_item size alignment layout =
-    let long : length (replicate size 0) ≡ size = length-replicate size 0 in
-    record {
-      size_is = long;
-      alignment_is = refl;
-      leaves_is = refl;
-      stands = λ before reached. (
-        subst (λ n. 0 < n) (sym long) layout.positive,
-        subst (λ n. alignment ∣ n) (sym long) layout.multiple,
-        (layout.power.0, layout.power.2),
-      );
-    }
+    plain_is_item size alignment (replicate size 0) (length-replicate size 0) layout
 
+-- a reference
 pub reference_is_item : (distance : ℕ)
     → IsItem 4 4 (reference_item distance) distance (reference distance)
 reference_is_item distance = record {

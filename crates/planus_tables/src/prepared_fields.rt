@@ -9,11 +9,11 @@ ghost use Rattle.planus_write.specs.Tables.{body_bytes, total_size};
 ghost use Rattle.planus_write.specs.TableWriting.{WasTold};
 ghost use Rattle.planus_tables.specs.TableFields.{field_in, IsUnused};
 ghost use Rattle.planus_tables.specs.TableRules.{Among, has_slots};
-ghost use Rattle.planus_tables.specs.RecordLaws.{all_stand, all_among};
+ghost use Rattle.planus_tables.specs.PreparingLaws.{all_stand, all_among};
 
-use crate::fields::FieldAt;
-use crate::item::TableItem;
-use crate::put::{declare_if, write_if};
+use crate::field_at::FieldAt;
+use crate::field_parts::{declare_if, write_if};
+use crate::table_item::TableItem;
 use planus_write::{ObjectWriter, Primitive, TableWriter};
 
 /// The fields of a table with `N` bytes for its vtable, prepared: `()`, or one field and the others.

@@ -3,7 +3,7 @@ use Rattle.planus_write.specs.Tables.{Declared, declared_of}
 use Rattle.planus_write.specs.TableWriting.{WasTold}
 use Rattle.planus_tables.specs.TableFields.{field_in}
 use Rattle.planus_tables.proofs.RuledTables.{slots_parts, rest_unused}
-use Rattle.planus_tables.proofs.prepared.Tuple2FieldAtOptionPreparedFields.declare.Goals as goal
+use Rattle.planus_tables.proofs.prepared_fields.Tuple2FieldAtOptionPreparedFields.declare.Goals as goal
 
 pub declare-requires : goal.declare-requires
 declare-requires g c =

@@ -2,7 +2,7 @@ use Rattle.std.proofs.Common.{subst, sym}
 use Rattle.planus_write.specs.Tables.{Declared}
 use Rattle.planus_tables.specs.TableFields.{IsUnused}
 use Rattle.planus_tables.proofs.FieldLists.{still_unused, told_item}
-use Rattle.planus_tables.proofs.put.declare.Goals as goal
+use Rattle.planus_tables.proofs.field_parts.declare.Goals as goal
 
 pub returns-clause-told : goal.returns-clause-told
 returns-clause-told g c = λ fields told.

@@ -1,0 +1,64 @@
+-- What a field of each kind holds, for contracts of callers.
+use Rattle.std.specs.Prelude.{ℕ, List, [], ◌∷◌, map, Bool, Option, Some, ℤ}
+use Rattle.std.specs.Int.{w8, w16, w32, w64, to_le_bytes, cast_unsigned, from_bool}
+use Rattle.planus_read.specs.Values.{text, byte_list, plain_list}
+use Rattle.planus_tables.specs.Contents.{Content, item, value, values, written}
+
+-- a number without a sign
+abbrev pub holds_u8 : ℕ → Option Content
+holds_u8 number = Some (item (record { bytes = to_le_bytes w8 number; alignment = 1 }))
+
+abbrev pub holds_u16 : ℕ → Option Content
+holds_u16 number = Some (item (record { bytes = to_le_bytes w16 number; alignment = 2 }))
+
+abbrev pub holds_u32 : ℕ → Option Content
+holds_u32 number = Some (item (record { bytes = to_le_bytes w32 number; alignment = 4 }))
+
+abbrev pub holds_u64 : ℕ → Option Content
+holds_u64 number = Some (item (record { bytes = to_le_bytes w64 number; alignment = 8 }))
+
+-- a number with a sign
+abbrev pub holds_i8 : ℤ → Option Content
+holds_i8 number = Some (item (record { bytes = cast_unsigned w8 number ∷ []; alignment = 1 }))
+
+abbrev pub holds_i16 : ℤ → Option Content
+holds_i16 number =
+    Some (item (record { bytes = to_le_bytes w16 (cast_unsigned w16 number); alignment = 2 }))
+
+abbrev pub holds_i32 : ℤ → Option Content
+holds_i32 number =
+    Some (item (record { bytes = to_le_bytes w32 (cast_unsigned w32 number); alignment = 4 }))
+
+abbrev pub holds_i64 : ℤ → Option Content
+holds_i64 number =
+    Some (item (record { bytes = to_le_bytes w64 (cast_unsigned w64 number); alignment = 8 }))
+
+-- a truth value
+abbrev pub holds_bool : Bool → Option Content
+holds_bool truth = Some (item (record { bytes = from_bool truth ∷ []; alignment = 1 }))
+
+-- a text, of these bytes
+abbrev pub holds_text : List ℕ → Option Content
+holds_text bytes = Some (value (text bytes))
+
+-- a byte list
+abbrev pub holds_bytes : List ℕ → Option Content
+holds_bytes bytes = Some (value (byte_list bytes))
+
+-- a list of numbers without a sign
+abbrev pub holds_u16s : List ℕ → Option Content
+holds_u16s numbers = Some (value (plain_list 2 2 (map (λ number. to_le_bytes w16 number) numbers)))
+
+abbrev pub holds_u32s : List ℕ → Option Content
+holds_u32s numbers = Some (value (plain_list 4 4 (map (λ number. to_le_bytes w32 number) numbers)))
+
+abbrev pub holds_u64s : List ℕ → Option Content
+holds_u64s numbers = Some (value (plain_list 8 8 (map (λ number. to_le_bytes w64 number) numbers)))
+
+-- a list of texts
+abbrev pub holds_texts : List (List ℕ) → Option Content
+holds_texts texts = Some (values (map text texts))
+
+-- a reference to what was written before, at this distance
+abbrev pub holds_offset : ℕ → Option Content
+holds_offset distance = Some (written distance)

@@ -1,0 +1,43 @@
+//! What the values of fields hold.
+ghost use Rattle.std.specs.Prelude.{List, Option as option};
+ghost use Rattle.planus_tables.specs.Contents.{Content, PreparesOptional};
+ghost use Rattle.planus_tables.specs.ListContents.{ListHasContent};
+
+use crate::table_item::TableItem;
+use planus_fields::{WriteAsDefault, WriteAsOptional};
+use planus_write::{Primitive, VectorWrite};
+
+/// What can be written as a field that may be absent, and says what the field then holds.
+pub trait HasContent<P: Primitive>: WriteAsOptional<P>
+where
+    Self::Prepared: TableItem<P>,
+{
+    /// What the field holds, or nothing where it is left out.
+    ghost content: { Self → option Content };
+
+    /// Once the value is prepared, the field holds this.
+    ghost has_content: { PreparesOptional Self.may Self.outcome content Self.Prepared.field };
+}
+
+/// What can be written as a field with a default, and says what the field then holds.
+pub trait HasDefaultContent<P: Primitive, D>: WriteAsDefault<P, D>
+where
+    Self::Prepared: TableItem<P>,
+{
+    /// What the field holds, by its default, or nothing where it is left out.
+    ghost content: { Self → D → option Content };
+
+    /// Once the value is prepared, the field holds this.
+    ghost has_content: { (default : D) → PreparesOptional Self.may
+        (λ value old answer new. Self.outcome value default old answer new)
+        (λ value. content value default) Self.Prepared.field };
+}
+
+/// What can be written as an item of a list of `P`, and says what such a list holds.
+pub trait HasListContent<P: Primitive>: VectorWrite<P> {
+    /// What a field holds that refers to the list of these items.
+    ghost list: { List Self → Content };
+
+    /// Once the list is written, the field holds this.
+    ghost has_list: { ListHasContent Self.may Self.outcome Self.Value.leaves P.SIZE P.ALIGNMENT list };
+}

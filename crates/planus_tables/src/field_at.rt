@@ -1,0 +1,27 @@
+//! One field of a table, in a slot.
+
+use std::marker::PhantomData;
+
+/// A value for a slot, where it is encoded as a `P`. A list of fields is `()`, or a pair of one of
+/// these and the others; [`fields`](crate::fields) writes such a list.
+#[derive(Drop)]
+pub struct FieldAt<const SLOT: usize, P, V> {
+    pub value: V,
+    pub of: PhantomData<P>,
+}
+
+/// Writes a list of fields, each as `SLOT: KIND = VALUE`: its slot, the type as which it is encoded,
+/// and its value.
+#[macro_export]
+macro_rules! fields {
+    () => { () };
+    ($slot:literal: $kind:ty = $value:expr $(, $($rest:tt)*)?) => {
+        (
+            $crate::FieldAt::<$slot, $kind, _> {
+                value: $value,
+                of: std::marker::PhantomData,
+            },
+            $crate::fields!($($($rest)*)?),
+        )
+    };
+}

@@ -1,0 +1,23 @@
+//! Byte lists.
+ghost use Rattle.std.specs.Prelude.{Some, map};
+ghost use Rattle.std.specs.Int.{w8, cast_unsigned};
+ghost use Rattle.planus_read.specs.Values.{byte_list};
+ghost use Rattle.planus_tables.specs.Contents.{value};
+ghost use Rattle.planus_tables.specs.ContentLaws.{always_prepared, byte_list_prepared};
+
+use crate::contents::HasContent;
+use planus_write::{ByteList, List, Offset, SignedList};
+
+impl<'a> HasContent<Offset<List<u8>>> for ByteList<'a> {
+    ghost content = { λ list. Some (value (byte_list list.0.now)) };
+
+    ghost has_content = { always_prepared (byte_list_prepared (λ list. list.0.now)) };
+}
+
+impl<'a> HasContent<Offset<List<i8>>> for SignedList<'a> {
+    ghost content = { λ list.
+        Some (value (byte_list (map (λ number. cast_unsigned w8 number) list.0.now))) };
+
+    ghost has_content = { always_prepared
+        (byte_list_prepared (λ list. map (λ number. cast_unsigned w8 number) list.0.now)) };
+}

@@ -1,0 +1,38 @@
+//! Texts.
+ghost use Rattle.std.specs.Prelude.{Some, map};
+ghost use Rattle.std.specs.String.{string_bytes};
+ghost use Rattle.planus_read.specs.Values.{text};
+ghost use Rattle.planus_write.specs.Laws.{entry_is_lawful};
+ghost use Rattle.planus_write.specs.Parts.{text_entry};
+ghost use Rattle.planus_tables.specs.Contents.{value, values};
+ghost use Rattle.planus_tables.specs.ContentLaws.{always_prepared, text_prepared};
+ghost use Rattle.planus_tables.specs.ListContents.{values_have_content};
+
+use crate::contents::{HasContent, HasListContent};
+use planus_write::{Offset, Text};
+
+impl<'a> HasContent<Offset<Text>> for &'a str {
+    ghost content = { λ written. Some (value (text written.now)) };
+
+    ghost has_content = { always_prepared (text_prepared (λ written. written.now)) };
+}
+
+impl HasContent<Offset<Text>> for String {
+    ghost content = { λ written. Some (value (text (string_bytes written))) };
+
+    ghost has_content = { always_prepared (text_prepared string_bytes) };
+}
+
+impl<'a> HasListContent<Offset<Text>> for &'a str {
+    ghost list = { λ texts. values (map (λ written. text written.now) texts) };
+
+    ghost has_list = { values_have_content (entry_is_lawful (λ written. text_entry written.now))
+        (λ written. text written.now) (text_prepared (λ written. written.now)) };
+}
+
+impl HasListContent<Offset<Text>> for String {
+    ghost list = { λ texts. values (map (λ written. text (string_bytes written)) texts) };
+
+    ghost has_list = { values_have_content (entry_is_lawful (λ written. text_entry (string_bytes written)))
+        (λ written. text (string_bytes written)) (text_prepared string_bytes) };
+}

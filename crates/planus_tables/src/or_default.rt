@@ -1,0 +1,46 @@
+//! A field with a default.
+
+use crate::contents::{HasContent, HasDefaultContent};
+use crate::table_item::TableItem;
+use planus_fields::{WriteAsDefault, WriteAsOptional};
+use planus_write::{BuildError, Builder, Primitive};
+
+/// A value that is left out where it is the default.
+#[derive(Drop)]
+pub struct OrDefault<V, D> {
+    pub value: V,
+    pub default: D,
+}
+
+impl<P: Primitive, D, V: WriteAsDefault<P, D>> WriteAsOptional<P> for OrDefault<V, D> {
+    type Prepared = V::Prepared;
+
+    ghost may = { λ field old. V.may field.value old };
+
+    ghost outcome = { λ field old answer new. V.outcome field.value field.default old answer new };
+
+    #[inline]
+    fn prepare(
+        &self,
+        builder: &mut Builder,
+    ) -> std::result::Result<Option<V::Prepared>, BuildError> {
+        self.value.prepare(builder, &self.default)
+    }
+
+    ghost is_lawful = { record {
+      grows = λ field. (V.is_lawful field.default).grows field.value;
+      reaches = λ field. (V.is_lawful field.default).reaches field.value;
+      stays = λ field. (V.is_lawful field.default).stays field.value;
+    } };
+}
+
+impl<P: Primitive, D, V: HasDefaultContent<P, D>> HasContent<P> for OrDefault<V, D>
+where
+    V::Prepared: TableItem<P>,
+{
+    ghost content = { λ field. V.content field.value field.default };
+
+    ghost has_content = { record {
+      comes = λ field. (V.has_content field.default).comes field.value;
+    } };
+}
