@@ -30,7 +30,7 @@ entries_append (entry ∷ fields) others =
     } ∷ rest) (entries_append fields others)
 
 -- their sizes
-total_append : (all others : List Declared)
+pub total_append : (all others : List Declared)
     → total_size (all ++ others) ≡ total_size all + total_size others
 total_append [] others = omega arith
 total_append (one ∷ all) others = let e = total_append all others in omega (arith, e)
@@ -117,33 +117,14 @@ pub size_of_field : {A : Type 0} (slot : ℕ) (field : A → Field) (size : ℕ)
 size_of_field slot field size None sizes = refl
 size_of_field slot field size (Some a) sizes = let e = sizes a in omega (arith, e)
 
--- what an item that may be absent leaves are the bytes of its field
-bytes_of_field : {A : Type 0} (slot : ℕ) (field : A → Field) (leaves : A → Item) (value : Option A)
-    (place : ℕ) → ((a : A) → field_item (field a) ≡ leaves a)
-    → body_bytes place (field_in slot field value) ≡ item_if leaves value place
-bytes_of_field slot field leaves None place items = refl
-bytes_of_field slot field leaves (Some a) place items =
-    append-nil (field_item (field a) place) ∙ ap (λ (item : Item). item place) (items a)
-
--- one field that may be absent, and the others behind it
-pub fields_written : {A : Type 0} (slot : ℕ) (field : A → Field) (size : ℕ) (leaves : A → Item)
-    (value : Option A) (others : List (ℕ × Field)) (old between new : ObjectBody)
-    → ((a : A) → field_size (field a) ≡ size) → ((a : A) → field_item (field a) ≡ leaves a)
-    → between ≡ wrote (size_if size value) (item_if leaves value) old
+-- fields are written, and then others
+pub both_written : (fields others : List (ℕ × Field)) (old between new : ObjectBody)
+    → between ≡ wrote (body_size fields) (λ place. body_bytes place fields) old
     → new ≡ wrote (body_size others) (λ place. body_bytes place others) between
-    → new ≡ wrote (body_size (field_in slot field value ++ others))
-    (λ place. body_bytes place (field_in slot field value ++ others)) old
-fields_written slot field size leaves value others old between new sizes items first rest =
-    let one = size_of_field slot field size value sizes in
-    let both = size_append (field_in slot field value) others in
-    let total : size_if size value + body_size others ≡ body_size (field_in slot field value ++ others)
-    = omega (arith, one, both) in
+    → new ≡ wrote (body_size (fields ++ others)) (λ place. body_bytes place (fields ++ others)) old
+both_written fields others old between new first rest =
     rest ∙ ap (wrote (body_size others) (λ place. body_bytes place others)) first
-    ∙ wrote_both (size_if size value) (body_size others) (item_if leaves value)
-    (λ place. body_bytes place others)
-    (λ place. body_bytes place (field_in slot field value ++ others)) old
-    (bytes_append (field_in slot field value) others old.place
-    ∙ ap (λ bytes. bytes ++ body_bytes (old.place - body_size (field_in slot field value)) others)
-    (bytes_of_field slot field leaves value old.place items)
-    ∙ ap (λ n. item_if leaves value old.place ++ body_bytes (old.place - n) others) one)
-    ∙ ap (λ n. wrote n (λ place. body_bytes place (field_in slot field value ++ others)) old) total
+    ∙ wrote_both (body_size fields) (body_size others) (λ place. body_bytes place fields)
+    (λ place. body_bytes place others) (λ place. body_bytes place (fields ++ others)) old
+    (bytes_append fields others old.place)
+    ∙ ap (λ n. wrote n (λ place. body_bytes place (fields ++ others)) old) (sym (size_append fields others))

@@ -1,8 +1,8 @@
 -- Tables whose entries pass the test can be declared, and are tables of the format.
-use Rattle.std.proofs.Common.{◌≡◌, ℕ, ◌+◌, ◌*◌, ◌≤◌, max, List, [], ◌∷◌, length, refl, sym, subst, ap, ◌∙◌, arith, Bool, true, false, Option, Some, None, Result, Ok, Err, inl, inr}
+use Rattle.std.proofs.Common.{◌≡◌, ℕ, ◌+◌, ◌*◌, ◌≤◌, max, List, [], ◌∷◌, ◌++◌, length, refl, sym, subst, ap, ◌∙◌, arith, Bool, true, false, Option, Some, None, Result, Ok, Err, inl, inr}
 use Rattle.std.specs.Prelude.{not, leb, ◌==◌, if◌then◌else◌, ⊤}
 use Rattle.std.specs.List.{AllByRecursion}
-use Rattle.std.proofs.lemmas.Bool.{and_parts, leb-true, eqb-false, not-true}
+use Rattle.std.proofs.lemmas.Bool.{and_from, and_parts, leb-true, eqb-false, ne_eqb, not-true}
 use Rattle.planus_read.specs.Values.{Field, table, field_at, slot_count}
 use Rattle.planus_read.specs.Aligned.{field_alignment}
 use Rattle.planus_write.specs.Kept.{IsKept}
@@ -24,7 +24,8 @@ use Rattle.planus_tables.specs.Preparing.{CreatesTable}
 use Rattle.planus_write.specs.Laws.{extends_on}
 use Rattle.planus_tables.specs.Contents.{Content, FieldsAre, there_of, Comes, StillKept, TableIsKept, named_at}
 use Rattle.planus_tables.specs.ContentLaws.{fields_stay}
-use Rattle.planus_tables.proofs.FieldLists.{blank_unused}
+use Rattle.planus_tables.specs.PreparingLaws.{among_more}
+use Rattle.planus_tables.proofs.FieldLists.{blank_unused, entries_append}
 
 -- What the test says.
 pub record Holds (n : ℕ) (all : List Declared) : Type 0 where
@@ -74,6 +75,113 @@ rest_unused before after slot (one ∷ all) apart others unused =
       others one.slot (eqb-false one.slot slot parts.0) unused.0,
       rest_unused before after slot all parts.1 others unused.1,
     )
+
+-- the entries of two lists have their slots once each where those of both have
+pub apart_append : (slot : ℕ) (all others : List Declared) → is_apart slot (all ++ others) ≡ true
+    → (is_apart slot all ≡ true) × AllByRecursion (λ one. (one.slot == slot) ≡ false) others
+apart_append slot [] [] apart = (refl, tt)
+apart_append slot [] (one ∷ others) apart =
+    let parts = apart_parts slot one others apart in
+    (refl, (parts.0, (apart_append slot [] others parts.1).1))
+apart_append slot (one ∷ all) others apart =
+    let parts = and_parts (not (one.slot == slot)) _ apart in
+    let rest = apart_append slot all others parts.1 in
+    (and_from (not (one.slot == slot)) _ parts.0 rest.0, rest.1)
+
+-- the slots of the others are apart from one entry more
+more_apart : (one : Declared) (all others : List Declared)
+    → AllByRecursion (λ other. (other.slot == one.slot) ≡ false) others
+    → AllByRecursion (λ other. is_apart other.slot all ≡ true) others
+    → AllByRecursion (λ other. is_apart other.slot (one ∷ all) ≡ true) others
+more_apart one all [] differ apart = tt
+more_apart one all (other ∷ others) differ apart =
+    let no : (one.slot == other.slot) ≡ false
+    = ne_eqb one.slot other.slot (λ same. eqb-false other.slot one.slot differ.0 (sym same)) in (
+      and_from (not (one.slot == other.slot)) _ (ap not no) apart.0,
+      more_apart one all others differ.1 apart.1,
+    )
+
+none_apart : (others : List Declared) → AllByRecursion (λ other. is_apart other.slot [] ≡ true) others
+none_apart [] = tt
+none_apart (other ∷ others) = (refl, none_apart others)
+
+-- What the test of slots says of two lists.
+pub record BothHaveSlots (n : ℕ) (all others : List Declared) : Type 0 where
+  pub first : has_slots n all ≡ true
+  pub second : has_slots n others ≡ true
+  pub apart : AllByRecursion (λ other. is_apart other.slot all ≡ true) others
+
+pub slots_append : (n : ℕ) (all others : List Declared) → has_slots n (all ++ others) ≡ true
+    → BothHaveSlots n all others
+slots_append n [] others slots = record { first = refl; second = slots; apart = none_apart others }
+slots_append n (one ∷ all) others slots =
+    let parts = and_parts (leb (slot_position one.slot + 2) n) _ slots in
+    let second = and_parts (is_apart one.slot (all ++ others)) _ parts.1 in
+    let here = apart_append one.slot all others second.0 in
+    let rest = slots_append n all others second.1 in
+    record {
+      first = and_from (leb (slot_position one.slot + 2) n) _ parts.0
+          (and_from (is_apart one.slot all) _ here.0 rest.first);
+      second = rest.second;
+      apart = more_apart one all others here.1 rest.apart;
+    }
+
+-- what is unused in a slot that is apart from one and from the others stays so
+pub other_unused : (before between after : Writer) (one : Declared) (all : List Declared)
+    → ((other : ℕ) → (other ≡ one.slot → ⊥) → IsUnused before other → IsUnused between other)
+    → ((other : ℕ) → is_apart other all ≡ true → IsUnused between other → IsUnused after other)
+    → (other : ℕ) → is_apart other (one ∷ all) ≡ true → IsUnused before other → IsUnused after other
+other_unused before between after one all first rest other apart unused =
+    let parts = apart_parts other one all apart in
+    rest other parts.1 (first other (λ same. eqb-false one.slot other parts.0 (sym same)) unused)
+
+-- what is unused in the slots of others stays so
+pub others_unused : (before after : Writer) (all others : List Declared)
+    → AllByRecursion (λ other. is_apart other.slot all ≡ true) others
+    → ((other : ℕ) → is_apart other all ≡ true → IsUnused before other → IsUnused after other)
+    → AllByRecursion (λ other. IsUnused before other.slot) others
+    → AllByRecursion (λ other. IsUnused after other.slot) others
+others_unused before after all [] apart stays unused = tt
+others_unused before after all (other ∷ others) apart stays unused = (
+  stays other.slot apart.0 unused.0,
+  others_unused before after all others apart.1 stays unused.1,
+)
+
+-- some entries of one list and some of another are among both
+among_others : (some all others : List Declared) → Among some others → Among some (all ++ others)
+among_others some [] others among = among
+among_others some (one ∷ all) others among =
+    among_more some (all ++ others) one (among_others some all others among)
+
+pub among_both : (some more all others : List Declared) → Among some all → Among more others
+    → Among (some ++ more) (all ++ others)
+among_both [] more all others first second = among_others more all others second
+among_both (one ∷ some) more [] others first second = elim first [ ]
+among_both (one ∷ some) more (entry ∷ all) others (inl first) second =
+    inl (first.0, among_both some more all others first.1 second)
+among_both (one ∷ some) more (entry ∷ all) others (inr first) second =
+    inr (among_both (one ∷ some) more all others first second)
+
+-- fields of two lists are fields
+pub stand_both : (before : ℕ) (fields others : List (ℕ × Field))
+    → AllByRecursion (λ entry. IsField before entry.1) fields
+    → AllByRecursion (λ entry. IsField before entry.1) others
+    → AllByRecursion (λ entry. IsField before entry.1) (fields ++ others)
+stand_both before [] others first second = second
+stand_both before (field ∷ fields) others first second =
+    (first.0, stand_both before fields others first.1 second)
+
+-- and what they hold is what both hold
+pub contents_both : (past : Past) (contents tags : List (ℕ × Option Content)) (fields others : List (ℕ × Field))
+    → FieldsAre past (there_of contents) fields → FieldsAre past (there_of tags) others
+    → FieldsAre past (there_of (contents ++ tags)) (fields ++ others)
+contents_both past [] tags [] others first second = second
+contents_both past [] tags (field ∷ fields) others first second = elim first [ ]
+contents_both past ((slot, None) ∷ contents) tags fields others first second =
+    contents_both past contents tags fields others first second
+contents_both past ((slot, Some content) ∷ contents) tags [] others first second = elim first [ ]
+contents_both past ((slot, Some content) ∷ contents) tags (field ∷ fields) others first second =
+    (first.0, first.1, contents_both past contents tags fields others first.2 second)
 
 -- all slots of a new writer are unused
 pub all_unused : (writer : Writer) (n : ℕ) (all : List Declared) → writer ≡ blank n
@@ -252,3 +360,26 @@ contents_kept n all fields contents between rules among stand unit offset new wr
         },
       ),
     )
+
+-- so is one whose fields are those of two lists
+pub fields_kept : {T : Type 0} (n : ℕ) (all others : List Declared) (fields tags : List (ℕ × Field))
+    (contents tag_contents : List (ℕ × Option Content)) (between : State) → Holds n (all ++ others)
+    → Among (declared_of fields) all → Among (declared_of tags) others
+    → AllByRecursion (λ entry. IsField (length between.bytes) entry.1) fields
+    → AllByRecursion (λ entry. IsField (length between.bytes) entry.1) tags
+    → (unit : Unit {0}) (offset : Offset T) (new : State)
+    → WritesTable (declared_of (fields ++ tags)) (λ place. body_bytes place (fields ++ tags)) between
+    (Ok unit) new
+    → offset.distance ≡ length new.bytes → (past : Past)
+    → Comes past between
+    (λ after. FieldsAre after (there_of contents) fields × FieldsAre after (there_of tag_contents) tags)
+    → Comes past new
+    (λ after. StillKept past after × TableIsKept after (contents ++ tag_contents) offset.distance)
+fields_kept n all others fields tags contents tag_contents between rules among tags_among stand
+    tags_stand unit offset new written at past prepared =
+    contents_kept n (all ++ others) (fields ++ tags) (contents ++ tag_contents) between rules
+    (subst (λ some. Among some (all ++ others)) (sym (entries_append fields tags))
+    (among_both (declared_of fields) (declared_of tags) all others among tags_among))
+    (stand_both (length between.bytes) fields tags stand tags_stand)
+    unit offset new written at past
+    (prepared.0, prepared.1, prepared.2, contents_both prepared.0 contents tag_contents fields tags prepared.3.0 prepared.3.1)

@@ -1,11 +1,14 @@
 -- What the fields of a table hold, in the words of its caller.
 use Rattle.std.specs.Prelude.{◌≡◌, ℕ, List, [], ◌∷◌, ◌++◌, Bool, if◌then◌else◌, Option, Some, None, Ok, ⊤}
+use Rattle.std.specs.Int.{w8, to_le_bytes}
 use Rattle.planus_read.specs.Values.{Value, Field, Plain, plain, reference, reference_list, table}
 use Rattle.planus_write.specs.Kept.{IsKept}
 use Rattle.planus_write.specs.Parts.{Named}
 use Rattle.planus_write.specs.Past.{Past}
 use Rattle.planus_write.specs.Placing.{Outcome}
 use Rattle.planus_write.specs.State.{State, IsPast, Extends}
+use Rattle.planus_write.specs.Unions.{union_reach}
+use Rattle.planus_write.specs.declared.union_offset.UnionOffset.{UnionOffset}
 
 -- What a field holds: a number or a truth value; a reference to a value; a reference to a list of
 -- references to values; or a reference to what was written before, at this distance.
@@ -103,13 +106,41 @@ pub record PreparesOptional {X A : Type 0} (may : X → State → Type 0)
       → outcome x old (Ok prepared) new → IsPast old past
       → Comes past new (λ after. HoldsIf after (content x) field prepared)
 
--- Once fields are prepared, they hold their contents.
+-- A union, written before, has this tag, and a reference to its value holds this; or it is left out.
+abbrev pub UnionHolds : {T : Type 0} → Past → Option (ℕ × Content) → Option (UnionOffset T) → Type 0
+UnionHolds past None None = ⊤
+UnionHolds past (Some content) (Some union) =
+    (union.tag ≡ content.0) × FieldIs past content.1 (reference (union_reach union))
+UnionHolds past None (Some union) = ⊥
+UnionHolds past (Some content) None = ⊥
+
+-- Once a union is prepared, it has its tag and its content.
+pub record PreparesUnion {X T : Type 0} (may : X → State → Type 0)
+    (outcome : X → Outcome (Option (UnionOffset T))) (content : X → Option (ℕ × Content)) : Type 0 where
+  pub comes :
+      (x : X) (old : State) (prepared : Option (UnionOffset T)) (new : State) (past : Past)
+      → may x old → outcome x old (Ok prepared) new → IsPast old past
+      → Comes past new (λ after. UnionHolds after (content x) prepared)
+
+-- what the two fields of a union hold: a reference to its value, and its tag
+abbrev pub value_content : Option (ℕ × Content) → Option Content
+value_content None = None
+value_content (Some content) = Some content.1
+
+abbrev pub tag_content : Option (ℕ × Content) → Option Content
+tag_content None = None
+tag_content (Some content) =
+    Some (item (record { bytes = to_le_bytes w8 content.0; alignment = 1 }))
+
+-- Once fields are prepared, they hold their contents, and so do the tags of unions.
 pub record PreparesContents {X A : Type 0} (may : X → State → Type 0) (outcome : X → Outcome A)
-    (contents : X → List (ℕ × Option Content)) (there : A → List (ℕ × Field)) : Type 0 where
+    (contents tag_contents : X → List (ℕ × Option Content))
+    (there tags_there : A → List (ℕ × Field)) : Type 0 where
   pub comes :
       (x : X) (old : State) (prepared : A) (new : State) (past : Past) → may x old
       → outcome x old (Ok prepared) new → IsPast old past
-      → Comes past new (λ after. FieldsAre after (there_of (contents x)) (there prepared))
+      → Comes past new (λ after. FieldsAre after (there_of (contents x)) (there prepared)
+      × FieldsAre after (there_of (tag_contents x)) (tags_there prepared))
 
 -- nothing where the value is the default, else this
 abbrev pub unless : {A : Type 0} → Bool → Option A → Option A
@@ -119,3 +150,8 @@ unless is_default content = if is_default then None else content
 abbrev pub holds_if : {X : Type 0} → (X → Option Content) → Option X → Option Content
 holds_if content None = None
 holds_if content (Some x) = content x
+
+-- the same of a union
+abbrev pub union_if : {X : Type 0} → (X → Option (ℕ × Content)) → Option X → Option (ℕ × Content)
+union_if content None = None
+union_if content (Some x) = content x

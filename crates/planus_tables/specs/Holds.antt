@@ -1,8 +1,12 @@
 -- What a field of each kind holds, for contracts of callers.
 use Rattle.std.specs.Prelude.{ℕ, List, [], ◌∷◌, map, Bool, Option, Some, ℤ}
 use Rattle.std.specs.Int.{w8, w16, w32, w64, to_le_bytes, cast_unsigned, from_bool}
-use Rattle.planus_read.specs.Values.{text, byte_list, plain_list}
+use Rattle.planus_read.specs.Values.{text, byte_list, plain_list, reference_list}
+use Rattle.planus_write.specs.Unions.{union_reach}
+use Rattle.planus_write.specs.declared.offset.Offset.{Offset}
+use Rattle.planus_write.specs.declared.union_offset.UnionOffset.{UnionOffset}
 use Rattle.planus_tables.specs.Contents.{Content, item, value, values, written}
+use Rattle.planus_tables.specs.Contents.{value_content, tag_content, union_if}
 
 -- a number without a sign
 abbrev pub holds_u8 : ℕ → Option Content
@@ -55,10 +59,23 @@ holds_u32s numbers = Some (value (plain_list 4 4 (map (λ number. to_le_bytes w3
 abbrev pub holds_u64s : List ℕ → Option Content
 holds_u64s numbers = Some (value (plain_list 8 8 (map (λ number. to_le_bytes w64 number) numbers)))
 
--- a list of texts
-abbrev pub holds_texts : List (List ℕ) → Option Content
-holds_texts texts = Some (values (map text texts))
+-- a list of texts, each of these bytes
+abbrev pub holds_texts : {X : Type 0} → (X → List ℕ) → List X → Option Content
+holds_texts bytes texts = Some (values (map (λ one. text (bytes one)) texts))
+
+-- a list of references to what was written before
+abbrev pub holds_offsets : {T : Type 0} → List (Offset T) → Option Content
+holds_offsets offsets = Some (value (reference_list (map (λ offset. offset.distance) offsets)))
 
 -- a reference to what was written before, at this distance
 abbrev pub holds_offset : ℕ → Option Content
 holds_offset distance = Some (written distance)
+
+-- the value and the tag of a union that was written before, if there is one
+abbrev pub holds_union_value : {T : Type 0} → Option (UnionOffset T) → Option Content
+holds_union_value union =
+    value_content (union_if (λ union. Some (union.tag, written (union_reach union))) union)
+
+abbrev pub holds_union_tag : {T : Type 0} → Option (UnionOffset T) → Option Content
+holds_union_tag union =
+    tag_content (union_if (λ union. Some (union.tag, written (union_reach union))) union)

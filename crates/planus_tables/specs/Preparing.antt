@@ -1,5 +1,5 @@
 -- How the fields of a list are prepared, and their table is written.
-use Rattle.std.specs.Prelude.{ℕ, List, Ok, Err, ◌⊎◌}
+use Rattle.std.specs.Prelude.{◌≡◌, ℕ, List, Ok, Err, ◌⊎◌}
 use Rattle.planus_read.specs.Values.{Field}
 use Rattle.planus_write.specs.Placing.{Outcome, then_does}
 use Rattle.planus_write.specs.State.{State}
@@ -7,13 +7,19 @@ use Rattle.planus_write.specs.Tables.{body_bytes, declared_of}
 use Rattle.planus_write.specs.TableWriting.{AnswersTable}
 use Rattle.planus_write.specs.declared.offset.Offset.{Offset}
 
--- One field is prepared, and then the others; both answers are parts of one. A refusal of the first
--- is that of both; where the others are refused, the first is prepared.
-abbrev pub PreparesBoth : {A B C : Type 0} → (C → A) → (C → B) → Outcome A → Outcome B → Outcome C
-PreparesBoth {A} {B} {C} of_first of_rest first rest old (Ok prepared) new =
-    (between : State) × first old (Ok (of_first prepared)) between
+-- nothing is prepared
+abbrev pub PreparesNone : {A : Type 0} → Outcome A
+PreparesNone old (Ok prepared) new = new ≡ old
+PreparesNone old (Err error) new = ⊥
+
+-- One field is prepared, and then the others; what is prepared of both are parts of one. A refusal
+-- of the first is that of both; where the others are refused, the first is prepared.
+abbrev pub PreparesBoth : {A B C : Type 0} → (A → C → Type 0) → (C → B) → Outcome A → Outcome B
+    → Outcome C
+PreparesBoth {A} {B} {C} IsPart of_rest first rest old (Ok prepared) new =
+    (a : A) × (between : State) × IsPart a prepared × first old (Ok a) between
     × rest between (Ok (of_rest prepared)) new
-PreparesBoth {A} {B} {C} of_first of_rest first rest old (Err error) new =
+PreparesBoth {A} {B} {C} IsPart of_rest first rest old (Err error) new =
     first old (Err error) new
     ⊎ ((a : A) × (between : State) × first old (Ok a) between × rest between (Err error) new)
 

@@ -1,22 +1,26 @@
 -- The laws of what stands in a table, and of lists of fields.
-use Rattle.std.specs.Prelude.{◌≡◌, ℕ, ◌<◌, ◌≤◌, max, List, [], ◌∷◌, ◌++◌, length, replicate, Option, Some, None, Result, Ok, Err}
+use Rattle.std.specs.Prelude.{◌≡◌, ℕ, ◌<◌, ◌≤◌, max, List, [], ◌∷◌, ◌++◌, length, replicate, Option, Some, None, Result, Ok, Err, ⊤}
 use Rattle.std.specs.Int.{◌∣◌}
 use Rattle.std.specs.List.{AllByRecursion}
+use Rattle.std.specs.Option.{option_map}
 use Rattle.std.proofs.lemmas.List.{length-replicate}
 use Rattle.std.proofs.Common.{refl, subst, sym, ap, ◌∙◌, arith, inl, inr}
 use Rattle.planus_read.specs.Values.{Field, plain, reference}
 use Rattle.planus_write.specs.Items.{Item, plain_item, reference_item}
-use Rattle.planus_write.specs.Laws.{grows_on, reached_still}
+use Rattle.planus_write.specs.Laws.{grows_on, reached_still, unchanged_grows}
 use Rattle.planus_write.specs.Placing.{Outcome}
 use Rattle.planus_write.specs.Preparing.{IsLawful, IsLayout}
 use Rattle.planus_write.specs.State.{State, Grows}
 use Rattle.planus_read.specs.Aligned.{field_alignment}
 use Rattle.planus_write.specs.Tables.{IsField, Declared, declared_of, field_size}
+use Rattle.planus_write.specs.Unions.{union_reach}
 use Rattle.planus_write.specs.declared.errors.BuildError.{BuildError}
+use Rattle.planus_write.specs.declared.offset.Offset.{Offset}
+use Rattle.planus_write.specs.declared.union_offset.UnionOffset.{UnionOffset}
 use Rattle.planus_fields.specs.Fields.{reach_if}
 use Rattle.planus_tables.specs.TableFields.{IsItem, field_in}
 use Rattle.planus_tables.specs.TableRules.{Among}
-use Rattle.planus_tables.specs.Preparing.{PreparesBoth}
+use Rattle.planus_tables.specs.Preparing.{PreparesBoth, PreparesNone}
 
 -- bytes that are as many as the size
 pub plain_is_item : (size alignment : ℕ) (bytes : List ℕ) → length bytes ≡ size
@@ -60,17 +64,39 @@ pub among_more : (some all : List Declared) (first : Declared) → Among some al
 among_more [] all first h = tt
 among_more (one ∷ some) all first h = inr h
 
+-- nothing to prepare is lawful
+pub none_is_lawful : {X A : Type 0} {reach : A → ℕ} → ((a : A) → reach a ≡ 0)
+    → IsLawful {X = X} (λ x old. ⊤) (λ x old answer new. PreparesNone old answer new) reach
+none_is_lawful {X} {A} {reach} nothing = record { grows = grows; reaches = reaches; stays = stays }
+  where
+    stays : (x : X) (old new : State) → Grows old new → ⊤ → ⊤
+    stays x old new grows may = tt
+
+    grows : (x : X) (old : State) (answer : Result A BuildError) (new : State) → ⊤
+        → PreparesNone old answer new → Grows old new
+    grows x old (Ok prepared) new may done = unchanged_grows old new done
+    grows x old (Err error) new may done = elim done [ ]
+
+    reaches : (x : X) (old : State) (prepared : A) (new : State) → ⊤
+        → PreparesNone old (Ok prepared) new → reach prepared ≤ length new.bytes
+    reaches x old prepared new may done = let none = nothing prepared in omega (arith, none)
+
+pub none_is_unchanged : {A : Type 0} (old : State) (prepared : A) (new : State)
+    → PreparesNone old (Ok prepared) new → new ≡ old
+none_is_unchanged old prepared new done = done
+
 -- one field and the others are prepared, one after the other
 pub both_is_lawful : {X Y Z A B C : Type 0} {may_first : X → State → Type 0}
     {first : X → Outcome A} {first_reach : A → ℕ} {may_rest : Y → State → Type 0}
     {rest : Y → Outcome B} {rest_reach : B → ℕ} (x_of : Z → X) (y_of : Z → Y)
-    (of_first : C → A) (of_rest : C → B)
+    (IsPart : A → C → Type 0) (of_rest : C → B) (reach : C → ℕ)
+    → ((a : A) (c : C) → IsPart a c → reach c ≤ max (first_reach a) (rest_reach (of_rest c)))
     → IsLawful may_first first first_reach → IsLawful may_rest rest rest_reach
     → IsLawful {X = Z} (λ fields old. may_first (x_of fields) old × may_rest (y_of fields) old)
-    (λ fields old answer new. PreparesBoth of_first of_rest (first (x_of fields)) (rest (y_of fields)) old answer new)
-    (λ prepared. max (first_reach (of_first prepared)) (rest_reach (of_rest prepared)))
+    (λ fields old answer new. PreparesBoth IsPart of_rest (first (x_of fields)) (rest (y_of fields)) old answer new)
+    reach
 both_is_lawful {X} {Y} {Z} {A} {B} {C} {may_first} {first} {first_reach} {may_rest} {rest} {rest_reach}
-    x_of y_of of_first of_rest firsts rests =
+    x_of y_of IsPart of_rest reach reached firsts rests =
     record { grows = grows; reaches = reaches; stays = stays }
   where
     stays : (fields : Z) (old new : State) → Grows old new
@@ -81,13 +107,13 @@ both_is_lawful {X} {Y} {Z} {A} {B} {C} {may_first} {first} {first_reach} {may_re
 
     grows : (fields : Z) (old : State) (answer : Result C BuildError) (new : State)
         → may_first (x_of fields) old × may_rest (y_of fields) old
-        → PreparesBoth of_first of_rest (first (x_of fields)) (rest (y_of fields)) old answer new
+        → PreparesBoth IsPart of_rest (first (x_of fields)) (rest (y_of fields)) old answer new
         → Grows old new
     grows fields old (Ok prepared) new may done =
-        let one = firsts.grows (x_of fields) old (Ok (of_first prepared)) done.0 may.0 done.1 in
-        grows_on old done.0 new one
-        (rests.grows (y_of fields) done.0 (Ok (of_rest prepared)) new
-        (rests.stays (y_of fields) old done.0 one may.1) done.2)
+        let one = firsts.grows (x_of fields) old (Ok done.0) done.1 may.0 done.3 in
+        grows_on old done.1 new one
+        (rests.grows (y_of fields) done.1 (Ok (of_rest prepared)) new
+        (rests.stays (y_of fields) old done.1 one may.1) done.4)
     grows fields old (Err error) new may (inl refused) =
         firsts.grows (x_of fields) old (Err error) new may.0 refused
     grows fields old (Err error) new may (inr done) =
@@ -98,16 +124,46 @@ both_is_lawful {X} {Y} {Z} {A} {B} {C} {may_first} {first} {first_reach} {may_re
 
     reaches : (fields : Z) (old : State) (prepared : C) (new : State)
         → may_first (x_of fields) old × may_rest (y_of fields) old
-        → PreparesBoth of_first of_rest (first (x_of fields)) (rest (y_of fields)) old (Ok prepared) new
-        → max (first_reach (of_first prepared)) (rest_reach (of_rest prepared)) ≤ length new.bytes
+        → PreparesBoth IsPart of_rest (first (x_of fields)) (rest (y_of fields)) old (Ok prepared) new
+        → reach prepared ≤ length new.bytes
     reaches fields old prepared new may done =
-        let one = firsts.grows (x_of fields) old (Ok (of_first prepared)) done.0 may.0 done.1 in
-        let may_then = rests.stays (y_of fields) old done.0 one may.1 in
-        let two = rests.grows (y_of fields) done.0 (Ok (of_rest prepared)) new may_then done.2 in
-        let near = reached_still (first_reach (of_first prepared)) done.0 new two
-        (firsts.reaches (x_of fields) old (of_first prepared) done.0 may.0 done.1) in
-        let last = rests.reaches (y_of fields) done.0 (of_rest prepared) new may_then done.2 in
-        omega (arith, near, last)
+        let one = firsts.grows (x_of fields) old (Ok done.0) done.1 may.0 done.3 in
+        let may_then = rests.stays (y_of fields) old done.1 one may.1 in
+        let two = rests.grows (y_of fields) done.1 (Ok (of_rest prepared)) new may_then done.4 in
+        let near = reached_still (first_reach done.0) done.1 new two
+        (firsts.reaches (x_of fields) old done.0 done.1 may.0 done.3) in
+        let last = rests.reaches (y_of fields) done.1 (of_rest prepared) new may_then done.4 in
+        let parts = reached done.0 prepared done.2 in
+        omega (arith, near, last, parts)
+
+-- how far one field and the others refer
+pub field_reach : {A : Type 0} (reach : A → ℕ) (first value : Option A) (fields tags : ℕ)
+    → value ≡ first
+    → max (max (reach_if reach value) fields) tags ≤ max (reach_if reach first) (max fields tags)
+field_reach reach first value fields tags same =
+    let e = ap (reach_if reach) same in omega (arith, e)
+
+-- how far a union and the others do
+pub union_field_reach : {T U : Type 0} (offset_of : UnionOffset T → Offset U)
+    → ((union : UnionOffset T) → (offset_of union).distance ≡ union_reach union)
+    → (union : Option (UnionOffset T)) (value : Option (Offset U)) (tag : Option ℕ)
+    (fields tags : ℕ) → value ≡ option_map offset_of union
+    → max (max (reach_if (λ offset. offset.distance) value) fields) (max (reach_if (λ tag. 0) tag) tags)
+    ≤ max (reach_if union_reach union) (max fields tags)
+union_field_reach {T} {U} offset_of is union value tag fields tags same =
+    let e = ap (reach_if (λ offset. offset.distance)) same in
+    let one = value_reach union in
+    let none = tag_reach tag in
+    omega (arith, e, one, none)
+  where
+    value_reach : (union : Option (UnionOffset T))
+        → reach_if (λ offset. offset.distance) (option_map offset_of union) ≡ reach_if union_reach union
+    value_reach None = refl
+    value_reach (Some union) = is union
+
+    tag_reach : (tag : Option ℕ) → reach_if (λ tag. 0) tag ≡ 0
+    tag_reach None = refl
+    tag_reach (Some tag) = refl
 
 module _ {A : Type 0} (slot : ℕ) (field : A → Field) (reach : A → ℕ) (leaves : A → Item)
     (size alignment : ℕ)

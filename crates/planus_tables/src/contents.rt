@@ -1,10 +1,10 @@
 //! What the values of fields hold.
-ghost use Rattle.std.specs.Prelude.{List, Option as option};
-ghost use Rattle.planus_tables.specs.Contents.{Content, PreparesOptional};
+ghost use Rattle.std.specs.Prelude.{ℕ, List, Option as option};
+ghost use Rattle.planus_tables.specs.Contents.{Content, PreparesOptional, PreparesUnion};
 ghost use Rattle.planus_tables.specs.ListContents.{ListHasContent};
 
 use crate::table_item::TableItem;
-use planus_fields::{WriteAsDefault, WriteAsOptional};
+use planus_fields::{WriteAsDefault, WriteAsOptional, WriteAsOptionalUnion};
 use planus_write::{Primitive, VectorWrite};
 
 /// What can be written as a field that may be absent, and says what the field then holds.
@@ -31,6 +31,15 @@ where
     ghost has_content: { (default : D) → PreparesOptional Self.may
         (λ value old answer new. Self.outcome value default old answer new)
         (λ value. content value default) Self.Prepared.field };
+}
+
+/// What can be written as a union that may be absent, and says what the union then is.
+pub trait HasUnionContent<T>: WriteAsOptionalUnion<T> {
+    /// The tag, and what the reference to the value holds, or nothing where the union is left out.
+    ghost content: { Self → option (ℕ × Content) };
+
+    /// Once the union is prepared, it has this tag and holds this.
+    ghost has_content: { PreparesUnion Self.may Self.outcome content };
 }
 
 /// What can be written as an item of a list of `P`, and says what such a list holds.

@@ -1,5 +1,5 @@
 //! A table is written from its fields.
-ghost use Rattle.std.specs.Prelude.{◌≤◌, length, IfOk, IsTrue};
+ghost use Rattle.std.specs.Prelude.{◌≤◌, ◌++◌, max, length, IfOk, IsTrue};
 ghost use Rattle.planus_write.specs.State.{Grows};
 ghost use Rattle.planus_write.specs.Tables.{body_size, body_bytes};
 ghost use Rattle.planus_tables.specs.TableRules.{can_hold};
@@ -7,46 +7,69 @@ ghost use Rattle.planus_tables.specs.Preparing.{CreatesTable};
 ghost use Rattle.planus_tables.specs.Contents.{WritesContents};
 
 use crate::fields::Fields;
+use crate::prepared_body::PreparedBody;
 use crate::prepared_fields::PreparedFields;
 use planus_write::{BuildError, Builder, ObjectFill, ObjectWriter, Offset, TableWriter};
 
-/// The body of a table.
+/// What writes the body of a table.
 #[derive(Drop)]
-struct Body<'a, const N: usize, F: PreparedFields<N>> {
-    fields: &'a F,
+struct Body<'a, const N: usize, F: PreparedFields<N>, T: PreparedFields<N>> {
+    prepared: &'a PreparedBody<F, T>,
 }
 
-impl<'a, const N: usize, F: PreparedFields<N>> ObjectFill for Body<'a, N, F> {
-    ghost size = { λ body. body_size (F.there body.fields.now) };
+impl<'a, const N: usize, F: PreparedFields<N>, T: PreparedFields<N>> ObjectFill
+    for Body<'a, N, F, T> {
+    ghost size = { λ body.
+        body_size (F.there body.prepared.now.fields ++ T.there body.prepared.now.tags) };
 
-    ghost reach = { λ body. F.reach body.fields.now };
+    ghost reach = { λ body.
+        max (F.reach body.prepared.now.fields) (T.reach body.prepared.now.tags) };
 
-    ghost leaves = { λ body place. body_bytes place (F.there body.fields.now) };
+    ghost leaves = { λ body place.
+        body_bytes place (F.there body.prepared.now.fields ++ T.there body.prepared.now.tags) };
 
     #[inline]
     fn fill(&self, writer: &mut ObjectWriter<'_>) {
-        self.fields.write(writer);
+        self.prepared.fields.write(writer);
+        self.prepared.tags.write(writer);
     }
 }
 
-/// Writes a table: prepares its fields, one after another, and then writes the table of those that
-/// are there. `N` is 4, and 2 for each slot up to the greatest.
+/// Writes a table: prepares its fields in order, and then writes the table of those that are there,
+/// with exactly these fields. Returns its offset. With `Ok`, whatever was written before, the table
+/// is kept and the values to which it refers, and all that was kept before still is.
+///
+/// `N` is 4, and 2 for each slot up to the greatest. The fields come by falling alignment: numbers of
+/// eight bytes first, then references, unions and numbers of four bytes, those of two, and those of
+/// one. They are prepared in the same order.
+///
+/// A refusal is that of the first field that is refused, or else that of the table:
+/// [`BuildError::TooLarge`] where a part's place would be above 2147483647 bytes from the end, and
+/// [`BuildError::OutOfMemory`] where memory is refused. What was written before it stays.
 pub fn create_table<T, const N: usize, F: Fields<N> + Drop>(
     builder: &mut Builder,
     fields: F,
 ) -> std::result::Result<Offset<T>, BuildError>
     requires may { F.may fields builder.old }
-    requires rules { IsTrue (can_hold N F.Prepared.all) }
-    ensures written { CreatesTable (F.outcome fields) F.Prepared.there
+    requires rules { IsTrue (can_hold N (F.Prepared.all ++ F.Tags.all)) }
+    ensures written { CreatesTable (F.outcome fields)
+        (λ body. F.Prepared.there body.fields ++ F.Tags.there body.tags)
         builder.old result builder.new }
-    ensures kept { IfOk result (λ offset. WritesContents (F.contents fields)
+    ensures kept { IfOk result (λ offset. WritesContents
+        (F.contents fields ++ F.tag_contents fields)
         builder.old offset.distance builder.new) }
     ensures reached { IfOk result (λ offset. offset.distance ≤ length builder.new.bytes) }
     ensures grows { Grows builder.old builder.new }
 {
     let prepared = fields.prepare(builder)?;
     let mut writer: TableWriter<N> = TableWriter::default();
-    prepared.declare(&mut writer);
-    writer.finish(builder, &Body { fields: &prepared })?;
+    prepared.fields.declare(&mut writer);
+    prepared.tags.declare(&mut writer);
+    writer.finish(
+        builder,
+        &Body {
+            prepared: &prepared,
+        },
+    )?;
     Ok(builder.current_offset())
 }

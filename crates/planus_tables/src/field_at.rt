@@ -11,10 +11,19 @@ pub struct FieldAt<const SLOT: usize, P, V> {
 }
 
 /// Writes a list of fields, each as `SLOT: KIND = VALUE`: its slot, the type as which it is encoded,
-/// and its value.
+/// and its value. A union is written as `(TAG, VALUE): union KIND = VALUE`, with its two slots.
 #[macro_export]
 macro_rules! fields {
     () => { () };
+    (($tag:literal, $slot:literal): union $kind:ty = $value:expr $(, $($rest:tt)*)?) => {
+        (
+            $crate::UnionAt::<$tag, $slot, $kind, _> {
+                value: $value,
+                of: std::marker::PhantomData,
+            },
+            $crate::fields!($($($rest)*)?),
+        )
+    };
     ($slot:literal: $kind:ty = $value:expr $(, $($rest:tt)*)?) => {
         (
             $crate::FieldAt::<$slot, $kind, _> {

@@ -8,3 +8,4 @@ mod list;
 mod offset;
 mod option;
 mod text;
+mod union;

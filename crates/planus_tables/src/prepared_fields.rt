@@ -8,7 +8,7 @@ ghost use Rattle.planus_write.specs.Tables.{Declared, IsField, declared_of, body
 ghost use Rattle.planus_write.specs.Tables.{body_bytes, total_size};
 ghost use Rattle.planus_write.specs.TableWriting.{WasTold};
 ghost use Rattle.planus_tables.specs.TableFields.{field_in, IsUnused};
-ghost use Rattle.planus_tables.specs.TableRules.{Among, has_slots};
+ghost use Rattle.planus_tables.specs.TableRules.{Among, has_slots, is_apart};
 ghost use Rattle.planus_tables.specs.PreparingLaws.{all_stand, all_among};
 
 use crate::field_at::FieldAt;
@@ -34,7 +34,10 @@ pub trait PreparedFields<const N: usize> {
         requires unused { AllByRecursion (λ one. IsUnused writer.old one.slot) all }
         requires fits { writer.old.object_size + total_size all ≤ 65535 }
         ensures told { (fields : List (ℕ × Field)) → WasTold writer.old (declared_of fields)
-            → WasTold writer.new (declared_of (fields ++ there self.now)) };
+            → WasTold writer.new (declared_of (fields ++ there self.now)) }
+        ensures others { (other : ℕ) → IsTrue (is_apart other all) → IsUnused writer.old other
+            → IsUnused writer.new other }
+        ensures size { writer.new.object_size ≤ writer.old.object_size + total_size all };
 
     /// Writes the fields that are there, behind what is written.
     fn write(&self, writer: &mut ObjectWriter<'_>)

@@ -1,27 +1,75 @@
-//! A ship that is written is read back.
-use crate::Ship;
+//! Ships and ports that are written are read back.
+use crate::{Owner, Port, PortFields, Ship};
 use planus_read::ReadAsRoot;
 use planus_tables::TableRef;
-use planus_write::Builder;
-use std::process::Abort;
+use planus_write::{BuildError, Builder, Offset, UnionOffset};
 use std::test::Fail;
 
-fn read_back_in(rt: &impl Abort, builder: &mut Builder) -> Result<(), Fail> {
+// Whether the root is a ship with this name and this hull, and so many numbers as its cargo.
+fn is_ship(bytes: &[u8], name: &str, hull: u16, cargo: Option<usize>) -> bool {
+    let ship: Result<TableRef<'_, Ship>, _> = ReadAsRoot::read_as_root(bytes);
+    match ship {
+        Ok(ship) => {
+            matches!(Ship::name(&ship), Ok(read) if read == name)
+                && matches!(Ship::hull(&ship), Ok(read) if read == hull)
+                && matches!(Ship::cargo(&ship), Ok(read) if read.map(|items| items.len()) == cargo)
+        }
+        Err(_) => false,
+    }
+}
+
+fn ships_are_read(builder: &mut Builder) -> Result<bool, BuildError> {
     let ship = Ship::create(builder, "Argo", 250, Some(&[12, 50]))?;
     let bytes = builder.finish(ship, None)?;
-    let ship: TableRef<'_, Ship> = ReadAsRoot::read_as_root(bytes)?;
-    assert_eq!(rt; (Ship::name(&ship)?, Ship::hull(&ship)?), ("Argo", 250));
-    assert_eq!(rt; bytes.len(), 49);
+    let full = bytes.len() == 49 && is_ship(bytes, "Argo", 250, Some(2));
     builder.clear();
     let ship = Ship::create(builder, "Argo", 100, None)?;
     let bytes = builder.finish(ship, None)?;
-    let ship: TableRef<'_, Ship> = ReadAsRoot::read_as_root(bytes)?;
-    assert_eq!(rt; (Ship::name(&ship)?, Ship::hull(&ship)?), ("Argo", 100));
-    Ok(())
+    Ok(full && is_ship(bytes, "Argo", 100, None))
+}
+
+// Whether the root is a port with this depth and so many ships.
+fn is_port(bytes: &[u8], depth: i16, ships: usize) -> bool {
+    let port: Result<TableRef<'_, Port>, _> = ReadAsRoot::read_as_root(bytes);
+    match port {
+        Ok(port) => {
+            matches!(Port::depth(&port), Ok(read) if read == depth)
+                && matches!(Port::ships(&port), Ok(Some(read)) if read.len() == ships)
+        }
+        Err(_) => false,
+    }
+}
+
+fn ports_are_read(builder: &mut Builder, depth: i16) -> Result<bool, BuildError> {
+    let ship = Ship::create(builder, "Argo", 100, None)?;
+    let text = builder.create_string("Jason")?;
+    let owner: UnionOffset<Owner> = UnionOffset::new(1, Offset::untyped(text));
+    let port = PortFields {
+        owner: Some(owner),
+        ships: &[ship],
+        berths: &["north", "south"],
+        depth,
+        is_open: true,
+        founded: 1000,
+    };
+    let port = Port::create(builder, port)?;
+    let bytes = builder.finish(port, None)?;
+    Ok(is_port(bytes, depth, 1))
 }
 
 #[test]
-fn read_back(rt: HostRuntime) -> Result<(), Fail> {
+fn tables_are_read_back(rt: HostRuntime) -> Result<(), Fail> {
     let mut builder = Builder::new(rt.alloc())?;
-    read_back_in(&rt, &mut builder)
+    assert!(rt;
+        matches!(ships_are_read(&mut builder), Ok(true)),
+        "ships"
+    );
+    for depth in [-5, 7] {
+        builder.clear();
+        assert!(rt;
+            matches!(ports_are_read(&mut builder, depth), Ok(true)),
+            "ports"
+        );
+    }
+    Ok(())
 }

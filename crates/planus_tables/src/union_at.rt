@@ -1,0 +1,11 @@
+//! One union of a table, in two slots.
+
+use std::marker::PhantomData;
+
+/// A union of kind `T` for the slot of its tag and the slot of its value. It stands in a list of
+/// fields as a [`FieldAt`](crate::FieldAt) does.
+#[derive(Drop)]
+pub struct UnionAt<const TAG: usize, const VALUE: usize, T, V> {
+    pub value: V,
+    pub of: PhantomData<T>,
+}

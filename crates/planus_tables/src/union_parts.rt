@@ -1,0 +1,27 @@
+//! The tag of a union and the reference to its value.
+ghost use Rattle.std.specs.Prelude.{◌≡◌};
+ghost use Rattle.std.specs.Option.{option_map};
+
+use planus_write::{Offset, UnionOffset};
+
+/// Returns the tag of a union, if there is one.
+#[inline]
+pub(crate) fn tag_of<T>(union: &Option<UnionOffset<T>>) -> Option<u8>
+    ensures { result ≡ option_map (λ union. union.tag) union.now }
+{
+    match union {
+        None => None,
+        Some(union) => Some(union.tag()),
+    }
+}
+
+/// Returns the reference to the value of a union, if there is one.
+#[inline]
+pub(crate) fn value_of<T>(union: &Option<UnionOffset<T>>) -> Option<Offset<()>>
+    ensures { result ≡ option_map (λ union. union.offset) union.now }
+{
+    match union {
+        None => None,
+        Some(union) => Some(union.offset()),
+    }
+}

@@ -1,0 +1,100 @@
+//! Ports: tables with a union and with fields of other kinds, of the schema
+//!
+//! ```text
+//! table Port {
+//!     owner: Owner; ships: [Ship]; berths: [string];
+//!     depth: int16 = -5; open: bool; founded: uint64;
+//! }
+//! ```
+
+ghost use Rattle.std.specs.Prelude.{◌≤◌, [], ◌∷◌, length, negsuc, codes, IfOk, ◌≡◌, MatchOption, ⊤};
+ghost use Rattle.std.specs.List.{AllByRecursion};
+ghost use Rattle.std.specs.Ordering.{int_eq};
+ghost use Rattle.planus_write.specs.State.{Grows};
+ghost use Rattle.planus_write.specs.Unions.{union_reach};
+ghost use Rattle.planus_tables.specs.Contents.{WritesContents, unless};
+ghost use Rattle.planus_tables.specs.Holds.{holds_bool, holds_i16, holds_offsets, holds_texts};
+ghost use Rattle.planus_tables.specs.Holds.{holds_u64, holds_union_tag, holds_union_value};
+
+use crate::ship::Ship;
+use planus_read::Result;
+use planus_tables::{OrDefault, TableKind, TableRef, create_table, fields};
+use planus_view::Vector;
+use planus_write::{BuildError, Builder, List, Offset, Text, UnionOffset};
+
+/// The kind of a union: who owns a port.
+pub struct Owner;
+
+/// The kind of an offset to a port.
+pub struct Port;
+
+/// What a port has, as it is handed in.
+#[derive(Drop)]
+pub struct PortFields<'a> {
+    pub owner: Option<UnionOffset<Owner>>,
+    pub ships: &'a [Offset<Ship>],
+    pub berths: &'a [&'a str],
+    pub depth: i16,
+    pub is_open: bool,
+    pub founded: u64,
+}
+
+impl Port {
+    /// Writes a port, whose owner and ships are written already. A depth of -5 is left out.
+    pub fn create(
+        builder: &mut Builder,
+        port: PortFields<'_>,
+    ) -> std::result::Result<Offset<Port>, BuildError>
+        requires owner { MatchOption port.owner ⊤
+            (λ owner. union_reach owner ≤ length builder.old.bytes) }
+        requires ships { AllByRecursion
+            (λ ship. ship.distance ≤ length builder.old.bytes) port.ships.now }
+        ensures kept { IfOk result (λ offset. WritesContents
+            ((6, holds_u64 port.entry.founded)
+            ∷ (1, holds_union_value port.entry.owner)
+            ∷ (2, holds_offsets port.entry.ships.now)
+            ∷ (3, holds_texts (λ berth. berth.now) port.entry.berths.now)
+            ∷ (4, unless (int_eq port.entry.depth (negsuc 4)) (holds_i16 port.entry.depth))
+            ∷ (5, holds_bool port.entry.is_open)
+            ∷ (0, holds_union_tag port.entry.owner) ∷ [])
+            builder.old offset.distance builder.new) }
+        ensures grows { Grows builder.old builder.new }
+    {
+        let depth = OrDefault {
+            value: port.depth,
+            default: -5,
+        };
+        let fields = fields![
+            6: u64 = port.founded,
+            (0, 1): union Owner = port.owner,
+            2: Offset<List<Offset<Ship>>> = port.ships,
+            3: Offset<List<Offset<Text>>> = port.berths,
+            4: i16 = depth,
+            5: bool = port.is_open,
+        ];
+        create_table::<Port, 18, _>(builder, fields)
+    }
+
+    /// Returns the ships of a port that is read, or `None` where there are none.
+    pub fn ships<'a>(
+        port: &TableRef<'a, Port>,
+    ) -> Result<Option<Vector<'a, Result<TableRef<'a, Ship>>>>> {
+        port.table
+            .access::<Vector<'a, Result<TableRef<'a, Ship>>>>(2, "Port", "ships")
+    }
+
+    /// Returns its depth, -5 where there is none.
+    pub fn depth(port: &TableRef<'_, Port>) -> Result<i16> {
+        Ok(port.table.access::<i16>(4, "Port", "depth")?.unwrap_or(-5))
+    }
+}
+
+impl TableKind for Port {
+    ghost name = { codes "[PortRef]" };
+
+    fn name() -> &'static str
+        ensures { result.now ≡ codes "[PortRef]" }
+    {
+        "[PortRef]"
+    }
+}
