@@ -1,12 +1,11 @@
 -- Fields that are declared and written one after another.
 use Rattle.std.proofs.Common.{◌≡◌, ℕ, suc, ◌+◌, ◌-◌, ◌≤◌, List, [], ◌∷◌, ◌++◌, length, take, drop, replicate}
 use Rattle.std.proofs.Common.{Option, Some, None, refl, sym, ap, ◌∙◌, subst, arith, append_assoc}
-use Rattle.std.proofs.Common.{length-append, inl, inr}
+use Rattle.std.proofs.Common.{inl, inr}
 use Rattle.std.specs.Prelude.{◌⊎◌}
 use Rattle.std.specs.Int.{w16, to_le_bytes}
 use Rattle.std.proofs.lemmas.Bool.{cases_lt}
-use Rattle.std.proofs.lemmas.List.{append-nil, take_all, length-take, length-drop, drop-replicate}
-use Rattle.std.proofs.Math.Seq.{take-append_seam}
+use Rattle.std.proofs.lemmas.List.{append-nil, length-take, length-drop, drop-replicate}
 use Rattle.planus_read.specs.Bytes.{BytesStand}
 use Rattle.planus_read.specs.Values.{Field}
 use Rattle.planus_read.specs.Aligned.{field_alignment}
@@ -16,7 +15,7 @@ use Rattle.planus_write.specs.TableWriting.{Writer, WasTold, slot_position, blan
 use Rattle.planus_write.specs.ObjectWriting.{ObjectBody, wrote}
 use Rattle.planus_write.proofs.ToldTables.{pair_elsewhere}
 use Rattle.planus_write.proofs.WrittenBodies.{wrote_both}
-use Rattle.planus_tables.specs.TableFields.{field_in, size_if, item_if, IsUnused, IsItem}
+use Rattle.planus_tables.specs.TableFields.{field_in, size_if, IsUnused, IsItem}
 
 -- the entries of fields that follow others
 pub entries_append : (fields others : List (ℕ × Field))

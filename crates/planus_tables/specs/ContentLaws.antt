@@ -1,5 +1,5 @@
 -- The laws of what fields hold.
-use Rattle.std.specs.Prelude.{◌≡◌, ℕ, List, [], ◌∷◌, ◌++◌, length, Bool, true, false, if◌then◌else◌, Option, Some, None, Ok, ⊤}
+use Rattle.std.specs.Prelude.{◌≡◌, ℕ, List, [], ◌∷◌, ◌++◌, length, Bool, true, false, Option, Some, None, Ok, ⊤}
 use Rattle.std.specs.Bool.{Decides}
 use Rattle.std.specs.Int.{w8, to_le_bytes}
 use Rattle.std.specs.Option.{option_map}

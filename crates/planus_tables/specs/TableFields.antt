@@ -1,10 +1,10 @@
 -- The fields of a table that are there, in the order in which they are declared and written.
-use Rattle.std.specs.Prelude.{◌≡◌, ℕ, ◌≤◌, List, [], ◌∷◌, take, Option, Some, None}
+use Rattle.std.specs.Prelude.{◌≡◌, ℕ, ◌≤◌, List, [], ◌∷◌, Option, Some, None}
 use Rattle.planus_read.specs.Bytes.{BytesStand}
 use Rattle.planus_read.specs.Values.{Field}
 use Rattle.planus_read.specs.Aligned.{field_alignment}
 use Rattle.planus_write.specs.Items.{Item}
-use Rattle.planus_write.specs.Tables.{IsField, field_item, field_size, body_size, body_bytes}
+use Rattle.planus_write.specs.Tables.{IsField, field_item, field_size}
 use Rattle.planus_write.specs.TableWriting.{Writer, slot_position}
 
 -- What is written in a table with this size, alignment, bytes and reach is this field of the format.

@@ -135,7 +135,7 @@ where
         (λ value body. body.fields.0.value ≡ value)
         (λ body. record { fields = body.fields.1; tags = body.tags }) _
         (λ value body same. field_reach V.Prepared.reach value body.fields.0.value
-            (R.Prepared.reach body.fields.1) (R.Tags.reach body.tags) same)
+        (R.Prepared.reach body.fields.1) (R.Tags.reach body.tags) same)
         V.is_lawful R.is_lawful };
 
     ghost have_contents = { both_prepared SLOT (λ fields. fields.0.value) (λ fields. fields.1)
@@ -167,8 +167,8 @@ impl<
 
     ghost outcome = { λ fields old answer new.
         PreparesBoth (λ union body.
-            (body.fields.0.value ≡ option_map (λ union. union.offset) union)
-            × (body.tags.0.value ≡ option_map (λ union. union.tag) union))
+        (body.fields.0.value ≡ option_map (λ union. union.offset) union)
+        × (body.tags.0.value ≡ option_map (λ union. union.tag) union))
         (λ body. record { fields = body.fields.1; tags = body.tags.1 })
         (V.outcome fields.0.value) (R.outcome fields.1) old answer new };
 
@@ -195,11 +195,11 @@ impl<
 
     ghost is_lawful = { both_is_lawful (λ fields. fields.0.value) (λ fields. fields.1)
         (λ union body. (body.fields.0.value ≡ option_map (λ union. union.offset) union)
-            × (body.tags.0.value ≡ option_map (λ union. union.tag) union))
+        × (body.tags.0.value ≡ option_map (λ union. union.tag) union))
         (λ body. record { fields = body.fields.1; tags = body.tags.1 }) _
         (λ union body same. union_field_reach (λ union. union.offset) (λ union. refl) union
-            body.fields.0.value body.tags.0.value
-            (R.Prepared.reach body.fields.1) (R.Tags.reach body.tags.1) same.0)
+        body.fields.0.value body.tags.0.value
+        (R.Prepared.reach body.fields.1) (R.Tags.reach body.tags.1) same.0)
         V.is_lawful R.is_lawful };
 
     ghost have_contents = { union_and_others_prepared TAG VALUE (λ fields. fields.0.value)

@@ -58,6 +58,7 @@ impl Port {
             ∷ (5, holds_bool port.entry.is_open)
             ∷ (0, holds_union_tag port.entry.owner) ∷ [])
             builder.old offset.distance builder.new) }
+        ensures reached { IfOk result (λ offset. offset.distance ≤ length builder.new.bytes) }
         ensures grows { Grows builder.old builder.new }
     {
         let depth = OrDefault {

@@ -2,7 +2,7 @@
 use crate::{Owner, Port, PortFields, Ship};
 use planus_read::ReadAsRoot;
 use planus_tables::TableRef;
-use planus_write::{BuildError, Builder, Offset, UnionOffset};
+use planus_write::{BuildError, Builder, UnionOffset};
 use std::test::Fail;
 
 // Whether the root is a ship with this name and this hull, and so many numbers as its cargo.
@@ -43,7 +43,7 @@ fn is_port(bytes: &[u8], depth: i16, ships: usize) -> bool {
 fn ports_are_read(builder: &mut Builder, depth: i16) -> Result<bool, BuildError> {
     let ship = Ship::create(builder, "Argo", 100, None)?;
     let text = builder.create_string("Jason")?;
-    let owner: UnionOffset<Owner> = UnionOffset::new(1, Offset::untyped(text));
+    let owner: UnionOffset<Owner> = UnionOffset::new(1, text.downcast());
     let port = PortFields {
         owner: Some(owner),
         ships: &[ship],

@@ -3,7 +3,7 @@ use Rattle.planus_write.specs.TableWriting.{Writer}
 use Rattle.planus_write.specs.Laws.{grows_on}
 use Rattle.planus_write.specs.TableLaws.{table_grows}
 use Rattle.planus_write.specs.Tables.{declared_of, body_bytes}
-use Rattle.planus_tables.proofs.FieldLists.{total_append, entries_append}
+use Rattle.planus_tables.proofs.FieldLists.{total_append}
 use Rattle.planus_tables.proofs.RuledTables.{holds, all_unused, slots_append, others_unused}
 use Rattle.planus_tables.proofs.RuledTables.{table_created, table_refused, fields_kept}
 use Rattle.planus_tables.proofs.create.create_table.Goals as goal
