@@ -1,11 +1,9 @@
 -- The laws of what fields hold.
 use Rattle.std.specs.Prelude.{◌≡◌, ℕ, List, [], ◌∷◌, ◌++◌, length, Bool, true, false, Option, Some, None, Ok, ⊤}
 use Rattle.std.specs.Bool.{Decides}
-use Rattle.std.specs.Int.{w8, to_le_bytes}
-use Rattle.std.specs.Option.{option_map}
-use Rattle.std.proofs.Common.{refl, subst, sym, ap}
-use Rattle.planus_read.specs.Values.{Value, Field, plain, reference, text, byte_list}
-use Rattle.planus_fields.specs.Fields.{MayIf, PreparesIf, LeftOutWhere, reach_if}
+use Rattle.std.proofs.Common.{refl, subst, sym}
+use Rattle.planus_read.specs.Values.{Value, Field, reference, text, byte_list, union_list}
+use Rattle.planus_fields.specs.Fields.{MayIf, PreparesIf, LeftOutWhere}
 use Rattle.planus_write.specs.Kept.{IsKept}
 use Rattle.planus_write.specs.Laws.{extends_on, extends_itself}
 use Rattle.planus_write.specs.Parts.{IsWritten, entries_of, last_of, Named, named_by}
@@ -13,16 +11,14 @@ use Rattle.planus_write.specs.Past.{Past}
 use Rattle.planus_write.specs.Placing.{Outcome}
 use Rattle.planus_write.specs.Preparing.{Answers, IsLawful, WritesEntries, WritesByteList, WritesText}
 use Rattle.planus_write.specs.State.{State, IsPast, Extends, Grows}
-use Rattle.planus_write.specs.Unions.{union_reach}
 use Rattle.planus_write.specs.declared.offset.Offset.{Offset}
-use Rattle.planus_write.specs.declared.union_offset.UnionOffset.{UnionOffset}
 use Rattle.planus_write.proofs.PutEntries.{entries_put}
 use Rattle.planus_write.proofs.Standing.{values_are_kept}
 use Rattle.planus_write.proofs.Staying.{kept_stays}
-use Rattle.planus_tables.specs.Contents.{Content, item, value, values, written, named_at, AllKept, FieldIs, HoldsIf}
-use Rattle.planus_tables.specs.Contents.{UnionHolds, PreparesUnion, value_content, tag_content, union_if}
-use Rattle.planus_tables.specs.Contents.{FieldsAre, content_in, there_of, Comes, unless, holds_if}
-use Rattle.planus_tables.specs.Contents.{PreparesContent, PreparesOptional, PreparesContents}
+use Rattle.planus_tables.specs.Contents.{Content, item, value, values, written, union_tags, union_values}
+use Rattle.planus_tables.specs.Contents.{written_tags, written_values, named_at, named_at_both, AllKept}
+use Rattle.planus_tables.specs.Contents.{FieldIs, HoldsIf, FieldsAre, content_in, there_of, Comes, unless}
+use Rattle.planus_tables.specs.Contents.{holds_if, PreparesContent, PreparesOptional, PreparesContents}
 use Rattle.planus_tables.specs.Preparing.{PreparesBoth}
 use Rattle.planus_tables.specs.TableFields.{field_in}
 
@@ -53,8 +49,22 @@ field_stays before after (values contents) field extends is = (
   ),
 )
 field_stays before after (written distance) field extends is = is
+field_stays before after (union_tags items) field extends is = (
+  is.0,
+  is.1,
+  is.2,
+  kept_stays before after (union_list items) (named_at_both is.0 is.1) extends is.3,
+)
+field_stays before after (union_values items) field extends is = (
+  is.0,
+  is.1,
+  is.2,
+  kept_stays before after (union_list items) (named_at_both is.0 is.1) extends is.3,
+)
+field_stays before after (written_tags distance) field extends is = is
+field_stays before after (written_values distance) field extends is = is
 
-holds_stays : {A : Type 0} (before after : Past) (content : Option Content) (field : A → Field)
+pub holds_stays : {A : Type 0} (before after : Past) (content : Option Content) (field : A → Field)
     (prepared : Option A) → Extends before after → HoldsIf before content field prepared
     → HoldsIf after content field prepared
 holds_stays before after None field None extends holds = tt
@@ -74,7 +84,7 @@ fields_stay before after (content ∷ contents) (field ∷ fields) extends are =
 fields_stay before after [] (field ∷ fields) extends are = are
 fields_stay before after (content ∷ contents) [] extends are = are
 
-one_more : {A : Type 0} (past : Past) (slot : ℕ) (content : Option Content) (field : A → Field)
+pub one_more : {A : Type 0} (past : Past) (slot : ℕ) (content : Option Content) (field : A → Field)
     (prepared : Option A) (contents : List (ℕ × Content)) (fields : List (ℕ × Field))
     → HoldsIf past content field prepared → FieldsAre past contents fields
     → FieldsAre past (content_in slot content ++ contents) (field_in slot field prepared ++ fields)
@@ -139,137 +149,6 @@ both_prepared slot x_of y_of of_first of_rest content field contents tag_content
             ),
           ));
     }
-
--- a union: its tag and the reference to its value
-union_value_holds : {T U : Type 0} (offset_of : UnionOffset T → Offset U)
-    → ((union : UnionOffset T) → (offset_of union).distance ≡ union_reach union)
-    → (before after : Past) (content : Option (ℕ × Content)) (union : Option (UnionOffset T))
-    → Extends before after → UnionHolds before content union
-    → HoldsIf after (value_content content) (λ offset. reference offset.distance) (option_map offset_of union)
-union_value_holds offset_of is before after None None extends holds = tt
-union_value_holds offset_of is before after (Some content) (Some union) extends holds =
-    field_stays before after content.1 _ extends
-    (subst (λ (d : ℕ). FieldIs before content.1 (reference d)) (sym (is union)) holds.1)
-union_value_holds offset_of is before after None (Some union) extends holds = holds
-union_value_holds offset_of is before after (Some content) None extends holds = holds
-
-union_tag_holds : {T : Type 0} (before after : Past) (content : Option (ℕ × Content))
-    (union : Option (UnionOffset T)) → UnionHolds before content union
-    → HoldsIf after (tag_content content)
-    (λ tag. plain (record { bytes = to_le_bytes w8 tag; alignment = 1 })) (option_map (λ union. union.tag) union)
-union_tag_holds before after None None holds = tt
-union_tag_holds before after (Some content) (Some union) holds =
-    ap (λ (tag : ℕ). plain (record { bytes = to_le_bytes w8 tag; alignment = 1 })) holds.0
-union_tag_holds before after None (Some union) holds = holds
-union_tag_holds before after (Some content) None holds = holds
-
--- one union and the others
-pub union_and_others_prepared : {T U X Y Z B C : Type 0} {may_first : X → State → Type 0}
-    {first : X → Outcome (Option (UnionOffset T))} {may_rest : Y → State → Type 0}
-    {rest : Y → Outcome B} (tag_slot value_slot : ℕ) (x_of : Z → X) (y_of : Z → Y)
-    (offset_of : UnionOffset T → Offset U)
-    → ((union : UnionOffset T) → (offset_of union).distance ≡ union_reach union)
-    → (value_of : C → Option (Offset U)) (tag_of : C → Option ℕ) (of_rest : C → B)
-    (content : X → Option (ℕ × Content))
-    (contents tag_contents : Y → List (ℕ × Option Content)) (there tags_there : B → List (ℕ × Field))
-    → IsLawful may_first first (reach_if union_reach)
-    → ((y : Y) (old new : State) → Grows old new → may_rest y old → may_rest y new)
-    → PreparesUnion may_first first content
-    → PreparesContents may_rest rest contents tag_contents there tags_there
-    → PreparesContents {X = Z} (λ fields old. may_first (x_of fields) old × may_rest (y_of fields) old)
-    (λ fields old answer new.
-    PreparesBoth
-    (λ union prepared. (value_of prepared ≡ option_map offset_of union)
-    × (tag_of prepared ≡ option_map (λ union. union.tag) union))
-    of_rest (first (x_of fields)) (rest (y_of fields)) old answer new)
-    (λ fields. (value_slot, value_content (content (x_of fields))) ∷ contents (y_of fields))
-    (λ fields. (tag_slot, tag_content (content (x_of fields))) ∷ tag_contents (y_of fields))
-    (λ prepared. field_in value_slot (λ offset. reference offset.distance) (value_of prepared)
-    ++ there (of_rest prepared))
-    (λ prepared. field_in tag_slot (λ tag. plain (record { bytes = to_le_bytes w8 tag; alignment = 1 })) (tag_of prepared)
-    ++ tags_there (of_rest prepared))
-union_and_others_prepared tag_slot value_slot x_of y_of offset_of is value_of tag_of of_rest content
-    contents tag_contents there tags_there firsts stays one others =
-    record {
-      comes = λ fields old prepared new past may done is_past.
-          (let between = done.1 in
-          let grown = firsts.grows (x_of fields) old (Ok done.0) between may.0 done.3 in
-          let near = one.comes (x_of fields) old done.0 between past may.0 done.3 is_past in
-          let far = others.comes (y_of fields) between (of_rest prepared) new near.0
-          (stays (y_of fields) old between grown may.1) done.4 near.1 in
-          let holds = content (x_of fields) in
-          let value_holds = subst
-          (λ value. HoldsIf far.0 (value_content holds) (λ offset. reference offset.distance) value)
-          (sym done.2.0) (union_value_holds offset_of is near.0 far.0 holds done.0 far.2 near.3) in
-          let tag_holds = subst
-          (λ tag. HoldsIf far.0 (tag_content holds) (λ tag. plain (record { bytes = to_le_bytes w8 tag; alignment = 1 })) tag)
-          (sym done.2.1) (union_tag_holds near.0 far.0 holds done.0 near.3) in (
-            far.0,
-            far.1,
-            extends_on past near.0 far.0 near.2 far.2,
-            (
-              one_more far.0 value_slot (value_content holds) (λ offset. reference offset.distance)
-                  (value_of prepared) (there_of (contents (y_of fields))) (there (of_rest prepared))
-                  value_holds far.3.0,
-              one_more far.0 tag_slot (tag_content holds)
-                  (λ tag. plain (record { bytes = to_le_bytes w8 tag; alignment = 1 }))
-                  (tag_of prepared) (there_of (tag_contents (y_of fields))) (tags_there (of_rest prepared))
-                  tag_holds far.3.1,
-            ),
-          ));
-    }
-
--- a union that is written already
-pub union_offset_prepared : {T : Type 0} {may : UnionOffset T → State → Type 0}
-    → PreparesUnion may (λ union old answer new. LeftOutWhere ⊥ (Answers union) old answer new)
-    (λ union. Some (union.tag, written (union_reach union)))
-union_offset_prepared {T} {may} = record { comes = comes }
-  where
-    comes : (union : UnionOffset T) (old : State) (prepared : Option (UnionOffset T)) (new : State)
-        (past : Past) → may union old → LeftOutWhere ⊥ (Answers union) old (Ok prepared) new
-        → IsPast old past
-        → Comes past new (λ after. UnionHolds after (Some (union.tag, written (union_reach union))) prepared)
-    comes union old None new past may done is_past = elim done.0 [ ]
-    comes union old (Some found) new past may done is_past =
-        let same : found ≡ union = cc in
-        stays_there past old new
-        (λ after. (found.tag ≡ union.tag) × (reference (union_reach found) ≡ reference (union_reach union)))
-        done.1.1 is_past
-        (ap (λ (union : UnionOffset T). union.tag) same, ap (λ (union : UnionOffset T). reference (union_reach union)) same)
-
--- a union that may be absent
-pub optional_union_prepared : {X T : Type 0} {may : X → State → Type 0}
-    {outcome : X → Outcome (Option (UnionOffset T))} {content : X → Option (ℕ × Content)}
-    → PreparesUnion may outcome content
-    → PreparesUnion (λ x old. MayIf may x old) (λ x old answer new. PreparesIf outcome x old answer new)
-    (λ x. union_if content x)
-optional_union_prepared {X} {T} {may} {outcome} {content} lawful = record { comes = prepared }
-  where
-    prepared : (x : Option X) (old : State) (prepared : Option (UnionOffset T)) (new : State) (past : Past)
-        → MayIf may x old → PreparesIf outcome x old (Ok prepared) new → IsPast old past
-        → Comes past new (λ after. UnionHolds after (union_if content x) prepared)
-    prepared None old None new past may done is_past =
-        stays_there past old new (λ after. ⊤) done.1 is_past tt
-    prepared None old (Some found) new past may done is_past = cc
-    prepared (Some x) old found new past may done is_past = lawful.comes x old found new past may done is_past
-
--- a union that is always left out
-pub never_union_prepared : {X T : Type 0} {may : X → State → Type 0}
-    → PreparesUnion {X = X} {T = T} may (λ x old answer new. Answers None old answer new) (λ x. None)
-never_union_prepared {X} {T} {may} = record {
-  comes = λ x old prepared new past may done is_past.
-      (let same : None ≡ prepared = cc in
-      subst (λ (prepared : Option (UnionOffset T)). Comes past new (λ after. UnionHolds after None prepared)) same
-      (stays_there past old new (λ after. ⊤) done.1 is_past tt));
-}
-
--- a union that is prepared as something else
-pub union_prepared_as : {X Y T : Type 0} {may : X → State → Type 0}
-    {outcome : X → Outcome (Option (UnionOffset T))} {content : X → Option (ℕ × Content)} (of : Y → X)
-    → PreparesUnion may outcome content
-    → PreparesUnion (λ y old. may (of y) old) (λ y old answer new. outcome (of y) old answer new)
-    (λ y. content (of y))
-union_prepared_as of lawful = record { comes = λ y. lawful.comes (of y) }
 
 -- what is prepared already
 pub ready_prepared : {A : Type 0} {may : A → State → Type 0} (content : A → Content)

@@ -1,7 +1,8 @@
 -- What the fields of a table hold, in the words of its caller.
 use Rattle.std.specs.Prelude.{◌≡◌, ℕ, List, [], ◌∷◌, ◌++◌, Bool, if◌then◌else◌, Option, Some, None, Ok, ⊤}
 use Rattle.std.specs.Int.{w8, to_le_bytes}
-use Rattle.planus_read.specs.Values.{Value, Field, Plain, plain, reference, reference_list, table}
+use Rattle.planus_read.specs.Values.{Value, Field, Plain, plain, reference, tags, values as values_field}
+use Rattle.planus_read.specs.Values.{reference_list, union_list, table}
 use Rattle.planus_write.specs.Kept.{IsKept}
 use Rattle.planus_write.specs.Parts.{Named}
 use Rattle.planus_write.specs.Past.{Past}
@@ -9,14 +10,21 @@ use Rattle.planus_write.specs.Placing.{Outcome}
 use Rattle.planus_write.specs.State.{State, IsPast, Extends}
 use Rattle.planus_write.specs.Unions.{union_reach}
 use Rattle.planus_write.specs.declared.union_offset.UnionOffset.{UnionOffset}
+use Rattle.planus_write.specs.declared.union_vector_offset.UnionVectorOffset.{UnionVectorOffset}
 
 -- What a field holds: a number or a truth value; a reference to a value; a reference to a list of
--- references to values; or a reference to what was written before, at this distance.
+-- references to values; or a reference to what was written before, at this distance. A list of unions
+-- has two fields, one that refers to its tags and one that refers to its values: they are those of
+-- the list of these pairs of a tag and a distance, or of one that was written before.
 pub data Content : Type 0 where
   item : Plain → Content
   value : Value → Content
   values : List Value → Content
   written : ℕ → Content
+  union_tags : List (ℕ × ℕ) → Content
+  union_values : List (ℕ × ℕ) → Content
+  written_tags : ℕ → Content
+  written_values : ℕ → Content
 
 -- named by one distance
 abbrev pub named_at : ℕ → Named
@@ -30,6 +38,10 @@ AllKept past (one ∷ others) (distance ∷ distances) =
 AllKept past [] (distance ∷ distances) = ⊥
 AllKept past (one ∷ others) [] = ⊥
 
+-- the same of a list of unions
+abbrev pub named_at_both : (tags_at values_at : ℕ) → Named
+named_at_both tags_at values_at = record { distance = values_at; tags = Some tags_at }
+
 -- The field holds this. What it refers to is kept; of what was written before that is the caller's
 -- to know.
 abbrev pub FieldIs : Past → Content → Field → Type 0
@@ -41,6 +53,14 @@ FieldIs past (values contents) field =
     × ((distances : List ℕ) × IsKept past (reference_list distances) (named_at distance)
     × AllKept past contents distances)
 FieldIs past (written distance) field = field ≡ reference distance
+FieldIs past (union_tags items) field =
+    (tags_at values_at : ℕ) × (field ≡ tags tags_at)
+    × IsKept past (union_list items) (named_at_both tags_at values_at)
+FieldIs past (union_values items) field =
+    (tags_at values_at : ℕ) × (field ≡ values_field values_at)
+    × IsKept past (union_list items) (named_at_both tags_at values_at)
+FieldIs past (written_tags distance) field = field ≡ tags distance
+FieldIs past (written_values distance) field = field ≡ values_field distance
 
 -- a field that may be left out holds this, or it is left out
 abbrev pub HoldsIf : {A : Type 0} → Past → Option Content → (A → Field) → Option A → Type 0
@@ -122,6 +142,33 @@ pub record PreparesUnion {X T : Type 0} (may : X → State → Type 0)
       → may x old → outcome x old (Ok prepared) new → IsPast old past
       → Comes past new (λ after. UnionHolds after (content x) prepared)
 
+-- The two fields of a list of unions hold these; or it is left out.
+abbrev pub UnionListHolds : {T : Type 0} → Past → Option (Content × Content)
+    → Option (UnionVectorOffset T) → Type 0
+UnionListHolds past None None = ⊤
+UnionListHolds past (Some contents) (Some vector) =
+    FieldIs past contents.0 (tags vector.tags.distance)
+    × FieldIs past contents.1 (values_field vector.values.distance)
+UnionListHolds past None (Some vector) = ⊥
+UnionListHolds past (Some contents) None = ⊥
+
+-- Once a list of unions is prepared, its two fields hold these.
+pub record PreparesUnionList {X T : Type 0} (may : X → State → Type 0)
+    (outcome : X → Outcome (Option (UnionVectorOffset T))) (contents : X → Option (Content × Content)) : Type 0 where
+  pub comes :
+      (x : X) (old : State) (prepared : Option (UnionVectorOffset T)) (new : State) (past : Past)
+      → may x old → outcome x old (Ok prepared) new → IsPast old past
+      → Comes past new (λ after. UnionListHolds after (contents x) prepared)
+
+-- what each of its fields holds
+abbrev pub tags_content : Option (Content × Content) → Option Content
+tags_content None = None
+tags_content (Some contents) = Some contents.0
+
+abbrev pub values_content : Option (Content × Content) → Option Content
+values_content None = None
+values_content (Some contents) = Some contents.1
+
 -- what the two fields of a union hold: a reference to its value, and its tag
 abbrev pub value_content : Option (ℕ × Content) → Option Content
 value_content None = None
@@ -155,3 +202,9 @@ holds_if content (Some x) = content x
 abbrev pub union_if : {X : Type 0} → (X → Option (ℕ × Content)) → Option X → Option (ℕ × Content)
 union_if content None = None
 union_if content (Some x) = content x
+
+-- the same of a list of unions
+abbrev pub union_list_if : {X : Type 0} → (X → Option (Content × Content)) → Option X
+    → Option (Content × Content)
+union_list_if contents None = None
+union_list_if contents (Some x) = contents x

@@ -2,11 +2,11 @@
 use Rattle.std.specs.Prelude.{ℕ, List, [], ◌∷◌, map, Bool, Option, Some, ℤ}
 use Rattle.std.specs.Int.{w8, w16, w32, w64, to_le_bytes, cast_unsigned, from_bool}
 use Rattle.planus_read.specs.Values.{text, byte_list, plain_list, reference_list}
-use Rattle.planus_write.specs.Unions.{union_reach}
+use Rattle.planus_write.specs.Unions.{union_reach, item_of}
 use Rattle.planus_write.specs.declared.offset.Offset.{Offset}
 use Rattle.planus_write.specs.declared.union_offset.UnionOffset.{UnionOffset}
 use Rattle.planus_tables.specs.Contents.{Content, item, value, values, written}
-use Rattle.planus_tables.specs.Contents.{value_content, tag_content, union_if}
+use Rattle.planus_tables.specs.Contents.{union_tags, union_values, value_content, tag_content, union_if}
 
 -- a number without a sign
 abbrev pub holds_u8 : ℕ → Option Content
@@ -79,3 +79,10 @@ holds_union_value union =
 abbrev pub holds_union_tag : {T : Type 0} → Option (UnionOffset T) → Option Content
 holds_union_tag union =
     tag_content (union_if (λ union. Some (union.tag, written (union_reach union))) union)
+
+-- the tags and the values of a list of unions that were written before
+abbrev pub holds_union_tags : {T : Type 0} → List (UnionOffset T) → Option Content
+holds_union_tags unions = Some (union_tags (map item_of unions))
+
+abbrev pub holds_union_values : {T : Type 0} → List (UnionOffset T) → Option Content
+holds_union_values unions = Some (union_values (map item_of unions))

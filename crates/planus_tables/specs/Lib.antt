@@ -5,5 +5,6 @@ pub mod PreparingLaws
 pub mod Contents
 pub mod ContentLaws
 pub mod ListContents
+pub mod UnionContents
 pub mod Holds
 pub mod Views

@@ -5,7 +5,7 @@ use Rattle.std.specs.List.{AllByRecursion}
 use Rattle.std.specs.Option.{option_map}
 use Rattle.std.proofs.lemmas.List.{length-replicate}
 use Rattle.std.proofs.Common.{refl, subst, sym, ap, ◌∙◌, arith, inl, inr}
-use Rattle.planus_read.specs.Values.{Field, plain, reference}
+use Rattle.planus_read.specs.Values.{Field, plain, reference, tags as tags_field, values as values_field}
 use Rattle.planus_write.specs.Items.{Item, plain_item, reference_item}
 use Rattle.planus_write.specs.Laws.{grows_on, reached_still, unchanged_grows}
 use Rattle.planus_write.specs.Placing.{Outcome}
@@ -13,10 +13,11 @@ use Rattle.planus_write.specs.Preparing.{IsLawful, IsLayout}
 use Rattle.planus_write.specs.State.{State, Grows}
 use Rattle.planus_read.specs.Aligned.{field_alignment}
 use Rattle.planus_write.specs.Tables.{IsField, Declared, declared_of, field_size}
-use Rattle.planus_write.specs.Unions.{union_reach}
+use Rattle.planus_write.specs.Unions.{union_reach, union_vector_reach}
 use Rattle.planus_write.specs.declared.errors.BuildError.{BuildError}
 use Rattle.planus_write.specs.declared.offset.Offset.{Offset}
 use Rattle.planus_write.specs.declared.union_offset.UnionOffset.{UnionOffset}
+use Rattle.planus_write.specs.declared.union_vector_offset.UnionVectorOffset.{UnionVectorOffset}
 use Rattle.planus_fields.specs.Fields.{reach_if}
 use Rattle.planus_tables.specs.TableFields.{IsItem, field_in}
 use Rattle.planus_tables.specs.TableRules.{Among}
@@ -55,6 +56,25 @@ reference_is_item distance = record {
   stands = λ before reached. reached;
 }
 
+-- the references of a list of unions
+pub tags_are_item : (distance : ℕ)
+    → IsItem 4 4 (reference_item distance) distance (tags_field distance)
+tags_are_item distance = record {
+  size_is = refl;
+  alignment_is = refl;
+  leaves_is = refl;
+  stands = λ before reached. reached;
+}
+
+pub values_are_item : (distance : ℕ)
+    → IsItem 4 4 (reference_item distance) distance (values_field distance)
+values_are_item distance = record {
+  size_is = refl;
+  alignment_is = refl;
+  leaves_is = refl;
+  stands = λ before reached. reached;
+}
+
 abbrev entry_at : (slot size alignment : ℕ) → Declared
 entry_at slot size alignment = record { slot = slot; size = size; alignment = alignment }
 
@@ -84,6 +104,33 @@ none_is_lawful {X} {A} {reach} nothing = record { grows = grows; reaches = reach
 pub none_is_unchanged : {A : Type 0} (old : State) (prepared : A) (new : State)
     → PreparesNone old (Ok prepared) new → new ≡ old
 none_is_unchanged old prepared new done = done
+
+-- how far a list of unions and the others refer
+pub union_list_field_reach : {T A B : Type 0} (tags_of : UnionVectorOffset T → A) (tags_reach : A → ℕ)
+    (values_of : UnionVectorOffset T → B) (values_reach : B → ℕ)
+    → ((vector : UnionVectorOffset T) → tags_reach (tags_of vector) ≡ vector.tags.distance)
+    → ((vector : UnionVectorOffset T) → values_reach (values_of vector) ≡ vector.values.distance)
+    → (vector : Option (UnionVectorOffset T)) (tags_in : Option A) (values_in : Option B)
+    (fields tags : ℕ) → tags_in ≡ option_map tags_of vector → values_in ≡ option_map values_of vector
+    → max (max (reach_if tags_reach tags_in) (max (reach_if values_reach values_in) fields)) tags
+    ≤ max (reach_if union_vector_reach vector) (max fields tags)
+union_list_field_reach {T} {A} {B} tags_of tags_reach values_of values_reach tags_is values_is vector
+    tags_in values_in fields tags same_tags same_values =
+    let one = ap (reach_if tags_reach) same_tags in
+    let two = ap (reach_if values_reach) same_values in
+    let both = both_reach vector in
+    let first = both.0 in
+    let second = both.1 in
+    omega (arith, one, two, first, second)
+  where
+    both_reach : (vector : Option (UnionVectorOffset T))
+        → (reach_if tags_reach (option_map tags_of vector) ≤ reach_if union_vector_reach vector)
+        × (reach_if values_reach (option_map values_of vector) ≤ reach_if union_vector_reach vector)
+    both_reach None = (omega arith, omega arith)
+    both_reach (Some vector) =
+        let first = tags_is vector in
+        let second = values_is vector in
+        (omega (arith, first), omega (arith, second))
 
 -- one field and the others are prepared, one after the other
 pub both_is_lawful : {X Y Z A B C : Type 0} {may_first : X → State → Type 0}

@@ -1,10 +1,12 @@
 //! What the values of fields hold.
 ghost use Rattle.std.specs.Prelude.{ℕ, List, Option as option};
-ghost use Rattle.planus_tables.specs.Contents.{Content, PreparesOptional, PreparesUnion};
+ghost use Rattle.planus_tables.specs.Contents.{Content, PreparesOptional, PreparesUnion, PreparesUnionList};
 ghost use Rattle.planus_tables.specs.ListContents.{ListHasContent};
 
 use crate::table_item::TableItem;
-use planus_fields::{WriteAsDefault, WriteAsOptional, WriteAsOptionalUnion};
+use planus_fields::{
+    WriteAsDefault, WriteAsOptional, WriteAsOptionalUnion, WriteAsOptionalUnionVector,
+};
 use planus_write::{Primitive, VectorWrite};
 
 /// What can be written as a field that may be absent, and says what the field then holds.
@@ -40,6 +42,15 @@ pub trait HasUnionContent<T>: WriteAsOptionalUnion<T> {
 
     /// Once the union is prepared, it has this tag and holds this.
     ghost has_content: { PreparesUnion Self.may Self.outcome content };
+}
+
+/// What can be written as a list of unions that may be absent, and says what its two fields hold.
+pub trait HasUnionListContent<T>: WriteAsOptionalUnionVector<T> {
+    /// What the field of the tags and that of the values hold, or nothing where the list is left out.
+    ghost contents: { Self → option (Content × Content) };
+
+    /// Once the list is prepared, its fields hold these.
+    ghost has_contents: { PreparesUnionList Self.may Self.outcome contents };
 }
 
 /// What can be written as an item of a list of `P`, and says what such a list holds.

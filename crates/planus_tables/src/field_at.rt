@@ -11,13 +11,23 @@ pub struct FieldAt<const SLOT: usize, P, V> {
 }
 
 /// Writes a list of fields, each as `SLOT: KIND = VALUE`: its slot, the type as which it is encoded,
-/// and its value. A union is written as `(TAG, VALUE): union KIND = VALUE`, with its two slots.
+/// and its value. A union is written as `(TAG, VALUE): union KIND = VALUE`, and a list of unions as
+/// `(TAGS, VALUES): unions KIND = VALUE`, with their two slots.
 #[macro_export]
 macro_rules! fields {
     () => { () };
     (($tag:literal, $slot:literal): union $kind:ty = $value:expr $(, $($rest:tt)*)?) => {
         (
             $crate::UnionAt::<$tag, $slot, $kind, _> {
+                value: $value,
+                of: std::marker::PhantomData,
+            },
+            $crate::fields!($($($rest)*)?),
+        )
+    };
+    (($tags:literal, $slot:literal): unions $kind:ty = $value:expr $(, $($rest:tt)*)?) => {
+        (
+            $crate::UnionListAt::<$tags, $slot, $kind, _> {
                 value: $value,
                 of: std::marker::PhantomData,
             },

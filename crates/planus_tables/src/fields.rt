@@ -5,23 +5,28 @@ ghost use Rattle.planus_write.specs.State.{State};
 ghost use Rattle.planus_write.specs.Preparing.{IsLawful};
 ghost use Rattle.planus_write.specs.declared.errors.BuildError.{BuildError};
 ghost use Rattle.planus_tables.specs.Contents.{Content, PreparesContents, value_content};
-ghost use Rattle.planus_tables.specs.Contents.{tag_content};
+ghost use Rattle.planus_tables.specs.Contents.{tag_content, tags_content, values_content};
 ghost use Rattle.planus_tables.specs.ContentLaws.{none_prepared, both_prepared};
-ghost use Rattle.planus_tables.specs.ContentLaws.{union_and_others_prepared};
+ghost use Rattle.planus_tables.specs.UnionContents.{union_and_others_prepared};
+ghost use Rattle.planus_tables.specs.UnionContents.{union_list_and_others_prepared};
 ghost use Rattle.planus_tables.specs.Preparing.{PreparesBoth, PreparesNone};
 ghost use Rattle.planus_tables.specs.PreparingLaws.{both_is_lawful, none_is_lawful};
 ghost use Rattle.planus_tables.specs.PreparingLaws.{field_reach, union_field_reach};
+ghost use Rattle.planus_tables.specs.PreparingLaws.{union_list_field_reach};
+ghost use Rattle.planus_read.specs.Values.{tags as tags_field, values as values_field};
 ghost use Rattle.planus_tables.specs.PreparingLaws.{none_is_unchanged};
 ghost use Rattle.planus_tables.specs.declared.prepared_body.PreparedBody.{PreparedBody};
 
-use crate::contents::{HasContent, HasUnionContent};
+use crate::contents::{HasContent, HasUnionContent, HasUnionListContent};
 use crate::field_at::FieldAt;
 use crate::prepared_body::PreparedBody;
 use crate::prepared_fields::PreparedFields;
 use crate::table_item::TableItem;
 use crate::union_at::UnionAt;
+use crate::union_list_at::UnionListAt;
+use crate::union_list_parts::{TagsField, ValuesField, tags_of, values_of};
 use crate::union_parts::{tag_of, value_of};
-use planus_write::{BuildError, Builder, Offset, Primitive};
+use planus_write::{BuildError, Builder, List, Offset, Primitive};
 use std::marker::PhantomData;
 
 /// The fields of a table with `N` bytes for its vtable, in the order in which they are prepared and
@@ -209,4 +214,80 @@ impl<
         V.content R.contents R.tag_contents
         (λ body. R.Prepared.there body.fields) (λ body. R.Tags.there body.tags)
         V.is_lawful R.is_lawful.stays V.has_content R.have_contents };
+}
+
+impl<
+    const N: usize,
+    const TAGS: usize,
+    const VALUES: usize,
+    T,
+    V: HasUnionListContent<T>,
+    R: Fields<N>,
+> Fields<N> for (UnionListAt<TAGS, VALUES, T, V>, R) {
+    type Prepared = (
+        FieldAt<TAGS, Offset<List<u8>>, Option<TagsField>>,
+        (
+            FieldAt<VALUES, Offset<List<Offset<()>>>, Option<ValuesField>>,
+            R::Prepared,
+        ),
+    );
+
+    type Tags = R::Tags;
+
+    ghost contents = { λ fields. (TAGS, tags_content (V.contents fields.0.value))
+        ∷ (VALUES, values_content (V.contents fields.0.value)) ∷ R.contents fields.1 };
+
+    ghost tag_contents = { λ fields. R.tag_contents fields.1 };
+
+    ghost may = { λ fields old. V.may fields.0.value old × R.may fields.1 old };
+
+    ghost outcome = { λ fields old answer new.
+        PreparesBoth (λ vector body.
+            (body.fields.0.value ≡ option_map (λ vector. record { 0 = vector.tags }) vector)
+            × (body.fields.1.0.value ≡ option_map (λ vector. record { 0 = vector.values }) vector))
+        (λ body. record { fields = body.fields.1.1; tags = body.tags })
+        (V.outcome fields.0.value) (R.outcome fields.1) old answer new };
+
+    #[inline]
+    fn prepare(
+        &self,
+        builder: &mut Builder,
+    ) -> std::result::Result<PreparedBody<Self::Prepared, Self::Tags>, BuildError> {
+        let vector = self.0.value.prepare(builder)?;
+        let PreparedBody { fields, tags } = self.1.prepare(builder)?;
+        let list_tags = FieldAt {
+            value: tags_of(&vector),
+            of: PhantomData,
+        };
+        let list_values = FieldAt {
+            value: values_of(&vector),
+            of: PhantomData,
+        };
+        Ok(PreparedBody {
+            fields: (list_tags, (list_values, fields)),
+            tags,
+        })
+    }
+
+    ghost is_lawful = { both_is_lawful (λ fields. fields.0.value) (λ fields. fields.1)
+        (λ vector body.
+            (body.fields.0.value ≡ option_map (λ vector. record { 0 = vector.tags }) vector)
+            × (body.fields.1.0.value ≡ option_map (λ vector. record { 0 = vector.values }) vector))
+        (λ body. record { fields = body.fields.1.1; tags = body.tags }) _
+        (λ vector body same. union_list_field_reach (λ vector. record { 0 = vector.tags })
+            (λ field. field.0.distance) (λ vector. record { 0 = vector.values })
+            (λ field. field.0.distance) (λ vector. refl) (λ vector. refl) vector
+            body.fields.0.value body.fields.1.0.value
+            (R.Prepared.reach body.fields.1.1) (R.Tags.reach body.tags) same.0 same.1)
+        V.is_lawful R.is_lawful };
+
+    ghost have_contents = { union_list_and_others_prepared TAGS VALUES (λ fields. fields.0.value)
+        (λ fields. fields.1) (λ vector. record { 0 = vector.tags })
+        (λ field. tags_field field.0.distance) (λ vector. record { 0 = vector.values })
+        (λ field. values_field field.0.distance) (λ vector. refl) (λ vector. refl)
+        (λ body. body.fields.0.value) (λ body. body.fields.1.0.value)
+        (λ body. record { fields = body.fields.1.1; tags = body.tags })
+        V.contents R.contents R.tag_contents
+        (λ body. R.Prepared.there body.fields) (λ body. R.Tags.there body.tags)
+        V.is_lawful R.is_lawful.stays V.has_contents R.have_contents };
 }

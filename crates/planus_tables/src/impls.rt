@@ -9,3 +9,4 @@ mod offset;
 mod option;
 mod text;
 mod union;
+mod union_list;

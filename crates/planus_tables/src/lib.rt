@@ -15,9 +15,13 @@ mod table_kind;
 mod table_ref;
 mod table_scalar;
 mod union_at;
+mod union_list_at;
+mod union_list_parts;
 mod union_parts;
 
-pub use contents::{HasContent, HasDefaultContent, HasListContent, HasUnionContent};
+pub use contents::{
+    HasContent, HasDefaultContent, HasListContent, HasUnionContent, HasUnionListContent,
+};
 pub use create::create_table;
 pub use field_at::FieldAt;
 pub use fields::Fields;
@@ -29,3 +33,5 @@ pub use table_kind::TableKind;
 pub use table_ref::TableRef;
 pub use table_scalar::TableScalar;
 pub use union_at::UnionAt;
+pub use union_list_at::UnionListAt;
+pub use union_list_parts::{TagsField, ValuesField};

@@ -2,8 +2,8 @@
 //!
 //! ```text
 //! table Port {
-//!     owner: Owner; ships: [Ship]; berths: [string];
-//!     depth: int16 = -5; open: bool; founded: uint64;
+//!     owner: Owner; ships: [Ship]; berths: [string]; depth: int16 = -5;
+//!     open: bool; founded: uint64; shares: [Owner];
 //! }
 //! ```
 
@@ -14,7 +14,8 @@ ghost use Rattle.planus_write.specs.State.{Grows};
 ghost use Rattle.planus_write.specs.Unions.{union_reach};
 ghost use Rattle.planus_tables.specs.Contents.{WritesContents, unless};
 ghost use Rattle.planus_tables.specs.Holds.{holds_bool, holds_i16, holds_offsets, holds_texts};
-ghost use Rattle.planus_tables.specs.Holds.{holds_u64, holds_union_tag, holds_union_value};
+ghost use Rattle.planus_tables.specs.Holds.{holds_u64, holds_union_tag, holds_union_tags};
+ghost use Rattle.planus_tables.specs.Holds.{holds_union_value, holds_union_values};
 
 use crate::ship::Ship;
 use planus_read::Result;
@@ -37,10 +38,11 @@ pub struct PortFields<'a> {
     pub depth: i16,
     pub is_open: bool,
     pub founded: u64,
+    pub shares: &'a [UnionOffset<Owner>],
 }
 
 impl Port {
-    /// Writes a port, whose owner and ships are written already. A depth of -5 is left out.
+    /// Writes a port, whose owner, ships and shares are written already. A depth of -5 is left out.
     pub fn create(
         builder: &mut Builder,
         port: PortFields<'_>,
@@ -49,11 +51,15 @@ impl Port {
             (λ owner. union_reach owner ≤ length builder.old.bytes) }
         requires ships { AllByRecursion
             (λ ship. ship.distance ≤ length builder.old.bytes) port.ships.now }
+        requires shares { AllByRecursion
+            (λ share. union_reach share ≤ length builder.old.bytes) port.shares.now }
         ensures kept { IfOk result (λ offset. WritesContents
             ((6, holds_u64 port.entry.founded)
             ∷ (1, holds_union_value port.entry.owner)
             ∷ (2, holds_offsets port.entry.ships.now)
             ∷ (3, holds_texts (λ berth. berth.now) port.entry.berths.now)
+            ∷ (7, holds_union_tags port.entry.shares.now)
+            ∷ (8, holds_union_values port.entry.shares.now)
             ∷ (4, unless (int_eq port.entry.depth (negsuc 4)) (holds_i16 port.entry.depth))
             ∷ (5, holds_bool port.entry.is_open)
             ∷ (0, holds_union_tag port.entry.owner) ∷ [])
@@ -70,10 +76,11 @@ impl Port {
             (0, 1): union Owner = port.owner,
             2: Offset<List<Offset<Ship>>> = port.ships,
             3: Offset<List<Offset<Text>>> = port.berths,
+            (7, 8): unions Owner = port.shares,
             4: i16 = depth,
             5: bool = port.is_open,
         ];
-        create_table::<Port, 18, _>(builder, fields)
+        create_table::<Port, 22, _>(builder, fields)
     }
 
     /// Returns the ships of a port that is read, or `None` where there are none.

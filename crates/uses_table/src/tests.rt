@@ -51,6 +51,7 @@ fn ports_are_read(builder: &mut Builder, depth: i16) -> Result<bool, BuildError>
         depth,
         is_open: true,
         founded: 1000,
+        shares: &[owner, owner],
     };
     let port = Port::create(builder, port)?;
     let bytes = builder.finish(port, None)?;

@@ -2,8 +2,8 @@
 ghost use Rattle.std.specs.Prelude.{Some, None};
 ghost use Rattle.planus_write.specs.Unions.{union_reach};
 ghost use Rattle.planus_tables.specs.Contents.{union_if, written};
-ghost use Rattle.planus_tables.specs.ContentLaws.{never_union_prepared, optional_union_prepared};
-ghost use Rattle.planus_tables.specs.ContentLaws.{union_offset_prepared, union_prepared_as};
+ghost use Rattle.planus_tables.specs.UnionContents.{never_union_prepared, optional_union_prepared};
+ghost use Rattle.planus_tables.specs.UnionContents.{union_offset_prepared, union_prepared_as};
 
 use crate::contents::HasUnionContent;
 use planus_write::{ByRef, UnionOffset};

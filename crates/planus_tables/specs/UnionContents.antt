@@ -1,0 +1,344 @@
+-- The laws of what unions and lists of unions hold, which have two fields each.
+use Rattle.std.specs.Prelude.{◌≡◌, ℕ, ◌≤◌, List, [], ◌∷◌, ◌++◌, length, map, Option, Some, None, Ok, ⊤}
+use Rattle.std.specs.Int.{w8, to_le_bytes}
+use Rattle.std.specs.List.{AllByRecursion}
+use Rattle.std.specs.Option.{option_map}
+use Rattle.std.proofs.Common.{refl, subst, sym, ap}
+use Rattle.planus_read.specs.Values.{Field, plain, reference, tags, values as values_field, union_list}
+use Rattle.planus_fields.specs.Fields.{MayIf, PreparesIf, LeftOutWhere, reach_if}
+use Rattle.planus_write.specs.Kept.{IsKept}
+use Rattle.planus_write.specs.Laws.{extends_on}
+use Rattle.planus_write.specs.Parts.{entries_of, last_of}
+use Rattle.planus_write.specs.Past.{Past}
+use Rattle.planus_write.specs.Placing.{Outcome}
+use Rattle.planus_write.specs.Preparing.{AllMay, Answers, IsLawful}
+use Rattle.planus_write.specs.State.{State, IsPast, Extends, Grows}
+use Rattle.planus_write.specs.UnionLaws.{ready_union_list_is_put}
+use Rattle.planus_write.specs.Unions.{union_reach, union_vector_reach, item_of, WritesUnionVector}
+use Rattle.planus_write.specs.declared.offset.Offset.{Offset}
+use Rattle.planus_write.specs.declared.union_offset.UnionOffset.{UnionOffset}
+use Rattle.planus_write.specs.declared.union_vector_offset.UnionVectorOffset.{UnionVectorOffset}
+use Rattle.planus_write.proofs.PutEntries.{entries_put}
+use Rattle.planus_write.proofs.Standing.{values_are_kept}
+use Rattle.planus_tables.specs.Contents.{Content, written, union_tags, union_values, written_tags}
+use Rattle.planus_tables.specs.Contents.{written_values, named_at_both, FieldIs, HoldsIf, UnionHolds}
+use Rattle.planus_tables.specs.Contents.{UnionListHolds, content_in, there_of, Comes, value_content}
+use Rattle.planus_tables.specs.Contents.{tag_content, tags_content, values_content, union_if}
+use Rattle.planus_tables.specs.Contents.{union_list_if, PreparesUnion, PreparesUnionList}
+use Rattle.planus_tables.specs.Contents.{PreparesContents}
+use Rattle.planus_tables.specs.ContentLaws.{field_stays, one_more, stays_there}
+use Rattle.planus_tables.specs.Preparing.{PreparesBoth}
+use Rattle.planus_tables.specs.TableFields.{field_in}
+
+-- a union: its tag and the reference to its value
+union_value_holds : {T U : Type 0} (offset_of : UnionOffset T → Offset U)
+    → ((union : UnionOffset T) → (offset_of union).distance ≡ union_reach union)
+    → (before after : Past) (content : Option (ℕ × Content)) (union : Option (UnionOffset T))
+    → Extends before after → UnionHolds before content union
+    → HoldsIf after (value_content content) (λ offset. reference offset.distance) (option_map offset_of union)
+union_value_holds offset_of is before after None None extends holds = tt
+union_value_holds offset_of is before after (Some content) (Some union) extends holds =
+    field_stays before after content.1 _ extends
+    (subst (λ (d : ℕ). FieldIs before content.1 (reference d)) (sym (is union)) holds.1)
+union_value_holds offset_of is before after None (Some union) extends holds = holds
+union_value_holds offset_of is before after (Some content) None extends holds = holds
+
+union_tag_holds : {T : Type 0} (before after : Past) (content : Option (ℕ × Content))
+    (union : Option (UnionOffset T)) → UnionHolds before content union
+    → HoldsIf after (tag_content content)
+    (λ tag. plain (record { bytes = to_le_bytes w8 tag; alignment = 1 })) (option_map (λ union. union.tag) union)
+union_tag_holds before after None None holds = tt
+union_tag_holds before after (Some content) (Some union) holds =
+    ap (λ (tag : ℕ). plain (record { bytes = to_le_bytes w8 tag; alignment = 1 })) holds.0
+union_tag_holds before after None (Some union) holds = holds
+union_tag_holds before after (Some content) None holds = holds
+
+-- one union and the others
+pub union_and_others_prepared : {T U X Y Z B C : Type 0} {may_first : X → State → Type 0}
+    {first : X → Outcome (Option (UnionOffset T))} {may_rest : Y → State → Type 0}
+    {rest : Y → Outcome B} (tag_slot value_slot : ℕ) (x_of : Z → X) (y_of : Z → Y)
+    (offset_of : UnionOffset T → Offset U)
+    → ((union : UnionOffset T) → (offset_of union).distance ≡ union_reach union)
+    → (value_of : C → Option (Offset U)) (tag_of : C → Option ℕ) (of_rest : C → B)
+    (content : X → Option (ℕ × Content))
+    (contents tag_contents : Y → List (ℕ × Option Content)) (there tags_there : B → List (ℕ × Field))
+    → IsLawful may_first first (reach_if union_reach)
+    → ((y : Y) (old new : State) → Grows old new → may_rest y old → may_rest y new)
+    → PreparesUnion may_first first content
+    → PreparesContents may_rest rest contents tag_contents there tags_there
+    → PreparesContents {X = Z} (λ fields old. may_first (x_of fields) old × may_rest (y_of fields) old)
+    (λ fields old answer new.
+    PreparesBoth
+    (λ union prepared. (value_of prepared ≡ option_map offset_of union)
+    × (tag_of prepared ≡ option_map (λ union. union.tag) union))
+    of_rest (first (x_of fields)) (rest (y_of fields)) old answer new)
+    (λ fields. (value_slot, value_content (content (x_of fields))) ∷ contents (y_of fields))
+    (λ fields. (tag_slot, tag_content (content (x_of fields))) ∷ tag_contents (y_of fields))
+    (λ prepared. field_in value_slot (λ offset. reference offset.distance) (value_of prepared)
+    ++ there (of_rest prepared))
+    (λ prepared. field_in tag_slot (λ tag. plain (record { bytes = to_le_bytes w8 tag; alignment = 1 })) (tag_of prepared)
+    ++ tags_there (of_rest prepared))
+union_and_others_prepared tag_slot value_slot x_of y_of offset_of is value_of tag_of of_rest content
+    contents tag_contents there tags_there firsts stays one others =
+    record {
+      comes = λ fields old prepared new past may done is_past.
+          (let between = done.1 in
+          let grown = firsts.grows (x_of fields) old (Ok done.0) between may.0 done.3 in
+          let near = one.comes (x_of fields) old done.0 between past may.0 done.3 is_past in
+          let far = others.comes (y_of fields) between (of_rest prepared) new near.0
+          (stays (y_of fields) old between grown may.1) done.4 near.1 in
+          let holds = content (x_of fields) in
+          let value_holds = subst
+          (λ value. HoldsIf far.0 (value_content holds) (λ offset. reference offset.distance) value)
+          (sym done.2.0) (union_value_holds offset_of is near.0 far.0 holds done.0 far.2 near.3) in
+          let tag_holds = subst
+          (λ tag. HoldsIf far.0 (tag_content holds) (λ tag. plain (record { bytes = to_le_bytes w8 tag; alignment = 1 })) tag)
+          (sym done.2.1) (union_tag_holds near.0 far.0 holds done.0 near.3) in (
+            far.0,
+            far.1,
+            extends_on past near.0 far.0 near.2 far.2,
+            (
+              one_more far.0 value_slot (value_content holds) (λ offset. reference offset.distance)
+                  (value_of prepared) (there_of (contents (y_of fields))) (there (of_rest prepared))
+                  value_holds far.3.0,
+              one_more far.0 tag_slot (tag_content holds)
+                  (λ tag. plain (record { bytes = to_le_bytes w8 tag; alignment = 1 }))
+                  (tag_of prepared) (there_of (tag_contents (y_of fields))) (tags_there (of_rest prepared))
+                  tag_holds far.3.1,
+            ),
+          ));
+    }
+
+-- a list of unions: its two fields
+module _ {T A : Type 0} (of : UnionVectorOffset T → A) (field : A → Field) where
+  list_tags_hold : ((vector : UnionVectorOffset T) → field (of vector) ≡ tags vector.tags.distance)
+      → (before after : Past) (contents : Option (Content × Content)) (vector : Option (UnionVectorOffset T))
+      → Extends before after → UnionListHolds before contents vector
+      → HoldsIf after (tags_content contents) field (option_map of vector)
+  list_tags_hold is before after None None extends holds = tt
+  list_tags_hold is before after (Some contents) (Some vector) extends holds =
+      field_stays before after contents.0 _ extends
+      (subst (λ (field : Field). FieldIs before contents.0 field) (sym (is vector)) holds.0)
+  list_tags_hold is before after None (Some vector) extends holds = holds
+  list_tags_hold is before after (Some contents) None extends holds = holds
+
+  list_values_hold : ((vector : UnionVectorOffset T) → field (of vector) ≡ values_field vector.values.distance)
+      → (before after : Past) (contents : Option (Content × Content)) (vector : Option (UnionVectorOffset T))
+      → Extends before after → UnionListHolds before contents vector
+      → HoldsIf after (values_content contents) field (option_map of vector)
+  list_values_hold is before after None None extends holds = tt
+  list_values_hold is before after (Some contents) (Some vector) extends holds =
+      field_stays before after contents.1 _ extends
+      (subst (λ (field : Field). FieldIs before contents.1 field) (sym (is vector)) holds.1)
+  list_values_hold is before after None (Some vector) extends holds = holds
+  list_values_hold is before after (Some contents) None extends holds = holds
+
+-- one list of unions and the others
+pub union_list_and_others_prepared : {T U V X Y Z B C : Type 0} {may_first : X → State → Type 0}
+    {first : X → Outcome (Option (UnionVectorOffset T))} {may_rest : Y → State → Type 0}
+    {rest : Y → Outcome B} (tags_slot values_slot : ℕ) (x_of : Z → X) (y_of : Z → Y)
+    (tags_of : UnionVectorOffset T → U) (tags_field : U → Field)
+    (values_of : UnionVectorOffset T → V) (values_are : V → Field)
+    → ((vector : UnionVectorOffset T) → tags_field (tags_of vector) ≡ tags vector.tags.distance)
+    → ((vector : UnionVectorOffset T) → values_are (values_of vector) ≡ values_field vector.values.distance)
+    → (tags_in : C → Option U) (values_in : C → Option V) (of_rest : C → B)
+    (content : X → Option (Content × Content))
+    (contents tag_contents : Y → List (ℕ × Option Content)) (there tags_there : B → List (ℕ × Field))
+    → IsLawful may_first first (reach_if union_vector_reach)
+    → ((y : Y) (old new : State) → Grows old new → may_rest y old → may_rest y new)
+    → PreparesUnionList may_first first content
+    → PreparesContents may_rest rest contents tag_contents there tags_there
+    → PreparesContents {X = Z} (λ fields old. may_first (x_of fields) old × may_rest (y_of fields) old)
+    (λ fields old answer new.
+    PreparesBoth
+    (λ vector prepared. (tags_in prepared ≡ option_map tags_of vector)
+    × (values_in prepared ≡ option_map values_of vector))
+    of_rest (first (x_of fields)) (rest (y_of fields)) old answer new)
+    (λ fields. (tags_slot, tags_content (content (x_of fields)))
+    ∷ (values_slot, values_content (content (x_of fields))) ∷ contents (y_of fields))
+    (λ fields. tag_contents (y_of fields))
+    (λ prepared. field_in tags_slot tags_field (tags_in prepared)
+    ++ (field_in values_slot values_are (values_in prepared) ++ there (of_rest prepared)))
+    (λ prepared. tags_there (of_rest prepared))
+union_list_and_others_prepared tags_slot values_slot x_of y_of tags_of tags_field values_of values_are
+    tags_is values_is tags_in values_in of_rest content contents tag_contents there tags_there firsts
+    stays one others =
+    record {
+      comes = λ fields old prepared new past may done is_past.
+          (let between = done.1 in
+          let grown = firsts.grows (x_of fields) old (Ok done.0) between may.0 done.3 in
+          let near = one.comes (x_of fields) old done.0 between past may.0 done.3 is_past in
+          let far = others.comes (y_of fields) between (of_rest prepared) new near.0
+          (stays (y_of fields) old between grown may.1) done.4 near.1 in
+          let holds = content (x_of fields) in
+          let tags_hold = subst (λ tags. HoldsIf far.0 (tags_content holds) tags_field tags)
+          (sym done.2.0) (list_tags_hold tags_of tags_field tags_is near.0 far.0 holds done.0 far.2 near.3) in
+          let values_hold = subst (λ values. HoldsIf far.0 (values_content holds) values_are values)
+          (sym done.2.1) (list_values_hold values_of values_are values_is near.0 far.0 holds done.0 far.2 near.3) in (
+            far.0,
+            far.1,
+            extends_on past near.0 far.0 near.2 far.2,
+            (
+              one_more far.0 tags_slot (tags_content holds) tags_field (tags_in prepared)
+                  (content_in values_slot (values_content holds) ++ there_of (contents (y_of fields)))
+                  (field_in values_slot values_are (values_in prepared) ++ there (of_rest prepared))
+                  tags_hold
+                  (one_more far.0 values_slot (values_content holds) values_are (values_in prepared)
+                  (there_of (contents (y_of fields))) (there (of_rest prepared)) values_hold far.3.0),
+              far.3.1,
+            ),
+          ));
+    }
+
+-- a list of unions that may be absent
+pub optional_union_list_prepared : {X T : Type 0} {may : X → State → Type 0}
+    {outcome : X → Outcome (Option (UnionVectorOffset T))} {contents : X → Option (Content × Content)}
+    → PreparesUnionList may outcome contents
+    → PreparesUnionList (λ x old. MayIf may x old) (λ x old answer new. PreparesIf outcome x old answer new)
+    (λ x. union_list_if contents x)
+optional_union_list_prepared {X} {T} {may} {outcome} {contents} lawful = record { comes = prepared }
+  where
+    prepared : (x : Option X) (old : State) (prepared : Option (UnionVectorOffset T)) (new : State) (past : Past)
+        → MayIf may x old → PreparesIf outcome x old (Ok prepared) new → IsPast old past
+        → Comes past new (λ after. UnionListHolds after (union_list_if contents x) prepared)
+    prepared None old None new past may done is_past =
+        stays_there past old new (λ after. ⊤) done.1 is_past tt
+    prepared None old (Some found) new past may done is_past = cc
+    prepared (Some x) old found new past may done is_past = lawful.comes x old found new past may done is_past
+
+-- a list of unions that is written already
+pub union_vector_offset_prepared : {T : Type 0} {may : UnionVectorOffset T → State → Type 0}
+    → PreparesUnionList may (λ vector old answer new. LeftOutWhere ⊥ (Answers vector) old answer new)
+    (λ vector. Some (written_tags vector.tags.distance, written_values vector.values.distance))
+union_vector_offset_prepared {T} {may} = record { comes = comes }
+  where
+    comes : (vector : UnionVectorOffset T) (old : State) (prepared : Option (UnionVectorOffset T)) (new : State)
+        (past : Past) → may vector old → LeftOutWhere ⊥ (Answers vector) old (Ok prepared) new
+        → IsPast old past
+        → Comes past new
+        (λ after.
+        UnionListHolds after
+        (Some (written_tags vector.tags.distance, written_values vector.values.distance)) prepared)
+    comes vector old None new past may done is_past = elim done.0 [ ]
+    comes vector old (Some found) new past may done is_past =
+        let same : found ≡ vector = cc in
+        stays_there past old new
+        (λ after. (tags found.tags.distance ≡ tags vector.tags.distance)
+        × (values_field found.values.distance ≡ values_field vector.values.distance))
+        done.1.1 is_past
+        (ap (λ (vector : UnionVectorOffset T). tags vector.tags.distance) same,
+        ap (λ (vector : UnionVectorOffset T). values_field vector.values.distance) same)
+
+-- unions that may be prepared refer to what was written
+unions_lie : {T : Type 0} (unions : List (UnionOffset T)) (old : State) (past : Past) → IsPast old past
+    → AllMay (λ union state. union_reach union ≤ length state.bytes) unions old
+    → AllByRecursion (λ item. item.1 ≤ length past.written.bytes) (map item_of unions)
+unions_lie [] old past is_past may = tt
+unions_lie (union ∷ unions) old past is_past may = (
+  subst (λ (bytes : List ℕ). union_reach union ≤ length bytes) (sym is_past.bytes) may.0,
+  unions_lie unions old past is_past may.1,
+)
+
+-- a list of unions that are written already
+pub unions_prepared : {X T : Type 0} (items : X → List (UnionOffset T))
+    → PreparesUnionList (λ x old. AllMay (λ union state. union_reach union ≤ length state.bytes) (items x) old)
+    (λ x old answer new. LeftOutWhere ⊥ (WritesUnionVector Answers (items x)) old answer new)
+    (λ x. Some (union_tags (map item_of (items x)), union_values (map item_of (items x))))
+unions_prepared {X} {T} items = record { comes = comes }
+  where
+    comes : (x : X) (old : State) (prepared : Option (UnionVectorOffset T)) (new : State) (past : Past)
+        → AllMay (λ union state. union_reach union ≤ length state.bytes) (items x) old
+        → LeftOutWhere ⊥ (WritesUnionVector Answers (items x)) old (Ok prepared) new → IsPast old past
+        → Comes past new
+        (λ after.
+        UnionListHolds after
+        (Some (union_tags (map item_of (items x)), union_values (map item_of (items x)))) prepared)
+    comes x old None new past may done is_past = elim done.0 [ ]
+    comes x old (Some vector) new past may done is_past =
+        let pairs = map item_of (items x) in
+        let put = ready_union_list_is_put (items x) old vector new done.1 in
+        let placed = entries_put (entries_of (union_list pairs)) [] old put.0 new past put.1 is_past in
+        let kept = values_are_kept old.switches (union_list pairs) past put.0 placed.0
+        (unions_lie (items x) old past is_past may) is_past.kept placed.1 in
+        let stands = subst (λ (d : ℕ). IsKept placed.0 (union_list pairs) (named_at_both d vector.values.distance))
+        (sym put.3)
+        (subst (λ (d : ℕ). IsKept placed.0 (union_list pairs) (named_at_both (last_of put.0) d))
+        (sym put.2) kept.0) in (
+          placed.0,
+          placed.2,
+          kept.2,
+          (
+            (vector.tags.distance, vector.values.distance, refl, stands),
+            (vector.tags.distance, vector.values.distance, refl, stands),
+          ),
+        )
+
+-- a union that is written already
+pub union_offset_prepared : {T : Type 0} {may : UnionOffset T → State → Type 0}
+    → PreparesUnion may (λ union old answer new. LeftOutWhere ⊥ (Answers union) old answer new)
+    (λ union. Some (union.tag, written (union_reach union)))
+union_offset_prepared {T} {may} = record { comes = comes }
+  where
+    comes : (union : UnionOffset T) (old : State) (prepared : Option (UnionOffset T)) (new : State)
+        (past : Past) → may union old → LeftOutWhere ⊥ (Answers union) old (Ok prepared) new
+        → IsPast old past
+        → Comes past new (λ after. UnionHolds after (Some (union.tag, written (union_reach union))) prepared)
+    comes union old None new past may done is_past = elim done.0 [ ]
+    comes union old (Some found) new past may done is_past =
+        let same : found ≡ union = cc in
+        stays_there past old new
+        (λ after. (found.tag ≡ union.tag) × (reference (union_reach found) ≡ reference (union_reach union)))
+        done.1.1 is_past
+        (ap (λ (union : UnionOffset T). union.tag) same, ap (λ (union : UnionOffset T). reference (union_reach union)) same)
+
+-- a union that may be absent
+pub optional_union_prepared : {X T : Type 0} {may : X → State → Type 0}
+    {outcome : X → Outcome (Option (UnionOffset T))} {content : X → Option (ℕ × Content)}
+    → PreparesUnion may outcome content
+    → PreparesUnion (λ x old. MayIf may x old) (λ x old answer new. PreparesIf outcome x old answer new)
+    (λ x. union_if content x)
+optional_union_prepared {X} {T} {may} {outcome} {content} lawful = record { comes = prepared }
+  where
+    prepared : (x : Option X) (old : State) (prepared : Option (UnionOffset T)) (new : State) (past : Past)
+        → MayIf may x old → PreparesIf outcome x old (Ok prepared) new → IsPast old past
+        → Comes past new (λ after. UnionHolds after (union_if content x) prepared)
+    prepared None old None new past may done is_past =
+        stays_there past old new (λ after. ⊤) done.1 is_past tt
+    prepared None old (Some found) new past may done is_past = cc
+    prepared (Some x) old found new past may done is_past = lawful.comes x old found new past may done is_past
+
+-- a union that is always left out
+pub never_union_prepared : {X T : Type 0} {may : X → State → Type 0}
+    → PreparesUnion {X = X} {T = T} may (λ x old answer new. Answers None old answer new) (λ x. None)
+never_union_prepared {X} {T} {may} = record {
+  comes = λ x old prepared new past may done is_past.
+      (let same : None ≡ prepared = cc in
+      subst (λ (prepared : Option (UnionOffset T)). Comes past new (λ after. UnionHolds after None prepared)) same
+      (stays_there past old new (λ after. ⊤) done.1 is_past tt));
+}
+
+-- a union that is prepared as something else
+pub union_prepared_as : {X Y T : Type 0} {may : X → State → Type 0}
+    {outcome : X → Outcome (Option (UnionOffset T))} {content : X → Option (ℕ × Content)} (of : Y → X)
+    → PreparesUnion may outcome content
+    → PreparesUnion (λ y old. may (of y) old) (λ y old answer new. outcome (of y) old answer new)
+    (λ y. content (of y))
+union_prepared_as of lawful = record { comes = λ y. lawful.comes (of y) }
+
+-- a list of unions that is always left out
+pub never_union_list_prepared : {X T : Type 0} {may : X → State → Type 0}
+    → PreparesUnionList {X = X} {T = T} may (λ x old answer new. Answers None old answer new) (λ x. None)
+never_union_list_prepared {X} {T} {may} = record {
+  comes = λ x old prepared new past may done is_past.
+      (let same : None ≡ prepared = cc in
+      subst (λ (prepared : Option (UnionVectorOffset T)). Comes past new (λ after. UnionListHolds after None prepared)) same
+      (stays_there past old new (λ after. ⊤) done.1 is_past tt));
+}
+
+-- a list of unions that is prepared as something else
+pub union_list_prepared_as : {X Y T : Type 0} {may : X → State → Type 0}
+    {outcome : X → Outcome (Option (UnionVectorOffset T))} {contents : X → Option (Content × Content)}
+    (of : Y → X) → PreparesUnionList may outcome contents
+    → PreparesUnionList (λ y old. may (of y) old) (λ y old answer new. outcome (of y) old answer new)
+    (λ y. contents (of y))
+union_list_prepared_as of lawful = record { comes = λ y. lawful.comes (of y) }

@@ -1,0 +1,11 @@
+//! One list of unions of a table, in two slots.
+
+use std::marker::PhantomData;
+
+/// A list of unions of kind `T` for the slot of its tags and the slot of its values. It stands in a
+/// list of fields as a [`FieldAt`](crate::FieldAt) does.
+#[derive(Drop)]
+pub struct UnionListAt<const TAGS: usize, const VALUES: usize, T, V> {
+    pub value: V,
+    pub of: PhantomData<T>,
+}
