@@ -28,9 +28,9 @@ pub use planus_read::{
     VectorName, VectorRead, VectorReadInner, VectorReadUnion, Void, errors, located, table_reader,
 };
 pub use planus_tables::{
-    FieldAt, Fields, HasContent, HasDefaultContent, HasListContent, HasUnionContent, OrDefault,
-    PreparedBody, PreparedFields, TableItem, TableKind, TableRef, TableScalar, UnionAt,
-    create_table, fields,
+    FieldAt, Fields, HasContent, HasDefaultContent, HasListContent, HasUnionContent,
+    HasUnionListContent, OrDefault, PreparedBody, PreparedFields, TableItem, TableKind, TableRef,
+    TableScalar, TagsField, UnionAt, UnionListAt, ValuesField, create_table, fields,
 };
 pub use planus_unions::{AsRead, ItemError, UnionVector, union_vectors};
 pub use planus_view::{CopyError, FromItem, Vector, vectors};

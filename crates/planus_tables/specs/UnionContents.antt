@@ -225,9 +225,10 @@ union_vector_offset_prepared {T} {may} = record { comes = comes }
         stays_there past old new
         (λ after. (tags found.tags.distance ≡ tags vector.tags.distance)
         × (values_field found.values.distance ≡ values_field vector.values.distance))
-        done.1.1 is_past
-        (ap (λ (vector : UnionVectorOffset T). tags vector.tags.distance) same,
-        ap (λ (vector : UnionVectorOffset T). values_field vector.values.distance) same)
+        done.1.1 is_past (
+          ap (λ (vector : UnionVectorOffset T). tags vector.tags.distance) same,
+          ap (λ (vector : UnionVectorOffset T). values_field vector.values.distance) same,
+        )
 
 -- unions that may be prepared refer to what was written
 unions_lie : {T : Type 0} (unions : List (UnionOffset T)) (old : State) (past : Past) → IsPast old past

@@ -1,6 +1,7 @@
 //! What the values of fields hold.
 ghost use Rattle.std.specs.Prelude.{ℕ, List, Option as option};
-ghost use Rattle.planus_tables.specs.Contents.{Content, PreparesOptional, PreparesUnion, PreparesUnionList};
+ghost use Rattle.planus_tables.specs.Contents.{Content, PreparesOptional, PreparesUnion};
+ghost use Rattle.planus_tables.specs.Contents.{PreparesUnionList};
 ghost use Rattle.planus_tables.specs.ListContents.{ListHasContent};
 
 use crate::table_item::TableItem;
@@ -46,7 +47,8 @@ pub trait HasUnionContent<T>: WriteAsOptionalUnion<T> {
 
 /// What can be written as a list of unions that may be absent, and says what its two fields hold.
 pub trait HasUnionListContent<T>: WriteAsOptionalUnionVector<T> {
-    /// What the field of the tags and that of the values hold, or nothing where the list is left out.
+    /// What the field of the tags and that of the values hold, or nothing where the list is left
+    /// out.
     ghost contents: { Self → option (Content × Content) };
 
     /// Once the list is prepared, its fields hold these.
@@ -59,5 +61,6 @@ pub trait HasListContent<P: Primitive>: VectorWrite<P> {
     ghost list: { List Self → Content };
 
     /// Once the list is written, the field holds this.
-    ghost has_list: { ListHasContent Self.may Self.outcome Self.Value.leaves P.SIZE P.ALIGNMENT list };
+    ghost has_list: { ListHasContent Self.may Self.outcome Self.Value.leaves P.SIZE P.ALIGNMENT
+        list };
 }

@@ -39,9 +39,9 @@ impl<'a, const N: usize, F: PreparedFields<N>, T: PreparedFields<N>> ObjectFill
 /// with exactly these fields. Returns its offset. With `Ok`, whatever was written before, the table
 /// is kept and the values to which it refers, and all that was kept before still is.
 ///
-/// `N` is 4, and 2 for each slot up to the greatest. The fields come by falling alignment: numbers of
-/// eight bytes first, then references, unions and numbers of four bytes, those of two, and those of
-/// one. They are prepared in the same order.
+/// `N` is 4, and 2 for each slot up to the greatest. The fields come by falling alignment: numbers
+/// of eight bytes first, then references, unions and numbers of four bytes, those of two, and those
+/// of one. They are prepared in the same order.
 ///
 /// A refusal is that of the first field that is refused, or else that of the table:
 /// [`BuildError::TooLarge`] where a part's place would be above 2147483647 bytes from the end, and

@@ -6,13 +6,15 @@ use std::marker::PhantomData;
 /// these and the others; [`fields`](crate::fields) writes such a list.
 #[derive(Drop)]
 pub struct FieldAt<const SLOT: usize, P, V> {
+    /// The value that is written.
     pub value: V,
+    /// As what it is encoded.
     pub of: PhantomData<P>,
 }
 
-/// Writes a list of fields, each as `SLOT: KIND = VALUE`: its slot, the type as which it is encoded,
-/// and its value. A union is written as `(TAG, VALUE): union KIND = VALUE`, and a list of unions as
-/// `(TAGS, VALUES): unions KIND = VALUE`, with their two slots.
+/// Writes a list of fields, each as `SLOT: KIND = VALUE`: its slot, the type as which it is
+/// encoded, and its value. A union is written as `(TAG, VALUE): union KIND = VALUE`, and a list of
+/// unions as `(TAGS, VALUES): unions KIND = VALUE`, with their two slots.
 #[macro_export]
 macro_rules! fields {
     () => { () };

@@ -243,8 +243,8 @@ impl<
 
     ghost outcome = { λ fields old answer new.
         PreparesBoth (λ vector body.
-            (body.fields.0.value ≡ option_map (λ vector. record { 0 = vector.tags }) vector)
-            × (body.fields.1.0.value ≡ option_map (λ vector. record { 0 = vector.values }) vector))
+        (body.fields.0.value ≡ option_map (λ vector. record { 0 = vector.tags }) vector)
+        × (body.fields.1.0.value ≡ option_map (λ vector. record { 0 = vector.values }) vector))
         (λ body. record { fields = body.fields.1.1; tags = body.tags })
         (V.outcome fields.0.value) (R.outcome fields.1) old answer new };
 
@@ -271,14 +271,14 @@ impl<
 
     ghost is_lawful = { both_is_lawful (λ fields. fields.0.value) (λ fields. fields.1)
         (λ vector body.
-            (body.fields.0.value ≡ option_map (λ vector. record { 0 = vector.tags }) vector)
-            × (body.fields.1.0.value ≡ option_map (λ vector. record { 0 = vector.values }) vector))
+        (body.fields.0.value ≡ option_map (λ vector. record { 0 = vector.tags }) vector)
+        × (body.fields.1.0.value ≡ option_map (λ vector. record { 0 = vector.values }) vector))
         (λ body. record { fields = body.fields.1.1; tags = body.tags }) _
         (λ vector body same. union_list_field_reach (λ vector. record { 0 = vector.tags })
-            (λ field. field.0.distance) (λ vector. record { 0 = vector.values })
-            (λ field. field.0.distance) (λ vector. refl) (λ vector. refl) vector
-            body.fields.0.value body.fields.1.0.value
-            (R.Prepared.reach body.fields.1.1) (R.Tags.reach body.tags) same.0 same.1)
+        (λ field. field.0.distance) (λ vector. record { 0 = vector.values })
+        (λ field. field.0.distance) (λ vector. refl) (λ vector. refl) vector
+        body.fields.0.value body.fields.1.0.value
+        (R.Prepared.reach body.fields.1.1) (R.Tags.reach body.tags) same.0 same.1)
         V.is_lawful R.is_lawful };
 
     ghost have_contents = { union_list_and_others_prepared TAGS VALUES (λ fields. fields.0.value)

@@ -8,7 +8,9 @@ use planus_write::{BuildError, Builder, Primitive};
 /// A value that is left out where it is the default.
 #[derive(Drop)]
 pub struct OrDefault<V, D> {
+    /// The value.
     pub value: V,
+    /// The default that the schema gives the field.
     pub default: D,
 }
 

@@ -16,10 +16,12 @@ use crate::field_parts::{declare_if, write_if};
 use crate::table_item::TableItem;
 use planus_write::{ObjectWriter, Primitive, TableWriter};
 
-/// The fields of a table with `N` bytes for its vtable, prepared: `()`, or one field and the others.
+/// The fields of a table with `N` bytes for its vtable, prepared: `()`, or a pair of one field and
+/// the others.
 ///
-/// The ghost member `all` has the entries of all fields that may be there, and `there` those fields
-/// that are. `reach` is how far from the end of the buffer they refer, in bytes.
+/// The ghost member `all` has the entries of all fields that may be there, and `there` the fields
+/// that are, in order, each with its slot. `reach` is how far from the end of the buffer they refer,
+/// in bytes.
 pub trait PreparedFields<const N: usize> {
     ghost all: { List Declared };
 
@@ -27,7 +29,9 @@ pub trait PreparedFields<const N: usize> {
 
     ghost reach: { Self → ℕ };
 
-    /// Declares the fields that are there.
+    /// Declares the fields that are there. The slots of all that may be there lie in the vtable, are
+    /// apart, and nothing is declared for them yet; with all of them the object is at most 65535
+    /// bytes. For any other slot nothing is declared.
     fn declare(&self, writer: &mut TableWriter<N>)
         requires small { N ≤ 65534 }
         requires slots { IsTrue (has_slots N all) }
@@ -39,18 +43,20 @@ pub trait PreparedFields<const N: usize> {
             → IsUnused writer.new other }
         ensures size { writer.new.object_size ≤ writer.old.object_size + total_size all };
 
-    /// Writes the fields that are there, behind what is written.
+    /// Writes the fields that are there, behind what is written. So many bytes remain, and what the
+    /// fields refer to lies behind them.
     fn write(&self, writer: &mut ObjectWriter<'_>)
         requires room { body_size (there self.now) ≤ (body_of writer.old).remaining }
         requires reach { reach self.now + body_size (there self.now) ≤ (body_of writer.old).place }
         ensures { body_of writer.new ≡ wrote (body_size (there self.now))
             (λ place. body_bytes place (there self.now)) (body_of writer.old) };
 
-    /// They are fields of the format, where what they refer to lies in the bytes before.
+    /// The fields that are there are fields of the format, where what they refer to lies in the
+    /// bytes before.
     ghost stand: { (fields : Self) (before : ℕ) → reach fields ≤ before
         → AllByRecursion (λ entry. IsField before entry.1) (there fields) };
 
-    /// Those that are there are among all.
+    /// Their entries are among all, in order.
     ghost among: { (fields : Self) → Among (declared_of (there fields)) all };
 }
 

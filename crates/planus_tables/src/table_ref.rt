@@ -16,9 +16,12 @@ use planus_read::{
 use std::alloc::AllocError;
 use std::marker::PhantomData;
 
-/// A table of a kind, in a buffer.
+/// A table of kind `K`, in a buffer. Its fields are what the calls of [`Table`] return at their
+/// slots.
 pub struct TableRef<'a, K> {
+    /// The table.
     pub table: Table<'a>,
+    /// Its kind.
     pub of: PhantomData<K>,
 }
 

@@ -6,6 +6,8 @@ use std::marker::PhantomData;
 /// fields as a [`FieldAt`](crate::FieldAt) does.
 #[derive(Drop)]
 pub struct UnionAt<const TAG: usize, const VALUE: usize, T, V> {
+    /// The union that is written.
     pub value: V,
+    /// Its kind.
     pub of: PhantomData<T>,
 }

@@ -6,6 +6,8 @@ use std::marker::PhantomData;
 /// list of fields as a [`FieldAt`](crate::FieldAt) does.
 #[derive(Drop)]
 pub struct UnionListAt<const TAGS: usize, const VALUES: usize, T, V> {
+    /// The list that is written.
     pub value: V,
+    /// Its kind.
     pub of: PhantomData<T>,
 }

@@ -21,7 +21,7 @@ use crate::ship::Ship;
 use planus_read::Result;
 use planus_tables::{OrDefault, TableKind, TableRef, create_table, fields};
 use planus_view::Vector;
-use planus_write::{BuildError, Builder, List, Offset, Text, UnionOffset};
+use planus_write::{BuildError, Builder, ByRef, List, Offset, Text, UnionOffset};
 
 /// The kind of a union: who owns a port.
 pub struct Owner;
@@ -67,8 +67,9 @@ impl Port {
         ensures reached { IfOk result (λ offset. offset.distance ≤ length builder.new.bytes) }
         ensures grows { Grows builder.old builder.new }
     {
+        // By reference, a number with a sign needs no proof of what the contract says of it.
         let depth = OrDefault {
-            value: port.depth,
+            value: ByRef(&port.depth),
             default: -5,
         };
         let fields = fields![

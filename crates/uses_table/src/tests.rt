@@ -61,10 +61,7 @@ fn ports_are_read(builder: &mut Builder, depth: i16) -> Result<bool, BuildError>
 #[test]
 fn tables_are_read_back(rt: HostRuntime) -> Result<(), Fail> {
     let mut builder = Builder::new(rt.alloc())?;
-    assert!(rt;
-        matches!(ships_are_read(&mut builder), Ok(true)),
-        "ships"
-    );
+    assert!(rt; matches!(ships_are_read(&mut builder), Ok(true)), "ships");
     for depth in [-5, 7] {
         builder.clear();
         assert!(rt;

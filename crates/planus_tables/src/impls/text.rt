@@ -57,6 +57,7 @@ impl<'a> HasListContent<Offset<Text>> for &'a str {
 impl HasListContent<Offset<Text>> for String {
     ghost list = { λ texts. values (map (λ written. text (string_bytes written)) texts) };
 
-    ghost has_list = { values_have_content (entry_is_lawful (λ written. text_entry (string_bytes written)))
+    ghost has_list = { values_have_content
+        (entry_is_lawful (λ written. text_entry (string_bytes written)))
         (λ written. text (string_bytes written)) (text_prepared string_bytes) };
 }
