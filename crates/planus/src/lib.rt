@@ -25,7 +25,8 @@ pub use planus_fields::{
 pub use planus_read::{
     ArrayWithStartOffset, Error, Place, ReadAsRoot, ReadError, Result, SignedBytes,
     SliceWithStartOffset, Stride, TableRead, TableReadUnion, TableReadUnionVector, TaggedPlace,
-    VectorName, VectorRead, VectorReadInner, VectorReadUnion, Void, errors, located, table_reader,
+    VectorName, VectorRead, VectorReadInner, VectorReadUnion, Void, errors, has_identifier,
+    located, read_size_prefixed, table_reader,
 };
 pub use planus_tables::{
     FieldAt, Fields, HasContent, HasDefaultContent, HasListContent, HasUnionContent,

@@ -6,3 +6,4 @@ pub mod TableReading
 pub mod ListItems
 pub mod PieceLaws
 pub mod ReadsBack
+pub mod SizePrefixed

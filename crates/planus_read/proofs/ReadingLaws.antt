@@ -95,7 +95,7 @@ is_shown reading Shows law x there (Ok shows) h = subst (λ y. Shows y shows)
 is_shown reading Shows law x there (Err e) h = absurd (law.nothing e h x there)
 
 -- the errors of the clauses
-this_error : (error e other : ErrorKind) → e ≡ error → other ≡ error → e ≡ other
+pub this_error : (error e other : ErrorKind) → e ≡ error → other ≡ error → e ≡ other
 this_error error e other h k = h ∙ sym k
 
 same_fault : (a b : Utf8Error) → valid_up_to a ≡ valid_up_to b → error_len a ≡ error_len b → a ≡ b

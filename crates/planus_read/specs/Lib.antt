@@ -20,4 +20,5 @@ pub mod ReadingLaws
 pub mod TableReading
 pub mod ListItems
 pub mod PieceLaws
+pub mod SizePrefixed
 pub mod ReadsBack

@@ -24,7 +24,7 @@ pub enum ErrorKind {
     /// vector of unions holds 0.
     InvalidOffset,
     /// The items of a vector, or the slots of a vtable, reach past the end of the piece that is
-    /// read.
+    /// read. Also where fewer bytes follow the size in front of a buffer than it says.
     InvalidLength,
     /// The two parts of a vector of unions have different counts.
     UnionVectorLengthsMismatched {

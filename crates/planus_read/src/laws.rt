@@ -12,6 +12,8 @@ ghost use Rattle.planus_read.specs.ReadingLaws.{IsLawful, IsShown};
 ghost use Rattle.planus_read.specs.Heads.{ShowsItems};
 ghost use Rattle.planus_read.specs.Pieces.{ShowsBytes};
 ghost use Rattle.planus_read.specs.SignedBytes.{ShowsSigned};
+ghost use Rattle.planus_read.specs.SizePrefixed.{prefixed_reading, ShowsPrefixed};
+ghost use Rattle.planus_read.specs.SizePrefixed.{StreamsRead, CutsAreRefused};
 ghost use Rattle.planus_read.specs.Tables.{ShowsTable};
 ghost use Rattle.planus_read.specs.PieceLaws.{ReferencesLead, LeadsInPieces, FieldsStandInPieces};
 ghost use Rattle.planus_read.specs.PieceLaws.{StandsInPieces};
@@ -50,6 +52,7 @@ pub fn readings_are_lawful()
     ensures vector { (S : List ℕ) (f stride : ℕ) → IsLawful (vector_reading S f stride) }
     ensures union_vector { (S : List ℕ) (f g : ℕ) → IsLawful (union_vector_reading S f g) }
     ensures table { (S : List ℕ) (f : ℕ) → IsLawful (table_reading S f) }
+    ensures size_prefixed { (B : List ℕ) → IsLawful (prefixed_reading B) }
 {}
 
 /// Where a value stands, its reader returns what shows it: the text, the slice, the list of signed
@@ -60,6 +63,15 @@ pub fn readers_show_values()
     ensures byte_list { (S : List ℕ) (f : ℕ) → IsShown (byte_list_reading S f) ShowsBytes }
     ensures signed_bytes { (S : List ℕ) (f : ℕ) → IsShown (byte_list_reading S f) ShowsSigned }
     ensures table { (S : List ℕ) (start f : ℕ) → IsShown (table_reading S f) (ShowsTable S start) }
+    ensures size_prefixed { (B : List ℕ) → IsShown (prefixed_reading B) ShowsPrefixed }
+{}
+
+/// Buffers with their sizes in front, put behind one another, are read one by one, each with exactly
+/// its bytes, and then what follows the last of them is left. One that is cut behind its size is
+/// refused as [`ErrorKind::InvalidLength`](crate::errors::ErrorKind::InvalidLength).
+pub fn streams_are_read()
+    ensures read { StreamsRead }
+    ensures cut { CutsAreRefused }
 {}
 
 /// A reference that is encoded leads to the position of its distance. It leads there too in each

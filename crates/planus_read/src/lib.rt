@@ -10,6 +10,7 @@ pub mod located;
 mod place;
 pub mod plain;
 mod signed_bytes;
+mod size_prefixed;
 mod slice_helpers;
 pub mod table_reader;
 mod traits;
@@ -19,6 +20,7 @@ pub use errors::Error;
 pub use heads::array_from_buffer;
 pub use place::{Place, TaggedPlace};
 pub use signed_bytes::SignedBytes;
+pub use size_prefixed::{has_identifier, read_size_prefixed};
 pub use slice_helpers::{ArrayWithStartOffset, SliceWithStartOffset};
 pub use traits::{
     ReadAsRoot, ReadError, Stride, TableRead, TableReadUnion, TableReadUnionVector, VectorName,

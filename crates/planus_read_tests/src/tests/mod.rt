@@ -1,6 +1,7 @@
 mod errors;
 mod no_memory;
 mod pieces;
+mod size_prefixed;
 mod tables;
 mod traits;
 

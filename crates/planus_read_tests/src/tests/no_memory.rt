@@ -1,7 +1,7 @@
 //! All that takes no memory: every call of a reader, a piece and an error's constructor, with all
 //! memory taken.
 
-use super::{pieces, tables, traits};
+use super::{pieces, size_prefixed, tables, traits};
 use planus_exhaust::exhaust;
 use planus_read::Error;
 use planus_read::errors::{ErrorKind, UnknownEnumTagKind};
@@ -51,6 +51,7 @@ struct Answers {
     rows: bool,
     traits: bool,
     pieces: bool,
+    streams: bool,
     errors: bool,
 }
 
@@ -62,6 +63,7 @@ fn answers_without_memory(alloc: Global) -> Result<(bool, Answers), AllocError> 
         rows: worked_rows_are_read(),
         traits: traits_answer(),
         pieces: pieces_answer(),
+        streams: size_prefixed::streams_answer(),
         errors: errors_are_made(),
     };
     drop(held);
@@ -77,6 +79,7 @@ fn no_reader_asks_for_memory(rt: HostRuntime) -> Result<(), Fail> {
     assert!(rt; answers.rows, "the worked rows");
     assert!(rt; answers.traits, "the traits");
     assert!(rt; answers.pieces, "pieces");
+    assert!(rt; answers.streams, "sizes in front, and identifiers");
     assert!(rt; answers.errors, "errors");
     Ok(())
 }

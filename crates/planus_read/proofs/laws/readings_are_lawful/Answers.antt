@@ -1,4 +1,5 @@
 use Rattle.planus_read.proofs.ReadingLaws as readings
+use Rattle.planus_read.proofs.SizePrefixed.{lawful_prefixed}
 use Rattle.planus_read.proofs.laws.readings_are_lawful.Goals as goal
 
 pub returns-clause-number : goal.returns-clause-number
@@ -27,3 +28,6 @@ returns-clause-union_vector c = readings.lawful_union_vector
 
 pub returns-clause-table : goal.returns-clause-table
 returns-clause-table c = readings.lawful_table
+
+pub returns-clause-size_prefixed : goal.returns-clause-size_prefixed
+returns-clause-size_prefixed c = lawful_prefixed

@@ -1,0 +1,8 @@
+use Rattle.planus_read.proofs.SizePrefixed.{streams_read, cuts_are_refused}
+use Rattle.planus_read.proofs.laws.streams_are_read.Goals as goal
+
+pub returns-clause-read : goal.returns-clause-read
+returns-clause-read c = streams_read
+
+pub returns-clause-cut : goal.returns-clause-cut
+returns-clause-cut c = cuts_are_refused

@@ -1,0 +1,72 @@
+-- Buffers with their size in front, as streams and files of records have them one behind another.
+use Rattle.std.specs.Borrow.{Bor}
+use Rattle.std.specs.Prelude.{◌≡◌, ℕ, ◌+◌, ◌≤◌, ◌<◌, List, [], ◌∷◌, ◌++◌, length, take, drop, Some}
+use Rattle.std.specs.Prelude.{Result, Err}
+use Rattle.std.specs.List.{AllByRecursion, concat}
+use Rattle.std.specs.Int.{w32}
+use Rattle.planus_read.specs.declared.errors.ErrorKind.{ErrorKind}
+use Rattle.planus_read.specs.declared.errors.ErrorKind.TheVariants.{InvalidLength}
+use Rattle.planus_read.specs.declared.slice_helpers.SliceWithStartOffset.{SliceWithStartOffset}
+use Rattle.planus_read.specs.Bytes.{Num}
+use Rattle.planus_read.specs.Clauses.{Clause, clause, Reading, Answer}
+use Rattle.planus_read.specs.Pieces.{slice_bytes, slice_start}
+use Rattle.planus_read.specs.Reading.{number, number_clause}
+use Rattle.planus_read.specs.ReadingLaws.{IsAnswered}
+
+-- the bytes of a buffer behind its size, and the rest that follows the buffer
+pub record Prefixed : Type 0 where
+  pub content : List ℕ
+  pub rest : List ℕ
+
+-- The size of the content, then the content, and then the rest.
+-- The format: a size-prefixed buffer begins with an unsigned number of 4 bytes, which says how many
+-- bytes follow it.
+pub record PrefixedThere (B content rest : List ℕ) : Type 0 where
+  pub size : Num B 0 w32 ≡ Some (length content)
+  pub bytes : drop 4 B ≡ content ++ rest
+
+-- the clauses of such a buffer: its size lies in B, and so do as many bytes behind it
+abbrev pub prefixed_clauses : List ℕ → List Clause
+prefixed_clauses B =
+    number_clause B 0 w32 ∷ clause (4 + number B 0 w32 ≤ length B) InvalidLength ∷ []
+
+-- the reading of such a buffer
+abbrev pub prefixed_reading : List ℕ → Reading Prefixed
+prefixed_reading B = record {
+  There = λ prefixed. PrefixedThere B prefixed.content prefixed.rest;
+  clauses = prefixed_clauses B;
+}
+
+-- the piece of the content, which starts behind the size, and the rest
+pub record ShowsPrefixed (prefixed : Prefixed) (shows : SliceWithStartOffset × Bor (List ℕ))
+    : Type 0 where
+  pub content : slice_bytes shows.0 ≡ prefixed.content
+  pub begin : slice_start shows.0 ≡ 4
+  pub rest : shows.1.now ≡ prefixed.rest
+
+-- a buffer with its size in front, and nothing behind it
+abbrev pub IsPrefixed : List ℕ → Type 0
+IsPrefixed B = Num B 0 w32 ≡ Some (length (drop 4 B))
+
+-- Read one by one, the bytes are these buffers with their sizes in front, each with exactly its
+-- bytes, and then this is left.
+abbrev pub StreamReads : List ℕ → List (List ℕ) → List ℕ → Type 0
+StreamReads B [] left = B ≡ left
+StreamReads B (buffer ∷ buffers) left =
+    (rest : List ℕ)
+    × IsAnswered (prefixed_reading B) (record { content = drop 4 buffer; rest = rest })
+    × StreamReads rest buffers left
+
+-- Buffers with their sizes in front, put behind one another, are read one by one, whatever is
+-- behind the last of them.
+abbrev pub StreamsRead : Type 0
+StreamsRead =
+    (buffers : List (List ℕ)) (left : List ℕ) → AllByRecursion IsPrefixed buffers
+    → StreamReads (concat buffers ++ left) buffers left
+
+-- A buffer that is cut behind its size is refused as too short.
+abbrev pub CutsAreRefused : Type 0
+CutsAreRefused =
+    (B : List ℕ) (n : ℕ) → IsPrefixed B → 4 ≤ n → n < length B → (r : Result Prefixed ErrorKind)
+    → Answer (prefixed_reading (take n B)) r
+    → r ≡ Err InvalidLength

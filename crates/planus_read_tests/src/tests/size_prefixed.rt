@@ -1,0 +1,48 @@
+//! Buffers with their size in front, and identifiers.
+
+use planus_read::errors::ErrorKind;
+use planus_read::{has_identifier, read_size_prefixed};
+
+// The text `Axe`, with its size in front, twice.
+const TWO: [u8; 32] = [
+    12, 0, 0, 0, 4, 0, 0, 0, 3, 0, 0, 0, b'A', b'x', b'e', 0, 12, 0, 0, 0, 4, 0, 0, 0, 3, 0, 0, 0,
+    b'A', b'x', b'e', 0,
+];
+
+// The text `Axe`, with its size in front and an identifier.
+const IDENTIFIED: [u8; 20] = [
+    16, 0, 0, 0, 8, 0, 0, 0, b'T', b'E', b'S', b'T', 3, 0, 0, 0, b'A', b'x', b'e', 0,
+];
+
+// Whether the piece of a buffer is these bytes, which start behind its size, and this is the rest.
+fn reads(bytes: &[u8], piece: &[u8], rest: &[u8]) -> bool {
+    match read_size_prefixed(bytes) {
+        Ok((content, behind)) => {
+            content.as_slice() == piece && content.offset_from_start() == 4 && behind == rest
+        }
+        Err(_) => false,
+    }
+}
+
+fn buffers_are_read() -> bool {
+    let short = |bytes| matches!(read_size_prefixed(bytes), Err(ErrorKind::InvalidLength));
+    reads(&TWO, &TWO[4..16], &TWO[16..])
+        && reads(&TWO[16..], &TWO[4..16], &[])
+        && reads(&[0, 0, 0, 0, 7], &[], &[7])
+        && short(&TWO[..15])
+        && short(&[0xff, 0xff, 0xff, 0xff])
+        && matches!(read_size_prefixed(&TWO[..3]), Err(ErrorKind::InvalidOffset))
+}
+
+fn identifiers_are_told() -> bool {
+    let told = |bytes, identifier| has_identifier(bytes, identifier);
+    told(&IDENTIFIED[4..], *b"TEST")
+        && told(&IDENTIFIED[4..12], *b"TEST")
+        && !told(&IDENTIFIED[4..11], *b"TEST")
+        && !told(&IDENTIFIED[4..], *b"TESS")
+        && !told(&[], [0; 4])
+}
+
+pub fn streams_answer() -> bool {
+    buffers_are_read() && identifiers_are_told()
+}
