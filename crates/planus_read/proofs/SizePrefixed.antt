@@ -17,7 +17,7 @@ use Rattle.planus_read.specs.Reading.{number}
 use Rattle.planus_read.specs.ReadingLaws.{Decides, IsOne, IsLawful, IsAnswered}
 use Rattle.planus_read.specs.SizePrefixed.{Prefixed, PrefixedThere, prefixed_clauses}
 use Rattle.planus_read.specs.SizePrefixed.{prefixed_reading, ShowsPrefixed, IsPrefixed}
-use Rattle.planus_read.specs.SizePrefixed.{StreamsRead, CutsAreRefused}
+use Rattle.planus_read.specs.SizePrefixed.{StreamsRead, CutsAreRefused, BuffersAreRead}
 use Rattle.planus_read.proofs.Reading.{num_inside, num_there, num_value}
 use Rattle.planus_read.proofs.ReadingLaws.{OneError, lawful, this_error}
 
@@ -123,18 +123,18 @@ append_assoc : (xs ys zs : List ℕ) → (xs ++ ys) ++ zs ≡ xs ++ (ys ++ zs)
 append_assoc [] ys zs = refl
 append_assoc (x ∷ xs) ys zs = ap (λ l. x ∷ l) (append_assoc xs ys zs)
 
+pub buffers_are_read : BuffersAreRead
+buffers_are_read B rest h = (lawful_prefixed (B ++ rest)).answered
+    (record { content = drop 4 B; rest = rest }) (prefixed_in_front B rest h)
+
 pub streams_read : StreamsRead
 streams_read [] left h = refl
 streams_read (buffer ∷ buffers) left h =
-    let rest : List ℕ = concat buffers ++ left in
-    let here : PrefixedThere (buffer ++ rest) (drop 4 buffer) rest =
-    prefixed_in_front buffer rest h.0 in (
+    let rest : List ℕ = concat buffers ++ left in (
       rest,
       subst (λ B. IsAnswered (prefixed_reading B)
           (record { content = drop 4 buffer; rest = rest }))
-          (sym (append_assoc buffer (concat buffers) left))
-          ((lawful_prefixed (buffer ++ rest)).answered
-          (record { content = drop 4 buffer; rest = rest }) here),
+          (sym (append_assoc buffer (concat buffers) left)) (buffers_are_read buffer rest h.0),
       streams_read buffers left h.1,
     )
 

@@ -48,6 +48,13 @@ pub record ShowsPrefixed (prefixed : Prefixed) (shows : SliceWithStartOffset × 
 abbrev pub IsPrefixed : List ℕ → Type 0
 IsPrefixed B = Num B 0 w32 ≡ Some (length (drop 4 B))
 
+-- Over a buffer with its size in front and whatever is behind it, its bytes behind the size are
+-- answered, and the rest.
+abbrev pub BuffersAreRead : Type 0
+BuffersAreRead =
+    (B rest : List ℕ) → IsPrefixed B
+    → IsAnswered (prefixed_reading (B ++ rest)) (record { content = drop 4 B; rest = rest })
+
 -- Read one by one, the bytes are these buffers with their sizes in front, each with exactly its
 -- bytes, and then this is left.
 abbrev pub StreamReads : List ℕ → List (List ℕ) → List ℕ → Type 0

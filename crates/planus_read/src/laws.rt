@@ -13,7 +13,8 @@ ghost use Rattle.planus_read.specs.Heads.{ShowsItems};
 ghost use Rattle.planus_read.specs.Pieces.{ShowsBytes};
 ghost use Rattle.planus_read.specs.SignedBytes.{ShowsSigned};
 ghost use Rattle.planus_read.specs.SizePrefixed.{prefixed_reading, ShowsPrefixed};
-ghost use Rattle.planus_read.specs.SizePrefixed.{StreamsRead, CutsAreRefused};
+ghost use Rattle.planus_read.specs.SizePrefixed.{BuffersAreRead, StreamsRead};
+ghost use Rattle.planus_read.specs.SizePrefixed.{CutsAreRefused};
 ghost use Rattle.planus_read.specs.Tables.{ShowsTable};
 ghost use Rattle.planus_read.specs.PieceLaws.{ReferencesLead, LeadsInPieces, FieldsStandInPieces};
 ghost use Rattle.planus_read.specs.PieceLaws.{StandsInPieces};
@@ -66,10 +67,12 @@ pub fn readers_show_values()
     ensures size_prefixed { (B : List ℕ) → IsShown (prefixed_reading B) ShowsPrefixed }
 {}
 
-/// Buffers with their sizes in front, put behind one another, are read one by one, each with exactly
-/// its bytes, and then what follows the last of them is left. One that is cut behind its size is
-/// refused as [`ErrorKind::InvalidLength`](crate::errors::ErrorKind::InvalidLength).
+/// A buffer with its size in front is read with exactly its bytes, and the rest is what follows it.
+/// So such buffers, put behind one another, are read one by one, and then what follows the last of
+/// them is left. One that is cut behind its size is refused as
+/// [`ErrorKind::InvalidLength`](crate::errors::ErrorKind::InvalidLength).
 pub fn streams_are_read()
+    ensures first { BuffersAreRead }
     ensures read { StreamsRead }
     ensures cut { CutsAreRefused }
 {}

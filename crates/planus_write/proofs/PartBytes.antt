@@ -16,6 +16,7 @@ use Rattle.planus_read.specs.Stands.{Stands, at}
 use Rattle.planus_read.specs.Aligned.{AlignedAt}
 use Rattle.planus_write.specs.Past.{Past}
 use Rattle.planus_write.specs.Parts.{text_part, byte_list_part, finish_part, identifier_bytes}
+use Rattle.planus_write.specs.Parts.{sized_finish_part}
 use Rattle.planus_write.specs.Kept.{IsKept}
 
 -- the place of a part whose bytes are as many as its size is the length with it
@@ -35,6 +36,10 @@ pub finish_size : (root : ℕ) (identifier : Option (List ℕ)) (before : Writte
     → length ((finish_part root identifier before.promises).bytes_at place) ≡ (finish_part root identifier before.promises).size
 finish_size root identifier before place = let e : 4 + length (identifier_bytes identifier) ≡ length (identifier_bytes identifier) + 4 = omega arith in simp length-append (omega arith)
 
+pub sized_finish_size : (root : ℕ) (identifier : Option (List ℕ)) (before : Written) (place : ℕ)
+    → length ((sized_finish_part root identifier before.promises).bytes_at place) ≡ (sized_finish_part root identifier before.promises).size
+sized_finish_size root identifier before place = let e : 8 + length (identifier_bytes identifier) ≡ length (identifier_bytes identifier) + 8 = omega arith in simp length-append (omega arith)
+
 four_fit : (m : ℕ) → nat_le 4 (suc (suc (suc (suc m)))) ≡ true
 four_fit m = grind (arith, nat_tests)
 
@@ -42,6 +47,14 @@ four_fit m = grind (arith, nat_tests)
 pub front_number : (n : ℕ) (rest : List ℕ) → n < 2 ^ 32
     → Num (to_le_bytes w32 n ++ rest) 0 w32 ≡ Some n
 front_number n rest small = rw (four_fit (length rest)) (ap Some (from_le_bytes-to_le_bytes_4 n small))
+
+eight_fit : (m : ℕ) → nat_le 8 (suc (suc (suc (suc (suc (suc (suc (suc m)))))))) ≡ true
+eight_fit m = grind (arith, nat_tests)
+
+-- the one behind it
+pub second_number : (m n : ℕ) (rest : List ℕ) → n < 2 ^ 32
+    → Num (to_le_bytes w32 m ++ (to_le_bytes w32 n ++ rest)) 4 w32 ≡ Some n
+second_number m n rest small = rw (eight_fit (length rest)) (ap Some (from_le_bytes-to_le_bytes_4 n small))
 
 -- what stands at the front of what was written is kept at its length
 pub kept_at_front : (past : Past) (value : Value) (distance : ℕ)

@@ -16,7 +16,7 @@ use Rattle.planus_write.specs.Shared.{Kind, Contents, Switches, Seen, texts, byt
 use Rattle.planus_write.specs.Shared.{shared_as, found, distance_seen, and_seen}
 use Rattle.planus_write.specs.Past.{Past, Entry, just, part_after, Adds, PutsAfter, Puts}
 use Rattle.planus_write.specs.Past.{found_before, no_past}
-use Rattle.planus_write.specs.Parts.{finish_entry, finish_part, identifier_bytes}
+use Rattle.planus_write.specs.Parts.{front_part, front_entry, root_words, sized_words, sized_finish_entry, identifier_bytes}
 use Rattle.planus_write.specs.Backed.{Backed, DescribedBy, PutsBytes, MakesRoom, LacksRoom}
 use Rattle.planus_write.specs.Sharing.{Shares, FindsIf, KeepsIf, LacksSharedRoom, Starts}
 use Rattle.planus_write.specs.Kept.{AllSeenKept}
@@ -24,7 +24,7 @@ use Rattle.planus_write.specs.State.{State, IsPast, FindsSeen, Holdings, held, c
 use Rattle.planus_write.specs.Placing.{PutsDown, MayWantMemory}
 use Rattle.planus_write.specs.Placing.{RefusedFor, Refuses, LeftAsItWas}
 use Rattle.planus_write.specs.Laws.{left_grows}
-use Rattle.planus_write.specs.Finishing.{Finishes}
+use Rattle.planus_write.specs.Finishing.{Finishes, PutsInFront}
 use Rattle.planus_write.specs.View.{state_from, state_of}
 use Rattle.planus_write.specs.declared.start.Start.TheVariants.{Found, Begun}
 use Rattle.planus_write.specs.declared.builder.Builder.TheInside.{Inside}
@@ -364,39 +364,59 @@ both_put front back mid between new first second =
     second ∙ rw (first, append_assoc front back mid.bytes, length-append front back)
     (ap (λ n. record mid { bytes = front ++ (back ++ mid.bytes); room = n }) (omega arith))
 
--- a root word and an identifier, put in two pieces into the room made for them
-module _ (root : ℕ) (identifier : Option (List ℕ)) (alignment : ℕ) (b : Backed) (switches : Switches) (holdings : Holdings)
+-- words in front of all that was written, put into the room made for them
+module _ (size : ℕ) (words : ℕ → List ℕ) (alignment : ℕ) (b : Backed) (switches : Switches) (holdings : Holdings)
     (greatest : (promises : List Promise) → DescribedBy b promises → greatest_alignment 4 promises ≡ alignment) where
-  pub finish_sized : IsSized (finish_entry root identifier) [] (state_from b switches holdings) (length (identifier_bytes identifier) + 4) alignment
-  finish_sized = record { size_is = λ past h. refl; alignment_is = λ past h. greatest past.written.promises h.described }
+  pub front_sized : IsSized (front_entry size words) [] (state_from b switches holdings) size alignment
+  front_sized = record { size_is = λ past h. refl; alignment_is = λ past h. greatest past.written.promises h.described }
 
-  module _ (word : List ℕ) (place : ℕ) (mid a n : Backed)
-      (room : MakesRoom (length (identifier_bytes identifier) + 4) alignment b place mid)
-      (name_put : PutsBytes (identifier_bytes identifier) mid a) (word_put : PutsBytes word a n) (word_is : word ≡ to_le_bytes w32 (place - root))
+  module _ (bytes : List ℕ) (place : ℕ) (mid n : Backed)
+      (room : MakesRoom size alignment b place mid)
+      (put : PutsBytes bytes mid n) (words_are : words place ≡ bytes) (count : length bytes ≡ size)
       (all : (promises : List Promise) → DescribedBy b promises → greatest_alignment 1 promises ≤ alignment)
       (some : (promises : List Promise) × DescribedBy b promises) where
-    whole_put : PutsBytes (word ++ identifier_bytes identifier) mid n
-    whole_put = both_put word (identifier_bytes identifier) mid a n name_put word_put
-
-    count : length (word ++ identifier_bytes identifier) ≡ length (identifier_bytes identifier) + 4
-    count = rw word_is (simp length-append (omega arith))
-
-    finish_ends : length n.bytes ≡ place
-    finish_ends = new_length (length (identifier_bytes identifier) + 4) alignment place b mid n (word ++ identifier_bytes identifier) room count whole_put
+    front_ends : length n.bytes ≡ place
+    front_ends = new_length size alignment place b mid n bytes room count put
 
     none_to_come : n.delayed ≡ 0
     none_to_come =
         let kept : Keep (promise_of place alignment ∷ some.0) place = room.kept some.0 some.1 (all some.0 some.1) in
         let turns : (k : ℕ) × (place ≡ place + mid.delayed + k * (mid.mask + 1)) = ((room.described some.0 some.1).kept place (let le : place ≤ place = omega arith in le)).0 kept in
-        let same : n.delayed ≡ mid.delayed = ap (λ backed. backed.delayed) whole_put in
+        let same : n.delayed ≡ mid.delayed = ap (λ backed. backed.delayed) put in
         omega (arith, same, turns.1)
 
-    pub finishes : Finishes root identifier (state_from b switches holdings) place (state_from n switches holdings)
-    finishes = record {
-      puts = alone_down (λ got promises. finish_part root identifier promises) [] _ alignment b switches holdings finish_sized place mid n (word ++ identifier_bytes identifier) room (λ past h. rw word_is refl) count whole_put;
-      whole = sym finish_ends;
+    pub puts_in_front : PutsInFront (front_entry size words) (state_from b switches holdings) place (state_from n switches holdings)
+    puts_in_front = record {
+      puts = alone_down (λ got promises. front_part size words promises) [] _ alignment b switches holdings front_sized place mid n bytes room (λ past h. words_are) count put;
+      whole = sym front_ends;
       kept = none_to_come;
     }
+
+-- the words of a finish
+module _ (root : ℕ) (identifier : Option (List ℕ)) (alignment : ℕ) (b : Backed) (switches : Switches) (holdings : Holdings)
+    (greatest : (promises : List Promise) → DescribedBy b promises → greatest_alignment 4 promises ≡ alignment)
+    (word : List ℕ) (place : ℕ) (mid n : Backed)
+    (all : (promises : List Promise) → DescribedBy b promises → greatest_alignment 1 promises ≤ alignment)
+    (some : (promises : List Promise) × DescribedBy b promises) where
+  -- the root word and the identifier, put in two pieces
+  pub finishes : (a : Backed) → MakesRoom (length (identifier_bytes identifier) + 4) alignment b place mid
+      → PutsBytes (identifier_bytes identifier) mid a → PutsBytes word a n → word ≡ to_le_bytes w32 (place - root)
+      → Finishes root identifier (state_from b switches holdings) place (state_from n switches holdings)
+  finishes a room name_put word_put word_is =
+      puts_in_front (length (identifier_bytes identifier) + 4) (root_words root identifier) alignment b switches holdings greatest
+      (word ++ identifier_bytes identifier) place mid n room (both_put word (identifier_bytes identifier) mid a n name_put word_put)
+      (rw word_is refl) (rw word_is (simp length-append (omega arith))) all some
+
+  -- the size word, the root word and the identifier
+  pub sized_finishes : (size : List ℕ) → MakesRoom (length (identifier_bytes identifier) + 8) alignment b place mid
+      → PutsBytes (size ++ word ++ identifier_bytes identifier) mid n
+      → size ≡ to_le_bytes w32 (place - 4) → word ≡ to_le_bytes w32 (place - 4 - root)
+      → PutsInFront (sized_finish_entry root identifier) (state_from b switches holdings) place (state_from n switches holdings)
+  sized_finishes size room put size_is word_is =
+      puts_in_front (length (identifier_bytes identifier) + 8) (sized_words root identifier) alignment b switches holdings greatest
+      (size ++ word ++ identifier_bytes identifier) place mid n room put
+      (rw (size_is, word_is) refl)
+      (rw (size_is, word_is, length-append (to_le_bytes w32 (place - 4 - root)) (identifier_bytes identifier)) (omega arith)) all some
 
 -- what is shared of a kind
 abbrev pub shares_of : Kind → Inside → Shares

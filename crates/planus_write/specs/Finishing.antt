@@ -3,45 +3,75 @@ use Rattle.std.specs.Prelude.{◌≡◌, ℕ, List, [], length, Result, Ok, Err,
 use Rattle.std.specs.Borrow.{follows_so, MutBor, Bor, Fml}
 use mathlib.Core.Option.{none}
 use Rattle.planus_write.specs.State.{State}
-use Rattle.planus_write.specs.Parts.{finish_entry}
+use Rattle.planus_write.specs.Past.{Entry}
+use Rattle.planus_write.specs.Parts.{finish_entry, sized_finish_entry}
 use Rattle.planus_write.specs.Placing.{Outcome, then_does, PutsDown, Refuses}
 use Rattle.planus_write.specs.declared.errors.BuildError.{BuildError}
 use Rattle.planus_write.specs.declared.offset.Offset.{Offset}
 use Rattle.planus_write.specs.contracts.builder.Builder.{the_row}
 
--- The finish of a prepared root was put down; then no byte is still to come up to a length that
+-- Words were put in front of all that was written; then no byte is still to come up to a length that
 -- keeps every promise.
-pub record Finishes (root : ℕ) (identifier : Option (List ℕ)) (old : State) (distance : ℕ)
-    (new : State) : Type 0 where
-  pub puts : PutsDown (finish_entry root identifier) [] old distance new
+pub record PutsInFront (entry : Entry) (old : State) (distance : ℕ) (new : State) : Type 0 where
+  pub puts : PutsDown entry [] old distance new
   pub whole : distance ≡ length new.bytes
   pub kept : new.delayed ≡ 0
 
+-- such words were put down, or refused
+abbrev pub WritesFront : Entry → Outcome ℕ
+WritesFront entry old (Ok distance) new = PutsInFront entry old distance new
+WritesFront entry old (Err error) new = Refuses entry [] old error new
+
+-- the finish of a prepared root was put down
+abbrev pub Finishes : ℕ → Option (List ℕ) → State → ℕ → State → Type 0
+Finishes root identifier old distance new =
+    PutsInFront (finish_entry root identifier) old distance new
+
 -- the finish of a prepared root was put down, or refused
 abbrev pub WritesRoot : ℕ → Option (List ℕ) → Outcome ℕ
-WritesRoot root identifier old (Ok distance) new = Finishes root identifier old distance new
-WritesRoot root identifier old (Err error) new =
-    Refuses (finish_entry root identifier) [] old error new
+WritesRoot root identifier = WritesFront (finish_entry root identifier)
+
+-- the same with the size in front
+abbrev pub WritesSizedRoot : ℕ → Option (List ℕ) → Outcome ℕ
+WritesSizedRoot root identifier = WritesFront (sized_finish_entry root identifier)
 
 -- The root is prepared, and then the finish is put down.
 abbrev pub FinishDoes : {T : Type 0} → Outcome (Offset T) → Option (List ℕ) → Outcome ℕ
 FinishDoes {T} prepare identifier = then_does prepare (λ root. WritesRoot root.distance identifier)
 
--- How a finish leaves the builder, by what it answers: the bytes that it lends are all of the
--- builder's.
+-- The root is prepared, and then the finish with the size in front is put down.
+abbrev pub SizedFinishDoes : {T : Type 0} → Outcome (Offset T) → Option (List ℕ) → Outcome ℕ
+SizedFinishDoes {T} prepare identifier =
+    then_does prepare (λ root. WritesSizedRoot root.distance identifier)
+
+-- How a call that puts words in front leaves the builder, by what it answers: the bytes that it
+-- lends are all of the builder's.
+abbrev pub LendsAll : Outcome ℕ → State → Result (Bor (List ℕ)) BuildError → State → Type 0
+LendsAll does old (Ok bytes) new = does old (Ok (length new.bytes)) new × (bytes.now ≡ new.bytes)
+LendsAll does old (Err error) new = does old (Err error) new
+
+-- the bytes that it lends: all of the builder's, as it leaves it
+abbrev pub GivesAll : Outcome ℕ → State → List ℕ → Type 0
+GivesAll does old bytes =
+    (new : State) × does old (Ok (length new.bytes)) new × (bytes ≡ new.bytes)
+
+-- how a finish leaves the builder, and what it lends
 abbrev pub FinishLeaves : {T : Type 0} → Outcome (Offset T) → Option (List ℕ) → State
     → Result (Bor (List ℕ)) BuildError → State → Type 0
-FinishLeaves {T} prepare identifier old (Ok bytes) new =
-    FinishDoes prepare identifier old (Ok (length new.bytes)) new × (bytes.now ≡ new.bytes)
-FinishLeaves {T} prepare identifier old (Err error) new =
-    FinishDoes prepare identifier old (Err error) new
+FinishLeaves {T} prepare identifier = LendsAll (FinishDoes prepare identifier)
 
--- the bytes that a finish lends: all of the builder's, as it leaves it
 abbrev pub FinishGives : {T : Type 0} → Outcome (Offset T) → Option (List ℕ) → State → List ℕ
     → Type 0
-FinishGives {T} prepare identifier old bytes =
-    (new : State) × FinishDoes prepare identifier old (Ok (length new.bytes)) new
-    × (bytes ≡ new.bytes)
+FinishGives {T} prepare identifier = GivesAll (FinishDoes prepare identifier)
+
+-- the same of a finish with the size in front
+abbrev pub SizedFinishLeaves : {T : Type 0} → Outcome (Offset T) → Option (List ℕ) → State
+    → Result (Bor (List ℕ)) BuildError → State → Type 0
+SizedFinishLeaves {T} prepare identifier = LendsAll (SizedFinishDoes prepare identifier)
+
+abbrev pub SizedFinishGives : {T : Type 0} → Outcome (Offset T) → Option (List ℕ) → State → List ℕ
+    → Type 0
+SizedFinishGives {T} prepare identifier = GivesAll (SizedFinishDoes prepare identifier)
 
 -- the builder is left so, once the bytes that are lent are given back
 abbrev pub EndsAs : MutBor State → (State → Type 0) → Fml

@@ -100,21 +100,49 @@ abbrev pub identifier_bytes : Option (List ℕ) → List ℕ
 identifier_bytes None = []
 identifier_bytes (Some bytes) = bytes
 
--- A finish is one part: the root word, which is the part's place less the root's distance, and
--- behind it the file identifier, if there is one. Its alignment is the greatest of 4 and every
+-- Words in front of all that was written, as one part. Its alignment is the greatest of 4 and every
 -- alignment that was promised.
+abbrev pub front_part : ℕ → (ℕ → List ℕ) → List Promise → Part
+front_part size words promises =
+    record { size = size; alignment = greatest_alignment 4 promises; bytes_at = words }
+
+abbrev pub front_entry : ℕ → (ℕ → List ℕ) → Entry
+front_entry size words =
+    record { contents = None; part = λ got promises. front_part size words promises }
+
+-- the root word, which is the place less the root's distance, and behind it the file identifier, if
+-- there is one
+abbrev pub root_words : ℕ → Option (List ℕ) → ℕ → List ℕ
+root_words root identifier place =
+    to_le_bytes w32 (place - root) ++ identifier_bytes identifier
+
+-- A finish is one part: the root word and the file identifier, if there is one.
 -- The format: a buffer begins with a reference to its root; four bytes that identify the file may
 -- follow.
 abbrev pub finish_part : ℕ → Option (List ℕ) → List Promise → Part
-finish_part root identifier promises = record {
-  size = length (identifier_bytes identifier) + 4;
-  alignment = greatest_alignment 4 promises;
-  bytes_at = λ place. to_le_bytes w32 (place - root) ++ identifier_bytes identifier;
-}
+finish_part root identifier promises =
+    front_part (length (identifier_bytes identifier) + 4) (root_words root identifier) promises
 
 abbrev pub finish_entry : ℕ → Option (List ℕ) → Entry
 finish_entry root identifier =
-    record { contents = None; part = λ got promises. finish_part root identifier promises }
+    front_entry (length (identifier_bytes identifier) + 4) (root_words root identifier)
+
+-- the size word, which is the place less its own 4 bytes, and behind it the words of a finish, which
+-- are so much nearer to the end
+abbrev pub sized_words : ℕ → Option (List ℕ) → ℕ → List ℕ
+sized_words root identifier place =
+    to_le_bytes w32 (place - 4) ++ root_words root identifier (place - 4)
+
+-- A finish with the size in front is one part too: the size word, and then the words of a finish.
+-- The format: a size-prefixed buffer begins with an unsigned number of 4 bytes, which says how many
+-- bytes follow it; the buffer is aligned from that number on.
+abbrev pub sized_finish_part : ℕ → Option (List ℕ) → List Promise → Part
+sized_finish_part root identifier promises =
+    front_part (length (identifier_bytes identifier) + 8) (sized_words root identifier) promises
+
+abbrev pub sized_finish_entry : ℕ → Option (List ℕ) → Entry
+sized_finish_entry root identifier =
+    front_entry (length (identifier_bytes identifier) + 8) (sized_words root identifier)
 
 -- bytes that a filler leaves at the part's place
 abbrev pub filled_part : ℕ → ℕ → (ℕ → ℕ → List ℕ) → Part

@@ -4,6 +4,7 @@ use Rattle.planus_back.specs.Parts.{Written, Placed}
 use Rattle.planus_read.specs.Bytes.{BytesStand}
 use Rattle.planus_read.specs.Values.{Value}
 use Rattle.planus_read.specs.Stands.{ReferenceStands}
+use Rattle.planus_read.specs.SizePrefixed.{IsPrefixed}
 use Rattle.planus_write.specs.Shared.{Switches}
 use Rattle.planus_write.specs.Past.{Past, Entry, PutsAll, ComesToTooLarge}
 use Rattle.planus_write.specs.Kept.{IsKept, AllSeenKept}
@@ -11,7 +12,7 @@ use Rattle.planus_write.specs.State.{State, IsPast, Extends}
 use Rattle.planus_write.specs.Preparing.{WritesEntries}
 use Rattle.planus_write.specs.declared.errors.BuildError.TheVariants.{TooLarge}
 use Rattle.planus_write.specs.Parts.{finish_part, identifier_bytes, IsWritten, entries_of, Named}
-use Rattle.planus_write.specs.Parts.{named_by}
+use Rattle.planus_write.specs.Parts.{named_by, sized_finish_part}
 
 -- What is kept stays so, whatever is written in front of it.
 abbrev pub KeptStays : Type 0
@@ -56,3 +57,18 @@ FinishesAreIdentified =
     (root : ℕ) (identifier : Option (List ℕ)) (before after : Written)
     → Placed (finish_part root identifier before.promises) before after
     → BytesStand after.bytes 4 (identifier_bytes identifier)
+
+-- Where a finish with the size in front was placed, the size says how many bytes follow it; the
+-- reference behind it leads to the root, if that lies in what was written before; and the identifier
+-- stands behind that.
+pub record SizedFinishStands (root : ℕ) (identifier : Option (List ℕ)) (before after : Written)
+    : Type 0 where
+  pub size : IsPrefixed after.bytes
+  pub leads : root ≤ length before.bytes → ReferenceStands after.bytes 4 root
+  pub identified : BytesStand after.bytes 8 (identifier_bytes identifier)
+
+abbrev pub SizedFinishesStand : Type 0
+SizedFinishesStand =
+    (root : ℕ) (identifier : Option (List ℕ)) (before after : Written)
+    → Placed (sized_finish_part root identifier before.promises) before after
+    → SizedFinishStands root identifier before after

@@ -56,6 +56,9 @@ impl Builder {
     ghost use Rattle.planus_write.specs.Placing.{WritesEntry, WritesPart};
     ghost use Rattle.planus_write.specs.Preparing.{WritesText, WritesByteList};
     ghost use Rattle.planus_write.specs.Finishing.{EndsAs, FinishGives, FinishLeaves, WritesRoot};
+    ghost use Rattle.planus_write.specs.Finishing.{SizedFinishGives, SizedFinishLeaves};
+    ghost use Rattle.planus_write.specs.Finishing.{WritesSizedRoot};
+    ghost use Rattle.planus_read.specs.SizePrefixed.{IsPrefixed};
 
     /// An empty builder, which writes equal texts, byte lists and vtables once;
     /// [`BuildError::OutOfMemory`] where memory is refused.
@@ -391,6 +394,32 @@ impl Builder {
         Ok(self.as_slice())
     }
 
+    /// Prepares the root, and puts in front of everything a number of 4 bytes, which says how many
+    /// bytes follow it, behind that the root's reference, and behind that the file identifier, if
+    /// there is one. Every part since the last clear then stands aligned from that number on.
+    /// Answers all bytes, which can stand in front of others in a stream. An offset as the root must
+    /// be one that this builder answered since the last clear.
+    ///
+    /// Writing may go on afterwards, and finish again.
+    ///
+    /// A refusal is that of [`Builder::finish`].
+    pub fn finish_size_prefixed<T, X: WriteAsOffset<T> + Drop>(
+        &mut self,
+        root: X,
+        identifier: Option<[u8; 4]>,
+    ) -> std::result::Result<&[u8], BuildError>
+        requires { X.may root self.old }
+        ensures bytes { IfOk result (λ bytes. SizedFinishGives
+            (X.outcome root) identifier self.old bytes.now) }
+        ensures size { IfOk result (λ bytes. IsPrefixed bytes.now) }
+        ensures* after { sem 𝓛 (EndsAs self.entry
+            (SizedFinishLeaves (X.outcome root) identifier self.old result)) }
+    {
+        let root = root.prepare(self)?;
+        self.write_sized_root(root.distance(), identifier)?;
+        Ok(self.as_slice())
+    }
+
     // The root word, and the identifier behind it, as one part with the greatest alignment so far.
     fn write_root(
         &mut self,
@@ -405,6 +434,26 @@ impl Builder {
         let place = self.backing.make_room(name.len() + 4, mask)?;
         self.backing.put(name);
         self.backing.put(&(place - root).to_le_bytes());
+        Ok(place)
+    }
+
+    // The size word, the root word behind it, and the identifier behind that, as one part with the
+    // greatest alignment so far.
+    fn write_sized_root(
+        &mut self,
+        root: u32,
+        identifier: Option<[u8; 4]>,
+    ) -> std::result::Result<u32, BuildError>
+        requires { root ≤ length self.old.bytes }
+        ensures written { WritesSizedRoot root identifier self.old result self.new }
+        ensures size { IfOk result (λ place. IsPrefixed self.new.bytes) }
+    {
+        let mask = self.backing.finish_mask();
+        let name = identifier_slice(&identifier);
+        let place = self.backing.make_room(name.len() + 8, mask)?;
+        let size = place - 4;
+        self.backing
+            .put_three(&size.to_le_bytes(), &(size - root).to_le_bytes(), name);
         Ok(place)
     }
 }

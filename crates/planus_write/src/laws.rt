@@ -2,7 +2,7 @@
 
 ghost use Rattle.planus_write.specs.Standing.{KeptStays, ValuesAreKept, FinishesLead};
 ghost use Rattle.planus_write.specs.Standing.{FinishesAreIdentified, EntriesArePut};
-ghost use Rattle.planus_write.specs.Standing.{EntriesAreTooLarge};
+ghost use Rattle.planus_write.specs.Standing.{EntriesAreTooLarge, SizedFinishesStand};
 
 /// What a call put down, as its contract says, is put down in every past of the builder, so that
 /// the laws of pasts speak of it; and where a call was refused what is too large, so it is there.
@@ -24,4 +24,11 @@ pub fn written_values_are_kept()
 pub fn placed_finishes_lead()
     ensures root { FinishesLead }
     ensures identifier { FinishesAreIdentified }
+{}
+
+/// Where a finish with the size in front was placed, the size says how many bytes follow it; the
+/// reference behind it leads to its root, if that lies in what was written before, and the file
+/// identifier stands behind that.
+pub fn placed_sized_finishes_stand()
+    ensures { SizedFinishesStand }
 {}

@@ -2,6 +2,7 @@ mod caches;
 mod fields;
 mod lists;
 mod primitives;
+mod sized;
 mod tables;
 mod texts;
 mod unions;
