@@ -17,8 +17,9 @@ use Rattle.planus_write.specs.Shared.{Contents, Switches, shared_as, and_seen}
 use Rattle.planus_write.specs.Past.{Past, Entry, PutsAfter, PutsAll, part_after, found_before}
 use Rattle.planus_write.specs.Past.{ComesToTooLarge as ComesToTooLargeEntry}
 use Rattle.planus_write.specs.Parts.{Named, entries_of}
-use Rattle.planus_write.proofs.PartBytes.{finish_size}
+use Rattle.planus_write.proofs.PartBytes.{finish_size, sized_finish_size}
 use Rattle.planus.specs.Steps.{Step, text, bytes, numbers, refs, unions, table, finish, clear}
+use Rattle.planus.specs.Steps.{root_first, size_first}
 use Rattle.planus.specs.Slots.{greatest_field}
 use Rattle.planus.specs.Kinds.{Kind, a_value, a_union_list, kind_of, kind_named, naming_fault}
 use Rattle.planus.specs.Runs.{State, nothing_written, cleared, Advances, LeadsTo, Writes, StepTooLarge}
@@ -171,11 +172,17 @@ module _ (switches : Switches) (cs : List Step) (state : State) (run : LeadsTo s
       let made = fields_are state.listed fault_here good [] greatest_field fields e in
       let is : value_of state.listed (table fields) ≡ Some (value.table made.0) = ap (option_map value.table) made.1 in
       (entries_of (value.table made.0), ap (option_map entries_of) is, fit (table fields) (value.table made.0) is)
-  puts (finish root identifier) kind e =
+  puts (finish root_first root identifier) kind e =
       let made = value_there root e in (
-        finish_of identifier made.0,
-        ap (option_map (finish_of identifier)) made.1,
+        finish_of root_first identifier made.0,
+        ap (option_map (finish_of root_first identifier)) made.1,
         ((λ got past h. record { sized = λ place. finish_size made.0 identifier past.written place; power = greatest_power 4 past.written.promises (2, refl) h.powers }), tt),
+      )
+  puts (finish size_first root identifier) kind e =
+      let made = value_there root e in (
+        finish_of size_first identifier made.0,
+        ap (option_map (finish_of size_first identifier)) made.1,
+        ((λ got past h. record { sized = λ place. sized_finish_size made.0 identifier past.written place; power = greatest_power 4 past.written.promises (2, refl) h.powers }), tt),
       )
   puts clear kind e = (cc)
 
@@ -201,7 +208,7 @@ module _ (switches : Switches) (cs : List Step) (state : State) (run : LeadsTo s
   on_or_too_large (refs steps) e = written_or_not (refs steps) (puts (refs steps) refl e)
   on_or_too_large (unions items) e = written_or_not (unions items) (puts (unions items) refl e)
   on_or_too_large (table fields) e = written_or_not (table fields) (puts (table fields) refl e)
-  on_or_too_large (finish root identifier) e = written_or_not (finish root identifier) (puts (finish root identifier) refl e)
+  on_or_too_large (finish front root identifier) e = written_or_not (finish front root identifier) (puts (finish front root identifier) refl e)
   on_or_too_large clear e = inr (cleared state, refl)
 
 -- the answer, from where the steps cs lead to

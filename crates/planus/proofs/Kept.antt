@@ -1,11 +1,13 @@
 -- What every run keeps, by the definitions alone.
-use Rattle.std.proofs.Common.{◌≡◌, ℕ, ◌+◌, ◌≤◌, List, [], ◌∷◌, ◌++◌, length, take}
+use Rattle.std.proofs.Common.{◌≡◌, ℕ, ◌+◌, ◌-◌, ◌≤◌, List, [], ◌∷◌, ◌++◌, length, take, drop}
+use Rattle.std.proofs.Common.{replicate}
 use Rattle.std.proofs.Common.{refl, sym, ap, ◌∙◌, subst, arith, Option, Some, None, append_assoc}
 use Rattle.std.proofs.Common.{append-nil, length-append, lit≤, false, inl, inr}
 use Rattle.std.specs.Prelude.{slice_get}
 use Rattle.std.specs.Option.{option_map}
 use Rattle.std.specs.List.{AllByRecursion}
 use Rattle.std.specs.Str.{IsUtf8}
+use Rattle.std.specs.Int.{w32}
 use Rattle.std.proofs.Math.Seq.{take-append_seam}
 use Rattle.planus_back.specs.Promises.{Promise, IsPowerOfTwo, Keep, greatest_alignment}
 use Rattle.planus_back.specs.Padding.{promise_of}
@@ -13,31 +15,38 @@ use Rattle.planus_back.specs.Parts.{Part, Written, Placed}
 use Rattle.planus_back.proofs.PaddingLaws.{keeps_all}
 use Rattle.planus_read.specs.Values as value
 use Rattle.planus_read.specs.Values.{Value}
-use Rattle.planus_read.specs.Stands.{Position, at, at_both}
+use Rattle.planus_read.specs.Bytes.{BytesStand}
+use Rattle.planus_read.specs.Stands.{Position, at, at_both, ReferenceStands}
 use Rattle.planus_read.specs.Moves.{moved}
 use Rattle.planus_read.specs.Aligned.{AlignedAt}
 use Rattle.planus_read.specs.ReadsBack.{WellFormed}
-use Rattle.planus_read.proofs.ReadsBack.{what_stands_reads_back}
+use Rattle.planus_read.proofs.Reading.{num_inside}
+use Rattle.planus_read.proofs.PieceLaws.{bytes_in_piece, fields_stand_in_pieces}
+use Rattle.planus_read.proofs.ReadsBack.{fields_read_back, what_stands_reads_back}
 use Rattle.planus_write.specs.Shared.{Switches}
 use Rattle.planus_write.specs.Past.{Past, Adds, PutsAll}
 use Rattle.planus_write.specs.State.{Extends}
-use Rattle.planus_write.specs.Parts.{finish_part, entries_of, IsWritten}
+use Rattle.planus_write.specs.Parts.{finish_part, sized_finish_part, front_part, root_words}
+use Rattle.planus_write.specs.Parts.{sized_words, identifier_bytes, entries_of, IsWritten}
 use Rattle.planus_write.specs.Parts.{named_by, Named, position_in}
 use Rattle.planus_write.specs.Kept.{IsKept, AllSeenKept}
 use Rattle.planus_write.specs.Laws.{added_extends}
-use Rattle.planus_write.proofs.PartBytes.{length_after, finish_size}
+use Rattle.planus_write.specs.Standing.{SizedFinishStands}
+use Rattle.planus_write.proofs.PartBytes.{length_after, finish_size, sized_finish_size}
 use Rattle.planus_write.proofs.Staying.{kept_stays, seen_stays}
 use Rattle.planus_write.proofs.Standing.{values_are_kept, finishes_lead}
-use Rattle.planus_write.proofs.Standing.{finishes_are_identified}
+use Rattle.planus_write.proofs.Standing.{finishes_are_identified, sized_finishes_stand}
 use Rattle.planus.specs.Steps.{Step, text, bytes, numbers, refs, unions, table, finish, clear}
+use Rattle.planus.specs.Steps.{Front, root_first, size_first}
 use Rattle.planus.specs.Kinds.{Kind, kind_of, kind_named}
 use Rattle.planus.specs.Names.{IsReached}
-use Rattle.planus.specs.Runs.{Listed, State, nothing_written, Advances, LeadsTo, cleared}
+use Rattle.planus.specs.Runs.{Listed, Finish, State, nothing_written, Advances, LeadsTo, cleared}
 use Rattle.planus.specs.Runs.{named_at, value_of, finish_of, Writes, values_added, finishes_added}
 use Rattle.planus.specs.Runs.{value_distance, value_at, union_of, all_of, width_of, fields_of}
 use Rattle.planus.specs.Slots.{greatest_field}
 use Rattle.planus.specs.Replays.{is_clear, named_step}
-use Rattle.planus.specs.Headline.{ValueHolds, IsFewest, FinishHolds}
+use Rattle.planus.specs.Headline.{ValueHolds, IsFewest, FinishHolds, ValueInPiece, root_at}
+use Rattle.planus.specs.Headline.{HoldsBySize}
 use Rattle.planus.proofs.Turns.{InTurn, fewest}
 use Rattle.planus.proofs.NamedKinds.{kind_written}
 use Rattle.planus.proofs.Placed.{IsPlacedInTurn, nothing_in_turn, added_in_turn, all_in_turn}
@@ -111,7 +120,7 @@ value_stays listed more (unions items) v e =
 value_stays listed more (table fields) v e =
     let made = made_of value.table (fields_of listed [] greatest_field fields) v e in
     rw (fields_more listed more [] greatest_field fields made.0 made.1) (ap Some made.2)
-value_stays listed more (finish root identifier) v e = (cc)
+value_stays listed more (finish front root identifier) v e = (cc)
 value_stays listed more clear v e = (cc)
 
 value_moves : (all done : List Step) (step : Step) (before after : Past) (listed more : List Listed) → is_clear step ≡ false → Extends before after → (one : Listed)
@@ -201,13 +210,75 @@ moved_nowhere : (p : Position) → moved 0 p ≡ p
 moved_nowhere (at k) = ap at (omega arith)
 moved_nowhere (at_both kt kv) = ap (λ k. at_both k (0 + kv)) (let e : 0 + kt ≡ kt = omega arith in e) ∙ ap (at_both kt) (omega arith)
 
+-- the value of a root lies in what was written
+pub root_behind : (all done : List Step) (before : State) (root to : ℕ) → AllByRecursion (ValueKept all done before.past before.listed) before.listed → value_at before.listed root ≡ Some to
+    → to ≤ length before.past.written.bytes
+root_behind all done before root to values found =
+    value_behind (ValueKept all done before.past before.listed) (length before.past.written.bytes) (value_reaches all done before.past before.listed) before.listed values root to found
+
+-- what the words in front of a finish say
+abbrev pub FrontHolds : Front → List Step → ℕ → ℕ → Option (List ℕ) → Finish → Type 0
+FrontHolds front all root to identifier given =
+    ReferenceStands given.bytes (root_at front) to × BytesStand given.bytes (root_at front + 4) (identifier_bytes identifier) × HoldsBySize front all root identifier given
+
+-- what is given with the size in front holds in the bytes behind the size
+module _ (all done : List Step) (root to : ℕ) (identifier : Option (List ℕ)) (before after : State) (found : value_at before.listed root ≡ Some to)
+    (distance : ℕ) (adds : Adds (sized_finish_part to identifier before.past.written.promises) None before.past distance after.past)
+    (values : AllByRecursion (ValueKept all done before.past before.listed) before.listed) where
+  abbrev whole : List ℕ
+  whole = after.past.written.bytes
+
+  behind_size : drop 4 whole ≡ (root_words to identifier (adds.placed.place - 4) ++ replicate adds.placed.padding 0) ++ before.past.written.bytes
+  behind_size = ap (drop 4) adds.placed.bytes
+
+  abbrev piece_past : Past
+  piece_past = record after.past { written = record after.past.written { bytes = drop 4 whole } }
+
+  piece_extends : Extends before.past piece_past
+  piece_extends =
+      let extends : Extends before.past after.past = added_extends (sized_finish_part to identifier before.past.written.promises) None before.past distance after.past adds in
+      record {
+        bytes = (root_words to identifier (adds.placed.place - 4) ++ replicate adds.placed.padding 0, behind_size);
+        promises = extends.promises;
+        seen = extends.seen;
+      }
+
+  in_piece : AllUtf8 all → (one : Listed) → ValueKept all done before.past before.listed one → ValueInPiece all before.listed (drop 4 whole) one
+  in_piece utf8 one v =
+      let kept : IsKept piece_past v.value one.named = kept_stays before.past piece_past v.value one.named piece_extends v.kept in
+      record {
+        step = v.step;
+        value = v.value;
+        there = v.there;
+        is_value = v.is_value;
+        stands = kept.stands;
+        reads_back = what_stands_reads_back (drop 4 whole) (position_in (drop 4 whole) one.named) v.value (v.well_formed utf8) kept.stands;
+      }
+
+  pub sized_front_holds : AllUtf8 all → FrontHolds size_first all root to identifier (record { bytes = whole; places = before.listed })
+  sized_front_holds utf8 =
+      let stood : SizedFinishStands to identifier before.past.written after.past.written = sized_finishes_stand to identifier before.past.written after.past.written adds.placed in
+      let leads : ReferenceStands whole 4 to = stood.leads (root_behind all done before root to values found) in
+      let long : 4 ≤ length whole = num_inside whole 0 w32 (length (drop 4 whole)) stood.size in (
+        leads,
+        stood.identified,
+        record {
+          size = stood.size;
+          leads = (to, found, fields_stand_in_pieces whole 4 0 (value.reference to) long leads, fields_read_back whole 4 0 (value.reference to) leads);
+          identified = bytes_in_piece whole 4 4 (identifier_bytes identifier) stood.identified;
+          values = all_weaker (ValueKept all done before.past before.listed) (ValueInPiece all before.listed (drop 4 whole)) (in_piece utf8) before.listed values;
+        },
+      )
+
 -- a finish that is placed holds
-module _ (switches : Switches) (all done : List Step) (root to : ℕ) (identifier : Option (List ℕ)) (before after : State) (found : value_at before.listed root ≡ Some to)
-    (distance : ℕ) (adds : Adds (finish_part to identifier before.past.written.promises) None before.past distance after.past)
+module _ (switches : Switches) (all done : List Step) (front : Front) (root to : ℕ) (identifier : Option (List ℕ)) (before after : State) (found : value_at before.listed root ≡ Some to)
+    (size : ℕ) (words : ℕ → List ℕ) (as_many : (place : ℕ) → length (words place) ≡ size)
+    (distance : ℕ) (adds : Adds (front_part size words before.past.written.promises) None before.past distance after.past)
+    (in_front : AllUtf8 all → FrontHolds front all root to identifier (record { bytes = after.past.written.bytes; places = before.listed }))
     (listed : after.listed ≡ before.listed ++ []) (next : after.next ≡ before.next + 1)
     (finished : after.finished ≡ before.finished ++ record { bytes = after.past.written.bytes; places = before.listed } ∷ [])
-    (there : slice_get all (length done) ≡ Some (finish root identifier)) (up_to : take (length done + 1) all ≡ done ++ finish root identifier ∷ [])
-    (run : LeadsTo switches nothing_written (done ++ finish root identifier ∷ []) after) (h : Kept switches all done before) where
+    (there : slice_get all (length done) ≡ Some (finish front root identifier)) (up_to : take (length done + 1) all ≡ done ++ finish front root identifier ∷ [])
+    (run : LeadsTo switches nothing_written (done ++ finish front root identifier ∷ []) after) (h : Kept switches all done before) where
   abbrev old : Written
   old = before.past.written
 
@@ -215,13 +286,13 @@ module _ (switches : Switches) (all done : List Step) (root to : ℕ) (identifie
   new = after.past.written
 
   abbrev part : Part
-  part = finish_part to identifier old.promises
+  part = front_part size words old.promises
 
   abbrev placed : Placed part old new
   placed = adds.placed
 
   sized : length (part.bytes_at placed.place) ≡ part.size
-  sized = finish_size to identifier old placed.place
+  sized = as_many placed.place
 
   at_end : length new.bytes ≡ placed.place
   at_end = length_after part old new placed sized
@@ -266,9 +337,10 @@ module _ (switches : Switches) (all done : List Step) (root to : ℕ) (identifie
 
   holds : AllUtf8 all → FinishHolds switches all (record { bytes = new.bytes; places = before.listed })
   holds utf8 =
-      let root_kept : to ≤ length old.bytes = value_behind (ValueKept all done before.past before.listed) (length old.bytes) (value_reaches all done before.past before.listed) before.listed h.values root to found in
+      let words_hold = in_front utf8 in
       record {
         number = length done;
+        front = front;
         root = root;
         identifier = identifier;
         step = there;
@@ -277,31 +349,32 @@ module _ (switches : Switches) (all done : List Step) (root to : ℕ) (identifie
         bytes = refl;
         places = sym (listed ∙ append-nil before.listed);
         values = all_weaker (ValueKept all done before.past before.listed) (ValueHolds all (record { bytes = new.bytes; places = before.listed })) (value_holds utf8) before.listed h.values;
-        leads = (to, found, finishes_lead to identifier old new root_kept placed);
-        identified = finishes_are_identified to identifier old new placed;
+        leads = (to, found, words_hold.0);
+        identified = words_hold.1;
+        sized = words_hold.2;
         keeps = keep;
         fewest = few;
       }
 
   -- and no value is listed more
-  lists_still : ListsAll (done ++ finish root identifier ∷ []) (before.listed ++ [])
-  lists_still n c of named is_kind = elim (named_back done (finish root identifier) c n named) as (λ _. (name : Named) × (named_at (before.listed ++ []) n ≡ Some name) × (kind_named name ≡ of)) [
+  lists_still : ListsAll (done ++ finish front root identifier ∷ []) (before.listed ++ [])
+  lists_still n c of named is_kind = elim (named_back done (finish front root identifier) c n named) as (λ _. (name : Named) × (named_at (before.listed ++ []) n ≡ Some name) × (kind_named name ≡ of)) [
     | inl earlier ↦
         let there = h.lists n c of earlier is_kind in
         (there.0, named_more before.listed [] n there.0 there.1, there.2)
     | inr last ↦ (let none : None ≡ Some of = ap kind_of last.1 ∙ is_kind in cc)
   ]
 
-  pub finish_kept : Kept switches all (done ++ finish root identifier ∷ []) after
+  pub finish_kept : Kept switches all (done ++ finish front root identifier ∷ []) after
   finish_kept = record {
-    numbered = counted done (finish root identifier) before.next after.next next h.numbered;
+    numbered = counted done (finish front root identifier) before.next after.next next h.numbered;
     placed = in_turn;
     seen = subst (AllByRecursion (Rattle.planus_write.specs.Kept.SeenIsKept after.past)) (sym adds.seen) (seen_stays before.past after.past extends before.past.seen h.seen);
-    values = subst (λ vs. AllByRecursion (ValueKept all (done ++ finish root identifier ∷ []) after.past vs) vs) (sym listed)
-        (subst (λ vs. AllByRecursion (ValueKept all (done ++ finish root identifier ∷ []) after.past (before.listed ++ [])) vs) (sym (append-nil before.listed))
-        (all_weaker (ValueKept all done before.past before.listed) (ValueKept all (done ++ finish root identifier ∷ []) after.past (before.listed ++ []))
-        (value_moves all done (finish root identifier) before.past after.past before.listed [] refl extends) before.listed h.values));
-    lists = subst (ListsAll (done ++ finish root identifier ∷ [])) (sym listed) lists_still;
+    values = subst (λ vs. AllByRecursion (ValueKept all (done ++ finish front root identifier ∷ []) after.past vs) vs) (sym listed)
+        (subst (λ vs. AllByRecursion (ValueKept all (done ++ finish front root identifier ∷ []) after.past (before.listed ++ [])) vs) (sym (append-nil before.listed))
+        (all_weaker (ValueKept all done before.past before.listed) (ValueKept all (done ++ finish front root identifier ∷ []) after.past (before.listed ++ []))
+        (value_moves all done (finish front root identifier) before.past after.past before.listed [] refl extends) before.listed h.values));
+    lists = subst (ListsAll (done ++ finish front root identifier ∷ [])) (sym listed) lists_still;
     run = run;
     finished = λ utf8. subst (λ fs. AllByRecursion (FinishHolds switches all) fs) (sym finished) (all_push (FinishHolds switches all) before.finished _ (h.finished utf8) (holds utf8));
   }
@@ -341,7 +414,7 @@ values_are_written switches all done (table fields) before h v e =
     let made = made_of value.table (fields_of before.listed [] greatest_field fields) v e in
     subst (λ v. IsWritten (length before.past.written.bytes) v × (TextIsUtf8 (table fields) → WellFormed v)) made.2
     (tables_are_written (ValueKept all done before.past before.listed) (length before.past.written.bytes) (value_reaches all done before.past before.listed) before.listed h.values fields made.0 made.1, λ _. tt)
-values_are_written switches all done (finish root identifier) before h v e = (cc)
+values_are_written switches all done (finish front root identifier) before h v e = (cc)
 values_are_written switches all done clear before h v e = (cc)
 
 -- a step that writes a value
@@ -372,14 +445,32 @@ step_kept switches all done (unions items) before after there up_to writes h =
     written_kept switches all done (unions items) before after refl (λ s past. refl) writes writes writes.are there h
 step_kept switches all done (table fields) before after there up_to writes h =
     written_kept switches all done (table fields) before after refl (λ s past. refl) writes writes writes.are there h
-step_kept switches all done (finish root identifier) before after there up_to writes h =
-    let run = leads_on switches nothing_written before after done (finish root identifier) h.run writes in
-    let made = made_of (finish_of identifier) (value_at before.listed root) writes.entries writes.are in
-    let puts : PutsAll switches (finish_of identifier made.0) [] before.past writes.got after.past
+step_kept switches all done (finish root_first root identifier) before after there up_to writes h =
+    let run = leads_on switches nothing_written before after done (finish root_first root identifier) h.run writes in
+    let made = made_of (finish_of root_first identifier) (value_at before.listed root) writes.entries writes.are in
+    let puts : PutsAll switches (finish_of root_first identifier made.0) [] before.past writes.got after.past
     = subst (λ entries. PutsAll switches entries [] before.past writes.got after.past) (sym made.2) writes.puts in
     let adds : Adds (finish_part made.0 identifier before.past.written.promises) None before.past puts.0 after.past
     = subst (Adds (finish_part made.0 identifier before.past.written.promises) None before.past puts.0) (sym puts.3.1) puts.2 in
-    finish_kept switches all done root made.0 identifier before after made.1 puts.0 adds writes.listed writes.next writes.finished there up_to run h
+    finish_kept switches all done root_first root made.0 identifier before after made.1
+    (length (identifier_bytes identifier) + 4) (root_words made.0 identifier) (finish_size made.0 identifier before.past.written) puts.0 adds
+    (λ utf8. (
+      finishes_lead made.0 identifier before.past.written after.past.written (root_behind all done before root made.0 h.values made.1) adds.placed,
+      finishes_are_identified made.0 identifier before.past.written after.past.written adds.placed,
+      tt,
+    ))
+    writes.listed writes.next writes.finished there up_to run h
+step_kept switches all done (finish size_first root identifier) before after there up_to writes h =
+    let run = leads_on switches nothing_written before after done (finish size_first root identifier) h.run writes in
+    let made = made_of (finish_of size_first identifier) (value_at before.listed root) writes.entries writes.are in
+    let puts : PutsAll switches (finish_of size_first identifier made.0) [] before.past writes.got after.past
+    = subst (λ entries. PutsAll switches entries [] before.past writes.got after.past) (sym made.2) writes.puts in
+    let adds : Adds (sized_finish_part made.0 identifier before.past.written.promises) None before.past puts.0 after.past
+    = subst (Adds (sized_finish_part made.0 identifier before.past.written.promises) None before.past puts.0) (sym puts.3.1) puts.2 in
+    finish_kept switches all done size_first root made.0 identifier before after made.1
+    (length (identifier_bytes identifier) + 8) (sized_words made.0 identifier) (sized_finish_size made.0 identifier before.past.written) puts.0 adds
+    (sized_front_holds all done root made.0 identifier before after made.1 puts.0 adds h.values)
+    writes.listed writes.next writes.finished there up_to run h
 step_kept switches all done clear before after there up_to is_clear h = subst (λ s. Kept switches all (done ++ clear ∷ []) s) (sym is_clear) (clear_kept switches all done before h)
 
 leads_kept : (switches : Switches) (all done rest : List Step) → all ≡ done ++ rest → (before after : State) → LeadsTo switches before rest after → Kept switches all done before

@@ -19,3 +19,4 @@ pub mod OneAnswer
 pub mod Once
 pub mod SameTrees
 pub mod Found
+pub mod Streams

@@ -156,5 +156,5 @@ kind_written listed (unions items) v got e =
 kind_written listed (table fields) v got e =
     let made = made_of value.table (fields_of listed [] greatest_field fields) v e in
     subst (λ w. Some a_value ≡ Some (kind_named (named_by w got))) made.2 refl
-kind_written listed (finish root identifier) v got e = (cc)
+kind_written listed (finish front root identifier) v got e = (cc)
 kind_written listed clear v got e = (cc)

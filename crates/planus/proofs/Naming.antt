@@ -38,7 +38,7 @@ named_from steps step c false kind e got h = rw (none_pushed steps e) h
     none_pushed (refs named ∷ xs) e = none_pushed xs e
     none_pushed (unions items ∷ xs) e = none_pushed xs e
     none_pushed (table fields ∷ xs) e = none_pushed xs e
-    none_pushed (finish root identifier ∷ xs) e = none_pushed xs e
+    none_pushed (finish front root identifier ∷ xs) e = none_pushed xs e
     none_pushed (clear ∷ xs) e = (cc)
 
 pub named_push : (steps : List Step) (step c : Step) (n : ℕ) → is_clear step ≡ false → named_step steps n ≡ Some c → named_step (steps ++ step ∷ []) n ≡ Some c
@@ -85,7 +85,7 @@ named_back (x ∷ steps) step c zero h = inl (by_kind (is_clear x) (list_any is_
     none_among (refs named ∷ xs) e = none_among xs e
     none_among (unions items ∷ xs) e = none_among xs e
     none_among (table fields ∷ xs) e = none_among xs e
-    none_among (finish root identifier ∷ xs) e = none_among xs e
+    none_among (finish front root identifier ∷ xs) e = none_among xs e
     none_among (clear ∷ xs) e = (cc)
 
     by_kind : (kind any : Bool) → list_any is_clear (steps ++ step ∷ []) ≡ any → (if kind || any then None else Some x) ≡ Some c → (if kind || list_any is_clear steps then None else Some x) ≡ Some c
@@ -111,7 +111,7 @@ not_behind_clear (x ∷ steps) c zero h = (let e : (if is_clear x || list_any is
     last_clear (refs named ∷ xs) = last_clear xs
     last_clear (unions items ∷ xs) = last_clear xs
     last_clear (table fields ∷ xs) = last_clear xs
-    last_clear (finish root identifier ∷ xs) = last_clear xs
+    last_clear (finish front root identifier ∷ xs) = last_clear xs
     last_clear (clear ∷ xs) = refl
 
     by_kind : (kind any : Bool) → any ≡ true → (if kind || any then None else Some x) ≡ Some c → ⊥
@@ -205,7 +205,7 @@ same_check f g same (numbers width items) = refl
 same_check f g same (refs named) = same_first (f a_value) (g a_value) (same a_value) named
 same_check f g same (unions items) = same_first (union_fault (f a_value)) (union_fault (g a_value)) (same_union (f a_value) (g a_value) (same a_value)) items
 same_check f g same (table fields) = same_fields f g same [] greatest_field fields
-same_check f g same (finish root identifier) = same a_value root
+same_check f g same (finish front root identifier) = same a_value root
 same_check f g same clear = refl
 
 -- what is wrong with a step shows in what the replay has

@@ -178,8 +178,8 @@ module _ (switches : Switches) (all : List Step) where
       once_with done (unions items) before after there writes h (none_found done (unions items) before after there writes h refl (value_of before.listed (unions items))) tt
   step_once done (table fields) before after there writes h =
       once_with done (table fields) before after there writes h (none_found done (table fields) before after there writes h refl (value_of before.listed (table fields))) tt
-  step_once done (finish root identifier) before after there writes h =
-      once_with done (finish root identifier) before after there writes h tt (are_once before.past.seen before.listed h.found, tt)
+  step_once done (finish front root identifier) before after there writes h =
+      once_with done (finish front root identifier) before after there writes h tt (are_once before.past.seen before.listed h.found, tt)
   step_once done clear before after there is_clear h =
       subst (Once (done ++ clear ∷ [])) (sym is_clear)
       (record { numbered = let counted = h.numbered in omega (arith, counted, length-append done (clear ∷ [])); found = tt; finished = h.finished })
@@ -241,7 +241,7 @@ module _ (switches : Switches) where
   step_stays before (refs steps) after kind w = all_stays switches w.entries [] before.past w.got after.past w.puts
   step_stays before (unions items) after kind w = all_stays switches w.entries [] before.past w.got after.past w.puts
   step_stays before (table fields) after kind w = all_stays switches w.entries [] before.past w.got after.past w.puts
-  step_stays before (finish root identifier) after kind w = all_stays switches w.entries [] before.past w.got after.past w.puts
+  step_stays before (finish front root identifier) after kind w = all_stays switches w.entries [] before.past w.got after.past w.puts
   step_stays before clear after kind w = (cc)
 
   leads_stay : (before : State) (steps : List Step) (after : State) → LeadsTo switches before steps after → list_any is_clear steps ≡ false → Stays before.past.seen after.past.seen

@@ -130,7 +130,7 @@ module _ (switches : Switches) where
   advanced_once before (refs steps) a b x y = written_once before (refs steps) a b x y
   advanced_once before (unions items) a b x y = written_once before (unions items) a b x y
   advanced_once before (table fields) a b x y = written_once before (table fields) a b x y
-  advanced_once before (finish root identifier) a b x y = written_once before (finish root identifier) a b x y
+  advanced_once before (finish front root identifier) a b x y = written_once before (finish front root identifier) a b x y
   advanced_once before clear a b x y = x ∙ sym y
 
   led_once : (before : State) (steps : List Step) (a b : State) → LeadsTo switches before steps a → LeadsTo switches before steps b → a ≡ b
@@ -151,7 +151,7 @@ module _ (switches : Switches) where
   leads_nowhere before (refs steps) after far h = stuck before (refs steps) after far h
   leads_nowhere before (unions items) after far h = stuck before (unions items) after far h
   leads_nowhere before (table fields) after far h = stuck before (table fields) after far h
-  leads_nowhere before (finish root identifier) after far h = stuck before (finish root identifier) after far h
+  leads_nowhere before (finish front root identifier) after far h = stuck before (finish front root identifier) after far h
   leads_nowhere before clear after far h = (let e : None ≡ Some far.entries = far.are in cc)
 
   -- steps that lead on pass none of them

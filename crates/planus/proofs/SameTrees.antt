@@ -1,5 +1,5 @@
 -- Two runs of the same steps have the same trees in their finishes.
-use Rattle.std.proofs.Common.{◌≡◌, ℕ, ◌+◌, ◌≤◌, List, [], ◌∷◌, ◌++◌, length, map, refl, sym, ap, ◌∙◌, subst}
+use Rattle.std.proofs.Common.{◌≡◌, ℕ, ◌+◌, List, [], ◌∷◌, ◌++◌, length, map, refl, sym, ap, ◌∙◌, subst}
 use Rattle.std.proofs.Common.{Option, Some, None, Bool, true, false, append_assoc, append-nil, take}
 use Rattle.std.specs.Prelude.{slice_get, if◌then◌else◌}
 use Rattle.std.specs.List.{AllByRecursion, list_all}
@@ -13,9 +13,11 @@ use Rattle.planus_read.specs.Values.{Value, Field}
 use Rattle.planus_read.specs.Stands.{ReferenceStands}
 use Rattle.planus_write.specs.Shared.{Switches}
 use Rattle.planus_write.specs.Past.{Past, Adds, PutsAll}
-use Rattle.planus_write.specs.Parts.{Named, named_by, entries_of, finish_part}
-use Rattle.planus_write.proofs.Standing.{finishes_lead}
+use Rattle.planus_write.specs.Parts.{Named, named_by, entries_of, finish_part, sized_finish_part}
+use Rattle.planus_write.proofs.Standing.{finishes_lead, sized_finishes_stand}
 use Rattle.planus.specs.Steps.{Step, text, bytes, numbers, refs, unions, table, finish, clear}
+use Rattle.planus.specs.Steps.{Front, root_first, size_first}
+use Rattle.planus.specs.Headline.{root_at}
 use Rattle.planus.specs.Steps.{FieldStep, number_field, ref_field, tags_field, values_field}
 use Rattle.planus.specs.Slots.{greatest_field, place_fault, alignment_of}
 use Rattle.planus.specs.Runs.{Listed, State, cleared, Writes, Advances, LeadsTo, nothing_written, value_of}
@@ -24,10 +26,9 @@ use Rattle.planus.specs.Runs.{union_of, all_of, width_of, fits_width, numbers_va
 use Rattle.planus.specs.Runs.{field_of, fields_of, values_added, finishes_added, finish_of}
 use Rattle.planus.specs.SameTrees.{AllPairs, LeadToOneStep, SameField, SameEntry, SameUnion, SameValue}
 use Rattle.planus.specs.SameTrees.{SamePlace, SameTrees, TreesAreTheSame}
-use Rattle.planus.proofs.Kept.{Kept, ValueKept, value_reaches, step_kept, nothing_kept}
+use Rattle.planus.proofs.Kept.{Kept, ValueKept, root_behind, step_kept, nothing_kept}
 use Rattle.planus.proofs.Lists.{made_of, all_made, union_made, get_last}
 use Rattle.planus.proofs.TableFields.{fields_made}
-use Rattle.planus.proofs.WrittenValues.{value_behind}
 
 -- two results of one option are one
 one_result : {X : Type 0} (o : Option X) (x y : X) → o ≡ Some x → o ≡ Some y → x ≡ y
@@ -144,7 +145,7 @@ module _ (ones others : List Listed) where
       let other = made_of value.table (fields_of others [] greatest_field fields) w f in
       subst (λ w. SameValue ones others v w) other.2 (subst (λ v. SameValue ones others v (value.table other.0)) one.2
       (fields_same [] greatest_field fields one.0 other.0 one.1 other.1))
-  value_same (finish root identifier) v w e f = (cc)
+  value_same (finish front root identifier) v w e f = (cc)
   value_same clear v w e f = (cc)
 
 -- the numbers of the steps that are listed
@@ -205,26 +206,32 @@ module _ (switches others : Switches) (all done : List Step) (a b : State) (h : 
       }
 
   -- that finishes
-  leads : (sw : Switches) (s after : State) (root : ℕ) (identifier : Option (List ℕ)) → Kept sw all done s → (x : Writes sw s (finish root identifier) after)
-      → (to : ℕ) × (value_at s.listed root ≡ Some to) × ReferenceStands after.past.written.bytes 0 to
-  leads sw s after root identifier kept x =
-      let made = made_of (finish_of identifier) (value_at s.listed root) x.entries x.are in
-      let puts : PutsAll sw (finish_of identifier made.0) [] s.past x.got after.past
+  leads : (sw : Switches) (s after : State) (front : Front) (root : ℕ) (identifier : Option (List ℕ)) → Kept sw all done s → (x : Writes sw s (finish front root identifier) after)
+      → (to : ℕ) × (value_at s.listed root ≡ Some to) × ReferenceStands after.past.written.bytes (root_at front) to
+  leads sw s after root_first root identifier kept x =
+      let made = made_of (finish_of root_first identifier) (value_at s.listed root) x.entries x.are in
+      let puts : PutsAll sw (finish_of root_first identifier made.0) [] s.past x.got after.past
       = subst (λ entries. PutsAll sw entries [] s.past x.got after.past) (sym made.2) x.puts in
       let adds : Adds (finish_part made.0 identifier s.past.written.promises) None s.past puts.0 after.past
       = subst (Adds (finish_part made.0 identifier s.past.written.promises) None s.past puts.0) (sym puts.3.1) puts.2 in
-      let reached : made.0 ≤ length s.past.written.bytes
-      = value_behind (ValueKept all done s.past s.listed) (length s.past.written.bytes) (value_reaches all done s.past s.listed) s.listed kept.values root made.0 made.1 in
-      (made.0, made.1, finishes_lead made.0 identifier s.past.written after.past.written reached adds.placed)
+      (made.0, made.1, finishes_lead made.0 identifier s.past.written after.past.written (root_behind all done s root made.0 kept.values made.1) adds.placed)
+  leads sw s after size_first root identifier kept x =
+      let made = made_of (finish_of size_first identifier) (value_at s.listed root) x.entries x.are in
+      let puts : PutsAll sw (finish_of size_first identifier made.0) [] s.past x.got after.past
+      = subst (λ entries. PutsAll sw entries [] s.past x.got after.past) (sym made.2) x.puts in
+      let adds : Adds (sized_finish_part made.0 identifier s.past.written.promises) None s.past puts.0 after.past
+      = subst (Adds (sized_finish_part made.0 identifier s.past.written.promises) None s.past puts.0) (sym puts.3.1) puts.2 in
+      (made.0, made.1, (sized_finishes_stand made.0 identifier s.past.written after.past.written adds.placed).leads (root_behind all done s root made.0 kept.values made.1))
 
-  finish_alike : (root : ℕ) (identifier : Option (List ℕ)) (c d : State) → slice_get all (length done) ≡ Some (finish root identifier)
-      → Writes switches a (finish root identifier) c → Writes others b (finish root identifier) d → Alike all c d
-  finish_alike root identifier c d there x y =
-      let one = leads switches a c root identifier h x in
-      let other = leads others b d root identifier k y in
+  finish_alike : (front : Front) (root : ℕ) (identifier : Option (List ℕ)) (c d : State) → slice_get all (length done) ≡ Some (finish front root identifier)
+      → Writes switches a (finish front root identifier) c → Writes others b (finish front root identifier) d → Alike all c d
+  finish_alike front root identifier c d there x y =
+      let one = leads switches a c front root identifier h x in
+      let other = leads others b d front root identifier k y in
       let given : SameTrees all (record { bytes = c.past.written.bytes; places = a.listed }) (record { bytes = d.past.written.bytes; places = b.listed })
       = record {
         number = length done;
+        front = front;
         root = root;
         identifier = identifier;
         step = there;
@@ -250,7 +257,7 @@ module _ (switches others : Switches) (all done : List Step) (a b : State) (h : 
   step_alike (refs steps) c d there x y = value_alike (refs steps) c d x y (λ s past. refl) x.are y.are
   step_alike (unions items) c d there x y = value_alike (unions items) c d x y (λ s past. refl) x.are y.are
   step_alike (table fields) c d there x y = value_alike (table fields) c d x y (λ s past. refl) x.are y.are
-  step_alike (finish root identifier) c d there x y = finish_alike root identifier c d there x y
+  step_alike (finish front root identifier) c d there x y = finish_alike front root identifier c d there x y
   step_alike clear c d there x y =
       subst (λ s. Alike all s d) (sym x) (subst (λ s. Alike all (cleared a) s) (sym y)
       (record { next = ap (λ n. n + 1) alike.next; listed = refl; finished = alike.finished }))

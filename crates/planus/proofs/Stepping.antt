@@ -11,19 +11,19 @@ use Rattle.planus_read.specs.Values.{Value}
 use Rattle.planus_write.specs.Past.{Past, Entry, PutsAll, no_past}
 use Rattle.planus_write.specs.State as builder
 use Rattle.planus_write.specs.State.{IsPast}
-use Rattle.planus_write.specs.Placing.{Outcome, PutsDown, Refuses}
-use Rattle.planus_write.specs.Finishing.{Finishes, FinishLeaves}
+use Rattle.planus_write.specs.Placing.{Outcome, PutsDown, Refuses, then_does}
+use Rattle.planus_write.specs.Finishing.{PutsInFront, WritesFront, LendsAll}
 use Rattle.planus_write.specs.Preparing.{IsPrepared, Answers, WritesText, WritesByteList, WritesList, WritesEntries}
 use Rattle.planus_write.specs.ListLaws.{entries_grow, ready_list_is_put, ready_list_is_refused, plain_items_are, reference_items_are}
 use Rattle.planus_write.specs.Items.{Item, plain_item, reference_item}
 use Rattle.planus_write.proofs.PutEntries.{entries_put as puts_entries, entries_too_large}
-use Rattle.planus_write.specs.Parts.{text_entry, byte_list_entry, list_entries, finish_entry, entries_of, Named, named_by, last_of}
+use Rattle.planus_write.specs.Parts.{text_entry, byte_list_entry, list_entries, entries_of, Named, named_by, last_of}
 use Rattle.planus_write.specs.declared.errors.BuildError.{BuildError}
 use Rattle.planus_write.specs.declared.errors.BuildError.TheVariants.{OutOfMemory, TooLarge}
 use Rattle.planus_write.specs.declared.offset.Offset.{Offset}
 use Rattle.planus_write.specs.declared.offset.Text.{Text}
 use Rattle.planus_write.specs.declared.offset.List.{List as ListOf}
-use Rattle.planus.specs.Steps.{Step, text, bytes, numbers, refs, unions, finish, clear}
+use Rattle.planus.specs.Steps.{Step, Front, text, bytes, numbers, refs, unions, finish, clear}
 use Rattle.planus_write.specs.Unions.{item_of, union_reach, WritesUnionVector}
 use Rattle.planus_write.specs.UnionLaws.{ready_union_list_is_put, ready_union_list_is_refused}
 use Rattle.planus_write.specs.declared.union_offset.UnionOffset.{UnionOffset}
@@ -48,9 +48,9 @@ use Rattle.planus.proofs.WrittenValues.{value_behind, references_behind, unions_
 use Rattle.planus.proofs.Naming.{took_one, took_clear, one_more}
 
 -- what a finish of that value puts down
-finish_are : (old : Progress) (root distance : ℕ) (identifier : Option (List ℕ)) → value_at (values_listed old) root ≡ Some distance
-    → entries_put (values_listed old) (finish root identifier) ≡ Some (finish_entry distance identifier ∷ [])
-finish_are old root distance identifier h = ap (option_map (finish_of identifier)) h
+finish_are : (old : Progress) (front : Front) (root distance : ℕ) (identifier : Option (List ℕ)) → value_at (values_listed old) root ≡ Some distance
+    → entries_put (values_listed old) (finish front root identifier) ≡ Some (finish_of front identifier distance)
+finish_are old front root distance identifier h = ap (option_map (finish_of front identifier)) h
 
 -- A value of a step, by an outcome that puts down its entries, or is refused where they are.
 module _ {A : Type 0} (name : A → Named) (outcome : Outcome A) (step : Step) (value : Value) (old : Progress)
@@ -287,50 +287,55 @@ unions_reached old reached items offsets h =
     all_unmapped (λ (item : ℕ × ℕ). item.1 ≤ length old.builder.bytes) item_of offsets
     (unions_behind (λ one. IsReached (length old.builder.bytes) one.named) (length old.builder.bytes) (λ one there. there) (values_listed old) (values_reached old reached) items (map item_of offsets) h)
 
--- a finish advances the run
-pub finish_advances : (root distance : ℕ) (identifier : Option (List ℕ)) (old new : Progress) (given : Finished) (place : ℕ) → value_at (values_listed old) root ≡ Some distance
-    → Finishes distance identifier old.builder place new.builder → new.first ≡ old.first → new.offsets.items ≡ old.offsets.items ++ None ∷ [] → new.finished.items ≡ old.finished.items ++ given ∷ []
-    → given.bytes.items ≡ new.builder.bytes → map place_of given.places.items ≡ values_listed old → Advanced old (finish root identifier) (Ok tt) new
-finish_advances root distance identifier old new given place found finishes first pushed gave whole listed_there = record {
-  taken = took_one old new (finish root identifier) None (refl, refl) first pushed;
-  advances = λ past is_past.
-      let after = finishes.puts.puts past is_past in
-      let all : given.bytes.items ≡ after.0.written.bytes = whole ∙ sym after.2.bytes in (
-        after.0,
-        after.2,
-        record {
-          entries = finish_entry distance identifier ∷ [];
-          are = finish_are old root distance identifier found;
-          got = place ∷ [];
-          puts = (place, after.0, after.1, (refl, refl));
-          listed = ap (λ n. listed_from n (names new)) first ∙ ap (listed_from old.first) (ap (map name_of) pushed ∙ map_push name_of old.offsets.items None)
-              ∙ listed_push_none old.first (names old) ∙ sym (append-nil (values_listed old));
-          next = one_more old new None first pushed;
-          finished = ap (map finish_given) gave ∙ map_push finish_given old.finished.items given
-              ∙ ap (λ (p : List ℕ × List Listed). map finish_given old.finished.items ++ record { bytes = p.0; places = p.1 } ∷ [])
-              (let e : (given.bytes.items, map place_of given.places.items) ≡ (after.0.written.bytes, values_listed old) = rw (all, listed_there) refl in e);
-        },
-      );
-  switches = finishes.puts.switches;
-}
+-- what a finish of an offset does, if this is its entry
+abbrev pub FrontLeaves : Offset (Unit {0}) → (ℕ → Entry) → builder.State → Result (Bor (List ℕ)) BuildError → builder.State → Type 0
+FrontLeaves offset entry = LendsAll (then_does (λ before prepared after. IsPrepared offset before prepared after) (λ root. WritesFront (entry root.distance)))
 
--- a finish that was refused
-pub finish_stopped : (root : ℕ) (identifier : Option (List ℕ)) (old : Progress) (offset : Offset (Unit {0})) → value_at (values_listed old) root ≡ Some offset.distance
-    → (answer : Result (Bor (List ℕ)) BuildError) (error : BuildError) (new : builder.State) → answer ≡ Err error
-    → FinishLeaves (λ before prepared after. IsPrepared offset before prepared after) identifier old.builder answer new → Stopped old (finish root identifier) (replay_error error)
-finish_stopped root identifier old offset found answer error new refused leaves = by_error error (subst (λ a. FinishLeaves (λ before prepared after. IsPrepared offset before prepared after) identifier old.builder a new) refused leaves)
-  where
-    by_error : (error : BuildError) → FinishLeaves (λ before prepared after. IsPrepared offset before prepared after) identifier old.builder (Err error) new → Stopped old (finish root identifier) (replay_error error)
-    by_error OutOfMemory h = tt
-    by_error TooLarge h = λ past is_past. elim h as (λ _. StepTooLarge old.builder.switches (state_with old past) (finish root identifier)) [
-      | inl none ↦ (let e : Err TooLarge ≡ Ok offset = none.0 in cc)
-      | inr put ↦
-          let same : put.0 ≡ offset = (let e : Ok put.0 ≡ Ok offset = put.2.0 in cc) in
-          let refuses : Refuses (finish_entry offset.distance identifier) [] old.builder TooLarge new
-          = subst (λ (b : builder.State). Refuses (finish_entry offset.distance identifier) [] b TooLarge new) put.2.1
-          (subst (λ (o : Offset (Unit {0})). Refuses (finish_entry o.distance identifier) [] put.1 TooLarge new) same put.3) in
-          record { entries = finish_entry offset.distance identifier ∷ []; are = finish_are old root offset.distance identifier found; too_large = inl (refuses.cause past is_past) }
-    ]
+module _ (front : Front) (root : ℕ) (identifier : Option (List ℕ)) (entry : ℕ → Entry) (is_entry : (distance : ℕ) → finish_of front identifier distance ≡ entry distance ∷ []) where
+  -- a finish advances the run
+  pub finish_advances : (distance : ℕ) (old new : Progress) (given : Finished) (place : ℕ) → value_at (values_listed old) root ≡ Some distance
+      → PutsInFront (entry distance) old.builder place new.builder → new.first ≡ old.first → new.offsets.items ≡ old.offsets.items ++ None ∷ [] → new.finished.items ≡ old.finished.items ++ given ∷ []
+      → given.bytes.items ≡ new.builder.bytes → map place_of given.places.items ≡ values_listed old → Advanced old (finish front root identifier) (Ok tt) new
+  finish_advances distance old new given place found finishes first pushed gave whole listed_there = record {
+    taken = took_one old new (finish front root identifier) None (refl, refl) first pushed;
+    advances = λ past is_past.
+        let after = finishes.puts.puts past is_past in
+        let all : given.bytes.items ≡ after.0.written.bytes = whole ∙ sym after.2.bytes in (
+          after.0,
+          after.2,
+          record {
+            entries = entry distance ∷ [];
+            are = finish_are old front root distance identifier found ∙ ap Some (is_entry distance);
+            got = place ∷ [];
+            puts = (place, after.0, after.1, (refl, refl));
+            listed = ap (λ n. listed_from n (names new)) first ∙ ap (listed_from old.first) (ap (map name_of) pushed ∙ map_push name_of old.offsets.items None)
+                ∙ listed_push_none old.first (names old) ∙ sym (append-nil (values_listed old));
+            next = one_more old new None first pushed;
+            finished = ap (map finish_given) gave ∙ map_push finish_given old.finished.items given
+                ∙ ap (λ (p : List ℕ × List Listed). map finish_given old.finished.items ++ record { bytes = p.0; places = p.1 } ∷ [])
+                (let e : (given.bytes.items, map place_of given.places.items) ≡ (after.0.written.bytes, values_listed old) = rw (all, listed_there) refl in e);
+          },
+        );
+    switches = finishes.puts.switches;
+  }
+
+  -- a finish that was refused
+  pub finish_stopped : (old : Progress) (offset : Offset (Unit {0})) → value_at (values_listed old) root ≡ Some offset.distance
+      → (answer : Result (Bor (List ℕ)) BuildError) (error : BuildError) (new : builder.State) → answer ≡ Err error
+      → FrontLeaves offset entry old.builder answer new → Stopped old (finish front root identifier) (replay_error error)
+  finish_stopped old offset found answer error new refused leaves = by_error error (subst (λ a. FrontLeaves offset entry old.builder a new) refused leaves)
+    where
+      by_error : (error : BuildError) → FrontLeaves offset entry old.builder (Err error) new → Stopped old (finish front root identifier) (replay_error error)
+      by_error OutOfMemory h = tt
+      by_error TooLarge h = λ past is_past. elim h as (λ _. StepTooLarge old.builder.switches (state_with old past) (finish front root identifier)) [
+        | inl none ↦ (let e : Err TooLarge ≡ Ok offset = none.0 in cc)
+        | inr put ↦
+            let same : put.0 ≡ offset = (let e : Ok put.0 ≡ Ok offset = put.2.0 in cc) in
+            let refuses : Refuses (entry offset.distance) [] old.builder TooLarge new
+            = subst (λ (b : builder.State). Refuses (entry offset.distance) [] b TooLarge new) put.2.1
+            (subst (λ (o : Offset (Unit {0})). Refuses (entry o.distance) [] put.1 TooLarge new) same put.3) in
+            record { entries = entry offset.distance ∷ []; are = finish_are old front root offset.distance identifier found ∙ ap Some (is_entry offset.distance); too_large = inl (refuses.cause past is_past) }
+      ]
 
 -- and a clear
 pub clear_advances : (old new : Progress) → IsPast new.builder no_past → new.builder.switches ≡ old.builder.switches → new.first ≡ old.first + length old.offsets.items + 1 → new.offsets.items ≡ []
@@ -342,9 +347,9 @@ clear_advances old new is_past switches first none same = record {
 }
 
 -- the finish of an offset
-pub offset_finished : (offset : Offset (Unit {0})) (identifier : Option (List ℕ)) (old new : builder.State) (answer : Result (Bor (List ℕ)) BuildError) (lent : Bor (List ℕ)) → answer ≡ Ok lent
-    → FinishLeaves (λ before prepared after. IsPrepared offset before prepared after) identifier old answer new → Finishes offset.distance identifier old (length new.bytes) new × (lent.now ≡ new.bytes)
-offset_finished offset identifier old new answer lent ok leaves =
-    let h = subst (λ a. FinishLeaves (λ before prepared after. IsPrepared offset before prepared after) identifier old a new) ok leaves in
+pub offset_finished : (offset : Offset (Unit {0})) (entry : ℕ → Entry) (old new : builder.State) (answer : Result (Bor (List ℕ)) BuildError) (lent : Bor (List ℕ)) → answer ≡ Ok lent
+    → FrontLeaves offset entry old answer new → PutsInFront (entry offset.distance) old (length new.bytes) new × (lent.now ≡ new.bytes)
+offset_finished offset entry old new answer lent ok leaves =
+    let h = subst (λ a. FrontLeaves offset entry old a new) ok leaves in
     let same : h.0.0 ≡ offset = (let e : Ok h.0.0 ≡ Ok offset = h.0.2.0 in cc) in
-    (subst (λ before. Finishes offset.distance identifier before (length new.bytes) new) h.0.2.1 (subst (λ (o : Offset (Unit {0})). Finishes o.distance identifier h.0.1 (length new.bytes) new) same h.0.3), h.1)
+    (subst (λ before. PutsInFront (entry offset.distance) before (length new.bytes) new) h.0.2.1 (subst (λ (o : Offset (Unit {0})). PutsInFront (entry o.distance) h.0.1 (length new.bytes) new) same h.0.3), h.1)

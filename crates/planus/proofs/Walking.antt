@@ -29,7 +29,7 @@ use Rattle.planus.specs.declared.faults.ReplayError.TheVariants.{TooLarge, BadSt
 use Rattle.planus.specs.declared.faults.Why.{Why}
 use Rattle.planus.specs.declared.steps.Step as code
 use Rattle.planus.specs.declared.steps.Step.TheVariants.{Text, Bytes, Numbers, Refs, Unions}
-use Rattle.planus.specs.declared.steps.Step.TheVariants.{Table, Finish, Clear}
+use Rattle.planus.specs.declared.steps.Step.TheVariants.{Table, Finish, FinishSized, Clear}
 use Rattle.planus.proofs.Kept.{AllUtf8, run_value}
 use Rattle.planus.proofs.Lists.{get_last, made_of, all_made, union_made}
 use Rattle.planus.proofs.NamedKinds.{NamedAreGood, value_good}
@@ -60,6 +60,7 @@ is_utf8 (Refs steps) content e = (cc)
 is_utf8 (Unions items) content e = (cc)
 is_utf8 (Table fields) content e = (cc)
 is_utf8 (Finish root id) content e = (cc)
+is_utf8 (FinishSized root id) content e = (cc)
 is_utf8 Clear content e = (cc)
 
 pub all_utf8 : (steps : List code.Step) → AllUtf8 (map bare_step steps)
@@ -132,8 +133,8 @@ module _ (switches : Switches) (all cs : List Step) (c : Step) (rest : List Step
       let made = made_of entries_of (option_map value.table (fields_of state.listed [] greatest_field fields)) entries h in
       let of_all = made_of value.table (fields_of state.listed [] greatest_field fields) made.0 made.1 in
       fields_good state.listed fault_here name_good [] greatest_field fields of_all.0 of_all.1
-  put_fault (finish root identifier) entries h =
-      let made = made_of (finish_of identifier) (value_at state.listed root) entries h in
+  put_fault (finish front root identifier) entries h =
+      let made = made_of (finish_of front identifier) (value_at state.listed root) entries h in
       value_named root made.0 made.1
   put_fault clear entries h = refl
 
@@ -144,7 +145,7 @@ module _ (switches : Switches) (all cs : List Step) (c : Step) (rest : List Step
   no_fault (refs steps) after h = put_fault (refs steps) h.entries h.are
   no_fault (unions items) after h = put_fault (unions items) h.entries h.are
   no_fault (table fields) after h = put_fault (table fields) h.entries h.are
-  no_fault (finish root identifier) after h = put_fault (finish root identifier) h.entries h.are
+  no_fault (finish front root identifier) after h = put_fault (finish front root identifier) h.entries h.are
   no_fault clear after h = refl
 
   pub still_clean : (after : State) → Advances switches state c after → first_bad (cs ++ c ∷ []) ≡ None

@@ -1,6 +1,6 @@
 -- What is true of every finish of every run.
-use Rattle.std.specs.Prelude.{◌≡◌, ℕ, ◌+◌, ◌≤◌, List, [], ◌∷◌, ◌++◌, length, take, slice_get}
-use Rattle.std.specs.Prelude.{Option, Some}
+use Rattle.std.specs.Prelude.{◌≡◌, ℕ, ◌+◌, ◌≤◌, List, [], ◌∷◌, ◌++◌, length, take, drop}
+use Rattle.std.specs.Prelude.{slice_get, Option, Some, ⊤}
 use Rattle.std.specs.List.{AllByRecursion}
 use Rattle.planus_back.specs.Promises.{Keep}
 use Rattle.planus_back.specs.Parts.{Part}
@@ -9,11 +9,12 @@ use Rattle.planus_read.specs.Bytes.{BytesStand}
 use Rattle.planus_read.specs.Values.{Value}
 use Rattle.planus_read.specs.Stands.{Stands, ReferenceStands}
 use Rattle.planus_read.specs.Aligned.{AlignedAt}
-use Rattle.planus_read.specs.ReadsBack.{ReadsBack}
+use Rattle.planus_read.specs.ReadsBack.{ReadsBack, ReferenceReads}
+use Rattle.planus_read.specs.SizePrefixed.{IsPrefixed}
 use Rattle.planus_write.specs.Shared.{Switches}
 use Rattle.planus_write.specs.Parts.{identifier_bytes, position_in}
 use Rattle.planus_write.specs.Kept.{TagsReached}
-use Rattle.planus.specs.Steps.{Step, finish}
+use Rattle.planus.specs.Steps.{Step, Front, root_first, size_first, finish}
 use Rattle.planus.specs.Runs.{Finish, Listed, State, nothing_written, LeadsTo, value_at, value_of}
 
 -- The value of a step stands aligned in the bytes, at what it is named by, and reads back.
@@ -35,24 +36,58 @@ pub record IsFewest (parts : List Part) (places : List ℕ) (bytes : List ℕ) :
   pub whole : (earlier : List ℕ) × (places ≡ earlier ++ length bytes ∷ [])
   pub least : (others : List ℕ) → IsPlacing parts others → NoneIsGreater places others
 
+-- where the reference to the root stands
+abbrev pub root_at : Front → ℕ
+root_at root_first = 0
+root_at size_first = 4
+
+-- The value of a step stands in the bytes behind the size, at what it is named by, and reads back.
+pub record ValueInPiece (steps : List Step) (places : List Listed) (piece : List ℕ) (one : Listed)
+    : Type 0 where
+  pub step : Step
+  pub value : Value
+  pub there : slice_get steps one.step ≡ Some step
+  pub is_value : value_of places step ≡ Some value
+  pub stands : Stands piece (position_in piece one.named) value
+  pub reads_back : ReadsBack piece (position_in piece one.named) value
+
+-- What is given with the size in front: the size says how many bytes follow it. These are the piece
+-- that a reader of such buffers answers, with 4 as its start: the reference at its front leads to the
+-- value of the root's step, and reading goes on there; the identifier stands behind that; and each
+-- value holds in it, but for its alignment, which is counted from the size.
+pub record SizedHolds (steps : List Step) (root : ℕ) (identifier : Option (List ℕ)) (given : Finish)
+    : Type 0 where
+  pub size : IsPrefixed given.bytes
+  pub leads : (distance : ℕ) × (value_at given.places root ≡ Some distance)
+      × ReferenceStands (drop 4 given.bytes) 0 distance × ReferenceReads given.bytes 4 0 distance
+  pub identified : BytesStand (drop 4 given.bytes) 4 (identifier_bytes identifier)
+  pub values : AllByRecursion (ValueInPiece steps given.places (drop 4 given.bytes)) given.places
+
+-- the same of what is given with either word at the front
+abbrev pub HoldsBySize : Front → List Step → ℕ → Option (List ℕ) → Finish → Type 0
+HoldsBySize root_first steps root identifier given = ⊤
+HoldsBySize size_first steps root identifier given = SizedHolds steps root identifier given
+
 -- What is given by the finish of one step, to which the steps with it lead: it lists every value
--- since the last clear, and each holds in its bytes; the reference at their front leads to the
--- value of its root's step, and its identifier stands behind that; its length keeps every promise
--- that was made of a part since the last clear; and its bytes are the fewest.
+-- since the last clear, and each holds in its bytes; the reference at their front, or behind the
+-- size, leads to the value of its root's step, and its identifier stands behind that; its length
+-- keeps every promise that was made of a part since the last clear; and its bytes are the fewest.
 -- The format: a buffer begins with a reference to its root; four bytes that identify the file may
 -- follow.
 pub record FinishHolds (switches : Switches) (steps : List Step) (given : Finish) : Type 0 where
   pub number : ℕ
+  pub front : Front
   pub root : ℕ
   pub identifier : Option (List ℕ)
-  pub step : slice_get steps number ≡ Some (finish root identifier)
+  pub step : slice_get steps number ≡ Some (finish front root identifier)
   pub state : State
   pub run : LeadsTo switches nothing_written (take (number + 1) steps) state
   pub bytes : given.bytes ≡ state.past.written.bytes
   pub places : given.places ≡ state.listed
   pub values : AllByRecursion (ValueHolds steps given) given.places
   pub leads : (distance : ℕ) × (value_at given.places root ≡ Some distance)
-      × ReferenceStands given.bytes 0 distance
-  pub identified : BytesStand given.bytes 4 (identifier_bytes identifier)
+      × ReferenceStands given.bytes (root_at front) distance
+  pub identified : BytesStand given.bytes (root_at front + 4) (identifier_bytes identifier)
+  pub sized : HoldsBySize front steps root identifier given
   pub keeps : Keep state.past.written.promises (length given.bytes)
   pub fewest : IsFewest state.past.parts state.past.places given.bytes

@@ -14,7 +14,7 @@ pub data Kind : Type 0 where
 -- the kind of what a step writes, if it writes any
 abbrev pub kind_of : Step → Option Kind
 kind_of (unions items) = Some a_union_list
-kind_of (finish root identifier) = None
+kind_of (finish front root identifier) = None
 kind_of clear = None
 kind_of _ = Some a_value
 

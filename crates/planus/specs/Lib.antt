@@ -7,6 +7,7 @@ pub mod Names
 pub mod TableChecks
 pub mod Replays
 pub mod Headline
+pub mod Streams
 pub mod Once
 pub mod SameTrees
 pub mod Replaying

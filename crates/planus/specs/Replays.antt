@@ -62,7 +62,7 @@ check_by fault (numbers width items) = numbers_fault (width_of width) items
 check_by fault (refs steps) = first_fault (fault a_value) steps
 check_by fault (unions items) = first_fault (union_fault (fault a_value)) items
 check_by fault (table fields) = table_fault fault fields
-check_by fault (finish root identifier) = fault a_value root
+check_by fault (finish front root identifier) = fault a_value root
 check_by fault _ = None
 
 -- the first broken check of a step, by the steps before it: what it names is an earlier step behind

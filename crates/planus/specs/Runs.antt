@@ -10,8 +10,10 @@ use Rattle.planus_write.specs.Shared.{Switches}
 use Rattle.planus_write.specs.Past.{Past, Entry, no_past, PutsAll}
 use Rattle.planus_write.specs.Past.{ComesToTooLarge as ComesToTooLargeEntry}
 use Rattle.planus_write.specs.Parts.{Named, named_by, entries_of, finish_entry}
+use Rattle.planus_write.specs.Parts.{sized_finish_entry}
 use Rattle.planus.specs.Steps.{Step, text, bytes, numbers, refs, unions, table, finish}
 use Rattle.planus.specs.Steps.{clear, FieldStep, number_field, ref_field, tags_field, values_field}
+use Rattle.planus.specs.Steps.{Front, root_first, size_first}
 use Rattle.planus.specs.Slots.{place_fault, alignment_of, greatest_field}
 use Rattle.planus.specs.declared.faults.Why.{Why}
 
@@ -127,18 +129,19 @@ value_of listed (refs steps) = option_map value.reference_list (all_of (value_at
 value_of listed (unions items) = option_map value.union_list (all_of (union_of listed) items)
 value_of listed (table fields) =
     option_map value.table (fields_of listed [] greatest_field fields)
-value_of listed (finish root identifier) = None
+value_of listed (finish front root identifier) = None
 value_of listed clear = None
 
--- the finish of a root at a distance
-abbrev pub finish_of : Option (List ℕ) → ℕ → List Entry
-finish_of identifier root = finish_entry root identifier ∷ []
+-- the finish of a root at a distance, by what stands at its front
+abbrev pub finish_of : Front → Option (List ℕ) → ℕ → List Entry
+finish_of root_first identifier root = finish_entry root identifier ∷ []
+finish_of size_first identifier root = sized_finish_entry root identifier ∷ []
 
 -- What a step puts down, if it puts down anything: the entries of its value, or a finish of the
 -- value of an earlier step.
 abbrev pub entries_put : List Listed → Step → Option (List Entry)
-entries_put listed (finish root identifier) =
-    option_map (finish_of identifier) (value_at listed root)
+entries_put listed (finish front root identifier) =
+    option_map (finish_of front identifier) (value_at listed root)
 entries_put listed step = option_map entries_of (value_of listed step)
 
 -- what one finish gives: the bytes, and each value since the last clear
@@ -170,7 +173,7 @@ values_added (Some value) number got = record { step = number; named = named_by 
 
 -- what it adds to what was given: the bytes, and all values since the last clear
 abbrev pub finishes_added : Step → State → Past → List Finish
-finishes_added (finish root identifier) before after =
+finishes_added (finish front root identifier) before after =
     record { bytes = after.written.bytes; places = before.listed } ∷ []
 finishes_added _ before after = []
 

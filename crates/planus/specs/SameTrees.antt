@@ -5,7 +5,8 @@ use Rattle.planus_read.specs.Values.{union_list, table, plain, reference, tags, 
 use Rattle.planus_read.specs.Stands.{ReferenceStands}
 use Rattle.planus_write.specs.Shared.{Switches}
 use Rattle.planus_write.specs.Parts.{Named}
-use Rattle.planus.specs.Steps.{Step, finish}
+use Rattle.planus.specs.Steps.{Step, Front, finish}
+use Rattle.planus.specs.Headline.{root_at}
 use Rattle.planus.specs.Runs.{Finish, Listed, Runs, value_of, distance_at, value_distance}
 use Rattle.planus.specs.Runs.{tags_distance, references_distance}
 
@@ -64,19 +65,20 @@ pub record SamePlace (steps : List Step) (ones others : List Listed) (one other 
   pub is_other : value_of others step ≡ Some other_value
   pub same : SameValue ones others value other_value
 
--- Two finishes are those of one step; the references at their fronts lead to the value of one step;
--- and they list the same values, in the same order.
+-- Two finishes are those of one step; the references at their fronts, or behind their sizes, lead to
+-- the value of one step; and they list the same values, in the same order.
 pub record SameTrees (steps : List Step) (one other : Finish) : Type 0 where
   pub number : ℕ
+  pub front : Front
   pub root : ℕ
   pub identifier : Option (List ℕ)
-  pub step : slice_get steps number ≡ Some (finish root identifier)
+  pub step : slice_get steps number ≡ Some (finish front root identifier)
   pub distance : ℕ
   pub root_is : distance_at value_distance one.places root ≡ Some distance
-  pub leads : ReferenceStands one.bytes 0 distance
+  pub leads : ReferenceStands one.bytes (root_at front) distance
   pub other_distance : ℕ
   pub other_root_is : distance_at value_distance other.places root ≡ Some other_distance
-  pub other_leads : ReferenceStands other.bytes 0 other_distance
+  pub other_leads : ReferenceStands other.bytes (root_at front) other_distance
   pub places : AllPairs (SamePlace steps one.places other.places) one.places other.places
 
 -- Two runs of the same steps have the same trees in their finishes, whatever the switches are.

@@ -1,9 +1,9 @@
 -- The steps of a run, without where their texts and lists lie in memory.
-use Rattle.std.specs.Prelude.{ℕ, List, Option, map}
+use Rattle.std.specs.Prelude.{ℕ, Bool, true, false, List, Option, map}
 use Rattle.std.specs.String.{string_bytes}
 use Rattle.planus.specs.declared.steps.Step as code
 use Rattle.planus.specs.declared.steps.Step.TheVariants.{Text, Bytes, Numbers, Refs, Unions}
-use Rattle.planus.specs.declared.steps.Step.TheVariants.{Table, Finish, Clear}
+use Rattle.planus.specs.declared.steps.Step.TheVariants.{Table, Finish, FinishSized, Clear}
 use Rattle.planus.specs.declared.steps.Field.{Field}
 use Rattle.planus.specs.declared.steps.FieldValue.{FieldValue}
 use Rattle.planus.specs.declared.steps.FieldValue.TheVariants.{Number, Ref, Tags, Values}
@@ -17,10 +17,21 @@ pub data FieldStep : Type 0 where
   tags_field : ℕ → FieldStep
   values_field : ℕ → FieldStep
 
+-- which word stands at the front of a finished buffer: that of the root, or that of the size of what
+-- follows it
+pub data Front : Type 0 where
+  root_first : Front
+  size_first : Front
+
+-- the one or the other, by whether the size is asked for
+abbrev pub front_of : Bool → Front
+front_of true = size_first
+front_of false = root_first
+
 -- a text with its bytes; a list of bytes; numbers, and of how many bytes each is; references to the
 -- values of earlier steps, by the numbers of these; a list of unions, of each its tag and the number
--- of an earlier step, whose value it is; a table of fields with their slots; a finish with the number
--- of its root's step, and a file identifier, if there is one; a clear
+-- of an earlier step, whose value it is; a table of fields with their slots; a finish with what stands
+-- at its front, the number of its root's step, and a file identifier, if there is one; a clear
 pub data Step : Type 0 where
   text : List ℕ → Step
   bytes : List ℕ → Step
@@ -28,7 +39,7 @@ pub data Step : Type 0 where
   refs : List ℕ → Step
   unions : List (ℕ × ℕ) → Step
   table : List (ℕ × FieldStep) → Step
-  finish : ℕ → Option (List ℕ) → Step
+  finish : Front → ℕ → Option (List ℕ) → Step
   clear : Step
 
 -- what a field holds
@@ -50,5 +61,6 @@ bare_step (Numbers width items) = numbers width items.items
 bare_step (Refs steps) = refs steps.items
 bare_step (Unions items) = unions items.items
 bare_step (Table fields) = table (map bare_field fields.items)
-bare_step (Finish root id) = finish root id
+bare_step (Finish root id) = finish root_first root id
+bare_step (FinishSized root id) = finish size_first root id
 bare_step Clear = clear

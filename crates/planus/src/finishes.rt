@@ -15,7 +15,7 @@ pub struct StepPlace {
 /// What a finish gives: the bytes, and where each value since the last clear stands in them.
 #[derive(Debug, Drop)]
 pub struct Finished {
-    /// All of the buffer.
+    /// All of the buffer, with its size in front where that was asked for.
     pub bytes: Vec<u8>,
     /// The values in the order of their steps, referenced or not.
     pub places: Vec<StepPlace>,

@@ -3,6 +3,7 @@
 ghost use Rattle.planus.specs.Once.{EqualContentsHaveOneDistance, EqualEntriesGetOneDistance};
 ghost use Rattle.planus.specs.Replays.{AnAnswerIsThere, AnswersAreOne};
 ghost use Rattle.planus.specs.SameTrees.{TreesAreTheSame};
+ghost use Rattle.planus.specs.Streams.{SizedFinishesAreRead, SizedStreamsAreRead};
 
 /// Two answers to one list of steps, under the same switches, are the same, unless one of them is a
 /// want of memory. So no answer depends on the mask of the hashes.
@@ -29,4 +30,12 @@ pub fn equal_contents_have_one_distance()
 /// for their distances, which lead to the same steps.
 pub fn trees_are_the_same()
     ensures { TreesAreTheSame }
+{}
+
+/// What a finish with the size in front gives is read with exactly its bytes, whatever is behind
+/// them, and every value of the run stands and reads back in the piece that is returned, the root by
+/// the reference at its front. So such finishes, put behind one another, are read one by one.
+pub fn sized_finishes_are_read()
+    ensures one { SizedFinishesAreRead }
+    ensures stream { SizedStreamsAreRead }
 {}

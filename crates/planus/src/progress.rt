@@ -7,7 +7,7 @@ ghost use Rattle.planus_write.specs.Preparing.{Answers};
 ghost use Rattle.planus_write.specs.Unions.{WritesUnionVector, union_reach};
 ghost use Rattle.std.specs.List.{AllByRecursion};
 ghost use Rattle.std.specs.Prelude.{◌≤◌};
-ghost use Rattle.planus.specs.Steps.{bare_step, bare_field};
+ghost use Rattle.planus.specs.Steps.{bare_step, bare_field, front_of};
 ghost use Rattle.planus.specs.Runs.{nothing_written};
 ghost use Rattle.planus.specs.Replays.{place_of};
 ghost use Rattle.planus.specs.Kinds.{a_value};
@@ -344,7 +344,8 @@ impl Progress {
             Step::Refs(steps) => self.refs(alloc, steps.as_slice()),
             Step::Unions(items) => self.unions(alloc, items.as_slice()),
             Step::Table(fields) => self.table(fields.as_slice()),
-            Step::Finish { root, id } => self.finish(alloc, *root, *id),
+            Step::Finish { root, id } => self.finish(alloc, *root, *id, false),
+            Step::FinishSized { root, id } => self.finish(alloc, *root, *id, true),
             Step::Clear => {
                 self.clear();
                 Ok(())
@@ -362,22 +363,27 @@ impl Progress {
         self.offsets.clear();
     }
 
-    /// Finishes the value of an earlier step.
+    /// Finishes the value of an earlier step, with the size in front if that is asked for.
     fn finish(
         &mut self,
         alloc: Global,
         root: usize,
         id: Option<[u8; 4]>,
+        sized: bool,
     ) -> std::result::Result<(), ReplayError>
         requires reached { AreReached self.old }
         requires number { self.old.first + vec_len self.old.offsets < 2 ^ 64 }
-        ensures { Advanced self.old (step.finish root id) result self.new }
+        ensures { Advanced self.old (step.finish (front_of sized) root id) result self.new }
     {
         let root = match self.value(root) {
             Ok(root) => root,
             Err(why) => return Err(self.bad_step(why)),
         };
-        let bytes = Vec::from_slice(alloc, self.builder.finish(root, id)?)?;
+        let bytes = if sized {
+            Vec::from_slice(alloc, self.builder.finish_size_prefixed(root, id)?)?
+        } else {
+            Vec::from_slice(alloc, self.builder.finish(root, id)?)?
+        };
         let places = places_of(alloc, self.first, self.offsets.as_slice())?;
         self.finished.push(Finished { bytes, places })?;
         self.offsets.push(None)?;

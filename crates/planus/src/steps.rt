@@ -21,6 +21,8 @@ pub enum Step {
     /// A finish of the buffer, whose root is the value of an earlier step, by its number from 0,
     /// with a file identifier of four bytes, if there is one.
     Finish { root: usize, id: Option<[u8; 4]> },
+    /// The same with the size in front: a number of 4 bytes, which says how many bytes follow it.
+    FinishSized { root: usize, id: Option<[u8; 4]> },
     /// All that was written is taken away; later steps can't name what came before.
     Clear,
 }

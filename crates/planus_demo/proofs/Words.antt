@@ -7,6 +7,7 @@ use Rattle.std.proofs.lemmas.List.Sums.{fails_before_first}
 use Rattle.std.specs.Str.{is_utf8, IsUtf8}
 use Rattle.std.proofs.lemmas.Str.{IsUtf8-from_is_utf8, is_utf8-from_IsUtf8}
 use Rattle.planus_demo.specs.Words.{words_of}
+use Rattle.planus.specs.Steps.{Front}
 use Rattle.planus_demo.specs.Script.{bytes_of, finish_of, command_of, command_of_words, clear_of}
 use Rattle.planus_demo.specs.declared.script.ReadFault.TheVariants.{NotUtf8, UnknownCommand, BadHex}
 
@@ -39,12 +40,12 @@ clear_none (w ∷ ws) h = refl
 pub clear_followed : (rest : List ℕ) → clear_of (words_of rest) ≡ Err UnknownCommand
 clear_followed rest = clear_none (words_of rest) (some_words rest)
 
-finish_three : (root name : List ℕ) (words : List (List ℕ)) → 1 ≤ length words → finish_of (root ∷ name ∷ words) ≡ Err UnknownCommand
-finish_three root name [] h = absurd (omega arith)
-finish_three root name (w ∷ ws) h = refl
+finish_three : (front : Front) (root name : List ℕ) (words : List (List ℕ)) → 1 ≤ length words → finish_of front (root ∷ name ∷ words) ≡ Err UnknownCommand
+finish_three front root name [] h = absurd (omega arith)
+finish_three front root name (w ∷ ws) h = refl
 
-pub finish_followed : (root name rest : List ℕ) → finish_of (root ∷ name ∷ words_of rest) ≡ Err UnknownCommand
-finish_followed root name rest = finish_three root name (words_of rest) (some_words rest)
+pub finish_followed : (front : Front) (root name rest : List ℕ) → finish_of front (root ∷ name ∷ words_of rest) ≡ Err UnknownCommand
+finish_followed front root name rest = finish_three front root name (words_of rest) (some_words rest)
 
 bytes_two : (word : List ℕ) (words : List (List ℕ)) → 1 ≤ length words → bytes_of (word ∷ words) ≡ Err BadHex
 bytes_two word [] h = absurd (omega arith)

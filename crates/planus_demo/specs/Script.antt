@@ -7,7 +7,7 @@ use Rattle.std.specs.Option.{option_map}
 use Rattle.std.specs.Int.{is_in_range}
 use Rattle.std.specs.Str.{is_utf8, bytes_eq}
 use Rattle.planus.specs.Steps.{Step, text, bytes, numbers, refs, unions, table, finish, clear}
-use Rattle.planus.specs.Steps.{bare_field}
+use Rattle.planus.specs.Steps.{Front, root_first, size_first, bare_field}
 use Rattle.planus.specs.declared.steps.Field.{Field}
 use Rattle.planus_demo.specs.Words.{words_of, number_of, numbers_of}
 use Rattle.planus_demo.specs.Fields.{fields_of}
@@ -34,26 +34,28 @@ abbrev pub identifier_of : List ℕ → Result (List ℕ) ReadFault
 identifier_of word = if is_identifier word then Ok word else Err BadIdentifier
 
 -- a finish without an identifier, or the fault of its number
-abbrev pub finish_at : Result ℕ ReadFault → Result Step ReadFault
-finish_at (Ok root) = Ok (finish root None)
-finish_at (Err fault) = Err fault
+abbrev pub finish_at : Front → Result ℕ ReadFault → Result Step ReadFault
+finish_at front (Ok root) = Ok (finish front root None)
+finish_at front (Err fault) = Err fault
 
 -- a finish of this number with an identifier, or the identifier's fault
-abbrev pub finish_with : ℕ → Result (List ℕ) ReadFault → Result Step ReadFault
-finish_with root (Ok identifier) = Ok (finish root (Some identifier))
-finish_with root (Err fault) = Err fault
+abbrev pub finish_with : Front → ℕ → Result (List ℕ) ReadFault → Result Step ReadFault
+finish_with front root (Ok identifier) = Ok (finish front root (Some identifier))
+finish_with front root (Err fault) = Err fault
 
 -- the number first, and then the identifier
-abbrev pub identified_at : Result ℕ ReadFault → Result (List ℕ) ReadFault → Result Step ReadFault
-identified_at (Ok root) identifier = finish_with root identifier
-identified_at (Err fault) identifier = Err fault
+abbrev pub identified_at : Front → Result ℕ ReadFault → Result (List ℕ) ReadFault
+    → Result Step ReadFault
+identified_at front (Ok root) identifier = finish_with front root identifier
+identified_at front (Err fault) identifier = Err fault
 
--- `finish I` or `finish I ABCD`
-abbrev pub finish_of : List (List ℕ) → Result Step ReadFault
-finish_of [] = Err UnknownCommand
-finish_of (root ∷ []) = finish_at (number_of root)
-finish_of (root ∷ identifier ∷ []) = identified_at (number_of root) (identifier_of identifier)
-finish_of (root ∷ identifier ∷ more ∷ words) = Err UnknownCommand
+-- `finish I` or `finish I ABCD`, and `sized I` or `sized I ABCD`
+abbrev pub finish_of : Front → List (List ℕ) → Result Step ReadFault
+finish_of front [] = Err UnknownCommand
+finish_of front (root ∷ []) = finish_at front (number_of root)
+finish_of front (root ∷ identifier ∷ []) =
+    identified_at front (number_of root) (identifier_of identifier)
+finish_of front (root ∷ identifier ∷ more ∷ words) = Err UnknownCommand
 
 -- `clear`
 abbrev pub clear_of : List (List ℕ) → Result Step ReadFault
@@ -115,7 +117,8 @@ command_of_words line (word ∷ words) =
     else if bytes_eq word (codes "refs") then list_step refs (numbers_of words)
     else if bytes_eq word (codes "unions") then list_step unions (unions_of words)
     else if bytes_eq word (codes "table") then list_step table_step (fields_of words)
-    else if bytes_eq word (codes "finish") then finish_of words
+    else if bytes_eq word (codes "finish") then finish_of root_first words
+    else if bytes_eq word (codes "sized") then finish_of size_first words
     else if bytes_eq word (codes "clear") then clear_of words else Err UnknownCommand
 
 -- The step that a line is, or its first fault of reading.

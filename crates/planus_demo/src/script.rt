@@ -18,7 +18,7 @@ ghost use Rattle.planus_demo.specs.Script.{is_skipped as is_skipped_lem};
 ghost use Rattle.planus_demo.specs.Steps.{AnswersCommand, AnswersLine, AnswersScript, read_of};
 ghost use Rattle.planus_demo.specs.Steps.{AnswersList, bytes_or_fault};
 ghost use Rattle.planus.specs.Steps as step;
-ghost use Rattle.planus.specs.Steps.{bare_step};
+ghost use Rattle.planus.specs.Steps.{bare_step, front_of};
 
 use crate::fields::table;
 use crate::unions::unions;
@@ -221,37 +221,51 @@ fn identifier(word: &str) -> std::result::Result<[u8; 4], ReadFault>
     }
 }
 
-/// `finish I` or `finish I ABCD`, from what stands behind the first word.
-fn finish(words: Option<&str>) -> std::result::Result<Step, ReadFault>
-    ensures { AnswersCommand result (finish_of (words_behind (option_copied words.entry))) }
+/// `finish I` or `finish I ABCD`, or with the size in front `sized I` or `sized I ABCD`, from what
+/// stands behind the first word.
+fn finish(words: Option<&str>, sized: bool) -> std::result::Result<Step, ReadFault>
+    ensures { AnswersCommand result
+        (finish_of (front_of sized) (words_behind (option_copied words.entry))) }
 {
     let Some(words) = words else {
         return Err(ReadFault::UnknownCommand);
     };
     let (root, words) = first_word(words);
     let Some(words) = words else {
-        return finish_plain(root);
+        return finish_plain(root, sized);
     };
     let (name, words) = first_word(words);
     match words {
-        None => finish_named(root, name),
+        None => finish_named(root, name, sized),
         Some(_) => Err(ReadFault::UnknownCommand),
     }
 }
 
-fn finish_plain(root: &str) -> std::result::Result<Step, ReadFault>
-    ensures { AnswersCommand result (finish_at (number_of root.now)) }
+fn finish_plain(root: &str, sized: bool) -> std::result::Result<Step, ReadFault>
+    ensures { AnswersCommand result (finish_at (front_of sized) (number_of root.now)) }
 {
     let root = number(root)? as usize;
-    Ok(Step::Finish { root, id: None })
+    Ok(finish_step(root, None, sized))
 }
 
-fn finish_named(root: &str, name: &str) -> std::result::Result<Step, ReadFault>
-    ensures { AnswersCommand result (identified_at (number_of root.now) (identifier_of name.now)) }
+fn finish_named(root: &str, name: &str, sized: bool) -> std::result::Result<Step, ReadFault>
+    ensures { AnswersCommand result
+        (identified_at (front_of sized) (number_of root.now) (identifier_of name.now)) }
 {
     let root = number(root)? as usize;
     let id = Some(identifier(name)?);
-    Ok(Step::Finish { root, id })
+    Ok(finish_step(root, id, sized))
+}
+
+/// The step of a finish, with the size in front if that is asked for.
+fn finish_step(root: usize, id: Option<[u8; 4]>, sized: bool) -> Step
+    ensures { bare_step result ≡ step.finish (front_of sized) root id }
+{
+    if sized {
+        Step::FinishSized { root, id }
+    } else {
+        Step::Finish { root, id }
+    }
 }
 
 /// The byte of two hexadecimal digits.
@@ -412,7 +426,9 @@ fn step_of_text(alloc: Global, line: &str) -> std::result::Result<Step, LineErro
     } else if word == "table" {
         table(alloc, rest)
     } else if word == "finish" {
-        Ok(finish(rest)?)
+        Ok(finish(rest, false)?)
+    } else if word == "sized" {
+        Ok(finish(rest, true)?)
     } else if word == "clear" {
         Ok(clear(rest)?)
     } else {

@@ -328,19 +328,25 @@ impl Written {
         None
     }
 
-    fn finish(&mut self, root: usize, id: Option<[u8; 4]>) -> Result<(), AllocError> {
+    fn finish(&mut self, root: usize, id: Option<[u8; 4]>, sized: bool) -> Result<(), AllocError> {
         let alignment = self.greatest();
+        let words: usize = if sized { 8 } else { 4 };
         match id {
             Some(id) => {
-                self.pad(8, alignment)?;
+                self.pad(words.wrapping_add(4), alignment)?;
                 self.put(&id)?;
             }
             None => {
-                self.pad(4, alignment)?;
+                self.pad(words, alignment)?;
             }
         }
         let distance = self.reversed.len().wrapping_add(4);
-        self.put_word(distance.wrapping_sub(root))
+        self.put_word(distance.wrapping_sub(root))?;
+        if sized {
+            let size = self.reversed.len();
+            self.put_word(size)?;
+        }
+        Ok(())
     }
 
     fn given(&self) -> Result<Finished, AllocError> {
@@ -371,7 +377,7 @@ impl Written {
             Step::Refs(steps) => self.refs(number, steps.as_slice()),
             Step::Unions(items) => self.unions(number, items.as_slice()),
             Step::Table(fields) => self.table(number, fields.as_slice()),
-            Step::Finish { .. } | Step::Clear => Ok(()),
+            Step::Finish { .. } | Step::FinishSized { .. } | Step::Clear => Ok(()),
         }
     }
 
@@ -389,7 +395,13 @@ impl Written {
             }
             Step::Finish { root, id } => {
                 let root = self.distance(*root).ok_or("no such value")?;
-                self.finish(root, *id)?;
+                self.finish(root, *id, false)?;
+                finished.push(self.given()?)?;
+                Ok(())
+            }
+            Step::FinishSized { root, id } => {
+                let root = self.distance(*root).ok_or("no such value")?;
+                self.finish(root, *id, true)?;
                 finished.push(self.given()?)?;
                 Ok(())
             }

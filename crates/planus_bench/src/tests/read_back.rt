@@ -4,6 +4,7 @@ use super::plain_reader::position;
 use planus::table_reader::Table;
 use planus::{
     Field, FieldValue, Finished, Place, SliceWithStartOffset, Step, TableRead, Vector, VectorRead,
+    read_size_prefixed,
 };
 use std::alloc::Global;
 use std::test::Fail;
@@ -169,9 +170,15 @@ pub fn reads_back(
     alloc: Global,
     steps: &[Step],
     root: usize,
+    sized: bool,
     finished: &Finished,
 ) -> Result<bool, Fail> {
-    let whole = SliceWithStartOffset::new(finished.bytes.as_slice(), 0);
+    let bytes = finished.bytes.as_slice();
+    let whole = if sized {
+        read_size_prefixed(bytes)?.0
+    } else {
+        SliceWithStartOffset::new(bytes, 0)
+    };
     let mut reading = Reading {
         steps,
         finished,

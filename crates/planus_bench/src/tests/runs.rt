@@ -145,10 +145,15 @@ impl Mixed {
         let alloc = self.alloc;
         match (kind, root) {
             (0, _) => Ok(Step::Clear),
-            (1..=6, Some(root)) => Ok(Step::Finish { root, id: None }),
-            (7..=12, Some(root)) => {
+            (1..=4, Some(root)) => Ok(Step::Finish { root, id: None }),
+            (5 | 6, Some(root)) => Ok(Step::FinishSized { root, id: None }),
+            (7..=9, Some(root)) => {
                 let id = Some(*b"TEST");
                 Ok(Step::Finish { root, id })
+            }
+            (10..=12, Some(root)) => {
+                let id = Some(*b"TEST");
+                Ok(Step::FinishSized { root, id })
             }
             (13, _) => text(alloc, self.numbers.draw() % 20000),
             (14 | 15, _) => bytes(alloc, self.numbers.draw() % 50),
@@ -169,7 +174,7 @@ impl Mixed {
                 self.values.clear();
                 self.last_unions = None;
             }
-            Some(Step::Finish { .. }) | None => {}
+            Some(Step::Finish { .. } | Step::FinishSized { .. }) | None => {}
             Some(Step::Unions(_)) => self.last_unions = Some(number),
             Some(_) => self.values.push(number)?,
         }
@@ -210,8 +215,10 @@ pub fn counts(steps: &[Step]) -> (usize, usize, usize, usize) {
     for step in steps {
         match step {
             Step::Clear => counts.0 = counts.0.wrapping_add(1),
-            Step::Finish { id: None, .. } => counts.1 = counts.1.wrapping_add(1),
-            Step::Finish { id: Some(_), .. } => counts.2 = counts.2.wrapping_add(1),
+            Step::Finish { id: None, .. } | Step::FinishSized { id: None, .. } => {
+                counts.1 = counts.1.wrapping_add(1);
+            }
+            Step::Finish { .. } | Step::FinishSized { .. } => counts.2 = counts.2.wrapping_add(1),
             Step::Unions(_) => counts.3 = counts.3.wrapping_add(1),
             _ => {}
         }
@@ -286,18 +293,27 @@ fn repeated(alloc: Global) -> Result<Vec<Step>, AllocError> {
     Ok(steps)
 }
 
+// The root of a finish, and whether it has the size in front.
+fn root_of(step: &Step) -> Option<(usize, bool)> {
+    match step {
+        Step::Finish { root, .. } => Some((*root, false)),
+        Step::FinishSized { root, .. } => Some((*root, true)),
+        _ => None,
+    }
+}
+
 // Whether a replay with these caches gives the same bytes and places, of which each root is read
 // back as the steps say it.
 fn gives(alloc: Global, caches: Caches, steps: &[Step], want: &[Finished]) -> Result<bool, Fail> {
     let got = replay(alloc, caches, steps)?;
     let mut finishes = got.iter().zip(want.iter());
     for step in steps {
-        if let Step::Finish { root, .. } = step {
+        if let Some((root, sized)) = root_of(step) {
             match finishes.next() {
                 Some((got, want))
                     if got.bytes.as_slice() == want.bytes.as_slice()
                         && got.places.as_slice() == want.places.as_slice()
-                        && reads_back(alloc, steps, *root, got)? => {}
+                        && reads_back(alloc, steps, root, sized, got)? => {}
                 _ => return Ok(false),
             }
         }

@@ -225,6 +225,38 @@ const ROWS: &[(&str, &str, bool)] = &[
         false,
     ),
     ("table 0=u8:1:2\n", "line 1: bad number\n", false),
+    (
+        "text Axe\nsized 0\n",
+        "0c 00 00 00 04 00 00 00 03 00 00 00 41 78 65 00\n",
+        true,
+    ),
+    (
+        "text Axe\nsized 0 TEST\n",
+        "10 00 00 00 08 00 00 00 54 45 53 54 03 00 00 00 41 78 65 00\n",
+        true,
+    ),
+    (
+        "text Hi\nu64 1\nsized 1\n",
+        "1b 00 00 00 08 00 00 00 00 00 00 00 01 00 00 00 01 00 00 00 00 00 00 00 \
+        02 00 00 00 48 69 00\n",
+        true,
+    ),
+    (
+        "text Axe\nsized 0\nfinish 0\n",
+        "0c 00 00 00 04 00 00 00 03 00 00 00 41 78 65 00\n\
+        0c 00 00 00 0c 00 00 00 04 00 00 00 03 00 00 00 41 78 65 00\n",
+        true,
+    ),
+    ("text A\nsized\n", "line 2: unknown command\n", false),
+    (
+        "text A\nsized 0 TEST more\n",
+        "line 2: unknown command\n",
+        false,
+    ),
+    ("text A\nsized x TES\n", "line 2: bad number\n", false),
+    ("text A\nsized 0 TES\n", "line 2: bad identifier\n", false),
+    ("text A\nsized 1\n", "line 2: no such step\n", false),
+    ("text A\nsized 0\nrefs 1\n", "line 3: wrong kind\n", false),
 ];
 
 #[test]

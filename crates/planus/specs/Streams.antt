@@ -1,0 +1,38 @@
+-- What is read of finishes with the size in front, one behind another.
+use Rattle.std.specs.Prelude.{◌≡◌, List, ◌++◌, drop, map, ℕ}
+use Rattle.std.specs.List.{AllByRecursion, concat}
+use Rattle.planus_read.specs.ReadingLaws.{IsAnswered}
+use Rattle.planus_read.specs.SizePrefixed.{prefixed_reading, StreamReads}
+use Rattle.planus_write.specs.Shared.{Switches}
+use Rattle.planus.specs.Steps.{Step, size_first}
+use Rattle.planus.specs.Runs.{Finish}
+use Rattle.planus.specs.Headline.{FinishHolds, SizedHolds}
+
+-- Over the bytes of a finish with the size in front, and whatever is behind them, its bytes behind
+-- the size are answered, and the rest. In that piece the reference at its front leads to the root,
+-- the identifier stands behind that, and every value stands, and reads back.
+abbrev pub SizedFinishesAreRead : Type 0
+SizedFinishesAreRead =
+    (switches : Switches) (steps : List Step) (given : Finish)
+    → (holds : FinishHolds switches steps given) → holds.front ≡ size_first → (rest : List ℕ)
+    → IsAnswered (prefixed_reading (given.bytes ++ rest))
+    (record { content = drop 4 given.bytes; rest = rest })
+    × SizedHolds steps holds.root holds.identifier given
+
+-- this is given by a finish of some run, with the size in front
+pub record IsGivenSized (given : Finish) : Type 0 where
+  pub switches : Switches
+  pub steps : List Step
+  pub holds : FinishHolds switches steps given
+  pub sized : holds.front ≡ size_first
+
+-- the bytes of some finishes
+abbrev pub bytes_given : List Finish → List (List ℕ)
+bytes_given finishes = map (λ given. given.bytes) finishes
+
+-- Such finishes, of one run or of several, put behind one another, are read one by one, each with
+-- exactly its bytes, whatever is behind the last of them.
+abbrev pub SizedStreamsAreRead : Type 0
+SizedStreamsAreRead =
+    (finishes : List Finish) (left : List ℕ) → AllByRecursion IsGivenSized finishes
+    → StreamReads (concat (bytes_given finishes) ++ left) (bytes_given finishes) left

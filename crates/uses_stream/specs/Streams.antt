@@ -1,0 +1,39 @@
+-- Streams of buffers with their sizes in front, one behind another.
+use Rattle.std.specs.Prelude.{◌≡◌, ℕ, ◌<◌, List, [], ◌∷◌, ◌++◌, length, map, Option, Some, None}
+use Rattle.planus_read.specs.declared.errors.ErrorKind.{ErrorKind}
+use Rattle.planus_read.specs.Clauses.{FirstBroken}
+use Rattle.planus_read.specs.Pieces.{slice_bytes}
+use Rattle.planus_read.specs.SizePrefixed.{PrefixedThere, IsPrefixed, prefixed_clauses}
+use Rattle.planus_write.specs.declared.offset.Text.{Text}
+use Rattle.planus_write.specs.State.{State}
+use Rattle.planus_write.specs.Preparing.{WritesText}
+use Rattle.planus_write.specs.Finishing.{SizedFinishGives}
+use Rattle.uses_stream.specs.declared.stream.Records.{Records}
+
+-- What an empty builder gives for a finish of this text with the size in front was put behind a
+-- stream.
+pub record IsAppended (text old new : List ℕ) : Type 0 where
+  pub builder : State
+  pub empty : builder.bytes ≡ []
+  pub buffer : List ℕ
+  pub given : SizedFinishGives {T = Text} (WritesText text) None builder buffer
+  pub size : IsPrefixed buffer
+  pub behind : new ≡ old ++ buffer
+
+-- The stream begins with buffers that have these contents behind their sizes, in order, and then
+-- the rest is left.
+abbrev pub BeginsWith : List ℕ → List (List ℕ) → List ℕ → Type 0
+BeginsWith stream [] rest = stream ≡ rest
+BeginsWith stream (content ∷ contents) rest =
+    (next : List ℕ) × PrefixedThere stream content next × BeginsWith next contents rest
+
+-- Why no more is read: nothing is left; or what is left can't be read, for this reason.
+abbrev pub EndsFor : Option ErrorKind → List ℕ → Type 0
+EndsFor None rest = rest ≡ []
+EndsFor (Some error) rest = (0 < length rest) × FirstBroken (prefixed_clauses rest) error
+
+-- All buffers of the stream are read, up to its end or to the first that can't be read.
+pub record ReadsAll (stream : List ℕ) (records : Records) : Type 0 where
+  pub rest : List ℕ
+  pub begins : BeginsWith stream (map slice_bytes records.pieces.items) rest
+  pub ends : EndsFor records.fault rest
