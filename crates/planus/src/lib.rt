@@ -30,7 +30,7 @@ pub use planus_read::{
 };
 pub use planus_tables::{
     FieldAt, Fields, HasContent, HasDefaultContent, HasListContent, HasUnionContent,
-    HasUnionListContent, OrDefault, PreparedBody, PreparedFields, TableItem, TableKind, TableRef,
+    HasUnionListContent, LastAt, OrDefault, PreparedBody, PreparedFields, TableItem, TableKind, TableRef,
     TableScalar, TagsField, UnionAt, UnionListAt, ValuesField, create_table, fields,
 };
 pub use planus_unions::{AsRead, ItemError, UnionVector, union_vectors};

@@ -1,2 +1,4 @@
 pub mod FieldLists
 pub mod RuledTables
+pub mod ReadBack
+pub mod ReadKinds

@@ -7,7 +7,7 @@ use Rattle.planus_read.specs.Values.{Field, table, field_at, slot_count}
 use Rattle.planus_read.specs.Aligned.{field_alignment}
 use Rattle.planus_write.specs.Kept.{IsKept}
 use Rattle.planus_write.specs.Past.{Past}
-use Rattle.planus_write.specs.Placing.{Outcome}
+use Rattle.planus_write.specs.Placing.{Outcome, then_does}
 use Rattle.planus_write.specs.Preparing.{WritesEntries}
 use Rattle.planus_write.specs.Parts.{entries_of}
 use Rattle.planus_write.specs.State.{State}
@@ -18,9 +18,9 @@ use Rattle.planus_write.specs.declared.offset.Offset.{Offset}
 use Rattle.planus_write.proofs.PutEntries.{entries_put}
 use Rattle.planus_write.proofs.Standing.{values_are_kept}
 use Rattle.planus_write.proofs.Staying.{kept_stays}
-use Rattle.planus_tables.specs.TableFields.{IsUnused}
+use Rattle.planus_tables.specs.TableFields.{IsUnused, all_of}
 use Rattle.planus_tables.specs.TableRules.{is_apart, has_slots, is_falling, can_hold, Among}
-use Rattle.planus_tables.specs.Preparing.{CreatesTable}
+use Rattle.planus_tables.specs.Preparing.{AnswersFields, WritesFields}
 use Rattle.planus_write.specs.Laws.{extends_on}
 use Rattle.planus_tables.specs.Contents.{Content, FieldsAre, there_of, Comes, StillKept, TableIsKept, named_at}
 use Rattle.planus_tables.specs.ContentLaws.{fields_stay}
@@ -302,22 +302,30 @@ slots_counted : (fields : List (ℕ × Field)) → slots_used (declared_of field
 slots_counted [] = refl
 slots_counted (entry ∷ fields) = ap (max (entry.0 + 1)) (slots_counted fields)
 
-module _ {A T : Type 0} (prepare : Outcome A) (there : A → List (ℕ × Field)) (old between : State)
-    (prepared : A) (done : prepare old (Ok prepared) between) where
+-- The fields are prepared in turn, and then their table is written, or refused.
+module _ {T : Type 0} (in_turn : Outcome (List (List (ℕ × Field)))) (there last : List (ℕ × Field))
+    (old between : State)
+    (turns : (all : List (List (ℕ × Field))) × in_turn old (Ok all) between × (all_of all ≡ there ++ last)) where
+  as_prepared : (answer : Result (Offset T) BuildError) (new : State)
+      → AnswersFields (there ++ last) between answer new → WritesFields turns.0 between answer new
+  as_prepared answer new done =
+      subst (λ fields. AnswersFields fields between answer new) (sym turns.2) done
+
   pub table_created : (unit : Unit {0}) (offset : Offset T) (new : State)
-      → WritesTable (declared_of (there prepared)) (λ place. body_bytes place (there prepared)) between
+      → WritesTable (declared_of (there ++ last)) (λ place. body_bytes place (there ++ last)) between
       (Ok unit) new
-      → offset.distance ≡ length new.bytes → CreatesTable prepare there old (Ok offset) new
-  table_created unit offset new written at = (prepared, between, done, (written, at))
+      → offset.distance ≡ length new.bytes → then_does in_turn WritesFields old (Ok offset) new
+  table_created unit offset new written at =
+      (turns.0, between, turns.1, as_prepared (Ok offset) new (written, at))
 
   pub table_refused : (error : BuildError) (answer : Result (Offset T) BuildError) (new : State)
       → answer ≡ Err error
-      → WritesTable (declared_of (there prepared)) (λ place. body_bytes place (there prepared)) between
+      → WritesTable (declared_of (there ++ last)) (λ place. body_bytes place (there ++ last)) between
       (Err error) new
-      → CreatesTable prepare there old answer new
+      → then_does in_turn WritesFields old answer new
   table_refused error answer new same written =
-      subst (λ answer. CreatesTable prepare there old answer new) (sym same)
-      (inr (prepared, between, done, written))
+      subst (λ answer. then_does in_turn WritesFields old answer new) (sym same)
+      (inr (turns.0, between, turns.1, as_prepared (Err error) new written))
 
 -- A table whose fields are prepared is kept once it is written.
 pub contents_kept : {T : Type 0} (n : ℕ) (all : List Declared) (fields : List (ℕ × Field))
@@ -363,7 +371,7 @@ contents_kept n all fields contents between rules among stand unit offset new wr
 
 -- so is one whose fields are those of two lists
 pub fields_kept : {T : Type 0} (n : ℕ) (all others : List Declared) (fields tags : List (ℕ × Field))
-    (contents tag_contents : List (ℕ × Option Content)) (between : State) → Holds n (all ++ others)
+    (contents last_contents : List (ℕ × Option Content)) (between : State) → Holds n (all ++ others)
     → Among (declared_of fields) all → Among (declared_of tags) others
     → AllByRecursion (λ entry. IsField (length between.bytes) entry.1) fields
     → AllByRecursion (λ entry. IsField (length between.bytes) entry.1) tags
@@ -372,14 +380,14 @@ pub fields_kept : {T : Type 0} (n : ℕ) (all others : List Declared) (fields ta
     (Ok unit) new
     → offset.distance ≡ length new.bytes → (past : Past)
     → Comes past between
-    (λ after. FieldsAre after (there_of contents) fields × FieldsAre after (there_of tag_contents) tags)
+    (λ after. FieldsAre after (there_of contents) fields × FieldsAre after (there_of last_contents) tags)
     → Comes past new
-    (λ after. StillKept past after × TableIsKept after (contents ++ tag_contents) offset.distance)
-fields_kept n all others fields tags contents tag_contents between rules among tags_among stand
+    (λ after. StillKept past after × TableIsKept after (contents ++ last_contents) offset.distance)
+fields_kept n all others fields tags contents last_contents between rules among tags_among stand
     tags_stand unit offset new written at past prepared =
-    contents_kept n (all ++ others) (fields ++ tags) (contents ++ tag_contents) between rules
+    contents_kept n (all ++ others) (fields ++ tags) (contents ++ last_contents) between rules
     (subst (λ some. Among some (all ++ others)) (sym (entries_append fields tags))
     (among_both (declared_of fields) (declared_of tags) all others among tags_among))
     (stand_both (length between.bytes) fields tags stand tags_stand)
     unit offset new written at past
-    (prepared.0, prepared.1, prepared.2, contents_both prepared.0 contents tag_contents fields tags prepared.3.0 prepared.3.1)
+    (prepared.0, prepared.1, prepared.2, contents_both prepared.0 contents last_contents fields tags prepared.3.0 prepared.3.1)

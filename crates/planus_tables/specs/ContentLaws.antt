@@ -114,20 +114,20 @@ pub both_prepared : {X Y Z A B C : Type 0} {may_first : X → State → Type 0}
     {first : X → Outcome (Option A)} {first_reach : Option A → ℕ} {may_rest : Y → State → Type 0}
     {rest : Y → Outcome B} (slot : ℕ) (x_of : Z → X) (y_of : Z → Y) (of_first : C → Option A)
     (of_rest : C → B) (content : X → Option Content) (field : A → Field)
-    (contents tag_contents : Y → List (ℕ × Option Content)) (there tags_there : B → List (ℕ × Field))
+    (contents last_contents : Y → List (ℕ × Option Content)) (there last_there : B → List (ℕ × Field))
     → IsLawful may_first first first_reach
     → ((y : Y) (old new : State) → Grows old new → may_rest y old → may_rest y new)
     → PreparesOptional may_first first content field
-    → PreparesContents may_rest rest contents tag_contents there tags_there
+    → PreparesContents may_rest rest contents last_contents there last_there
     → PreparesContents {X = Z} (λ fields old. may_first (x_of fields) old × may_rest (y_of fields) old)
     (λ fields old answer new.
     PreparesBoth (λ a prepared. of_first prepared ≡ a) of_rest (first (x_of fields))
     (rest (y_of fields)) old answer new)
     (λ fields. (slot, content (x_of fields)) ∷ contents (y_of fields))
-    (λ fields. tag_contents (y_of fields))
+    (λ fields. last_contents (y_of fields))
     (λ prepared. field_in slot field (of_first prepared) ++ there (of_rest prepared))
-    (λ prepared. tags_there (of_rest prepared))
-both_prepared slot x_of y_of of_first of_rest content field contents tag_contents there tags_there
+    (λ prepared. last_there (of_rest prepared))
+both_prepared slot x_of y_of of_first of_rest content field contents last_contents there last_there
     firsts stays one others =
     record {
       comes = λ fields old prepared new past may done is_past.
@@ -146,6 +146,47 @@ both_prepared slot x_of y_of of_first of_rest content field contents tag_content
                   (holds_stays near.0 far.0 (content (x_of fields)) field (of_first prepared) far.2 holds)
                   far.3.0,
               far.3.1,
+            ),
+          ));
+    }
+
+-- the same of one that comes last
+pub last_prepared : {X Y Z A B C : Type 0} {may_first : X → State → Type 0}
+    {first : X → Outcome (Option A)} {first_reach : Option A → ℕ} {may_rest : Y → State → Type 0}
+    {rest : Y → Outcome B} (slot : ℕ) (x_of : Z → X) (y_of : Z → Y) (of_first : C → Option A)
+    (of_rest : C → B) (content : X → Option Content) (field : A → Field)
+    (contents last_contents : Y → List (ℕ × Option Content)) (there last_there : B → List (ℕ × Field))
+    → IsLawful may_first first first_reach
+    → ((y : Y) (old new : State) → Grows old new → may_rest y old → may_rest y new)
+    → PreparesOptional may_first first content field
+    → PreparesContents may_rest rest contents last_contents there last_there
+    → PreparesContents {X = Z} (λ fields old. may_first (x_of fields) old × may_rest (y_of fields) old)
+    (λ fields old answer new.
+    PreparesBoth (λ a prepared. of_first prepared ≡ a) of_rest (first (x_of fields))
+    (rest (y_of fields)) old answer new)
+    (λ fields. contents (y_of fields))
+    (λ fields. (slot, content (x_of fields)) ∷ last_contents (y_of fields))
+    (λ prepared. there (of_rest prepared))
+    (λ prepared. field_in slot field (of_first prepared) ++ last_there (of_rest prepared))
+last_prepared slot x_of y_of of_first of_rest content field contents last_contents there last_there
+    firsts stays one others =
+    record {
+      comes = λ fields old prepared new past may done is_past.
+          (let between = done.1 in
+          let grown = firsts.grows (x_of fields) old (Ok done.0) between may.0 done.3 in
+          let near = one.comes (x_of fields) old done.0 between past may.0 done.3 is_past in
+          let far = others.comes (y_of fields) between (of_rest prepared) new near.0
+          (stays (y_of fields) old between grown may.1) done.4 near.1 in
+          let holds = subst (λ first. HoldsIf near.0 (content (x_of fields)) field first) (sym done.2) near.3 in (
+            far.0,
+            far.1,
+            extends_on past near.0 far.0 near.2 far.2,
+            (
+              far.3.0,
+              one_more far.0 slot (content (x_of fields)) field (of_first prepared)
+                  (there_of (last_contents (y_of fields))) (last_there (of_rest prepared))
+                  (holds_stays near.0 far.0 (content (x_of fields)) field (of_first prepared) far.2 holds)
+                  far.3.1,
             ),
           ));
     }

@@ -181,13 +181,13 @@ tag_content (Some content) =
 
 -- Once fields are prepared, they hold their contents, and so do the tags of unions.
 pub record PreparesContents {X A : Type 0} (may : X → State → Type 0) (outcome : X → Outcome A)
-    (contents tag_contents : X → List (ℕ × Option Content))
-    (there tags_there : A → List (ℕ × Field)) : Type 0 where
+    (contents last_contents : X → List (ℕ × Option Content))
+    (there last_there : A → List (ℕ × Field)) : Type 0 where
   pub comes :
       (x : X) (old : State) (prepared : A) (new : State) (past : Past) → may x old
       → outcome x old (Ok prepared) new → IsPast old past
       → Comes past new (λ after. FieldsAre after (there_of (contents x)) (there prepared)
-      × FieldsAre after (there_of (tag_contents x)) (tags_there prepared))
+      × FieldsAre after (there_of (last_contents x)) (last_there prepared))
 
 -- nothing where the value is the default, else this
 abbrev pub unless : {A : Type 0} → Bool → Option A → Option A

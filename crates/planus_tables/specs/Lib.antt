@@ -8,3 +8,5 @@ pub mod ListContents
 pub mod UnionContents
 pub mod Holds
 pub mod Views
+pub mod ReadBack
+pub mod ReadKinds

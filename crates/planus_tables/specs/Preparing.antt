@@ -1,10 +1,12 @@
 -- How the fields of a list are prepared, and their table is written.
-use Rattle.std.specs.Prelude.{◌≡◌, ℕ, List, Ok, Err, ◌⊎◌}
+use Rattle.std.specs.Prelude.{◌≡◌, ℕ, List, ◌++◌, Result, Ok, Err, ◌⊎◌}
 use Rattle.planus_read.specs.Values.{Field}
-use Rattle.planus_write.specs.Placing.{Outcome, then_does}
+use Rattle.planus_write.specs.Placing.{Outcome}
+use Rattle.planus_tables.specs.TableFields.{all_of}
 use Rattle.planus_write.specs.State.{State}
 use Rattle.planus_write.specs.Tables.{body_bytes, declared_of}
 use Rattle.planus_write.specs.TableWriting.{AnswersTable}
+use Rattle.planus_write.specs.declared.errors.BuildError.{BuildError}
 use Rattle.planus_write.specs.declared.offset.Offset.{Offset}
 
 -- nothing is prepared
@@ -23,11 +25,23 @@ PreparesBoth {A} {B} {C} IsPart of_rest first rest old (Err error) new =
     first old (Err error) new
     ⊎ ((a : A) × (between : State) × first old (Ok a) between × rest between (Err error) new)
 
+-- Fields are prepared in turn, behind those that were before; the first that is refused ends it. What
+-- is answered are the fields, one by one, each there or not: all, and then those that come last.
+pub record ComesInTurn {X A : Type 0} (outcome : X → Outcome A) (there last : A → List (ℕ × Field))
+    (in_turn : X → (ts ls : List (List (ℕ × Field))) → Outcome (List (List (ℕ × Field)))) : Type 0 where
+  pub goes_on :
+      (x : X) (ts ls : List (List (ℕ × Field))) (old : State) (prepared : A) (new : State)
+      → outcome x old (Ok prepared) new
+      → (all : List (List (ℕ × Field))) × in_turn x ts ls old (Ok all) new
+      × (all_of all ≡ (all_of ts ++ there prepared) ++ (all_of ls ++ last prepared))
+  pub ends :
+      (x : X) (ts ls : List (List (ℕ × Field))) (old : State) (error : BuildError) (new : State)
+      → outcome x old (Err error) new → in_turn x ts ls old (Err error) new
+
 -- The table of these fields was written, and its distance is answered; or it was refused.
 abbrev pub AnswersFields : {T : Type 0} → List (ℕ × Field) → Outcome (Offset T)
 AnswersFields fields = AnswersTable (declared_of fields) (λ place. body_bytes place fields)
 
--- The fields were prepared, and then the table of those that are there was written; or one of these
--- was refused.
-abbrev pub CreatesTable : {A T : Type 0} → Outcome A → (A → List (ℕ × Field)) → Outcome (Offset T)
-CreatesTable prepare there = then_does prepare (λ prepared. AnswersFields (there prepared))
+-- The same of fields, one by one, each there or not.
+abbrev pub WritesFields : {T : Type 0} → List (List (ℕ × Field)) → Outcome (Offset T)
+WritesFields fields = AnswersFields (all_of fields)

@@ -4,12 +4,12 @@ use Rattle.std.specs.Int.{◌∣◌}
 use Rattle.std.specs.List.{AllByRecursion}
 use Rattle.std.specs.Option.{option_map}
 use Rattle.std.proofs.lemmas.List.{length-replicate}
-use Rattle.std.proofs.Common.{refl, subst, sym, ap, ◌∙◌, arith, inl, inr}
+use Rattle.std.proofs.Common.{refl, subst, sym, ap, ◌∙◌, append_assoc, append-nil, arith, inl, inr}
 use Rattle.planus_read.specs.Values.{Field, plain, reference, tags as tags_field, values as values_field}
 use Rattle.planus_write.specs.Items.{Item, plain_item, reference_item}
 use Rattle.planus_write.specs.Laws.{grows_on, reached_still, unchanged_grows}
-use Rattle.planus_write.specs.Placing.{Outcome}
-use Rattle.planus_write.specs.Preparing.{IsLawful, IsLayout}
+use Rattle.planus_write.specs.Placing.{Outcome, then_does}
+use Rattle.planus_write.specs.Preparing.{Answers, IsLawful, IsLayout}
 use Rattle.planus_write.specs.State.{State, Grows}
 use Rattle.planus_read.specs.Aligned.{field_alignment}
 use Rattle.planus_write.specs.Tables.{IsField, Declared, declared_of, field_size}
@@ -19,9 +19,9 @@ use Rattle.planus_write.specs.declared.offset.Offset.{Offset}
 use Rattle.planus_write.specs.declared.union_offset.UnionOffset.{UnionOffset}
 use Rattle.planus_write.specs.declared.union_vector_offset.UnionVectorOffset.{UnionVectorOffset}
 use Rattle.planus_fields.specs.Fields.{reach_if}
-use Rattle.planus_tables.specs.TableFields.{IsItem, field_in}
+use Rattle.planus_tables.specs.TableFields.{IsItem, all_of, field_in}
 use Rattle.planus_tables.specs.TableRules.{Among}
-use Rattle.planus_tables.specs.Preparing.{PreparesBoth, PreparesNone}
+use Rattle.planus_tables.specs.Preparing.{ComesInTurn, PreparesBoth, PreparesNone}
 
 -- bytes that are as many as the size
 pub plain_is_item : (size alignment : ℕ) (bytes : List ℕ) → length bytes ≡ size
@@ -183,11 +183,130 @@ both_is_lawful {X} {Y} {Z} {A} {B} {C} {may_first} {first} {first_reach} {may_re
         let parts = reached done.0 prepared done.2 in
         omega (arith, near, last, parts)
 
+-- a field behind the others
+abbrev push : List (List (ℕ × Field)) → List (ℕ × Field) → List (List (ℕ × Field))
+push ts field = ts ++ field ∷ []
+
+all_append : (ts ls : List (List (ℕ × Field))) → all_of (ts ++ ls) ≡ all_of ts ++ all_of ls
+all_append [] ls = refl
+all_append (t ∷ ts) ls =
+    ap (λ rest. t ++ rest) (all_append ts ls) ∙ sym (append_assoc t (all_of ts) (all_of ls))
+
+pushed : (ts : List (List (ℕ × Field))) (field others : List (ℕ × Field))
+    → all_of (push ts field) ++ others ≡ all_of ts ++ (field ++ others)
+pushed ts field others =
+    ap (λ all. all ++ others) (all_append ts (field ∷ []) ∙ ap (λ last. all_of ts ++ last) (append-nil field))
+    ∙ append_assoc (all_of ts) field others
+
+-- nothing is prepared in turn
+pub none_comes_in_turn : {X A : Type 0}
+    → ComesInTurn {X = X} {A = A} (λ x old answer new. PreparesNone old answer new) (λ prepared. [])
+    (λ prepared. []) (λ x ts ls old answer new. Answers (ts ++ ls) old answer new)
+none_comes_in_turn {X} {A} = record { goes_on = goes_on; ends = ends }
+  where
+    goes_on : (x : X) (ts ls : List (List (ℕ × Field))) (old : State) (prepared : A) (new : State)
+        → new ≡ old
+        → (all : List (List (ℕ × Field))) × Answers (ts ++ ls) old (Ok all) new
+        × (all_of all ≡ (all_of ts ++ []) ++ (all_of ls ++ []))
+    goes_on x ts ls old prepared new same =
+        let none_more : (all_of ts ++ []) ++ (all_of ls ++ []) ≡ all_of ts ++ all_of ls
+        = ap (λ fields. fields ++ (all_of ls ++ [])) (append-nil (all_of ts))
+        ∙ ap (λ fields. all_of ts ++ fields) (append-nil (all_of ls)) in
+        (ts ++ ls, (refl, same), all_append ts ls ∙ sym none_more)
+
+    ends : (x : X) (ts ls : List (List (ℕ × Field))) (old : State) (error : BuildError)
+        (new : State) → ⊥ → Answers (ts ++ ls) old (Err error) new
+    ends x ts ls old error new done = absurd done
+
+-- one field is prepared, and then the others in turn
+abbrev pub one_and_others : {X Y Z A : Type 0} → (X → Outcome A) → (Z → X) → (Z → Y)
+    → (add add_last : A → List (List (ℕ × Field)) → List (List (ℕ × Field)))
+    → (Y → (ts ls : List (List (ℕ × Field))) → Outcome (List (List (ℕ × Field))))
+    → Z → (ts ls : List (List (ℕ × Field))) → Outcome (List (List (ℕ × Field)))
+one_and_others first x_of y_of add add_last rest_in_turn fields ts ls =
+    then_does (first (x_of fields)) (λ a. rest_in_turn (y_of fields) (add a ts) (add_last a ls))
+
+pub both_come_in_turn : {X Y Z A B C : Type 0} (first : X → Outcome A) (rest : Y → Outcome B)
+    {rest_there rest_last : B → List (ℕ × Field)}
+    {rest_in_turn : Y → (ts ls : List (List (ℕ × Field))) → Outcome (List (List (ℕ × Field)))}
+    {there last : C → List (ℕ × Field)} (x_of : Z → X) (y_of : Z → Y) (IsPart : A → C → Type 0)
+    (of_rest : C → B) (add add_last : A → List (List (ℕ × Field)) → List (List (ℕ × Field)))
+    → ((a : A) (c : C) → IsPart a c → (ts : List (List (ℕ × Field)))
+    → all_of (add a ts) ++ rest_there (of_rest c) ≡ all_of ts ++ there c)
+    → ((a : A) (c : C) → IsPart a c → (ls : List (List (ℕ × Field)))
+    → all_of (add_last a ls) ++ rest_last (of_rest c) ≡ all_of ls ++ last c)
+    → ComesInTurn rest rest_there rest_last rest_in_turn
+    → ComesInTurn {X = Z}
+    (λ fields old answer new. PreparesBoth IsPart of_rest (first (x_of fields)) (rest (y_of fields)) old answer new)
+    there last
+    (λ fields ts ls old answer new.
+    one_and_others first x_of y_of add add_last rest_in_turn fields ts ls old answer new)
+both_come_in_turn {X} {Y} {Z} {A} {B} {C} first rest {rest_there} {rest_last} {rest_in_turn} {there} {last}
+    x_of y_of IsPart of_rest add add_last is is_last others =
+    record { goes_on = goes_on; ends = ends }
+  where
+    goes_on : (fields : Z) (ts ls : List (List (ℕ × Field))) (old : State) (prepared : C) (new : State)
+        → PreparesBoth IsPart of_rest (first (x_of fields)) (rest (y_of fields)) old (Ok prepared) new
+        → (all : List (List (ℕ × Field)))
+        × one_and_others first x_of y_of add add_last rest_in_turn fields ts ls old (Ok all) new
+        × (all_of all ≡ (all_of ts ++ there prepared) ++ (all_of ls ++ last prepared))
+    goes_on fields ts ls old prepared new done =
+        let a = done.0 in
+        let far = others.goes_on (y_of fields) (add a ts) (add_last a ls) done.1 (of_rest prepared) new done.4 in
+        let same = is a prepared done.2 ts in
+        let same_last = is_last a prepared done.2 ls in (
+          far.0,
+          (a, done.1, done.3, far.1),
+          far.2
+              ∙ ap (λ fields. fields ++ (all_of (add_last a ls) ++ rest_last (of_rest prepared))) same
+              ∙ ap (λ fields. (all_of ts ++ there prepared) ++ fields) same_last,
+        )
+
+    ends : (fields : Z) (ts ls : List (List (ℕ × Field))) (old : State) (error : BuildError) (new : State)
+        → PreparesBoth IsPart of_rest (first (x_of fields)) (rest (y_of fields)) old (Err error) new
+        → one_and_others first x_of y_of add add_last rest_in_turn fields ts ls old (Err error) new
+    ends fields ts ls old error new (inl refused) = inl refused
+    ends fields ts ls old error new (inr done) =
+        inr (
+          done.0,
+          done.1,
+          done.2,
+          others.ends (y_of fields) (add done.0 ts) (add_last done.0 ls) done.1 error new done.3,
+        )
+
+-- a field that was prepared as it is, and one that is made of what was prepared
+pub one_is_put : {A : Type 0} (field_of : Option A → List (ℕ × Field)) {value prepared : Option A}
+    → prepared ≡ value → (others : List (ℕ × Field)) (ts : List (List (ℕ × Field)))
+    → all_of (push ts (field_of value)) ++ others ≡ all_of ts ++ (field_of prepared ++ others)
+one_is_put field_of {value} {prepared} same others ts =
+    pushed ts (field_of value) others
+    ∙ ap (λ one. all_of ts ++ (field_of one ++ others)) (sym same)
+
+pub mapped_is_put : {A B : Type 0} (slot : ℕ) (of : A → B) (field : B → Field) (field_of : A → Field)
+    → ((a : A) → field (of a) ≡ field_of a) → (from : Option A) {prepared : Option B}
+    → prepared ≡ option_map of from → (others : List (ℕ × Field)) (ts : List (List (ℕ × Field)))
+    → all_of (push ts (field_in slot field_of from)) ++ others
+    ≡ all_of ts ++ (field_in slot field prepared ++ others)
+mapped_is_put {A} {B} slot of field field_of is from {prepared} same others ts =
+    pushed ts (field_in slot field_of from) others
+    ∙ ap (λ one. all_of ts ++ (one ++ others)) (sym (mapped from))
+    ∙ ap (λ one. all_of ts ++ (field_in slot field one ++ others)) (sym same)
+  where
+    mapped : (from : Option A) → field_in slot field (option_map of from) ≡ field_in slot field_of from
+    mapped None = refl
+    mapped (Some a) = ap (λ (field : Field). (slot, field) ∷ []) (is a)
+
 -- how far one field and the others refer
 pub field_reach : {A : Type 0} (reach : A → ℕ) (first value : Option A) (fields tags : ℕ)
     → value ≡ first
     → max (max (reach_if reach value) fields) tags ≤ max (reach_if reach first) (max fields tags)
 field_reach reach first value fields tags same =
+    let e = ap (reach_if reach) same in omega (arith, e)
+
+pub last_reach : {A : Type 0} (reach : A → ℕ) (first value : Option A) (fields last : ℕ)
+    → value ≡ first
+    → max fields (max (reach_if reach value) last) ≤ max (reach_if reach first) (max fields last)
+last_reach reach first value fields last same =
     let e = ap (reach_if reach) same in omega (arith, e)
 
 -- how far a union and the others do

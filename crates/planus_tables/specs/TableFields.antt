@@ -1,11 +1,15 @@
 -- The fields of a table that are there, in the order in which they are declared and written.
-use Rattle.std.specs.Prelude.{◌≡◌, ℕ, ◌≤◌, List, [], ◌∷◌, Option, Some, None}
+use Rattle.std.specs.Prelude.{◌≡◌, ℕ, ◌≤◌, List, [], ◌∷◌, ◌++◌, Option, Some, None}
 use Rattle.planus_read.specs.Bytes.{BytesStand}
-use Rattle.planus_read.specs.Values.{Field}
+use Rattle.planus_read.specs.Values.{Field, plain, reference, tags, values}
+use Rattle.std.specs.Int.{w8, to_le_bytes}
 use Rattle.planus_read.specs.Aligned.{field_alignment}
 use Rattle.planus_write.specs.Items.{Item}
 use Rattle.planus_write.specs.Tables.{IsField, field_item, field_size}
 use Rattle.planus_write.specs.TableWriting.{Writer, slot_position}
+use Rattle.planus_write.specs.Unions.{union_reach}
+use Rattle.planus_write.specs.declared.union_offset.UnionOffset.{UnionOffset}
+use Rattle.planus_write.specs.declared.union_vector_offset.UnionVectorOffset.{UnionVectorOffset}
 
 -- What is written in a table with this size, alignment, bytes and reach is this field of the format.
 pub record IsItem (size alignment : ℕ) (leaves : Item) (reach : ℕ) (field : Field) : Type 0 where
@@ -18,6 +22,29 @@ pub record IsItem (size alignment : ℕ) (leaves : Item) (reach : ℕ) (field : 
 abbrev pub field_in : {A : Type 0} → ℕ → (A → Field) → Option A → List (ℕ × Field)
 field_in slot field None = []
 field_in slot field (Some prepared) = (slot, field prepared) ∷ []
+
+-- fields one by one, each there or not, as one list
+abbrev pub all_of : List (List (ℕ × Field)) → List (ℕ × Field)
+all_of [] = []
+all_of (fields ∷ others) = fields ++ all_of others
+
+-- the field of a tag
+abbrev pub tag_field : ℕ → Field
+tag_field tag = plain (record { bytes = to_le_bytes w8 tag; alignment = 1 })
+
+-- the fields of a union, if it is there: the reference to its value, and its tag
+abbrev pub union_value_in : {T : Type 0} → ℕ → Option (UnionOffset T) → List (ℕ × Field)
+union_value_in slot union = field_in slot (λ union. reference (union_reach union)) union
+
+abbrev pub union_tag_in : {T : Type 0} → ℕ → Option (UnionOffset T) → List (ℕ × Field)
+union_tag_in slot union = field_in slot (λ union. tag_field union.tag) union
+
+-- the fields of a list of unions, if it is there: the references to its tags and to its values
+abbrev pub list_tags_in : {T : Type 0} → ℕ → Option (UnionVectorOffset T) → List (ℕ × Field)
+list_tags_in slot vector = field_in slot (λ vector. tags vector.tags.distance) vector
+
+abbrev pub list_values_in : {T : Type 0} → ℕ → Option (UnionVectorOffset T) → List (ℕ × Field)
+list_values_in slot vector = field_in slot (λ vector. values vector.values.distance) vector
 
 -- the size of a field, 0 if it isn't there
 abbrev pub size_if : {A : Type 0} → ℕ → Option A → ℕ

@@ -61,11 +61,11 @@ pub union_and_others_prepared : {T U X Y Z B C : Type 0} {may_first : X → Stat
     → ((union : UnionOffset T) → (offset_of union).distance ≡ union_reach union)
     → (value_of : C → Option (Offset U)) (tag_of : C → Option ℕ) (of_rest : C → B)
     (content : X → Option (ℕ × Content))
-    (contents tag_contents : Y → List (ℕ × Option Content)) (there tags_there : B → List (ℕ × Field))
+    (contents last_contents : Y → List (ℕ × Option Content)) (there last_there : B → List (ℕ × Field))
     → IsLawful may_first first (reach_if union_reach)
     → ((y : Y) (old new : State) → Grows old new → may_rest y old → may_rest y new)
     → PreparesUnion may_first first content
-    → PreparesContents may_rest rest contents tag_contents there tags_there
+    → PreparesContents may_rest rest contents last_contents there last_there
     → PreparesContents {X = Z} (λ fields old. may_first (x_of fields) old × may_rest (y_of fields) old)
     (λ fields old answer new.
     PreparesBoth
@@ -73,13 +73,13 @@ pub union_and_others_prepared : {T U X Y Z B C : Type 0} {may_first : X → Stat
     × (tag_of prepared ≡ option_map (λ union. union.tag) union))
     of_rest (first (x_of fields)) (rest (y_of fields)) old answer new)
     (λ fields. (value_slot, value_content (content (x_of fields))) ∷ contents (y_of fields))
-    (λ fields. (tag_slot, tag_content (content (x_of fields))) ∷ tag_contents (y_of fields))
+    (λ fields. (tag_slot, tag_content (content (x_of fields))) ∷ last_contents (y_of fields))
     (λ prepared. field_in value_slot (λ offset. reference offset.distance) (value_of prepared)
     ++ there (of_rest prepared))
     (λ prepared. field_in tag_slot (λ tag. plain (record { bytes = to_le_bytes w8 tag; alignment = 1 })) (tag_of prepared)
-    ++ tags_there (of_rest prepared))
+    ++ last_there (of_rest prepared))
 union_and_others_prepared tag_slot value_slot x_of y_of offset_of is value_of tag_of of_rest content
-    contents tag_contents there tags_there firsts stays one others =
+    contents last_contents there last_there firsts stays one others =
     record {
       comes = λ fields old prepared new past may done is_past.
           (let between = done.1 in
@@ -103,7 +103,7 @@ union_and_others_prepared tag_slot value_slot x_of y_of offset_of is value_of ta
                   value_holds far.3.0,
               one_more far.0 tag_slot (tag_content holds)
                   (λ tag. plain (record { bytes = to_le_bytes w8 tag; alignment = 1 }))
-                  (tag_of prepared) (there_of (tag_contents (y_of fields))) (tags_there (of_rest prepared))
+                  (tag_of prepared) (there_of (last_contents (y_of fields))) (last_there (of_rest prepared))
                   tag_holds far.3.1,
             ),
           ));
@@ -143,11 +143,11 @@ pub union_list_and_others_prepared : {T U V X Y Z B C : Type 0} {may_first : X �
     → ((vector : UnionVectorOffset T) → values_are (values_of vector) ≡ values_field vector.values.distance)
     → (tags_in : C → Option U) (values_in : C → Option V) (of_rest : C → B)
     (content : X → Option (Content × Content))
-    (contents tag_contents : Y → List (ℕ × Option Content)) (there tags_there : B → List (ℕ × Field))
+    (contents last_contents : Y → List (ℕ × Option Content)) (there last_there : B → List (ℕ × Field))
     → IsLawful may_first first (reach_if union_vector_reach)
     → ((y : Y) (old new : State) → Grows old new → may_rest y old → may_rest y new)
     → PreparesUnionList may_first first content
-    → PreparesContents may_rest rest contents tag_contents there tags_there
+    → PreparesContents may_rest rest contents last_contents there last_there
     → PreparesContents {X = Z} (λ fields old. may_first (x_of fields) old × may_rest (y_of fields) old)
     (λ fields old answer new.
     PreparesBoth
@@ -156,12 +156,12 @@ pub union_list_and_others_prepared : {T U V X Y Z B C : Type 0} {may_first : X �
     of_rest (first (x_of fields)) (rest (y_of fields)) old answer new)
     (λ fields. (tags_slot, tags_content (content (x_of fields)))
     ∷ (values_slot, values_content (content (x_of fields))) ∷ contents (y_of fields))
-    (λ fields. tag_contents (y_of fields))
+    (λ fields. last_contents (y_of fields))
     (λ prepared. field_in tags_slot tags_field (tags_in prepared)
     ++ (field_in values_slot values_are (values_in prepared) ++ there (of_rest prepared)))
-    (λ prepared. tags_there (of_rest prepared))
+    (λ prepared. last_there (of_rest prepared))
 union_list_and_others_prepared tags_slot values_slot x_of y_of tags_of tags_field values_of values_are
-    tags_is values_is tags_in values_in of_rest content contents tag_contents there tags_there firsts
+    tags_is values_is tags_in values_in of_rest content contents last_contents there last_there firsts
     stays one others =
     record {
       comes = λ fields old prepared new past may done is_past.

@@ -1,9 +1,10 @@
 //! A table is written from its fields.
-ghost use Rattle.std.specs.Prelude.{◌≤◌, ◌++◌, max, length, IfOk, IsTrue};
+ghost use Rattle.std.specs.Prelude.{◌≤◌, [], ◌++◌, max, length, IfOk, IsTrue};
 ghost use Rattle.planus_write.specs.State.{Grows};
 ghost use Rattle.planus_write.specs.Tables.{body_size, body_bytes};
 ghost use Rattle.planus_tables.specs.TableRules.{can_hold};
-ghost use Rattle.planus_tables.specs.Preparing.{CreatesTable};
+ghost use Rattle.planus_tables.specs.Preparing.{WritesFields};
+ghost use Rattle.planus_write.specs.Placing.{then_does};
 ghost use Rattle.planus_tables.specs.Contents.{WritesContents};
 
 use crate::fields::Fields;
@@ -13,25 +14,25 @@ use planus_write::{BuildError, Builder, ObjectFill, ObjectWriter, Offset, TableW
 
 /// What writes the body of a table.
 #[derive(Drop)]
-struct Body<'a, const N: usize, F: PreparedFields<N>, T: PreparedFields<N>> {
-    prepared: &'a PreparedBody<F, T>,
+struct Body<'a, const N: usize, F: PreparedFields<N>, L: PreparedFields<N>> {
+    prepared: &'a PreparedBody<F, L>,
 }
 
-impl<'a, const N: usize, F: PreparedFields<N>, T: PreparedFields<N>> ObjectFill
-    for Body<'a, N, F, T> {
+impl<'a, const N: usize, F: PreparedFields<N>, L: PreparedFields<N>> ObjectFill
+    for Body<'a, N, F, L> {
     ghost size = { λ body.
-        body_size (F.there body.prepared.now.fields ++ T.there body.prepared.now.tags) };
+        body_size (F.there body.prepared.now.fields ++ L.there body.prepared.now.last) };
 
     ghost reach = { λ body.
-        max (F.reach body.prepared.now.fields) (T.reach body.prepared.now.tags) };
+        max (F.reach body.prepared.now.fields) (L.reach body.prepared.now.last) };
 
     ghost leaves = { λ body place.
-        body_bytes place (F.there body.prepared.now.fields ++ T.there body.prepared.now.tags) };
+        body_bytes place (F.there body.prepared.now.fields ++ L.there body.prepared.now.last) };
 
     #[inline]
     fn fill(&self, writer: &mut ObjectWriter<'_>) {
         self.prepared.fields.write(writer);
-        self.prepared.tags.write(writer);
+        self.prepared.last.write(writer);
     }
 }
 
@@ -41,7 +42,8 @@ impl<'a, const N: usize, F: PreparedFields<N>, T: PreparedFields<N>> ObjectFill
 ///
 /// `N` is 4, and 2 for each slot up to the greatest. The fields come by falling alignment: numbers
 /// of eight bytes first, then references, unions and numbers of four bytes, those of two, and those
-/// of one. They are prepared in the same order. No slot is used twice, and with all fields the table
+/// of one. They are prepared in the same order; one that is marked `last` is written behind all that
+/// aren't, as the tags of unions are. No slot is used twice, and with all fields the table
 /// is at most 65535 bytes without its vtable. All this is computed of the types of the fields.
 ///
 /// A refusal is that of the first field that is refused, or else that of the table:
@@ -52,12 +54,11 @@ pub fn create_table<T, const N: usize, F: Fields<N> + Drop>(
     fields: F,
 ) -> std::result::Result<Offset<T>, BuildError>
     requires may { F.may fields builder.old }
-    requires rules { IsTrue (can_hold N (F.Prepared.all ++ F.Tags.all)) }
-    ensures written { CreatesTable (F.outcome fields)
-        (λ body. F.Prepared.there body.fields ++ F.Tags.there body.tags)
+    requires rules { IsTrue (can_hold N (F.Prepared.all ++ F.Last.all)) }
+    ensures written { then_does (F.in_turn fields [] []) WritesFields
         builder.old result builder.new }
     ensures kept { IfOk result (λ offset. WritesContents
-        (F.contents fields ++ F.tag_contents fields)
+        (F.contents fields ++ F.last_contents fields)
         builder.old offset.distance builder.new) }
     ensures reached { IfOk result (λ offset. offset.distance ≤ length builder.new.bytes) }
     ensures grows { Grows builder.old builder.new }
@@ -65,7 +66,7 @@ pub fn create_table<T, const N: usize, F: Fields<N> + Drop>(
     let prepared = fields.prepare(builder)?;
     let mut writer: TableWriter<N> = TableWriter::default();
     prepared.fields.declare(&mut writer);
-    prepared.tags.declare(&mut writer);
+    prepared.last.declare(&mut writer);
     writer.finish(
         builder,
         &Body {

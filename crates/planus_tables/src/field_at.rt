@@ -13,7 +13,8 @@ pub struct FieldAt<const SLOT: usize, P, V> {
 }
 
 /// Writes a list of fields, each as `SLOT: KIND = VALUE`: its slot, the type as which it is
-/// encoded, and its value. A union is written as `(TAG, VALUE): union KIND = VALUE`, and a list of
+/// encoded, and its value; `SLOT: last KIND = VALUE` is a [`LastAt`](crate::LastAt). A union is
+/// written as `(TAG, VALUE): union KIND = VALUE`, and a list of
 /// unions as `(TAGS, VALUES): unions KIND = VALUE`, with their two slots.
 #[macro_export]
 macro_rules! fields {
@@ -30,6 +31,15 @@ macro_rules! fields {
     (($tags:literal, $slot:literal): unions $kind:ty = $value:expr $(, $($rest:tt)*)?) => {
         (
             $crate::UnionListAt::<$tags, $slot, $kind, _> {
+                value: $value,
+                of: std::marker::PhantomData,
+            },
+            $crate::fields!($($($rest)*)?),
+        )
+    };
+    ($slot:literal: last $kind:ty = $value:expr $(, $($rest:tt)*)?) => {
+        (
+            $crate::LastAt::<$slot, $kind, _> {
                 value: $value,
                 of: std::marker::PhantomData,
             },

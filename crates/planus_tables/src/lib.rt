@@ -7,6 +7,8 @@ mod field_at;
 mod field_parts;
 mod fields;
 mod impls;
+mod last_at;
+pub mod laws;
 mod or_default;
 mod prepared_body;
 mod prepared_fields;
@@ -25,6 +27,7 @@ pub use contents::{
 pub use create::create_table;
 pub use field_at::FieldAt;
 pub use fields::Fields;
+pub use last_at::LastAt;
 pub use or_default::OrDefault;
 pub use prepared_body::PreparedBody;
 pub use prepared_fields::PreparedFields;

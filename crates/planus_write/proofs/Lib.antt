@@ -17,3 +17,4 @@ pub mod PutEntries
 pub mod ToldTables
 pub mod WrittenTables
 pub mod WrittenBodies
+pub mod InBuilder

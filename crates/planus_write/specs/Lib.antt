@@ -6,6 +6,7 @@ pub mod Parts
 pub mod Kept
 pub mod Backed
 pub mod State
+pub mod InBuilder
 pub mod Sharing
 pub mod Placing
 pub mod ObjectWriting

@@ -52,6 +52,7 @@ impl Builder {
     ghost use Rattle.planus_write.specs.Parts.{filled_part, count_part};
     ghost use Rattle.planus_write.specs.Tables.{vtable_entry, word_part};
     ghost use Rattle.planus_write.specs.State.{IsPast};
+    ghost use Rattle.planus_write.specs.InBuilder.{IsIn};
     ghost use Rattle.planus_write.specs.View.{switches_of};
     ghost use Rattle.planus_write.specs.Placing.{WritesEntry, WritesPart};
     ghost use Rattle.planus_write.specs.Preparing.{WritesText, WritesByteList};
@@ -138,6 +139,15 @@ impl Builder {
         ensures { result.distance ≡ length self.now.bytes }
     {
         Offset::at(self.backing.len() as u32)
+    }
+
+    /// Whether an offset lies in the bytes, as one does that this builder answered since the last
+    /// clear: it may be referred to.
+    #[inline]
+    pub fn has<T>(&self, offset: &Offset<T>) -> bool
+        ensures { IsTrue result ↔ IsIn self.now offset.now }
+    {
+        offset.distance() as usize <= self.len()
     }
 
     /// Says, to a caller who was handed a builder, that something may have been written: clauses

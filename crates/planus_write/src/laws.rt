@@ -1,8 +1,17 @@
 //! Laws over what is written. The functions do nothing: each states a law by its contract.
 
+ghost use Rattle.planus_write.specs.InBuilder.{StaysIn, AllStayIn, AllUnionsStayIn};
 ghost use Rattle.planus_write.specs.Standing.{KeptStays, ValuesAreKept, FinishesLead};
 ghost use Rattle.planus_write.specs.Standing.{FinishesAreIdentified, EntriesArePut};
 ghost use Rattle.planus_write.specs.Standing.{EntriesAreTooLarge, SizedFinishesStand};
+
+/// An offset that is in a builder still is when the builder has grown, and so are all of some, and
+/// the values of all of some unions.
+pub fn what_is_in_stays_in<T>()
+    ensures one { StaysIn T }
+    ensures all { AllStayIn T }
+    ensures unions { AllUnionsStayIn T }
+{}
 
 /// What a call put down, as its contract says, is put down in every past of the builder, so that
 /// the laws of pasts speak of it; and where a call was refused what is too large, so it is there.

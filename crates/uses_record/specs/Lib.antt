@@ -1,4 +1,2 @@
 pub mod Ships
-pub mod Bodies
-pub mod ShipViews
 pub mod Names

@@ -3,14 +3,12 @@
 
 mod names;
 mod ship;
-mod ship_ref;
 #[cfg(test)]
 mod tests;
 
 use names::{NamesError, names_in};
 use planus::{BuildError, Builder, Error, ReadAsRoot};
-use ship::Ship;
-use ship_ref::ShipRef;
+use ship::{Ship, ShipRef};
 use std::io;
 
 /// A refused write, as an error of the program.
@@ -40,13 +38,13 @@ fn print_ship(rt: &HostRuntime, builder: &mut Builder) -> io::Result<()> {
     let ship = Ship::create(builder, "Argo", 250, Some(&cargo)).map_err(refused)?;
     let bytes = builder.finish(ship, None).map_err(refused)?;
 
-    let ship = ShipRef::read_as_root(bytes).map_err(unreadable)?;
+    let ship: ShipRef<'_> = ReadAsRoot::read_as_root(bytes).map_err(unreadable)?;
     let (name, hull) = (
-        ship.name().map_err(unreadable)?,
-        ship.hull().map_err(unreadable)?,
+        Ship::name(&ship).map_err(unreadable)?,
+        Ship::hull(&ship).map_err(unreadable)?,
     );
     println!(rt; "{} bytes with the ship {name}, hull {hull}", bytes.len())?;
-    if let Some(cargo) = ship.cargo().map_err(unreadable)? {
+    if let Some(cargo) = Ship::cargo(&ship).map_err(unreadable)? {
         for weight in cargo.iter() {
             println!(rt; "cargo {weight}")?;
         }

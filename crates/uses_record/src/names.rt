@@ -5,10 +5,10 @@ ghost use Rattle.std.specs.Result.{IsOkAnd};
 ghost use Rattle.planus_read.specs.Reading.{Leads};
 ghost use Rattle.planus_read.specs.Stands.{ReferenceStands};
 ghost use Rattle.planus_view.specs.VectorView.{view_of, count_of};
-ghost use Rattle.uses_record.specs.ShipViews.{items_view, NamedTableStands, NamedTablesStand};
+ghost use Rattle.uses_record.specs.Names.{items_view, NamedTableStands, NamedTablesStand};
 ghost use Rattle.uses_record.specs.Names.{AreNames};
 
-use crate::ship_ref::ShipRef;
+use crate::ship::{Ship, ShipRef};
 use planus::{Error, Result, SliceWithStartOffset, TableRead, Vector};
 use planus_read::laws;
 use std::alloc::{AllocError, AllocFailed, Global};
@@ -63,10 +63,9 @@ fn name_at<'a>(
         → ReferenceStands B (k + 4 + index * 4) distance → NamedTableStands B distance name
         → IsOkAnd result (λ text. text.now ≡ name) }
 {
-    laws::what_stands_reads_back();
-    laws::pieces_keep_what_stands();
+    planus_tables::laws::views_read_back::<Ship>();
     let ship = ships.get_unchecked(index)?;
-    ship.name()
+    Ship::name(&ship)
 }
 
 /// Returns the names of the ships of a list. Where each is a table with a text as its name, these

@@ -1,19 +1,19 @@
 //! Ships whose fields are left out, and lists that are damaged.
 
 use crate::names::{NamesError, names_in};
-use crate::ship::Ship;
-use crate::ship_ref::ShipRef;
+use crate::ship::{Ship, ShipRef};
 use planus::{BuildError, Builder, ReadAsRoot};
 use std::alloc::Global;
 use std::test::Fail;
 
 // Whether the root is a ship with this name, a hull of 100, and no cargo.
 fn is_empty_ship(bytes: &[u8], name: &str) -> bool {
-    match ShipRef::read_as_root(bytes) {
+    let ship: Result<ShipRef<'_>, _> = ReadAsRoot::read_as_root(bytes);
+    match ship {
         Ok(ship) => {
-            matches!(ship.name(), Ok(read) if read == name)
-                && matches!(ship.hull(), Ok(100))
-                && matches!(ship.cargo(), Ok(None))
+            matches!(Ship::name(&ship), Ok(read) if read == name)
+                && matches!(Ship::hull(&ship), Ok(100))
+                && matches!(Ship::cargo(&ship), Ok(None))
         }
         Err(_) => false,
     }

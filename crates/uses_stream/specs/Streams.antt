@@ -5,16 +5,17 @@ use Rattle.planus_read.specs.Clauses.{FirstBroken}
 use Rattle.planus_read.specs.Pieces.{slice_bytes}
 use Rattle.planus_read.specs.SizePrefixed.{PrefixedThere, IsPrefixed, prefixed_clauses}
 use Rattle.planus_write.specs.declared.offset.Text.{Text}
-use Rattle.planus_write.specs.State.{State}
+use Rattle.planus_write.specs.Past.{no_past}
+use Rattle.planus_write.specs.State.{State, IsPast}
 use Rattle.planus_write.specs.Preparing.{WritesText}
 use Rattle.planus_write.specs.Finishing.{SizedFinishGives}
 use Rattle.uses_stream.specs.declared.stream.Records.{Records}
 
--- What an empty builder gives for a finish of this text with the size in front was put behind a
--- stream.
+-- What a builder of which nothing was written gives for a finish of this text with the size in front
+-- was put behind a stream.
 pub record IsAppended (text old new : List ℕ) : Type 0 where
   pub builder : State
-  pub empty : builder.bytes ≡ []
+  pub past : IsPast builder no_past
   pub buffer : List ℕ
   pub given : SizedFinishGives {T = Text} (WritesText text) None builder buffer
   pub size : IsPrefixed buffer

@@ -1,9 +1,10 @@
 //! Offsets: values that are written already.
-ghost use Rattle.std.specs.Prelude.{◌≡◌, ◌≤◌, ℕ, length, refl};
+ghost use Rattle.std.specs.Prelude.{◌≡◌, ℕ, refl};
 ghost use Rattle.std.proofs.Common.{lit≤};
 ghost use Rattle.planus_read.specs.Aligned.{field_alignment};
 ghost use Rattle.planus_read.specs.Values.{reference};
 ghost use Rattle.planus_write.specs.Tables.{field_size};
+ghost use Rattle.planus_write.specs.InBuilder.{IsIn};
 ghost use Rattle.planus_write.specs.Items.{reference_item};
 ghost use Rattle.planus_write.specs.Preparing.{IsPrepared};
 ghost use Rattle.planus_write.specs.Laws.{layout_of_four, offset_is_lawful};
@@ -59,7 +60,7 @@ impl<T> VectorWrite<Offset<T>> for Offset<T> {
 
     ghost STRIDE = { 4 };
 
-    ghost may = { λ offset old. offset.distance ≤ length old.bytes };
+    ghost may = { λ offset old. IsIn old offset };
 
     ghost outcome = { IsPrepared };
 
@@ -90,7 +91,7 @@ impl<T> VectorWrite<Offset<T>> for Offset<T> {
 }
 
 impl<T> WriteAsOffset<T> for Offset<T> {
-    ghost may = { λ offset old. offset.distance ≤ length old.bytes };
+    ghost may = { λ offset old. IsIn old offset };
 
     ghost outcome = { IsPrepared };
 

@@ -1,7 +1,6 @@
 //! Unions that are written already.
-ghost use Rattle.std.specs.Prelude.{◌≤◌, length};
+ghost use Rattle.planus_write.specs.InBuilder.{IsIn};
 ghost use Rattle.planus_write.specs.Preparing.{Answers};
-ghost use Rattle.planus_write.specs.Unions.{union_reach};
 ghost use Rattle.planus_write.specs.UnionLaws.{union_offset_is_lawful};
 
 use crate::builder::Builder;
@@ -10,7 +9,7 @@ use crate::traits::WriteAsUnion;
 use crate::union_offset::UnionOffset;
 
 impl<T> WriteAsUnion<T> for UnionOffset<T> {
-    ghost may = { λ union old. union_reach union ≤ length old.bytes };
+    ghost may = { λ union old. IsIn old union.offset };
 
     ghost outcome = { Answers };
 

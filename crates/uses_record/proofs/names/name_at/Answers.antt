@@ -1,17 +1,22 @@
-use Rattle.std.proofs.Common.{codes, Ok, Err}
-use Rattle.planus_view.specs.VectorView.{view_of}
-use Rattle.uses_record.proofs.ReadNames.{item_named}
+use Rattle.std.proofs.Common.{◌+◌, ◌*◌, codes, Ok, Err, subst}
+use Rattle.planus_view.specs.Views.{View}
+use Rattle.uses_record.specs.Names.{ItemIs}
+use Rattle.planus_tables.specs.ReadBack.{SlotHolds}
 use Rattle.uses_record.proofs.names.name_at.Goals as goal
 
 pub returns-in_err-ship : goal.returns-in_err-ship
 returns-in_err-ship c = λ B k count distance name same stands named.
-    elim (item_named c.what_stands_reads_back.ensures c.pieces_keep_what_stands.ensures.reference
-    (view_of c.args.ships.now) B k count c.args.index distance name same stands named
-    (codes "[ShipRef]") (codes "get") (Err c.in_err-ship.ensures.0) c.in_err-ship.ensures.1) [ ]
+    elim (c.views_read_back.ensures.item B (k + 4) (c.args.index * 4) named.contents distance
+    named.stands stands (codes "[ShipRef]") (codes "get") (k + 4) (Err c.in_err-ship.ensures.0)
+    (subst (λ (view : View). ItemIs view c.args.index (Err c.in_err-ship.ensures.0)) same
+    c.in_err-ship.ensures.1)) [ ]
 
 pub returns : goal.returns
 returns c = λ B k count distance name same stands named.
+    let holds = c.views_read_back.ensures.item B (k + 4) (c.args.index * 4) named.contents distance
+    named.stands stands (codes "[ShipRef]") (codes "get") (k + 4) (Ok c.in_ok-ship.ship)
+    (subst (λ (view : View). ItemIs view c.args.index (Ok c.in_ok-ship.ship)) same
+    c.in_ok-ship.ensures) in
     c.name.ensures.read_back B name
-    (item_named c.what_stands_reads_back.ensures c.pieces_keep_what_stands.ensures.reference
-    (view_of c.args.ships.now) B k count c.args.index distance name same stands named
-    (codes "[ShipRef]") (codes "get") (Ok c.in_ok-ship.ship) c.in_ok-ship.ensures)
+    (subst (λ content. SlotHolds B c.in_ok-ship.ship.table 0 content) named.named (holds 0))
+    named.is_utf8

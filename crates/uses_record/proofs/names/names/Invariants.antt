@@ -1,6 +1,6 @@
 use Rattle.std.proofs.Common.{◌≡◌, ℕ, List, length, map, take}
 use Rattle.planus_view.specs.VectorView.{view_of}
-use Rattle.uses_record.specs.ShipViews.{items_view, NamedTablesStand}
+use Rattle.uses_record.specs.Names.{items_view, NamedTablesStand}
 use Rattle.uses_record.proofs.names.names.Given as goal
 
 abbrev pub invariant-loop-index : goal.invariant-loop-index

@@ -1,0 +1,51 @@
+//! Laws over what is read of the tables that [`create_table`](crate::create_table) writes. The
+//! functions do nothing: each states a law by its contract.
+
+ghost use Rattle.std.specs.Int.{w8, w16, w32, w64};
+ghost use Rattle.planus_tables.specs.ReadBack.{KeptTablesStand, RootsReadBack};
+ghost use Rattle.planus_tables.specs.ReadBack.{AbsentFieldsReadBack, ItemsReadBack};
+ghost use Rattle.planus_tables.specs.ReadKinds.{TextsReadBack, ByteListsReadBack, NumbersReadBack};
+ghost use Rattle.planus_tables.specs.ReadKinds.{SignedReadBack, TruthsReadBack, TablesReadBack};
+
+use planus_read::TableRead;
+
+/// A table that is kept, as `create_table` says with `Ok`, stands in what was written, with all that
+/// it refers to.
+pub fn kept_tables_stand()
+    ensures { KeptTablesStand }
+{}
+
+/// A table that stands is read as the root, where the reference at the front leads to it, and as an
+/// item of a vector, where the item's reference does, with all its contents: each slot holds what is
+/// said of it, or nothing.
+pub fn views_read_back<K>()
+    ensures root { RootsReadBack K }
+    ensures item { ItemsReadBack K }
+{}
+
+/// What the calls of a table return of a slot, by what it holds, as a field that may be absent, that
+/// must be there, or that has a default: a text that is UTF-8, the slice of a byte list, a number, a
+/// truth value.
+pub fn fields_read_back()
+    ensures texts { TextsReadBack }
+    ensures byte_lists { ByteListsReadBack }
+    ensures u8s { NumbersReadBack w8 }
+    ensures u16s { NumbersReadBack w16 }
+    ensures u32s { NumbersReadBack w32 }
+    ensures u64s { NumbersReadBack w64 }
+    ensures i8s { SignedReadBack w8 }
+    ensures i16s { SignedReadBack w16 }
+    ensures i32s { SignedReadBack w32 }
+    ensures i64s { SignedReadBack w64 }
+    ensures truths { TruthsReadBack }
+{}
+
+/// Of a slot that refers to a table that stands they return its view, with all its contents.
+pub fn tables_read_back<K>()
+    ensures { TablesReadBack K }
+{}
+
+/// Of a slot that holds nothing they return `None`, or the default.
+pub fn absent_fields_read_back<'buf, T: TableRead<'buf>>()
+    ensures { AbsentFieldsReadBack T.reads }
+{}
