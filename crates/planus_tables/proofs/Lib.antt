@@ -2,3 +2,4 @@ pub mod FieldLists
 pub mod RuledTables
 pub mod ReadBack
 pub mod ReadKinds
+pub mod Finished

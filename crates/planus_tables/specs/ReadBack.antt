@@ -1,5 +1,5 @@
 -- What is read of the fields of a table that was written, in the words of what they hold.
-use Rattle.std.specs.Prelude.{◌≡◌, ℕ, ◌+◌, ◌<◌, ◌==◌, List, [], ◌∷◌, drop, Bool, true, not, ◌&&◌, if◌then◌else◌}
+use Rattle.std.specs.Prelude.{◌≡◌, ℕ, ◌+◌, ◌≤◌, ◌==◌, List, [], ◌∷◌, length, drop, Bool, true, not, ◌&&◌, if◌then◌else◌}
 use Rattle.std.specs.Prelude.{Option, Some, None, Result, Ok, Err, IsOkAnd, IsSomeAnd, IsTrue, ⊤}
 use Rattle.planus_read.specs.declared.located.Error.{Error}
 use Rattle.planus_read.specs.declared.table_reader.Table.{Table}
@@ -12,7 +12,11 @@ use Rattle.planus_read.specs.TableReading.{HasFields}
 use Rattle.planus_read.specs.Tables.{Reads, FieldAnswer}
 use Rattle.planus_read.specs.Values.{Value, Field, plain, reference, tags, values as values_field}
 use Rattle.planus_read.specs.Values.{reference_list, union_list, table, field_at}
+use Rattle.planus_write.specs.Finishing.{FinishGives}
 use Rattle.planus_write.specs.Past.{Past}
+use Rattle.planus_write.specs.Preparing.{IsPrepared}
+use Rattle.planus_write.specs.State.{State, IsPast}
+use Rattle.planus_write.specs.declared.offset.Offset.{Offset}
 use Rattle.planus_tables.specs.Contents.{Content, item, value, values, written, union_tags}
 use Rattle.planus_tables.specs.Contents.{union_values, written_tags, written_values, there_of}
 use Rattle.planus_tables.specs.Contents.{TableIsKept}
@@ -101,6 +105,15 @@ KeptTablesStand =
     (past : Past) (contents : List (ℕ × Option Content)) (distance : ℕ)
     → TableIsKept past contents distance → IsTrue (are_apart contents)
     → TableStands past.written.bytes contents distance
+
+-- So does one in what a finish of it gives, and the reference at the front leads to it.
+abbrev pub FinishedTablesStand : Type 0 → Type 0
+FinishedTablesStand T =
+    (contents : List (ℕ × Option Content)) (past : Past) (state : State) (offset : Offset T)
+    (identifier : Option (List ℕ)) (bytes : List ℕ) → IsPast state past
+    → TableIsKept past contents offset.distance → IsTrue (are_apart contents)
+    → offset.distance ≤ length state.bytes → FinishGives (IsPrepared offset) identifier state bytes
+    → TableStands bytes contents offset.distance × ReferenceStands bytes 0 offset.distance
 
 -- It is read as the root, where the reference at the front leads to it, with all its contents.
 abbrev pub RootsReadBack : Type 0 → Type 0

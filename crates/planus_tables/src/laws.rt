@@ -2,7 +2,7 @@
 //! functions do nothing: each states a law by its contract.
 
 ghost use Rattle.std.specs.Int.{w8, w16, w32, w64};
-ghost use Rattle.planus_tables.specs.ReadBack.{KeptTablesStand, RootsReadBack};
+ghost use Rattle.planus_tables.specs.ReadBack.{KeptTablesStand, FinishedTablesStand, RootsReadBack};
 ghost use Rattle.planus_tables.specs.ReadBack.{AbsentFieldsReadBack, ItemsReadBack};
 ghost use Rattle.planus_tables.specs.ReadKinds.{TextsReadBack, ByteListsReadBack, NumbersReadBack};
 ghost use Rattle.planus_tables.specs.ReadKinds.{SignedReadBack, TruthsReadBack, TablesReadBack};
@@ -13,6 +13,11 @@ use planus_read::TableRead;
 /// it refers to.
 pub fn kept_tables_stand()
     ensures { KeptTablesStand }
+{}
+
+/// So it does in what a finish of its offset gives, and the reference at the front leads to it.
+pub fn finished_tables_stand<T>()
+    ensures { FinishedTablesStand T }
 {}
 
 /// A table that stands is read as the root, where the reference at the front leads to it, and as an

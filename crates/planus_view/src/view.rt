@@ -29,6 +29,10 @@ pub trait View: Copy {
 }
 
 /// A view whose items can be read.
+///
+/// Code that is generic over the items of a vector is written over a `V: ReadView`, as that of this
+/// crate is: over a `Vector<'b, T>` with a type parameter `T`, which calls the vector's own methods,
+/// the checker has no proof today. Over a vector of a known type it has.
 pub trait ReadView: View {
     /// What an item is read as.
     type Item;

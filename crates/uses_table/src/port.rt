@@ -8,10 +8,9 @@
 //! ```
 
 ghost use Rattle.std.specs.Prelude.{◌≤◌, [], ◌∷◌, length, negsuc, codes, IfOk, ◌≡◌, MatchOption, ⊤};
-ghost use Rattle.std.specs.List.{AllByRecursion};
 ghost use Rattle.std.specs.Ordering.{int_eq};
 ghost use Rattle.planus_write.specs.State.{Grows};
-ghost use Rattle.planus_write.specs.Unions.{union_reach};
+ghost use Rattle.planus_write.specs.InBuilder.{IsIn, AllIn, AllUnionsIn};
 ghost use Rattle.planus_tables.specs.Contents.{WritesContents, unless};
 ghost use Rattle.planus_tables.specs.Holds.{holds_bool, holds_i16, holds_offsets, holds_texts};
 ghost use Rattle.planus_tables.specs.Holds.{holds_u64, holds_union_tag, holds_union_tags};
@@ -47,12 +46,9 @@ impl Port {
         builder: &mut Builder,
         port: PortFields<'_>,
     ) -> std::result::Result<Offset<Port>, BuildError>
-        requires owner { MatchOption port.owner ⊤
-            (λ owner. union_reach owner ≤ length builder.old.bytes) }
-        requires ships { AllByRecursion
-            (λ ship. ship.distance ≤ length builder.old.bytes) port.ships.now }
-        requires shares { AllByRecursion
-            (λ share. union_reach share ≤ length builder.old.bytes) port.shares.now }
+        requires owner { MatchOption port.owner ⊤ (λ owner. IsIn builder.old owner.offset) }
+        requires ships { AllIn builder.old port.ships.now }
+        requires shares { AllUnionsIn builder.old port.shares.now }
         ensures kept { IfOk result (λ offset. WritesContents
             ((6, holds_u64 port.entry.founded)
             ∷ (1, holds_union_value port.entry.owner)

@@ -1,0 +1,144 @@
+//! Entries of a log, of the schema
+//!
+//! ```text
+//! table Entry {
+//!     at: uint64; retries: uint16 = 3; text: string (required); tags: [string];
+//!     origin: Origin; cause: Cause; parents: [Entry]; level: Level;
+//! }
+//! ```
+
+ghost use Rattle.std.specs.Prelude.{◌≡◌, ◌≤◌, List as list, ℕ, length, codes, IfOk, MatchOption, ⊤};
+ghost use Rattle.std.specs.Result.{IsOkAnd};
+ghost use Rattle.std.specs.Str.{IsUtf8};
+ghost use Rattle.planus_write.specs.InBuilder.{IsIn, AllIn};
+ghost use Rattle.planus_write.specs.State.{Grows};
+ghost use Rattle.planus_tables.specs.Contents.{WritesContents};
+ghost use Rattle.planus_tables.specs.Holds.{holds_text};
+ghost use Rattle.planus_tables.specs.ReadBack.{SlotHolds};
+ghost use Rattle.uses_log.specs.Entries.{entry_contents};
+
+use crate::cause::{Cause, CauseRef};
+use crate::level::Level;
+use crate::origin::{Origin, OriginRef};
+use planus::{
+    BuildError, Builder, List, Offset, OrDefault, Result, TableKind, TableRef, Text, UnionOffset,
+    Vector, create_table, fields,
+};
+use planus_tables::laws;
+
+/// The kind of an entry, and of an offset to one.
+pub struct Entry;
+
+/// An entry in a buffer.
+pub type EntryRef<'a> = TableRef<'a, Entry>;
+
+/// What an entry has, as it is handed in. Its origin, its cause and its parents are written already.
+#[derive(Drop)]
+pub struct EntryFields<'a> {
+    pub at: u64,
+    pub retries: u16,
+    pub text: &'a str,
+    pub tags: &'a [&'a str],
+    pub origin: Option<Offset<Origin>>,
+    pub cause: Option<UnionOffset<Cause>>,
+    pub parents: &'a [Offset<Entry>],
+    pub level: Level,
+}
+
+impl Entry {
+    /// Writes an entry. Retries of 3 are left out. With `Ok` it is there with exactly these fields,
+    /// whatever was written before.
+    pub fn create(
+        builder: &mut Builder,
+        entry: EntryFields<'_>,
+    ) -> std::result::Result<Offset<Entry>, BuildError>
+        requires origin { MatchOption entry.origin ⊤ (λ origin. IsIn builder.old origin) }
+        requires cause { MatchOption entry.cause ⊤ (λ cause. IsIn builder.old cause.offset) }
+        requires parents { AllIn builder.old entry.parents.now }
+        ensures kept { IfOk result (λ offset. WritesContents (entry_contents entry.entry)
+            builder.old offset.distance builder.new) }
+        ensures reached { IfOk result (λ offset. offset.distance ≤ length builder.new.bytes) }
+        ensures grows { Grows builder.old builder.new }
+    {
+        let retries = OrDefault {
+            value: entry.retries,
+            default: 3,
+        };
+        let fields = fields![
+            0: u64 = entry.at,
+            1: last u16 = retries,
+            2: Offset<Text> = entry.text,
+            3: Offset<List<Offset<Text>>> = entry.tags,
+            4: Offset<Origin> = entry.origin,
+            (5, 6): union Cause = entry.cause,
+            7: Offset<List<Offset<Entry>>> = entry.parents,
+            8: last u8 = entry.level.0,
+        ];
+        create_table::<Entry, 22, _>(builder, fields)
+    }
+
+    /// Returns when it was, 0 where nothing is said of it.
+    pub fn at(entry: &EntryRef<'_>) -> Result<u64> {
+        Ok(entry.table.access::<u64>(0, "Entry", "at")?.unwrap_or(0))
+    }
+
+    /// Returns how often it was tried again, 3 where nothing is said of it.
+    pub fn retries(entry: &EntryRef<'_>) -> Result<u16> {
+        Ok(
+            entry
+                .table
+                .access::<u16>(1, "Entry", "retries")?
+                .unwrap_or(3),
+        )
+    }
+
+    /// Returns its text. Where the entry holds a text that is UTF-8, it is that text.
+    pub fn text<'a>(entry: &EntryRef<'a>) -> Result<&'a str>
+        ensures read_back { (B text : list ℕ) → SlotHolds B entry.now.table 2 (holds_text text)
+            → IsUtf8 text → IsOkAnd result (λ read. read.now ≡ text) }
+    {
+        laws::fields_read_back();
+        entry.table.access_required::<&str>(2, "Entry", "text")
+    }
+
+    /// Returns its tags, or `None` where there are none.
+    pub fn tags<'a>(entry: &EntryRef<'a>) -> Result<Option<Vector<'a, Result<&'a str>>>> {
+        entry
+            .table
+            .access::<Vector<'a, Result<&'a str>>>(3, "Entry", "tags")
+    }
+
+    /// Returns where it comes from, or `None` where nothing is said of it.
+    pub fn origin<'a>(entry: &EntryRef<'a>) -> Result<Option<OriginRef<'a>>> {
+        entry.table.access::<OriginRef<'a>>(4, "Entry", "origin")
+    }
+
+    /// Returns why it is there, or `None` where nothing is said of it.
+    pub fn cause<'a>(entry: &EntryRef<'a>) -> Result<Option<CauseRef<'a>>> {
+        entry
+            .table
+            .access_union::<CauseRef<'a>>(5, "Entry", "cause")
+    }
+
+    /// Returns the entries that it follows, or `None` where there are none.
+    pub fn parents<'a>(entry: &EntryRef<'a>) -> Result<Option<Vector<'a, Result<EntryRef<'a>>>>> {
+        entry
+            .table
+            .access::<Vector<'a, Result<EntryRef<'a>>>>(7, "Entry", "parents")
+    }
+
+    /// Returns how grave it is, `Info` where nothing is said of it.
+    pub fn level(entry: &EntryRef<'_>) -> Result<Level> {
+        Ok(Level(entry.table.access::<u8>(8, "Entry", "level")?.unwrap_or(0)))
+    }
+}
+
+impl TableKind for Entry {
+    ghost name = { codes "[EntryRef]" };
+
+    fn name() -> &'static str
+        ensures { result.now ≡ codes "[EntryRef]" }
+    {
+        "[EntryRef]"
+    }
+}

@@ -1,0 +1,111 @@
+//! Entries of a log are written and read back.
+
+use crate::{
+    Cause, CauseRef, Entry, EntryFields, EntryRef, Level, Origin, OriginRef, text_read_back,
+};
+use planus::{BuildError, Builder, ReadAsRoot, UnionOffset, has_identifier};
+use std::test::Fail;
+
+// An entry with this text alone.
+fn plain<'a>(text: &'a str) -> EntryFields<'a> {
+    EntryFields {
+        at: 0,
+        retries: 3,
+        text,
+        tags: &[],
+        origin: None,
+        cause: None,
+        parents: &[],
+        level: Level::INFO,
+    }
+}
+
+// Whether the root is an entry with fields of each kind, as `full` writes it.
+fn is_full(bytes: &[u8]) -> bool {
+    let entry: Result<EntryRef<'_>, _> = ReadAsRoot::read_as_root(bytes);
+    let Ok(entry) = entry else {
+        return false;
+    };
+    matches!(Entry::at(&entry), Ok(at) if at == 1700000000)
+        && matches!(Entry::retries(&entry), Ok(5))
+        && matches!(Entry::text(&entry), Ok(text) if text == "disk full")
+        && matches!(Entry::tags(&entry), Ok(Some(tags)) if tags.len() == 2)
+        && matches!(Entry::level(&entry), Ok(level) if level == Level::FAULT)
+        && has_origin(&entry)
+        && has_cause(&entry)
+        && has_parent(&entry)
+}
+
+fn is_host(origin: &OriginRef<'_>) -> bool {
+    matches!(Origin::host(origin), Ok(Some(host)) if host == "web1")
+        && matches!(Origin::port(origin), Ok(8080))
+}
+
+fn has_origin(entry: &EntryRef<'_>) -> bool {
+    matches!(Entry::origin(entry), Ok(Some(origin)) if is_host(&origin))
+}
+
+fn has_cause(entry: &EntryRef<'_>) -> bool {
+    matches!(
+        Entry::cause(entry),
+        Ok(Some(CauseRef::Origin(origin))) if is_host(&origin)
+    )
+}
+
+fn is_start(parent: &EntryRef<'_>) -> bool {
+    matches!(Entry::text(parent), Ok(text) if text == "start")
+        && matches!(Entry::retries(parent), Ok(3))
+        && matches!(Entry::origin(parent), Ok(None))
+        && matches!(Entry::cause(parent), Ok(None))
+}
+
+fn has_parent(entry: &EntryRef<'_>) -> bool {
+    match Entry::parents(entry) {
+        Ok(Some(parents)) => {
+            parents.len() == 1 && matches!(parents.get(0), Some(Ok(parent)) if is_start(&parent))
+        }
+        _ => false,
+    }
+}
+
+fn a_full_entry_is_read(builder: &mut Builder) -> Result<bool, BuildError> {
+    let start = Entry::create(builder, plain("start"))?;
+    let origin = Origin::create(builder, "web1", 8080)?;
+    let cause: UnionOffset<Cause> = UnionOffset::new(2, origin.downcast());
+    let entry = EntryFields {
+        at: 1700000000,
+        retries: 5,
+        text: "disk full",
+        tags: &["disk", "web"],
+        origin: Some(origin),
+        cause: Some(cause),
+        parents: &[start],
+        level: Level::FAULT,
+    };
+    let entry = Entry::create(builder, entry)?;
+    let bytes = builder.finish(entry, None)?;
+    Ok(is_full(bytes))
+}
+
+fn a_marked_buffer(builder: &mut Builder) -> Result<bool, BuildError> {
+    let entry = Entry::create(builder, plain("hello"))?;
+    let bytes = builder.finish(entry, Some(*b"LOGS"))?;
+    Ok(has_identifier(bytes, *b"LOGS") && !has_identifier(bytes, *b"SHIP"))
+}
+
+#[test]
+fn entries_are_read_back(rt: HostRuntime) -> Result<(), Fail> {
+    let mut builder = Builder::new(rt.alloc())?;
+    assert!(rt;
+        matches!(a_full_entry_is_read(&mut builder), Ok(true)),
+        "full"
+    );
+    builder.clear();
+    assert!(rt;
+        matches!(text_read_back(&mut builder, plain("hello")), Ok("hello")),
+        "text"
+    );
+    builder.clear();
+    assert!(rt; matches!(a_marked_buffer(&mut builder), Ok(true)), "marked");
+    Ok(())
+}
