@@ -1,5 +1,5 @@
 -- What is in a builder: what was written there since the last clear.
-use Rattle.std.specs.Prelude.{ℕ, ◌≤◌, List, length}
+use Rattle.std.specs.Prelude.{◌≤◌, List, length}
 use Rattle.std.specs.List.{AllByRecursion}
 use Rattle.planus_write.specs.State.{State, Grows}
 use Rattle.planus_write.specs.declared.offset.Offset.{Offset}

@@ -1,14 +1,21 @@
 //! Entries of a log are written and read back.
 
+ghost use Rattle.std.specs.Prelude.{IfOk};
+ghost use Rattle.planus_write.specs.InBuilder.{IsIn};
+ghost use Rattle.planus_write.specs.State.{Grows};
+
 use crate::{
     Cause, CauseRef, Entry, EntryFields, EntryRef, Level, Origin, OriginRef, text_read_back,
 };
-use planus::{BuildError, Builder, ReadAsRoot, UnionOffset, has_identifier};
+use planus::{BuildError, Builder, Offset, ReadAsRoot, UnionOffset, has_identifier};
 use std::test::Fail;
 
-// An entry with this text alone.
-fn plain<'a>(text: &'a str) -> EntryFields<'a> {
-    EntryFields {
+// Writes an entry with this text alone.
+fn note(builder: &mut Builder, text: &str) -> Result<Offset<Entry>, BuildError>
+    ensures reached { IfOk result (λ offset. IsIn builder.new offset) }
+    ensures grows { Grows builder.old builder.new }
+{
+    let entry = EntryFields {
         at: 0,
         retries: 3,
         text,
@@ -17,7 +24,8 @@ fn plain<'a>(text: &'a str) -> EntryFields<'a> {
         cause: None,
         parents: &[],
         level: Level::INFO,
-    }
+    };
+    Entry::create(builder, entry)
 }
 
 // Whether the root is an entry with fields of each kind, as `full` writes it.
@@ -69,7 +77,7 @@ fn has_parent(entry: &EntryRef<'_>) -> bool {
 }
 
 fn a_full_entry_is_read(builder: &mut Builder) -> Result<bool, BuildError> {
-    let start = Entry::create(builder, plain("start"))?;
+    let start = note(builder, "start")?;
     let origin = Origin::create(builder, "web1", 8080)?;
     let cause: UnionOffset<Cause> = UnionOffset::new(2, origin.downcast());
     let entry = EntryFields {
@@ -88,9 +96,23 @@ fn a_full_entry_is_read(builder: &mut Builder) -> Result<bool, BuildError> {
 }
 
 fn a_marked_buffer(builder: &mut Builder) -> Result<bool, BuildError> {
-    let entry = Entry::create(builder, plain("hello"))?;
+    let entry = note(builder, "hello")?;
     let bytes = builder.finish(entry, Some(*b"LOGS"))?;
     Ok(has_identifier(bytes, *b"LOGS") && !has_identifier(bytes, *b"SHIP"))
+}
+
+fn a_text_is_read(builder: &mut Builder) -> bool {
+    let entry = EntryFields {
+        at: 1,
+        retries: 0,
+        text: "hello",
+        tags: &["a"],
+        origin: None,
+        cause: None,
+        parents: &[],
+        level: Level::WARNING,
+    };
+    matches!(text_read_back(builder, entry), Ok("hello"))
 }
 
 #[test]
@@ -101,10 +123,7 @@ fn entries_are_read_back(rt: HostRuntime) -> Result<(), Fail> {
         "full"
     );
     builder.clear();
-    assert!(rt;
-        matches!(text_read_back(&mut builder, plain("hello")), Ok("hello")),
-        "text"
-    );
+    assert!(rt; a_text_is_read(&mut builder), "text");
     builder.clear();
     assert!(rt; matches!(a_marked_buffer(&mut builder), Ok(true)), "marked");
     Ok(())
