@@ -1,6 +1,6 @@
 //! Finished bytes, read back through the readers from the root down.
 
-use super::plain_reader::position;
+use super::kinds::position;
 use planus::table_reader::Table;
 use planus::{
     Field, FieldValue, Finished, Place, SliceWithStartOffset, Step, TableRead, Vector, VectorRead,

@@ -1,0 +1,369 @@
+//! What the readers answer beside what the plain reader does, kind by kind.
+
+use super::found::Found;
+use super::kinds::{Held, Pair, Row, position};
+use super::plain_reader::{
+    Answer, PlainList, byte_list, number, signed, table, text, union_vector, vector,
+};
+use planus::located::Error as Located;
+use planus::table_reader::Table;
+use planus::{
+    Error, Place, SignedBytes, TaggedPlace, UnionVector, Vector, VectorRead, VectorReadUnion,
+};
+use planus_read::errors::ErrorKind;
+
+// A position in bytes. The piece that is read begins at another one, and the bytes themselves begin
+// at some offset in their buffer.
+#[derive(Clone, Copy)]
+pub struct Spot<'a> {
+    pub bytes: &'a [u8],
+    pub start: i128,
+    pub from: i128,
+    pub at: i128,
+}
+
+impl<'a> Spot<'a> {
+    // Another position of the same piece.
+    fn at(&self, at: i128) -> Spot<'a> {
+        Spot { at, ..*self }
+    }
+
+    // A position in a piece that begins at another one.
+    fn of(&self, from: i128, at: i128) -> Spot<'a> {
+        Spot { from, at, ..*self }
+    }
+
+    // The position, counted from the buffer's start.
+    fn place(&self) -> i128 {
+        self.start.wrapping_add(self.at)
+    }
+
+    // Whether an error is of this kind, and has these names and the start of the piece.
+    pub fn is_error(&self, error: Located<'_>, kind: ErrorKind, names: (&str, &str)) -> bool {
+        let location = error.source_location;
+        same_kind(error.error_kind, kind)
+            && (location.type_, location.method) == names
+            && location.byte_offset as i128 == self.start.wrapping_add(self.from)
+    }
+}
+
+// Whether two errors are of one kind, of those that readers have.
+pub fn same_kind(read: ErrorKind, plain: ErrorKind) -> bool {
+    match (read, plain) {
+        (ErrorKind::InvalidOffset, ErrorKind::InvalidOffset)
+        | (ErrorKind::InvalidLength, ErrorKind::InvalidLength)
+        | (ErrorKind::InvalidUtf8 { .. }, ErrorKind::InvalidUtf8 { .. })
+        | (ErrorKind::MissingRequired, ErrorKind::MissingRequired)
+        | (ErrorKind::MissingNullTerminator, ErrorKind::MissingNullTerminator) => true,
+        (
+            ErrorKind::InvalidVtableLength { length },
+            ErrorKind::InvalidVtableLength { length: plain },
+        ) => length == plain,
+        (ErrorKind::UnknownUnionTag { tag }, ErrorKind::UnknownUnionTag { tag: plain }) => {
+            tag == plain
+        }
+        (
+            ErrorKind::UnionVectorLengthsMismatched {
+                tags_len,
+                values_len,
+            },
+            ErrorKind::UnionVectorLengthsMismatched {
+                tags_len: tags,
+                values_len: values,
+            },
+        ) => (tags_len, values_len) == (tags, values),
+        _ => false,
+    }
+}
+
+// Whether a reader answers as the plain reader does.
+pub fn same<T: PartialEq + Copy>(read: Answer<T>, plain: Answer<T>) -> bool {
+    match (read, plain) {
+        (Ok(value), Ok(plain)) => value == plain,
+        (Err(kind), Err(plain)) => same_kind(kind, plain),
+        _ => false,
+    }
+}
+
+// What is read as a field of a table.
+pub trait Field: Copy {
+    // Whether an answer is that of the plain reader.
+    fn agrees(read: Answer<Self>, spot: Spot<'_>) -> bool;
+}
+
+impl Field for u8 {
+    fn agrees(read: Answer<u8>, spot: Spot<'_>) -> bool {
+        same(read.map(|read| read as u64), number(spot.bytes, spot.at, 1))
+    }
+}
+
+impl Field for i16 {
+    fn agrees(read: Answer<i16>, spot: Spot<'_>) -> bool {
+        same(
+            read.map(|read| read as i128),
+            signed(spot.bytes, spot.at, 2),
+        )
+    }
+}
+
+impl<'a> Field for &'a str {
+    fn agrees(read: Answer<&'a str>, spot: Spot<'_>) -> bool {
+        same(read, text(spot.bytes, spot.at))
+    }
+}
+
+impl<'a> Field for &'a [u8] {
+    fn agrees(read: Answer<&'a [u8]>, spot: Spot<'_>) -> bool {
+        same(read, byte_list(spot.bytes, spot.at))
+    }
+}
+
+impl<'a> Field for SignedBytes<'a> {
+    fn agrees(read: Answer<SignedBytes<'a>>, spot: Spot<'_>) -> bool {
+        same(
+            read.map(|read| read.as_bytes()),
+            byte_list(spot.bytes, spot.at),
+        )
+    }
+}
+
+impl<'a> Field for Place<'a> {
+    fn agrees(read: Answer<Place<'a>>, spot: Spot<'_>) -> bool {
+        match read {
+            Ok(place) => {
+                position(place) as i128 == spot.place()
+                    && <&str>::agrees(place.read::<&str>(), spot)
+                    && Table::agrees(place.read::<Table<'_>>(), spot)
+            }
+            Err(_) => false,
+        }
+    }
+}
+
+// The first two slots of the table are compared.
+impl<'a> Field for Table<'a> {
+    fn agrees(read: Answer<Table<'a>>, spot: Spot<'_>) -> bool {
+        match (read, table(spot.bytes, spot.from, spot.at)) {
+            (Ok(table), Ok(plain)) => {
+                let found = Found {
+                    table,
+                    plain,
+                    start: spot.start,
+                };
+                found.values_agree(0) && found.values_agree(1)
+            }
+            (Err(kind), Err(plain)) => same_kind(kind, plain),
+            _ => false,
+        }
+    }
+}
+
+impl<'a, T: VectorRead<'a> + Item> Field for Vector<'a, T> {
+    fn agrees(read: Answer<Vector<'a, T>>, spot: Spot<'_>) -> bool {
+        match (read, vector(spot.bytes, spot.at, T::stride() as i128)) {
+            (Ok(vector), Ok(plain)) => items_agree(vector, plain, spot),
+            (Err(kind), Err(plain)) => same_kind(kind, plain),
+            _ => false,
+        }
+    }
+}
+
+// What is read as an item of a vector.
+pub trait Item: Copy {
+    // Whether it is what the plain reader reads.
+    fn is_at(&self, spot: Spot<'_>) -> bool;
+}
+
+impl Item for u16 {
+    fn is_at(&self, spot: Spot<'_>) -> bool {
+        same(Ok(*self as u64), number(spot.bytes, spot.at, 2))
+    }
+}
+
+impl Item for i64 {
+    fn is_at(&self, spot: Spot<'_>) -> bool {
+        same(Ok(*self as i128), signed(spot.bytes, spot.at, 8))
+    }
+}
+
+impl Item for bool {
+    fn is_at(&self, spot: Spot<'_>) -> bool {
+        let plain = number(spot.bytes, spot.at, 1);
+        same(Ok(*self), plain.map(|number| number != 0))
+    }
+}
+
+impl<'a> Item for Place<'a> {
+    fn is_at(&self, spot: Spot<'_>) -> bool {
+        Place::agrees(Ok(*self), spot)
+    }
+}
+
+impl<'a> Item for Result<&'a str, Error> {
+    fn is_at(&self, spot: Spot<'_>) -> bool {
+        match (*self, text(spot.bytes, spot.at)) {
+            (Ok(text), Ok(plain)) => text == plain,
+            (Err(error), Err(plain)) => spot.is_error(error, plain, ("[str]", "get")),
+            _ => false,
+        }
+    }
+}
+
+impl<'a> Item for Result<Row<'a>, Error> {
+    fn is_at(&self, spot: Spot<'_>) -> bool {
+        match (*self, table(spot.bytes, spot.from, spot.at)) {
+            (Ok(row), Ok(_)) => Table::agrees(Ok(row.0), spot),
+            (Err(error), Err(plain)) => spot.is_error(error, plain, ("[Row]", "get")),
+            _ => false,
+        }
+    }
+}
+
+// Whether there is an item, and it is what the plain reader reads.
+fn item_is<T: Item>(item: Option<T>, spot: Spot<'_>) -> bool {
+    match item {
+        Some(item) => item.is_at(spot),
+        None => false,
+    }
+}
+
+// Whether the items of a vector are those of the plain one by each way to come to them: by their
+// position, from the front, and from the back. One that is taken from the front is read in the piece
+// that begins with it.
+fn items_agree<'a, T: VectorRead<'a> + Item>(
+    vector: Vector<'a, T>,
+    plain: PlainList,
+    spot: Spot<'_>,
+) -> bool {
+    let len = vector.len();
+    let stride = T::stride() as i128;
+    let mut front = vector.iter();
+    let mut back = vector.iter();
+    for i in 0..len {
+        let here = plain.items.wrapping_add((i as i128).wrapping_mul(stride));
+        let behind = (len - i - 1) as i128;
+        let there = plain.items.wrapping_add(behind.wrapping_mul(stride));
+        let agree = item_is(vector.get(i), spot.of(plain.items, here))
+            && item_is(front.next(), spot.of(here, here))
+            && item_is(back.next_back(), spot.of(plain.items, there));
+        if !agree {
+            return false;
+        }
+    }
+    len as u64 == plain.count
+        && vector.get(len).is_none()
+        && front.next().is_none()
+        && back.next_back().is_none()
+}
+
+// What is read as a union field of a table, or as an item of a vector of unions.
+pub trait Union: Copy {
+    // Whether an answer for this tag is that of the plain reader.
+    fn agrees(read: Answer<Self>, tag: u8, spot: Spot<'_>) -> bool;
+
+    // The name of the vector in the error of an item.
+    fn vector() -> &'static str;
+}
+
+impl<'a> Union for TaggedPlace<'a> {
+    fn agrees(read: Answer<TaggedPlace<'a>>, tag: u8, spot: Spot<'_>) -> bool {
+        match read {
+            Ok(union) => union.tag() == tag && Place::agrees(Ok(union.place()), spot),
+            Err(_) => false,
+        }
+    }
+
+    fn vector() -> &'static str {
+        "[union]"
+    }
+}
+
+impl<'a> Union for Held<'a> {
+    fn agrees(read: Answer<Held<'a>>, tag: u8, spot: Spot<'_>) -> bool {
+        match (tag, read) {
+            (1, Ok(Held::Table(table))) => Table::agrees(Ok(table), spot),
+            (2, Ok(Held::Text(text))) => <&str>::agrees(Ok(text), spot),
+            (1, Err(kind)) => Table::agrees(Err(kind), spot),
+            (2, Err(kind)) => <&str>::agrees(Err(kind), spot),
+            (_, Err(ErrorKind::UnknownUnionTag { tag: unknown })) => tag == unknown,
+            _ => false,
+        }
+    }
+
+    fn vector() -> &'static str {
+        "[Held]"
+    }
+}
+
+// Whether there is an item, and it is what the plain reader reads. The tags lie elsewhere.
+fn union_is<T: Union>(item: Option<Result<T, Error>>, tags: i128, spot: Spot<'_>) -> bool {
+    let tag = (number(spot.bytes, tags, 1).unwrap_or(0) % 256) as u8;
+    match item {
+        Some(Ok(union)) => T::agrees(Ok(union), tag, spot),
+        Some(Err(error)) => {
+            spot.is_error(error, error.error_kind, (T::vector(), "get"))
+                && T::agrees(Err(error.error_kind), tag, spot)
+        }
+        None => false,
+    }
+}
+
+// The same of a vector of unions as of a vector. The piece is that of the references.
+fn unions_agree<'a, T: VectorReadUnion<'a> + Union>(
+    vector: UnionVector<'a, T>,
+    plain: (PlainList, PlainList),
+    spot: Spot<'_>,
+) -> bool {
+    let (tags, values) = plain;
+    let len = vector.len();
+    let mut front = vector.iter();
+    let mut back = vector.iter();
+    for i in 0..len {
+        let (first, last) = (i as i128, (len - i - 1) as i128);
+        let here = values.items.wrapping_add(first.wrapping_mul(4));
+        let there = values.items.wrapping_add(last.wrapping_mul(4));
+        let tag = tags.items.wrapping_add(first);
+        let agree = union_is(vector.get(i), tag, spot.of(values.items, here))
+            && union_is(front.next(), tag, spot.of(here, here))
+            && union_is(
+                back.next_back(),
+                tags.items.wrapping_add(last),
+                spot.of(values.items, there),
+            );
+        if !agree {
+            return false;
+        }
+    }
+    len as u64 == values.count
+        && vector.get(len).is_none()
+        && front.next().is_none()
+        && back.next_back().is_none()
+}
+
+// What is read as a field of two slots.
+pub trait UnionField: Copy {
+    // Whether an answer is that of the plain reader, where the tags are at the first position.
+    fn agrees(read: Answer<Self>, tags: i128, spot: Spot<'_>) -> bool;
+}
+
+impl<'a> UnionField for Pair<'a> {
+    fn agrees(read: Answer<Pair<'a>>, tags: i128, spot: Spot<'_>) -> bool {
+        match read {
+            Ok(pair) => {
+                position(pair.tags) as i128 == spot.at(tags).place()
+                    && position(pair.values) as i128 == spot.place()
+            }
+            Err(_) => false,
+        }
+    }
+}
+
+impl<'a, T: VectorReadUnion<'a> + Union> UnionField for UnionVector<'a, T> {
+    fn agrees(read: Answer<UnionVector<'a, T>>, tags: i128, spot: Spot<'_>) -> bool {
+        match (read, union_vector(spot.bytes, tags, spot.at)) {
+            (Ok(vector), Ok(plain)) => unions_agree(vector, plain, spot),
+            (Err(kind), Err(plain)) => same_kind(kind, plain),
+            _ => false,
+        }
+    }
+}

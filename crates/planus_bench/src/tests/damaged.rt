@@ -1,0 +1,178 @@
+//! Every prefix and every one-byte change of a few buffers, read by every accessor with all memory
+//! taken, beside the plain reader.
+
+use super::agreement::same;
+use super::found::{lists_agree, tables_agree};
+use super::plain_reader::{Answer, head, number, signed};
+use planus::{SliceWithStartOffset, TableRead};
+use planus_exhaust::exhaust;
+use planus_read::array_from_buffer;
+use std::alloc::{AllocError, Global};
+use std::test::Fail;
+
+// A weapon with the name `Axe` and a damage of 24.
+const WEAPON: [u8; 32] = [
+    4, 0, 0, 0, 0xf4, 0xff, 0xff, 0xff, 16, 0, 0, 0, 24, 0, 0, 0, 8, 0, 10, 0, 4, 0, 8, 0, 3, 0, 0,
+    0, b'A', b'x', b'e', 0,
+];
+
+// An orc with 80 hit points and one weapon, the same, which it has equipped.
+const ORC: [u8; 84] = [
+    4, 0, 0, 0, 0xec, 0xff, 0xff, 0xff, 40, 0, 0, 0, 28, 0, 0, 0, 40, 0, 0, 0, 80, 0, 1, 0, 16, 0,
+    19, 0, 16, 0, 4, 0, 0, 0, 8, 0, 18, 0, 12, 0, 1, 0, 0, 0, 12, 0, 0, 0, 3, 0, 0, 0, b'O', b'r',
+    b'c', 0, 0xf4, 0xff, 0xff, 0xff, 16, 0, 0, 0, 24, 0, 0, 0, 8, 0, 10, 0, 4, 0, 8, 0, 3, 0, 0, 0,
+    b'A', b'x', b'e', 0,
+];
+
+// A table whose slots 0 and 1 hold a vector of two unions, of tags 1 and 2 and the texts `A` and
+// `B`.
+const LOOT: [u8; 58] = [
+    4, 0, 0, 0, 0xf4, 0xff, 0xff, 0xff, 16, 0, 0, 0, 20, 0, 0, 0, 8, 0, 12, 0, 4, 0, 8, 0, 2, 0, 0,
+    0, 1, 2, 0, 0, 2, 0, 0, 0, 16, 0, 0, 0, 4, 0, 0, 0, 1, 0, 0, 0, b'B', 0, 0, 0, 1, 0, 0, 0,
+    b'A', 0,
+];
+
+// A weapon with no name and a damage of -162, as flatc 2.0.8 and the builders for C++ and Python
+// write it: with its vtable in front of it.
+const OF_OTHERS: [u8; 20] = [
+    12, 0, 0, 0, 8, 0, 8, 0, 0, 0, 6, 0, 8, 0, 0, 0, 0, 0, 0x5e, 0xff,
+];
+
+// The slots of each of these tables, and one more.
+const FEW_SLOTS: [usize; 3] = [0, 1, 2];
+
+const ALL_SLOTS: [usize; 9] = [0, 1, 2, 3, 4, 5, 6, 7, 8];
+
+// Slots that no vtable has: twice such a slot, or a little more, leaves 16 or 64 bits.
+const FAR_SLOTS: [usize; 7] = [
+    32767,
+    32768,
+    usize::MAX / 2 - 1,
+    usize::MAX / 2,
+    usize::MAX / 2 + 1,
+    usize::MAX - 1,
+    usize::MAX,
+];
+
+fn number_agrees<'buf, T: TableRead<'buf> + Into<i128>>(
+    piece: SliceWithStartOffset<'buf>,
+    f: usize,
+    plain: Answer<i128>,
+) -> bool {
+    match T::from_buffer(piece, f) {
+        Ok(number) => same(Ok(number.into()), plain),
+        Err(kind) => same(Err(kind), plain),
+    }
+}
+
+// Whether the readers of numbers and truth values and the plain reader agree at an offset.
+fn numbers_agree(piece: SliceWithStartOffset<'_>, f: usize) -> bool {
+    let bytes = piece.as_slice();
+    let at = f as i128;
+    let unsigned = |width: u8| number(bytes, at, width).map(|number| number as i128);
+    number_agrees::<u8>(piece, f, unsigned(1))
+        && number_agrees::<u16>(piece, f, unsigned(2))
+        && number_agrees::<u32>(piece, f, unsigned(4))
+        && number_agrees::<u64>(piece, f, unsigned(8))
+        && number_agrees::<i8>(piece, f, signed(bytes, at, 1))
+        && number_agrees::<i16>(piece, f, signed(bytes, at, 2))
+        && number_agrees::<i32>(piece, f, signed(bytes, at, 4))
+        && number_agrees::<i64>(piece, f, signed(bytes, at, 8))
+        && same(
+            <bool as TableRead<'_>>::from_buffer(piece, f),
+            number(bytes, at, 1).map(|number| number != 0),
+        )
+}
+
+fn heads_agree(piece: SliceWithStartOffset<'_>, f: usize) -> bool {
+    let head_read = array_from_buffer(piece, f);
+    let read = head_read.map(|(items, count)| (items.offset_from_start() as i128, count as u64));
+    let start = piece.offset_from_start() as i128;
+    let plain = head(piece.as_slice(), f as i128);
+    same(
+        read,
+        plain.map(|list| (start.wrapping_add(list.items), list.count)),
+    )
+}
+
+// Whether all readers agree at this offset of these bytes, which start here, and at these slots of
+// the table.
+fn all_agree(bytes: &[u8], f: usize, start: u32, slots: &[usize]) -> bool {
+    let piece = SliceWithStartOffset::new(bytes, start as usize);
+    numbers_agree(piece, f)
+        && heads_agree(piece, f)
+        && lists_agree(piece, f)
+        && tables_agree(piece, f, slots)
+}
+
+// The first prefix and offset at which readers disagree.
+fn prefixes_agree(bytes: &[u8], slots: &[usize]) -> Result<(), (usize, usize)> {
+    let far = [usize::MAX / 2, usize::MAX - 8, usize::MAX - 1, usize::MAX];
+    for len in 0..=bytes.len() {
+        for f in (0..34).chain(far) {
+            let agree = all_agree(&bytes[..len], f, 0, slots)
+                && all_agree(&bytes[..len], f, 1000, &FAR_SLOTS);
+            if !agree {
+                return Err((len, f));
+            }
+        }
+    }
+    Ok(())
+}
+
+// The first byte and its new value at which readers disagree at the root, or at an offset that
+// begins with the byte.
+fn changes_agree(bytes: &mut [u8], slots: &[usize]) -> Result<(), (usize, usize)> {
+    for at in 0..bytes.len() {
+        let byte = bytes[at];
+        for new in 0..=255u8 {
+            bytes[at] = new;
+            if !all_agree(bytes, 0, 1000, slots) || !all_agree(bytes, at, 0, &[0]) {
+                return Err((at, new as usize));
+            }
+        }
+        bytes[at] = byte;
+    }
+    Ok(())
+}
+
+// Of the prefixes and of the changes of a buffer.
+type Differences = [Result<(), (usize, usize)>; 2];
+
+fn differences<const N: usize>(bytes: &[u8; N], slots: &[usize]) -> Differences {
+    let mut changed = *bytes;
+    [
+        prefixes_agree(bytes, slots),
+        changes_agree(&mut changed, slots),
+    ]
+}
+
+fn all_differences() -> [Differences; 4] {
+    [
+        differences(&WEAPON, &FEW_SLOTS),
+        differences(&ORC, &ALL_SLOTS),
+        differences(&LOOT, &FEW_SLOTS),
+        differences(&OF_OTHERS, &FEW_SLOTS),
+    ]
+}
+
+// The same with all memory taken. Tells whether it was.
+fn differences_without_memory(alloc: Global) -> Result<(bool, [Differences; 4]), AllocError> {
+    let mut held: Vec<Vec<u8>> = Vec::with_capacity(alloc, 262144)?;
+    let exhausted = exhaust(alloc, &mut held)?;
+    let found = all_differences();
+    drop(held);
+    Ok((exhausted, found))
+}
+
+#[test]
+fn damaged_buffers_without_memory(rt: HostRuntime) -> Result<(), Fail> {
+    let (exhausted, found) = differences_without_memory(rt.alloc())?;
+    if !exhausted {
+        println!(rt; "memory was left: this test does not apply")?;
+    }
+    for differences in found {
+        assert!(rt; matches!(differences, [Ok(()), Ok(())]), "{differences:?}");
+    }
+    Ok(())
+}
