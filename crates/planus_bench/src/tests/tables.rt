@@ -12,9 +12,9 @@ use std::test::Fail;
 
 // One field.
 #[derive(Drop)]
-struct One<P: Primitive, T: WriteAsPrimitive<P>> {
-    field: T,
-    of: PhantomData<P>,
+pub struct One<P: Primitive, T: WriteAsPrimitive<P>> {
+    pub field: T,
+    pub of: PhantomData<P>,
 }
 
 impl<P: Primitive, T: WriteAsPrimitive<P>> ObjectFill for One<P, T> {

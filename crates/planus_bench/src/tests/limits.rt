@@ -1,0 +1,216 @@
+//! Values at both ends of each limit.
+
+ghost use Rattle.std.proofs.Common.{lit≤, lit<};
+ghost use Rattle.std.specs.Prelude.{◌≡◌, length, refl};
+ghost use Rattle.planus_back.proofs.Multiples.{divides_multiple};
+
+use super::agreement::same_kind;
+use super::kinds::Pair;
+use super::tables::One;
+use planus::table_reader::Table;
+use planus::{
+    BuildError, Builder, Primitive, SliceWithStartOffset, TableWriter, TaggedPlace,
+    WriteAsPrimitive,
+};
+use planus_back::{Promises, TooLarge};
+use planus_read::errors::ErrorKind;
+use std::marker::PhantomData;
+use std::test::Fail;
+
+// As large as the only field of an object can be.
+struct Largest;
+
+impl Primitive for Largest {
+    ghost ALIGNMENT = { 1 };
+
+    ghost SIZE = { 65531 };
+
+    ghost is_layout = { record {
+      power = (0, lit≤ tt, refl);
+      positive = lit< tt;
+      multiple = divides_multiple 1 65531 65531 refl;
+    } };
+
+    ghost is_small = { lit≤ tt };
+
+    const ALIGNMENT: usize = 1;
+
+    const SIZE: usize = 65531;
+}
+
+// The bytes of one.
+#[derive(Clone, Copy)]
+struct Bytes<'a> {
+    bytes: &'a [u8],
+    ghost sized: { length bytes.now ≡ 65531 },
+}
+
+impl<'a> WriteAsPrimitive<Largest> for Bytes<'a> {
+    ghost reach = { λ item. 0 };
+
+    ghost leaves = { λ item place. item.bytes.now };
+
+    fn write(&self, bytes: &mut [u8], _place: u32) {
+        bytes.copy_from_slice(self.bytes);
+    }
+}
+
+// Writes a table of this field alone in slot 0, and finishes it.
+fn put_largest<'b>(builder: &'b mut Builder, field: Bytes<'_>) -> Result<&'b [u8], BuildError> {
+    let mut writer: TableWriter<6> = TableWriter::default();
+    writer.write_entry::<Largest>(0);
+    let of: PhantomData<Largest> = PhantomData;
+    writer.finish(builder, &One { field, of })?;
+    let root = builder.current_offset::<()>();
+    builder.finish(root, None)
+}
+
+// Whether it stands behind the root word and the word of the table, and its vtable at the end.
+fn stands_largest(bytes: &[u8], item: &[u8]) -> bool {
+    bytes.len() == 65546
+        && bytes.starts_with(b"\x04\0\0\0\0\0\xff\xff")
+        && bytes[8..].starts_with(item)
+        && bytes.ends_with(b"\0\x06\0\xff\xff\x04\0")
+}
+
+fn the_largest_object_is_written(builder: &mut Builder, item: &[u8]) -> bool {
+    if item.len() != 65531 {
+        return false;
+    }
+    match put_largest(builder, Bytes { bytes: item }) {
+        Ok(bytes) => stands_largest(bytes, item),
+        Err(_) => false,
+    }
+}
+
+#[test]
+fn the_largest_object(rt: HostRuntime) -> Result<(), Fail> {
+    let item = vec![in rt.alloc(); 0xa5; 65531]?;
+    let mut builder = Builder::new(rt.alloc())?;
+    assert!(rt; the_largest_object_is_written(&mut builder, item.as_slice()));
+    Ok(())
+}
+
+// Writes a table of the number 5 alone in the greatest slot, and finishes it.
+fn put_greatest_slot(builder: &mut Builder) -> Result<&[u8], BuildError> {
+    let mut writer: TableWriter<65534> = TableWriter::default();
+    writer.write_entry::<u8>(32764);
+    let of: PhantomData<u8> = PhantomData;
+    writer.finish(builder, &One { field: 5u8, of })?;
+    let root = builder.current_offset::<()>();
+    builder.finish(root, None)
+}
+
+// Whether the number is read in its slot, and none behind it.
+fn reads_greatest_slot(bytes: &[u8]) -> bool {
+    match Table::from_buffer(SliceWithStartOffset::new(bytes, 0), 0) {
+        Ok(table) => {
+            matches!(table.access::<u8>(32764, "T", "m"), Ok(Some(5)))
+                && matches!(table.access::<u8>(32765, "T", "m"), Ok(None))
+        }
+        Err(_) => false,
+    }
+}
+
+fn the_greatest_slot_is_written(builder: &mut Builder) -> bool {
+    match put_greatest_slot(builder) {
+        Ok(bytes) => {
+            bytes.len() == 65544
+                && bytes.starts_with(b"\x04\0\0\0\xfa\xff\xff\xff\x05\0\xfe\xff\x05\0")
+                && reads_greatest_slot(bytes)
+        }
+        Err(_) => false,
+    }
+}
+
+#[test]
+fn the_greatest_slot(rt: HostRuntime) -> Result<(), Fail> {
+    let mut builder = Builder::new(rt.alloc())?;
+    assert!(rt; the_greatest_slot_is_written(&mut builder));
+    Ok(())
+}
+
+// A table with the number 24 of two bytes in slot 0.
+const NUMBER: [u8; 16] = [4, 0, 0, 0, 0xfa, 0xff, 0xff, 0xff, 24, 0, 6, 0, 6, 0, 4, 0];
+
+fn slot_is_none(table: Table<'_>, slot: usize) -> bool {
+    matches!(table.access::<u16>(slot, "T", "m"), Ok(None))
+        && matches!(
+            table.access_union::<TaggedPlace<'_>>(slot, "T", "m"),
+            Ok(None)
+        )
+        && matches!(
+            table.access_union_vector::<Pair<'_>>(slot, "T", "m"),
+            Ok(None)
+        )
+}
+
+#[test]
+fn slots_far_behind_a_vtable(rt: HostRuntime) -> Result<(), Fail> {
+    let table = Table::from_buffer(SliceWithStartOffset::new(&NUMBER, 0), 0)?;
+    assert!(rt; matches!(table.access::<u16>(0, "T", "m"), Ok(Some(24))));
+    for slot in [usize::MAX, usize::MAX / 2, usize::MAX / 2 + 1] {
+        assert!(rt; slot_is_none(table, slot), "{slot}");
+    }
+    Ok(())
+}
+
+// At the greatest place there is room for no byte more.
+#[test]
+fn promises_at_the_greatest_place(rt: HostRuntime) {
+    let promises = Promises::new();
+    let none = promises.request(2147483647, 0, 0);
+    let one = promises.request(2147483647, 1, 0);
+    assert!(rt; matches!(none, Ok((_, 0))), "no byte");
+    assert!(rt; matches!(one, Err(TooLarge)), "one byte");
+}
+
+// The weapon with the name `Axe` and a damage of 24, of which one byte is another.
+fn weapon(at: usize, byte: u8) -> [u8; 32] {
+    let mut bytes = *b"\x04\0\0\0\xf4\xff\xff\xff\x10\0\0\0\x18\0\0\0\
+        \x08\0\x0a\0\x04\0\x08\0\x03\0\0\0Axe\0";
+    if at < 32 {
+        bytes[at] = byte;
+    }
+    bytes
+}
+
+// Whether a table's root fails with this error.
+fn root_fails(bytes: &[u8], kind: ErrorKind) -> bool {
+    match Table::from_buffer(SliceWithStartOffset::new(bytes, 0), 0) {
+        Ok(_) => false,
+        Err(read) => same_kind(read, kind),
+    }
+}
+
+#[test]
+fn damaged_roots_of_a_weapon(rt: HostRuntime) {
+    for (at, byte, kind) in [
+        (0, 0x20, ErrorKind::InvalidOffset),
+        (0, 0x21, ErrorKind::InvalidOffset),
+        (4, 0xf5, ErrorKind::InvalidLength),
+        (7, 0x00, ErrorKind::InvalidOffset),
+        (16, 0x09, ErrorKind::InvalidVtableLength { length: 9 }),
+    ] {
+        assert!(rt;
+            root_fails(&weapon(at, byte), kind),
+            "byte {at} made {byte}"
+        );
+    }
+}
+
+// Whether the vtable's second slot is no longer there.
+fn has_a_name_alone(bytes: &[u8]) -> bool {
+    match Table::from_buffer(SliceWithStartOffset::new(bytes, 0), 0) {
+        Ok(weapon) => {
+            matches!(weapon.access::<&str>(0, "Weapon", "name"), Ok(Some("Axe")))
+                && matches!(weapon.access::<i16>(1, "Weapon", "damage"), Ok(None))
+        }
+        Err(_) => false,
+    }
+}
+
+#[test]
+fn a_weapon_with_a_shorter_vtable(rt: HostRuntime) {
+    assert!(rt; has_a_name_alone(&weapon(16, 0x06)));
+}
