@@ -27,6 +27,25 @@ pub fn exhaust(alloc: Global, held: &mut Vec<Vec<u8>>) -> Result<bool, AllocErro
     }
 }
 
+// A block that the C library's malloc takes from its heap, and keeps in no list of blocks of one
+// size when it is given back, so that smaller ones are cut from it.
+const BLOCK: usize = 65536;
+
+/// Takes all memory but about so many bytes, at most 65536 of them, which lie in one piece. Else as
+/// [`exhaust`].
+pub fn exhaust_all_but(
+    alloc: Global,
+    held: &mut Vec<Vec<u8>>,
+    spare: usize,
+) -> Result<bool, AllocError> {
+    let block: Vec<u8> = Vec::with_capacity(alloc, BLOCK)?;
+    let exhausted = exhaust(alloc, held)?;
+    drop(block);
+    let taken: Vec<u8> = Vec::with_capacity(alloc, BLOCK.saturating_sub(spare))?;
+    held.push(taken)?;
+    Ok(exhausted)
+}
+
 // Takes the blocks, and returns whether no byte is left.
 fn take_all(alloc: Global, held: &mut Vec<Vec<u8>>) -> bool {
     let mut size: usize = 1 << 40;

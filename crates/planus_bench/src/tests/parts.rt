@@ -28,8 +28,8 @@ impl<'a> Fill for Same<'a> {
 
 // Leaves one byte over and over, as often as there is room.
 #[derive(Drop)]
-struct Repeated {
-    byte: u8,
+pub struct Repeated {
+    pub byte: u8,
 }
 
 impl Fill for Repeated {
@@ -71,7 +71,7 @@ impl Fill for PlaceByte {
 }
 
 // Writes the bytes as one part.
-fn put(builder: &mut Builder, bytes: &[u8], alignment: usize) -> Result<(), BuildError> {
+pub fn put(builder: &mut Builder, bytes: &[u8], alignment: usize) -> Result<(), BuildError> {
     builder.write_with(bytes.len(), mask_of(alignment), &Same { bytes })
 }
 

@@ -146,7 +146,7 @@ fn a_table_with_a_free_slot_between(rt: HostRuntime) {
 }
 
 // Writes a table with one number in slot 0.
-fn put_number(builder: &mut Builder, field: u16) -> Result<(), BuildError> {
+pub fn put_number(builder: &mut Builder, field: u16) -> Result<(), BuildError> {
     let mut writer: TableWriter<6> = TableWriter::default();
     writer.write_entry::<u16>(0);
     let of: PhantomData<u16> = PhantomData;

@@ -1,5 +1,0 @@
-//! Tests in large numbers, against plain, slow programs, and tests with refused memory.
-#![tactic(auto)]
-
-#[cfg(test)]
-mod tests;

@@ -1,0 +1,257 @@
+//! Calls on a builder that ask for memory several times.
+
+ghost use Rattle.std.specs.Prelude.{◌≡◌, ◌≤◌, length, IsTrue, codes};
+
+use planus::table_reader::Table;
+use planus::{
+    BuildError, Builder, Error, Offset, SliceWithStartOffset, TableKind, TableRead, Text,
+    UnionOffset, Vector, create_table, fields,
+};
+use std::alloc::Global;
+
+/// A call that asks for memory several times.
+#[derive(Clone, Copy)]
+pub enum Call {
+    /// A list of the texts `A` and `B`, in a new builder.
+    List,
+    /// A list of two unions, with the tags 1 and 2 and the texts `A` and `B`, which stand there.
+    Unions,
+    /// A table with the text `Axe` and the number 24, in a new builder.
+    Weapon,
+}
+
+/// What a call came to.
+#[derive(Clone, Copy, PartialEq, Eq)]
+pub enum Outcome {
+    /// A request before the call was refused.
+    NotBegun,
+    /// No request was refused, and the builder has so many bytes.
+    Made {
+        /// Their number.
+        len: usize,
+    },
+    /// A request was refused, and none when the call was made again.
+    MadeAgain {
+        /// The number of bytes after the refusal.
+        refused: usize,
+        /// The number of bytes in the end.
+        len: usize,
+    },
+    /// What was written before isn't kept, or what is written doesn't read back.
+    Wrong,
+}
+
+/// The kind of an offset to a weapon.
+struct Weapon;
+
+impl TableKind for Weapon {
+    ghost name = { codes "[Weapon]" };
+
+    fn name() -> &'static str
+        ensures { result.now ≡ codes "[Weapon]" }
+    {
+        "[Weapon]"
+    }
+}
+
+/// Where a value was written: what it is named by, and for a list of unions its tags.
+#[derive(Clone, Copy)]
+pub struct Written {
+    value: Offset<()>,
+    tags: Option<Offset<()>>,
+}
+
+/// The texts that stand there before a list of unions is written.
+const TEXTS: &[u8] = b"\x01\0\0\0B\0\0\0\x01\0\0\0A\0";
+
+/// The builder has what is at this distance.
+fn has(builder: &Builder, distance: u32) -> bool
+    ensures { IsTrue result → distance ≤ length builder.now.bytes }
+{
+    distance as usize <= builder.len()
+}
+
+/// Writes the two texts.
+fn write_texts(builder: &mut Builder) -> Result<[Offset<Text>; 2], BuildError> {
+    Ok([builder.create_string("A")?, builder.create_string("B")?])
+}
+
+fn write_list(builder: &mut Builder) -> Result<Written, BuildError> {
+    let list = builder.create_vector::<Offset<Text>, &[&str]>(&["A", "B"])?;
+    Ok(Written {
+        value: list.downcast(),
+        tags: None,
+    })
+}
+
+/// Writes the list of unions of two texts, which are found.
+fn write_unions(builder: &mut Builder) -> Result<Written, BuildError> {
+    let [a, b] = write_texts(builder)?;
+    let first: UnionOffset<()> = UnionOffset::new(1, a.downcast());
+    let second: UnionOffset<()> = UnionOffset::new(2, b.downcast());
+    if !has(builder, first.offset().distance()) || !has(builder, second.offset().distance()) {
+        return Err(BuildError::TooLarge);
+    }
+    let unions = builder.create_union_vector([first, second])?;
+    Ok(Written {
+        value: unions.values_offset().downcast(),
+        tags: Some(unions.tags_offset().downcast()),
+    })
+}
+
+fn write_weapon(builder: &mut Builder) -> Result<Written, BuildError> {
+    let fields = fields![0: Offset<Text> = "Axe", 1: i16 = 24i16];
+    let weapon = create_table::<Weapon, 8, _>(builder, fields)?;
+    Ok(Written {
+        value: weapon.downcast(),
+        tags: None,
+    })
+}
+
+/// Writes what stands there before the call.
+pub fn prepare(builder: &mut Builder, call: Call) -> Result<(), BuildError> {
+    if let Call::Unions = call {
+        write_texts(builder)?;
+    }
+    Ok(())
+}
+
+/// Makes the call.
+pub fn make(builder: &mut Builder, call: Call) -> Result<Written, BuildError> {
+    match call {
+        Call::List => write_list(builder),
+        Call::Unions => write_unions(builder),
+        Call::Weapon => write_weapon(builder),
+    }
+}
+
+fn two_texts_are_read(bytes: &[u8]) -> bool {
+    let whole = SliceWithStartOffset::new(bytes, 0);
+    match <Vector<'_, Result<&str, Error>> as TableRead<'_>>::from_buffer(whole, 0) {
+        Ok(texts) => {
+            texts.len() == 2
+                && matches!(texts.get(0), Some(Ok("A")))
+                && matches!(texts.get(1), Some(Ok("B")))
+        }
+        Err(_) => false,
+    }
+}
+
+fn tags_are_read(bytes: &[u8]) -> bool {
+    let whole = SliceWithStartOffset::new(bytes, 0);
+    matches!(<&[u8] as TableRead<'_>>::from_buffer(whole, 0), Ok([1, 2]))
+}
+
+pub fn weapon_is_read(bytes: &[u8]) -> bool {
+    match Table::from_buffer(SliceWithStartOffset::new(bytes, 0), 0) {
+        Ok(weapon) => {
+            matches!(weapon.access::<&str>(0, "Weapon", "name"), Ok(Some("Axe")))
+                && matches!(weapon.access::<i16>(1, "Weapon", "damage"), Ok(Some(24)))
+        }
+        Err(_) => false,
+    }
+}
+
+/// Tells whether a finish with this root gives bytes that are read.
+fn finish_is_read(builder: &mut Builder, root: Offset<()>, call: Call, tags: bool) -> bool {
+    if !has(builder, root.distance()) {
+        return false;
+    }
+    match builder.finish(root, None) {
+        Ok(bytes) => match call {
+            Call::Weapon => weapon_is_read(bytes),
+            _ if tags => tags_are_read(bytes),
+            _ => two_texts_are_read(bytes),
+        },
+        Err(_) => false,
+    }
+}
+
+/// Tells whether what was written reads back.
+fn reads_back(builder: &mut Builder, call: Call, written: Written) -> bool {
+    finish_is_read(builder, written.value, call, false)
+        && match written.tags {
+            Some(tags) => finish_is_read(builder, tags, call, true),
+            None => true,
+        }
+}
+
+/// Tells whether a text is written, or found, in the bytes that are there.
+fn text_stands(builder: &mut Builder, letters: &str, serialized: &[u8]) -> bool {
+    match builder.create_string(letters) {
+        Ok(text) => match builder.len().checked_sub(text.distance() as usize) {
+            Some(at) => match builder.as_slice().get(at..) {
+                Some(rest) => rest.starts_with(serialized),
+                None => false,
+            },
+            None => false,
+        },
+        Err(_) => false,
+    }
+}
+
+/// Tells whether the texts of a call are found only where they stand.
+fn texts_stand(builder: &mut Builder, call: Call) -> bool {
+    match call {
+        Call::Weapon => text_stands(builder, "Axe", b"\x03\0\0\0Axe\0"),
+        _ => {
+            text_stands(builder, "A", b"\x01\0\0\0A\0")
+                && text_stands(builder, "B", b"\x01\0\0\0B\0")
+        }
+    }
+}
+
+/// Tells whether what stood there before the call is still the end of the bytes.
+fn keeps_what_was_there(builder: &Builder, call: Call) -> bool {
+    match call {
+        Call::Unions => builder.as_slice().ends_with(TEXTS),
+        _ => true,
+    }
+}
+
+/// What a refused call comes to when it is made again with memory.
+pub fn make_again(builder: &mut Builder, call: Call) -> Outcome {
+    let refused = builder.len();
+    if !keeps_what_was_there(builder, call) || !texts_stand(builder, call) {
+        return Outcome::Wrong;
+    }
+    match make(builder, call) {
+        Ok(written) => {
+            let len = builder.len();
+            if !reads_back(builder, call, written) {
+                return Outcome::Wrong;
+            }
+            Outcome::MadeAgain { refused, len }
+        }
+        Err(_) => Outcome::Wrong,
+    }
+}
+
+/// What a call that was made comes to.
+fn made(builder: &mut Builder, call: Call, written: Written) -> Outcome {
+    let len = builder.len();
+    if !reads_back(builder, call, written) {
+        return Outcome::Wrong;
+    }
+    Outcome::Made { len }
+}
+
+/// What a call comes to in an empty builder.
+fn outcome_in(builder: &mut Builder, call: Call) -> Outcome {
+    if prepare(builder, call).is_err() {
+        return Outcome::NotBegun;
+    }
+    match make(builder, call) {
+        Ok(written) => made(builder, call, written),
+        Err(BuildError::OutOfMemory) => make_again(builder, call),
+        Err(BuildError::TooLarge) => Outcome::Wrong,
+    }
+}
+
+/// What a call comes to in a builder of its own.
+pub fn outcome_of(alloc: Global, call: Call) -> Outcome {
+    match Builder::new(alloc) {
+        Ok(mut builder) => outcome_in(&mut builder, call),
+        Err(_) => Outcome::NotBegun,
+    }
+}

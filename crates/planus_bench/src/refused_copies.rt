@@ -1,0 +1,160 @@
+//! Copies and a replay, which ask for memory several times.
+
+use crate::refused_calls::weapon_is_read;
+use planus::{
+    Caches, CopyError, Error, Field, FieldValue, Finished, ReplayError, SliceWithStartOffset, Step,
+    TableRead, Vector, replay,
+};
+use std::alloc::{AllocError, Global};
+
+/// What a call came to.
+#[derive(Clone, Copy, PartialEq, Eq)]
+pub enum Copied {
+    /// A request before the call was refused.
+    NotBegun,
+    /// No request was refused.
+    Made,
+    /// A request was refused, and none when the call was made again.
+    MadeAgain,
+    /// Something else came of it.
+    Wrong,
+}
+
+/// The list of the numbers 1 to 5.
+const NUMBERS: [u8; 18] = [4, 0, 0, 0, 5, 0, 0, 0, 1, 0, 2, 0, 3, 0, 4, 0, 5, 0];
+
+/// A list of five texts `Axe`, which are one.
+const TEXTS: [u8; 36] = [
+    4, 0, 0, 0, 5, 0, 0, 0, 20, 0, 0, 0, 16, 0, 0, 0, 12, 0, 0, 0, 8, 0, 0, 0, 4, 0, 0, 0, 3, 0, 0,
+    0, b'A', b'x', b'e', 0,
+];
+
+fn numbers() -> Vector<'static, u16> {
+    match TableRead::from_buffer(SliceWithStartOffset::new(&NUMBERS, 0), 0) {
+        Ok(numbers) => numbers,
+        Err(_) => Vector::new_empty(),
+    }
+}
+
+/// Tells whether the view still gives all items.
+fn numbers_are_read() -> bool {
+    let mut want: u16 = 0;
+    for number in numbers() {
+        want = want.wrapping_add(1);
+        if number != want {
+            return false;
+        }
+    }
+    want == 5
+}
+
+/// Whether the numbers are copied, or memory for them is refused.
+pub fn numbers_are_copied(alloc: Global) -> Option<bool> {
+    match numbers().to_vec::<u16>(alloc) {
+        Ok(copies) if copies.as_slice() == [1, 2, 3, 4, 5].as_slice() => Some(true),
+        Err(CopyError::OutOfMemory) if numbers_are_read() => Some(false),
+        _ => None,
+    }
+}
+
+/// Copies the numbers.
+pub fn copy_numbers(alloc: Global) -> Copied {
+    match numbers_are_copied(alloc) {
+        Some(true) => Copied::Made,
+        Some(false) if numbers_are_copied(alloc) == Some(true) => Copied::MadeAgain,
+        _ => Copied::Wrong,
+    }
+}
+
+fn texts() -> Vector<'static, Result<&'static str, Error>> {
+    match TableRead::from_buffer(SliceWithStartOffset::new(&TEXTS, 0), 0) {
+        Ok(texts) => texts,
+        Err(_) => Vector::new_empty(),
+    }
+}
+
+fn texts_are_read() -> bool {
+    let mut count: usize = 0;
+    for text in texts() {
+        if !matches!(text, Ok("Axe")) {
+            return false;
+        }
+        count = count.wrapping_add(1);
+    }
+    count == 5
+}
+
+/// Whether the texts are copied, or memory for them is refused.
+pub fn texts_are_copied(alloc: Global) -> Option<bool> {
+    match texts().to_vec_result::<String>(alloc) {
+        Ok(copies) if copies.len() == 5 && copies.iter().all(|text| text.as_str() == "Axe") => {
+            Some(true)
+        }
+        Err(CopyError::OutOfMemory) if texts_are_read() => Some(false),
+        _ => None,
+    }
+}
+
+/// Copies the texts.
+pub fn copy_texts(alloc: Global) -> Copied {
+    match texts_are_copied(alloc) {
+        Some(true) => Copied::Made,
+        Some(false) if texts_are_copied(alloc) == Some(true) => Copied::MadeAgain,
+        _ => Copied::Wrong,
+    }
+}
+
+/// The steps `text Axe`, `table 0=ref:0 1=u16:24`, `finish 1`.
+pub fn weapon_steps(alloc: Global) -> Result<Vec<Step>, AllocError> {
+    let mut fields = Vec::new(alloc);
+    for (slot, value) in [
+        (0, FieldValue::Ref(0)),
+        (
+            1,
+            FieldValue::Number {
+                width: 2,
+                value: 24,
+            },
+        ),
+    ] {
+        fields.push(Field { slot, value })?;
+    }
+    let mut steps = Vec::new(alloc);
+    steps.push(Step::Text(String::from_str(alloc, "Axe")?))?;
+    steps.push(Step::Table(fields))?;
+    steps.push(Step::Finish { root: 1, id: None })?;
+    Ok(steps)
+}
+
+fn is_weapon(finished: &[Finished]) -> bool {
+    match finished {
+        [one] => weapon_is_read(one.bytes.as_slice()) && one.bytes.len() == 32,
+        _ => false,
+    }
+}
+
+/// Whether the steps are replayed to the weapon, or memory is refused.
+pub fn weapon_is_replayed(alloc: Global, steps: &[Step]) -> Option<bool> {
+    match replay(alloc, Caches::all(), steps) {
+        Ok(finished) if is_weapon(finished.as_slice()) => Some(true),
+        Err(ReplayError::OutOfMemory) => Some(false),
+        _ => None,
+    }
+}
+
+/// Replays steps, and once more where memory was refused.
+fn replay_twice(alloc: Global, steps: &[Step]) -> Copied {
+    match weapon_is_replayed(alloc, steps) {
+        Some(true) => Copied::Made,
+        Some(false) if weapon_is_replayed(alloc, steps) == Some(true) => Copied::MadeAgain,
+        _ => Copied::Wrong,
+    }
+}
+
+/// Replays the steps of the weapon.
+pub fn replay_weapon(alloc: Global) -> Copied {
+    match weapon_steps(alloc) {
+        Ok(steps) => replay_twice(alloc, steps.as_slice()),
+        Err(_) => Copied::NotBegun,
+    }
+}

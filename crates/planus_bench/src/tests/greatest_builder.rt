@@ -1,0 +1,58 @@
+//! A builder with as many bytes as there may be.
+
+use super::parts::Repeated;
+use planus::{BuildError, Builder};
+use std::alloc::Global;
+use std::test::Fail;
+
+// What a builder may have, in bytes.
+const GREATEST: usize = 2147483647;
+
+// Writes all of them but those of a finish, and finishes.
+fn fill(builder: &mut Builder) -> Result<(), BuildError> {
+    builder.write_with(GREATEST - 4, 0, &Repeated { byte: 7 })?;
+    let root = builder.current_offset::<()>();
+    builder.finish(root, None)?;
+    Ok(())
+}
+
+// Whether they are all there.
+fn is_full(builder: &Builder) -> bool {
+    let bytes = builder.as_slice();
+    bytes.len() == GREATEST
+        && bytes.starts_with(b"\x04\0\0\0\x07\x07")
+        && bytes.ends_with(b"\x07\x07\x07\x07")
+        && builder.room() == 0
+}
+
+// Whether one byte more, an empty text and a finish are too large, and change nothing.
+fn no_more_is_written(builder: &mut Builder) -> bool {
+    let root = builder.current_offset::<()>();
+    builder.write_with(1, 0, &Repeated { byte: 8 }) == Err(BuildError::TooLarge)
+        && matches!(builder.create_string(""), Err(BuildError::TooLarge))
+        && matches!(builder.finish(root, None), Err(BuildError::TooLarge))
+        && builder.write_with(0, 0, &Repeated { byte: 8 }) == Ok(())
+        && is_full(builder)
+}
+
+// Both, and that it can be used again; nothing where there is no memory for it.
+fn is_filled(alloc: Global) -> Result<Option<bool>, BuildError> {
+    let Ok(mut builder) = Builder::with_capacity(alloc, GREATEST) else {
+        return Ok(None);
+    };
+    fill(&mut builder)?;
+    let full = is_full(&builder) && no_more_is_written(&mut builder);
+    builder.clear();
+    let text = builder.create_string("Axe")?;
+    Ok(Some(full && text.distance() == 8 && builder.room() == GREATEST - 8))
+}
+
+#[test]
+fn the_greatest_number_of_bytes(rt: HostRuntime) -> Result<(), Fail> {
+    let filled = is_filled(rt.alloc())?;
+    if filled.is_none() {
+        println!(rt; "there is no memory for it: this test does not apply")?;
+    }
+    assert!(rt; filled != Some(false));
+    Ok(())
+}

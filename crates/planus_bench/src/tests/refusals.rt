@@ -1,0 +1,159 @@
+//! Calls in which one request for memory after the other is refused: they are made with all memory
+//! taken but a few bytes, and at each turn with a few bytes more.
+
+use super::no_memory::holds_or_says;
+use crate::refused_calls::{Call, Outcome, make, make_again, prepare};
+use crate::refused_copies::{
+    numbers_are_copied, texts_are_copied, weapon_is_replayed, weapon_steps,
+};
+use planus::{BuildError, Builder, Step};
+use planus_exhaust::exhaust_all_but;
+use std::alloc::{AllocError, Global};
+use std::test::Fail;
+
+// How many bytes more there are at each turn, and how many turns there are at most.
+const STEP: usize = 32;
+
+const TURNS: usize = 64;
+
+// Makes a call with so many bytes of memory. Tells whether it was refused; nothing where memory was
+// left.
+fn is_refused(
+    alloc: Global,
+    builder: &mut Builder,
+    call: Call,
+    spare: usize,
+) -> Result<Option<bool>, AllocError> {
+    let mut held: Vec<Vec<u8>> = Vec::with_capacity(alloc, 262144)?;
+    let exhausted = exhaust_all_but(alloc, &mut held, spare)?;
+    let refused = matches!(make(builder, call), Err(BuildError::OutOfMemory));
+    drop(held);
+    Ok(if exhausted { Some(refused) } else { None })
+}
+
+// What a call comes to in a new builder with so many bytes of memory, and with all of it where it is
+// refused.
+fn outcome_with(alloc: Global, call: Call, spare: usize) -> Result<Option<Outcome>, BuildError> {
+    let mut builder = Builder::new(alloc)?;
+    prepare(&mut builder, call)?;
+    Ok(match is_refused(alloc, &mut builder, call, spare)? {
+        Some(true) => Some(make_again(&mut builder, call)),
+        Some(false) => Some(Outcome::Made { len: builder.len() }),
+        None => None,
+    })
+}
+
+// The number of bytes at a refusal, and in the end.
+type Lengths = (usize, usize);
+
+// At how many different lengths a call is refused, made with more memory at each turn until it
+// isn't, where all are among these; nothing where memory was left.
+fn states_met(alloc: Global, call: Call, all: &[Lengths]) -> Result<Option<usize>, BuildError> {
+    let mut met = [false; 3];
+    for turn in 0..TURNS {
+        match outcome_with(alloc, call, turn * STEP)? {
+            None => return Ok(None),
+            Some(Outcome::MadeAgain { refused, len }) => {
+                match all.iter().position(|lengths| *lengths == (refused, len)) {
+                    Some(at) if at < 3 => met[at] = true,
+                    _ => return Ok(Some(0)),
+                }
+            }
+            Some(Outcome::Made { .. }) => return Ok(Some(met.iter().filter(|met| **met).count())),
+            _ => return Ok(Some(0)),
+        }
+    }
+    Ok(Some(0))
+}
+
+// Of a list no request comes between its two texts: the builder has room for both, and their cache
+// for both entries.
+#[test]
+fn calls_on_a_builder(rt: HostRuntime) -> Result<(), Fail> {
+    for (name, call, all, least) in [
+        (
+            "a list",
+            Call::List,
+            [(0, 26), (6, 26), (14, 26)].as_slice(),
+            2,
+        ),
+        ("unions", Call::Unions, [(14, 34), (30, 50)].as_slice(), 2),
+        (
+            "a weapon",
+            Call::Weapon,
+            [(0, 28), (8, 28), (16, 28)].as_slice(),
+            3,
+        ),
+    ] {
+        let met = states_met(rt.alloc(), call, all)?;
+        let enough = met.map(|states| states >= least);
+        assert!(rt; holds_or_says(&rt, enough)?, "{name}: {met:?}");
+    }
+    Ok(())
+}
+
+// A call on no builder.
+#[derive(Clone, Copy)]
+enum Other {
+    Numbers,
+    Texts,
+    Replay,
+}
+
+// Whether such a call is made, or refused.
+fn other_is_made(alloc: Global, other: Other, steps: &[Step]) -> Option<bool> {
+    match other {
+        Other::Numbers => numbers_are_copied(alloc),
+        Other::Texts => texts_are_copied(alloc),
+        Other::Replay => weapon_is_replayed(alloc, steps),
+    }
+}
+
+// The same with so many bytes of memory. Tells whether memory was taken.
+fn other_with(
+    alloc: Global,
+    other: Other,
+    steps: &[Step],
+    spare: usize,
+) -> Result<(bool, Option<bool>), AllocError> {
+    let mut held: Vec<Vec<u8>> = Vec::with_capacity(alloc, 262144)?;
+    let exhausted = exhaust_all_but(alloc, &mut held, spare)?;
+    let made = other_is_made(alloc, other, steps);
+    drop(held);
+    Ok((exhausted, made))
+}
+
+// At how many turns such a call is refused before it is made, where it is always made again with
+// memory; nothing where memory was left.
+fn refusals_of(alloc: Global, other: Other, steps: &[Step]) -> Result<Option<usize>, AllocError> {
+    for turn in 0..TURNS {
+        let (exhausted, made) = other_with(alloc, other, steps, turn * STEP)?;
+        if !exhausted {
+            return Ok(None);
+        }
+        if made == Some(true) {
+            return Ok(Some(turn));
+        }
+        if made.is_none() || other_is_made(alloc, other, steps) != Some(true) {
+            return Ok(Some(0));
+        }
+    }
+    Ok(Some(0))
+}
+
+// The copies of numbers take 10 bytes, and the list of five texts 120, so that more than four turns
+// come to the texts themselves.
+#[test]
+fn calls_on_no_builder(rt: HostRuntime) -> Result<(), Fail> {
+    let steps = weapon_steps(rt.alloc())?;
+    for (name, other, least) in [
+        ("numbers", Other::Numbers, 1),
+        ("texts", Other::Texts, 5),
+        ("a replay", Other::Replay, 8),
+    ] {
+        let refusals = refusals_of(rt.alloc(), other, steps.as_slice())?;
+        let enough = refusals.map(|turns| turns >= least);
+        assert!(rt; holds_or_says(&rt, enough)?, "{name}: {refusals:?}");
+    }
+    Ok(())
+}
