@@ -4,6 +4,7 @@ mod failing_ends;
 mod long_scripts;
 mod monster;
 mod no_memory;
+mod other_builders;
 mod scripts;
 mod weapon;
 

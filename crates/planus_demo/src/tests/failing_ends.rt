@@ -1,20 +1,55 @@
-//! Readers and writers that fail.
+//! Readers and writers of which one call fails, is interrupted, or gives nothing.
 
+use super::ran;
 use crate::run::{RunError, run, status};
 use std::alloc::Global;
 use std::io;
 use std::io::{Error, ErrorKind, Read, Write};
 
-/// A reader that gives some bytes and then fails.
-#[derive(Drop)]
-struct FailingReader<'a> {
-    bytes: &'a [u8],
+// A weapon's script, and what it prints.
+pub const SCRIPT: &[u8] = b"text Axe\ntable 0=ref:0 1=u16:24\nfinish 1\n";
+
+pub const PRINTED: &[u8] = b"04 00 00 00 f4 ff ff ff 10 00 00 00 18 00 00 00 \
+    08 00 0a 00 04 00 08 00 03 00 00 00 41 78 65 00\n";
+
+/// What a call does in place of its work.
+#[derive(Clone, Copy)]
+enum Odd {
+    Fails,
+    IsInterrupted,
+    GivesNothing,
 }
 
-impl<'a> Read for FailingReader<'a> {
+impl Odd {
+    // The error, if it is one.
+    fn error(&self, kind: ErrorKind) -> Option<Error> {
+        match self {
+            Odd::Fails => Some(Error::from(kind)),
+            Odd::IsInterrupted => Some(Error::from(ErrorKind::Interrupted)),
+            Odd::GivesNothing => None,
+        }
+    }
+}
+
+/// A reader that gives one byte at a time. So many calls from now on, one does something else.
+#[derive(Drop)]
+struct OddReader<'a> {
+    bytes: &'a [u8],
+    left: usize,
+    odd: Odd,
+}
+
+impl<'a> Read for OddReader<'a> {
     fn read(&mut self, buf: &mut [u8]) -> io::Result<usize> {
+        self.left = self.left.wrapping_sub(1);
+        if self.left == 0 {
+            return match self.odd.error(ErrorKind::ConnectionReset) {
+                Some(error) => Err(error),
+                None => Ok(0),
+            };
+        }
         if self.bytes.is_empty() || buf.is_empty() {
-            return Err(Error::from(ErrorKind::ConnectionReset));
+            return Ok(0);
         }
         let (first, rest) = self.bytes.split_at(1);
         buf[0] = first[0];
@@ -23,37 +58,74 @@ impl<'a> Read for FailingReader<'a> {
     }
 }
 
-// Whether an error of reading is answered, and nothing is written.
-fn reading_fails(alloc: Global) -> bool {
-    let mut reader = FailingReader {
-        bytes: b"text Axe\nfin",
+// What a run answers whose k-th read does something else. It adds what it prints.
+fn ran_oddly(alloc: Global, k: usize, odd: Odd, printed: &mut Vec<u8>) -> Result<bool, RunError> {
+    let mut reader = OddReader {
+        bytes: SCRIPT,
+        left: k,
+        odd,
     };
-    let mut writer = Vec::new(alloc);
-    let answer = run(alloc, &mut reader, &mut writer);
-    answer == Err(RunError::Read) && status(&answer) == 2 && writer.is_empty()
+    run(alloc, &mut reader, printed)
 }
 
+// Whether a run is clean whose k-th read does something else; none does for k of 0.
+fn is_clean(alloc: Global, k: usize, odd: Odd) -> bool {
+    let mut printed = Vec::new(alloc);
+    ran_oddly(alloc, k, odd, &mut printed) == Ok(true) && printed.as_slice() == PRINTED
+}
+
+// Whether the error of the k-th read is answered, and nothing is written.
+fn reading_fails(alloc: Global, k: usize) -> bool {
+    let mut printed = Vec::new(alloc);
+    let answer = ran_oddly(alloc, k, Odd::Fails, &mut printed);
+    answer == Err(RunError::Read) && status(&answer) == 2 && printed.is_empty()
+}
+
+// Whether a run goes as that of the script's first bytes, where the k-th read gives none.
+fn ends_early(alloc: Global, k: usize) -> bool {
+    let (mut printed, mut want) = (Vec::new(alloc), Vec::new(alloc));
+    let answer = ran_oddly(alloc, k, Odd::GivesNothing, &mut printed);
+    let first = SCRIPT.get(..k.wrapping_sub(1)).unwrap_or(SCRIPT);
+    answer == ran(alloc, first, &mut want).0 && printed.as_slice() == want.as_slice()
+}
+
+// Each of the script's 41 bytes is read by a call of its own, and one more call finds the end.
 #[test]
-fn reading_fails_on_the_way(rt: HostRuntime) {
-    assert!(rt; reading_fails(rt.alloc()));
+fn each_read_in_turn(rt: HostRuntime) {
+    for k in 1..43 {
+        assert!(rt; reading_fails(rt.alloc(), k), "read {k} fails");
+        assert!(rt; ends_early(rt.alloc(), k), "read {k} gives nothing");
+        assert!(rt;
+            is_clean(rt.alloc(), k, Odd::IsInterrupted),
+            "read {k} is interrupted"
+        );
+    }
+    assert!(rt; is_clean(rt.alloc(), 0, Odd::Fails), "one byte at a time");
 }
 
-/// A writer that takes some bytes, one at a time, and then fails, or takes all and then may fail to
-/// hand them on.
+/// A writer that takes one byte at a time. So many calls from now on, one does something else; and
+/// it may fail to hand on what it took.
 #[derive(Drop)]
-struct FailingWriter {
-    room: usize,
-    hands_on: bool,
+struct OddWriter {
     taken: Vec<u8>,
+    left: usize,
+    odd: Odd,
+    hands_on: bool,
 }
 
-impl Write for FailingWriter {
+impl Write for OddWriter {
     fn write(&mut self, buf: &[u8]) -> io::Result<usize> {
-        if self.room == 0 || buf.is_empty() {
-            return Err(Error::from(ErrorKind::StorageFull));
+        self.left = self.left.wrapping_sub(1);
+        if self.left == 0 {
+            return match self.odd.error(ErrorKind::StorageFull) {
+                Some(error) => Err(error),
+                None => Ok(0),
+            };
+        }
+        if buf.is_empty() {
+            return Ok(0);
         }
         self.taken.push(buf[0])?;
-        self.room -= 1;
         Ok(1)
     }
 
@@ -66,27 +138,47 @@ impl Write for FailingWriter {
     }
 }
 
-// Whether an error of writing is answered, where a writer takes these bytes before it fails.
-fn writing_fails(alloc: Global, room: usize, hands_on: bool, taken: &str) -> bool {
-    let mut reader = b"text Axe\nfinish 0\n".as_slice();
-    let mut writer = FailingWriter {
-        room,
-        hands_on,
+// Whether a run answers this whose k-th write does something else, and writes so many bytes.
+fn writes(
+    alloc: Global,
+    (k, odd, hands_on): (usize, Odd, bool),
+    want: Result<bool, RunError>,
+    count: usize,
+) -> bool {
+    let mut reader = SCRIPT;
+    let mut writer = OddWriter {
         taken: Vec::new(alloc),
+        left: k,
+        odd,
+        hands_on,
     };
     let answer = run(alloc, &mut reader, &mut writer);
-    answer == Err(RunError::Write)
-        && status(&answer) == 2
-        && writer.taken.as_slice() == taken.as_bytes()
+    answer == want && PRINTED.get(..count) == Some(writer.taken.as_slice())
 }
 
+// Each of the line's 96 bytes is written by a call of its own.
 #[test]
-fn writing_fails_on_the_way(rt: HostRuntime) {
-    assert!(rt; writing_fails(rt.alloc(), 5, true, "04 00"));
-}
-
-#[test]
-fn handing_on_fails(rt: HostRuntime) {
-    let taken = "04 00 00 00 03 00 00 00 41 78 65 00\n";
-    assert!(rt; writing_fails(rt.alloc(), 64, false, taken));
+fn each_write_in_turn(rt: HostRuntime) {
+    let fails = Err(RunError::Write);
+    for k in 1..97 {
+        for odd in [Odd::Fails, Odd::GivesNothing] {
+            assert!(rt;
+                writes(rt.alloc(), (k, odd, true), fails, k - 1),
+                "write {k}"
+            );
+        }
+        assert!(rt;
+            writes(rt.alloc(), (k, Odd::IsInterrupted, true), Ok(true), 96),
+            "write {k} is interrupted"
+        );
+    }
+    assert!(rt;
+        writes(rt.alloc(), (97, Odd::Fails, true), Ok(true), 96),
+        "none"
+    );
+    assert!(rt;
+        writes(rt.alloc(), (0, Odd::Fails, false), fails, 96),
+        "handed on"
+    );
+    assert!(rt; status(&fails) == 2, "the status");
 }

@@ -1,9 +1,13 @@
 //! Runs while memory is refused.
 
+use super::failing_ends::{PRINTED, SCRIPT};
 use super::long_scripts::{push_references, push_text, push_text_step};
-use super::{prints, ran};
+use super::weapon::{is_weapon, weapon};
+use super::{finish_with, prints, ran};
 use crate::run::{RunError, status};
-use planus_exhaust::exhaust;
+use crate::weapon::WeaponRef;
+use planus::{BuildError, Builder, ReadAsRoot};
+use planus_exhaust::{exhaust, exhaust_all_but};
 use std::alloc::{AllocError, Global};
 use std::test::Fail;
 
@@ -105,5 +109,139 @@ fn out_of_memory_is_printed(rt: HostRuntime) -> Result<(), Fail> {
     assert!(rt; refused || !exhausted, "refused");
     let again = prints_finishes(rt.alloc(), script.as_slice());
     assert!(rt; matches!(again, Ok(true)), "again");
+    Ok(())
+}
+
+// How many bytes more there are at each turn, and how many turns there are at most.
+const STEP: usize = 32;
+
+const TURNS: usize = 256;
+
+// A call that asks for memory several times.
+#[derive(Clone, Copy)]
+enum Call {
+    // Writes an axe in a new builder.
+    Axe,
+    // Runs the script of a weapon.
+    Run,
+}
+
+// What a call comes to with little memory, and then with all of it.
+enum Turn {
+    // Memory was left where none should have been.
+    NotApplied,
+    // It isn't refused.
+    Made,
+    // It is, and leaves this, and then it isn't.
+    Refused(usize),
+    // Something else.
+    Wrong,
+}
+
+// Writes an axe with so many bytes of memory. Tells whether it was refused; nothing where memory was
+// left.
+fn axe_is_refused(
+    alloc: Global,
+    builder: &mut Builder,
+    spare: usize,
+) -> Result<Option<bool>, AllocError> {
+    let mut held: Vec<Vec<u8>> = Vec::with_capacity(alloc, 262144)?;
+    let exhausted = exhaust_all_but(alloc, &mut held, spare)?;
+    let refused = matches!(weapon(builder, "Axe", 24), Err(BuildError::OutOfMemory));
+    drop(held);
+    Ok(if exhausted { Some(refused) } else { None })
+}
+
+// Whether an axe is written where 28 bytes are, and read back.
+fn axe_is_written(builder: &mut Builder) -> Result<bool, BuildError> {
+    let axe = weapon(builder, "Axe", 24)?;
+    let there = axe.distance() == 28;
+    match WeaponRef::read_as_root(finish_with(builder, axe)?) {
+        Ok(axe) => Ok(there && is_weapon(axe, Some("Axe"), 24)),
+        Err(_) => Ok(false),
+    }
+}
+
+// A refused axe leaves so many bytes.
+fn axe_with(alloc: Global, spare: usize) -> Result<Turn, BuildError> {
+    let mut builder = Builder::new(alloc)?;
+    let refused = axe_is_refused(alloc, &mut builder, spare)?;
+    let len = builder.len();
+    let written = axe_is_written(&mut builder)?;
+    Ok(match refused {
+        None => Turn::NotApplied,
+        Some(false) => Turn::Made,
+        Some(true) if written => Turn::Refused(len),
+        Some(true) => Turn::Wrong,
+    })
+}
+
+// What a run of the script gives with so many bytes of memory, and adds what it prints. Tells whether
+// the memory was taken.
+fn ran_with(
+    alloc: Global,
+    spare: usize,
+    printed: &mut Vec<u8>,
+) -> Result<(bool, Result<bool, RunError>), AllocError> {
+    let mut held: Vec<Vec<u8>> = Vec::with_capacity(alloc, 262144)?;
+    let exhausted = exhaust_all_but(alloc, &mut held, spare)?;
+    let (answer, _) = ran(alloc, SCRIPT, printed);
+    drop(held);
+    Ok((exhausted, answer))
+}
+
+// A refused run leaves nothing printed, or the line that says so.
+fn run_with(alloc: Global, spare: usize) -> Result<Turn, BuildError> {
+    let mut printed: Vec<u8> = Vec::with_capacity(alloc, 128)?;
+    let (exhausted, answer) = ran_with(alloc, spare, &mut printed)?;
+    let again = prints(alloc, SCRIPT, 0, PRINTED, true);
+    let len = printed.len();
+    Ok(match answer {
+        _ if !exhausted => Turn::NotApplied,
+        Err(RunError::OutOfMemory) if again && printed.is_empty() => Turn::Refused(len),
+        Ok(false) if again && printed.as_slice() == b"out of memory\n".as_slice() => Turn::Refused(
+            len,
+        ),
+        Ok(true) if printed.as_slice() == PRINTED => Turn::Made,
+        _ => Turn::Wrong,
+    })
+}
+
+// How many different things a call leaves that is refused, with more memory at each turn until it
+// isn't, where all are among these; nothing where memory was left.
+fn states_met(alloc: Global, call: Call, all: &[usize]) -> Result<Option<usize>, BuildError> {
+    let mut met = [false; 3];
+    for turn in 0..TURNS {
+        let turn = match call {
+            Call::Axe => axe_with(alloc, turn * STEP)?,
+            Call::Run => run_with(alloc, turn * STEP)?,
+        };
+        match turn {
+            Turn::NotApplied => return Ok(None),
+            Turn::Made => return Ok(Some(met.iter().filter(|met| **met).count())),
+            Turn::Refused(left) => match all.iter().position(|other| *other == left) {
+                Some(at) if at < 3 => met[at] = true,
+                _ => return Ok(Some(0)),
+            },
+            Turn::Wrong => return Ok(Some(0)),
+        }
+    }
+    Ok(Some(0))
+}
+
+// An axe is refused where there is nothing yet, its name, or its vtable too; and a run before the
+// steps are there, or later.
+#[test]
+fn one_refusal_after_the_other(rt: HostRuntime) -> Result<(), Fail> {
+    for (call, all) in [
+        (Call::Axe, [0, 8, 16].as_slice()),
+        (Call::Run, [0, 14].as_slice()),
+    ] {
+        let met = states_met(rt.alloc(), call, all)?;
+        if met.is_none() {
+            println!(rt; "memory was left: this test does not apply")?;
+        }
+        assert!(rt; met.is_none() || met == Some(all.len()), "{met:?}");
+    }
     Ok(())
 }
