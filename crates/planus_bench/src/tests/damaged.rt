@@ -38,6 +38,17 @@ const OF_OTHERS: [u8; 20] = [
     12, 0, 0, 0, 8, 0, 8, 0, 0, 0, 6, 0, 8, 0, 0, 0, 0, 0, 0x5e, 0xff,
 ];
 
+// A monster, as flatc 2.0.8 and the builder for C++ write it.
+const RAIDER: [u8; 148] = [
+    0x14, 0, 0, 0, 0x10, 0, 0x18, 0, 6, 0, 8, 0, 0x0c, 0, 0x10, 0, 5, 0, 0x14, 0, 0x10, 0, 0, 0, 0,
+    1, 0x3d, 0, 0x58, 0, 0, 0, 0x48, 0, 0, 0, 0x18, 0, 0, 0, 0x0c, 0, 0, 0, 8, 0, 8, 0, 0, 0, 6, 0,
+    8, 0, 0, 0, 0, 0, 0x0e, 0, 1, 0, 0, 0, 0x0c, 0, 0, 0, 8, 0, 0x0c, 0, 8, 0, 6, 0, 8, 0, 0, 0, 0,
+    0, 0xab, 0xff, 4, 0, 0, 0, 0x0b, 0, 0, 0, 0x30, 0x41, 0x5a, 0x64, 0x71, 9, 0x6b, 0x6f, 0x6c,
+    0x67, 0x76, 0, 7, 0, 0, 0, 0xed, 0x74, 0x5d, 0xf8, 0xcf, 0x4d, 0xcc, 0, 0x19, 0, 0, 0, 0x7a,
+    0x71, 0x22, 0xc3, 0xa4, 0x6c, 0x41, 0x6d, 0x61, 0xc3, 0xb6, 0x73, 0x79, 0x20, 0x6d, 0x0a, 0x0a,
+    0x71, 0xc3, 0xbc, 0x5c, 0x0a, 0x7a, 0x59, 0x73, 0, 0, 0,
+];
+
 // The slots of each of these tables, and one more.
 const FEW_SLOTS: [usize; 3] = [0, 1, 2];
 
@@ -147,17 +158,18 @@ fn differences<const N: usize>(bytes: &[u8; N], slots: &[usize]) -> Differences 
     ]
 }
 
-fn all_differences() -> [Differences; 4] {
+fn all_differences() -> [Differences; 5] {
     [
         differences(&WEAPON, &FEW_SLOTS),
         differences(&ORC, &ALL_SLOTS),
         differences(&LOOT, &FEW_SLOTS),
         differences(&OF_OTHERS, &FEW_SLOTS),
+        differences(&RAIDER, &ALL_SLOTS),
     ]
 }
 
 // The same with all memory taken. Tells whether it was.
-fn differences_without_memory(alloc: Global) -> Result<(bool, [Differences; 4]), AllocError> {
+fn differences_without_memory(alloc: Global) -> Result<(bool, [Differences; 5]), AllocError> {
     let mut held: Vec<Vec<u8>> = Vec::with_capacity(alloc, 262144)?;
     let exhausted = exhaust(alloc, &mut held)?;
     let found = all_differences();
