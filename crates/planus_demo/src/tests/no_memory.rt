@@ -209,12 +209,18 @@ fn run_with(alloc: Global, spare: usize) -> Result<Turn, BuildError> {
 
 // How many different things a call leaves that is refused, with more memory at each turn until it
 // isn't, where all are among these; nothing where memory was left.
-fn states_met(alloc: Global, call: Call, all: &[usize]) -> Result<Option<usize>, BuildError> {
+fn states_met(
+    alloc: Global,
+    call: Call,
+    more: usize,
+    all: &[usize],
+) -> Result<Option<usize>, BuildError> {
     let mut met = [false; 3];
     for turn in 0..TURNS {
+        let spare = turn.saturating_mul(more);
         let turn = match call {
-            Call::Axe => axe_with(alloc, turn * STEP)?,
-            Call::Run => run_with(alloc, turn * STEP)?,
+            Call::Axe => axe_with(alloc, spare)?,
+            Call::Run => run_with(alloc, spare)?,
         };
         match turn {
             Turn::NotApplied => return Ok(None),
@@ -233,11 +239,11 @@ fn states_met(alloc: Global, call: Call, all: &[usize]) -> Result<Option<usize>,
 // steps are there, or later.
 #[test]
 fn one_refusal_after_the_other(rt: HostRuntime) -> Result<(), Fail> {
-    for (call, all) in [
-        (Call::Axe, [0, 8, 16].as_slice()),
-        (Call::Run, [0, 14].as_slice()),
+    for (call, more, all) in [
+        (Call::Axe, 32, [0, 8, 16].as_slice()),
+        (Call::Run, 256, [0, 14].as_slice()),
     ] {
-        let met = states_met(rt.alloc(), call, all)?;
+        let met = states_met(rt.alloc(), call, more, all)?;
         if met.is_none() {
             println!(rt; "memory was left: this test does not apply")?;
         }
