@@ -123,11 +123,17 @@ fn other_with(
     Ok((exhausted, made))
 }
 
-// At how many turns such a call is refused before it is made, where it is always made again with
-// memory; nothing where memory was left.
-fn refusals_of(alloc: Global, other: Other, steps: &[Step]) -> Result<Option<usize>, AllocError> {
+// At how many turns, each with so many bytes more, such a call is refused before it is made, where it
+// is always made again with memory; nothing where memory was left.
+fn refusals_of(
+    alloc: Global,
+    other: Other,
+    more: usize,
+    steps: &[Step],
+) -> Result<Option<usize>, AllocError> {
     for turn in 0..TURNS {
-        let (exhausted, made) = other_with(alloc, other, steps, turn * STEP)?;
+        let spare = turn.saturating_mul(more);
+        let (exhausted, made) = other_with(alloc, other, steps, spare)?;
         if !exhausted {
             return Ok(None);
         }
@@ -146,12 +152,12 @@ fn refusals_of(alloc: Global, other: Other, steps: &[Step]) -> Result<Option<usi
 #[test]
 fn calls_on_no_builder(rt: HostRuntime) -> Result<(), Fail> {
     let steps = weapon_steps(rt.alloc())?;
-    for (name, other, least) in [
-        ("numbers", Other::Numbers, 1),
-        ("texts", Other::Texts, 5),
-        ("a replay", Other::Replay, 8),
+    for (name, other, more, least) in [
+        ("numbers", Other::Numbers, STEP, 1),
+        ("texts", Other::Texts, STEP, 5),
+        ("a replay", Other::Replay, 4 * STEP, 4),
     ] {
-        let refusals = refusals_of(rt.alloc(), other, steps.as_slice())?;
+        let refusals = refusals_of(rt.alloc(), other, more, steps.as_slice())?;
         let enough = refusals.map(|turns| turns >= least);
         assert!(rt; holds_or_says(&rt, enough)?, "{name}: {refusals:?}");
     }
