@@ -1,0 +1,204 @@
+-- How events are fed one after another, and what comes of it.
+use Rattle.std.proofs.Common.{◌≡◌, ◌≢◌, ℕ, zero, suc, ◌+◌, ◌-◌, ◌*◌, ◌<◌, ◌≤◌, List, [], ◌∷◌, ◌++◌, map, length, drop, get_or, Option, Some, None, slice_get, refl, sym, ap, ◌∙◌, subst, arith, length-append, Bool, true, false, ◌==◌}
+use Rattle.std.specs.Prelude.{if◌then◌else◌, slice_index}
+use Rattle.std.specs.Prelude.{Vec}
+use Rattle.std.specs.declared.alloc.Global.{Global}
+use Rattle.planus_read.specs.declared.errors.ErrorKind.TheVariants.{UnknownUnionTag}
+use Rattle.planus_dump.specs.Tests.{fault_text}
+use Rattle.std.specs.String.{string_bytes}
+use Rattle.std.proofs.lemmas.List.{append_assoc, append-nil, drop_more, length-map}
+use Rattle.std.proofs.lemmas.Bool.{eqb-true, eqb-false}
+use Rattle.planus_dump.specs.Lines.{item_path, field_path}
+use Rattle.planus_dump.specs.Answers.{Seen, SeenUnions}
+use Rattle.planus_dump.specs.Events.{variant_of, variant_events, fault_event, Event, line, deep, events, TableEvents, shape_events, fields_events, kind_events, item_events, items_events, union_events, union_items_events, stride_of}
+use Rattle.planus_dump.specs.Seeing.{IsFound, found_events, IsUnionIn}
+use Rattle.planus_read.specs.declared.place.TaggedPlace.{TaggedPlace}
+use Rattle.planus_read.specs.Places.{place_bytes, place_offset, tagged_tag, tagged_place}
+use Rattle.planus_dump.specs.declared.readings.Found.{Found}
+use Rattle.planus_dump.specs.Shown.{begin, shown, Shown, step_at, step, feed}
+use Rattle.planus_dump.specs.declared.out.Stop.{Stop}
+use Rattle.planus_dump.specs.declared.out.Out.{Out}
+use Rattle.planus_dump.specs.declared.out.Stop.TheVariants.{Going, TooDeep, TooMany}
+use Rattle.planus_dump.specs.declared.schemas.Schema.{Schema}
+use Rattle.planus_dump.specs.declared.schemas.FieldSchema.{FieldSchema}
+use Rattle.planus_dump.specs.declared.schemas.Item.{Item}
+
+-- events may be fed in two parts
+pub feed-append : (s : Shown) (xs ys : List Event) → feed s (xs ++ ys) ≡ feed (feed s xs) ys
+feed-append s [] ys = refl
+feed-append s (x ∷ xs) ys = feed-append (step s x) xs ys
+
+stay : (s : Shown) (t : Stop) (e : Event) → t ≢ Going → step_at s t e ≡ s
+stay s Going e h = absurd (h refl)
+stay s TooDeep e h = refl
+stay s TooMany e h = refl
+
+-- a walk that was stopped takes no more events, so it may return at once
+pub feed-stopped : (s : Shown) (es : List Event) → s.stop ≢ Going → feed s es ≡ s
+feed-stopped s [] h = refl
+feed-stopped s (e ∷ es) h = ap (λ t. feed t es) (stay s s.stop e h) ∙ feed-stopped s es h
+
+-- where a walk was stopped, or nothing is left
+pub stopped_done : (s : Shown) (rest : List Event) (done : Shown) → s.stop ≢ Going → feed s rest ≡ done → s ≡ done
+stopped_done s rest done h e = sym (feed-stopped s rest h) ∙ e
+
+pub all_done : (s : Shown) (rest : List Event) (done : Shown) → rest ≡ [] → feed s rest ≡ done → s ≡ done
+all_done s rest done h e = ap (feed s) (sym h) ∙ e
+
+-- a table that isn't too deep
+pub events-more : (schema : Schema) (left index : ℕ) (S : List ℕ) (f : ℕ) (path : List ℕ) → left ≢ 0
+    → events schema left index S f path ≡ shape_events (events schema (left - 1)) schema (slice_get schema.tables.items index) S f path
+unfolding events
+events-more schema zero index S f path h = absurd (h refl)
+events-more schema (suc left) index S f path h = let e : suc left - 1 ≡ left = omega arith in ap (λ k. shape_events (events schema k) schema (slice_get schema.tables.items index) S f path) (sym e)
+
+pub events-none : (schema : Schema) (left index : ℕ) (S : List ℕ) (f : ℕ) (path : List ℕ) → left ≡ 0 → events schema left index S f path ≡ deep ∷ []
+unfolding events
+events-none schema zero index S f path h = refl
+events-none schema (suc left) index S f path h = absurd (omega (arith, h))
+
+-- what was fed in part, and then the rest
+pub fed_on : (s t : Shown) (xs ys all : List Event) (done : Shown) → all ≡ xs ++ ys → t ≡ feed s xs → feed s all ≡ done → feed t ys ≡ done
+fed_on s t xs ys all done split fed whole = ap (λ u. feed u ys) fed ∙ sym (feed-append s xs ys) ∙ ap (feed s) (sym split) ∙ whole
+
+-- the first of some fields, and then the others
+fields-split : (E : TableEvents) (schema : Schema) (table : Seen) (path : List ℕ) (fields : List FieldSchema) (i : ℕ) (field : FieldSchema) → i < length fields
+    → fields_events E schema table path (drop i fields) ≡ kind_events E schema (get_or fields i field).kind (get_or fields i field).slot table (field_path path (string_bytes (get_or fields i field).name)) ++ fields_events E schema table path (drop (i + 1) fields)
+fields-split E schema table path fields i field h = ap (fields_events E schema table path) (drop_more fields i field h)
+
+pub fields-none : (E : TableEvents) (schema : Schema) (table : Seen) (path : List ℕ) (fields : List FieldSchema) (i : ℕ) → length fields ≤ i → fields_events E schema table path (drop i fields) ≡ []
+fields-none E schema table path [] zero h = refl
+fields-none E schema table path [] (suc i) h = refl
+fields-none E schema table path (field ∷ fields) zero h = absurd (omega (arith, h))
+fields-none E schema table path (field ∷ fields) (suc i) h = fields-none E schema table path fields i (omega (arith, h))
+
+-- a field was walked
+pub field_fed : (E : TableEvents) (schema : Schema) (table : Seen) (path : List ℕ) (fields : List FieldSchema) (i : ℕ) (field : FieldSchema) (s t done : Shown) → i < length fields
+    → field ≡ get_or fields i field
+    → t ≡ feed s (kind_events E schema field.kind field.slot table (field_path path (string_bytes field.name)))
+    → feed s (fields_events E schema table path (drop i fields)) ≡ done
+    → feed t (fields_events E schema table path (drop (i + 1) fields)) ≡ done
+field_fed E schema table path fields i field s t done h is fed whole =
+    let first : List Event = kind_events E schema (get_or fields i field).kind (get_or fields i field).slot table (field_path path (string_bytes (get_or fields i field).name)) in
+    fed_on s t first (fields_events E schema table path (drop (i + 1) fields)) (fields_events E schema table path (drop i fields)) done (fields-split E schema table path fields i field h)
+    (fed ∙ ap (λ (x : FieldSchema). feed s (kind_events E schema x.kind x.slot table (field_path path (string_bytes x.name)))) is) whole
+
+items-split : (E : TableEvents) (item : Item) (S path : List ℕ) (n i : ℕ) → 0 < n
+    → items_events E item S path n i ≡ item_events E item S (i * stride_of item) (item_path path i) ++ items_events E item S path (n - 1) (i + 1)
+items-split E item S path zero i h = absurd (omega (arith, h))
+items-split E item S path (suc n) i h = let e : suc n - 1 ≡ n = omega arith in ap (λ k. item_events E item S (i * stride_of item) (item_path path i) ++ items_events E item S path k (i + 1)) (sym e)
+
+-- an item was walked
+pub item_fed : (E : TableEvents) (item : Item) (S path : List ℕ) (n i : ℕ) (s t done : Shown) → i < n
+    → t ≡ feed s (item_events E item S (i * stride_of item) (item_path path i))
+    → feed s (items_events E item S path (n - i) i) ≡ done
+    → feed t (items_events E item S path (n - (i + 1)) (i + 1)) ≡ done
+item_fed E item S path n i s t done h fed whole =
+    let e : n - i - 1 ≡ n - (i + 1) = omega (arith, h) in let some : 0 < n - i = omega (arith, h) in
+    fed_on s t (item_events E item S (i * stride_of item) (item_path path i)) (items_events E item S path (n - (i + 1)) (i + 1)) (items_events E item S path (n - i) i) done
+    (items-split E item S path (n - i) i some ∙ ap (λ k. item_events E item S (i * stride_of item) (item_path path i) ++ items_events E item S path k (i + 1)) e) fed whole
+
+-- the same, of what was found there
+pub found_fed : (E : TableEvents) (item : Item) (S path at : List ℕ) (n i : ℕ) (found : Found) (s t done : Shown) → i < n
+    → IsFound item S (i * stride_of item) found → at ≡ item_path path i → t ≡ feed s (found_events E at found)
+    → feed s (items_events E item S path (n - i) i) ≡ done
+    → feed t (items_events E item S path (n - (i + 1)) (i + 1)) ≡ done
+found_fed E item S path at n i found s t done h is along fed whole =
+    item_fed E item S path n i s t done h (fed ∙ ap (feed s) (is E at ∙ ap (item_events E item S (i * stride_of item)) along)) whole
+
+pub items-none : (E : TableEvents) (item : Item) (S path : List ℕ) (n i : ℕ) → n ≡ 0 → items_events E item S path n i ≡ []
+items-none E item S path zero i h = refl
+items-none E item S path (suc n) i h = absurd (omega (arith, h))
+
+union_items-split : (E : TableEvents) (schema : Schema) (index : ℕ) (items : SeenUnions) (path : List ℕ) (n i : ℕ) → 0 < n
+    → union_items_events E schema index items path n i
+    ≡ union_events E (slice_get schema.unions.items index) (slice_index items.tags i) items.references (i * 4) (item_path path i) ++ union_items_events E schema index items path (n - 1) (i + 1)
+union_items-split E schema index items path zero i h = absurd (omega (arith, h))
+union_items-split E schema index items path (suc n) i h = let e : suc n - 1 ≡ n = omega arith in
+    ap (λ k. union_events E (slice_get schema.unions.items index) (slice_index items.tags i) items.references (i * 4) (item_path path i) ++ union_items_events E schema index items path k (i + 1)) (sym e)
+
+-- a union of a vector was walked
+pub union_item_fed : (E : TableEvents) (schema : Schema) (index : ℕ) (items : SeenUnions) (path : List ℕ) (n i : ℕ) (s t done : Shown) → i < n
+    → t ≡ feed s (union_events E (slice_get schema.unions.items index) (slice_index items.tags i) items.references (i * 4) (item_path path i))
+    → feed s (union_items_events E schema index items path (n - i) i) ≡ done
+    → feed t (union_items_events E schema index items path (n - (i + 1)) (i + 1)) ≡ done
+union_item_fed E schema index items path n i s t done h fed whole =
+    let e : n - i - 1 ≡ n - (i + 1) = omega (arith, h) in let some : 0 < n - i = omega (arith, h) in
+    let first : List Event = union_events E (slice_get schema.unions.items index) (slice_index items.tags i) items.references (i * 4) (item_path path i) in
+    fed_on s t first (union_items_events E schema index items path (n - (i + 1)) (i + 1)) (union_items_events E schema index items path (n - i) i) done
+    (union_items-split E schema index items path (n - i) i some ∙ ap (λ k. first ++ union_items_events E schema index items path k (i + 1)) e) fed whole
+
+-- the same, as it was read
+pub tagged_fed : (E : TableEvents) (schema : Schema) (index : ℕ) (items : SeenUnions) (path at : List ℕ) (n i : ℕ) (tagged : TaggedPlace) (s t done : Shown) → i < n
+    → IsUnionIn items.references (record { tag = slice_index items.tags i; offset = i * 4 }) tagged → at ≡ item_path path i
+    → t ≡ feed s (union_events E (slice_get schema.unions.items index) (tagged_tag tagged) (place_bytes (tagged_place tagged)) (place_offset (tagged_place tagged)) at)
+    → feed s (union_items_events E schema index items path (n - i) i) ≡ done
+    → feed t (union_items_events E schema index items path (n - (i + 1)) (i + 1)) ≡ done
+tagged_fed E schema index items path at n i tagged s t done h is along fed whole =
+    let o = slice_get schema.unions.items index in
+    union_item_fed E schema index items path n i s t done h
+    (fed ∙ ap (λ k. feed s (union_events E o k (place_bytes (tagged_place tagged)) (place_offset (tagged_place tagged)) at)) is.tag
+    ∙ ap (λ xs. feed s (union_events E o (slice_index items.tags i) xs (place_offset (tagged_place tagged)) at)) is.bytes
+    ∙ ap (λ k. feed s (union_events E o (slice_index items.tags i) items.references k at)) is.offset
+    ∙ ap (λ xs. feed s (union_events E o (slice_index items.tags i) items.references (i * 4) xs)) along) whole
+
+pub union_items-none : (E : TableEvents) (schema : Schema) (index : ℕ) (items : SeenUnions) (path : List ℕ) (n i : ℕ) → n ≡ 0 → union_items_events E schema index items path n i ≡ []
+union_items-none E schema index items path zero i h = refl
+union_items-none E schema index items path (suc n) i h = absurd (omega (arith, h))
+
+-- what comes of some events behind the lines so far: their lines, or what stopped the walk
+abbrev pub Answered : List (List ℕ) → List Event → ℕ → List (List ℕ) → Stop → Type 0
+Answered ls es budget lines Going = (new : List (List ℕ)) × (es ≡ map line new ++ []) × (lines ≡ ls ++ new) × (length (ls ++ new) ≤ budget)
+Answered ls es budget lines TooDeep = (new : List (List ℕ)) × (rest : List Event) × (es ≡ map line new ++ deep ∷ rest) × (length (ls ++ new) ≤ budget)
+Answered ls es budget lines TooMany = (new : List (List ℕ)) × (l : List ℕ) × (rest : List Event) × (es ≡ map line new ++ line l ∷ rest) × (length (ls ++ new) ≡ budget)
+
+deep_stops : TooDeep ≢ Going
+deep_stops e = cc
+
+many_stops : TooMany ≢ Going
+many_stops e = cc
+
+shift : (ls : List (List ℕ)) (l : List ℕ) (es : List Event) (budget : ℕ) (lines : List (List ℕ)) (t : Stop) → Answered (ls ++ l ∷ []) es budget lines t → Answered ls (line l ∷ es) budget lines t
+shift ls l es budget lines Going (new, e, f, le) = (l ∷ new, ap (λ z. line l ∷ z) e, f ∙ append_assoc ls (l ∷ []) new, subst (λ z. length z ≤ budget) (append_assoc ls (l ∷ []) new) le)
+shift ls l es budget lines TooDeep (new, rest, e, le) = (l ∷ new, rest, ap (λ z. line l ∷ z) e, subst (λ z. length z ≤ budget) (append_assoc ls (l ∷ []) new) le)
+shift ls l es budget lines TooMany (new, m, rest, e, is) = (l ∷ new, m, rest, ap (λ z. line l ∷ z) e, subst (λ z. length z ≡ budget) (append_assoc ls (l ∷ []) new) is)
+
+abbrev here : List (List ℕ) → ℕ → Stop → Shown
+here ls budget stop = record { lines = ls; budget = budget; stop = stop }
+
+abbrev After : List (List ℕ) → List Event → ℕ → Shown → Type 0
+After ls es budget r = Answered ls es budget r.lines r.stop
+
+pub answered : (es : List Event) (ls : List (List ℕ)) (budget : ℕ) → length ls ≤ budget → Answered ls es budget (feed (here ls budget Going) es).lines (feed (here ls budget Going) es).stop
+answered [] ls budget h = ([], refl, sym (append-nil ls), subst (λ z. length z ≤ budget) (sym (append-nil ls)) h)
+answered (deep ∷ es) ls budget h =
+    subst (After ls (deep ∷ es) budget) (sym (feed-stopped (here ls budget TooDeep) es deep_stops)) ([], es, refl, subst (λ z. length z ≤ budget) (sym (append-nil ls)) h)
+answered (line l ∷ es) ls budget h =
+    let by_test : (b : Bool) → (length ls == budget) ≡ b → After ls (line l ∷ es) budget (feed (if b then here ls budget TooMany else here (ls ++ l ∷ []) budget Going) es) = λ b. elim b as (λ b. (length ls == budget) ≡ b → After ls (line l ∷ es) budget (feed (if b then here ls budget TooMany else here (ls ++ l ∷ []) budget Going) es)) [
+      | true ↦ λ e. (let is : length ls ≡ budget = eqb-true (length ls) budget e in
+          subst (After ls (line l ∷ es) budget) (sym (feed-stopped (here ls budget TooMany) es many_stops)) ([], l, es, refl, subst (λ z. length z ≡ budget) (sym (append-nil ls)) is))
+      | false ↦ λ e. (let ne : length ls ≢ budget = eqb-false (length ls) budget e in
+          (let r = feed (here (ls ++ l ∷ []) budget Going) es in shift ls l es budget r.lines r.stop (answered es (ls ++ l ∷ []) budget (omega (arith, h, ne, length-append ls (l ∷ []))))))
+    ] in by_test (length ls == budget) refl
+
+-- what a walk from no lines leaves
+pub walked : (es : List Event) (budget : ℕ) (out : Out) (stop : Stop) → shown out ≡ feed (begin budget) es → out.stop ≡ stop → Answered [] es budget (map string_bytes out.lines.items) stop
+walked es budget out stop fed is =
+    let whole : After [] es budget (shown out) = subst (After [] es budget) (sym fed) (answered es [] budget (omega arith)) in
+    subst (Answered [] es budget (map string_bytes out.lines.items)) is whole
+
+-- the lines, where the walk wasn't stopped
+pub all_lines : (es : List Event) (budget : ℕ) (out : Out) → Answered [] es budget (map string_bytes out.lines.items) Going → (es ≡ map line (map string_bytes out.lines.items) ++ []) × (length out.lines.items ≤ budget)
+all_lines es budget out (new, e, is, le) =
+    (e ∙ ap (λ ls. map line ls ++ []) (sym is), subst (λ n. n ≤ budget) (length-map out.lines.items string_bytes) (subst (λ ls. length ls ≤ budget) (sym is) le))
+
+-- a union whose variants don't have its tag
+pub union_unknown : (E : TableEvents) (o : Option (Vec (ℕ × ℕ) Global)) (variants : Vec (ℕ × ℕ) Global) (tag : ℕ) (S : List ℕ) (f : ℕ) (path : List ℕ) → o ≡ Some variants → variant_of variants.items tag ≡ None
+    → union_events E o tag S f path ≡ fault_event path (fault_text (UnknownUnionTag tag)) ∷ []
+union_unknown E o variants tag S f path some none = ap (λ v. union_events E v tag S f path) some ∙ ap (variant_events E tag S f path) none
+
+-- the walk from the root of a buffer
+pub root_fed : (schema : Schema) (budget : ℕ) (bytes S : List ℕ) (f : ℕ) (path : List ℕ) (o r : Out) → S ≡ bytes → f ≡ 0 → shown o ≡ begin budget
+    → shown r ≡ feed (shown o) (events schema 64 schema.root S f path) → shown r ≡ feed (begin budget) (events schema 64 schema.root bytes 0 path)
+root_fed schema budget bytes S f path o r same first empty fed =
+    fed ∙ ap (λ s. feed s (events schema 64 schema.root S f path)) empty ∙ ap (λ xs. feed (begin budget) (events schema 64 schema.root xs f path)) same ∙ ap (λ k. feed (begin budget) (events schema 64 schema.root bytes k path)) first

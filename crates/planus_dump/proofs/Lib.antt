@@ -1,0 +1,3 @@
+mod Matching
+mod Answering
+mod Feeds

@@ -1,0 +1,32 @@
+use Rattle.std.proofs.Common.{◌≡◌, ◌∙◌, true, codes, rules}
+use Rattle.planus_read.specs.Places.{place_bytes, place_offset}
+use Rattle.planus_dump.specs.Dumped.{events_of}
+use Rattle.planus_dump.specs.Schemas.{is_good}
+use Rattle.planus_dump.specs.Shown.{shown, feed, begin}
+use Rattle.planus_dump.specs.declared.out.Stop.TheVariants.{Going, TooDeep, TooMany}
+use Rattle.planus_dump.proofs.Feeds.{root_fed, walked, all_lines}
+use Rattle.planus_dump.proofs.dumps.dump.Goals as goal
+
+pub returns-in-Going : goal.returns-in-Going
+returns-in-Going c =
+    let es = events_of c.args.schema.now c.args.bytes.now in
+    let fed : shown c.dump_table.new.out ≡ feed (begin c.args.budget) es = root_fed c.args.schema.now c.args.budget c.args.bytes.now (place_bytes c.in-Ok.place) (place_offset c.in-Ok.place) (codes "root") c.new-out.result c.dump_table.new.out
+    (c.in-Ok.ensures.bytes ∙ c.new-whole.ensures.bytes) c.in-Ok.ensures.offset c.new-out.ensures c.in_ok-dump_table.ensures in
+    let good : is_good c.args.schema.now ≡ true = search rules in
+    (good, all_lines es c.args.budget c.dump_table.new.out (walked es c.args.budget c.dump_table.new.out Going fed c.in-Going.is))
+
+pub returns-in-TooDeep : goal.returns-in-TooDeep
+returns-in-TooDeep c =
+    let es = events_of c.args.schema.now c.args.bytes.now in
+    let fed : shown c.dump_table.new.out ≡ feed (begin c.args.budget) es = root_fed c.args.schema.now c.args.budget c.args.bytes.now (place_bytes c.in-Ok.place) (place_offset c.in-Ok.place) (codes "root") c.new-out.result c.dump_table.new.out
+    (c.in-Ok.ensures.bytes ∙ c.new-whole.ensures.bytes) c.in-Ok.ensures.offset c.new-out.ensures c.in_ok-dump_table.ensures in
+    let good : is_good c.args.schema.now ≡ true = search rules in
+    (good, walked es c.args.budget c.dump_table.new.out TooDeep fed c.in-TooDeep.is)
+
+pub returns-in-TooMany : goal.returns-in-TooMany
+returns-in-TooMany c =
+    let es = events_of c.args.schema.now c.args.bytes.now in
+    let fed : shown c.dump_table.new.out ≡ feed (begin c.args.budget) es = root_fed c.args.schema.now c.args.budget c.args.bytes.now (place_bytes c.in-Ok.place) (place_offset c.in-Ok.place) (codes "root") c.new-out.result c.dump_table.new.out
+    (c.in-Ok.ensures.bytes ∙ c.new-whole.ensures.bytes) c.in-Ok.ensures.offset c.new-out.ensures c.in_ok-dump_table.ensures in
+    let good : is_good c.args.schema.now ≡ true = search rules in
+    (good, walked es c.args.budget c.dump_table.new.out TooMany fed c.in-TooMany.is)

@@ -1,0 +1,73 @@
+-- Which schemas are good: what each of their parts has to meet.
+use Rattle.std.specs.Prelude.{ℕ, nat_lt, ◌==◌, List, [], ◌∷◌, length, Vec}
+use Rattle.std.specs.Prelude.{Bool, true, not, ◌&&◌, ◌||◌}
+use Rattle.std.specs.List.{list_all, list_any}
+use Rattle.std.specs.Int.{is_in_range}
+use Rattle.std.specs.String.{string_bytes}
+use Rattle.std.specs.declared.alloc.Global.{Global}
+use Rattle.planus_dump.specs.declared.schemas.Schema.{Schema}
+use Rattle.planus_dump.specs.declared.schemas.TableSchema.{TableSchema}
+use Rattle.planus_dump.specs.declared.schemas.FieldSchema.{FieldSchema}
+use Rattle.planus_dump.specs.declared.schemas.Kind.{Kind}
+use Rattle.planus_dump.specs.declared.schemas.Kind.TheVariants.{One, List as ListOf, Union}
+use Rattle.planus_dump.specs.declared.schemas.Kind.TheVariants.{UnionVector, U8, I8, Bytes}
+use Rattle.planus_dump.specs.declared.schemas.Item.{Item}
+use Rattle.planus_dump.specs.declared.schemas.Item.TheVariants.{Table}
+
+-- the number of tables, and of unions
+abbrev pub table_count : Schema → ℕ
+table_count schema = length schema.tables.items
+
+abbrev pub union_count : Schema → ℕ
+union_count schema = length schema.unions.items
+
+-- an ASCII letter or digit, or `_`
+abbrev pub is_name_byte : ℕ → Bool
+is_name_byte byte =
+    is_in_range 65 90 byte || is_in_range 97 122 byte || is_in_range 48 57 byte || byte == 95
+
+-- a name has only such bytes, and at least one
+abbrev pub is_name : List ℕ → Bool
+is_name bytes = not (length bytes == 0) && list_all is_name_byte bytes
+
+-- the schema has the table that an item names
+abbrev pub item_fits : ℕ → Item → Bool
+item_fits tables (Table index) = nat_lt index tables
+item_fits tables _ = true
+
+-- the schema has the table or the union that a kind names
+abbrev pub kind_fits : ℕ → ℕ → Kind → Bool
+kind_fits tables unions (One item) = item_fits tables item
+kind_fits tables unions (ListOf item) = item_fits tables item
+kind_fits tables unions (Union index) = nat_lt index unions
+kind_fits tables unions (UnionVector index) = nat_lt index unions
+kind_fits tables unions U8 = true
+kind_fits tables unions I8 = true
+kind_fits tables unions Bytes = true
+
+-- a field has a name, and what its kind names is there
+abbrev pub field_fits : ℕ → ℕ → FieldSchema → Bool
+field_fits tables unions field =
+    is_name (string_bytes field.name) && kind_fits tables unions field.kind
+
+-- a table has a name, and good fields
+abbrev pub table_fits : ℕ → ℕ → TableSchema → Bool
+table_fits tables unions table =
+    is_name (string_bytes table.name) && list_all (field_fits tables unions) table.fields.items
+
+-- the variants of a union: no tag is 0 or stands twice, and each variant's table is there
+abbrev pub variants_fit : ℕ → List (ℕ × ℕ) → Bool
+variants_fit tables [] = true
+variants_fit tables (variant ∷ rest) =
+    not (variant.0 == 0) && nat_lt variant.1 tables && not (list_any (λ other. other.0 == variant.0) rest)
+    && variants_fit tables rest
+
+abbrev pub union_fits : ℕ → Vec (ℕ × ℕ) Global → Bool
+union_fits tables variants = variants_fit tables variants.items
+
+-- a good schema
+abbrev pub is_good : Schema → Bool
+is_good schema =
+    nat_lt schema.root (table_count schema)
+    && list_all (table_fits (table_count schema) (union_count schema)) schema.tables.items
+    && list_all (union_fits (table_count schema)) schema.unions.items

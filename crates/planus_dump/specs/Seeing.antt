@@ -1,0 +1,124 @@
+-- What a dump's readings are to the definitions.
+use Rattle.std.specs.Prelude.{◌≡◌, ◌≢◌, ℕ, ◌*◌, ◌<◌, ◌≤◌, List, [], ◌∷◌, slice_index}
+use Rattle.std.specs.Prelude.{Option, Some, None, Result, Ok, Err}
+use Rattle.planus_read.specs.declared.errors.ErrorKind.{ErrorKind}
+use Rattle.planus_read.specs.declared.place.Place.{Place}
+use Rattle.planus_read.specs.declared.place.TaggedPlace.{TaggedPlace}
+use Rattle.planus_read.specs.declared.table_reader.Table.{Table}
+use Rattle.planus_read.specs.Places.{place_bytes, place_offset, tagged_tag, tagged_place}
+use Rattle.planus_read.specs.Tables.{Slot, table_object, table_slots}
+use Rattle.planus_view.specs.Views.{View}
+use Rattle.planus_view.specs.VectorView.{view_of}
+use Rattle.planus_unions.specs.UnionViews.{UnionView}
+use Rattle.planus_unions.specs.UnionVectorView.{view_of as union_view_of}
+use Rattle.planus_dump.specs.declared.unions.Unions.{Unions}
+use Rattle.planus_dump.specs.Lines.{value_text, value_line}
+use Rattle.planus_dump.specs.Tests.{fault_text}
+use Rattle.planus_dump.specs.Answers.{Seen, SeenItems, SeenUnion, SeenUnions}
+use Rattle.planus_dump.specs.Events.{Event, line, TableEvents, fault_event, item_events, stride_of}
+use Rattle.planus_dump.specs.declared.schemas.Item.{Item}
+use Rattle.planus_dump.specs.declared.schemas.Item.TheVariants.{U16, U32, U64, I16, I32, I64}
+use Rattle.planus_dump.specs.declared.schemas.Item.TheVariants.{Bool, Text, Table as TableItem}
+use Rattle.planus_dump.specs.declared.readings.Found.{Found}
+use Rattle.planus_dump.specs.declared.readings.Found.TheVariants.{Value as FoundValue, Fault as FoundFault, Table as FoundTable}
+use Rattle.planus_dump.specs.declared.items.Items.{Items}
+use Rattle.planus_dump.specs.declared.items.Items.TheVariants.{U16 as Items16, U32 as Items32, U64 as Items64}
+use Rattle.planus_dump.specs.declared.items.Items.TheVariants.{I16 as Signed16, I32 as Signed32, I64 as Signed64}
+use Rattle.planus_dump.specs.declared.items.Items.TheVariants.{Bool as Truths, Text as Texts, Table as Tables}
+
+-- an answer, of whose value this is seen
+abbrev pub answer_seen : {A B : Type 0} → (A → B) → Result A ErrorKind → Result B (List ℕ)
+answer_seen sees (Ok x) = Ok (sees x)
+answer_seen sees (Err kind) = Err (fault_text kind)
+
+-- a table
+abbrev pub table_seen : Table → Seen
+table_seen table = record { object = table_object table; slots = table_slots table }
+
+-- a field that may be there
+abbrev pub option_seen : {A B : Type 0} → (A → B) → Option A → Option B
+option_seen sees None = None
+option_seen sees (Some x) = Some (sees x)
+
+-- a union, in the bytes of its table
+pub record IsUnionIn (object : List ℕ) (union : SeenUnion) (tagged : TaggedPlace) : Type 0 where
+  pub tag : tagged_tag tagged ≡ union.tag
+  pub bytes : place_bytes (tagged_place tagged) ≡ object
+  pub offset : place_offset (tagged_place tagged) ≡ union.offset
+
+-- the union in a table's slots, as it was answered
+abbrev pub SeesUnion :
+    List ℕ → Result (Option SeenUnion) (List ℕ) → Result (Option TaggedPlace) ErrorKind → Type 0
+SeesUnion object seen (Ok None) = seen ≡ Ok None
+SeesUnion object seen (Ok (Some tagged)) =
+    (union : SeenUnion) × (seen ≡ Ok (Some union)) × IsUnionIn object union tagged
+SeesUnion object seen (Err kind) = seen ≡ Err (fault_text kind)
+
+-- the place of a slot's field in a table, none where the field is absent
+abbrev pub SeesPlace : Seen → ℕ → Option Place → Type 0
+SeesPlace table i None = Slot table.slots i ≡ 0
+SeesPlace table i (Some place) =
+    (Slot table.slots i ≢ 0) × (place_bytes place ≡ table.object)
+    × (place_offset place ≡ Slot table.slots i)
+
+-- a vector of unions
+abbrev pub unions_view : Unions → UnionView
+unions_view unions = union_view_of unions.vector
+
+abbrev pub unions_seen : Unions → SeenUnions
+unions_seen unions =
+    let view = unions_view unions in
+    record { tags = view.tags; references = view.references; count = view.count }
+
+-- union i of them; none where they end before it
+abbrev pub GetsUnion : UnionView → ℕ → Option TaggedPlace → Type 0
+GetsUnion view i None = view.count ≤ i
+GetsUnion view i (Some tagged) =
+    (i < view.count)
+    × IsUnionIn view.references (record { tag = slice_index view.tags i; offset = i * 4 }) tagged
+
+-- the events of what was found at a path
+abbrev pub found_events : TableEvents → List ℕ → Found → List Event
+found_events E path (FoundValue value) = line (value_line path (value_text value)) ∷ []
+found_events E path (FoundFault kind) = fault_event path (fault_text kind) ∷ []
+found_events E path (FoundTable index place) = E index (place_bytes place) (place_offset place) path
+
+-- it is what stands at an item of these bytes, whatever the tables' events
+abbrev pub IsFound : Item → List ℕ → ℕ → Found → Type 0
+IsFound item S f found =
+    (E : TableEvents) (path : List ℕ) → found_events E path found ≡ item_events E item S f path
+
+-- what the items of a vector are
+abbrev pub item_of : Items → Item
+item_of (Items16 v) = U16
+item_of (Items32 v) = U32
+item_of (Items64 v) = U64
+item_of (Signed16 v) = I16
+item_of (Signed32 v) = I32
+item_of (Signed64 v) = I64
+item_of (Truths v) = Bool
+item_of (Texts v) = Text
+item_of (Tables index v) = TableItem index
+
+-- their view
+abbrev pub items_view : Items → View
+items_view (Items16 v) = view_of v
+items_view (Items32 v) = view_of v
+items_view (Items64 v) = view_of v
+items_view (Signed16 v) = view_of v
+items_view (Signed32 v) = view_of v
+items_view (Signed64 v) = view_of v
+items_view (Truths v) = view_of v
+items_view (Texts v) = view_of v
+items_view (Tables index v) = view_of v
+
+-- the bytes from the first item on, and how many items there are
+abbrev pub items_seen : Items → SeenItems
+items_seen items = record { bytes = (items_view items).bytes; count = (items_view items).count }
+
+-- item i of them; none where they end before it
+abbrev pub GetsFound : Items → ℕ → Option Found → Type 0
+GetsFound items i None = (items_view items).count ≤ i
+GetsFound items i (Some found) =
+    (i < (items_view items).count)
+    × IsFound (item_of items) (items_view items).bytes (i * stride_of (item_of items)) found

@@ -1,0 +1,68 @@
+//! A dump.
+ghost use Rattle.planus_dump.specs.Dumped.{Dumped};
+
+use crate::fits::is_good_schema;
+use crate::out::{Out, Stop};
+use crate::schemas::Schema;
+use crate::walk::dump_table;
+use planus::{Place, SliceWithStartOffset, TableRead};
+use std::alloc::{AllocError, Global};
+
+/// The greatest depth of a table, the root having depth 1.
+const GREATEST_DEPTH: usize = 64;
+
+/// Why there is no dump.
+#[derive(Clone, Copy, Debug, PartialEq, Eq)]
+pub enum DumpError {
+    /// Memory for the lines was refused.
+    OutOfMemory,
+    /// The schema names a table or a union that it doesn't have, has a union with a tag 0 or twice
+    /// the same tag, or a name that is empty or has another byte than ASCII letters, digits and
+    /// `_`.
+    BadSchema,
+    /// A table at depth 65 is reached before the line past the budget. The root has depth 1.
+    TooDeep,
+    /// There are more lines than the budget.
+    TooManyLines,
+}
+
+impl From<AllocError> for DumpError {
+    ghost use Rattle.std.specs.Prelude.{◌≡◌};
+    ghost use Rattle.planus_dump.specs.declared.dumps.DumpError.TheVariants.{OutOfMemory};
+
+    ghost from_gives = { λ _ e. e ≡ OutOfMemory };
+
+    fn from(_error: AllocError) -> DumpError {
+        DumpError::OutOfMemory
+    }
+}
+
+/// Returns the lines of the tables that are reached from the root of a buffer, which the first 4
+/// bytes refer to. There are no more than the budget. Damage in the bytes is a line of its own, and
+/// no error. The path of the root is `root`.
+///
+/// Time and memory are in proportion to the budget and the bytes, however often a table is named.
+pub fn dump(
+    alloc: Global,
+    schema: &Schema,
+    bytes: &[u8],
+    budget: usize,
+) -> Result<Vec<String>, DumpError>
+    ensures { Dumped schema.now bytes.now budget result }
+{
+    if !is_good_schema(schema) {
+        return Err(DumpError::BadSchema);
+    }
+    let whole = SliceWithStartOffset::new(bytes, 0);
+    let root = match <Place<'_> as TableRead<'_>>::from_buffer(whole, 0) {
+        Ok(place) => place,
+        Err(_) => unreachable!(),
+    };
+    let mut out = Out::new(alloc, budget);
+    dump_table(schema, &mut out, GREATEST_DEPTH, "root", schema.root, root)?;
+    match out.stop {
+        Stop::Going => Ok(out.lines),
+        Stop::TooDeep => Err(DumpError::TooDeep),
+        Stop::TooMany => Err(DumpError::TooManyLines),
+    }
+}

@@ -1,0 +1,110 @@
+//! Whether a schema is good.
+ghost use Rattle.std.specs.Prelude.{◌≡◌};
+ghost use Rattle.std.specs.List.{list_all, list_any};
+ghost use Rattle.std.specs.Prelude.{◌==◌};
+ghost use Rattle.planus_dump.specs.Schemas.{is_name_byte, is_name, item_fits, kind_fits};
+ghost use Rattle.planus_dump.specs.Schemas.{field_fits, table_fits, variants_fit, union_fits, is_good};
+
+use crate::schemas::{FieldSchema, Item, Kind, Schema, TableSchema};
+
+/// Returns whether names may have this byte.
+fn is_name_byte_of(byte: u8) -> bool
+    ensures { result ≡ is_name_byte byte }
+{
+    matches!(byte, b'A'..=b'Z' | b'a'..=b'z' | b'0'..=b'9' | b'_')
+}
+
+/// Returns whether this is a name.
+fn is_name_of(name: &str) -> bool
+    ensures { result ≡ is_name name.now }
+{
+    let bytes = name.as_bytes();
+    for byte in bytes {
+        if !is_name_byte_of(*byte) {
+            return false;
+        }
+    }
+    !bytes.is_empty()
+}
+
+/// Returns whether there are the table or the union that a kind names, of so many.
+fn kind_fits_in(kind: Kind, tables: usize, unions: usize) -> bool
+    ensures { result ≡ kind_fits tables unions kind }
+{
+    match kind {
+        Kind::One(Item::Table(index)) | Kind::List(Item::Table(index)) => index < tables,
+        Kind::Union(index) | Kind::UnionVector(index) => index < unions,
+        _ => true,
+    }
+}
+
+/// Returns whether a table is good among so many tables and unions.
+fn table_fits_in(table: &TableSchema, tables: usize, unions: usize) -> bool
+    ensures { result ≡ table_fits tables unions table.now }
+{
+    for field in &table.fields {
+        if !is_name_of(field.name.as_str()) || !kind_fits_in(field.kind, tables, unions) {
+            return false;
+        }
+    }
+    is_name_of(table.name.as_str())
+}
+
+/// Returns whether a union has a variant with this tag.
+fn has_tag(variants: &[(u8, usize)], tag: u8) -> bool
+    ensures { result ≡ list_any (λ other. other.0 == tag) variants.now }
+{
+    for other in variants {
+        if other.0 == tag {
+            return true;
+        }
+    }
+    false
+}
+
+/// Returns whether a union is good among so many tables.
+fn variants_fit_in(variants: &[(u8, usize)], tables: usize) -> bool
+    ensures { result ≡ variants_fit tables variants.now }
+{
+    for (index, (tag, table)) in variants.iter().enumerate() {
+        if *tag == 0 || *table >= tables || has_tag(&variants[index + 1..], *tag) {
+            return false;
+        }
+    }
+    true
+}
+
+/// Returns whether all these tables are good, among so many tables and unions.
+fn tables_fit_in(all: &[TableSchema], tables: usize, unions: usize) -> bool
+    ensures { result ≡ list_all (table_fits tables unions) all.now }
+{
+    for table in all {
+        if !table_fits_in(table, tables, unions) {
+            return false;
+        }
+    }
+    true
+}
+
+/// Returns whether all these unions are good, among so many tables.
+fn unions_fit_in(all: &[Vec<(u8, usize)>], tables: usize) -> bool
+    ensures { result ≡ list_all (union_fits tables) all.now }
+{
+    for variants in all {
+        if !variants_fit_in(variants.as_slice(), tables) {
+            return false;
+        }
+    }
+    true
+}
+
+/// Returns whether a schema is good.
+pub fn is_good_schema(schema: &Schema) -> bool
+    ensures { result ≡ is_good schema.now }
+{
+    let tables = schema.tables.len();
+    let unions = schema.unions.len();
+    schema.root < tables
+        && tables_fit_in(schema.tables.as_slice(), tables, unions)
+        && unions_fit_in(schema.unions.as_slice(), tables)
+}

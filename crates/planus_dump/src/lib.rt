@@ -1,0 +1,16 @@
+//! A dump of a buffer for people: which tables, fields and values stand in it, line by line, by a
+//! schema that is a value.
+#![tactic(auto)]
+
+mod dumps;
+mod fits;
+mod items;
+mod out;
+mod readings;
+mod schemas;
+mod unions;
+mod values;
+mod walk;
+
+pub use dumps::{DumpError, dump};
+pub use schemas::{FieldSchema, Item, Kind, Schema, TableSchema};

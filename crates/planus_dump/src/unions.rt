@@ -1,0 +1,47 @@
+//! The items of a vector of unions.
+ghost use Rattle.std.specs.Prelude.{◌≡◌};
+ghost use Rattle.planus_dump.specs.Answers.{unions_at};
+ghost use Rattle.planus_dump.specs.Seeing.{answer_seen, option_seen, table_seen};
+ghost use Rattle.planus_dump.specs.Seeing.{unions_seen, unions_view, GetsUnion};
+
+use crate::readings::{METHOD, TYPE};
+use planus::errors::ErrorKind;
+use planus::table_reader::Table;
+use planus::{TaggedPlace, UnionVector};
+
+/// A vector of unions, the variants of which are chosen later.
+#[derive(Clone, Copy)]
+pub struct Unions<'buf> {
+    pub vector: UnionVector<'buf, TaggedPlace<'buf>>,
+}
+
+/// Returns the vector of unions of a slot and the next, or `None` where there is none.
+pub fn read_unions<'buf>(table: Table<'buf>, slot: usize) -> Result<Option<Unions<'buf>>, ErrorKind>
+    ensures { answer_seen (option_seen unions_seen) result
+        ≡ unions_at (table_seen table.entry) slot }
+{
+    match table.access_union_vector::<UnionVector<'buf, TaggedPlace<'buf>>>(slot, TYPE, METHOD) {
+        Ok(Some(vector)) => Ok(Some(Unions { vector })),
+        Ok(None) => Ok(None),
+        Err(error) => Err(error.error_kind),
+    }
+}
+
+impl<'buf> Unions<'buf> {
+    /// Returns how many unions there are.
+    pub fn len(&self) -> usize
+        ensures { result ≡ (unions_view self.now).count }
+    {
+        self.vector.len()
+    }
+
+    /// Returns the union at a position, or `None` where the vector ends before it.
+    pub fn get(&self, i: usize) -> Option<TaggedPlace<'buf>>
+        ensures { GetsUnion (unions_view self.now) i result }
+    {
+        match self.vector.get(i)? {
+            Ok(tagged) => Some(tagged),
+            Err(_) => unreachable!(),
+        }
+    }
+}

@@ -1,0 +1,27 @@
+//! Values that have no parts.
+
+/// What has no parts.
+#[derive(Clone, Copy)]
+pub enum Leaf {
+    U8,
+    U16,
+    U32,
+    U64,
+    I8,
+    I16,
+    I32,
+    I64,
+    Bool,
+    Text,
+    Bytes,
+}
+
+/// A value that has no parts, as it is printed.
+#[derive(Clone, Copy)]
+pub enum Value<'buf> {
+    Unsigned(u64),
+    Signed(i64),
+    Truth(bool),
+    Text(&'buf str),
+    Bytes(&'buf [u8]),
+}

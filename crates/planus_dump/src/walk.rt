@@ -1,0 +1,255 @@
+//! The walk over all tables that are reached from one.
+ghost use Rattle.std.specs.Prelude.{◌≡◌, ◌-◌, OnOk, slice_get};
+ghost use Rattle.std.specs.String.{string_bytes};
+ghost use Rattle.planus_read.specs.Places.{place_bytes, place_offset, tagged_tag, tagged_place};
+ghost use Rattle.planus_dump.specs.Lines.{field_path};
+ghost use Rattle.planus_dump.specs.Answers.{table_at};
+ghost use Rattle.planus_dump.specs.Events.{events, kind_events, place_events, variant_of};
+ghost use Rattle.planus_dump.specs.Events.{union_events, unions_events, list_events, table_events};
+ghost use Rattle.planus_dump.specs.Seeing.{table_seen, found_events, unions_seen};
+ghost use Rattle.planus_dump.specs.Seeing.{items_seen, item_of};
+ghost use Rattle.planus_dump.specs.Shown.{shown, feed};
+ghost use Rattle.std.specs.Prelude.{Some, Ok};
+
+use crate::items::{Items, read_items};
+use crate::out::Out;
+use crate::readings::{Found, field_place, item_found, leaf_found, read_table, read_union};
+use crate::schemas::{FieldSchema, Kind, Schema, TableSchema};
+use crate::unions::{Unions, read_unions};
+use crate::values::Leaf;
+use planus::errors::ErrorKind;
+use planus::table_reader::Table;
+use planus::{Place, TaggedPlace};
+use std::alloc::AllocError;
+
+/// Dumps the table to which the reference at a place leads, below which there may be `left - 1`
+/// further ones.
+#[cycle(walk)]
+pub fn dump_table(
+    schema: &Schema,
+    out: &mut Out,
+    left: usize,
+    path: &str,
+    index: usize,
+    place: Place<'_>,
+) -> Result<(), AllocError>
+    ensures { OnOk result (shown out.new ≡ feed (shown out.old)
+        (events schema.now left index (place_bytes place.entry) (place_offset place.entry) path.now)) }
+{
+    if left == 0 {
+        out.put_deep();
+        return Ok(());
+    }
+    match schema.tables.get(index) {
+        None => Ok(()),
+        Some(shape) => dump_shape(schema, out, left - 1, path, shape, place),
+    }
+}
+
+/// Dumps a table of this schema, in which there may be `left` further tables.
+#[cycle(walk)]
+fn dump_shape(
+    schema: &Schema,
+    out: &mut Out,
+    left: usize,
+    path: &str,
+    shape: &TableSchema,
+    place: Place<'_>,
+) -> Result<(), AllocError>
+    ensures { OnOk result (shown out.new ≡ feed (shown out.old)
+        (table_events (events schema.now left) schema.now shape.now path.now
+        (table_at (place_bytes place.entry) (place_offset place.entry)))) }
+{
+    let table = match read_table(place) {
+        Ok(table) => table,
+        Err(kind) => return out.put_fault(path, kind),
+    };
+    out.put_table(path, shape.name.as_str())?;
+    for field in &shape.fields {
+        if out.is_stopped() {
+            return Ok(());
+        }
+        dump_field(schema, out, left, path, table, field)?;
+    }
+    Ok(())
+}
+
+/// Dumps a field of a table, in which there may be `left` further tables.
+#[cycle(walk)]
+fn dump_field(
+    schema: &Schema,
+    out: &mut Out,
+    left: usize,
+    path: &str,
+    table: Table<'_>,
+    field: &FieldSchema,
+) -> Result<(), AllocError>
+    ensures { OnOk result (shown out.new ≡ feed (shown out.old)
+        (kind_events (events schema.now left) schema.now field.now.kind field.now.slot
+        (table_seen table.entry) (field_path path.now (string_bytes field.now.name)))) }
+{
+    let path = format!(in out.alloc; "{path}.{}", field.name)?;
+    let path = path.as_str();
+    match field.kind {
+        Kind::Union(index) => match read_union(table, field.slot) {
+            Ok(None) => Ok(()),
+            Ok(Some(tagged)) => dump_union(schema, out, left, path, index, tagged),
+            Err(kind) => out.put_fault(path, kind),
+        },
+        Kind::UnionVector(index) => match read_unions(table, field.slot) {
+            Ok(None) => Ok(()),
+            Ok(Some(unions)) => dump_unions(schema, out, left, path, index, unions),
+            Err(kind) => out.put_fault(path, kind),
+        },
+        kind => match field_place(table, field.slot) {
+            None => Ok(()),
+            Some(place) => dump_place(schema, out, left, path, kind, place),
+        },
+    }
+}
+
+/// Dumps what is found at a path.
+#[cycle(walk)]
+fn dump_found(
+    schema: &Schema,
+    out: &mut Out,
+    left: usize,
+    path: &str,
+    found: Found<'_>,
+) -> Result<(), AllocError>
+    ensures { OnOk result (shown out.new
+        ≡ feed (shown out.old) (found_events (events schema.now left) path.now found.entry)) }
+{
+    match found {
+        Found::Value(value) => out.put_value(path, value),
+        Found::Fault(kind) => out.put_fault(path, kind),
+        Found::Table(index, place) => dump_table(schema, out, left, path, index, place),
+    }
+}
+
+/// Dumps a field that has one place, all but a union or a vector of unions.
+#[cycle(walk)]
+fn dump_place(
+    schema: &Schema,
+    out: &mut Out,
+    left: usize,
+    path: &str,
+    kind: Kind,
+    place: Place<'_>,
+) -> Result<(), AllocError>
+    ensures { OnOk result (shown out.new ≡ feed (shown out.old)
+        (place_events (events schema.now left) kind
+        (place_bytes place.entry) (place_offset place.entry) path.now)) }
+{
+    match kind {
+        Kind::One(item) => dump_found(schema, out, left, path, item_found(place, item)),
+        Kind::U8 => dump_found(schema, out, left, path, leaf_found(place, Leaf::U8)),
+        Kind::I8 => dump_found(schema, out, left, path, leaf_found(place, Leaf::I8)),
+        Kind::Bytes => dump_found(schema, out, left, path, leaf_found(place, Leaf::Bytes)),
+        Kind::List(item) => match read_items(place, item) {
+            Ok(items) => dump_items(schema, out, left, path, items),
+            Err(kind) => out.put_fault(path, kind),
+        },
+        Kind::Union(_) | Kind::UnionVector(_) => Ok(()),
+    }
+}
+
+/// Dumps a vector.
+#[cycle(walk)]
+fn dump_items(
+    schema: &Schema,
+    out: &mut Out,
+    left: usize,
+    path: &str,
+    items: Items<'_>,
+) -> Result<(), AllocError>
+    ensures { OnOk result (shown out.new ≡ feed (shown out.old)
+        (list_events (events schema.now left) (item_of items.entry) path.now
+        (Ok (items_seen items.entry)))) }
+{
+    let count = items.len();
+    out.put_list(path, count)?;
+    for i in 0..count {
+        if out.is_stopped() {
+            return Ok(());
+        }
+        let found = match items.get(i) {
+            None => return Ok(()),
+            Some(found) => found,
+        };
+        let path = format!(in out.alloc; "{path}[{i}]")?;
+        dump_found(schema, out, left, path.as_str(), found)?;
+    }
+    Ok(())
+}
+
+/// Dumps a union.
+#[cycle(walk)]
+fn dump_union(
+    schema: &Schema,
+    out: &mut Out,
+    left: usize,
+    path: &str,
+    index: usize,
+    tagged: TaggedPlace<'_>,
+) -> Result<(), AllocError>
+    ensures { let place = tagged_place tagged.entry in
+        OnOk result (shown out.new ≡ feed (shown out.old)
+        (union_events (events schema.now left) (slice_get schema.now.unions.items index)
+        (tagged_tag tagged.entry) (place_bytes place) (place_offset place) path.now)) }
+{
+    let variants = match schema.unions.get(index) {
+        None => return Ok(()),
+        Some(variants) => variants,
+    };
+    let tag = tagged.tag();
+    match variant_table(variants.as_slice(), tag) {
+        Some(index) => {
+            out.put_union(path, tag)?;
+            dump_table(schema, out, left, path, index, tagged.place())
+        }
+        None => out.put_fault(path, ErrorKind::UnknownUnionTag { tag }),
+    }
+}
+
+/// Dumps a vector of unions.
+#[cycle(walk)]
+fn dump_unions(
+    schema: &Schema,
+    out: &mut Out,
+    left: usize,
+    path: &str,
+    index: usize,
+    unions: Unions<'_>,
+) -> Result<(), AllocError>
+    ensures { OnOk result (shown out.new ≡ feed (shown out.old)
+        (unions_events (events schema.now left) schema.now index path.now
+        (Ok (Some (unions_seen unions.entry))))) }
+{
+    let count = unions.len();
+    out.put_unions(path, count)?;
+    for i in 0..count {
+        if out.is_stopped() {
+            return Ok(());
+        }
+        let tagged = match unions.get(i) {
+            None => return Ok(()),
+            Some(tagged) => tagged,
+        };
+        let path = format!(in out.alloc; "{path}[{i}]")?;
+        dump_union(schema, out, left, path.as_str(), index, tagged)?;
+    }
+    Ok(())
+}
+
+/// Returns the table of the variant with a tag, or `None` where no variant has it.
+fn variant_table(variants: &[(u8, usize)], tag: u8) -> Option<usize>
+    ensures { result ≡ variant_of variants.now tag }
+{
+    for (variant, table) in variants {
+        if *variant == tag {
+            return Some(*table);
+        }
+    }
+    None
+}
