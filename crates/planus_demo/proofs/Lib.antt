@@ -11,3 +11,5 @@ pub mod Lists
 pub mod FieldLists
 pub mod WrittenWeapons
 pub mod WrittenMonsters
+pub mod SpacedBytes
+pub mod DumpLimited

@@ -14,3 +14,5 @@ pub mod Variants
 pub mod Equipments
 pub mod Monsters
 pub mod MonsterViews
+pub mod DumpRuns
+pub mod ModeWords

@@ -40,7 +40,7 @@ impl From<AllocError> for RunError {
 }
 
 /// The bytes of a script, or the first bytes of one that is too long.
-fn read_script<R: Read>(alloc: Global, reader: &mut R) -> std::result::Result<Vec<u8>, RunError>
+pub fn read_script<R: Read>(alloc: Global, reader: &mut R) -> std::result::Result<Vec<u8>, RunError>
     ensures bytes { IfOk result (λ input. IfSome (R.remaining reader.old)
         (λ bytes. input.items ≡ take (greatest_script + 1) bytes)) }
     ensures error { IfErr result (λ error. IsReading error) }
@@ -82,7 +82,7 @@ fn output_of(alloc: Global, input: &[u8]) -> std::result::Result<Output, AllocEr
 }
 
 /// Writes all bytes, and hands them on.
-fn write_out<W: Write>(writer: &mut W, bytes: &[u8]) -> std::result::Result<(), RunError>
+pub fn write_out<W: Write>(writer: &mut W, bytes: &[u8]) -> std::result::Result<(), RunError>
     ensures bytes { OnOk result (Appends (W.contents writer.old)
         (W.contents writer.new) bytes.now) }
     ensures error { IfErr result (λ error. error ≡ RunError.Write) }

@@ -269,7 +269,7 @@ fn finish_step(root: usize, id: Option<[u8; 4]>, sized: bool) -> Step
 }
 
 /// The byte of two hexadecimal digits.
-fn byte_of(high: u8, low: u8) -> Option<u8>
+pub fn byte_of(high: u8, low: u8) -> Option<u8>
     ensures { result ≡ byte_of_lem high low }
 {
     let high = char::from(high).to_digit(16)?;

@@ -1,5 +1,6 @@
 -- What readers answer, as functions of the bytes: a value, or the text of a fault.
-use Rattle.std.specs.Prelude.{ℕ, ◌+◌, ◌*◌, nat_le, nat_lt, ◌==◌, not, ◌||◌, ◌&&◌, List, [], ◌∷◌, length, drop}
+use Rattle.std.specs.Prelude.{ℕ, ◌+◌, ◌*◌, nat_le, nat_lt, ◌==◌, not, ◌||◌, ◌&&◌}
+use Rattle.std.specs.Prelude.{List, [], ◌∷◌, length, drop}
 use Rattle.std.specs.Prelude.{Option, Some, None, Result, Ok, Err, if◌then◌else◌}
 use Rattle.std.specs.Fmt.{decimal, signed_decimal}
 use Rattle.std.specs.Int.{Width, w8, w16, w32, w64, cast_signed}
@@ -71,7 +72,11 @@ pub record SeenUnions : Type 0 where
 abbrev pub union_vector_at : List ℕ → ℕ → ℕ → Result SeenUnions (List ℕ)
 union_vector_at S f g =
     answered (union_vector_tests S f g)
-    (record { tags = drop (items_at S f) S; references = drop (items_at S g) S; count = count_at S f })
+    (record {
+      tags = drop (items_at S f) S;
+      references = drop (items_at S g) S;
+      count = count_at S f;
+    })
 
 -- a union: its tag, and where the reference to its table lies in the object
 pub record SeenUnion : Type 0 where

@@ -7,7 +7,8 @@ use Rattle.planus_dump.specs.Events.{Event, line, deep, events}
 use Rattle.planus_dump.specs.Schemas.{is_good}
 use Rattle.planus_dump.specs.declared.schemas.Schema.{Schema}
 use Rattle.planus_dump.specs.declared.dumps.DumpError.{DumpError}
-use Rattle.planus_dump.specs.declared.dumps.DumpError.TheVariants.{OutOfMemory, BadSchema, TooDeep, TooManyLines}
+use Rattle.planus_dump.specs.declared.dumps.DumpError.TheVariants.{OutOfMemory, BadSchema}
+use Rattle.planus_dump.specs.declared.dumps.DumpError.TheVariants.{TooDeep, TooManyLines}
 
 -- a table lies no deeper, the root having depth 1
 abbrev pub greatest_depth : ℕ
@@ -24,7 +25,8 @@ Begin es lines rest = es ≡ map line lines ++ rest
 -- What is answered of events: their lines, if they are no more than the budget and nothing lies too
 -- deep; or else what comes first, a table that lies too deep, or a line past the budget.
 abbrev pub Answers : List Event → ℕ → Result (Vec (String Global) Global) DumpError → Type 0
-Answers es budget (Ok lines) = Begin es (map string_bytes lines.items) [] × (length lines.items ≤ budget)
+Answers es budget (Ok lines) =
+    Begin es (map string_bytes lines.items) [] × (length lines.items ≤ budget)
 Answers es budget (Err TooDeep) =
     (lines : List (List ℕ)) × (rest : List Event) × Begin es lines (deep ∷ rest)
     × (length lines ≤ budget)
@@ -34,8 +36,9 @@ Answers es budget (Err TooManyLines) =
 Answers es budget (Err BadSchema) = ⊤
 Answers es budget (Err OutOfMemory) = ⊤
 
--- What a dump answers: `BadSchema` exactly of a schema that isn't good, and else what is said of the
--- events; or memory was refused.
+-- What a dump answers: `BadSchema` exactly of a schema that isn't good, and else what is said of
+-- the events; or memory was refused.
 abbrev pub Dumped : Schema → List ℕ → ℕ → Result (Vec (String Global) Global) DumpError → Type 0
 Dumped schema bytes budget (Err BadSchema) = is_good schema ≡ false
-Dumped schema bytes budget result = (is_good schema ≡ true) × Answers (events_of schema bytes) budget result
+Dumped schema bytes budget result =
+    (is_good schema ≡ true) × Answers (events_of schema bytes) budget result

@@ -1,5 +1,6 @@
 -- The events of a dump: what stands in the tables that are reached from the root, line by line.
-use Rattle.std.specs.Prelude.{ℕ, zero, suc, ◌+◌, ◌*◌, ◌==◌, List, [], ◌∷◌, ◌++◌, slice_get, slice_index, Vec}
+use Rattle.std.specs.Prelude.{ℕ, zero, suc, ◌+◌, ◌*◌, ◌==◌, List, [], ◌∷◌, ◌++◌, Vec}
+use Rattle.std.specs.Prelude.{slice_get, slice_index}
 use Rattle.std.specs.Prelude.{Option, Some, None, Result, Ok, Err, if◌then◌else◌}
 use Rattle.std.specs.String.{string_bytes}
 use Rattle.std.specs.declared.alloc.Global.{Global}
@@ -84,7 +85,8 @@ module _ (E : TableEvents) where
   abbrev pub items_events : Item → List ℕ → List ℕ → ℕ → ℕ → List Event
   items_events item S path zero i = []
   items_events item S path (suc n) i =
-      item_events item S (i * stride_of item) (item_path path i) ++ items_events item S path n (i + 1)
+      item_events item S (i * stride_of item) (item_path path i)
+      ++ items_events item S path n (i + 1)
 
   -- a list, as its vector was answered
   abbrev pub list_events : Item → List ℕ → Result SeenItems (List ℕ) → List Event
@@ -110,11 +112,13 @@ module _ (E : TableEvents) where
   -- a union of these variants, if the schema has them, with its tag, and its reference at f of S
   abbrev pub union_events : Option (Vec (ℕ × ℕ) Global) → ℕ → List ℕ → ℕ → List ℕ → List Event
   union_events None tag S f path = []
-  union_events (Some variants) tag S f path = variant_events tag S f path (variant_of variants.items tag)
+  union_events (Some variants) tag S f path =
+      variant_events tag S f path (variant_of variants.items tag)
 
   module _ (schema : Schema) where
     -- the union field of an object, as its slots were answered
-    abbrev pub union_field_events : ℕ → List ℕ → List ℕ → Result (Option SeenUnion) (List ℕ) → List Event
+    abbrev pub union_field_events :
+        ℕ → List ℕ → List ℕ → Result (Option SeenUnion) (List ℕ) → List Event
     union_field_events index object path (Ok None) = []
     union_field_events index object path (Ok (Some union)) =
         union_events (slice_get schema.unions.items index) union.tag object union.offset path
@@ -124,7 +128,8 @@ module _ (E : TableEvents) where
     abbrev pub union_items_events : ℕ → SeenUnions → List ℕ → ℕ → ℕ → List Event
     union_items_events index items path zero i = []
     union_items_events index items path (suc n) i =
-        union_events (slice_get schema.unions.items index) (slice_index items.tags i) items.references (i * 4) (item_path path i)
+        union_events (slice_get schema.unions.items index) (slice_index items.tags i)
+        items.references (i * 4) (item_path path i)
         ++ union_items_events index items path n (i + 1)
 
     -- a vector of unions, as its slots were answered
@@ -156,7 +161,8 @@ module _ (E : TableEvents) where
     -- a table of this schema, as its reference was answered
     abbrev pub table_events : TableSchema → List ℕ → Result Seen (List ℕ) → List Event
     table_events shape path (Ok table) =
-        line (table_line path (string_bytes shape.name)) ∷ fields_events table path shape.fields.items
+        line (table_line path (string_bytes shape.name))
+        ∷ fields_events table path shape.fields.items
     table_events shape path (Err fault) = fault_event path fault ∷ []
 
     -- the same, if the schema has it

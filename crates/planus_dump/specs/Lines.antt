@@ -6,7 +6,8 @@ use Rattle.std.specs.Fmt.{decimal, signed_decimal}
 use Rattle.std.specs.List.{flat_map}
 use Rattle.std.specs.Str.{chars}
 use Rattle.planus_dump.specs.declared.values.Value.{Value}
-use Rattle.planus_dump.specs.declared.values.Value.TheVariants.{Unsigned, Signed, Truth, Text, Bytes}
+use Rattle.planus_dump.specs.declared.values.Value.TheVariants.{Unsigned, Signed, Truth, Text}
+use Rattle.planus_dump.specs.declared.values.Value.TheVariants.{Bytes}
 
 -- the path of a field, and that of an item
 abbrev pub field_path : List ℕ → List ℕ → List ℕ

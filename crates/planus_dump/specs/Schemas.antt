@@ -59,7 +59,8 @@ table_fits tables unions table =
 abbrev pub variants_fit : ℕ → List (ℕ × ℕ) → Bool
 variants_fit tables [] = true
 variants_fit tables (variant ∷ rest) =
-    not (variant.0 == 0) && nat_lt variant.1 tables && not (list_any (λ other. other.0 == variant.0) rest)
+    not (variant.0 == 0) && nat_lt variant.1 tables
+    && not (list_any (λ other. other.0 == variant.0) rest)
     && variants_fit tables rest
 
 abbrev pub union_fits : ℕ → Vec (ℕ × ℕ) Global → Bool

@@ -20,11 +20,16 @@ use Rattle.planus_dump.specs.declared.schemas.Item.{Item}
 use Rattle.planus_dump.specs.declared.schemas.Item.TheVariants.{U16, U32, U64, I16, I32, I64}
 use Rattle.planus_dump.specs.declared.schemas.Item.TheVariants.{Bool, Text, Table as TableItem}
 use Rattle.planus_dump.specs.declared.readings.Found.{Found}
-use Rattle.planus_dump.specs.declared.readings.Found.TheVariants.{Value as FoundValue, Fault as FoundFault, Table as FoundTable}
+use Rattle.planus_dump.specs.declared.readings.Found.TheVariants.{Value as FoundValue}
+use Rattle.planus_dump.specs.declared.readings.Found.TheVariants.{Fault as FoundFault}
+use Rattle.planus_dump.specs.declared.readings.Found.TheVariants.{Table as FoundTable}
 use Rattle.planus_dump.specs.declared.items.Items.{Items}
-use Rattle.planus_dump.specs.declared.items.Items.TheVariants.{U16 as Items16, U32 as Items32, U64 as Items64}
-use Rattle.planus_dump.specs.declared.items.Items.TheVariants.{I16 as Signed16, I32 as Signed32, I64 as Signed64}
-use Rattle.planus_dump.specs.declared.items.Items.TheVariants.{Bool as Truths, Text as Texts, Table as Tables}
+use Rattle.planus_dump.specs.declared.items.Items.TheVariants.{U16 as Items16, U32 as Items32}
+use Rattle.planus_dump.specs.declared.items.Items.TheVariants.{U64 as Items64}
+use Rattle.planus_dump.specs.declared.items.Items.TheVariants.{I16 as Signed16, I32 as Signed32}
+use Rattle.planus_dump.specs.declared.items.Items.TheVariants.{I64 as Signed64}
+use Rattle.planus_dump.specs.declared.items.Items.TheVariants.{Bool as Truths, Text as Texts}
+use Rattle.planus_dump.specs.declared.items.Items.TheVariants.{Table as Tables}
 
 -- an answer, of whose value this is seen
 abbrev pub answer_seen : {A B : Type 0} → (A → B) → Result A ErrorKind → Result B (List ℕ)

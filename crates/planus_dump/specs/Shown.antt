@@ -1,5 +1,6 @@
 -- What becomes of the lines so far where an event comes, and then one after another.
-use Rattle.std.specs.Prelude.{◌≡◌, ◌≢◌, ℕ, List, [], ◌∷◌, ◌++◌, length, map, Bool, true, false, if◌then◌else◌, ◌==◌}
+use Rattle.std.specs.Prelude.{◌≡◌, ◌≢◌, ℕ, List, [], ◌∷◌, ◌++◌, length, map}
+use Rattle.std.specs.Prelude.{Bool, true, false, if◌then◌else◌, ◌==◌}
 use Rattle.std.specs.String.{string_bytes}
 use Rattle.planus_dump.specs.Events.{Event, line, deep}
 use Rattle.planus_dump.specs.declared.out.Stop.{Stop}

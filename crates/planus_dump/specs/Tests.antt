@@ -8,7 +8,8 @@ use Rattle.std.specs.Str.{is_utf8}
 use Rattle.planus_read.specs.declared.errors.ErrorKind.{ErrorKind}
 use Rattle.planus_read.specs.declared.errors.ErrorKind.TheVariants.{InvalidOffset, InvalidLength}
 use Rattle.planus_read.specs.declared.errors.ErrorKind.TheVariants.{UnionVectorLengthsMismatched}
-use Rattle.planus_read.specs.declared.errors.ErrorKind.TheVariants.{InvalidVtableLength, InvalidUtf8}
+use Rattle.planus_read.specs.declared.errors.ErrorKind.TheVariants.{InvalidVtableLength}
+use Rattle.planus_read.specs.declared.errors.ErrorKind.TheVariants.{InvalidUtf8}
 use Rattle.planus_read.specs.declared.errors.ErrorKind.TheVariants.{MissingNullTerminator}
 use Rattle.planus_read.specs.Reading.{target, count_at, items_at, signed_number, vtable_at}
 use Rattle.planus_read.specs.Reading.{vtable_size_at}
@@ -59,7 +60,8 @@ text_tests S f =
 -- a byte list, or a vector with items of this size, lies in S
 abbrev pub vector_tests : List ℕ → ℕ → ℕ → List Test
 vector_tests S f stride =
-    head_tests S f (test (nat_le (items_at S f + count_at S f * stride) (length S)) InvalidLength ∷ [])
+    head_tests S f
+    (test (nat_le (items_at S f + count_at S f * stride) (length S)) InvalidLength ∷ [])
 
 abbrev pub byte_list_tests : List ℕ → ℕ → List Test
 byte_list_tests S f =
@@ -71,7 +73,8 @@ union_vector_tests S f g =
     head_tests S f (head_tests S g
     (test (nat_le (items_at S f + count_at S f) (length S)) InvalidLength
     ∷ test (nat_le (items_at S g + count_at S g * 4) (length S)) InvalidLength
-    ∷ test (count_at S f == count_at S g) (UnionVectorLengthsMismatched (count_at S f) (count_at S g))
+    ∷ test (count_at S f == count_at S g)
+    (UnionVectorLengthsMismatched (count_at S f) (count_at S g))
     ∷ []))
 
 -- the object at a position: its word leads to a vtable of an even size from 4 on, which lies in S

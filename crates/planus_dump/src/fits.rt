@@ -3,7 +3,8 @@ ghost use Rattle.std.specs.Prelude.{◌≡◌};
 ghost use Rattle.std.specs.List.{list_all, list_any};
 ghost use Rattle.std.specs.Prelude.{◌==◌};
 ghost use Rattle.planus_dump.specs.Schemas.{is_name_byte, is_name, item_fits, kind_fits};
-ghost use Rattle.planus_dump.specs.Schemas.{field_fits, table_fits, variants_fit, union_fits, is_good};
+ghost use Rattle.planus_dump.specs.Schemas.{field_fits, table_fits, variants_fit};
+ghost use Rattle.planus_dump.specs.Schemas.{union_fits, is_good};
 
 use crate::schemas::{FieldSchema, Item, Kind, Schema, TableSchema};
 

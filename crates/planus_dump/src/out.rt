@@ -136,11 +136,11 @@ impl Out {
         ensures { OnOk result (shown self.new
             ≡ step (shown self.old) (line (fault_line path.now (fault_text kind)))) }
     {
-        let text = match kind {
+        let line = match kind {
             ErrorKind::InvalidUtf8 { .. } => format!(in self.alloc; "{path} ! Invalid utf-8")?,
             kind => format!(in self.alloc; "{path} ! {kind}")?,
         };
-        self.put(text)
+        self.put(line)
     }
 }
 

@@ -41,7 +41,8 @@ fn text_at<'buf>(place: Place<'buf>) -> Result<Value<'buf>, ErrorKind>
 
 /// Returns the value at a place.
 fn value_at<'buf>(place: Place<'buf>, leaf: Leaf) -> Result<Value<'buf>, ErrorKind>
-    ensures { answer_seen value_text result ≡ leaf_at leaf (place_bytes place.entry) (place_offset place.entry) }
+    ensures { answer_seen value_text result
+        ≡ leaf_at leaf (place_bytes place.entry) (place_offset place.entry) }
 {
     match leaf {
         Leaf::U8 => Ok(Value::Unsigned(u64::from(place.read::<u8>()?))),

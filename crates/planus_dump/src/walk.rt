@@ -34,7 +34,8 @@ pub fn dump_table(
     place: Place<'_>,
 ) -> Result<(), AllocError>
     ensures { OnOk result (shown out.new ≡ feed (shown out.old)
-        (events schema.now left index (place_bytes place.entry) (place_offset place.entry) path.now)) }
+        (events schema.now left index (place_bytes place.entry) (place_offset place.entry)
+        path.now)) }
 {
     if left == 0 {
         out.put_deep();

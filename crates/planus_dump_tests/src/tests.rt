@@ -1,0 +1,106 @@
+//! Schemas from their parts, and whether a dump has these lines.
+
+mod buffers;
+mod damage;
+mod deep;
+mod schemas;
+
+use planus_dump::{DumpError, FieldSchema, Item, Kind, Schema, TableSchema, dump};
+use std::alloc::{AllocError, Global};
+
+// A field: its slot, its name and its kind; and a table: its name and its fields.
+pub type FieldParts<'a> = (usize, &'a str, Kind);
+
+pub type TableParts<'a> = (&'a str, &'a [FieldParts<'a>]);
+
+// The weapons and monsters of the worked buffers.
+pub const WEAPON: &[FieldParts<'static>] = &[
+    (0, "name", Kind::One(Item::Text)),
+    (1, "damage", Kind::One(Item::I16)),
+];
+
+pub const MONSTER: &[FieldParts<'static>] = &[
+    (0, "hp", Kind::One(Item::I16)),
+    (1, "name", Kind::One(Item::Text)),
+    (2, "inventory", Kind::Bytes),
+    (3, "weapons", Kind::List(Item::Table(0))),
+    (4, "equipped", Kind::Union(0)),
+    (6, "loot", Kind::UnionVector(0)),
+];
+
+fn table_of(alloc: Global, parts: &TableParts<'_>) -> Result<TableSchema, AllocError> {
+    let mut fields = Vec::new(alloc);
+    for (slot, name, kind) in parts.1 {
+        let name = String::from_str(alloc, name)?;
+        let (slot, kind) = (*slot, *kind);
+        fields.push(FieldSchema { slot, name, kind })?;
+    }
+    let name = String::from_str(alloc, parts.0)?;
+    Ok(TableSchema { name, fields })
+}
+
+fn tables_of(alloc: Global, parts: &[TableParts<'_>]) -> Result<Vec<TableSchema>, AllocError> {
+    let mut tables = Vec::new(alloc);
+    for table in parts {
+        tables.push(table_of(alloc, table)?)?;
+    }
+    Ok(tables)
+}
+
+fn unions_of(alloc: Global, parts: &[&[(u8, usize)]]) -> Result<Vec<Vec<(u8, usize)>>, AllocError> {
+    let mut unions = Vec::new(alloc);
+    for variants in parts {
+        unions.push(Vec::from_slice(alloc, variants)?)?;
+    }
+    Ok(unions)
+}
+
+// A schema whose root is the last of these tables.
+pub fn schema_of(
+    alloc: Global,
+    tables: &[TableParts<'_>],
+    unions: &[&[(u8, usize)]],
+) -> Result<Schema, AllocError> {
+    Ok(Schema {
+        tables: tables_of(alloc, tables)?,
+        unions: unions_of(alloc, unions)?,
+        root: tables.len().saturating_sub(1),
+    })
+}
+
+fn are_lines(lines: &[String], expected: &[&str]) -> bool {
+    for (line, text) in lines.iter().zip(expected) {
+        if line.as_str() != *text {
+            return false;
+        }
+    }
+    lines.len() == expected.len()
+}
+
+// Whether a dump has exactly these lines.
+pub fn dumps_lines(
+    alloc: Global,
+    schema: &Schema,
+    bytes: &[u8],
+    budget: usize,
+    expected: &[&str],
+) -> bool {
+    match dump(alloc, schema, bytes, budget) {
+        Ok(lines) => are_lines(lines.as_slice(), expected),
+        Err(_) => false,
+    }
+}
+
+// Whether a dump is refused so.
+pub fn is_refused(
+    alloc: Global,
+    schema: &Schema,
+    bytes: &[u8],
+    budget: usize,
+    expected: DumpError,
+) -> bool {
+    match dump(alloc, schema, bytes, budget) {
+        Ok(_) => false,
+        Err(error) => error == expected,
+    }
+}
