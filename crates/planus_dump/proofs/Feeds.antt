@@ -16,9 +16,9 @@ use Rattle.planus_read.specs.declared.place.TaggedPlace.{TaggedPlace}
 use Rattle.planus_read.specs.Places.{place_bytes, place_offset, tagged_tag, tagged_place}
 use Rattle.planus_dump.specs.declared.readings.Found.{Found}
 use Rattle.planus_dump.specs.Shown.{begin, shown, Shown, step_at, step, feed}
-use Rattle.planus_dump.specs.declared.out.Stop.{Stop}
-use Rattle.planus_dump.specs.declared.out.Out.{Out}
-use Rattle.planus_dump.specs.declared.out.Stop.TheVariants.{Going, TooDeep, TooMany}
+use Rattle.planus_dump.specs.declared.output.Stop.{Stop}
+use Rattle.planus_dump.specs.declared.output.Out.{Out}
+use Rattle.planus_dump.specs.declared.output.Stop.TheVariants.{Going, TooDeep, TooMany}
 use Rattle.planus_dump.specs.declared.schemas.Schema.{Schema}
 use Rattle.planus_dump.specs.declared.schemas.FieldSchema.{FieldSchema}
 use Rattle.planus_dump.specs.declared.schemas.Item.{Item}

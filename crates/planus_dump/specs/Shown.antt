@@ -3,9 +3,9 @@ use Rattle.std.specs.Prelude.{◌≡◌, ◌≢◌, ℕ, List, [], ◌∷◌, �
 use Rattle.std.specs.Prelude.{Bool, true, false, if◌then◌else◌, ◌==◌}
 use Rattle.std.specs.String.{string_bytes}
 use Rattle.planus_dump.specs.Events.{Event, line, deep}
-use Rattle.planus_dump.specs.declared.out.Stop.{Stop}
-use Rattle.planus_dump.specs.declared.out.Stop.TheVariants.{Going, TooDeep, TooMany}
-use Rattle.planus_dump.specs.declared.out.Out.{Out}
+use Rattle.planus_dump.specs.declared.output.Stop.{Stop}
+use Rattle.planus_dump.specs.declared.output.Stop.TheVariants.{Going, TooDeep, TooMany}
+use Rattle.planus_dump.specs.declared.output.Out.{Out}
 
 -- the lines so far, how many there may be, and whether the walk goes on
 pub record Shown : Type 0 where

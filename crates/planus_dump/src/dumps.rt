@@ -2,7 +2,7 @@
 ghost use Rattle.planus_dump.specs.Dumped.{Dumped};
 
 use crate::fits::is_good_schema;
-use crate::out::{Out, Stop};
+use crate::output::{Out, Stop};
 use crate::schemas::Schema;
 use crate::walk::dump_table;
 use planus::{Place, SliceWithStartOffset, TableRead};

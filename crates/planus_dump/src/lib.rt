@@ -5,7 +5,7 @@
 mod dumps;
 mod fits;
 mod items;
-mod out;
+mod output;
 mod readings;
 mod schemas;
 mod unions;

@@ -12,7 +12,7 @@ ghost use Rattle.planus_dump.specs.Shown.{shown, feed};
 ghost use Rattle.std.specs.Prelude.{Some, Ok};
 
 use crate::items::{Items, read_items};
-use crate::out::Out;
+use crate::output::Out;
 use crate::readings::{Found, field_place, item_found, leaf_found, read_table, read_union};
 use crate::schemas::{FieldSchema, Kind, Schema, TableSchema};
 use crate::unions::{Unions, read_unions};
