@@ -37,7 +37,7 @@ same_slot : (a i : ℕ) → (a == i) ≡ true → a ≡ i
 same_slot a i e = grind (arith, nat_tests)
 
 -- a slot that holds a field is below the number of slots
-slot_below :
+pub slot_below :
     (entries : List (ℕ × Field)) (i : ℕ) (field : Field) → field_at entries i ≡ Some field
     → i + 1 ≤ slot_count entries
 slot_below [] i field e = absurd (let f : None ≡ Some field = e in cc)

@@ -3,3 +3,5 @@ pub mod RuledTables
 pub mod ReadBack
 pub mod ReadKinds
 pub mod Finished
+pub mod ReadVectors
+pub mod ReadUnions

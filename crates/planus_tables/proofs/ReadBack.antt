@@ -22,7 +22,7 @@ use Rattle.planus_tables.specs.Contents.{written_tags, written_values, AllKept, 
 use Rattle.planus_tables.specs.Contents.{there_of, TableIsKept}
 use Rattle.planus_tables.specs.ReadBack.{AllStand, FieldHolds, FieldHoldsIf, FieldsHold, is_other}
 use Rattle.planus_tables.specs.ReadBack.{are_apart, content_at, TableStands, SlotHolds, TableHolds}
-use Rattle.planus_tables.specs.ReadBack.{ContentsReadBack, AbsentFieldsReadBack}
+use Rattle.planus_tables.specs.ReadBack.{ReferencesReadBack, ContentsReadBack, AbsentFieldsReadBack}
 use Rattle.planus_tables.specs.Views.{ShowsView}
 use Rattle.planus_tables.specs.declared.table_ref.TableRef.{TableRef}
 
@@ -139,6 +139,10 @@ module _ (B : List ℕ) where
       let read = what_stands_reads_back B (at (position_of B distance)) (table stands.fields) tt
       stands.stands start f leads in
       read.fields (Err e) h
+
+pub references_read_back : {K : Type 0} → ReferencesReadBack K
+references_read_back {K} B start f contents distance stands referred r h =
+    table_read B {K = K} contents distance stands start f referred r h
 
 pub items_read_back : {K : Type 0} (B : List ℕ) (start f : ℕ) (contents : List (ℕ × Option Content))
     (distance : ℕ) → TableStands B contents distance → ReferenceStands B (start + f) distance

@@ -10,3 +10,5 @@ pub mod Holds
 pub mod Views
 pub mod ReadBack
 pub mod ReadKinds
+pub mod ReadVectors
+pub mod ReadUnions

@@ -1,6 +1,7 @@
 -- What is read of the fields of a table that was written, in the words of what they hold.
 use Rattle.std.specs.Prelude.{◌≡◌, ℕ, ◌+◌, ◌≤◌, ◌==◌, List, [], ◌∷◌, length, drop, Bool, true, not, ◌&&◌, if◌then◌else◌}
 use Rattle.std.specs.Prelude.{Option, Some, None, Result, Ok, Err, IsOkAnd, IsSomeAnd, IsTrue, ⊤}
+use Rattle.planus_read.specs.declared.errors.ErrorKind.{ErrorKind}
 use Rattle.planus_read.specs.declared.located.Error.{Error}
 use Rattle.planus_read.specs.declared.table_reader.Table.{Table}
 use Rattle.planus_read.specs.Bytes.{position_of}
@@ -114,6 +115,15 @@ FinishedTablesStand T =
     → TableIsKept past contents offset.distance → IsTrue (are_apart contents)
     → offset.distance ≤ length state.bytes → FinishGives (IsPrepared offset) identifier state bytes
     → TableStands bytes contents offset.distance × ReferenceStands bytes 0 offset.distance
+
+-- It is read by each reference that leads to it, with all its contents.
+abbrev pub ReferencesReadBack : Type 0 → Type 0
+ReferencesReadBack K =
+    (B : List ℕ) (start f : ℕ) (contents : List (ℕ × Option Content)) (distance : ℕ)
+    → TableStands B contents distance → ReferenceStands B (start + f) distance
+    → (r : Result (TableRef K) ErrorKind)
+    → Answer (shown (ShowsView (drop start B) start) (table_reading (drop start B) f)) r
+    → IsOkAnd r (λ view. TableHolds B contents view.table)
 
 -- It is read as the root, where the reference at the front leads to it, with all its contents.
 abbrev pub RootsReadBack : Type 0 → Type 0

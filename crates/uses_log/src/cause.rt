@@ -1,6 +1,4 @@
 //! Why an entry is there, of the schema `union Cause { Entry, Origin }`.
-ghost use Rattle.std.specs.Prelude.{⊤};
-
 use crate::entry::EntryRef;
 use crate::origin::OriginRef;
 use planus::errors::ErrorKind;
@@ -19,7 +17,9 @@ pub enum CauseRef<'a> {
 }
 
 impl<'a> TableReadUnion<'a> for CauseRef<'a> {
-    ghost reads = { λ S start tag f r. ⊤ };
+    ghost use Rattle.uses_log.specs.Causes.{ReadsCause};
+
+    ghost reads = { ReadsCause };
 
     fn from_buffer(
         buffer: SliceWithStartOffset<'a>,

@@ -8,13 +8,17 @@
 //! ```
 
 ghost use Rattle.std.specs.Prelude.{◌≡◌, ◌≤◌, List as list, ℕ, length, codes, IfOk, MatchOption, ⊤};
+ghost use Rattle.std.specs.Prelude.{Option as option, Some, IsSomeAnd};
 ghost use Rattle.std.specs.Result.{IsOkAnd};
 ghost use Rattle.std.specs.Str.{IsUtf8};
 ghost use Rattle.planus_write.specs.InBuilder.{IsIn, AllIn};
 ghost use Rattle.planus_write.specs.State.{Grows};
-ghost use Rattle.planus_tables.specs.Contents.{WritesContents};
-ghost use Rattle.planus_tables.specs.Holds.{holds_text};
-ghost use Rattle.planus_tables.specs.ReadBack.{SlotHolds};
+ghost use Rattle.planus_tables.specs.Contents.{Content, WritesContents};
+ghost use Rattle.planus_tables.specs.Holds.{holds_text, holds_union_tag, holds_union_value};
+ghost use Rattle.planus_tables.specs.ReadBack.{SlotHolds, TableStands};
+ghost use Rattle.planus_write.specs.declared.union_offset.UnionOffset.{UnionOffset};
+ghost use Rattle.uses_log.specs.declared.cause.Cause.{Cause};
+ghost use Rattle.uses_log.specs.Causes.{IsOrigin};
 ghost use Rattle.uses_log.specs.Entries.{entry_contents};
 
 use crate::cause::{Cause, CauseRef};
@@ -113,8 +117,18 @@ impl Entry {
         entry.table.access::<OriginRef<'a>>(4, "Entry", "origin")
     }
 
-    /// Returns why it is there, or `None` where nothing is said of it.
-    pub fn cause<'a>(entry: &EntryRef<'a>) -> Result<Option<CauseRef<'a>>> {
+    /// Returns why it is there, or `None` where nothing is said of it. Where the entry holds an origin
+    /// that stands in the bytes, it is that origin.
+    pub fn cause<'a>(entry: &EntryRef<'a>) -> Result<Option<CauseRef<'a>>>
+        ensures read_back { (B : list ℕ) (contents : list (ℕ × option Content))
+            (cause : UnionOffset Cause) → cause.tag ≡ 2
+            → SlotHolds B entry.now.table 5 (holds_union_tag (Some cause))
+            → SlotHolds B entry.now.table 6 (holds_union_value (Some cause))
+            → TableStands B contents cause.offset.distance
+            → IsOkAnd result (λ cause. IsSomeAnd cause (IsOrigin B contents)) }
+    {
+        laws::views_read_back::<Origin>();
+        laws::unions_read_back::<CauseRef<'a>>();
         entry
             .table
             .access_union::<CauseRef<'a>>(5, "Entry", "cause")

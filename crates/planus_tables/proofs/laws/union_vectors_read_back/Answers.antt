@@ -1,0 +1,11 @@
+use Rattle.planus_tables.proofs.ReadUnions.{new_union_vectors_read_back, written_union_vectors_read_back, absent_union_vectors_read_back}
+use Rattle.planus_tables.proofs.laws.union_vectors_read_back.Goals as goal
+
+pub returns-clause-new : goal.returns-clause-new
+returns-clause-new g c = new_union_vectors_read_back _ _
+
+pub returns-clause-written : goal.returns-clause-written
+returns-clause-written g c = written_union_vectors_read_back _ _
+
+pub returns-clause-absent : goal.returns-clause-absent
+returns-clause-absent g c = absent_union_vectors_read_back _ _
