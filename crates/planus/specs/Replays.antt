@@ -123,21 +123,21 @@ given_by (Ok finished) = Ok (map finish_given finished.items)
 given_by (Err error) = Err error
 
 -- a want of memory, of which nothing is said
-abbrev pub WantsMemory : Result (List Finish) ReplayError → Type 0
-WantsMemory (Err OutOfMemory) = ⊤
-WantsMemory _ = ⊥
+abbrev pub IsOutOfMemory : Result (List Finish) ReplayError → Type 0
+IsOutOfMemory (Err OutOfMemory) = ⊤
+IsOutOfMemory _ = ⊥
 
 -- Want of memory aside, there is one answer to a list of steps.
 abbrev pub AnswersAreOne : Type 0
 AnswersAreOne =
     (switches : Switches) (steps : List Step) (a b : Result (List Finish) ReplayError)
     → Replays switches steps a → Replays switches steps b
-    → WantsMemory a ⊎ WantsMemory b ⊎ (a ≡ b)
+    → IsOutOfMemory a ⊎ IsOutOfMemory b ⊎ (a ≡ b)
 
 -- an answer that isn't a want of memory
 abbrev pub IsAnswered : Switches → List Step → Type 0
 IsAnswered switches steps = (answer : Result (List Finish) ReplayError)
-    × Replays switches steps answer × (WantsMemory answer → ⊥)
+    × Replays switches steps answer × (IsOutOfMemory answer → ⊥)
 
 -- There is one to every list of steps: a step that isn't bad can be taken, or comes to a part that
 -- is too large.

@@ -23,7 +23,7 @@ pub(crate) struct Earlier<'a> {
 
 impl<'a> Earlier<'a> {
     /// The value of a step, by its number.
-    pub(crate) fn value(&self, step: usize) -> std::result::Result<Offset<()>, Why>
+    pub(crate) fn value(&self, step: usize) -> Result<Offset<()>, Why>
         ensures { FindsNamed a_value offset_named self.now.first (map name_of self.now.offsets.now)
             step result }
     {
@@ -35,7 +35,7 @@ impl<'a> Earlier<'a> {
     }
 
     /// The list of unions of a step, by its number.
-    fn unions(&self, step: usize) -> std::result::Result<UnionVectorOffset<()>, Why>
+    fn unions(&self, step: usize) -> Result<UnionVectorOffset<()>, Why>
         ensures { FindsNamed a_union_list vector_named self.now.first
             (map name_of self.now.offsets.now) step result }
     {
@@ -59,7 +59,7 @@ impl<'a> Earlier<'a> {
     }
 
     /// A union of a list: its tag, and the step of its value.
-    pub(crate) fn union(&self, item: (u8, usize)) -> std::result::Result<UnionOffset<()>, Why>
+    pub(crate) fn union(&self, item: (u8, usize)) -> Result<UnionOffset<()>, Why>
         ensures { PreparesUnion self.now.first (map name_of self.now.offsets.now) item result }
     {
         let (tag, step) = item;
@@ -70,7 +70,7 @@ impl<'a> Earlier<'a> {
     }
 
     /// What a field holds, ready to be written.
-    pub(crate) fn prepare(&self, value: &FieldValue) -> std::result::Result<PreparedField, Why>
+    pub(crate) fn prepare(&self, value: &FieldValue) -> Result<PreparedField, Why>
         ensures { PreparesField self.now.first (map name_of self.now.offsets.now)
             (content_of value.now) result }
     {

@@ -29,7 +29,7 @@ pub(crate) enum PreparedField {
 
 impl PreparedField {
     /// A number of `width` bytes.
-    pub(crate) fn number(width: u8, value: u64) -> std::result::Result<PreparedField, Why>
+    pub(crate) fn number(width: u8, value: u64) -> Result<PreparedField, Why>
         ensures { PreparesNumber (field_width width) value result }
     {
         let number = match width {

@@ -53,7 +53,7 @@ fn places_of(
     alloc: Global,
     first: usize,
     offsets: &[Option<Written>],
-) -> std::result::Result<Vec<StepPlace>, AllocError>
+) -> Result<Vec<StepPlace>, AllocError>
     requires { first + length offsets.now < 2 ^ 64 }
     ensures { IfOk result (λ places. map place_of places.items ≡ listed_from first
         (map name_of offsets.now)) }
@@ -106,10 +106,7 @@ impl Narrow for u32 {
 }
 
 /// The numbers as narrower ones, if all of them fit.
-fn narrowed<T: Narrow>(
-    alloc: Global,
-    items: &[u64],
-) -> std::result::Result<Option<Vec<T>>, AllocError>
+fn narrowed<T: Narrow>(alloc: Global, items: &[u64]) -> Result<Option<Vec<T>>, AllocError>
     ensures { IfOk result (Narrowed T.number T.width items.now) }
 {
     let mut numbers = Vec::with_capacity(alloc, items.len())?;
@@ -123,7 +120,7 @@ fn narrowed<T: Narrow>(
 }
 
 impl Progress {
-    pub(crate) fn new(alloc: Global, caches: Caches) -> std::result::Result<Progress, ReplayError>
+    pub(crate) fn new(alloc: Global, caches: Caches) -> Result<Progress, ReplayError>
         ensures past { IfOk result (λ replay. IsPast replay.builder no_past) }
         ensures switches { IfOk result (λ replay. replay.builder.switches ≡ switches_of caches) }
         ensures nothing { IfOk result (λ replay. state_with replay no_past ≡ nothing_written) }
@@ -150,18 +147,14 @@ impl Progress {
     }
 
     /// The value of an earlier step, by its number.
-    fn value(&self, step: usize) -> std::result::Result<Offset<()>, Why>
+    fn value(&self, step: usize) -> Result<Offset<()>, Why>
         ensures { FindsNamed a_value offset_named self.now.first (names self.now) step result }
     {
         self.earlier().value(step)
     }
 
     /// The values of earlier steps, by their numbers.
-    fn values(
-        &self,
-        alloc: Global,
-        steps: &[usize],
-    ) -> std::result::Result<Vec<Offset<()>>, ReplayError>
+    fn values(&self, alloc: Global, steps: &[usize]) -> Result<Vec<Offset<()>>, ReplayError>
         requires { self.now.first + vec_len self.now.offsets < 2 ^ 64 }
         ensures { FindsValues self.now steps.now result }
     {
@@ -176,7 +169,7 @@ impl Progress {
     }
 
     /// A union of the value of an earlier step.
-    fn union(&self, item: (u8, usize)) -> std::result::Result<UnionOffset<()>, Why>
+    fn union(&self, item: (u8, usize)) -> Result<UnionOffset<()>, Why>
         ensures { PreparesUnion self.now.first (names self.now) item result }
     {
         self.earlier().union(item)
@@ -187,7 +180,7 @@ impl Progress {
         &self,
         alloc: Global,
         items: &[(u8, usize)],
-    ) -> std::result::Result<Vec<UnionOffset<()>>, ReplayError>
+    ) -> Result<Vec<UnionOffset<()>>, ReplayError>
         requires { self.now.first + vec_len self.now.offsets < 2 ^ 64 }
         ensures { FindsUnions self.now items.now result }
     {
@@ -211,7 +204,7 @@ impl Progress {
     }
 
     /// Writes a value.
-    fn write<T, X: WriteAsOffset<T>>(&mut self, value: &X) -> std::result::Result<(), ReplayError>
+    fn write<T, X: WriteAsOffset<T>>(&mut self, value: &X) -> Result<(), ReplayError>
         requires { X.may value.now self.old.builder }
         ensures { WritesValue offset_named (X.outcome value.now) self.old result self.new }
     {
@@ -221,12 +214,7 @@ impl Progress {
     }
 
     /// Writes numbers of `width` bytes each.
-    fn numbers(
-        &mut self,
-        alloc: Global,
-        width: u8,
-        items: &[u64],
-    ) -> std::result::Result<(), ReplayError>
+    fn numbers(&mut self, alloc: Global, width: u8, items: &[u64]) -> Result<(), ReplayError>
         requires { self.old.first + vec_len self.old.offsets < 2 ^ 64 }
         ensures { Advanced self.old (step.numbers width items.now) result self.new }
     {
@@ -245,7 +233,7 @@ impl Progress {
     }
 
     /// Writes numbers of 8 bytes each, which all fit.
-    fn u64s(&mut self, items: &[u64]) -> std::result::Result<(), ReplayError>
+    fn u64s(&mut self, items: &[u64]) -> Result<(), ReplayError>
         requires { list_all (fits_width w64) items.now ≡ true }
         ensures { Advanced self.old (step.numbers 8 items.now) result self.new }
     {
@@ -253,7 +241,7 @@ impl Progress {
     }
 
     /// Writes references to the values of earlier steps.
-    fn refs(&mut self, alloc: Global, steps: &[usize]) -> std::result::Result<(), ReplayError>
+    fn refs(&mut self, alloc: Global, steps: &[usize]) -> Result<(), ReplayError>
         requires reached { AreReached self.old }
         requires number { self.old.first + vec_len self.old.offsets < 2 ^ 64 }
         ensures { Advanced self.old (step.refs steps.now) result self.new }
@@ -263,7 +251,7 @@ impl Progress {
     }
 
     /// Writes a list of unions.
-    fn write_unions(&mut self, unions: &[UnionOffset<()>]) -> std::result::Result<(), ReplayError>
+    fn write_unions(&mut self, unions: &[UnionOffset<()>]) -> Result<(), ReplayError>
         requires { AllByRecursion (λ union. union_reach union ≤ length self.old.builder.bytes)
             unions.now }
         ensures { WritesValue vector_named (WritesUnionVector Answers unions.now) self.old result
@@ -275,11 +263,7 @@ impl Progress {
     }
 
     /// Writes a list of unions of the values of earlier steps.
-    fn unions(
-        &mut self,
-        alloc: Global,
-        items: &[(u8, usize)],
-    ) -> std::result::Result<(), ReplayError>
+    fn unions(&mut self, alloc: Global, items: &[(u8, usize)]) -> Result<(), ReplayError>
         requires reached { AreReached self.old }
         requires number { self.old.first + vec_len self.old.offsets < 2 ^ 64 }
         ensures { Advanced self.old (step.unions items.now) result self.new }
@@ -289,7 +273,7 @@ impl Progress {
     }
 
     /// Checks the fields of a table, and declares them.
-    fn declared(&self, fields: &[Field]) -> std::result::Result<TableWriter<VTABLE_SIZE>, Why>
+    fn declared(&self, fields: &[Field]) -> Result<TableWriter<VTABLE_SIZE>, Why>
         requires { AreReached self.now }
         ensures { DeclaresTable self.now (map bare_field fields.now) result }
     {
@@ -308,7 +292,7 @@ impl Progress {
     }
 
     /// Writes a table.
-    fn table(&mut self, fields: &[Field]) -> std::result::Result<(), ReplayError>
+    fn table(&mut self, fields: &[Field]) -> Result<(), ReplayError>
         requires reached { AreReached self.old }
         requires number { self.old.first + vec_len self.old.offsets < 2 ^ 64 }
         ensures { Advanced self.old (step.table (map bare_field fields.now)) result self.new }
@@ -328,11 +312,7 @@ impl Progress {
     }
 
     /// Takes one step.
-    pub(crate) fn advance(
-        &mut self,
-        alloc: Global,
-        step: &Step,
-    ) -> std::result::Result<(), ReplayError>
+    pub(crate) fn advance(&mut self, alloc: Global, step: &Step) -> Result<(), ReplayError>
         requires reached { AreReached self.old }
         requires number { self.old.first + vec_len self.old.offsets + 1 < 2 ^ 64 }
         ensures { Advanced self.old (bare_step step.now) result self.new }
@@ -370,7 +350,7 @@ impl Progress {
         root: usize,
         id: Option<[u8; 4]>,
         sized: bool,
-    ) -> std::result::Result<(), ReplayError>
+    ) -> Result<(), ReplayError>
         requires reached { AreReached self.old }
         requires number { self.old.first + vec_len self.old.offsets < 2 ^ 64 }
         ensures { Advanced self.old (step.finish (front_of sized) root id) result self.new }

@@ -22,11 +22,7 @@ use std::alloc::Global;
 /// [`ReplayError::BadStep`] where its check is broken, [`ReplayError::TooLarge`] where its part's
 /// place would be above 2147483647 bytes from the end, and [`ReplayError::OutOfMemory`] where
 /// memory is refused.
-pub fn replay(
-    alloc: Global,
-    caches: Caches,
-    steps: &[Step],
-) -> std::result::Result<Vec<Finished>, ReplayError>
+pub fn replay(alloc: Global, caches: Caches, steps: &[Step]) -> Result<Vec<Finished>, ReplayError>
     ensures run { Replays (switches_of caches) (map bare_step steps.now) (given_by result) }
     ensures holds { IfOk result (λ finished. AllByRecursion
         (FinishHolds (switches_of caches) (map bare_step steps.now))

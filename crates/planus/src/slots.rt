@@ -15,7 +15,7 @@ fn is_used(fields: &[Field], slot: u16) -> bool
 }
 
 /// What is wrong with the slot of a field behind these.
-pub(crate) fn check_slot(fields: &[Field], slot: u16) -> std::result::Result<(), Why>
+pub(crate) fn check_slot(fields: &[Field], slot: u16) -> Result<(), Why>
     ensures { ChecksSlot (slots_of (map bare_field fields.now)) slot result }
 {
     if slot > 255 {

@@ -92,7 +92,7 @@ impl Promises {
         len: usize,
         size: usize,
         mask: usize,
-    ) -> std::result::Result<(Promises, usize), TooLarge>
+    ) -> Result<(Promises, usize), TooLarge>
         requires power { IsPowerOfTwo (mask + 1) }
         requires bound { mask + 1 ≤ 2 ^ 30 }
         requires placed { len ≤ greatest_place }

@@ -171,12 +171,7 @@ fn keys_lie_wholly_in_the_bytes(rt: HostRuntime) {
 }
 
 // Adds a distance at which the key stands in the bytes.
-fn add(
-    cache: &mut Cache<ByteVec>,
-    bytes: &[u8],
-    key: &[u8],
-    distance: u32,
-) -> std::result::Result<(), Fail>
+fn add(cache: &mut Cache<ByteVec>, bytes: &[u8], key: &[u8], distance: u32) -> Result<(), Fail>
     requires { Fits bytes_in cache.old bytes.now }
     ensures { OnOk result (Fits bytes_in cache.new bytes.now) }
 {
@@ -192,11 +187,7 @@ fn add(
 const SIGNED: [i8; 2] = [72, -2];
 
 // The same of that key.
-fn add_signed(
-    cache: &mut Cache<ByteVec>,
-    bytes: &[u8],
-    distance: u32,
-) -> std::result::Result<(), Fail>
+fn add_signed(cache: &mut Cache<ByteVec>, bytes: &[u8], distance: u32) -> Result<(), Fail>
     requires { Fits bytes_in cache.old bytes.now }
     ensures { OnOk result (Fits bytes_in cache.new bytes.now) }
 {

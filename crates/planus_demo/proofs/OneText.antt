@@ -4,7 +4,7 @@ use Rattle.std.specs.Prelude.{slice_get, nat_lt, length, codes}
 use Rattle.std.specs.Bool.{MatchBool}
 use Rattle.planus_write.specs.Shared.{all_on}
 use Rattle.planus.specs.Runs.{Finish}
-use Rattle.planus.specs.Replays.{WantsMemory}
+use Rattle.planus.specs.Replays.{IsOutOfMemory}
 use Rattle.planus.specs.Texts.{why_text}
 use Rattle.planus.specs.declared.faults.ReplayError.{ReplayError}
 use Rattle.planus.specs.declared.faults.ReplayError.TheVariants.{OutOfMemory, TooLarge, BadStep}
@@ -25,7 +25,7 @@ of_answer numbers (Err TooLarge) a b x y p q = (p.0 ∙ sym q.0, p.1 ∙ sym q.1
 of_answer numbers (Err OutOfMemory) a b x y p q = absurd p
 
 -- what was refused for memory isn't printed
-not_memory : (numbers : List ℕ) (answer : Result (List Finish) ReplayError) (a : Bool) (x : List ℕ) → WantsMemory answer → PrintsAnswer numbers answer a x → ⊥
+not_memory : (numbers : List ℕ) (answer : Result (List Finish) ReplayError) (a : Bool) (x : List ℕ) → IsOutOfMemory answer → PrintsAnswer numbers answer a x → ⊥
 not_memory numbers (Ok finished) a x wants p = wants
 not_memory numbers (Err (BadStep step why)) a x wants p = wants
 not_memory numbers (Err TooLarge) a x wants p = wants

@@ -5,7 +5,7 @@ use Rattle.std.specs.Bool.{MatchBool}
 use Rattle.std.specs.List.{flat_map}
 use Rattle.planus_write.specs.Shared.{all_on}
 use Rattle.planus.specs.Runs.{Finish}
-use Rattle.planus.specs.Replays.{Replays, WantsMemory}
+use Rattle.planus.specs.Replays.{Replays, IsOutOfMemory}
 use Rattle.planus.specs.Texts.{why_text}
 use Rattle.planus.specs.declared.faults.ReplayError.{ReplayError}
 use Rattle.planus.specs.declared.faults.ReplayError.TheVariants.{OutOfMemory, TooLarge, BadStep}
@@ -21,7 +21,7 @@ number_there [] n h = absurd (omega (arith, h))
 number_there (number ∷ numbers) zero h = (number, refl)
 number_there (number ∷ numbers) (suc n) h = number_there numbers n (omega (arith, h))
 
-of_answer : (read : Read) → AsMany (Ok read) → (answer : Result (List Finish) ReplayError) → Replays all_on read.commands answer → (WantsMemory answer → ⊥)
+of_answer : (read : Read) → AsMany (Ok read) → (answer : Result (List Finish) ReplayError) → Replays all_on read.commands answer → (IsOutOfMemory answer → ⊥)
     → (clean : Bool) × (printed : List ℕ) × PrintsAnswer read.numbers answer clean printed
 of_answer read many (Ok finished) replays there = (true, flat_map (λ finish. hex_line finish.bytes) finished, (refl, refl))
 of_answer read many (Err (BadStep step why)) replays there =

@@ -22,7 +22,7 @@ impl Equipment {
     pub fn create_weapon<W: WriteAsOffset<Weapon> + Drop>(
         builder: &mut Builder,
         weapon: W,
-    ) -> std::result::Result<UnionOffset<Equipment>, BuildError>
+    ) -> Result<UnionOffset<Equipment>, BuildError>
         requires { W.may weapon builder.old }
         ensures written { WritesVariant 1 (W.outcome weapon) builder.old result builder.new }
         ensures grows { Grows builder.old builder.new }

@@ -22,7 +22,7 @@ impl<'a> TableReadUnion<'a> for EquipmentRef<'a> {
         buffer: SliceWithStartOffset<'a>,
         tag: u8,
         offset: usize,
-    ) -> std::result::Result<EquipmentRef<'a>, ErrorKind> {
+    ) -> Result<EquipmentRef<'a>, ErrorKind> {
         match tag {
             1 => Ok(EquipmentRef::Weapon(TableRead::from_buffer(buffer, offset)?)),
             _ => Err(ErrorKind::UnknownUnionTag { tag }),

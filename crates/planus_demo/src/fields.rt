@@ -72,7 +72,7 @@ impl FromWord for Field {
     ghost said = { field_of };
 
     /// The field that a word is, as `3=u16:24` or `0=ref:1`.
-    fn from_word(word: &str) -> std::result::Result<Field, ReadFault> {
+    fn from_word(word: &str) -> Result<Field, ReadFault> {
         let Some((slot_word, rest)) = cut(word, '=') else {
             return Err(ReadFault::BadField);
         };
@@ -89,7 +89,7 @@ impl FromWord for Field {
 }
 
 /// A table of fields, from what stands behind the first word.
-pub(crate) fn table(alloc: Global, words: Option<&str>) -> std::result::Result<Step, LineError>
+pub(crate) fn table(alloc: Global, words: Option<&str>) -> Result<Step, LineError>
     ensures { AnswersLine result (list_step table_step
         (fields_of (words_behind (option_copied words.entry)))) }
 {

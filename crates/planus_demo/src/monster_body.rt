@@ -88,10 +88,7 @@ where
     }
 
     /// Writes the table of the fields that are there. Returns its offset.
-    pub(crate) fn write(
-        &self,
-        builder: &mut Builder,
-    ) -> std::result::Result<Offset<Monster>, BuildError>
+    pub(crate) fn write(&self, builder: &mut Builder) -> Result<Offset<Monster>, BuildError>
         requires { monster_reach
             self.now.hp self.now.name self.now.inventory self.now.weapons
             self.now.equipped_tag self.now.equipped self.now.loot_tags self.now.loot

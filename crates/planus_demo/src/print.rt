@@ -11,7 +11,7 @@ ghost use Rattle.planus_demo.specs.Outputs.{NamesStep, PrintsAnswerOr};
 use planus::{Finished, ReplayError};
 use std::alloc::{AllocError, Global};
 
-fn push_hex(text: &mut String, byte: u8) -> std::result::Result<(), AllocError>
+fn push_hex(text: &mut String, byte: u8) -> Result<(), AllocError>
     ensures { OnOk result (string_bytes text.new ≡ string_bytes text.old ++ hex_of byte) }
 {
     text.push(hex_digit(byte / 16))?;
@@ -31,7 +31,7 @@ fn hex_digit(value: u8) -> char
 }
 
 /// A line of bytes, with one space between them.
-fn push_line(text: &mut String, bytes: &[u8]) -> std::result::Result<(), AllocError>
+fn push_line(text: &mut String, bytes: &[u8]) -> Result<(), AllocError>
     ensures { OnOk result (string_bytes text.new ≡ string_bytes text.old ++ hex_line bytes.now) }
 {
     text.reserve(bytes.len().saturating_mul(3))?;
@@ -46,7 +46,7 @@ fn push_line(text: &mut String, bytes: &[u8]) -> std::result::Result<(), AllocEr
 }
 
 /// A line for each finish.
-fn finished_text(alloc: Global, finished: &[Finished]) -> std::result::Result<String, AllocError>
+fn finished_text(alloc: Global, finished: &[Finished]) -> Result<String, AllocError>
     ensures { IfOk result (λ text. string_bytes text ≡ flat_map (λ finish. hex_line finish.bytes)
         (map finish_given finished.now)) }
 {
@@ -61,8 +61,8 @@ fn finished_text(alloc: Global, finished: &[Finished]) -> std::result::Result<St
 pub fn answer_text(
     alloc: Global,
     numbers: &[usize],
-    answer: &std::result::Result<Vec<Finished>, ReplayError>,
-) -> std::result::Result<String, AllocError>
+    answer: &Result<Vec<Finished>, ReplayError>,
+) -> Result<String, AllocError>
     requires { NamesStep (length numbers.now) answer.now }
     ensures { IfOk result (λ text. PrintsAnswerOr numbers.now (given_by answer.now)
         (is_ok answer.now) (string_bytes text)) }

@@ -16,7 +16,7 @@ impl FromWord for (u8, usize) {
 
     /// The union that a word is, as `1:0`: the tag of its variant, and the number of its value's
     /// step.
-    fn from_word(word: &str) -> std::result::Result<(u8, usize), ReadFault> {
+    fn from_word(word: &str) -> Result<(u8, usize), ReadFault> {
         let Some((tag_word, step_word)) = cut(word, ':') else {
             return Err(ReadFault::BadField);
         };
@@ -28,7 +28,7 @@ impl FromWord for (u8, usize) {
 }
 
 /// A list of unions, from what stands behind the first word.
-pub(crate) fn unions(alloc: Global, words: Option<&str>) -> std::result::Result<Step, LineError>
+pub(crate) fn unions(alloc: Global, words: Option<&str>) -> Result<Step, LineError>
     ensures { AnswersLine result (list_step step.unions
         (unions_of (words_behind (option_copied words.entry)))) }
 {

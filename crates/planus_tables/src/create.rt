@@ -52,7 +52,7 @@ impl<'a, const N: usize, F: PreparedFields<N>, L: PreparedFields<N>> ObjectFill
 pub fn create_table<T, const N: usize, F: Fields<N> + Drop>(
     builder: &mut Builder,
     fields: F,
-) -> std::result::Result<Offset<T>, BuildError>
+) -> Result<Offset<T>, BuildError>
     requires may { F.may fields builder.old }
     requires rules { IsTrue (can_hold N (F.Prepared.all ++ F.Last.all)) }
     ensures written { then_does (F.in_turn fields [] []) WritesFields

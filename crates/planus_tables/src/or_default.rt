@@ -22,10 +22,7 @@ impl<P: Primitive, D, V: WriteAsDefault<P, D>> WriteAsOptional<P> for OrDefault<
     ghost outcome = { λ field old answer new. V.outcome field.value field.default old answer new };
 
     #[inline]
-    fn prepare(
-        &self,
-        builder: &mut Builder,
-    ) -> std::result::Result<Option<V::Prepared>, BuildError> {
+    fn prepare(&self, builder: &mut Builder) -> Result<Option<V::Prepared>, BuildError> {
         self.value.prepare(builder, &self.default)
     }
 

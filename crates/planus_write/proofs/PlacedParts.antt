@@ -18,15 +18,15 @@ use Rattle.planus_write.specs.Past.{Past, Entry, just, part_after, Adds, PutsAft
 use Rattle.planus_write.specs.Past.{found_before, no_past}
 use Rattle.planus_write.specs.Parts.{front_part, front_entry, root_words, sized_words, sized_finish_entry, identifier_bytes}
 use Rattle.planus_write.specs.Backed.{Backed, DescribedBy, PutsBytes, MakesRoom, LacksRoom}
-use Rattle.planus_write.specs.Sharing.{Shares, FindsIf, KeepsIf, LacksSharedRoom, Starts}
+use Rattle.planus_write.specs.Sharing.{Shares, FindsIf, KeepsIf, LacksSharedRoom, FindsOrReserves}
 use Rattle.planus_write.specs.Kept.{AllSeenKept}
 use Rattle.planus_write.specs.State.{State, IsPast, FindsSeen, Holdings, held, contents_in}
-use Rattle.planus_write.specs.Placing.{PutsDown, MayWantMemory}
+use Rattle.planus_write.specs.Placing.{PutsDown, MayLackMemory}
 use Rattle.planus_write.specs.Placing.{RefusedFor, Refuses, LeftAsItWas}
 use Rattle.planus_write.specs.Laws.{left_grows}
 use Rattle.planus_write.specs.Finishing.{Finishes, PutsInFront}
 use Rattle.planus_write.specs.View.{state_from, state_of}
-use Rattle.planus_write.specs.declared.start.Start.TheVariants.{Found, Begun}
+use Rattle.planus_write.specs.declared.sharing.Lookup.TheVariants.{Found, Reserved}
 use Rattle.planus_write.specs.declared.builder.Builder.TheInside.{Inside}
 use Rattle.planus_write.specs.declared.errors.BuildError.{BuildError}
 use Rattle.planus_write.specs.declared.errors.BuildError.TheVariants.{OutOfMemory, TooLarge}
@@ -136,13 +136,8 @@ refused_memory entry got size alignment b switches holdings sized is_new unshare
     let short = lacks past.written.promises h.described in
     record {
       is_new = is_new past h;
-      wants = subst (λ (shared : Option Contents). MayWantMemory shared (part_after entry got past) (state_from b switches holdings) past.written.promises) (sym unshared)
-          (record {
-            padding = short.0;
-            is_least = rw (sized.size_is past h, sized.alignment_is past h) short.1;
-            fits = rw (sized.size_is past h) short.2;
-            short = rw (sized.size_is past h) short.3;
-          });
+      lacks = subst (λ (shared : Option Contents). MayLackMemory shared (part_after entry got past) (state_from b switches holdings) past.written.promises) (sym unshared)
+          (rw (sized.size_is past h, sized.alignment_is past h) short);
     }
 
 -- an entry that is never shared
@@ -331,8 +326,8 @@ module _ (kind : Kind) (contents : List ℕ) (part : Part) (got : List ℕ) (b :
                 (more.0, ap (λ backed. state_from backed switches holdings) more.1);
             cause = λ past h. let place = more.2 past.written.promises h.described in record {
               is_new = is_new none past h;
-              wants = subst (λ (shared : Option Contents). MayWantMemory shared part before past.written.promises) (sym (shared_if true e))
-                  (record { padding = place.0; is_least = place.1; fits = place.2 });
+              lacks = subst (λ (shared : Option Contents). MayLackMemory shared part before past.written.promises) (sym (shared_if true e))
+                  place;
             };
           }
       by_case false e =
@@ -433,7 +428,7 @@ with_shares vtables a n s = record a { backing = n; vtables = s }
 module _ (contents : List ℕ) (part : Part) (a : Inside) (mid : Backed) (s : Shares) where
   -- a part that was begun is put down
   pub begun : (kind : Kind) (place : ℕ) (n : Backed) (bytes : List ℕ)
-      → Starts (contents_in kind) contents part.size part.alignment a.backing (shares_of kind a) (Ok (Begun place)) mid s
+      → FindsOrReserves (contents_in kind) contents part.size part.alignment a.backing (shares_of kind a) (Ok (Reserved place)) mid s
       → part.bytes_at place ≡ bytes → length bytes ≡ part.size → PutsBytes bytes mid n → contents_in kind n.bytes ≡ Some contents
       → AreKept kind contents part
       → PutsDown (shared_entry kind contents part) [] (state_of a) place (state_of (with_shares kind a n s))
@@ -454,7 +449,7 @@ module _ (contents : List ℕ) (part : Part) (a : Inside) (mid : Backed) (s : Sh
       are_kept)
 
   -- one whose contents are found is put down
-  pub found_again : (kind : Kind) (distance : ℕ) → Starts (contents_in kind) contents part.size part.alignment a.backing (shares_of kind a) (Ok (Found distance)) mid s
+  pub found_again : (kind : Kind) (distance : ℕ) → FindsOrReserves (contents_in kind) contents part.size part.alignment a.backing (shares_of kind a) (Ok (Found distance)) mid s
       → length a.backing.bytes ≤ greatest_place → PutsDown (shared_entry kind contents part) [] (state_of a) distance (state_of (with_shares kind a mid s))
   found_again texts distance h small =
       rw (h.1, h.2) (shared_found texts contents part [] a.backing (state_of a).switches (state_of a).holdings distance h.0 small)
@@ -464,7 +459,7 @@ module _ (contents : List ℕ) (part : Part) (a : Inside) (mid : Backed) (s : Sh
       rw (h.1, h.2) (shared_found vtables contents part [] a.backing (state_of a).switches (state_of a).holdings distance h.0 small)
 
   -- one that isn't begun is refused
-  pub not_begun : (kind : Kind) (error : BuildError) → Starts (contents_in kind) contents part.size part.alignment a.backing (shares_of kind a) (Err error) mid s
+  pub not_begun : (kind : Kind) (error : BuildError) → FindsOrReserves (contents_in kind) contents part.size part.alignment a.backing (shares_of kind a) (Err error) mid s
       → Refuses (shared_entry kind contents part) [] (state_of a) error (state_of (with_shares kind a mid s))
   not_begun texts error h =
       rw h.2 (shared_refused texts contents part [] a.backing (state_of a).switches (state_of a).holdings error mid h.0 h.1)

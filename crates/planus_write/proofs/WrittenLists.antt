@@ -85,7 +85,7 @@ put_behind part before got old distance new h = record { grows = h.grows; reache
 
 pub refused_behind : (part : Part) (before got : List ℕ) (old : State) (error : BuildError) (new : State) → WritesEntry (just part) before old (Err error) new → WritesEntry (just part) got old (Err error) new
 refused_behind part before got old TooLarge new h = record { unchanged = h.unchanged; cause = λ past is_past. (let c = h.cause past is_past in record { is_new = c.is_new; too_large = c.too_large }) }
-refused_behind part before got old OutOfMemory new h = record { unchanged = h.unchanged; cause = λ past is_past. (let c = h.cause past is_past in record { is_new = c.is_new; wants = c.wants }) }
+refused_behind part before got old OutOfMemory new h = record { unchanged = h.unchanged; cause = λ past is_past. (let c = h.cause past is_past in record { is_new = c.is_new; lacks = c.lacks }) }
 
 -- a part, and the count in front of it
 module _ (part : Part) (count : ℕ) (old : State) where

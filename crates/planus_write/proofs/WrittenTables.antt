@@ -19,7 +19,7 @@ word_put vtable body old distance new h = record { grows = h.grows; reached = h.
 
 word_not_put : (vtable body : ℕ) (old : State) (error : BuildError) (new : State) → Refuses (just (word_part vtable)) [] old error new → Refuses word_entry (vtable ∷ body ∷ []) old error new
 word_not_put vtable body old TooLarge new h = record { unchanged = h.unchanged; cause = λ past is_past. (let c = h.cause past is_past in record { is_new = c.is_new; too_large = c.too_large }) }
-word_not_put vtable body old OutOfMemory new h = record { unchanged = h.unchanged; cause = λ past is_past. (let c = h.cause past is_past in record { is_new = c.is_new; wants = c.wants }) }
+word_not_put vtable body old OutOfMemory new h = record { unchanged = h.unchanged; cause = λ past is_past. (let c = h.cause past is_past in record { is_new = c.is_new; lacks = c.lacks }) }
 
 -- the part that is filled is that of the body
 body_is : (writer : Writer) (declared : List Declared) (body : Item) → WasTold writer declared → filled_part (writer.object_size - 4) (writer.mask + 1) (λ place n. body place) ≡ object_part declared body

@@ -4,9 +4,10 @@ use Rattle.std.specs.Prelude.{Result, Ok, Err}
 use Rattle.planus_back.specs.Descriptions.{Describes}
 use Rattle.planus_back.specs.Promises.{Promise, Keep, greatest_alignment}
 use Rattle.planus_back.specs.Padding.{greatest_place, promise_of, IsLeastPadding}
+use Rattle.planus_write.specs.Limits.{IsWithinLimit, ExceedsLimit, ExceedsRoom}
 use Rattle.planus_write.specs.declared.errors.BuildError.{BuildError}
 use Rattle.planus_write.specs.declared.errors.BuildError.TheVariants.{OutOfMemory, TooLarge}
-use Rattle.planus_write.specs.declared.plan.Plan.{Plan}
+use Rattle.planus_write.specs.declared.backing.Plan.{Plan}
 
 -- The bytes; the remainder and the mask that describe what was promised of them; and how many bytes
 -- fit without memory.
@@ -74,17 +75,14 @@ pub record MakesRoom (size alignment : ℕ) (old : Backed) (place : ℕ) (new : 
 -- a part of that size and alignment isn't too large
 abbrev pub HasPlace : ℕ → ℕ → Backed → Type 0
 HasPlace size alignment old = (promises : List Promise) → DescribedBy old promises
-    → (padding : ℕ) × IsLeastPadding (length old.bytes) promises size alignment padding
-    × (length old.bytes + padding + size ≤ greatest_place)
+    → IsWithinLimit (length old.bytes) size alignment promises
 
 -- why there is no room for a part of that size and alignment
 abbrev pub LacksRoom : ℕ → ℕ → Backed → BuildError → Type 0
 LacksRoom size alignment old TooLarge = (promises : List Promise) → DescribedBy old promises
-    → (padding : ℕ) × IsLeastPadding (length old.bytes) promises size alignment padding
-    × (greatest_place < length old.bytes + padding + size)
+    → ExceedsLimit (length old.bytes) size alignment promises
 LacksRoom size alignment old OutOfMemory = (promises : List Promise) → DescribedBy old promises
-    → (padding : ℕ) × IsLeastPadding (length old.bytes) promises size alignment padding
-    × (length old.bytes + padding + size ≤ greatest_place) × (old.room < padding + size)
+    → ExceedsRoom (length old.bytes) old.room size alignment promises
 
 -- Room for a part of that size and alignment was planned, or it was refused.
 abbrev pub Reserves : ℕ → ℕ → Backed → Result Plan BuildError → Backed → Type 0

@@ -4,6 +4,7 @@ pub mod Items
 pub mod Tables
 pub mod Parts
 pub mod Kept
+pub mod Limits
 pub mod Backed
 pub mod State
 pub mod InBuilder

@@ -103,19 +103,26 @@ module _ {X A : Type 0} (may : X → State → Type 0) (outcome : X → Outcome 
         subst (λ all. last_of all ≤ length new.bytes) (sym same)
         (subst (λ (state : State). h.3.0 ≤ length state.bytes) (sym h.3.3.1) h.3.2.reached)
 
-    -- a list is lawful
-    pub list_is_lawful : {Y T : Type 0} (items_of : Y → List X)
-        → IsLawful {X = Y} {A = Offset T} (λ y old. AllMay may (items_of y) old)
-        (λ y old answer new. WritesList outcome leaves size alignment (items_of y) old answer new)
-        (λ offset. offset.distance)
-    list_is_lawful {Y} {T} items_of = record {
-      grows = λ y old answer new h done. list_grows (items_of y) old h answer new done;
+-- a list is lawful where its items are
+pub list_is_lawful : {X A Y T : Type 0} {may : X → State → Type 0} {outcome : X → Outcome A}
+    {reach : A → ℕ} {leaves : A → Item} (size alignment : ℕ) (items_of : Y → List X)
+    → IsLawful may outcome reach
+    → IsLawful {X = Y} {A = Offset T} (λ y old. AllMay may (items_of y) old)
+    (λ y old answer new. WritesList outcome leaves size alignment (items_of y) old answer new)
+    (λ offset. offset.distance)
+list_is_lawful {may = may} {outcome = outcome} {reach = reach} {leaves = leaves} size alignment
+    items_of lawful =
+    record {
+      grows = λ y old answer new h done.
+          list_grows may outcome reach lawful leaves size alignment (items_of y) old h answer new done;
       reaches = λ y old offset new h done.
           let same : offset.distance ≡ last_of done.3.0 = cc in
           subst (λ d. d ≤ length new.bytes) (sym same)
           (subst (λ (state : State). last_of done.3.0 ≤ length state.bytes) (sym done.3.3.1)
-          (list_reaches done.0 done.1 done.3.0 done.3.1 done.3.2));
-      stays = λ y old new grows h. may_still (items_of y) old new grows h;
+          (list_reaches may outcome reach lawful leaves size alignment done.0 done.1 done.3.0 done.3.1
+          done.3.2));
+      stays = λ y old new grows h.
+          may_still may outcome reach lawful (items_of y) old new grows h;
     }
 
 -- items that need no preparing are as they were handed in

@@ -2,8 +2,9 @@
 use Rattle.std.specs.Prelude.{◌≡◌, ℕ, ◌+◌, ◌<◌, ◌≤◌, List, [], ◌++◌, length, Option}
 use Rattle.std.specs.Prelude.{Some, None, Result, Ok, Err, ◌⊎◌}
 use Rattle.planus_back.specs.Promises.{Promise}
-use Rattle.planus_back.specs.Padding.{greatest_place, IsLeastPadding}
+use Rattle.planus_back.specs.Padding.{greatest_place}
 use Rattle.planus_back.specs.Parts.{Part}
+use Rattle.planus_write.specs.Limits.{IsWithinLimit, ExceedsRoom}
 use Rattle.planus_write.specs.Shared.{Contents, shared_as}
 use Rattle.planus_write.specs.Past.{Past, Entry, part_after, found_before, Puts, PutsTooLarge}
 use Rattle.planus_write.specs.State.{State, IsPast}
@@ -37,29 +38,18 @@ pub record PutsDown (entry : Entry) (got : List ℕ) (old : State) (distance : �
       → length new.bytes + new.room ≡ length old.bytes + old.room
   pub switches : new.switches ≡ old.switches
 
--- With the least padding the part isn't too large.
-pub record IsWithinLimit (part : Part) (old : State) (promises : List Promise) : Type 0 where
-  pub padding : ℕ
-  pub is_least : IsLeastPadding (length old.bytes) promises part.size part.alignment padding
-  pub fits : length old.bytes + padding + part.size ≤ greatest_place
+-- Memory may have been refused for padding and part, which aren't too large; where the part is
+-- shared, it may also have been refused to the cache.
+abbrev pub MayLackMemory : Option Contents → Part → State → List Promise → Type 0
+MayLackMemory None part old promises =
+    ExceedsRoom (length old.bytes) old.room part.size part.alignment promises
+MayLackMemory (Some contents) part old promises =
+    IsWithinLimit (length old.bytes) part.size part.alignment promises
 
--- With the least padding the part isn't too large, but doesn't fit the room.
-pub record WantsMemory (part : Part) (old : State) (promises : List Promise) : Type 0 where
-  pub padding : ℕ
-  pub is_least : IsLeastPadding (length old.bytes) promises part.size part.alignment padding
-  pub fits : length old.bytes + padding + part.size ≤ greatest_place
-  pub short : old.room < padding + part.size
-
--- Memory was wanted for padding and part, which aren't too large; where the part is shared, it may
--- also be the cache that wanted it.
-abbrev pub MayWantMemory : Option Contents → Part → State → List Promise → Type 0
-MayWantMemory None part old promises = WantsMemory part old promises
-MayWantMemory (Some contents) part old promises = IsWithinLimit part old promises
-
--- an entry that isn't found wants memory
+-- an entry that isn't found lacks memory
 pub record RefusedMemory (entry : Entry) (got : List ℕ) (old : State) (past : Past) : Type 0 where
   pub is_new : found_before old.switches entry past ≡ None
-  pub wants : MayWantMemory (shared_as old.switches entry.contents)
+  pub lacks : MayLackMemory (shared_as old.switches entry.contents)
       (part_after entry got past) old past.written.promises
 
 -- why the entry was refused

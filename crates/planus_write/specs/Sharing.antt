@@ -6,8 +6,8 @@ use Rattle.planus_back.specs.declared.bucket.Bucket.{Bucket}
 use Rattle.planus_write.specs.Backed.{Backed, MakesRoom, HasPlace, LacksRoom}
 use Rattle.planus_write.specs.declared.errors.BuildError.{BuildError}
 use Rattle.planus_write.specs.declared.errors.BuildError.TheVariants.{OutOfMemory}
-use Rattle.planus_write.specs.declared.start.Start.{Start}
-use Rattle.planus_write.specs.declared.start.Start.TheVariants.{Found, Begun}
+use Rattle.planus_write.specs.declared.sharing.Lookup.{Lookup}
+use Rattle.planus_write.specs.declared.sharing.Lookup.TheVariants.{Found, Reserved}
 
 -- One kind of contents: whether equal ones are written once, and what its cache holds.
 pub record Shares : Type 0 where
@@ -67,13 +67,13 @@ LacksSharedRoom error on size alignment old new =
 
 -- How a part of that size and alignment is begun that may be shared by its contents: they are
 -- found, or room is made for the part, at whose place they are kept, or that is refused.
-abbrev pub Starts : FindContents → List ℕ → ℕ → ℕ → Backed → Shares → Result Start BuildError
+abbrev pub FindsOrReserves : FindContents → List ℕ → ℕ → ℕ → Backed → Shares → Result Lookup BuildError
     → Backed → Shares → Type 0
-Starts contents_in contents size alignment old shares (Ok (Found distance)) new kept =
+FindsOrReserves contents_in contents size alignment old shares (Ok (Found distance)) new kept =
     Finds contents_in shares old.bytes contents (Some distance) × (new ≡ old) × (kept ≡ shares)
-Starts contents_in contents size alignment old shares (Ok (Begun place)) new kept =
+FindsOrReserves contents_in contents size alignment old shares (Ok (Reserved place)) new kept =
     Finds contents_in shares old.bytes contents None × MakesRoom size alignment old place new
     × Keeps contents_in contents place shares kept
-Starts contents_in contents size alignment old shares (Err error) new kept =
+FindsOrReserves contents_in contents size alignment old shares (Err error) new kept =
     Finds contents_in shares old.bytes contents None
     × LacksSharedRoom error shares.on size alignment old new × (kept ≡ shares)

@@ -4,13 +4,21 @@ ghost use Rattle.planus_back.specs.Promises.{Promise, IsPowerOfTwo, greatest_ali
 ghost use Rattle.planus_back.specs.Padding.{greatest_place};
 
 use crate::errors::BuildError;
-use crate::plan::Plan;
 use planus_back::{BackVec, Fill, Overwrite, Promises};
 use std::alloc::{AllocError, Global};
 use std::marker::Model;
 
 /// One less than the alignment of a count or a reference.
 pub(crate) const WORD_MASK: usize = 3;
+
+/// The place of a part and the padding behind it, for both of which there is room, and the promises
+/// that are made once it stands there.
+#[derive(Drop)]
+pub(crate) struct Plan {
+    pub(crate) promises: Promises,
+    pub(crate) padding: usize,
+    pub(crate) place: u32,
+}
 
 /// Bytes that grow at their front, and what was promised of them. While a part is put down, its
 /// promise is made before its bytes are there.
@@ -36,10 +44,7 @@ impl Backing {
     ghost use Rattle.planus_write.specs.Backed.{DescribedBy, PutsBytes, Reserves, Pads, Begins};
 
     // No bytes, and room for so many.
-    pub(crate) fn with_capacity(
-        alloc: Global,
-        capacity: usize,
-    ) -> std::result::Result<Backing, AllocError>
+    pub(crate) fn with_capacity(alloc: Global, capacity: usize) -> Result<Backing, AllocError>
         ensures bytes { IfOk result (λ backing. backing.bytes ≡ []) }
         ensures room { IfOk result (λ backing. capacity ≤ backing.room) }
         ensures described { IfOk result (λ backing. DescribedBy backing []) }
@@ -89,11 +94,7 @@ impl Backing {
 
     // Room for a part of `size` bytes and for the padding behind it. Nothing else is changed.
     #[inline]
-    pub(crate) fn reserve(
-        &mut self,
-        size: usize,
-        mask: usize,
-    ) -> std::result::Result<Plan, BuildError>
+    pub(crate) fn reserve(&mut self, size: usize, mask: usize) -> Result<Plan, BuildError>
         requires power { IsPowerOfTwo (mask + 1) }
         requires bound { mask + 1 ≤ 2 ^ 30 }
         ensures { Reserves size (mask + 1) self.old result self.new }
@@ -121,11 +122,7 @@ impl Backing {
 
     // Room for a part of `size` bytes, and the padding behind it. Returns the part's place.
     #[inline]
-    pub(crate) fn make_room(
-        &mut self,
-        size: usize,
-        mask: usize,
-    ) -> std::result::Result<u32, BuildError>
+    pub(crate) fn make_room(&mut self, size: usize, mask: usize) -> Result<u32, BuildError>
         requires power { IsPowerOfTwo (mask + 1) }
         requires bound { mask + 1 ≤ 2 ^ 30 }
         ensures { Begins size (mask + 1) self.old result self.new }

@@ -12,8 +12,7 @@ use crate::byte_lists::{ByteItems, ByteList, Copied};
 use crate::caches::Caches;
 use crate::errors::BuildError;
 use crate::offset::{List, Offset, Text};
-use crate::sharing::{Sharing, start};
-use crate::start::Start;
+use crate::sharing::{Lookup, Sharing, find_or_reserve};
 use crate::traits::{Primitive, WriteAsOffset, WriteAsUnionVector};
 use crate::union_vector_offset::UnionVectorOffset;
 use planus_back::{ByteVec, Fill, Overwrite, VTable};
@@ -63,7 +62,7 @@ impl Builder {
 
     /// An empty builder, which writes equal texts, byte lists and vtables once;
     /// [`BuildError::OutOfMemory`] where memory is refused.
-    pub fn new(alloc: Global) -> std::result::Result<Builder, BuildError>
+    pub fn new(alloc: Global) -> Result<Builder, BuildError>
         ensures past { IfOk result (λ builder. IsPast builder no_past) }
         ensures switches { IfOk result (λ builder. builder.switches ≡ all_on) }
         ensures error { IfErr result (λ error. error ≡ BuildError.OutOfMemory) }
@@ -72,7 +71,7 @@ impl Builder {
     }
 
     /// The same with room for `capacity` bytes.
-    pub fn with_capacity(alloc: Global, capacity: usize) -> std::result::Result<Builder, BuildError>
+    pub fn with_capacity(alloc: Global, capacity: usize) -> Result<Builder, BuildError>
         ensures past { IfOk result (λ builder. IsPast builder no_past) }
         ensures room { IfOk result (λ builder. capacity ≤ builder.room) }
         ensures switches { IfOk result (λ builder. builder.switches ≡ all_on) }
@@ -87,7 +86,7 @@ impl Builder {
         alloc: Global,
         capacity: usize,
         caches: Caches,
-    ) -> std::result::Result<Builder, BuildError>
+    ) -> Result<Builder, BuildError>
         ensures past { IfOk result (λ builder. IsPast builder no_past) }
         ensures room { IfOk result (λ builder. capacity ≤ builder.room) }
         ensures switches { IfOk result (λ builder. builder.switches ≡ switches_of caches) }
@@ -174,20 +173,20 @@ impl Builder {
 
     // A text as one part.
     #[inline]
-    pub(crate) fn write_text(&mut self, text: &str) -> std::result::Result<Offset<Text>, BuildError>
+    pub(crate) fn write_text(&mut self, text: &str) -> Result<Offset<Text>, BuildError>
         ensures { WritesText text.now self.old result self.new }
     {
         let bytes = text.as_bytes();
         let size = bytes.len() + 5;
-        match start(
+        match find_or_reserve(
             &mut self.backing,
             &mut self.texts,
             &ByteList(bytes),
             size,
             WORD_MASK,
         )? {
-            Start::Found(distance) => Ok(Offset::at(distance)),
-            Start::Begun(place) => {
+            Lookup::Found(distance) => Ok(Offset::at(distance)),
+            Lookup::Reserved(place) => {
                 self.backing
                     .put_three(&(bytes.len() as u32).to_le_bytes(), bytes, &[0]);
                 Ok(Offset::at(place))
@@ -200,19 +199,19 @@ impl Builder {
     pub(crate) fn write_byte_list<T, L: ByteItems>(
         &mut self,
         list: &L,
-    ) -> std::result::Result<Offset<T>, BuildError>
+    ) -> Result<Offset<T>, BuildError>
         ensures { WritesByteList (L.bytes_of list.now) self.old result self.new }
     {
         let count = list.count();
-        match start(
+        match find_or_reserve(
             &mut self.backing,
             &mut self.byte_lists,
             list,
             count + 4,
             WORD_MASK,
         )? {
-            Start::Found(distance) => Ok(Offset::at(distance)),
-            Start::Begun(place) => {
+            Lookup::Found(distance) => Ok(Offset::at(distance)),
+            Lookup::Reserved(place) => {
                 self.backing
                     .put_overwritten(place - 4, count, &Copied { items: list });
                 self.backing.put(&(count as u32).to_le_bytes());
@@ -223,7 +222,7 @@ impl Builder {
 
     // The count of a list, right in front of its items.
     #[inline]
-    pub(crate) fn write_count(&mut self, count: u32) -> std::result::Result<u32, BuildError>
+    pub(crate) fn write_count(&mut self, count: u32) -> Result<u32, BuildError>
         ensures { WritesEntry (just (count_part count)) [] self.old result self.new }
     {
         let place = self.backing.make_room(4, 0)?;
@@ -232,19 +231,19 @@ impl Builder {
     }
 
     // A vtable as one part. Its own size stands in front.
-    pub(crate) fn write_vtable(&mut self, bytes: &[u8]) -> std::result::Result<u32, BuildError>
+    pub(crate) fn write_vtable(&mut self, bytes: &[u8]) -> Result<u32, BuildError>
         requires { vtable_in bytes.now ≡ Some bytes.now }
         ensures { WritesEntry (vtable_entry bytes.now) [] self.old result self.new }
     {
-        match start(
+        match find_or_reserve(
             &mut self.backing,
             &mut self.vtables,
             &ByteList(bytes),
             bytes.len(),
             1,
         )? {
-            Start::Found(distance) => Ok(distance),
-            Start::Begun(place) => {
+            Lookup::Found(distance) => Ok(distance),
+            Lookup::Reserved(place) => {
                 self.backing.put(bytes);
                 Ok(place)
             }
@@ -253,7 +252,7 @@ impl Builder {
 
     // The word of a table, right in front of its body, which leads to the vtable at this distance.
     #[inline]
-    pub(crate) fn write_word(&mut self, vtable: u32) -> std::result::Result<u32, BuildError>
+    pub(crate) fn write_word(&mut self, vtable: u32) -> Result<u32, BuildError>
         requires { vtable ≤ greatest_place }
         ensures entry { WritesEntry (just (word_part vtable)) [] self.old result self.new }
         ensures last { IfOk result (λ place. place ≡ length self.new.bytes) }
@@ -284,7 +283,7 @@ impl Builder {
         size: usize,
         alignment_mask: usize,
         filler: &F,
-    ) -> std::result::Result<(), BuildError>
+    ) -> Result<(), BuildError>
         requires power { IsPowerOfTwo (alignment_mask + 1) }
         requires bound { alignment_mask + 1 ≤ 2 ^ 30 }
         requires fits { (place : ℕ) → length self.old.bytes + size ≤ place
@@ -307,7 +306,7 @@ impl Builder {
         size: usize,
         alignment_mask: usize,
         writer: &W,
-    ) -> std::result::Result<(), BuildError>
+    ) -> Result<(), BuildError>
         requires power { IsPowerOfTwo (alignment_mask + 1) }
         requires bound { alignment_mask + 1 ≤ 2 ^ 30 }
         requires fits { (place : ℕ) → length self.old.bytes + size ≤ place
@@ -334,7 +333,7 @@ impl Builder {
     pub fn create_string<X: WriteAsOffset<Text> + Drop>(
         &mut self,
         value: X,
-    ) -> std::result::Result<Offset<Text>, BuildError>
+    ) -> Result<Offset<Text>, BuildError>
         requires { X.may value self.old }
         ensures { X.outcome value self.old result self.new }
     {
@@ -355,7 +354,7 @@ impl Builder {
     pub fn create_vector<P: Primitive, X: WriteAsOffset<List<P>> + Drop>(
         &mut self,
         list: X,
-    ) -> std::result::Result<Offset<List<P>>, BuildError>
+    ) -> Result<Offset<List<P>>, BuildError>
         requires { X.may list self.old }
         ensures { X.outcome list self.old result self.new }
     {
@@ -371,7 +370,7 @@ impl Builder {
     pub fn create_union_vector<T, X: WriteAsUnionVector<T> + Drop>(
         &mut self,
         vector: X,
-    ) -> std::result::Result<UnionVectorOffset<T>, BuildError>
+    ) -> Result<UnionVectorOffset<T>, BuildError>
         requires { X.may vector self.old }
         ensures { X.outcome vector self.old result self.new }
     {
@@ -392,7 +391,7 @@ impl Builder {
         &mut self,
         root: X,
         identifier: Option<[u8; 4]>,
-    ) -> std::result::Result<&[u8], BuildError>
+    ) -> Result<&[u8], BuildError>
         requires { X.may root self.old }
         ensures bytes { IfOk result (λ bytes. FinishGives
             (X.outcome root) identifier self.old bytes.now) }
@@ -417,7 +416,7 @@ impl Builder {
         &mut self,
         root: X,
         identifier: Option<[u8; 4]>,
-    ) -> std::result::Result<&[u8], BuildError>
+    ) -> Result<&[u8], BuildError>
         requires { X.may root self.old }
         ensures bytes { IfOk result (λ bytes. SizedFinishGives
             (X.outcome root) identifier self.old bytes.now) }
@@ -431,11 +430,7 @@ impl Builder {
     }
 
     // The root word, and the identifier behind it, as one part with the greatest alignment so far.
-    fn write_root(
-        &mut self,
-        root: u32,
-        identifier: Option<[u8; 4]>,
-    ) -> std::result::Result<u32, BuildError>
+    fn write_root(&mut self, root: u32, identifier: Option<[u8; 4]>) -> Result<u32, BuildError>
         requires { root ≤ length self.old.bytes }
         ensures { WritesRoot root identifier self.old result self.new }
     {
@@ -453,7 +448,7 @@ impl Builder {
         &mut self,
         root: u32,
         identifier: Option<[u8; 4]>,
-    ) -> std::result::Result<u32, BuildError>
+    ) -> Result<u32, BuildError>
         requires { root ≤ length self.old.bytes }
         ensures written { WritesSizedRoot root identifier self.old result self.new }
         ensures size { IfOk result (λ place. IsPrefixed self.new.bytes) }

@@ -13,7 +13,7 @@ impl<'a, T> Clone for ByRef<'a, T> {
     ghost is_infallible = { λ _. ⊤ };
 
     #[inline]
-    fn clone(&self) -> std::result::Result<Self, AllocError> {
+    fn clone(&self) -> Result<Self, AllocError> {
         Ok(*self)
     }
 }

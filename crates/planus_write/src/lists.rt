@@ -59,7 +59,7 @@ impl<'a, P: Primitive, T: VectorWrite<P>> Overwrite for Items<'a, P, T> {
 fn prepare_items<P: Primitive, T: VectorWrite<P>>(
     builder: &mut Builder,
     items: &[T],
-) -> std::result::Result<Vec<T::Value>, BuildError>
+) -> Result<Vec<T::Value>, BuildError>
     requires { AllMay T.may items.now builder.old }
     ensures prepared { PreparesItems T.outcome items.now builder.old (listed result) builder.new }
     ensures reached { IfOk result (λ values.
@@ -92,7 +92,7 @@ fn items_mask<P: Primitive>() -> usize
 pub(crate) fn write_prepared<P: Primitive, T: VectorWrite<P>>(
     builder: &mut Builder,
     values: &[T::Value],
-) -> std::result::Result<Offset<List<P>>, BuildError>
+) -> Result<Offset<List<P>>, BuildError>
     requires { AllByRecursion (λ value. T.Value.reach value ≤ length builder.old.bytes) values.now }
     ensures { WritesPrepared P.SIZE P.ALIGNMENT (map T.Value.leaves values.now)
         builder.old result builder.new }
@@ -113,7 +113,7 @@ pub(crate) fn write_prepared<P: Primitive, T: VectorWrite<P>>(
 pub(crate) fn write_list<P: Primitive, T: VectorWrite<P>>(
     builder: &mut Builder,
     items: &[T],
-) -> std::result::Result<Offset<List<P>>, BuildError>
+) -> Result<Offset<List<P>>, BuildError>
     requires { AllMay T.may items.now builder.old }
     ensures { WritesList T.outcome T.Value.leaves P.SIZE P.ALIGNMENT items.now
         builder.old result builder.new }

@@ -26,7 +26,7 @@ impl<T> Clone for Offset<T> {
     ghost is_infallible = { λ _. ⊤ };
 
     #[inline]
-    fn clone(&self) -> std::result::Result<Self, AllocError> {
+    fn clone(&self) -> Result<Self, AllocError> {
         Ok(*self)
     }
 }

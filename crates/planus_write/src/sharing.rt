@@ -3,16 +3,23 @@ ghost use Rattle.std.specs.Prelude.{◌≡◌, ◌+◌, ◌≤◌, ◌^◌, None
 ghost use Rattle.planus_back.specs.Caches.{Fits, IsEmpty};
 ghost use Rattle.planus_back.specs.Padding.{greatest_place};
 ghost use Rattle.planus_back.specs.Promises.{IsPowerOfTwo};
-ghost use Rattle.planus_write.specs.Sharing.{LooksIn, Finds, KeepsIn, Starts};
+ghost use Rattle.planus_write.specs.Sharing.{LooksIn, Finds, KeepsIn, FindsOrReserves};
 
 use crate::backing::Backing;
 use crate::byte_lists::ByteItems;
 use crate::errors::BuildError;
-use crate::start::Start;
 use planus_back::{Bucket, Cache, GetCacheKey};
 use std::alloc::{AllocError, Global};
 use std::fmt;
 use std::marker::Model;
+
+/// What a look for equal contents comes to.
+pub(crate) enum Lookup {
+    /// Equal contents stand at this distance from the end, and nothing is to be written.
+    Found(u32),
+    /// There is room for the part at this place, and the padding behind it is written.
+    Reserved(u32),
+}
 
 /// Contents of one kind, found again if equal ones are to be written once.
 #[derive(Drop)]
@@ -31,11 +38,7 @@ impl<C> Model for Sharing<C> {
 
 impl<C: GetCacheKey> Sharing<C> {
     // Nothing is found yet, and nothing ever will be if this isn't on.
-    pub(crate) fn new(
-        alloc: Global,
-        on: bool,
-        hash_mask: u64,
-    ) -> std::result::Result<Sharing<C>, AllocError>
+    pub(crate) fn new(alloc: Global, on: bool, hash_mask: u64) -> Result<Sharing<C>, AllocError>
         ensures on { IfOk result (λ sharing. sharing.on ≡ on) }
         ensures empty { IfOk result (λ sharing. IsEmpty sharing.held) }
     {
@@ -74,7 +77,7 @@ impl<C: GetCacheKey> Sharing<C> {
     // The contents that are looked for there stand at the distance, or are about to. A refusal of
     // memory changes nothing.
     #[inline]
-    fn keep(&mut self, bucket: Option<Bucket>, distance: u32) -> std::result::Result<(), AllocError>
+    fn keep(&mut self, bucket: Option<Bucket>, distance: u32) -> Result<(), AllocError>
         ensures ok { OnOk result (KeepsIn C.key_in bucket distance self.old self.new) }
         ensures err { OnErr result ((¬ (bucket ≡ None)) × (self.new ≡ self.old)) }
     {
@@ -96,28 +99,28 @@ impl<C: GetCacheKey> Sharing<C> {
 // Finds equal contents, or makes room for a part of `size` bytes, in this order: it may be too
 // large; the memory of padding and part; that of the cache; the padding.
 #[inline]
-pub(crate) fn start<C: GetCacheKey, L: ByteItems>(
+pub(crate) fn find_or_reserve<C: GetCacheKey, L: ByteItems>(
     backing: &mut Backing,
     sharing: &mut Sharing<C>,
     contents: &L,
     size: usize,
     mask: usize,
-) -> std::result::Result<Start, BuildError>
+) -> Result<Lookup, BuildError>
     requires power { IsPowerOfTwo (mask + 1) }
     requires bound { mask + 1 ≤ 2 ^ 30 }
     requires fits { Fits C.key_in sharing.old.held backing.old.bytes }
-    ensures started { Starts C.key_in (L.bytes_of contents.now) size (mask + 1)
+    ensures found { FindsOrReserves C.key_in (L.bytes_of contents.now) size (mask + 1)
         backing.old sharing.old result backing.new sharing.new }
     ensures small { length backing.old.bytes ≤ greatest_place }
 {
     let bucket = sharing.bucket_of(contents);
     if let Some(distance) = sharing.find(bucket, backing.as_slice(), contents) {
-        return Ok(Start::Found(distance));
+        return Ok(Lookup::Found(distance));
     }
     let plan = backing.reserve(size, mask)?;
     sharing.keep(bucket, plan.place)?;
     backing.pad(&plan);
-    Ok(Start::Begun(plan.place))
+    Ok(Lookup::Reserved(plan.place))
 }
 
 /// Prints whether equal contents are written once.

@@ -20,7 +20,7 @@ impl<T> Clone for UnionOffset<T> {
     ghost is_infallible = { λ _. ⊤ };
 
     #[inline]
-    fn clone(&self) -> std::result::Result<Self, AllocError> {
+    fn clone(&self) -> Result<Self, AllocError> {
         Ok(*self)
     }
 }

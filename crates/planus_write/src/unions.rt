@@ -24,7 +24,7 @@ struct PreparedUnions {
 fn prepare_unions<T, U: WriteAsUnion<T>>(
     builder: &mut Builder,
     items: &[U],
-) -> std::result::Result<PreparedUnions, BuildError>
+) -> Result<PreparedUnions, BuildError>
     requires { AllMay U.may items.now builder.old }
     ensures prepared { PreparesUnions U.outcome items.now builder.old result builder.new }
     ensures reached { IfOk result (λ unions. AllByRecursion
@@ -45,10 +45,7 @@ fn prepare_unions<T, U: WriteAsUnion<T>>(
 }
 
 /// The tags of a list of unions, as one part, and the count in front of them.
-fn write_tags(
-    builder: &mut Builder,
-    tags: &[u8],
-) -> std::result::Result<Offset<List<u8>>, BuildError>
+fn write_tags(builder: &mut Builder, tags: &[u8]) -> Result<Offset<List<u8>>, BuildError>
     ensures { WritesTags tags.now builder.old result builder.new }
 {
     builder.write_over(
@@ -67,7 +64,7 @@ fn write_tags(
 pub(crate) fn write_union_vector<T, U: WriteAsUnion<T>>(
     builder: &mut Builder,
     items: &[U],
-) -> std::result::Result<UnionVectorOffset<T>, BuildError>
+) -> Result<UnionVectorOffset<T>, BuildError>
     requires { AllMay U.may items.now builder.old }
     ensures { WritesUnionVector U.outcome items.now builder.old result builder.new }
 {

@@ -19,7 +19,7 @@ use planus_write::laws;
 pub fn create_numbers(
     builder: &mut Builder,
     numbers: &[u16],
-) -> std::result::Result<Offset<List<u16>>, BuildError>
+) -> Result<Offset<List<u16>>, BuildError>
     ensures kept { IfOk result (λ offset. (past : Past) → IsPast builder.old past
         → (after : Past) × IsPast builder.new after
         × IsKept after (plain_list 2 2 (map (to_le_bytes w16) numbers.now))

@@ -25,7 +25,7 @@ impl<'a> TableReadUnion<'a> for CauseRef<'a> {
         buffer: SliceWithStartOffset<'a>,
         tag: u8,
         offset: usize,
-    ) -> std::result::Result<CauseRef<'a>, ErrorKind> {
+    ) -> Result<CauseRef<'a>, ErrorKind> {
         match tag {
             1 => Ok(CauseRef::Entry(TableRead::from_buffer(buffer, offset)?)),
             2 => Ok(CauseRef::Origin(TableRead::from_buffer(buffer, offset)?)),

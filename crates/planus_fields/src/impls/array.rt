@@ -22,11 +22,11 @@ impl<P: Primitive, T: VectorWrite<P>, const N: usize> WriteAs<Offset<List<P>>> f
     ghost outcome = { λ items old answer new. WritesList T.outcome T.Value.leaves P.SIZE P.ALIGNMENT items old answer new };
 
     #[inline]
-    fn prepare(&self, builder: &mut Builder) -> std::result::Result<Offset<List<P>>, BuildError> {
+    fn prepare(&self, builder: &mut Builder) -> Result<Offset<List<P>>, BuildError> {
         WriteAsOffset::prepare(self, builder)
     }
 
-    ghost is_lawful = { list_is_lawful T.may T.outcome T.Value.reach T.is_lawful T.Value.leaves P.SIZE P.ALIGNMENT (λ items. items) };
+    ghost is_lawful = { list_is_lawful P.SIZE P.ALIGNMENT (λ items. items) T.is_lawful };
 }
 
 impl<P: Primitive, T: VectorWrite<P>, const N: usize> WriteAsOptional<Offset<List<P>>> for [T; N] {
@@ -37,14 +37,11 @@ impl<P: Primitive, T: VectorWrite<P>, const N: usize> WriteAsOptional<Offset<Lis
     ghost outcome = { λ items old answer new. AlwaysWritten (WritesList T.outcome T.Value.leaves P.SIZE P.ALIGNMENT items) old answer new };
 
     #[inline]
-    fn prepare(
-        &self,
-        builder: &mut Builder,
-    ) -> std::result::Result<Option<Offset<List<P>>>, BuildError> {
+    fn prepare(&self, builder: &mut Builder) -> Result<Option<Offset<List<P>>>, BuildError> {
         Ok(Some(WriteAsOffset::prepare(self, builder)?))
     }
 
-    ghost is_lawful = { left_out_is_lawful (λ items. ⊥) (list_is_lawful T.may T.outcome T.Value.reach T.is_lawful T.Value.leaves P.SIZE P.ALIGNMENT (λ items. items)) };
+    ghost is_lawful = { left_out_is_lawful (λ items. ⊥) (list_is_lawful P.SIZE P.ALIGNMENT (λ items. items) T.is_lawful) };
 }
 
 impl<T, U: WriteAsUnion<T>, const N: usize> WriteAsDefaultUnionVector<T> for [U; N] {
@@ -54,10 +51,7 @@ impl<T, U: WriteAsUnion<T>, const N: usize> WriteAsDefaultUnionVector<T> for [U;
         LeftOutWhere (items ≡ []) (WritesUnionVector U.outcome items) old answer new };
 
     #[inline]
-    fn prepare(
-        &self,
-        builder: &mut Builder,
-    ) -> std::result::Result<Option<UnionVectorOffset<T>>, BuildError> {
+    fn prepare(&self, builder: &mut Builder) -> Result<Option<UnionVectorOffset<T>>, BuildError> {
         if N == 0 {
             return Ok(None);
         }
@@ -78,10 +72,7 @@ impl<T, U: WriteAsUnion<T>, const N: usize> WriteAsOptionalUnionVector<T> for [U
         AlwaysWritten (WritesUnionVector U.outcome items) old answer new };
 
     #[inline]
-    fn prepare(
-        &self,
-        builder: &mut Builder,
-    ) -> std::result::Result<Option<UnionVectorOffset<T>>, BuildError> {
+    fn prepare(&self, builder: &mut Builder) -> Result<Option<UnionVectorOffset<T>>, BuildError> {
         match WriteAsUnionVector::prepare(self, builder) {
             Ok(vector) => Ok(Some(vector)),
             Err(error) => Err(error),

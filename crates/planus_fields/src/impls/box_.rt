@@ -12,7 +12,7 @@ impl<P: Primitive, T: WriteAs<P>> WriteAs<P> for Box<T> {
     ghost outcome = { λ boxed old answer new. T.outcome boxed.value old answer new };
 
     #[inline]
-    fn prepare(&self, builder: &mut Builder) -> std::result::Result<T::Prepared, BuildError> {
+    fn prepare(&self, builder: &mut Builder) -> Result<T::Prepared, BuildError> {
         let inner = &**self;
         inner.prepare(builder)
     }
@@ -28,10 +28,7 @@ impl<P: Primitive, T: WriteAsOptional<P>> WriteAsOptional<P> for Box<T> {
     ghost outcome = { λ boxed old answer new. T.outcome boxed.value old answer new };
 
     #[inline]
-    fn prepare(
-        &self,
-        builder: &mut Builder,
-    ) -> std::result::Result<Option<T::Prepared>, BuildError> {
+    fn prepare(&self, builder: &mut Builder) -> Result<Option<T::Prepared>, BuildError> {
         let inner = &**self;
         inner.prepare(builder)
     }
@@ -51,7 +48,7 @@ impl<P: Primitive, D, T: WriteAsDefault<P, D>> WriteAsDefault<P, D> for Box<T> {
         &self,
         builder: &mut Builder,
         default: &D,
-    ) -> std::result::Result<Option<T::Prepared>, BuildError> {
+    ) -> Result<Option<T::Prepared>, BuildError> {
         let inner = &**self;
         inner.prepare(builder, default)
     }
@@ -65,10 +62,7 @@ impl<T, X: WriteAsOptionalUnion<T>> WriteAsOptionalUnion<T> for Box<X> {
     ghost outcome = { λ boxed old answer new. X.outcome boxed.value old answer new };
 
     #[inline]
-    fn prepare(
-        &self,
-        builder: &mut Builder,
-    ) -> std::result::Result<Option<UnionOffset<T>>, BuildError> {
+    fn prepare(&self, builder: &mut Builder) -> Result<Option<UnionOffset<T>>, BuildError> {
         let inner = &**self;
         inner.prepare(builder)
     }

@@ -15,7 +15,7 @@ impl<'a, P: Primitive, T: WriteAs<P>> WriteAs<P> for ByRef<'a, T> {
     ghost outcome = { λ by_ref old answer new. T.outcome by_ref.0.now old answer new };
 
     #[inline]
-    fn prepare(&self, builder: &mut Builder) -> std::result::Result<T::Prepared, BuildError> {
+    fn prepare(&self, builder: &mut Builder) -> Result<T::Prepared, BuildError> {
         let inner = self.0;
         inner.prepare(builder)
     }
@@ -31,10 +31,7 @@ impl<'a, P: Primitive, T: WriteAsOptional<P>> WriteAsOptional<P> for ByRef<'a, T
     ghost outcome = { λ by_ref old answer new. T.outcome by_ref.0.now old answer new };
 
     #[inline]
-    fn prepare(
-        &self,
-        builder: &mut Builder,
-    ) -> std::result::Result<Option<T::Prepared>, BuildError> {
+    fn prepare(&self, builder: &mut Builder) -> Result<Option<T::Prepared>, BuildError> {
         let inner = self.0;
         inner.prepare(builder)
     }
@@ -54,7 +51,7 @@ impl<'a, P: Primitive, D, T: WriteAsDefault<P, D>> WriteAsDefault<P, D> for ByRe
         &self,
         builder: &mut Builder,
         default: &D,
-    ) -> std::result::Result<Option<T::Prepared>, BuildError> {
+    ) -> Result<Option<T::Prepared>, BuildError> {
         let inner = self.0;
         inner.prepare(builder, default)
     }
@@ -68,10 +65,7 @@ impl<'a, T, X: WriteAsOptionalUnion<T>> WriteAsOptionalUnion<T> for ByRef<'a, X>
     ghost outcome = { λ by_ref old answer new. X.outcome by_ref.0.now old answer new };
 
     #[inline]
-    fn prepare(
-        &self,
-        builder: &mut Builder,
-    ) -> std::result::Result<Option<UnionOffset<T>>, BuildError> {
+    fn prepare(&self, builder: &mut Builder) -> Result<Option<UnionOffset<T>>, BuildError> {
         let inner = self.0;
         inner.prepare(builder)
     }
@@ -85,10 +79,7 @@ impl<'a, T, X: WriteAsDefaultUnionVector<T>> WriteAsDefaultUnionVector<T> for By
     ghost outcome = { λ by_ref old answer new. X.outcome by_ref.0.now old answer new };
 
     #[inline]
-    fn prepare(
-        &self,
-        builder: &mut Builder,
-    ) -> std::result::Result<Option<UnionVectorOffset<T>>, BuildError> {
+    fn prepare(&self, builder: &mut Builder) -> Result<Option<UnionVectorOffset<T>>, BuildError> {
         let inner = self.0;
         inner.prepare(builder)
     }
@@ -102,10 +93,7 @@ impl<'a, T, X: WriteAsOptionalUnionVector<T>> WriteAsOptionalUnionVector<T> for 
     ghost outcome = { λ by_ref old answer new. X.outcome by_ref.0.now old answer new };
 
     #[inline]
-    fn prepare(
-        &self,
-        builder: &mut Builder,
-    ) -> std::result::Result<Option<UnionVectorOffset<T>>, BuildError> {
+    fn prepare(&self, builder: &mut Builder) -> Result<Option<UnionVectorOffset<T>>, BuildError> {
         let inner = self.0;
         inner.prepare(builder)
     }

@@ -16,7 +16,7 @@ impl<'a> WriteAs<Offset<List<u8>>> for ByteList<'a> {
     ghost outcome = { λ list old answer new. WritesByteList list.0.now old answer new };
 
     #[inline]
-    fn prepare(&self, builder: &mut Builder) -> std::result::Result<Offset<List<u8>>, BuildError> {
+    fn prepare(&self, builder: &mut Builder) -> Result<Offset<List<u8>>, BuildError> {
         WriteAsOffset::prepare(self, builder)
     }
 
@@ -31,10 +31,7 @@ impl<'a> WriteAsOptional<Offset<List<u8>>> for ByteList<'a> {
     ghost outcome = { λ list old answer new. AlwaysWritten (WritesByteList list.0.now) old answer new };
 
     #[inline]
-    fn prepare(
-        &self,
-        builder: &mut Builder,
-    ) -> std::result::Result<Option<Offset<List<u8>>>, BuildError> {
+    fn prepare(&self, builder: &mut Builder) -> Result<Option<Offset<List<u8>>>, BuildError> {
         Ok(Some(WriteAsOffset::prepare(self, builder)?))
     }
 
@@ -54,7 +51,7 @@ impl<'a> WriteAsDefault<Offset<List<u8>>, ()> for ByteList<'a> {
         &self,
         builder: &mut Builder,
         _default: &(),
-    ) -> std::result::Result<Option<Offset<List<u8>>>, BuildError> {
+    ) -> Result<Option<Offset<List<u8>>>, BuildError> {
         if self.0.is_empty() {
             return Ok(None);
         }

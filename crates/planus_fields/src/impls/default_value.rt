@@ -16,11 +16,7 @@ impl<P: Primitive, D> WriteAsDefault<P, D> for DefaultValue {
     ghost outcome = { λ value default old answer new. Answers None old answer new };
 
     #[inline]
-    fn prepare(
-        &self,
-        _builder: &mut Builder,
-        _default: &D,
-    ) -> std::result::Result<Option<LeftOut>, BuildError> {
+    fn prepare(&self, _builder: &mut Builder, _default: &D) -> Result<Option<LeftOut>, BuildError> {
         Ok(None)
     }
 
@@ -33,10 +29,7 @@ impl<T> WriteAsDefaultUnionVector<T> for DefaultValue {
     ghost outcome = { λ value old answer new. Answers None old answer new };
 
     #[inline]
-    fn prepare(
-        &self,
-        _builder: &mut Builder,
-    ) -> std::result::Result<Option<UnionVectorOffset<T>>, BuildError> {
+    fn prepare(&self, _builder: &mut Builder) -> Result<Option<UnionVectorOffset<T>>, BuildError> {
         Ok(None)
     }
 

@@ -15,7 +15,7 @@ impl<T> WriteAs<Offset<T>> for Offset<T> {
     ghost outcome = { λ offset old answer new. IsPrepared offset old answer new };
 
     #[inline]
-    fn prepare(&self, _builder: &mut Builder) -> std::result::Result<Offset<T>, BuildError> {
+    fn prepare(&self, _builder: &mut Builder) -> Result<Offset<T>, BuildError> {
         Ok(*self)
     }
 
@@ -30,10 +30,7 @@ impl<T> WriteAsOptional<Offset<T>> for Offset<T> {
     ghost outcome = { λ offset old answer new. AlwaysWritten (IsPrepared offset) old answer new };
 
     #[inline]
-    fn prepare(
-        &self,
-        _builder: &mut Builder,
-    ) -> std::result::Result<Option<Offset<T>>, BuildError> {
+    fn prepare(&self, _builder: &mut Builder) -> Result<Option<Offset<T>>, BuildError> {
         Ok(Some(*self))
     }
 
@@ -53,7 +50,7 @@ impl<T, D> WriteAsDefault<Offset<T>, D> for Offset<T> {
         &self,
         _builder: &mut Builder,
         _default: &D,
-    ) -> std::result::Result<Option<Offset<T>>, BuildError> {
+    ) -> Result<Option<Offset<T>>, BuildError> {
         Ok(Some(*self))
     }
 

@@ -12,10 +12,7 @@ impl<P: Primitive, T: WriteAsOptional<P>> WriteAsOptional<P> for Option<T> {
     ghost outcome = { λ field old answer new. PreparesIf T.outcome field old answer new };
 
     #[inline]
-    fn prepare(
-        &self,
-        builder: &mut Builder,
-    ) -> std::result::Result<Option<T::Prepared>, BuildError> {
+    fn prepare(&self, builder: &mut Builder) -> Result<Option<T::Prepared>, BuildError> {
         match self {
             None => Ok(None),
             Some(field) => field.prepare(builder),
@@ -31,10 +28,7 @@ impl<T, X: WriteAsOptionalUnion<T>> WriteAsOptionalUnion<T> for Option<X> {
     ghost outcome = { λ field old answer new. PreparesIf X.outcome field old answer new };
 
     #[inline]
-    fn prepare(
-        &self,
-        builder: &mut Builder,
-    ) -> std::result::Result<Option<UnionOffset<T>>, BuildError> {
+    fn prepare(&self, builder: &mut Builder) -> Result<Option<UnionOffset<T>>, BuildError> {
         match self {
             None => Ok(None),
             Some(union) => union.prepare(builder),
@@ -50,10 +44,7 @@ impl<T, X: WriteAsOptionalUnionVector<T>> WriteAsOptionalUnionVector<T> for Opti
     ghost outcome = { λ field old answer new. PreparesIf X.outcome field old answer new };
 
     #[inline]
-    fn prepare(
-        &self,
-        builder: &mut Builder,
-    ) -> std::result::Result<Option<UnionVectorOffset<T>>, BuildError> {
+    fn prepare(&self, builder: &mut Builder) -> Result<Option<UnionVectorOffset<T>>, BuildError> {
         match self {
             None => Ok(None),
             Some(vector) => vector.prepare(builder),

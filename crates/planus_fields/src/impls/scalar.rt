@@ -22,7 +22,7 @@ impl<S: ScalarField> WriteAs<S> for S {
     ghost outcome = { Answers };
 
     #[inline]
-    fn prepare(&self, _builder: &mut Builder) -> std::result::Result<S, BuildError> {
+    fn prepare(&self, _builder: &mut Builder) -> Result<S, BuildError> {
         Ok(*self)
     }
 
@@ -37,7 +37,7 @@ impl<S: ScalarField> WriteAsOptional<S> for S {
     ghost outcome = { λ scalar old answer new. AlwaysWritten (Answers scalar) old answer new };
 
     #[inline]
-    fn prepare(&self, _builder: &mut Builder) -> std::result::Result<Option<S>, BuildError> {
+    fn prepare(&self, _builder: &mut Builder) -> Result<Option<S>, BuildError> {
         Ok(Some(*self))
     }
 
@@ -53,11 +53,7 @@ impl<S: ScalarField> WriteAsDefault<S, S> for S {
         LeftOutWhere (scalar ≡ default) (Answers scalar) old answer new };
 
     #[inline]
-    fn prepare(
-        &self,
-        _builder: &mut Builder,
-        default: &S,
-    ) -> std::result::Result<Option<S>, BuildError> {
+    fn prepare(&self, _builder: &mut Builder, default: &S) -> Result<Option<S>, BuildError> {
         if self.is(default) {
             return Ok(None);
         }

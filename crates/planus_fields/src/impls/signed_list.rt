@@ -17,7 +17,7 @@ impl<'a> WriteAs<Offset<List<i8>>> for SignedList<'a> {
     ghost outcome = { λ list old answer new. WritesByteList (map (λ number. cast_unsigned w8 number) list.0.now) old answer new };
 
     #[inline]
-    fn prepare(&self, builder: &mut Builder) -> std::result::Result<Offset<List<i8>>, BuildError> {
+    fn prepare(&self, builder: &mut Builder) -> Result<Offset<List<i8>>, BuildError> {
         WriteAsOffset::prepare(self, builder)
     }
 
@@ -32,10 +32,7 @@ impl<'a> WriteAsOptional<Offset<List<i8>>> for SignedList<'a> {
     ghost outcome = { λ list old answer new. AlwaysWritten (WritesByteList (map (λ number. cast_unsigned w8 number) list.0.now)) old answer new };
 
     #[inline]
-    fn prepare(
-        &self,
-        builder: &mut Builder,
-    ) -> std::result::Result<Option<Offset<List<i8>>>, BuildError> {
+    fn prepare(&self, builder: &mut Builder) -> Result<Option<Offset<List<i8>>>, BuildError> {
         Ok(Some(WriteAsOffset::prepare(self, builder)?))
     }
 
@@ -55,7 +52,7 @@ impl<'a> WriteAsDefault<Offset<List<i8>>, ()> for SignedList<'a> {
         &self,
         builder: &mut Builder,
         _default: &(),
-    ) -> std::result::Result<Option<Offset<List<i8>>>, BuildError> {
+    ) -> Result<Option<Offset<List<i8>>>, BuildError> {
         if self.0.is_empty() {
             return Ok(None);
         }

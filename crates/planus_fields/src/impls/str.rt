@@ -16,7 +16,7 @@ impl<'a> WriteAs<Offset<Text>> for &'a str {
     ghost outcome = { λ text old answer new. WritesText text.now old answer new };
 
     #[inline]
-    fn prepare(&self, builder: &mut Builder) -> std::result::Result<Offset<Text>, BuildError> {
+    fn prepare(&self, builder: &mut Builder) -> Result<Offset<Text>, BuildError> {
         WriteAsOffset::prepare(self, builder)
     }
 
@@ -31,10 +31,7 @@ impl<'a> WriteAsOptional<Offset<Text>> for &'a str {
     ghost outcome = { λ text old answer new. AlwaysWritten (WritesText text.now) old answer new };
 
     #[inline]
-    fn prepare(
-        &self,
-        builder: &mut Builder,
-    ) -> std::result::Result<Option<Offset<Text>>, BuildError> {
+    fn prepare(&self, builder: &mut Builder) -> Result<Option<Offset<Text>>, BuildError> {
         Ok(Some(WriteAsOffset::prepare(self, builder)?))
     }
 
@@ -54,7 +51,7 @@ impl<'a, 'b> WriteAsDefault<Offset<Text>, &'b str> for &'a str {
         &self,
         builder: &mut Builder,
         default: &&'b str,
-    ) -> std::result::Result<Option<Offset<Text>>, BuildError> {
+    ) -> Result<Option<Offset<Text>>, BuildError> {
         if *self == *default {
             return Ok(None);
         }

@@ -17,7 +17,7 @@ impl WriteAs<Offset<Text>> for String {
     ghost outcome = { λ text old answer new. WritesText (string_bytes text) old answer new };
 
     #[inline]
-    fn prepare(&self, builder: &mut Builder) -> std::result::Result<Offset<Text>, BuildError> {
+    fn prepare(&self, builder: &mut Builder) -> Result<Offset<Text>, BuildError> {
         WriteAsOffset::prepare(self, builder)
     }
 
@@ -32,10 +32,7 @@ impl WriteAsOptional<Offset<Text>> for String {
     ghost outcome = { λ text old answer new. AlwaysWritten (WritesText (string_bytes text)) old answer new };
 
     #[inline]
-    fn prepare(
-        &self,
-        builder: &mut Builder,
-    ) -> std::result::Result<Option<Offset<Text>>, BuildError> {
+    fn prepare(&self, builder: &mut Builder) -> Result<Option<Offset<Text>>, BuildError> {
         Ok(Some(WriteAsOffset::prepare(self, builder)?))
     }
 
@@ -55,7 +52,7 @@ impl<'a> WriteAsDefault<Offset<Text>, &'a str> for String {
         &self,
         builder: &mut Builder,
         default: &&'a str,
-    ) -> std::result::Result<Option<Offset<Text>>, BuildError> {
+    ) -> Result<Option<Offset<Text>>, BuildError> {
         if self.as_str() == *default {
             return Ok(None);
         }

@@ -14,10 +14,7 @@ impl<T> WriteAsOptionalUnion<T> for UnionOffset<T> {
     ghost outcome = { λ union old answer new. AlwaysWritten (Answers union) old answer new };
 
     #[inline]
-    fn prepare(
-        &self,
-        _builder: &mut Builder,
-    ) -> std::result::Result<Option<UnionOffset<T>>, BuildError> {
+    fn prepare(&self, _builder: &mut Builder) -> Result<Option<UnionOffset<T>>, BuildError> {
         Ok(Some(*self))
     }
 

@@ -14,10 +14,7 @@ impl<T> WriteAsDefaultUnionVector<T> for UnionVectorOffset<T> {
     ghost outcome = { λ vector old answer new. AlwaysWritten (Answers vector) old answer new };
 
     #[inline]
-    fn prepare(
-        &self,
-        _builder: &mut Builder,
-    ) -> std::result::Result<Option<UnionVectorOffset<T>>, BuildError> {
+    fn prepare(&self, _builder: &mut Builder) -> Result<Option<UnionVectorOffset<T>>, BuildError> {
         Ok(Some(*self))
     }
 
@@ -30,10 +27,7 @@ impl<T> WriteAsOptionalUnionVector<T> for UnionVectorOffset<T> {
     ghost outcome = { λ vector old answer new. AlwaysWritten (Answers vector) old answer new };
 
     #[inline]
-    fn prepare(
-        &self,
-        _builder: &mut Builder,
-    ) -> std::result::Result<Option<UnionVectorOffset<T>>, BuildError> {
+    fn prepare(&self, _builder: &mut Builder) -> Result<Option<UnionVectorOffset<T>>, BuildError> {
         Ok(Some(*self))
     }
 

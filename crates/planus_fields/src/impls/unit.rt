@@ -15,7 +15,7 @@ impl<P: Primitive> WriteAsOptional<P> for () {
     ghost outcome = { λ unit old answer new. Answers None old answer new };
 
     #[inline]
-    fn prepare(&self, _builder: &mut Builder) -> std::result::Result<Option<LeftOut>, BuildError> {
+    fn prepare(&self, _builder: &mut Builder) -> Result<Option<LeftOut>, BuildError> {
         Ok(None)
     }
 
@@ -28,10 +28,7 @@ impl<T> WriteAsOptionalUnion<T> for () {
     ghost outcome = { λ unit old answer new. Answers None old answer new };
 
     #[inline]
-    fn prepare(
-        &self,
-        _builder: &mut Builder,
-    ) -> std::result::Result<Option<UnionOffset<T>>, BuildError> {
+    fn prepare(&self, _builder: &mut Builder) -> Result<Option<UnionOffset<T>>, BuildError> {
         Ok(None)
     }
 
@@ -44,10 +41,7 @@ impl<T> WriteAsOptionalUnionVector<T> for () {
     ghost outcome = { λ unit old answer new. Answers None old answer new };
 
     #[inline]
-    fn prepare(
-        &self,
-        _builder: &mut Builder,
-    ) -> std::result::Result<Option<UnionVectorOffset<T>>, BuildError> {
+    fn prepare(&self, _builder: &mut Builder) -> Result<Option<UnionVectorOffset<T>>, BuildError> {
         Ok(None)
     }
 

@@ -23,12 +23,11 @@ impl<P: Primitive, T: VectorWrite<P>> WriteAs<Offset<List<P>>> for Vec<T> {
         WritesList T.outcome T.Value.leaves P.SIZE P.ALIGNMENT items.items old answer new };
 
     #[inline]
-    fn prepare(&self, builder: &mut Builder) -> std::result::Result<Offset<List<P>>, BuildError> {
+    fn prepare(&self, builder: &mut Builder) -> Result<Offset<List<P>>, BuildError> {
         WriteAsOffset::prepare(self, builder)
     }
 
-    ghost is_lawful = { list_is_lawful T.may T.outcome T.Value.reach T.is_lawful T.Value.leaves
-        P.SIZE P.ALIGNMENT (λ items. items.items) };
+    ghost is_lawful = { list_is_lawful P.SIZE P.ALIGNMENT (λ items. items.items) T.is_lawful };
 }
 
 impl<P: Primitive, T: VectorWrite<P>> WriteAsOptional<Offset<List<P>>> for Vec<T> {
@@ -40,16 +39,12 @@ impl<P: Primitive, T: VectorWrite<P>> WriteAsOptional<Offset<List<P>>> for Vec<T
         AlwaysWritten (WritesList T.outcome T.Value.leaves P.SIZE P.ALIGNMENT items.items) old answer new };
 
     #[inline]
-    fn prepare(
-        &self,
-        builder: &mut Builder,
-    ) -> std::result::Result<Option<Offset<List<P>>>, BuildError> {
+    fn prepare(&self, builder: &mut Builder) -> Result<Option<Offset<List<P>>>, BuildError> {
         Ok(Some(WriteAsOffset::prepare(self, builder)?))
     }
 
     ghost is_lawful = { left_out_is_lawful (λ items. ⊥)
-        (list_is_lawful T.may T.outcome T.Value.reach T.is_lawful T.Value.leaves
-        P.SIZE P.ALIGNMENT (λ items. items.items)) };
+        (list_is_lawful P.SIZE P.ALIGNMENT (λ items. items.items) T.is_lawful) };
 }
 
 impl<P: Primitive, T: VectorWrite<P>> WriteAsDefault<Offset<List<P>>, ()> for Vec<T> {
@@ -65,7 +60,7 @@ impl<P: Primitive, T: VectorWrite<P>> WriteAsDefault<Offset<List<P>>, ()> for Ve
         &self,
         builder: &mut Builder,
         _default: &(),
-    ) -> std::result::Result<Option<Offset<List<P>>>, BuildError> {
+    ) -> Result<Option<Offset<List<P>>>, BuildError> {
         if self.is_empty() {
             return Ok(None);
         }
@@ -74,8 +69,7 @@ impl<P: Primitive, T: VectorWrite<P>> WriteAsDefault<Offset<List<P>>, ()> for Ve
 
     ghost is_lawful = { λ default.
         left_out_is_lawful (λ items. items.items ≡ [])
-        (list_is_lawful T.may T.outcome T.Value.reach T.is_lawful T.Value.leaves
-        P.SIZE P.ALIGNMENT (λ items. items.items)) };
+        (list_is_lawful P.SIZE P.ALIGNMENT (λ items. items.items) T.is_lawful) };
 }
 
 impl<T, U: WriteAsUnion<T>> WriteAsDefaultUnionVector<T> for Vec<U> {
@@ -85,10 +79,7 @@ impl<T, U: WriteAsUnion<T>> WriteAsDefaultUnionVector<T> for Vec<U> {
         LeftOutWhere (items.items ≡ []) (WritesUnionVector U.outcome items.items) old answer new };
 
     #[inline]
-    fn prepare(
-        &self,
-        builder: &mut Builder,
-    ) -> std::result::Result<Option<UnionVectorOffset<T>>, BuildError> {
+    fn prepare(&self, builder: &mut Builder) -> Result<Option<UnionVectorOffset<T>>, BuildError> {
         if self.is_empty() {
             return Ok(None);
         }
@@ -109,10 +100,7 @@ impl<T, U: WriteAsUnion<T>> WriteAsOptionalUnionVector<T> for Vec<U> {
         AlwaysWritten (WritesUnionVector U.outcome items.items) old answer new };
 
     #[inline]
-    fn prepare(
-        &self,
-        builder: &mut Builder,
-    ) -> std::result::Result<Option<UnionVectorOffset<T>>, BuildError> {
+    fn prepare(&self, builder: &mut Builder) -> Result<Option<UnionVectorOffset<T>>, BuildError> {
         match WriteAsUnionVector::prepare(self, builder) {
             Ok(vector) => Ok(Some(vector)),
             Err(error) => Err(error),

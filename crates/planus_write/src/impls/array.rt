@@ -19,13 +19,12 @@ impl<P: Primitive, T: VectorWrite<P>, const N: usize> WriteAsOffset<List<P>> for
         WritesList T.outcome T.Value.leaves P.SIZE P.ALIGNMENT items old answer new };
 
     #[inline]
-    fn prepare(&self, builder: &mut Builder) -> std::result::Result<Offset<List<P>>, BuildError> {
+    fn prepare(&self, builder: &mut Builder) -> Result<Offset<List<P>>, BuildError> {
         let array = &*self;
         write_list::<P, T>(builder, &array[..])
     }
 
-    ghost is_lawful = { list_is_lawful T.may T.outcome T.Value.reach T.is_lawful T.Value.leaves P.SIZE P.ALIGNMENT
-        (λ items. items) };
+    ghost is_lawful = { list_is_lawful P.SIZE P.ALIGNMENT (λ items. items) T.is_lawful };
 }
 
 impl<T, U: WriteAsUnion<T>, const N: usize> WriteAsUnionVector<T> for [U; N] {
@@ -35,10 +34,7 @@ impl<T, U: WriteAsUnion<T>, const N: usize> WriteAsUnionVector<T> for [U; N] {
         WritesUnionVector U.outcome items old answer new };
 
     #[inline]
-    fn prepare(
-        &self,
-        builder: &mut Builder,
-    ) -> std::result::Result<UnionVectorOffset<T>, BuildError> {
+    fn prepare(&self, builder: &mut Builder) -> Result<UnionVectorOffset<T>, BuildError> {
         let array = &*self;
         write_union_vector::<T, U>(builder, &array[..])
     }

@@ -13,7 +13,7 @@ impl<P, T: WriteAsOffset<P>> WriteAsOffset<P> for Box<T> {
     ghost outcome = { λ boxed old answer new. T.outcome boxed.value old answer new };
 
     #[inline]
-    fn prepare(&self, builder: &mut Builder) -> std::result::Result<Offset<P>, BuildError> {
+    fn prepare(&self, builder: &mut Builder) -> Result<Offset<P>, BuildError> {
         (**self).prepare(builder)
     }
 
@@ -26,7 +26,7 @@ impl<P, T: WriteAsUnion<P>> WriteAsUnion<P> for Box<T> {
     ghost outcome = { λ boxed old answer new. T.outcome boxed.value old answer new };
 
     #[inline]
-    fn prepare(&self, builder: &mut Builder) -> std::result::Result<UnionOffset<P>, BuildError> {
+    fn prepare(&self, builder: &mut Builder) -> Result<UnionOffset<P>, BuildError> {
         (**self).prepare(builder)
     }
 

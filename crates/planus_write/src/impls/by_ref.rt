@@ -30,7 +30,7 @@ impl<'a, P, T: WriteAsOffset<P>> WriteAsOffset<P> for ByRef<'a, T> {
     ghost outcome = { λ by_ref old answer new. T.outcome by_ref.0.now old answer new };
 
     #[inline]
-    fn prepare(&self, builder: &mut Builder) -> std::result::Result<Offset<P>, BuildError> {
+    fn prepare(&self, builder: &mut Builder) -> Result<Offset<P>, BuildError> {
         let inner = self.0;
         inner.prepare(builder)
     }
@@ -55,7 +55,7 @@ impl<'a, P: Primitive, T: VectorWrite<P>> VectorWrite<P> for ByRef<'a, T> {
     }
 
     #[inline]
-    fn prepare(&self, builder: &mut Builder) -> std::result::Result<T::Value, BuildError> {
+    fn prepare(&self, builder: &mut Builder) -> Result<T::Value, BuildError> {
         let inner = self.0;
         inner.prepare(builder)
     }
@@ -76,7 +76,7 @@ impl<'a, P, T: WriteAsUnion<P>> WriteAsUnion<P> for ByRef<'a, T> {
     ghost outcome = { λ by_ref old answer new. T.outcome by_ref.0.now old answer new };
 
     #[inline]
-    fn prepare(&self, builder: &mut Builder) -> std::result::Result<UnionOffset<P>, BuildError> {
+    fn prepare(&self, builder: &mut Builder) -> Result<UnionOffset<P>, BuildError> {
         let inner = self.0;
         inner.prepare(builder)
     }
@@ -90,10 +90,7 @@ impl<'a, P, T: WriteAsUnionVector<P>> WriteAsUnionVector<P> for ByRef<'a, T> {
     ghost outcome = { λ by_ref old answer new. T.outcome by_ref.0.now old answer new };
 
     #[inline]
-    fn prepare(
-        &self,
-        builder: &mut Builder,
-    ) -> std::result::Result<UnionVectorOffset<P>, BuildError> {
+    fn prepare(&self, builder: &mut Builder) -> Result<UnionVectorOffset<P>, BuildError> {
         let inner = self.0;
         inner.prepare(builder)
     }

@@ -17,7 +17,7 @@ impl<'a> WriteAsOffset<List<u8>> for ByteList<'a> {
     ghost outcome = { λ list old answer new. WritesByteList list.0.now old answer new };
 
     #[inline]
-    fn prepare(&self, builder: &mut Builder) -> std::result::Result<Offset<List<u8>>, BuildError> {
+    fn prepare(&self, builder: &mut Builder) -> Result<Offset<List<u8>>, BuildError> {
         builder.write_byte_list(self)
     }
 
@@ -31,7 +31,7 @@ impl<'a> WriteAsOffset<List<i8>> for SignedList<'a> {
         WritesByteList (map (λ number. cast_unsigned w8 number) list.0.now) old answer new };
 
     #[inline]
-    fn prepare(&self, builder: &mut Builder) -> std::result::Result<Offset<List<i8>>, BuildError> {
+    fn prepare(&self, builder: &mut Builder) -> Result<Offset<List<i8>>, BuildError> {
         builder.write_byte_list(self)
     }
 

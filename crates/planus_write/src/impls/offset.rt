@@ -70,7 +70,7 @@ impl<T> VectorWrite<Offset<T>> for Offset<T> {
     }
 
     #[inline]
-    fn prepare(&self, builder: &mut Builder) -> std::result::Result<Offset<T>, BuildError> {
+    fn prepare(&self, builder: &mut Builder) -> Result<Offset<T>, BuildError> {
         WriteAsOffset::<T>::prepare(self, builder)
     }
 
@@ -98,7 +98,7 @@ impl<T> WriteAsOffset<T> for Offset<T> {
     ghost is_lawful = { offset_is_lawful };
 
     #[inline]
-    fn prepare(&self, _builder: &mut Builder) -> std::result::Result<Offset<T>, BuildError> {
+    fn prepare(&self, _builder: &mut Builder) -> Result<Offset<T>, BuildError> {
         Ok(*self)
     }
 }

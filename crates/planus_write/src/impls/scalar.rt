@@ -53,7 +53,7 @@ impl<S: ScalarItem> VectorWrite<S> for S {
     }
 
     #[inline]
-    fn prepare(&self, _builder: &mut Builder) -> std::result::Result<S, BuildError> {
+    fn prepare(&self, _builder: &mut Builder) -> Result<S, BuildError> {
         Ok(*self)
     }
 

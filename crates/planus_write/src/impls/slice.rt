@@ -19,13 +19,12 @@ impl<'a, P: Primitive, T: VectorWrite<P>> WriteAsOffset<List<P>> for &'a [T] {
         WritesList T.outcome T.Value.leaves P.SIZE P.ALIGNMENT items.now old answer new };
 
     #[inline]
-    fn prepare(&self, builder: &mut Builder) -> std::result::Result<Offset<List<P>>, BuildError> {
+    fn prepare(&self, builder: &mut Builder) -> Result<Offset<List<P>>, BuildError> {
         let items = *self;
         write_list::<P, T>(builder, items)
     }
 
-    ghost is_lawful = { list_is_lawful T.may T.outcome T.Value.reach T.is_lawful T.Value.leaves P.SIZE P.ALIGNMENT
-        (λ items. items.now) };
+    ghost is_lawful = { list_is_lawful P.SIZE P.ALIGNMENT (λ items. items.now) T.is_lawful };
 }
 
 impl<'a, T, U: WriteAsUnion<T>> WriteAsUnionVector<T> for &'a [U] {
@@ -35,10 +34,7 @@ impl<'a, T, U: WriteAsUnion<T>> WriteAsUnionVector<T> for &'a [U] {
         WritesUnionVector U.outcome items.now old answer new };
 
     #[inline]
-    fn prepare(
-        &self,
-        builder: &mut Builder,
-    ) -> std::result::Result<UnionVectorOffset<T>, BuildError> {
+    fn prepare(&self, builder: &mut Builder) -> Result<UnionVectorOffset<T>, BuildError> {
         let items = *self;
         write_union_vector::<T, U>(builder, items)
     }

@@ -17,7 +17,7 @@ impl<'a> WriteAsOffset<Text> for &'a str {
     ghost outcome = { λ text old answer new. WritesText text.now old answer new };
 
     #[inline]
-    fn prepare(&self, builder: &mut Builder) -> std::result::Result<Offset<Text>, BuildError> {
+    fn prepare(&self, builder: &mut Builder) -> Result<Offset<Text>, BuildError> {
         let text = *self;
         builder.write_text(text)
     }
@@ -42,7 +42,7 @@ impl<'a> VectorWrite<Offset<Text>> for &'a str {
     }
 
     #[inline]
-    fn prepare(&self, builder: &mut Builder) -> std::result::Result<Offset<Text>, BuildError> {
+    fn prepare(&self, builder: &mut Builder) -> Result<Offset<Text>, BuildError> {
         WriteAsOffset::prepare(self, builder)
     }
 

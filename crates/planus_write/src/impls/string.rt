@@ -17,7 +17,7 @@ impl WriteAsOffset<Text> for String {
     ghost outcome = { λ text old answer new. WritesText (string_bytes text) old answer new };
 
     #[inline]
-    fn prepare(&self, builder: &mut Builder) -> std::result::Result<Offset<Text>, BuildError> {
+    fn prepare(&self, builder: &mut Builder) -> Result<Offset<Text>, BuildError> {
         builder.write_text(self.as_str())
     }
 
@@ -39,7 +39,7 @@ impl VectorWrite<Offset<Text>> for String {
     }
 
     #[inline]
-    fn prepare(&self, builder: &mut Builder) -> std::result::Result<Offset<Text>, BuildError> {
+    fn prepare(&self, builder: &mut Builder) -> Result<Offset<Text>, BuildError> {
         WriteAsOffset::prepare(self, builder)
     }
 

@@ -14,7 +14,7 @@ impl<T> WriteAsUnion<T> for UnionOffset<T> {
     ghost outcome = { Answers };
 
     #[inline]
-    fn prepare(&self, _builder: &mut Builder) -> std::result::Result<UnionOffset<T>, BuildError> {
+    fn prepare(&self, _builder: &mut Builder) -> Result<UnionOffset<T>, BuildError> {
         Ok(*self)
     }
 

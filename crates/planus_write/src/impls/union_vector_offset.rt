@@ -15,10 +15,7 @@ impl<T> WriteAsUnionVector<T> for UnionVectorOffset<T> {
     ghost outcome = { Answers };
 
     #[inline]
-    fn prepare(
-        &self,
-        _builder: &mut Builder,
-    ) -> std::result::Result<UnionVectorOffset<T>, BuildError> {
+    fn prepare(&self, _builder: &mut Builder) -> Result<UnionVectorOffset<T>, BuildError> {
         Ok(*self)
     }
 

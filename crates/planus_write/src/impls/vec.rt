@@ -19,12 +19,11 @@ impl<P: Primitive, T: VectorWrite<P>> WriteAsOffset<List<P>> for Vec<T> {
         WritesList T.outcome T.Value.leaves P.SIZE P.ALIGNMENT items.items old answer new };
 
     #[inline]
-    fn prepare(&self, builder: &mut Builder) -> std::result::Result<Offset<List<P>>, BuildError> {
+    fn prepare(&self, builder: &mut Builder) -> Result<Offset<List<P>>, BuildError> {
         write_list::<P, T>(builder, self.as_slice())
     }
 
-    ghost is_lawful = { list_is_lawful T.may T.outcome T.Value.reach T.is_lawful T.Value.leaves P.SIZE P.ALIGNMENT
-        (λ items. items.items) };
+    ghost is_lawful = { list_is_lawful P.SIZE P.ALIGNMENT (λ items. items.items) T.is_lawful };
 }
 
 impl<T, U: WriteAsUnion<T>> WriteAsUnionVector<T> for Vec<U> {
@@ -34,10 +33,7 @@ impl<T, U: WriteAsUnion<T>> WriteAsUnionVector<T> for Vec<U> {
         WritesUnionVector U.outcome items.items old answer new };
 
     #[inline]
-    fn prepare(
-        &self,
-        builder: &mut Builder,
-    ) -> std::result::Result<UnionVectorOffset<T>, BuildError> {
+    fn prepare(&self, builder: &mut Builder) -> Result<UnionVectorOffset<T>, BuildError> {
         write_union_vector::<T, U>(builder, self.as_slice())
     }
 
