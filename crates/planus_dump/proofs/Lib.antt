@@ -1,3 +1,8 @@
 mod Matching
 mod Answering
 mod Feeds
+mod FaultLines
+mod Written
+mod Leaves
+mod NoFaults
+mod CleanDumps

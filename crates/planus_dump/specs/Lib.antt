@@ -6,3 +6,6 @@ pub mod Events
 pub mod Seeing
 pub mod Shown
 pub mod Dumped
+pub mod FaultLines
+pub mod Describes
+pub mod Laws

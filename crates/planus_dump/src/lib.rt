@@ -5,6 +5,7 @@
 mod dumps;
 mod fits;
 mod items;
+pub mod laws;
 mod output;
 mod readings;
 mod schemas;
