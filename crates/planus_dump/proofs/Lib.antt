@@ -6,3 +6,4 @@ mod Written
 mod Leaves
 mod NoFaults
 mod CleanDumps
+mod WorkedRows

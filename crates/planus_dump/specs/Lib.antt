@@ -9,3 +9,4 @@ pub mod Dumped
 pub mod FaultLines
 pub mod Describes
 pub mod Laws
+pub mod Shapes

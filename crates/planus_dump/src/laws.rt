@@ -2,6 +2,8 @@
 
 ghost use Rattle.std.specs.Prelude.{List, ℕ};
 ghost use Rattle.planus_dump.specs.FaultLines.{HasNoSpace};
+ghost use Rattle.planus_dump.specs.Shapes.{WorkedRowsFit};
+ghost use Rattle.planus_dump.specs.declared.schemas.Schema as schema;
 ghost use Rattle.planus_dump.specs.Laws.{FaultLinesAreTold, FinishesHaveNoFault, DumpsHaveNoFault};
 
 /// Which lines are those of a reader's fault is told by the line alone: at a path without spaces,
@@ -16,4 +18,10 @@ pub fn fault_lines_are_told()
 pub fn finishes_have_no_fault()
     ensures events { FinishesHaveNoFault }
     ensures lines { DumpsHaveNoFault }
+{}
+
+/// The schema of the worked rows fits the steps that write a weapon and a monster, and none with a
+/// field of another size or kind.
+pub fn worked_rows_fit()
+    ensures { (one : schema.Schema) → WorkedRowsFit one }
 {}
