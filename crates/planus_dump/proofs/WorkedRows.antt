@@ -1,19 +1,17 @@
 -- The worked rows fit.
-use Rattle.std.proofs.Common.{◌≡◌, ℕ, zero, suc, List, [], ◌∷◌, map, refl, sym, ap, ◌∙◌, subst, Option, Some, None}
+use Rattle.std.proofs.Common.{◌≡◌, ℕ, suc, List, [], ◌∷◌, map, refl, sym, ap, ◌∙◌, subst, Option, Some, None}
 use Rattle.std.specs.Prelude.{slice_get, Vec}
-use Rattle.std.specs.Option.{option_map}
 use Rattle.std.specs.List.{AllByRecursion}
 use Rattle.std.specs.declared.alloc.Global.{Global}
 use Rattle.std.proofs.lemmas.Option.{slice_get-map}
 use Rattle.planus.specs.Steps.{Step, FieldStep, table}
 use Rattle.planus.proofs.Lists.{made_of, all_unmapped}
 use Rattle.planus_dump.specs.Dumped.{greatest_depth}
-use Rattle.planus_dump.specs.Describes.{HasKind, IsTableOf, Describes, Fits, held_at, IsTagged, IsVariant}
+use Rattle.planus_dump.specs.Describes.{HasKind, IsTableOf, Describes, Fits, IsTagged, IsVariant}
 use Rattle.planus_dump.specs.Events.{variant_of}
 use Rattle.planus_dump.specs.Shapes.{FieldShape, field_shape, TableShape, table_shape, HasShape, weapon_shape, monster_shape, worked_tables, worked_unions, worked_steps, wide_steps, unnamed_steps, WorkedRowsFit}
 use Rattle.planus_dump.specs.declared.schemas.Schema.{Schema}
 use Rattle.planus_dump.specs.declared.schemas.TableSchema.{TableSchema}
-use Rattle.planus_dump.specs.declared.schemas.FieldSchema.{FieldSchema}
 use Rattle.planus_dump.specs.declared.schemas.Kind.TheVariants.{One}
 use Rattle.planus_dump.specs.declared.schemas.Item.TheVariants.{Text, I16}
 

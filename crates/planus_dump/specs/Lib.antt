@@ -10,3 +10,4 @@ pub mod FaultLines
 pub mod Describes
 pub mod Laws
 pub mod Shapes
+pub mod Runs

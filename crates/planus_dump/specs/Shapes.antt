@@ -1,5 +1,5 @@
 -- Schemas without where their names and lists lie in memory, and those of the worked rows.
-use Rattle.std.specs.Prelude.{◌≡◌, ℕ, List, [], ◌∷◌, map, codes, Option, None}
+use Rattle.std.specs.Prelude.{◌≡◌, ℕ, List, [], ◌∷◌, map, codes, None}
 use Rattle.std.specs.String.{string_bytes}
 use Rattle.planus.specs.Steps.{Step, text, bytes, refs, unions, table, finish, root_first}
 use Rattle.planus.specs.Steps.{number_field, ref_field, tags_field, values_field}
@@ -10,7 +10,7 @@ use Rattle.planus_dump.specs.declared.schemas.FieldSchema.{FieldSchema}
 use Rattle.planus_dump.specs.declared.schemas.Kind.{Kind}
 use Rattle.planus_dump.specs.declared.schemas.Kind.TheVariants.{One, List as ListOf, Union}
 use Rattle.planus_dump.specs.declared.schemas.Kind.TheVariants.{UnionVector, Bytes}
-use Rattle.planus_dump.specs.declared.schemas.Item.TheVariants.{I16, I32, Text, Table}
+use Rattle.planus_dump.specs.declared.schemas.Item.TheVariants.{I16, Text, Table}
 
 -- a field: its slot, its name and its kind
 pub record FieldShape : Type 0 where
