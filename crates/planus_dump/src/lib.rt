@@ -15,5 +15,6 @@ mod values;
 mod walk;
 
 pub use dumps::{DumpError, dump};
+pub use output::push_hex;
 pub use runs::{DumpRunError, dump_run};
 pub use schemas::{FieldSchema, Item, Kind, Schema, TableSchema};
