@@ -1,10 +1,10 @@
 -- What the program prints for the bytes of a script.
-use Rattle.std.specs.Prelude.{◌≡◌, ℕ, ◌≤◌, ◌/◌, ◌%◌, Bool, true, false, nat_lt, List, [], ◌∷◌, ◌++◌}
+use Rattle.std.specs.Prelude.{◌≡◌, ℕ, ◌≤◌, Bool, true, false, nat_lt, List, [], ◌∷◌, ◌++◌}
 use Rattle.std.specs.Prelude.{map, length, slice_get, Some, Result, Ok, Err, codes, ◌⊎◌}
 use Rattle.std.specs.Bool.{MatchBool}
 use Rattle.std.specs.List.{flat_map, join_with_byte}
-use Rattle.std.specs.Char.{digit_char}
 use Rattle.std.specs.Fmt.{decimal}
+use Rattle.planus_dump.specs.Lines.{hex_of}
 use Rattle.planus_demo.specs.Script.{Read, script_of}
 use Rattle.planus_write.specs.Shared.{all_on}
 use Rattle.planus.specs.Runs.{Finish}
@@ -18,10 +18,6 @@ use Rattle.planus.specs.declared.faults.ReplayError.TheVariants.{OutOfMemory, To
 -- No script is longer, in bytes.
 abbrev pub greatest_script : ℕ
 greatest_script = 1048576
-
--- two hexadecimal digits of a byte, in lower case
-abbrev pub hex_of : ℕ → List ℕ
-hex_of byte = digit_char (byte / 16) ∷ digit_char (byte % 16) ∷ []
 
 -- a line of bytes, with one space between them
 abbrev pub hex_line : List ℕ → List ℕ

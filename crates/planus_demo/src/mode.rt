@@ -1,6 +1,9 @@
 //! What the words behind the program's name choose.
-ghost use Rattle.std.specs.Prelude.{map};
+ghost use Rattle.std.specs.Prelude.{◌≡◌, map, IfOk};
 ghost use Rattle.std.specs.String.{string_bytes};
+ghost use Rattle.planus_dump.specs.Shapes.{field_shape, field_of, table_shape, HasShape};
+ghost use Rattle.planus_dump.specs.Shapes.{weapon_shape, monster_shape, worked_tables};
+ghost use Rattle.planus_dump.specs.Shapes.{worked_unions};
 ghost use Rattle.planus_demo.specs.ModeWords.{IsMode};
 
 use crate::modes::Mode;
@@ -23,12 +26,17 @@ pub fn mode(words: &[String]) -> Option<Mode>
     }
 }
 
-fn field(alloc: Global, slot: usize, name: &str, kind: Kind) -> Result<FieldSchema, AllocError> {
+/// Returns a field.
+pub fn field(alloc: Global, slot: usize, name: &str, kind: Kind) -> Result<FieldSchema, AllocError>
+    ensures { IfOk result (λ field. field_shape field ≡ field_of slot name.now kind) }
+{
     let name = String::from_str(alloc, name)?;
     Ok(FieldSchema { slot, name, kind })
 }
 
-fn weapon(alloc: Global) -> Result<TableSchema, AllocError> {
+fn weapon(alloc: Global) -> Result<TableSchema, AllocError>
+    ensures { IfOk result (λ table. table_shape table ≡ weapon_shape) }
+{
     let mut fields = Vec::new(alloc);
     fields.push(field(alloc, 0, "name", Kind::One(Item::Text))?)?;
     fields.push(field(alloc, 1, "damage", Kind::One(Item::I16))?)?;
@@ -36,7 +44,9 @@ fn weapon(alloc: Global) -> Result<TableSchema, AllocError> {
     Ok(TableSchema { name, fields })
 }
 
-fn monster(alloc: Global) -> Result<TableSchema, AllocError> {
+fn monster(alloc: Global) -> Result<TableSchema, AllocError>
+    ensures { IfOk result (λ table. table_shape table ≡ monster_shape) }
+{
     let mut fields = Vec::new(alloc);
     fields.push(field(alloc, 0, "hp", Kind::One(Item::I16))?)?;
     fields.push(field(alloc, 1, "name", Kind::One(Item::Text))?)?;
@@ -50,7 +60,9 @@ fn monster(alloc: Global) -> Result<TableSchema, AllocError> {
 
 /// Returns the schema of weapons and monsters, with a root of this position: 0 is a weapon, and 1 a
 /// monster. A union has one variant, a weapon with tag 1.
-pub fn schema(alloc: Global, root: usize) -> Result<Schema, AllocError> {
+pub fn schema(alloc: Global, root: usize) -> Result<Schema, AllocError>
+    ensures { IfOk result (λ schema. HasShape schema worked_tables worked_unions root) }
+{
     let mut tables = Vec::new(alloc);
     tables.push(weapon(alloc)?)?;
     tables.push(monster(alloc)?)?;

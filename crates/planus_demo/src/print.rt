@@ -1,34 +1,15 @@
 //! What is printed of a script.
-ghost use Rattle.std.specs.Prelude.{◌≡◌, ◌<◌, ◌/◌, ◌%◌, ◌++◌, ◌∷◌, [], map, length, IfOk, OnOk};
+ghost use Rattle.std.specs.Prelude.{◌≡◌, ◌++◌, map, length, IfOk, OnOk};
 ghost use Rattle.std.specs.Prelude.{is_ok};
 ghost use Rattle.std.specs.List.{join_with_byte, flat_map};
-ghost use Rattle.std.specs.Char.{digit_char};
 ghost use Rattle.std.specs.String.{string_bytes};
 ghost use Rattle.planus.specs.Replays.{finish_given, given_by};
-ghost use Rattle.planus_demo.specs.Printed.{hex_of, hex_line};
+ghost use Rattle.planus_demo.specs.Printed.{hex_line};
 ghost use Rattle.planus_demo.specs.Outputs.{NamesStep, PrintsAnswerOr};
 
 use planus::{Finished, ReplayError};
+use planus_dump::push_hex;
 use std::alloc::{AllocError, Global};
-
-fn push_hex(text: &mut String, byte: u8) -> Result<(), AllocError>
-    ensures { OnOk result (string_bytes text.new ≡ string_bytes text.old ++ hex_of byte) }
-{
-    text.push(hex_digit(byte / 16))?;
-    text.push(hex_digit(byte % 16))?;
-    Ok(())
-}
-
-fn hex_digit(value: u8) -> char
-    requires { value < 16 }
-    ensures digit { result ≡ digit_char value }
-    ensures ascii { result < 128 }
-{
-    match char::from_digit(u32::from(value), 16) {
-        Some(digit) => digit,
-        None => unreachable!(),
-    }
-}
 
 /// A line of bytes, with one space between them.
 fn push_line(text: &mut String, bytes: &[u8]) -> Result<(), AllocError>

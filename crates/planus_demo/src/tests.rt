@@ -9,16 +9,32 @@ mod other_builders;
 mod scripts;
 mod weapon;
 
+use crate::dump_run::run_dump;
 use crate::run::{RunError, run, status};
 use crate::script::{Script, parse};
 use planus::errors::ErrorKind;
 use planus::{
     BuildError, Builder, Caches, Error, Finished, Offset, SliceWithStartOffset, TableRead, replay,
 };
+use planus_dump::Schema;
 use std::alloc::Global;
+use std::io::{Read, Write};
 
 // Most tests lend what they own to functions that compare and return what they found: a function
 // that owns a builder or a list, or that asserts often, is proved slowly.
+
+// What a run answers, or with a schema a dump.
+fn answers<R: Read, W: Write>(
+    alloc: Global,
+    schema: Option<&Schema>,
+    reader: &mut R,
+    writer: &mut W,
+) -> Result<bool, RunError> {
+    match schema {
+        None => run(alloc, reader, writer),
+        Some(schema) => run_dump(alloc, schema, reader, writer),
+    }
+}
 
 // What a run over a script answers, and how many bytes of the script it leaves unread. It adds what
 // it prints.

@@ -94,7 +94,7 @@ text_rest S f = clause (ZeroByte S (items_at S f) (count_at S f)) MissingNullTer
 text_rest_tests : List ℕ → ℕ → List Test
 text_rest_tests S f = test (is_zero_byte S (items_at S f + count_at S f)) MissingNullTerminator ∷ record { passes = is_utf8 (content_at S f); fault = codes "Invalid utf-8" } ∷ []
 
-text_matches : (S : List ℕ) (f : ℕ) → Matches (text_clauses S f) (text_tests S f)
+pub text_matches : (S : List ℕ) (f : ℕ) → Matches (text_clauses S f) (text_tests S f)
 unfolding text_rest text_rest_tests
 text_matches S f = head_matches S f (text_rest S f) (text_rest_tests S f) (zero_match S (items_at S f) (count_at S f), (utf8_match (content_at S f), tt))
 
@@ -124,7 +124,7 @@ text_answer S f (Ok text) (content, there, is) =
 text_answer S f (Err e) h = sym (first_fails (text_clauses S f) (text_tests S f) (quoted (content_at S f)) e (text_matches S f) h)
 
 -- tables
-table_matches : (S : List ℕ) (f : ℕ) → Matches (table_clauses S f) (table_tests S f)
+pub table_matches : (S : List ℕ) (f : ℕ) → Matches (table_clauses S f) (table_tests S f)
 table_matches S f = let o = target S f in let size = vtable_size_at S o in (
   le_match (f + 4) (length S) InvalidOffset,
   (
@@ -277,7 +277,7 @@ union_vector_rest_tests S f g =
     test (nat_le (items_at S f + count_at S f) (length S)) InvalidLength ∷ test (nat_le (items_at S g + count_at S g * 4) (length S)) InvalidLength
     ∷ test (count_at S f == count_at S g) (UnionVectorLengthsMismatched (count_at S f) (count_at S g)) ∷ []
 
-union_vector_matches : (S : List ℕ) (f g : ℕ) → Matches (union_vector_clauses S f g) (union_vector_tests S f g)
+pub union_vector_matches : (S : List ℕ) (f g : ℕ) → Matches (union_vector_clauses S f g) (union_vector_tests S f g)
 unfolding union_vector_rest union_vector_rest_tests
 union_vector_matches S f g =
     head_matches S f (head_clauses S g (union_vector_rest S f g)) (head_tests S g (union_vector_rest_tests S f g)) (head_matches S g (union_vector_rest S f g) (union_vector_rest_tests S f g) (

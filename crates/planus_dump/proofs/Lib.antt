@@ -1,3 +1,9 @@
 mod Matching
 mod Answering
 mod Feeds
+mod FaultLines
+mod Written
+mod Leaves
+mod NoFaults
+mod CleanDumps
+mod WorkedRows

@@ -6,3 +6,8 @@ pub mod Events
 pub mod Seeing
 pub mod Shown
 pub mod Dumped
+pub mod FaultLines
+pub mod Describes
+pub mod Laws
+pub mod Shapes
+pub mod Runs

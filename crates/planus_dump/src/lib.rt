@@ -5,12 +5,16 @@
 mod dumps;
 mod fits;
 mod items;
+pub mod laws;
 mod output;
 mod readings;
+mod runs;
 mod schemas;
 mod unions;
 mod values;
 mod walk;
 
 pub use dumps::{DumpError, dump};
+pub use output::push_hex;
+pub use runs::{DumpRunError, dump_run};
 pub use schemas::{FieldSchema, Item, Kind, Schema, TableSchema};

@@ -156,8 +156,8 @@ fn hex_digit(value: u8) -> char
     }
 }
 
-/// Adds the two hexadecimal digits of a byte.
-fn push_hex(text: &mut String, byte: u8) -> Result<(), AllocError>
+/// Adds the two hexadecimal digits of a byte, in lower case.
+pub fn push_hex(text: &mut String, byte: u8) -> Result<(), AllocError>
     ensures { OnOk result (string_bytes text.new ≡ string_bytes text.old ++ hex_of byte) }
 {
     text.push(hex_digit(byte / 16))?;

@@ -4,6 +4,7 @@ mod buffers;
 mod damage;
 mod deep;
 mod schemas;
+mod steps;
 
 use planus_dump::{DumpError, FieldSchema, Item, Kind, Schema, TableSchema, dump};
 use std::alloc::{AllocError, Global};
@@ -68,7 +69,7 @@ pub fn schema_of(
     })
 }
 
-fn are_lines(lines: &[String], expected: &[&str]) -> bool {
+pub fn are_lines(lines: &[String], expected: &[&str]) -> bool {
     for (line, text) in lines.iter().zip(expected) {
         if line.as_str() != *text {
             return false;

@@ -1,9 +1,25 @@
 //! Dumps of lines of bytes.
 
-use crate::dump_run::run_dump;
-use crate::mode::{mode, schema};
+use super::answers;
+use super::long_scripts::{end_line, push_bytes, push_references, push_text, push_word};
+use super::no_memory::gives_without_memory;
+use crate::mode::{field, mode, schema};
 use crate::modes::Mode;
-use std::alloc::Global;
+use crate::run::RunError;
+use planus_dump::{Item, Kind, Schema, TableSchema};
+use std::alloc::{AllocError, Global};
+use std::test::Fail;
+
+// What the dump of an input answers. It adds what it prints.
+fn dumped(
+    alloc: Global,
+    schema: &Schema,
+    input: &[u8],
+    printed: &mut Vec<u8>,
+) -> Result<bool, RunError> {
+    let mut reader = input;
+    answers(alloc, Some(schema), &mut reader, printed)
+}
 
 // Whether the dump of an input by the schema with this root prints this, and tells by its answer
 // whether it is a dump.
@@ -11,9 +27,8 @@ fn dumps(alloc: Global, root: usize, input: &[u8], printed: &[u8], clean: bool) 
     let Ok(schema) = schema(alloc, root) else {
         return false;
     };
-    let mut reader = input;
     let mut writer = Vec::new(alloc);
-    let answer = run_dump(alloc, &schema, &mut reader, &mut writer);
+    let answer = dumped(alloc, &schema, input, &mut writer);
     answer == Ok(clean) && writer.as_slice() == printed
 }
 
@@ -67,4 +82,130 @@ fn modes(rt: HostRuntime) {
     for (word, expected) in rows {
         assert!(rt; chooses(rt.alloc(), word, expected));
     }
+}
+
+// The schema of a table with the next one in slot 0, and names in slot 1.
+fn nodes(alloc: Global) -> Result<Schema, AllocError> {
+    let mut fields = Vec::new(alloc);
+    fields.push(field(alloc, 0, "next", Kind::One(Item::Table(0)))?)?;
+    fields.push(field(alloc, 1, "names", Kind::List(Item::Text))?)?;
+    let name = String::from_str(alloc, "Node")?;
+    let mut tables = Vec::new(alloc);
+    tables.push(TableSchema { name, fields })?;
+    Ok(Schema {
+        tables,
+        unions: Vec::new(alloc),
+        root: 0,
+    })
+}
+
+// Adds the line of a chain of so many tables of 8 bytes, which the vtable follows. To that the last
+// of them refers as to its next one.
+fn push_chain(input: &mut Vec<u8>, tables: u32) -> Result<(), AllocError> {
+    push_word(input, 4)?;
+    for i in 0..tables {
+        let behind = (tables - i).wrapping_mul(8);
+        push_word(input, 0u32.wrapping_sub(behind) as usize)?;
+        push_word(input, 4)?;
+    }
+    push_bytes(input, b"\x06\0\x08\0\x04\0")?;
+    end_line(input)
+}
+
+// Adds the line of a table with so many names, each of which is one text of so many letters.
+fn push_names(input: &mut Vec<u8>, names: usize, letters: usize) -> Result<(), AllocError> {
+    push_bytes(
+        input,
+        b"\x04\0\0\0\xf8\xff\xff\xff\x0c\0\0\0\x08\0\x08\0\0\0\x04\0",
+    )?;
+    push_word(input, names)?;
+    push_references(input, names)?;
+    push_text(input, letters)
+}
+
+// What an input is made of.
+#[derive(Clone, Copy)]
+enum Input {
+    // A chain of so many tables.
+    Chain(u32),
+    // A table with so many names of so many letters.
+    Names(usize, usize),
+    // So many digits.
+    Zeros(usize),
+}
+
+fn input_of(alloc: Global, parts: Input) -> Result<Vec<u8>, AllocError> {
+    let mut input = match parts {
+        Input::Zeros(count) => vec![in alloc; b'0'; count]?,
+        _ => Vec::new(alloc),
+    };
+    match parts {
+        Input::Chain(tables) => push_chain(&mut input, tables)?,
+        Input::Names(names, letters) => push_names(&mut input, names, letters)?,
+        Input::Zeros(_) => {}
+    }
+    Ok(input)
+}
+
+// Whether the dump of an input tells by its answer whether it is one, and prints so many bytes, of
+// which these are the first.
+fn begins(
+    alloc: Global,
+    schema: &Schema,
+    input: &[u8],
+    clean: bool,
+    (len, first): (usize, &[u8]),
+) -> bool {
+    let mut printed = Vec::new(alloc);
+    let answer = dumped(alloc, schema, input, &mut printed);
+    answer == Ok(clean) && printed.len() == len && printed.get(..first.len()) == Some(first)
+}
+
+// The table below 64 others lies too deep. There may be 10000 lines, and 1048576 bytes of input.
+#[test]
+fn limits(rt: HostRuntime) -> Result<(), Fail> {
+    let schema = nodes(rt.alloc())?;
+    let first: &[u8] = b"root: table Node\nroot.names: list 9998\nroot.names[0] = \"abc\"\n";
+    let rows: [(Input, bool, (usize, &[u8])); 5] = [
+        (Input::Chain(64), false, (9, b"too deep\n")),
+        (Input::Names(9998, 3), true, (248879, first)),
+        (Input::Names(9999, 3), false, (15, b"too many lines\n")),
+        (Input::Zeros(1048576), false, (8, b"bad hex\n")),
+        (Input::Zeros(1048577), false, (16, b"script too long\n")),
+    ];
+    for (parts, clean, printed) in rows {
+        let input = input_of(rt.alloc(), parts)?;
+        assert!(rt; begins(rt.alloc(), &schema, input.as_slice(), clean, printed));
+    }
+    Ok(())
+}
+
+// Without memory nothing is read. The input, and `out of memory`, fit in 4 MiB, and the lines don't.
+#[test]
+fn refused_memory(rt: HostRuntime) -> Result<(), Fail> {
+    let schema = nodes(rt.alloc())?;
+    let input = input_of(rt.alloc(), Input::Names(9000, 1003))?;
+    for (spare, want, text) in [
+        (0, (Err(RunError::OutOfMemory), 2), ""),
+        (4194304, (Ok(false), 1), "out of memory\n"),
+    ] {
+        let (exhausted, refused) = gives_without_memory(
+            rt.alloc(),
+            Some(&schema),
+            input.as_slice(),
+            spare,
+            want,
+            text,
+        )?;
+        if !exhausted {
+            println!(rt; "memory was left: this test does not apply")?;
+        }
+        assert!(rt; refused || !exhausted, "with {spare} bytes");
+    }
+    let printed = (9223929, b"root: table Node\n".as_slice());
+    assert!(rt;
+        begins(rt.alloc(), &schema, input.as_slice(), true, printed),
+        "again"
+    );
+    Ok(())
 }

@@ -1,16 +1,21 @@
 //! Readers and writers of which one call fails, is interrupted, or gives nothing.
 
-use super::ran;
-use crate::run::{RunError, run, status};
+use super::{answers, ran};
+use crate::mode::schema;
+use crate::run::{RunError, status};
+use planus_dump::Schema;
 use std::alloc::Global;
 use std::io;
 use std::io::{Error, ErrorKind, Read, Write};
+use std::test::Fail;
 
-// A weapon's script, and what it prints.
+// A weapon's script, what it prints, and the dump of that.
 pub const SCRIPT: &[u8] = b"text Axe\ntable 0=ref:0 1=u16:24\nfinish 1\n";
 
 pub const PRINTED: &[u8] = b"04 00 00 00 f4 ff ff ff 10 00 00 00 18 00 00 00 \
     08 00 0a 00 04 00 08 00 03 00 00 00 41 78 65 00\n";
+
+const DUMPED: &[u8] = b"root: table Weapon\nroot.name = \"Axe\"\nroot.damage = 24\n";
 
 /// What a call does in place of its work.
 #[derive(Clone, Copy)]
@@ -58,33 +63,39 @@ impl<'a> Read for OddReader<'a> {
     }
 }
 
-// What a run answers whose k-th read does something else. It adds what it prints.
-fn ran_oddly(alloc: Global, k: usize, odd: Odd, printed: &mut Vec<u8>) -> Result<bool, RunError> {
+// What a weapon's run answers, or with a schema its dump, whose k-th read does something else. It
+// adds what it prints.
+fn ran_oddly(
+    alloc: Global,
+    schema: Option<&Schema>,
+    (k, odd): (usize, Odd),
+    printed: &mut Vec<u8>,
+) -> Result<bool, RunError> {
     let mut reader = OddReader {
-        bytes: SCRIPT,
+        bytes: if schema.is_some() { PRINTED } else { SCRIPT },
         left: k,
         odd,
     };
-    run(alloc, &mut reader, printed)
+    answers(alloc, schema, &mut reader, printed)
 }
 
 // Whether a run is clean whose k-th read does something else; none does for k of 0.
 fn is_clean(alloc: Global, k: usize, odd: Odd) -> bool {
     let mut printed = Vec::new(alloc);
-    ran_oddly(alloc, k, odd, &mut printed) == Ok(true) && printed.as_slice() == PRINTED
+    ran_oddly(alloc, None, (k, odd), &mut printed) == Ok(true) && printed.as_slice() == PRINTED
 }
 
 // Whether the error of the k-th read is answered, and nothing is written.
-fn reading_fails(alloc: Global, k: usize) -> bool {
+fn reading_fails(alloc: Global, schema: Option<&Schema>, k: usize) -> bool {
     let mut printed = Vec::new(alloc);
-    let answer = ran_oddly(alloc, k, Odd::Fails, &mut printed);
+    let answer = ran_oddly(alloc, schema, (k, Odd::Fails), &mut printed);
     answer == Err(RunError::Read) && status(&answer) == 2 && printed.is_empty()
 }
 
 // Whether a run goes as that of the script's first bytes, where the k-th read gives none.
 fn ends_early(alloc: Global, k: usize) -> bool {
     let (mut printed, mut want) = (Vec::new(alloc), Vec::new(alloc));
-    let answer = ran_oddly(alloc, k, Odd::GivesNothing, &mut printed);
+    let answer = ran_oddly(alloc, None, (k, Odd::GivesNothing), &mut printed);
     let first = SCRIPT.get(..k.wrapping_sub(1)).unwrap_or(SCRIPT);
     answer == ran(alloc, first, &mut want).0 && printed.as_slice() == want.as_slice()
 }
@@ -93,7 +104,7 @@ fn ends_early(alloc: Global, k: usize) -> bool {
 #[test]
 fn each_read_in_turn(rt: HostRuntime) {
     for k in 1..43 {
-        assert!(rt; reading_fails(rt.alloc(), k), "read {k} fails");
+        assert!(rt; reading_fails(rt.alloc(), None, k), "read {k} fails");
         assert!(rt; ends_early(rt.alloc(), k), "read {k} gives nothing");
         assert!(rt;
             is_clean(rt.alloc(), k, Odd::IsInterrupted),
@@ -138,22 +149,27 @@ impl Write for OddWriter {
     }
 }
 
-// Whether a run answers this whose k-th write does something else, and writes so many bytes.
+// Whether such a run, or dump, answers this whose k-th write does something else, and writes so many
+// bytes.
 fn writes(
     alloc: Global,
+    schema: Option<&Schema>,
     (k, odd, hands_on): (usize, Odd, bool),
     want: Result<bool, RunError>,
     count: usize,
 ) -> bool {
-    let mut reader = SCRIPT;
+    let (mut reader, printed) = match schema {
+        None => (SCRIPT, PRINTED),
+        Some(_) => (PRINTED, DUMPED),
+    };
     let mut writer = OddWriter {
         taken: Vec::new(alloc),
         left: k,
         odd,
         hands_on,
     };
-    let answer = run(alloc, &mut reader, &mut writer);
-    answer == want && PRINTED.get(..count) == Some(writer.taken.as_slice())
+    let answer = answers(alloc, schema, &mut reader, &mut writer);
+    answer == want && printed.get(..count) == Some(writer.taken.as_slice())
 }
 
 // Each of the line's 96 bytes is written by a call of its own.
@@ -163,22 +179,59 @@ fn each_write_in_turn(rt: HostRuntime) {
     for k in 1..97 {
         for odd in [Odd::Fails, Odd::GivesNothing] {
             assert!(rt;
-                writes(rt.alloc(), (k, odd, true), fails, k - 1),
+                writes(rt.alloc(), None, (k, odd, true), fails, k - 1),
                 "write {k}"
             );
         }
         assert!(rt;
-            writes(rt.alloc(), (k, Odd::IsInterrupted, true), Ok(true), 96),
+            writes(
+                rt.alloc(),
+                None,
+                (k, Odd::IsInterrupted, true),
+                Ok(true),
+                96
+            ),
             "write {k} is interrupted"
         );
     }
     assert!(rt;
-        writes(rt.alloc(), (97, Odd::Fails, true), Ok(true), 96),
+        writes(rt.alloc(), None, (97, Odd::Fails, true), Ok(true), 96),
         "none"
     );
     assert!(rt;
-        writes(rt.alloc(), (0, Odd::Fails, false), fails, 96),
+        writes(rt.alloc(), None, (0, Odd::Fails, false), fails, 96),
         "handed on"
     );
     assert!(rt; status(&fails) == 2, "the status");
+}
+
+// Each of a dump's 96 bytes is read by a call of its own, and one more call finds the end. Each of
+// the 54 bytes of its lines is written by a call of its own.
+#[test]
+fn each_end_of_a_dump(rt: HostRuntime) -> Result<(), Fail> {
+    let schema = schema(rt.alloc(), 0)?;
+    for k in 1..98 {
+        assert!(rt;
+            reading_fails(rt.alloc(), Some(&schema), k),
+            "read {k} fails"
+        );
+    }
+    for k in 0..55 {
+        let (want, count) = if k > 0 {
+            (Err(RunError::Write), k - 1)
+        } else {
+            (Ok(true), 54)
+        };
+        assert!(rt;
+            writes(
+                rt.alloc(),
+                Some(&schema),
+                (k, Odd::Fails, true),
+                want,
+                count
+            ),
+            "write {k} fails"
+        );
+    }
+    Ok(())
 }

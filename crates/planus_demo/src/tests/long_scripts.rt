@@ -37,7 +37,7 @@ pub fn push_bytes(printed: &mut Vec<u8>, bytes: &[u8]) -> Result<(), AllocError>
 }
 
 // Ends a line of bytes, which then has no space at its end.
-fn end_line(printed: &mut Vec<u8>) -> Result<(), AllocError> {
+pub fn end_line(printed: &mut Vec<u8>) -> Result<(), AllocError> {
     printed.pop();
     printed.extend_from_slice(b"\n")
 }

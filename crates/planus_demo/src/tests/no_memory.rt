@@ -3,10 +3,11 @@
 use super::failing_ends::{PRINTED, SCRIPT};
 use super::long_scripts::{push_references, push_text, push_text_step};
 use super::weapon::{is_weapon, weapon};
-use super::{finish_with, prints, ran};
+use super::{answers, finish_with, prints, ran};
 use crate::run::{RunError, status};
 use crate::weapon::WeaponRef;
 use planus::{BuildError, Builder, ReadAsRoot};
+use planus_dump::Schema;
 use planus_exhaust::{exhaust, exhaust_all_but};
 use std::alloc::{AllocError, Global};
 use std::test::Fail;
@@ -19,32 +20,35 @@ fn exhaust_but(alloc: Global, held: &mut Vec<Vec<u8>>, spare: usize) -> Result<b
     Ok(exhausted)
 }
 
-// Runs a script while all memory but so many bytes is taken, and adds what it prints. Tells whether
-// the memory was taken, and the answer.
+// Runs a script, or with a schema dumps bytes, while all memory but so many bytes is taken, and adds
+// what it prints. Tells whether the memory was taken, and the answer.
 fn ran_without_memory(
     alloc: Global,
+    schema: Option<&Schema>,
     script: &[u8],
     spare: usize,
     printed: &mut Vec<u8>,
 ) -> Result<(bool, Result<bool, RunError>), AllocError> {
     let mut held: Vec<Vec<u8>> = Vec::with_capacity(alloc, 262144)?;
     let exhausted = exhaust_but(alloc, &mut held, spare)?;
-    let (answer, _) = ran(alloc, script, printed);
+    let mut reader = script;
+    let answer = answers(alloc, schema, &mut reader, printed);
     drop(held);
     Ok((exhausted, answer))
 }
 
 // Tells whether the memory was taken, and whether such a run gives this answer, of this exit
 // status, and prints this text.
-fn gives_without_memory(
+pub fn gives_without_memory(
     alloc: Global,
+    schema: Option<&Schema>,
     script: &[u8],
     spare: usize,
     want: (Result<bool, RunError>, u8),
     text: &str,
 ) -> Result<(bool, bool), AllocError> {
     let mut printed: Vec<u8> = Vec::with_capacity(alloc, 64)?;
-    let (exhausted, answer) = ran_without_memory(alloc, script, spare, &mut printed)?;
+    let (exhausted, answer) = ran_without_memory(alloc, schema, script, spare, &mut printed)?;
     let same = answer == want.0
         && status(&answer) == want.1
         && printed.as_slice() == text.as_bytes();
@@ -55,7 +59,7 @@ fn gives_without_memory(
 fn refused_memory(rt: HostRuntime) -> Result<(), Fail> {
     let script = b"text Axe\nfinish 0\n";
     let want = (Err(RunError::OutOfMemory), 2);
-    let (exhausted, refused) = gives_without_memory(rt.alloc(), script, 0, want, "")?;
+    let (exhausted, refused) = gives_without_memory(rt.alloc(), None, script, 0, want, "")?;
     if !exhausted {
         println!(rt; "memory was left: this test does not apply")?;
     }
@@ -98,6 +102,7 @@ fn out_of_memory_is_printed(rt: HostRuntime) -> Result<(), Fail> {
     let (text, want) = ("out of memory\n", (Ok(false), 1));
     let (exhausted, refused) = gives_without_memory(
         rt.alloc(),
+        None,
         script.as_slice(),
         4194304,
         want,

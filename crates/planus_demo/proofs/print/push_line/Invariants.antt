@@ -1,7 +1,7 @@
 use Rattle.std.proofs.Common.{◌≡◌, ◌++◌, map, take}
 use Rattle.std.specs.List.{join_with_byte}
 use Rattle.std.specs.String.{string_bytes}
-use Rattle.planus_demo.specs.Printed.{hex_of}
+use Rattle.planus_dump.specs.Lines.{hex_of}
 use Rattle.planus_demo.proofs.print.push_line.Given as goal
 
 -- the bytes so far are printed

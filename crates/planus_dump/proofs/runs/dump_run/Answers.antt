@@ -1,0 +1,64 @@
+use Rattle.std.proofs.Common.{◌≡◌, ℕ, ◌∷◌, [], List, map, length, ◌≤◌, get_or, sym, ap, subst, arith, Ok, Err, Result, drop}
+use Rattle.std.specs.Prelude.{Vec, String}
+use Rattle.std.specs.List.{AllByRecursion}
+use Rattle.std.specs.declared.alloc.Global.{Global}
+use Rattle.planus_write.specs.Shared.{Switches}
+use Rattle.planus_write.specs.View.{switches_of}
+use Rattle.planus.specs.Steps.{Step, bare_step, Front, root_first}
+use Rattle.planus.specs.Runs.{Finish}
+use Rattle.planus.specs.Replays.{Replays, finish_given}
+use Rattle.planus.specs.Headline.{FinishHolds, root_at}
+use Rattle.planus.specs.declared.finishes.Finished.{Finished}
+use Rattle.planus_dump.specs.Dumped.{Dumped}
+use Rattle.planus_dump.specs.Laws.{piece_of}
+use Rattle.planus_dump.specs.Runs.{DumpsFirst, DumpsFit}
+use Rattle.planus_dump.specs.declared.schemas.Schema.{Schema}
+use Rattle.planus_dump.specs.declared.dumps.DumpError.{DumpError}
+use Rattle.planus_dump.proofs.CleanDumps.{dumps_have_no_fault}
+use Rattle.planus_dump.proofs.runs.dump_run.Goals as goal
+
+-- a list with a first item
+with_first : {X : Type 0} (xs : List X) (x : X) → 1 ≤ length xs → x ≡ get_or xs 0 x → (rest : List X) × (xs ≡ x ∷ rest)
+with_first [] x h e = absurd (omega arith)
+with_first (y ∷ rest) x h e = (rest, ap (λ z. z ∷ rest) (sym e))
+
+-- the first of some finishes, with what is answered of its bytes
+first_dumped : (switches : Switches) (steps : List Step) (schema : Schema) (budget : ℕ) (answer : Result (Vec (String Global) Global) DumpError) (finished : List Finished) (first : Finished)
+    → (rest : List Finished) × (finished ≡ first ∷ rest) → Replays switches steps (Ok (map finish_given finished)) → Dumped schema (finish_given first).bytes budget answer
+    → DumpsFirst switches steps schema budget answer
+first_dumped switches steps schema budget answer finished first (rest, e) run dumped = record {
+  given = finish_given first;
+  others = map finish_given rest;
+  run = subst (λ (all : List Finished). Replays switches steps (Ok (map finish_given all))) e run;
+  dumped = dumped;
+}
+
+whole_piece : (switches : Switches) (steps : List Step) (given : Finish) (holds : FinishHolds switches steps given) → holds.front ≡ root_first → piece_of switches steps given holds ≡ given.bytes
+whole_piece switches steps given holds e = ap (λ (front : Front). drop (root_at front) given.bytes) e
+
+fit_dumped : (switches : Switches) (steps : List Step) (schema : Schema) (budget : ℕ) (lines : Vec (String Global) Global) (finished : List Finished) (first : Finished)
+    → (rest : List Finished) × (finished ≡ first ∷ rest) → Replays switches steps (Ok (map finish_given finished)) → AllByRecursion (FinishHolds switches steps) (map finish_given finished)
+    → Dumped schema (finish_given first).bytes budget (Ok lines) → DumpsFit switches steps schema budget lines
+unfolding first_dumped
+fit_dumped switches steps schema budget lines finished first (rest, e) run all dumped =
+    let holds : FinishHolds switches steps (finish_given first) = (subst (λ (all : List Finished). AllByRecursion (FinishHolds switches steps) (map finish_given all)) e all).0 in
+    record {
+      first = first_dumped switches steps schema budget (Ok lines) finished first (rest, e) run dumped;
+      holds = holds;
+      no_fault = λ front fits. dumps_have_no_fault switches steps (finish_given first) holds schema fits budget lines
+          (subst (λ bytes. Dumped schema bytes budget (Ok lines)) (sym (whole_piece switches steps (finish_given first) holds front)) dumped);
+    }
+
+pub returns-in-Ok-dump : goal.returns-in-Ok-dump
+returns-in-Ok-dump c =
+    let there = with_first c.as_slice.result.now c.first-item.result c.in-len1-up.len_at_least c.first-item.is in
+    let items = subst (λ (all : List Finished). (rest : List Finished) × (all ≡ c.first-item.result ∷ rest)) c.as_slice.ensures.value there in
+    fit_dumped (switches_of c.args.caches) (map bare_step c.args.steps.now) c.args.schema.now c.args.budget c.in-Ok-dump.lines c.in-Ok.finished.items c.first-item.result items c.in-Ok.ensures.run c.in-Ok.ensures.holds
+    (subst (λ bytes. Dumped c.args.schema.now bytes c.args.budget (Ok c.in-Ok-dump.lines)) c.as_slice-in-len1-up.ensures.value c.in-Ok-dump.ensures)
+
+pub returns : goal.returns
+returns c =
+    let there = with_first c.as_slice.result.now c.first-item.result c.in-len1-up.len_at_least c.first-item.is in
+    let items = subst (λ (all : List Finished). (rest : List Finished) × (all ≡ c.first-item.result ∷ rest)) c.as_slice.ensures.value there in
+    first_dumped (switches_of c.args.caches) (map bare_step c.args.steps.now) c.args.schema.now c.args.budget (Err c.in-Err-dump.error) c.in-Ok.finished.items c.first-item.result items c.in-Ok.ensures.run
+    (subst (λ bytes. Dumped c.args.schema.now bytes c.args.budget (Err c.in-Err-dump.error)) c.as_slice-in-len1-up.ensures.value c.in-Err-dump.ensures)

@@ -1,0 +1,145 @@
+-- Which steps of a run a schema describes: what it says of a table's slots is so of the fields of a
+-- step, and of the steps to which these refer.
+use Rattle.std.specs.Prelude.{◌≡◌, ℕ, zero, suc, ◌+◌, ◌==◌, List, [], ◌∷◌, Vec, ⊤}
+use Rattle.std.specs.Prelude.{Option, Some, None, slice_get, if◌then◌else◌}
+use Rattle.std.specs.List.{AllByRecursion}
+use Rattle.std.specs.declared.alloc.Global.{Global}
+use Rattle.planus.specs.Steps.{Step, text, bytes, numbers, refs, unions, table}
+use Rattle.planus.specs.Steps.{FieldStep, number_field, ref_field, tags_field, values_field}
+use Rattle.planus_dump.specs.Dumped.{greatest_depth}
+use Rattle.planus_dump.specs.Events.{variant_of}
+use Rattle.planus_dump.specs.declared.schemas.Schema.{Schema}
+use Rattle.planus_dump.specs.declared.schemas.TableSchema.{TableSchema}
+use Rattle.planus_dump.specs.declared.schemas.Kind.{Kind}
+use Rattle.planus_dump.specs.declared.schemas.Kind.TheVariants.{One, List as ListOf, Union}
+use Rattle.planus_dump.specs.declared.schemas.Kind.TheVariants.{UnionVector, U8, I8, Bytes}
+use Rattle.planus_dump.specs.declared.schemas.Item.{Item}
+use Rattle.planus_dump.specs.declared.schemas.Item.TheVariants.{U16, U32, U64, I16, I32, I64}
+use Rattle.planus_dump.specs.declared.schemas.Item.TheVariants.{Bool, Text, Table}
+
+-- of how many bytes an item is that is a number or a truth value
+abbrev pub plain_size : Item → Option ℕ
+plain_size U16 = Some 2
+plain_size U32 = Some 4
+plain_size U64 = Some 8
+plain_size I16 = Some 2
+plain_size I32 = Some 4
+plain_size I64 = Some 8
+plain_size Bool = Some 1
+plain_size Text = None
+plain_size (Table index) = None
+
+-- the same of a field
+abbrev pub plain_field_size : Kind → Option ℕ
+plain_field_size (One item) = plain_size item
+plain_field_size U8 = Some 1
+plain_field_size I8 = Some 1
+plain_field_size _ = None
+
+-- the step writes a text
+abbrev pub IsText : Option Step → Type 0
+IsText (Some (text content)) = ⊤
+IsText _ = ⊥
+
+-- the step writes a byte list
+abbrev pub IsByteList : Option Step → Type 0
+IsByteList (Some (bytes content)) = ⊤
+IsByteList _ = ⊥
+
+-- what a step's table holds in a slot
+abbrev pub held_at : List (ℕ × FieldStep) → ℕ → Option FieldStep
+held_at [] slot = None
+held_at (field ∷ fields) slot = if field.0 == slot then Some field.1 else held_at fields slot
+
+-- Of the steps of a run, where IsTable says of which of them, by their numbers, a table of the
+-- schema says what is so, by its index.
+module _ (steps : List Step) (IsTable : ℕ → ℕ → Type 0) where
+  -- the step of this number is what an item refers to: a text or a table
+  abbrev pub IsItem : Item → ℕ → Type 0
+  IsItem Text n = IsText (slice_get steps n)
+  IsItem (Table index) n = IsTable index n
+  IsItem _ n = ⊥
+
+  -- the step writes a list of such items; a byte list is one of items of one byte
+  abbrev pub IsListOf : Item → Option Step → Type 0
+  IsListOf item (Some (numbers width values)) = plain_size item ≡ Some width
+  IsListOf item (Some (bytes content)) = plain_size item ≡ Some 1
+  IsListOf item (Some (refs referred)) =
+      (plain_size item ≡ None) × AllByRecursion (IsItem item) referred
+  IsListOf item _ = ⊥
+
+  -- the step of this number is what a field of this kind refers to
+  abbrev pub IsReferred : Kind → ℕ → Type 0
+  IsReferred (One item) n = IsItem item n
+  IsReferred Bytes n = IsByteList (slice_get steps n)
+  IsReferred (ListOf item) n = IsListOf item (slice_get steps n)
+  IsReferred _ n = ⊥
+
+  -- a field of this kind is absent, a number of its size, or a reference to what is of the kind
+  abbrev pub IsField : Kind → Option FieldStep → Type 0
+  IsField kind None = ⊤
+  IsField kind (Some (number_field width value)) = plain_field_size kind ≡ Some width
+  IsField kind (Some (ref_field n)) = IsReferred kind n
+  IsField kind (Some (tags_field n)) = ⊥
+  IsField kind (Some (values_field n)) = ⊥
+
+  -- the step of this number is the table of a variant, if there is one
+  abbrev pub IsVariant : Option ℕ → ℕ → Type 0
+  IsVariant (Some index) n = IsTable index n
+  IsVariant None n = ⊥
+
+  -- the step of this number is the table of the variant with this tag
+  abbrev pub IsTagged : Option (Vec (ℕ × ℕ) Global) → ℕ → ℕ → Type 0
+  IsTagged (Some variants) tag n = IsVariant (variant_of variants.items tag) n
+  IsTagged None tag n = ⊥
+
+  -- a union: both slots are absent, or hold a tag of one byte and a reference to its table
+  abbrev pub IsUnion :
+      Option (Vec (ℕ × ℕ) Global) → Option FieldStep → Option FieldStep → Type 0
+  IsUnion variants None None = ⊤
+  IsUnion variants (Some (number_field width tag)) (Some (ref_field n)) =
+      (width ≡ 1) × IsTagged variants tag n
+  IsUnion variants _ _ = ⊥
+
+  -- the step writes a list of such unions
+  abbrev pub IsListOfUnions : Option (Vec (ℕ × ℕ) Global) → Option Step → Type 0
+  IsListOfUnions variants (Some (unions items)) =
+      AllByRecursion (λ item. IsTagged variants item.0 item.1) items
+  IsListOfUnions variants _ = ⊥
+
+  -- a vector of unions: both slots are absent, or hold the tags and the values of one such list
+  abbrev pub IsUnionVector :
+      Option (Vec (ℕ × ℕ) Global) → Option FieldStep → Option FieldStep → Type 0
+  IsUnionVector variants None None = ⊤
+  IsUnionVector variants (Some (tags_field n)) (Some (values_field m)) =
+      (n ≡ m) × IsListOfUnions variants (slice_get steps n)
+  IsUnionVector variants _ _ = ⊥
+
+  module _ (schema : Schema) where
+    -- what stands from this slot on is a field of this kind
+    abbrev pub HasKind : List (ℕ × FieldStep) → ℕ → Kind → Type 0
+    HasKind fields i (Union index) =
+        IsUnion (slice_get schema.unions.items index) (held_at fields i) (held_at fields (i + 1))
+    HasKind fields i (UnionVector index) =
+        IsUnionVector (slice_get schema.unions.items index) (held_at fields i)
+        (held_at fields (i + 1))
+    HasKind fields i kind = IsField kind (held_at fields i)
+
+    -- the step writes a table of this schema
+    abbrev pub IsTableOf : Option TableSchema → Option Step → Type 0
+    IsTableOf (Some shape) (Some (table fields)) =
+        AllByRecursion (λ field. HasKind fields field.slot field.kind) shape.fields.items
+    IsTableOf _ _ = ⊥
+
+-- The schema's table with this index describes the step of this number, down to so many tables one
+-- below another; of what lies deeper nothing is said.
+unfoldable pub Describes : Schema → List Step → ℕ → ℕ → ℕ → Type 0
+Describes schema steps zero index n = ⊤
+Describes schema steps (suc left) index n =
+    IsTableOf steps (Describes schema steps left) schema (slice_get schema.tables.items index)
+    (slice_get steps n)
+
+-- The schema fits what the step of this number writes: its root's table describes it as far down as
+-- is dumped.
+abbrev pub Fits : Schema → List Step → ℕ → Type 0
+Fits schema steps root = Describes schema steps greatest_depth schema.root root

@@ -1,0 +1,50 @@
+-- What ties a dump to the run that wrote what is dumped.
+use Rattle.std.specs.Prelude.{◌≡◌, ℕ, List, drop, true, false, Ok, Vec, String}
+use Rattle.std.specs.List.{AllByRecursion}
+use Rattle.std.specs.String.{string_bytes}
+use Rattle.std.specs.declared.alloc.Global.{Global}
+use Rattle.planus_write.specs.Shared.{Switches}
+use Rattle.planus.specs.Steps.{Step}
+use Rattle.planus.specs.Runs.{Finish}
+use Rattle.planus.specs.Headline.{FinishHolds, root_at}
+use Rattle.planus_dump.specs.Lines.{value_line, fault_line, table_line, list_line, union_line}
+use Rattle.planus_dump.specs.Lines.{unions_line}
+use Rattle.planus_dump.specs.FaultLines.{is_fault_line, HaveNoFault}
+use Rattle.planus_dump.specs.Describes.{Fits}
+use Rattle.planus_dump.specs.Dumped.{Dumped, events_of}
+use Rattle.planus_dump.specs.Schemas.{is_good}
+use Rattle.planus_dump.specs.declared.schemas.Schema.{Schema}
+
+-- Of the kinds of lines at a path without spaces, that of a reader's fault is a fault line, and no
+-- other is.
+pub record FaultLinesAreTold (path : List ℕ) : Type 0 where
+  pub fault : (fault : List ℕ) → is_fault_line (fault_line path fault) ≡ true
+  pub value : (text : List ℕ) → is_fault_line (value_line path text) ≡ false
+  pub table : (name : List ℕ) → is_fault_line (table_line path name) ≡ false
+  pub list : (count : ℕ) → is_fault_line (list_line path count) ≡ false
+  pub union : (tag : ℕ) → is_fault_line (union_line path tag) ≡ false
+  pub unions : (count : ℕ) → is_fault_line (unions_line path count) ≡ false
+
+-- The bytes of a finish from the reference to its root on, which is where a reader begins: all of
+-- them, or those behind the size.
+abbrev pub piece_of : (switches : Switches) (steps : List Step) (given : Finish)
+    → FinishHolds switches steps given → List ℕ
+piece_of switches steps given holds = drop (root_at holds.front) given.bytes
+
+-- Of what a finish of any run gives, no event is a reader's fault, if the schema fits what the
+-- step of its root wrote.
+abbrev pub FinishesHaveNoFault : Type 0
+FinishesHaveNoFault =
+    (switches : Switches) (steps : List Step) (given : Finish)
+    → (holds : FinishHolds switches steps given) → (schema : Schema) → is_good schema ≡ true
+    → Fits schema steps holds.root
+    → HaveNoFault (events_of schema (piece_of switches steps given holds))
+
+-- So no line of its dump is a fault line.
+abbrev pub DumpsHaveNoFault : Type 0
+DumpsHaveNoFault =
+    (switches : Switches) (steps : List Step) (given : Finish)
+    → (holds : FinishHolds switches steps given) → (schema : Schema)
+    → Fits schema steps holds.root → (budget : ℕ) (lines : Vec (String Global) Global)
+    → Dumped schema (piece_of switches steps given holds) budget (Ok lines)
+    → AllByRecursion (λ line. is_fault_line (string_bytes line) ≡ false) lines.items

@@ -1,0 +1,49 @@
+-- What steps come to, and the dump of what they finish.
+use Rattle.std.specs.Prelude.{◌≡◌, ℕ, List, [], ◌∷◌, false, Vec, String}
+use Rattle.std.specs.Prelude.{Option, Some, None, Result, Ok, Err}
+use Rattle.std.specs.List.{AllByRecursion}
+use Rattle.std.specs.String.{string_bytes}
+use Rattle.std.specs.declared.alloc.Global.{Global}
+use Rattle.planus_write.specs.Shared.{Switches}
+use Rattle.planus.specs.Steps.{Step, root_first}
+use Rattle.planus.specs.Runs.{Finish}
+use Rattle.planus.specs.Replays.{Replays}
+use Rattle.planus.specs.Headline.{FinishHolds}
+use Rattle.planus_dump.specs.FaultLines.{is_fault_line}
+use Rattle.planus_dump.specs.Describes.{Fits}
+use Rattle.planus_dump.specs.Dumped.{Dumped}
+use Rattle.planus_dump.specs.declared.schemas.Schema.{Schema}
+use Rattle.planus_dump.specs.declared.dumps.DumpError.{DumpError}
+use Rattle.planus_dump.specs.declared.runs.DumpRunError.{DumpRunError}
+use Rattle.planus_dump.specs.declared.runs.DumpRunError.TheVariants.{Replay, Dump}
+
+-- the steps' first finish, and what is answered of its dump
+pub record DumpsFirst
+    (switches : Switches) (steps : List Step) (schema : Schema) (budget : ℕ)
+    (answer : Result (Vec (String Global) Global) DumpError) : Type 0 where
+  pub given : Finish
+  pub others : List Finish
+  pub run : Replays switches steps (Ok (given ∷ others))
+  pub dumped : Dumped schema given.bytes budget answer
+
+-- no line of this dump says of a fault, if the schema fits what the root's step of that finish wrote
+pub record DumpsFit
+    (switches : Switches) (steps : List Step) (schema : Schema) (budget : ℕ)
+    (lines : Vec (String Global) Global) : Type 0 where
+  pub first : DumpsFirst switches steps schema budget (Ok lines)
+  pub holds : FinishHolds switches steps first.given
+  pub no_fault :
+      holds.front ≡ root_first → Fits schema steps holds.root
+      → AllByRecursion (λ line. is_fault_line (string_bytes line) ≡ false) lines.items
+
+-- What is answered of steps: the error of their run, nothing where nothing is finished, or what is
+-- answered of the first finish.
+abbrev pub DumpsRun :
+    Switches → List Step → Schema → ℕ
+    → Result (Option (Vec (String Global) Global)) DumpRunError → Type 0
+DumpsRun switches steps schema budget (Err (Replay error)) = Replays switches steps (Err error)
+DumpsRun switches steps schema budget (Err (Dump error)) =
+    DumpsFirst switches steps schema budget (Err error)
+DumpsRun switches steps schema budget (Ok None) = Replays switches steps (Ok [])
+DumpsRun switches steps schema budget (Ok (Some lines)) =
+    DumpsFit switches steps schema budget lines

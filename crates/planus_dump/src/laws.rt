@@ -1,0 +1,27 @@
+//! Laws over dumps. The functions do nothing: each states a law by its contract.
+
+ghost use Rattle.std.specs.Prelude.{List, ℕ};
+ghost use Rattle.planus_dump.specs.FaultLines.{HasNoSpace};
+ghost use Rattle.planus_dump.specs.Shapes.{WorkedRowsFit};
+ghost use Rattle.planus_dump.specs.declared.schemas.Schema as schema;
+ghost use Rattle.planus_dump.specs.Laws.{FaultLinesAreTold, FinishesHaveNoFault, DumpsHaveNoFault};
+
+/// Which lines are those of a reader's fault is told by the line alone: at a path without spaces,
+/// as those of a good schema are, such a line has a `!` behind its first space, and no other has.
+pub fn fault_lines_are_told()
+    ensures { (path : List ℕ) → HasNoSpace path → FaultLinesAreTold path }
+{}
+
+/// What a run finished dumps with no fault line, if the schema fits what its root's step wrote: the
+/// schema names the fields that are there by their slots, sizes and kinds, and so on in what they
+/// refer to. With the size in front this is so of the piece behind it.
+pub fn finishes_have_no_fault()
+    ensures events { FinishesHaveNoFault }
+    ensures lines { DumpsHaveNoFault }
+{}
+
+/// The schema of the worked rows fits the steps that write a weapon and a monster, and none with a
+/// field of another size or kind.
+pub fn worked_rows_fit()
+    ensures { (one : schema.Schema) → WorkedRowsFit one }
+{}

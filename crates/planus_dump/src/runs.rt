@@ -1,0 +1,45 @@
+//! From steps to the dump of what they finish.
+ghost use Rattle.std.specs.Prelude.{map};
+ghost use Rattle.planus_write.specs.View.{switches_of};
+ghost use Rattle.planus.specs.Steps.{bare_step};
+ghost use Rattle.planus_dump.specs.Runs.{DumpsRun};
+
+use crate::dumps::{DumpError, dump};
+use crate::schemas::Schema;
+use planus::{Caches, ReplayError, Step, replay};
+use std::alloc::Global;
+
+/// Why steps have no dump.
+#[derive(Clone, Copy, Debug, PartialEq, Eq)]
+pub enum DumpRunError {
+    /// The steps are refused.
+    Replay(ReplayError),
+    /// What they finish has no dump.
+    Dump(DumpError),
+}
+
+/// Runs steps, and returns the lines of what the first of their finishes gave, or `None` where they
+/// have none. There are no more lines than the budget.
+///
+/// If the schema fits what the root's step wrote, no line says of a fault.
+pub fn dump_run(
+    alloc: Global,
+    caches: Caches,
+    steps: &[Step],
+    schema: &Schema,
+    budget: usize,
+) -> Result<Option<Vec<String>>, DumpRunError>
+    ensures { DumpsRun (switches_of caches) (map bare_step steps.now) schema.now budget result }
+{
+    let finished = match replay(alloc, caches, steps) {
+        Ok(finished) => finished,
+        Err(error) => return Err(DumpRunError::Replay(error)),
+    };
+    match finished.as_slice() {
+        [] => Ok(None),
+        [first, ..] => match dump(alloc, schema, first.bytes.as_slice(), budget) {
+            Ok(lines) => Ok(Some(lines)),
+            Err(error) => Err(DumpRunError::Dump(error)),
+        },
+    }
+}
