@@ -1,11 +1,9 @@
 //! Vectors of unions and their iterators, under their names in planus.
 
-use crate::item_errors::AsRead;
-pub use crate::union_vector::UnionVectorOf;
-use planus_view::{ByChunks, ByChunksExact, ByRChunks, ByRChunksExact, ByWindows, Items, SubViews};
-
-/// A view of the items of a vector of unions, each of which is a [`planus_read::Result`].
-pub type UnionVector<'buf, T> = UnionVectorOf<'buf, T, AsRead>;
+use crate::cuts::{ByChunks, ByChunksExact, ByRChunks, ByRChunksExact, ByWindows};
+use crate::items::Items;
+use crate::sub_views::SubViews;
+pub use crate::union_vector::UnionVector;
 
 /// An iterator over the items of a vector of unions.
 pub type Iter<'buf, T> = Items<UnionVector<'buf, T>>;

@@ -8,7 +8,7 @@ use Rattle.planus_read.specs.Pieces.{slice_bytes}
 use Rattle.planus_read.specs.Reading.{Items, HeadThere, VectorThere}
 use Rattle.planus_read.specs.declared.slice_helpers.SliceWithStartOffset.{SliceWithStartOffset}
 
--- they are there, where so many of them fit the bytes behind the count
+-- they are there, where as many as the count says fit the bytes behind it
 pub vector_there : (S : List ℕ) (start f stride : ℕ) (items : Items) (head : SliceWithStartOffset × ℕ)
     → HeadThere S f items.position items.count → ShowsItems S start items head
     → head.1 * stride ≤ length (slice_bytes head.0) → VectorThere S f stride items.position items.count

@@ -1,8 +1,8 @@
 use Rattle.std.proofs.Common.{◌≡◌, ◌*◌, ◌≤◌, length, arith, subst, sym, ◌∙◌}
 use Rattle.planus_read.specs.Pieces.{slice_bytes, slice_start}
 use Rattle.planus_read.specs.Reading.{VectorThere}
-use Rattle.planus_unions.proofs.ReadItems.{vector_there}
-use Rattle.planus_unions.proofs.union_vector.UnionVectorOfTableReadUnionVector.from_buffer.Goals as goal
+use Rattle.planus_view.proofs.ReadItems.{vector_there}
+use Rattle.planus_view.proofs.union_vector.VectorOfUnionSliceViewTableReadUnionVector.from_buffer.Goals as goal
 
 pub returns : goal.returns
 returns g c =
