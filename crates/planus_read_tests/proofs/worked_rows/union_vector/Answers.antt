@@ -1,6 +1,6 @@
 use Rattle.std.proofs.Common.{refl}
 use Rattle.std.proofs.Math.Nat.{dvd-mul_left}
-use Rattle.planus_read.proofs.worked_rows.union_vector.Goals as goal
+use Rattle.planus_read_tests.proofs.worked_rows.union_vector.Goals as goal
 
 pub returns-clause-stands : goal.returns-clause-stands
 returns-clause-stands c = ((refl, refl), (refl, ((16, refl, refl), ((4, refl, refl), tt))))

@@ -2,7 +2,7 @@ use Rattle.std.proofs.Common.{◌≡◌, ◌+◌, ◌∷◌, [], length, Some}
 use Rattle.std.specs.Int.{w32}
 use Rattle.planus_read.specs.Bytes.{Num}
 use Rattle.planus_read.proofs.Bytes.{parts_stand, whole_stands}
-use Rattle.planus_read.proofs.plain.text_stands_at.Goals as goal
+use Rattle.planus_read_tests.proofs.plain.text_stands_at.Goals as goal
 
 pub returns-then-bytes_stand_at : goal.returns-then-bytes_stand_at
 returns-then-bytes_stand_at c =

@@ -2,9 +2,9 @@
 //! over its bytes alone; its body is empty.
 
 ghost use Rattle.planus_read.specs.Aligned.{AlignedAt};
-ghost use Rattle.planus_read.specs.Rows.{text_axe_bytes, u64_list_bytes, one_u64};
-ghost use Rattle.planus_read.specs.Rows.{weapon_bytes, weapon_fields, union_vector_bytes};
-ghost use Rattle.planus_read.specs.Rows.{two_texts, u16_table_bytes, u16_table_fields};
+ghost use Rattle.planus_read_tests.specs.Rows.{text_axe_bytes, u64_list_bytes, one_u64};
+ghost use Rattle.planus_read_tests.specs.Rows.{weapon_bytes, weapon_fields, union_vector_bytes};
+ghost use Rattle.planus_read_tests.specs.Rows.{two_texts, u16_table_bytes, u16_table_fields};
 ghost use Rattle.planus_read.specs.Stands.{Stands, ReferenceStands, at, at_both};
 ghost use Rattle.planus_read.specs.Values.{text, plain_list, union_list, table};
 ghost use Rattle.std.specs.Prelude.{◌∷◌, []};
@@ -35,7 +35,7 @@ pub fn weapon()
     ensures text_aligned { AlignedAt weapon_bytes (at 24) (text (65 ∷ 120 ∷ 101 ∷ [])) }
 {}
 
-/// Two texts and the union list of both, not finished.
+/// Two texts and the vector of unions of both, not finished.
 pub fn union_vector()
     ensures stands { Stands union_vector_bytes (at_both 0 8) (union_list two_texts) }
     ensures aligned { AlignedAt union_vector_bytes (at_both 0 8) (union_list two_texts) }

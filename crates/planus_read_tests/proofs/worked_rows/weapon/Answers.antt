@@ -1,10 +1,10 @@
 use Rattle.std.proofs.Common.{ℕ, zero, suc, ◌+◌, ◌*◌, ◌≤◌, refl, arith, lit<, lit≤}
 use Rattle.std.proofs.Math.Nat.{dvd-mul_left}
 use Rattle.planus_read.specs.Values.{field_at}
-use Rattle.planus_read.specs.Rows.{weapon_bytes, weapon_fields}
+use Rattle.planus_read_tests.specs.Rows.{weapon_bytes, weapon_fields}
 use Rattle.planus_read.specs.Stands.{SlotStands}
 use Rattle.planus_read.specs.Aligned.{SlotAligned}
-use Rattle.planus_read.proofs.worked_rows.weapon.Goals as goal
+use Rattle.planus_read_tests.proofs.worked_rows.weapon.Goals as goal
 
 pub returns-clause-root : goal.returns-clause-root
 returns-clause-root c = (4, refl, refl)

@@ -1,9 +1,9 @@
 use Rattle.std.proofs.Common.{ℕ, zero, suc, ◌+◌, ◌*◌, ◌≤◌, refl, arith}
 use Rattle.std.proofs.Math.Nat.{dvd-mul_left}
 use Rattle.planus_read.specs.Values.{field_at}
-use Rattle.planus_read.specs.Rows.{u16_table_bytes, u16_table_fields}
+use Rattle.planus_read_tests.specs.Rows.{u16_table_bytes, u16_table_fields}
 use Rattle.planus_read.specs.Aligned.{SlotAligned}
-use Rattle.planus_read.proofs.worked_rows.u16_table.Goals as goal
+use Rattle.planus_read_tests.proofs.worked_rows.u16_table.Goals as goal
 
 pub returns-clause-root : goal.returns-clause-root
 returns-clause-root c = (4, refl, refl)
