@@ -19,7 +19,7 @@ ghost use Rattle.planus_read.specs.Tables.{FieldAnswer, UnionAnswer, UnionVector
 ghost use Rattle.planus_read.specs.Tables.{table_start};
 ghost use Rattle.planus_write.specs.State.{Grows};
 ghost use Rattle.planus_view.specs.VectorView.{ShowsVector};
-ghost use Rattle.planus_unions.specs.UnionVectorView.{ShowsUnionVector};
+ghost use Rattle.planus_view.specs.UnionVectorView.{ShowsUnionVector};
 ghost use Rattle.planus_demo.specs.Equipments.{ReadsEquipment};
 ghost use Rattle.planus_demo.specs.Monsters.{WritesMonster};
 ghost use Rattle.planus_demo.specs.MonsterViews.{monster_table, ShowsMonster};

@@ -9,8 +9,8 @@ use Rattle.planus_read.specs.Places.{place_bytes, place_offset, tagged_tag, tagg
 use Rattle.planus_read.specs.Tables.{Slot, table_object, table_slots}
 use Rattle.planus_view.specs.Views.{View}
 use Rattle.planus_view.specs.VectorView.{view_of}
-use Rattle.planus_unions.specs.UnionViews.{UnionView}
-use Rattle.planus_unions.specs.UnionVectorView.{view_of as union_view_of}
+use Rattle.planus_view.specs.UnionViews.{UnionView}
+use Rattle.planus_view.specs.UnionVectorView.{view_of as union_view_of}
 use Rattle.planus_dump.specs.declared.unions.Unions.{Unions}
 use Rattle.planus_dump.specs.Lines.{value_text, value_line}
 use Rattle.planus_dump.specs.Tests.{fault_text}

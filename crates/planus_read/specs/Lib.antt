@@ -2,7 +2,6 @@ pub mod Bytes
 pub mod Values
 pub mod Stands
 pub mod Aligned
-pub mod Rows
 pub mod Moves
 pub mod Texts
 pub mod Pieces

@@ -25,10 +25,8 @@ pub fn array_from_buffer<'buf>(
         Answer (shown (ShowsItems S start) (head_reading S offset)) result }
 {
     let value = <u32 as TableRead<'buf>>::from_buffer(buffer, offset)?;
-    let Some(target) = offset.checked_add(value as usize) else {
-        return Err(ErrorKind::InvalidOffset);
-    };
+    let target = offset + value as usize;
     let count = <u32 as TableRead<'buf>>::from_buffer(buffer, target)?;
-    let items = buffer.advance(target + 4)?;
+    let items = buffer.unchecked_advance(target + 4);
     Ok((items, count))
 }

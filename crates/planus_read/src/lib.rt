@@ -8,13 +8,11 @@ mod impls;
 pub mod laws;
 pub mod located;
 mod place;
-pub mod plain;
 mod signed_bytes;
 mod size_prefixed;
 mod slice_helpers;
 pub mod table_reader;
 mod traits;
-pub mod worked_rows;
 
 pub use errors::Error;
 pub use heads::array_from_buffer;

@@ -38,7 +38,7 @@ impl<'buf> SliceWithStartOffset<'buf> {
     ghost use Rattle.planus_read.specs.Pieces.{slice_bytes, slice_start, IsAdvanced, IsArrayAt};
 
     /// Creates a piece of these bytes, which begin at this offset, in bytes from the start of a
-    /// buffer.
+    /// buffer. The offset and the number of bytes together are below 2^64.
     #[inline]
     pub fn new(buffer: &'buf [u8], offset_from_start: usize) -> Self
         requires { offset_from_start + length buffer.now < 2 ^ 64 }
@@ -153,7 +153,7 @@ impl<'buf, const N: usize> ArrayWithStartOffset<'buf, N> {
     ghost use Rattle.planus_read.specs.Pieces.{array_bytes, array_start, IsArrayAt};
 
     /// Creates a piece of these bytes, which begin at this offset, in bytes from the start of a
-    /// buffer.
+    /// buffer. The offset and `N` together are below 2^64, and `N` is below 2^63.
     #[inline]
     pub fn new(buffer: &'buf [u8; N], offset_from_start: usize) -> Self
         requires fits { offset_from_start + N < 2 ^ 64 }

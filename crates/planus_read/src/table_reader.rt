@@ -1,6 +1,6 @@
 //! Tables, read in place.
 
-ghost use Rattle.std.specs.Prelude.{◌≡◌, ◌<◌, ◌+◌, ◌*◌, ◌^◌, [], length};
+ghost use Rattle.std.specs.Prelude.{◌≡◌, ◌<◌, ◌≤◌, ◌+◌, ◌*◌, ◌^◌, [], length};
 ghost use Rattle.std.specs.Prelude.{IfOk, IfErr, IfSome, IfNone};
 ghost use Rattle.planus_read.specs.Clauses.{Answer, shown, AllHold, FirstBroken};
 ghost use Rattle.planus_read.specs.Pieces.{slice_bytes, slice_start};
@@ -62,7 +62,7 @@ fn vtable_of<'buf>(
         return Err(ErrorKind::InvalidVtableLength { length: size });
     }
     let size = size as usize;
-    let rest = buffer.advance(offset)?.as_slice();
+    let rest = buffer.unchecked_advance(offset).as_slice();
     if rest.len() < size {
         return Err(ErrorKind::InvalidLength);
     }
@@ -94,12 +94,24 @@ impl<'buf> Table<'buf> {
             Answer (shown (ShowsTable S start) (table_reading S offset)) result }
     {
         let value = <u32 as TableRead<'buf>>::from_buffer(buffer, offset)?;
-        let Some(object_offset) = offset.checked_add(value as usize) else {
-            return Err(ErrorKind::InvalidOffset);
-        };
-        let object = buffer.advance(object_offset)?;
+        let object_offset = offset + value as usize;
         let vtable = vtable_of(buffer, object_offset)?;
+        let object = buffer.unchecked_advance(object_offset);
         Ok(Table { object, vtable })
+    }
+
+    // Returns the number in a slot that lies in the vtable.
+    #[inline]
+    fn slot_inside(&self, slot: usize) -> usize
+        requires { 2 * slot + 2 ≤ length (table_slots self.now) }
+        ensures value { result ≡ Slot (table_slots self.now) slot }
+        ensures small { result < 2 ^ 16 }
+    {
+        let bytes = &self.vtable[2 * slot..2 * slot + 2];
+        match bytes.first_chunk::<2>() {
+            Some(bytes) => u16::from_le_bytes(*bytes) as usize,
+            None => unreachable!(),
+        }
     }
 
     // Returns the number in a slot, 0 past the vtable's end.
@@ -108,17 +120,10 @@ impl<'buf> Table<'buf> {
         ensures value { result ≡ Slot (table_slots self.now) slot }
         ensures small { result < 2 ^ 16 }
     {
-        let Some(at) = slot.checked_mul(2) else {
-            return 0;
-        };
-        if at > self.vtable.len() {
+        if slot >= self.vtable.len() / 2 {
             return 0;
         }
-        let rest = &self.vtable[at..];
-        match rest.first_chunk::<2>() {
-            Some(bytes) => u16::from_le_bytes(*bytes) as usize,
-            None => 0,
-        }
+        self.slot_inside(slot)
     }
 
     // Returns the numbers in a slot and the next, or `None` where these don't both lie in the
@@ -130,12 +135,10 @@ impl<'buf> Table<'buf> {
         ensures second { IfSome result (λ slots. slots.1 ≡ Slot (table_slots self.now) (slot + 1)) }
         ensures none { IfNone result (length (table_slots self.now) < 2 * slot + 4) }
     {
-        let at = slot.checked_mul(2)?;
-        let length = self.vtable.len();
-        if at > length || length - at < 4 {
+        if slot >= (self.vtable.len() / 2).saturating_sub(1) {
             return None;
         }
-        Some((self.slot(slot), self.slot(slot + 1)))
+        Some((self.slot_inside(slot), self.slot_inside(slot + 1)))
     }
 
     // Gives an error the location of this table.
@@ -182,7 +185,7 @@ impl<'buf> Table<'buf> {
     {
         let Some((tag_offset, value_offset)) = self.both_slots(slot) else {
             let length = self.vtable.len();
-            if slot >= length || length <= 2 * slot {
+            if slot >= length.div_ceil(2) {
                 return Ok(None);
             }
             return Err(ErrorKind::InvalidVtableLength {

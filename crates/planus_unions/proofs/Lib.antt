@@ -1,2 +1,1 @@
-pub mod ReadItems
 pub mod ReadBack

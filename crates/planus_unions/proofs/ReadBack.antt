@@ -1,4 +1,4 @@
--- A union list that stands is answered as its vector.
+-- A vector of unions that stands is returned.
 use Rattle.std.proofs.Common.{◌≡◌, ℕ, zero, suc, ◌+◌, ◌≤◌, List, [], ◌∷◌, length, take, drop, ap, ◌∙◌, sym}
 use Rattle.std.proofs.Common.{Result, Ok, Err, Some, arith}
 use Rattle.std.specs.Prelude.{IsOkAnd, slice_index}
@@ -13,10 +13,11 @@ use Rattle.planus_read.specs.Values.{union_list}
 use Rattle.planus_read.specs.Stands.{at_both}
 use Rattle.planus_read.proofs.Reading.{num_inside, num_value}
 use Rattle.planus_read.proofs.ReadsBack.{what_stands_reads_back}
-use Rattle.planus_unions.specs.declared.union_vector.UnionVectorOf.{UnionVectorOf}
-use Rattle.planus_unions.specs.ReadBack.{IsUnionVectorOf, UnionListsReadBack}
-use Rattle.planus_unions.specs.UnionVectorView.{view_of, ShowsUnionVector}
-use Rattle.planus_unions.specs.UnionViews.{UnionView}
+use Rattle.planus_view.specs.declared.union_vector.UnionSliceView.{UnionSliceView}
+use Rattle.planus_view.specs.declared.vector_of.VectorOf.{VectorOf}
+use Rattle.planus_unions.specs.ReadBack.{IsUnionVectorOf, UnionVectorsReadBack}
+use Rattle.planus_view.specs.UnionVectorView.{view_of, ShowsUnionVector}
+use Rattle.planus_view.specs.UnionViews.{UnionView}
 
 -- the tag of one byte
 byte_at : (S : List ℕ) (i : ℕ) → i + 1 ≤ length S → slice_index S i ≡ from_le_bytes w8 (take 1 (drop i S))
@@ -47,7 +48,7 @@ view_moves B start tags references count kt kv n a b c v h =
 module _ (T E : Type 0) where
   vector_of :
       (B : List ℕ) (kt kv start f g : ℕ) (items : List (ℕ × ℕ))
-      → UnionListReads B kt kv start f g items → (r : Result (UnionVectorOf T E) ErrorKind)
+      → UnionListReads B kt kv start f g items → (r : Result (VectorOf (UnionSliceView T E)) ErrorKind)
       → Answer
       (shown (ShowsUnionVector (drop start B) start) (union_vector_reading (drop start B) f g)) r
       → IsOkAnd r (IsUnionVectorOf T E B kt kv items)
@@ -73,8 +74,8 @@ module _ (T E : Type 0) where
         count = length items;
       }) = reads.vector.only (Err e) h in cc)
 
-  pub union_lists : UnionListsReadBack T E
-  union_lists B kt kv start f g items stands tags values r h =
+  pub union_vectors : UnionVectorsReadBack T E
+  union_vectors B kt kv start f g items stands tags values r h =
       vector_of B kt kv start f g items
       (what_stands_reads_back B (at_both kt kv) (union_list items) tt stands start f g tags values)
       r h

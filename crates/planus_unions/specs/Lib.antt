@@ -1,3 +1,1 @@
-pub mod UnionViews
-pub mod UnionVectorView
 pub mod ReadBack

@@ -5,7 +5,7 @@ use Rattle.std.proofs.lemmas.Bool.{cases_lt}
 use Rattle.std.proofs.lemmas.Option.{slice_get_within, get_or_from_slice_get, slice_get-get_or}
 use Rattle.std.proofs.lemmas.List.{get_or_append_left, get_or_push, length_push}
 use Rattle.planus_view.specs.declared.copies.CopyError.{CopyError}
-use Rattle.planus_view.specs.Copies.{FirstConverted, ItemConverts}
+use Rattle.planus_view.specs.Copies.{AreFirstConverted, ItemConverts}
 
 module _ {V A O : Type 0} (is_sub_view : V → ℕ → ℕ → V → Type 0) (is_item : V → ℕ → A
     → Type 0) (converts : A → Result O CopyError → Type 0) where
@@ -25,9 +25,9 @@ module _ {V A O : Type 0} (is_sub_view : V → ℕ → ℕ → V → Type 0) (is
 
   pub one_more :
       (v : V) (n : ℕ) (out : List O) (y : O)
-      → FirstConverted is_sub_view is_item converts v n out
+      → AreFirstConverted is_sub_view is_item converts v n out
       → ItemConverts is_sub_view is_item converts v n (length out) (Ok y)
-      → FirstConverted is_sub_view is_item converts v n (out ++ y ∷ [])
+      → AreFirstConverted is_sub_view is_item converts v n (out ++ y ∷ [])
   one_more v n out y all this = record {
     each = λ i z e. ⊎_elim
         (λ (h : i < length out). all.each i z (old_at out y z i h e))

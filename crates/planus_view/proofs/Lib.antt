@@ -1,4 +1,5 @@
 pub mod ItemsLie
+pub mod ReadItems
 pub mod RangeLists
 pub mod LeftOf
 pub mod Converted

@@ -20,19 +20,19 @@ pub record HoldsBelow (holds : ℕ → Bool) (k : ℕ) : Type 0 where
   pub above : (i : ℕ) → k ≤ i → holds i ≡ false
 
 -- the numbers at which it holds, of m numbers from a on
-held :
+filter_holds :
     (holds : ℕ → Bool) (k : ℕ) → HoldsBelow holds k → (m a : ℕ)
     → filter holds (range_with_len a m) ≡ range_with_len a (min m (k - a))
-held holds k h zero a = let e : min 0 (k - a) ≡ 0 = omega arith in rw e refl
-held holds k h (suc m) a =
+filter_holds holds k h zero a = let e : min 0 (k - a) ≡ 0 = omega arith in rw e refl
+filter_holds holds k h (suc m) a =
     ⊎_elim
     (λ (l : a < k).
     let e : min (suc m) (k - a) ≡ suc (min m (k - (a + 1))) = omega arith in
-    rw (h.below a l, e, held holds k h m (a + 1)) refl)
+    rw (h.below a l, e, filter_holds holds k h m (a + 1)) refl)
     (λ (l : k ≤ a).
     let e : min (suc m) (k - a) ≡ 0 = omega arith in
     let z : min m (k - (a + 1)) ≡ 0 = omega arith in
-    rw (h.above a l, e, held holds k h m (a + 1), z) refl)
+    rw (h.above a l, e, filter_holds holds k h m (a + 1), z) refl)
     (cases_lt a k)
 
 -- so the ranges are those of the numbers below k
@@ -41,7 +41,7 @@ counted :
     → ranges_where n holds range ≡ map range (range_with_len 0 k)
 counted n k holds range h l =
     let e : min n (k - 0) ≡ k = omega arith in
-    ap (map range) (held holds k h n 0 ∙ ap (range_with_len 0) e)
+    ap (map range) (filter_holds holds k h n 0 ∙ ap (range_with_len 0) e)
 
 -- how many they are
 count_of :
@@ -60,7 +60,7 @@ range_of n k holds range h l i inside =
     (omega (arith, length-map-range_with_len range 0 k))
     ∙ ap Some (get_or-map-range_with_len range 0 k i i (0, 0) inside (omega arith))
 
--- a chunk of c positions begins in n positions exactly where it is one of so many
+-- a chunk of c positions begins in n positions exactly where its number is below that of chunks
 chunk_begins : (n c i : ℕ) → 0 < c → i < div_ceil n c → i * c < n
 chunk_begins n c i p h =
     let t : (n ≤ div_ceil n c * c) × (div_ceil n c * c < n + c) = div_ceil_times n c p in
@@ -86,7 +86,7 @@ chunks_hold n c p = record {
   above = λ i h. le-ltb (i * c) n (chunk_past n c i p h);
 }
 
--- an exact chunk lies in n positions exactly where it is one of so many
+-- an exact chunk lies in n positions exactly where its number is below that of exact chunks
 exact_lies : (n c i : ℕ) → i < n / c → (i + 1) * c ≤ n
 exact_lies n c i h =
     let m : c * (i + 1) ≤ c * (n / c) = mul-le-mul_left c (omega arith) in

@@ -1,4 +1,4 @@
--- A list that stands is answered as its vector.
+-- A list that stands is returned as its vector.
 use Rattle.std.proofs.Common.{◌≡◌, ℕ, ◌+◌, List, length, drop, ap, ◌∙◌, Result, Ok, Err}
 use Rattle.std.specs.Prelude.{IsOkAnd}
 use Rattle.std.proofs.lemmas.List.{drop-drop}
@@ -10,7 +10,8 @@ use Rattle.planus_read.specs.ReadsBack.{ListReads, PlainReads, ReferenceReads}
 use Rattle.planus_read.specs.Values.{plain_list, reference_list}
 use Rattle.planus_read.specs.Stands.{at}
 use Rattle.planus_read.proofs.ReadsBack.{what_stands_reads_back}
-use Rattle.planus_view.specs.declared.vector.Vector.{Vector}
+use Rattle.planus_view.specs.declared.vector.SliceView.{SliceView}
+use Rattle.planus_view.specs.declared.vector_of.VectorOf.{VectorOf}
 use Rattle.planus_view.specs.ReadBack.{IsVectorOf, PlainListsReadBack, ReferenceListsReadBack}
 use Rattle.planus_view.specs.VectorView.{view_of, ShowsVector}
 use Rattle.planus_view.specs.Views.{View}
@@ -26,11 +27,11 @@ module _ {T : Type 0} (stride : StrideGhosts T) where
       let bytes : drop position (drop start B) ≡ drop place B =
       drop-drop position start B ∙ ap (λ k. drop k B) e in cc
 
-  -- what is answered for a list that reads back
+  -- what is returned for a list that reads back
   vector_of :
       {X : Type 0} (ItemReads : ℕ → ℕ → X → Type 0) (B : List ℕ) (k start f : ℕ) (items : List X)
       → ListReads ItemReads B k start f stride.STRIDE items
-      → (r : Result (Vector T stride) ErrorKind)
+      → (r : Result (VectorOf (SliceView T stride)) ErrorKind)
       → Answer
       (shown (ShowsVector (drop start B) start) (vector_reading (drop start B) f stride.STRIDE)) r
       → IsOkAnd r (IsVectorOf stride ItemReads B k items)

@@ -14,19 +14,19 @@ module _
         (left : V) × (x : A) × is_sub_view v i n left × is_item left 0 x × converts x r
 
     -- these are the first of n items, converted in order
-    pub record FirstConverted (v : V) (n : ℕ) (out : List O) : Type 0 where
+    pub record AreFirstConverted (v : V) (n : ℕ) (out : List O) : Type 0 where
       pub each : (i : ℕ) (y : O) → slice_get out i ≡ Some y → ItemConverts v n i (Ok y)
 
     -- these are all n items, converted in order
-    pub record AllConverted (v : V) (n : ℕ) (out : List O) : Type 0 where
+    pub record AreAllConverted (v : V) (n : ℕ) (out : List O) : Type 0 where
       pub count : length out ≡ n
-      pub converted : FirstConverted v n out
+      pub converted : AreFirstConverted v n out
 
     -- The first refusal: no memory for the list, or that of an item behind converted ones.
-    abbrev pub Refused : V → ℕ → CopyError → Type 0
-    Refused v n e =
+    abbrev pub IsRefusal : V → ℕ → CopyError → Type 0
+    IsRefusal v n e =
         (e ≡ OutOfMemory)
-        ⊎ ((out : List O) × FirstConverted v n out × (length out < n)
+        ⊎ ((out : List O) × AreFirstConverted v n out × (length out < n)
         × ItemConverts v n (length out) (Err e))
 
 -- an item that was read is converted; the error of a read is the refusal, as it converts

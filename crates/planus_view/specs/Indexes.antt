@@ -1,9 +1,9 @@
--- What an index answers.
+-- What an index returns.
 use Rattle.std.specs.Prelude.{ℕ, ◌+◌, ◌<◌, ◌≤◌, ◌⊎◌, Option, Some, None}
 use Rattle.std.specs.declared.ops.Bound.{Bound}
 use Rattle.std.specs.declared.ops.Bound.TheVariants.{Included, Excluded, Unbounded}
 
--- where a range with these bounds begins, and where it ends in so many positions
+-- where a range with these bounds begins, and where it ends among this number of positions
 abbrev pub start_of : Bound ℕ → ℕ
 start_of (Included n) = n
 start_of (Excluded n) = n + 1

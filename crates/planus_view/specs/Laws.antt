@@ -55,7 +55,7 @@ abbrev pub EndsStep : Type 0
 EndsStep = (R : List (ℕ × ℕ)) (a b : ℕ) → StepsOfEnds R a b
 
 -- The same number, signed number and truth value stand at f of S and at g of R, or none at both; a
--- text is answered alike at both, be it with the text or with the kind of the error.
+-- text is returned alike at both, be it the text or the kind of the error.
 pub record SameItems (S : List ℕ) (f : ℕ) (R : List ℕ) (g : ℕ) : Type 0 where
   pub numbers : (width : Width) (x : ℕ) → NumberThere S f width x ↔ NumberThere R g width x
   pub signed : (width : Width) (x : ℤ) → SignedThere S f width x ↔ SignedThere R g width x

@@ -1,6 +1,11 @@
 pub mod Views
 pub mod SubViews
+pub mod Vectors
+pub mod SliceViews
 pub mod VectorView
+pub mod UnionViews
+pub mod UnionSliceViews
+pub mod UnionVectorView
 pub mod Ranges
 pub mod RangesLeft
 pub mod ItemsLeft

@@ -21,6 +21,13 @@ module _ {V C : Type 0} {view : ViewGhosts V} {cut : CutGhosts C} where
   abbrev pub left_of : SubViews V C view cut → List (ℕ × ℕ)
   left_of s = take (s.back - s.front) (drop s.front (ranges_of s))
 
+  -- the iterator is over the view v, cut for this size, with these ranges left
+  pub record IsOverRanges (v : V) (size : ℕ) (left : List (ℕ × ℕ)) (s : SubViews V C view cut) : Type 0
+    where
+      pub whole : whole_of s ≡ v
+      pub size_is : size_of s ≡ size
+      pub left_is : left_of s ≡ left
+
   -- both are over one view, for one size
   pub record IsSameCut (s t : SubViews V C view cut) : Type 0 where
     pub whole : whole_of t ≡ whole_of s
@@ -41,12 +48,12 @@ module _ {V C : Type 0} {view : ViewGhosts V} {cut : CutGhosts C} where
       (range : ℕ × ℕ) × (left_of s ≡ left_of t ++ range ∷ [])
       × view.is_sub_view (whole_of s) range.0 range.1 u × IsSameCut s t
 
-  -- so many ranges are dropped in front, or all
+  -- up to this number of ranges are skipped in front
   pub record SkipsFront (skipped : ℕ) (s t : SubViews V C view cut) : Type 0 where
     pub left : left_of t ≡ drop skipped (left_of s)
     pub same : IsSameCut s t
 
-  -- so many ranges are dropped at the back, or all
+  -- up to this number of ranges are skipped at the back
   pub record SkipsBack (skipped : ℕ) (s t : SubViews V C view cut) : Type 0 where
     pub left : left_of t ≡ take (length (left_of s) - skipped) (left_of s)
     pub same : IsSameCut s t

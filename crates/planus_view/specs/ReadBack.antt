@@ -8,29 +8,30 @@ use Rattle.planus_read.specs.Reading.{Leads, vector_reading}
 use Rattle.planus_read.specs.ReadsBack.{PlainReads, ReferenceReads}
 use Rattle.planus_read.specs.Stands.{Stands, at}
 use Rattle.planus_read.specs.Values.{Value, plain_list, reference_list}
-use Rattle.planus_view.specs.declared.vector.Vector.{Vector}
+use Rattle.planus_view.specs.declared.vector.SliceView.{SliceView}
+use Rattle.planus_view.specs.declared.vector_of.VectorOf.{VectorOf}
 use Rattle.planus_view.specs.VectorView.{view_of, ShowsVector}
 
 module _ {T : Type 0} (stride : StrideGhosts T) where
   -- The vector of the list of these items at k of B: it begins behind the count, has as many items,
-  -- and each of them is answered so.
+  -- and each of them is returned so.
   pub record IsVectorOf
       {X : Type 0} (ItemReads : ℕ → ℕ → X → Type 0) (B : List ℕ) (k : ℕ) (items : List X)
-      (v : Vector T stride) : Type 0 where
+      (v : VectorOf (SliceView T stride)) : Type 0 where
     pub view :
         view_of v ≡ record { bytes = drop (k + 4) B; start = k + 4; count = length items }
     pub each :
         (i : ℕ) (item : X) → slice_get items i ≡ Some item
         → ItemReads (k + 4) (i * stride.STRIDE) item
 
-  -- The list, a value that stands at k of B, is answered as its vector by each reference that leads
+  -- The list, a value that stands at k of B, is returned as its vector by each reference that leads
   -- to it, over each piece of B that begins no further on than the reference.
-  abbrev pub IsAnsweredAsVector :
+  abbrev pub IsReturnedAsVector :
       {X : Type 0} → (List ℕ → ℕ → ℕ → X → Type 0) → (List X → Value) → Type 0
-  IsAnsweredAsVector {X} ItemReads list =
+  IsReturnedAsVector {X} ItemReads list =
       (B : List ℕ) (k start f : ℕ) (items : List X) → Stands B (at k) (list items)
       → Leads B (start + f) k
-      → (r : Result (Vector T stride) ErrorKind)
+      → (r : Result (VectorOf (SliceView T stride)) ErrorKind)
       → Answer
       (shown (ShowsVector (drop start B) start) (vector_reading (drop start B) f stride.STRIDE)) r
       → IsOkAnd r (IsVectorOf (ItemReads B) B k items)
@@ -39,9 +40,9 @@ module _ {T : Type 0} (stride : StrideGhosts T) where
   abbrev pub PlainListsReadBack : Type 0
   PlainListsReadBack =
       (alignment : ℕ)
-      → IsAnsweredAsVector (λ B start f item. PlainReads (drop start B) f item)
+      → IsReturnedAsVector (λ B start f item. PlainReads (drop start B) f item)
       (plain_list stride.STRIDE alignment)
 
   -- So is a list of references, where the element type has the size of one.
   abbrev pub ReferenceListsReadBack : Type 0
-  ReferenceListsReadBack = stride.STRIDE ≡ 4 → IsAnsweredAsVector ReferenceReads reference_list
+  ReferenceListsReadBack = stride.STRIDE ≡ 4 → IsReturnedAsVector ReferenceReads reference_list

@@ -2,7 +2,7 @@
 
 ghost use Rattle.std.specs.Prelude.{◌≡◌, IfOk, IfErr, Result as std_result};
 ghost use Rattle.planus_view.specs.declared.copies.CopyError.{CopyError};
-ghost use Rattle.planus_view.specs.Copies.{AllConverted, Refused};
+ghost use Rattle.planus_view.specs.Copies.{AreAllConverted, IsRefusal};
 
 use crate::items::Items;
 use crate::view::ReadView;
@@ -118,9 +118,9 @@ pub fn copy_items<'n, V: ReadView, O: Drop, C: Conversion<V::Item, O>>(
 ) -> Result<Vec<O>, CopyError<'n>>
 where
     V::Item: Drop,
-    ensures all { IfOk result (λ copies. AllConverted V.is_sub_view V.is_item C.gives view.now
+    ensures all { IfOk result (λ copies. AreAllConverted V.is_sub_view V.is_item C.gives view.now
         (V.count view.now) copies.items) }
-    ensures refused { IfErr result (λ e. Refused V.is_sub_view V.is_item C.gives view.now
+    ensures refused { IfErr result (λ e. IsRefusal V.is_sub_view V.is_item C.gives view.now
         (V.count view.now) e) }
 {
     let mut copies = Vec::with_capacity(alloc, view.len())?;

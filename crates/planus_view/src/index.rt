@@ -1,33 +1,19 @@
 //! Items and parts of a view by an index.
 
-ghost use Rattle.std.specs.Prelude.{◌≡◌, ℕ, ◌+◌, ◌<◌, ◌≤◌, ⊤, Option};
-ghost use Rattle.std.specs.declared.ops.Bound.TheVariants.{Included};
+ghost use Rattle.std.specs.Prelude.{◌≡◌, ℕ, ◌<◌, ◌≤◌, Option};
+ghost use Rattle.std.specs.declared.ops.Bound.{Bound};
+ghost use Rattle.std.specs.declared.ops.Bound.TheVariants.{Included, Excluded, Unbounded};
 ghost use Rattle.planus_view.specs.Indexes.{GetsSubView, GetsItem, start_of, end_of};
 
 use crate::view::{ReadView, View};
 use std::ops::{Bound, Range, RangeFrom, RangeFull, RangeInclusive, RangeTo, RangeToInclusive};
 
-mod private {
-    pub trait Sealed {}
-}
-
-use private::Sealed;
+/// Seals [`ViewIndex`], since no other crate can name it.
+pub trait Sealed {}
 
 impl Sealed for usize {}
 
-impl Sealed for Range<usize> {}
-
-impl Sealed for RangeFrom<usize> {}
-
-impl Sealed for RangeFull {}
-
-impl Sealed for RangeInclusive<usize> {}
-
-impl Sealed for RangeTo<usize> {}
-
-impl Sealed for RangeToInclusive<usize> {}
-
-impl Sealed for (Bound<usize>, Bound<usize>) {}
+impl<R: PositionRange> Sealed for R {}
 
 /// What a view can be indexed by: a position, a range of positions, or two bounds of one.
 pub trait ViewIndex<V: View>: Sealed {
@@ -53,17 +39,6 @@ pub trait ViewIndex<V: View>: Sealed {
         ensures { is_there view.now self result };
 }
 
-// Returns the sub-view of the positions from `lo` up to `hi`, where the view has them.
-#[inline]
-fn sub_view_between<V: View>(view: &V, lo: usize, hi: usize) -> Option<V>
-    ensures { GetsSubView V.count V.is_sub_view view.now lo hi result }
-{
-    if lo > hi || hi > view.len() {
-        return None;
-    }
-    Some(view.sub_view(lo, hi))
-}
-
 impl<V: ReadView> ViewIndex<V> for usize {
     type Output = V::Item;
 
@@ -87,170 +62,125 @@ impl<V: ReadView> ViewIndex<V> for usize {
     }
 }
 
-impl<V: View> ViewIndex<V> for Range<usize> {
-    type Output = V;
+/// A range of positions.
+pub trait PositionRange {
+    /// Where it begins and where it ends.
+    ghost bounds: { Self → Bound ℕ × Bound ℕ };
 
-    ghost gets = { λ v i r. GetsSubView V.count V.is_sub_view v i.start i.end r };
+    /// Returns where it begins and where it ends.
+    fn bounds(self) -> (Bound<usize>, Bound<usize>)
+        ensures { result ≡ bounds self };
+}
 
-    ghost fits = { λ v i. (i.start ≤ i.end) × (i.end ≤ V.count v) };
-
-    ghost is_there = { λ v i u. V.is_sub_view v i.start i.end u };
+impl PositionRange for Range<usize> {
+    ghost bounds = { λ range. (Included range.start, Excluded range.end) };
 
     #[inline]
-    fn get(self, view: &V) -> Option<V> {
-        sub_view_between(view, self.start, self.end)
-    }
-
-    #[inline]
-    fn get_unchecked(self, view: &V) -> V {
-        view.sub_view(self.start, self.end)
+    fn bounds(self) -> (Bound<usize>, Bound<usize>) {
+        (Bound::Included(self.start), Bound::Excluded(self.end))
     }
 }
 
-impl<V: View> ViewIndex<V> for RangeFull {
-    type Output = V;
-
-    ghost gets = { λ v i r. GetsSubView V.count V.is_sub_view v 0 (V.count v) r };
-
-    ghost fits = { λ v i. ⊤ };
-
-    ghost is_there = { λ v i u. V.is_sub_view v 0 (V.count v) u };
+impl PositionRange for RangeFull {
+    ghost bounds = { λ range. (Unbounded, Unbounded) };
 
     #[inline]
-    fn get(self, view: &V) -> Option<V> {
-        sub_view_between(view, 0, view.len())
-    }
-
-    #[inline]
-    fn get_unchecked(self, view: &V) -> V {
-        view.sub_view(0, view.len())
+    fn bounds(self) -> (Bound<usize>, Bound<usize>) {
+        (Bound::Unbounded, Bound::Unbounded)
     }
 }
 
-impl<V: View> ViewIndex<V> for RangeFrom<usize> {
-    type Output = V;
-
-    ghost gets = { λ v i r. GetsSubView V.count V.is_sub_view v i.start (V.count v) r };
-
-    ghost fits = { λ v i. i.start ≤ V.count v };
-
-    ghost is_there = { λ v i u. V.is_sub_view v i.start (V.count v) u };
+impl PositionRange for RangeFrom<usize> {
+    ghost bounds = { λ range. (Included range.start, Unbounded) };
 
     #[inline]
-    fn get(self, view: &V) -> Option<V> {
-        sub_view_between(view, self.start, view.len())
-    }
-
-    #[inline]
-    fn get_unchecked(self, view: &V) -> V {
-        view.sub_view(self.start, view.len())
+    fn bounds(self) -> (Bound<usize>, Bound<usize>) {
+        (Bound::Included(self.start), Bound::Unbounded)
     }
 }
 
-impl<V: View> ViewIndex<V> for RangeTo<usize> {
-    type Output = V;
-
-    ghost gets = { λ v i r. GetsSubView V.count V.is_sub_view v 0 i.end r };
-
-    ghost fits = { λ v i. i.end ≤ V.count v };
-
-    ghost is_there = { λ v i u. V.is_sub_view v 0 i.end u };
+impl PositionRange for RangeTo<usize> {
+    ghost bounds = { λ range. (Unbounded, Excluded range.end) };
 
     #[inline]
-    fn get(self, view: &V) -> Option<V> {
-        sub_view_between(view, 0, self.end)
-    }
-
-    #[inline]
-    fn get_unchecked(self, view: &V) -> V {
-        view.sub_view(0, self.end)
+    fn bounds(self) -> (Bound<usize>, Bound<usize>) {
+        (Bound::Unbounded, Bound::Excluded(self.end))
     }
 }
 
-impl<V: View> ViewIndex<V> for RangeInclusive<usize> {
-    type Output = V;
-
-    ghost gets = { λ v i r. GetsSubView V.count V.is_sub_view v i.start (i.end + 1) r };
-
-    ghost fits = { λ v i. (i.start ≤ i.end + 1) × (i.end < V.count v) };
-
-    ghost is_there = { λ v i u. V.is_sub_view v i.start (i.end + 1) u };
+impl PositionRange for RangeInclusive<usize> {
+    ghost bounds = { λ range. (Included range.start, Included range.end) };
 
     #[inline]
-    fn get(self, view: &V) -> Option<V> {
-        let _len = view.len();
-        sub_view_between(view, *self.start(), self.end().checked_add(1)?)
-    }
-
-    #[inline]
-    fn get_unchecked(self, view: &V) -> V {
-        let _len = view.len();
-        view.sub_view(*self.start(), *self.end() + 1)
+    fn bounds(self) -> (Bound<usize>, Bound<usize>) {
+        (Bound::Included(*self.start()), Bound::Included(*self.end()))
     }
 }
 
-impl<V: View> ViewIndex<V> for RangeToInclusive<usize> {
-    type Output = V;
-
-    ghost gets = { λ v i r. GetsSubView V.count V.is_sub_view v 0 (i.end + 1) r };
-
-    ghost fits = { λ v i. i.end < V.count v };
-
-    ghost is_there = { λ v i u. V.is_sub_view v 0 (i.end + 1) u };
+impl PositionRange for RangeToInclusive<usize> {
+    ghost bounds = { λ range. (Unbounded, Included range.end) };
 
     #[inline]
-    fn get(self, view: &V) -> Option<V> {
-        let _len = view.len();
-        sub_view_between(view, 0, self.end.checked_add(1)?)
-    }
-
-    #[inline]
-    fn get_unchecked(self, view: &V) -> V {
-        let _len = view.len();
-        view.sub_view(0, self.end + 1)
+    fn bounds(self) -> (Bound<usize>, Bound<usize>) {
+        (Bound::Unbounded, Bound::Included(self.end))
     }
 }
 
-impl<V: View> ViewIndex<V> for (Bound<usize>, Bound<usize>) {
+impl PositionRange for (Bound<usize>, Bound<usize>) {
+    ghost bounds = { λ range. range };
+
+    #[inline]
+    fn bounds(self) -> (Bound<usize>, Bound<usize>) {
+        self
+    }
+}
+
+impl<V: View, R: PositionRange> ViewIndex<V> for R {
     type Output = V;
 
-    ghost gets = { λ v i r.
-        GetsSubView V.count V.is_sub_view v (start_of i.0) (end_of (V.count v) i.1) r };
+    ghost gets = { λ v i r. GetsSubView V.count V.is_sub_view v
+        (start_of (R.bounds i).0) (end_of (V.count v) (R.bounds i).1) r };
 
-    ghost fits = { λ v i.
-        (start_of i.0 ≤ end_of (V.count v) i.1) × (end_of (V.count v) i.1 ≤ V.count v) };
+    ghost fits = { λ v i. (start_of (R.bounds i).0 ≤ end_of (V.count v) (R.bounds i).1)
+        × (end_of (V.count v) (R.bounds i).1 ≤ V.count v) };
 
-    ghost is_there = { λ v i u. V.is_sub_view v (start_of i.0) (end_of (V.count v) i.1) u };
+    ghost is_there = { λ v i u. V.is_sub_view v
+        (start_of (R.bounds i).0) (end_of (V.count v) (R.bounds i).1) u };
 
     #[inline]
     fn get(self, view: &V) -> Option<V> {
         let count = view.len();
-        let start = match self.0 {
+        let (start, end) = self.bounds();
+        let lo = match start {
             Bound::Included(n) => n,
             Bound::Excluded(n) => n.checked_add(1)?,
             Bound::Unbounded => 0,
         };
-        let end = match self.1 {
+        let hi = match end {
             Bound::Included(n) => n.checked_add(1)?,
             Bound::Excluded(n) => n,
             Bound::Unbounded => count,
         };
-        sub_view_between(view, start, end)
+        if lo > hi || hi > count {
+            return None;
+        }
+        Some(view.sub_view(lo, hi))
     }
 
     #[inline]
     fn get_unchecked(self, view: &V) -> V {
         let count = view.len();
-        let start = match self.0 {
+        let (start, end) = self.bounds();
+        let lo = match start {
             Bound::Included(n) => n,
             Bound::Excluded(n) => n + 1,
             Bound::Unbounded => 0,
         };
-        let end = match self.1 {
+        let hi = match end {
             Bound::Included(n) => n + 1,
             Bound::Excluded(n) => n,
             Bound::Unbounded => count,
         };
-        view.sub_view(start, end)
+        view.sub_view(lo, hi)
     }
 }

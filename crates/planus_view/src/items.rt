@@ -36,7 +36,7 @@ impl<V: View> Items<V> {
         }
     }
 
-    // Drops so many in front, or all.
+    // Skips up to `skipped` items at the front.
     #[inline]
     fn skip_front(&mut self, skipped: usize)
         ensures { IsLeft self.old (front_of self.old + min skipped (count_left self.old))
@@ -45,7 +45,7 @@ impl<V: View> Items<V> {
         self.front += skipped.min(self.back - self.front);
     }
 
-    // Drops so many at the back, or all.
+    // Skips up to `skipped` items at the back.
     #[inline]
     fn skip_back(&mut self, skipped: usize)
         ensures { IsLeft self.old (front_of self.old)
@@ -133,7 +133,8 @@ impl<V: ReadView> Items<V> {
     ghost use Rattle.planus_view.specs.ItemsLeft.{front_of, back_of, count_left, IsLeft};
     ghost use Rattle.planus_view.specs.ItemsLeft.{ReadsFirst, ReadsLast};
 
-    /// Drops the next `skipped` items, or all, and returns the next one.
+    /// Skips up to `skipped` items at the front and returns the next one, or `None` where none is
+    /// left.
     #[inline]
     pub fn nth(&mut self, skipped: usize) -> Option<V::Item>
         ensures { (mid : Items V V.View) × IsLeft self.old
@@ -144,7 +145,8 @@ impl<V: ReadView> Items<V> {
         self.next()
     }
 
-    /// Drops the last `skipped` items, or all, and returns the last one.
+    /// Skips up to `skipped` items at the back and returns the last one before them, or `None` where
+    /// none is left.
     #[inline]
     pub fn nth_back(&mut self, skipped: usize) -> Option<V::Item>
         ensures { (mid : Items V V.View) × IsLeft self.old (front_of self.old)
@@ -155,7 +157,7 @@ impl<V: ReadView> Items<V> {
         self.next_back()
     }
 
-    /// Returns the last item.
+    /// Returns the last item, or `None` where none is left.
     #[inline]
     pub fn last(mut self) -> Option<V::Item>
         ensures { (after : Items V V.View) × ReadsLast V.is_item self result after }
@@ -163,7 +165,7 @@ impl<V: ReadView> Items<V> {
         self.next_back()
     }
 
-    /// Returns the number of items.
+    /// Returns the number of items that are left.
     #[inline]
     pub fn count(self) -> usize
         ensures { result ≡ count_left self }

@@ -1,23 +1,30 @@
-//! Views of vectors in a buffer: their items and sub-views by index, and iterators from both ends.
+//! Vectors and vectors of unions in a buffer: their items and sub-vectors by index, and iterators
+//! from both ends.
 #![tactic(auto)]
 
 pub mod copies;
 mod cuts;
 mod index;
+mod item_errors;
 mod items;
 pub mod laws;
-pub mod splits;
 mod sub_views;
+mod union_vector;
+pub mod union_vectors;
 mod vector;
+mod vector_of;
 pub mod vectors;
 mod view;
 
-pub use copies::{Conversion, EachItem, EachRead, FromItem, copy_items};
+pub use copies::FromItem;
 pub use cuts::{ByChunks, ByChunksExact, ByRChunks, ByRChunksExact, ByWindows, Cut};
 pub use index::{ViewIndex, ViewIndex as VectorIndex};
+pub use item_errors::{AsRead, ItemError};
 pub use items::Items;
 pub use sub_views::SubViews;
-pub use vector::Vector;
+pub use union_vector::{UnionSliceView, UnionVector};
+pub use vector::{SliceView, Vector};
+pub use vector_of::VectorOf;
 pub use view::{ReadView, View};
 
 /// Why items can't be copied.

@@ -18,23 +18,22 @@ pub struct SubViews<V: View, C: Cut> {
     size: usize,
     front: usize,
     back: usize,
-    of: PhantomData<C>,
+    _marker: PhantomData<C>,
     ghost positive: { 0 < size },
     ghost order: { front ≤ back },
     ghost inside: { back ≤ length (C.ranges (V.count whole) size) },
 }
 
 impl<V: View, C: Cut> SubViews<V, C> {
-    ghost use Rattle.planus_view.specs.RangesLeft.{whole_of, size_of, ranges_of, left_of};
+    ghost use Rattle.planus_view.specs.RangesLeft.{whole_of, ranges_of, IsOverRanges};
 
-    /// Creates an iterator over the sub-views at all ranges of the view for this size.
+    /// Creates an iterator over the sub-views at all ranges of the view for this size, which is above
+    /// 0.
     #[inline]
     #[tactic(auto, using(crate::proofs::LeftOf::all_left))]
     pub fn new(whole: V, size: usize) -> Self
         requires { 0 < size }
-        ensures whole { whole_of result ≡ whole }
-        ensures size { size_of result ≡ size }
-        ensures left { left_of result ≡ C.ranges (V.count whole) size }
+        ensures { IsOverRanges whole size (C.ranges (V.count whole) size) result }
     {
         let back = C::count(whole.len(), size);
         SubViews {
@@ -42,7 +41,7 @@ impl<V: View, C: Cut> SubViews<V, C> {
             size,
             front: 0,
             back,
-            of: PhantomData,
+            _marker: PhantomData,
         }
     }
 
@@ -129,7 +128,7 @@ impl<V: View, C: Cut> Clone for SubViews<V, C> {
             size: self.size,
             front: self.front,
             back: self.back,
-            of: self.of,
+            _marker: self._marker,
         })
     }
 }
@@ -139,7 +138,7 @@ impl<V: View, C: Cut> SubViews<V, C> {
     ghost use Rattle.planus_view.specs.RangesLeft.{SkipsFront, SkipsBack};
     ghost use Rattle.planus_view.specs.declared.sub_views.SubViews.{SubViews};
 
-    // Drops so many in front, or all.
+    // Skips up to `skipped` sub-views at the front.
     #[inline]
     #[tactic(auto, using(crate::proofs::LeftOf::front_skipped))]
     fn skip_front(&mut self, skipped: usize)
@@ -148,7 +147,7 @@ impl<V: View, C: Cut> SubViews<V, C> {
         self.front += skipped.min(self.back - self.front);
     }
 
-    // Drops so many at the back, or all.
+    // Skips up to `skipped` sub-views at the back.
     #[inline]
     #[tactic(auto, using(crate::proofs::LeftOf::back_skipped))]
     fn skip_back(&mut self, skipped: usize)
@@ -157,7 +156,8 @@ impl<V: View, C: Cut> SubViews<V, C> {
         self.back -= skipped.min(self.back - self.front);
     }
 
-    /// Drops the next `skipped` sub-views, or all, and returns the next one.
+    /// Skips up to `skipped` sub-views at the front and returns the next one, or `None` where none
+    /// is left.
     #[inline]
     pub fn nth(&mut self, skipped: usize) -> Option<V>
         ensures { (mid : SubViews V C V.View C.Cut) × SkipsFront skipped self.old mid
@@ -167,7 +167,8 @@ impl<V: View, C: Cut> SubViews<V, C> {
         self.next()
     }
 
-    /// Drops the last `skipped` sub-views, or all, and returns the last one.
+    /// Skips up to `skipped` sub-views at the back and returns the last one before them, or `None`
+    /// where none is left.
     #[inline]
     pub fn nth_back(&mut self, skipped: usize) -> Option<V>
         ensures { (mid : SubViews V C V.View C.Cut) × SkipsBack skipped self.old mid
@@ -177,7 +178,7 @@ impl<V: View, C: Cut> SubViews<V, C> {
         self.next_back()
     }
 
-    /// Returns the last sub-view.
+    /// Returns the last sub-view, or `None` where none is left.
     #[inline]
     pub fn last(mut self) -> Option<V>
         ensures { (after : SubViews V C V.View C.Cut) × TakesLast self result after }
@@ -185,7 +186,7 @@ impl<V: View, C: Cut> SubViews<V, C> {
         self.next_back()
     }
 
-    /// Returns the number of sub-views.
+    /// Returns the number of sub-views that are left.
     #[inline]
     pub fn count(self) -> usize
         ensures { result ≡ length (left_of self) }

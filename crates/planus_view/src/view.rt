@@ -2,7 +2,7 @@
 
 ghost use Rattle.std.specs.Prelude.{◌≡◌, ℕ, ◌+◌, ◌-◌, ◌<◌, ◌≤◌};
 
-/// A view of so many positions, of which every range is a view too.
+/// A view of items at the positions from 0 up to their number, of which every range is a view too.
 pub trait View: Copy {
     /// The number of items.
     ghost count: { Self → ℕ };
@@ -14,7 +14,8 @@ pub trait View: Copy {
     fn len(&self) -> usize
         ensures { result ≡ count self.now };
 
-    /// Returns the sub-view of the positions from `lo` up to `hi`.
+    /// Returns the sub-view of the positions from `lo` up to `hi`: `lo` is at most `hi`, and `hi` at
+    /// most the number of items.
     fn sub_view(&self, lo: usize, hi: usize) -> Self
         requires order { lo ≤ hi }
         requires inside { hi ≤ count self.now }
@@ -29,18 +30,17 @@ pub trait View: Copy {
 }
 
 /// A view whose items can be read.
-///
-/// Code that is generic over the items of a vector is written over a `V: ReadView`, as that of this
-/// crate is: over a `Vector<'b, T>` with a type parameter `T`, which calls the vector's own methods,
-/// the checker has no proof today. Over a vector of a known type it has.
 pub trait ReadView: View {
     /// What an item is read as.
     type Item;
 
+    /// How its items are converted where they are copied.
+    type Copied;
+
     /// What may be returned for the item at a position.
     ghost is_item: { Self → ℕ → Self.Item → Type 0 };
 
-    /// Returns the item at the position.
+    /// Returns the item at the position, which is below the number of items.
     fn item(&self, position: usize) -> Self::Item
         requires { position < Self.count self.now }
         ensures { is_item self.now position result };

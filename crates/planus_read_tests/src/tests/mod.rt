@@ -5,8 +5,8 @@ mod size_prefixed;
 mod tables;
 mod traits;
 
+use crate::plain;
 use planus_read::errors::ErrorKind;
-use planus_read::plain;
 use std::alloc::Global;
 use std::fmt::Display;
 

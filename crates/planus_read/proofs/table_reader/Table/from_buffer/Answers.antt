@@ -1,4 +1,4 @@
-use Rattle.std.proofs.Common.{◌≡◌, ℕ, ◌+◌, ◌≤◌, List, length, drop, ap, subst, ◌∙◌, arith}
+use Rattle.std.proofs.Common.{◌≡◌, ℕ, ◌+◌, ◌≤◌, List, length, drop, ap, subst, ◌∙◌}
 use Rattle.std.specs.Int.{w32}
 use Rattle.planus_read.specs.Clauses.{AllHold}
 use Rattle.planus_read.specs.Pieces.{slice_bytes, slice_start}
@@ -9,13 +9,10 @@ use Rattle.planus_read.proofs.table_reader.Table.from_buffer.Goals as goal
 pub returns : goal.returns
 returns c =
     let S : List ℕ = slice_bytes c.args.buffer in let f : ℕ = c.args.offset in
-    let to : c.in-Some.object_offset ≡ target S f =
-    omega (
-      arith,
-      c.in-Some.ensures,
-      num_value S f w32 c.in_ok-value.value c.in_ok-value.ensures,
-    ) in
-    let piece = c.in_ok-object.ensures.piece in
+    let at : ℕ = f + c.in_ok-value.value in
+    let to : at ≡ target S f =
+    ap (λ n. f + n) (num_value S f w32 c.in_ok-value.value c.in_ok-value.ensures) in
+    let piece = c.unchecked_advance-object.ensures in
     let inside : target S f ≤ length S = subst (λ o. o ≤ length S) to piece.inside in
     let object : AllHold (object_clauses S (target S f)) =
     subst (λ o. AllHold (object_clauses S o)) to c.in_ok-vtable.ensures.holds in

@@ -1,0 +1,40 @@
+-- Views of unions whose tags follow one another in a piece of a buffer, and their references in
+-- another.
+use Rattle.std.specs.Prelude.{ℕ, ◌*◌, List, slice_index, Result}
+use Rattle.planus_read.specs.Converted.{Converted}
+use Rattle.planus_read.specs.Located.{Located}
+use Rattle.planus_read.specs.Pieces.{slice_bytes, slice_start}
+use Rattle.planus_read.specs.declared.errors.ErrorKind.{ErrorKind}
+use Rattle.planus_read.specs.declared.located.Error.{Error}
+use Rattle.planus_view.specs.UnionViews.{UnionView, IsSubView}
+use Rattle.planus_view.specs.declared.union_vector.UnionSliceView.{UnionSliceView}
+
+-- the view, and how many items it has
+abbrev pub union_view : {T E : _} → UnionSliceView T E → UnionView
+union_view v =
+    record {
+      tags = slice_bytes v.tags;
+      references = slice_bytes v.values;
+      start = slice_start v.values;
+      count = v.count;
+    }
+
+abbrev pub union_count : {T E : _} → UnionSliceView T E → ℕ
+union_count v = (union_view v).count
+
+-- the last view is the sub-view of the first at these positions
+abbrev pub IsSubUnions : {T E : _} → UnionSliceView T E → ℕ → ℕ → UnionSliceView T E → Type 0
+IsSubUnions v lo hi u = IsSubView (union_view v) lo hi (union_view u)
+
+-- r may be returned for the item at the position: what the union's type may return for the tag and
+-- the reference at the position, its error at the start of the references, under these names, as it
+-- is returned
+abbrev pub IsUnionOf :
+    {T E : _} {A B : Type 0} → (List ℕ → ℕ → ℕ → ℕ → Result A ErrorKind → Type 0) → List ℕ
+    → List ℕ → (Error → B → Type 0) → UnionSliceView T E → ℕ → Result A B → Type 0
+IsUnionOf reads name method keeps v i r =
+    let view = union_view v in
+    Converted
+    (Located (reads view.references view.start (slice_index view.tags i) (i * 4)) name method
+    view.start)
+    keeps r
