@@ -33,8 +33,8 @@ differ() {
     cat stdout
     sed 's/:.*/: refused before it/' stdout
     for at in 0 6 14; do echo "a list of two texts: refused at $at bytes, then 26 bytes"; done
-    echo 'a list of two unions: refused at 14 bytes, then 34 bytes'
-    echo 'a list of two unions: refused at 30 bytes, then 50 bytes'
+    echo 'a vector of two unions: refused at 14 bytes, then 34 bytes'
+    echo 'a vector of two unions: refused at 30 bytes, then 50 bytes'
     for at in 0 8 16; do echo "a weapon: refused at $at bytes, then 28 bytes"; done
     sed -n 's/: as it should be/: refused, then as it should be/p' stdout
 } > "$may"

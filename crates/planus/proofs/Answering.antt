@@ -21,7 +21,7 @@ use Rattle.planus_write.proofs.PartBytes.{finish_size, sized_finish_size}
 use Rattle.planus.specs.Steps.{Step, text, bytes, numbers, refs, unions, table, finish, clear}
 use Rattle.planus.specs.Steps.{root_first, size_first}
 use Rattle.planus.specs.Slots.{greatest_field}
-use Rattle.planus.specs.Kinds.{Kind, a_value, a_union_list, kind_of, kind_named, naming_fault}
+use Rattle.planus.specs.Kinds.{Kind, a_value, a_union_vector, kind_of, kind_named, naming_fault}
 use Rattle.planus.specs.Runs.{State, nothing_written, cleared, Advances, LeadsTo, Writes, StepTooLarge}
 use Rattle.planus.specs.Runs.{named_at, value_at, union_of, all_of, width_of, fits_width, numbers_value, value_of}
 use Rattle.planus.specs.Runs.{entries_put, finish_of, values_added, finishes_added}
@@ -94,9 +94,9 @@ all_or_not switches (entry ∷ entries) got past fit h =
 is_of_kind : (kind : Kind) (of : Option Kind) → naming_fault kind (Some of) ≡ None → of ≡ Some kind
 is_of_kind kind None e = (cc)
 is_of_kind a_value (Some a_value) e = refl
-is_of_kind a_value (Some a_union_list) e = (cc)
-is_of_kind a_union_list (Some a_value) e = (cc)
-is_of_kind a_union_list (Some a_union_list) e = refl
+is_of_kind a_value (Some a_union_vector) e = (cc)
+is_of_kind a_union_vector (Some a_value) e = (cc)
+is_of_kind a_union_vector (Some a_union_vector) e = refl
 
 -- numbers without a fault are a list
 numbers_there : (width : Option Width) (items : List ℕ) → numbers_fault width items ≡ None → (v : Value) × (numbers_value width items ≡ Some v)
@@ -166,8 +166,8 @@ module _ (switches : Switches) (cs : List Step) (state : State) (run : LeadsTo s
       (entries_of (value.reference_list made.0), ap (option_map entries_of) is, fit (refs steps) (value.reference_list made.0) is)
   puts (unions items) kind e =
       let made = all_are (union_of state.listed) (union_fault (fault_here a_value)) union_there items e in
-      let is : value_of state.listed (unions items) ≡ Some (value.union_list made.0) = ap (option_map value.union_list) made.1 in
-      (entries_of (value.union_list made.0), ap (option_map entries_of) is, fit (unions items) (value.union_list made.0) is)
+      let is : value_of state.listed (unions items) ≡ Some (value.union_vector made.0) = ap (option_map value.union_vector) made.1 in
+      (entries_of (value.union_vector made.0), ap (option_map entries_of) is, fit (unions items) (value.union_vector made.0) is)
   puts (table fields) kind e =
       let made = fields_are state.listed fault_here good [] greatest_field fields e in
       let is : value_of state.listed (table fields) ≡ Some (value.table made.0) = ap (option_map value.table) made.1 in

@@ -11,7 +11,7 @@ use Rattle.planus_read.specs.Bytes.{BytesStand}
 use Rattle.planus_read.specs.Values.{Field, field_at}
 use Rattle.planus_read.specs.Aligned.{field_alignment}
 use Rattle.planus_write.specs.Tables.{Declared, IsTable, SlotsOnce, declared_of, field_size, offset_in}
-use Rattle.planus_write.specs.TableWriting.{Writer, WasTold, slot_position, entered}
+use Rattle.planus_write.specs.TableWriting.{Writer, WasTold, slot_position, with_entry}
 use Rattle.planus_write.proofs.ToldTables.{pair_length}
 use Rattle.planus.specs.Steps.{FieldStep, content_of, bare_field}
 use Rattle.planus.specs.declared.steps.Field as code
@@ -181,7 +181,7 @@ module _ (replay : Progress) (reached : AreReached replay) (fields : List (ℕ �
     abbrev one : Declared
     one = record { slot = x.0; size = field_size field; alignment = field_alignment field }
 
-    pub declares : (after : Writer) → after ≡ entered one writer → ((declared : List Declared) → WasTold writer declared → WasTold after (declared ++ one ∷ []))
+    pub declares : (after : Writer) → after ≡ with_entry one writer → ((declared : List Declared) → WasTold writer declared → WasTold after (declared ++ one ∷ []))
         → Declares replay (fields ++ x ∷ []) after (field_alignment field)
     declares after is_entered told = record {
       all = so_far.all ++ (x.0, field) ∷ [];

@@ -3,7 +3,7 @@ use Rattle.std.proofs.Common.{◌≡◌, ℕ, List, [], ◌∷◌, ◌++◌, ref
 use Rattle.std.proofs.Common.{append_assoc, append-nil, sym}
 use Rattle.std.specs.Option.{option_or}
 use Rattle.planus.specs.Steps.{FieldStep, number_field, ref_field, tags_field, values_field}
-use Rattle.planus.specs.Kinds.{Kind, a_value, a_union_list}
+use Rattle.planus.specs.Kinds.{Kind, a_value, a_union_vector}
 use Rattle.planus.specs.Slots.{slot_fault, rising_fault, alignment_of}
 use Rattle.planus.specs.TableChecks.{content_fault, field_fault, fields_fault}
 use Rattle.planus.specs.Declaring.{slots_of}
@@ -14,8 +14,8 @@ module _ (f g : Kind → ℕ → Option Why) (same : (kind : Kind) (n : ℕ) →
   same_content : (content : FieldStep) → content_fault f content ≡ content_fault g content
   same_content (number_field width n) = refl
   same_content (ref_field step) = same a_value step
-  same_content (tags_field step) = same a_union_list step
-  same_content (values_field step) = same a_union_list step
+  same_content (tags_field step) = same a_union_vector step
+  same_content (values_field step) = same a_union_vector step
 
   pub same_fields : (slots : List ℕ) (before : ℕ) (fields : List (ℕ × FieldStep)) → fields_fault f slots before fields ≡ fields_fault g slots before fields
   same_fields slots before [] = refl

@@ -13,7 +13,7 @@ use Rattle.planus.specs.declared.steps.Field as code
 use Rattle.planus.specs.Slots.{slot_fault, rising_fault, place_fault, alignment_of, greatest_field}
 use Rattle.planus.specs.Runs.{Listed, named_at, field_of, with_field, fields_of}
 use Rattle.planus.specs.TableChecks.{content_fault, field_fault, fields_fault, table_fault}
-use Rattle.planus.specs.Kinds.{Kind, a_value, a_union_list, kind_named, naming_fault}
+use Rattle.planus.specs.Kinds.{Kind, a_value, a_union_vector, kind_named, naming_fault}
 use Rattle.planus.specs.Names.{name_of, listed_from, written_at, fault_since}
 use Rattle.planus.specs.declared.faults.Why.{Why}
 use Rattle.planus.specs.Prepared.{field_reach}
@@ -88,9 +88,9 @@ named_good first since kind step none = by_case (written_at first since step) re
   where
     by_kind : (wanted found : Kind) → naming_fault wanted (Some (Some found)) ≡ None → found ≡ wanted
     by_kind a_value a_value e = refl
-    by_kind a_value a_union_list e = (cc)
-    by_kind a_union_list a_value e = (cc)
-    by_kind a_union_list a_union_list e = refl
+    by_kind a_value a_union_vector e = (cc)
+    by_kind a_union_vector a_value e = (cc)
+    by_kind a_union_vector a_union_vector e = refl
 
     by_case : (found : Option (Option Named)) → written_at first since step ≡ found → naming_fault kind (option_map (option_map kind_named) found) ≡ None
         → (of : Named) × (named_at (listed_from first since) step ≡ Some of) × (kind_named of ≡ kind)
@@ -98,12 +98,12 @@ named_good first since kind step none = by_case (written_at first since step) re
       where
         none_good : (wanted : Kind) → naming_fault wanted None ≡ None → ⊥
         none_good a_value e = (cc)
-        none_good a_union_list e = (cc)
+        none_good a_union_vector e = (cc)
     by_case (Some None) is e = absurd (finish_good kind e)
       where
         finish_good : (wanted : Kind) → naming_fault wanted (Some None) ≡ None → ⊥
         finish_good a_value e = (cc)
-        finish_good a_union_list e = (cc)
+        finish_good a_union_vector e = (cc)
     by_case (Some (Some name)) is e = (name, named_value first since step name is, by_kind kind (kind_named name) e)
 
 -- nothing is wrong with what one of the fields holds, where there is no fault

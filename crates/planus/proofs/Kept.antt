@@ -115,7 +115,7 @@ value_stays listed more (refs steps) v e =
     let made = made_of value.reference_list (all_of (value_at listed) steps) v e in
     rw (all_more (value_at listed) (value_at (listed ++ more)) (distance_more value_distance listed more) steps made.0 made.1) (ap Some made.2)
 value_stays listed more (unions items) v e =
-    let made = made_of value.union_list (all_of (union_of listed) items) v e in
+    let made = made_of value.union_vector (all_of (union_of listed) items) v e in
     rw (all_more (union_of listed) (union_of (listed ++ more)) (union_more listed more) items made.0 made.1) (ap Some made.2)
 value_stays listed more (table fields) v e =
     let made = made_of value.table (fields_of listed [] greatest_field fields) v e in
@@ -407,7 +407,7 @@ values_are_written switches all done (refs steps) before h v e =
     subst (λ v. IsWritten (length before.past.written.bytes) v × (TextIsUtf8 (refs steps) → WellFormed v)) made.2
     (references_behind (ValueKept all done before.past before.listed) (length before.past.written.bytes) (value_reaches all done before.past before.listed) before.listed h.values steps made.0 made.1, λ _. tt)
 values_are_written switches all done (unions items) before h v e =
-    let made = made_of value.union_list (all_of (union_of before.listed) items) v e in
+    let made = made_of value.union_vector (all_of (union_of before.listed) items) v e in
     subst (λ v. IsWritten (length before.past.written.bytes) v × (TextIsUtf8 (unions items) → WellFormed v)) made.2
     (unions_behind (ValueKept all done before.past before.listed) (length before.past.written.bytes) (value_reaches all done before.past before.listed) before.listed h.values items made.0 made.1, λ _. tt)
 values_are_written switches all done (table fields) before h v e =

@@ -11,7 +11,7 @@ use Rattle.planus_write.specs.Parts.{Named, named_by}
 use Rattle.planus_write.specs.Kept.{TagsReached}
 use Rattle.planus.specs.Steps.{Step, text, bytes, numbers, refs, unions, table, finish, clear}
 use Rattle.planus.specs.Slots.{greatest_field}
-use Rattle.planus.specs.Kinds.{Kind, a_value, a_union_list, kind_of, kind_by_tags, kind_named}
+use Rattle.planus.specs.Kinds.{Kind, a_value, a_union_vector, kind_of, kind_by_tags, kind_named}
 use Rattle.planus.specs.Names.{IsReached}
 use Rattle.planus.specs.Runs.{Listed, named_at, value_distance, tags_distance, references_distance}
 use Rattle.planus.specs.Runs.{distance_at, value_at, union_of, all_of, width_of, fits_width}
@@ -27,18 +27,18 @@ value_kind named distance e = by_tags named.tags e
     by_tags None e = refl
     by_tags (Some tags) e = (cc)
 
--- what has tags, or references, is a union list
-tags_kind : (named : Named) (distance : ℕ) → tags_distance named ≡ Some distance → kind_named named ≡ a_union_list
+-- what has tags, or references, is a vector of unions
+tags_kind : (named : Named) (distance : ℕ) → tags_distance named ≡ Some distance → kind_named named ≡ a_union_vector
 tags_kind named distance e = by_tags named.tags e
   where
-    by_tags : (tags : Option ℕ) → tags ≡ Some distance → kind_by_tags tags ≡ a_union_list
+    by_tags : (tags : Option ℕ) → tags ≡ Some distance → kind_by_tags tags ≡ a_union_vector
     by_tags None e = (cc)
     by_tags (Some tags) e = refl
 
-references_kind : (named : Named) (distance : ℕ) → references_distance named ≡ Some distance → kind_named named ≡ a_union_list
+references_kind : (named : Named) (distance : ℕ) → references_distance named ≡ Some distance → kind_named named ≡ a_union_vector
 references_kind named distance e = by_tags named.tags e
   where
-    by_tags : (tags : Option ℕ) → option_map (λ tags. named.distance) tags ≡ Some distance → kind_by_tags tags ≡ a_union_list
+    by_tags : (tags : Option ℕ) → option_map (λ tags. named.distance) tags ≡ Some distance → kind_by_tags tags ≡ a_union_vector
     by_tags None e = (cc)
     by_tags (Some tags) e = refl
 
@@ -50,17 +50,17 @@ kind_value named e = by_tags named.tags e
     by_tags None e = (named.distance, refl)
     by_tags (Some tags) e = (cc)
 
-kind_tags : (named : Named) → kind_named named ≡ a_union_list → (distance : ℕ) × (tags_distance named ≡ Some distance)
+kind_tags : (named : Named) → kind_named named ≡ a_union_vector → (distance : ℕ) × (tags_distance named ≡ Some distance)
 kind_tags named e = by_tags named.tags e
   where
-    by_tags : (tags : Option ℕ) → kind_by_tags tags ≡ a_union_list → (distance : ℕ) × (tags ≡ Some distance)
+    by_tags : (tags : Option ℕ) → kind_by_tags tags ≡ a_union_vector → (distance : ℕ) × (tags ≡ Some distance)
     by_tags None e = (cc)
     by_tags (Some tags) e = (tags, refl)
 
-kind_references : (named : Named) → kind_named named ≡ a_union_list → (distance : ℕ) × (references_distance named ≡ Some distance)
+kind_references : (named : Named) → kind_named named ≡ a_union_vector → (distance : ℕ) × (references_distance named ≡ Some distance)
 kind_references named e = by_tags named.tags e
   where
-    by_tags : (tags : Option ℕ) → kind_by_tags tags ≡ a_union_list → (distance : ℕ) × (option_map (λ tags. named.distance) tags ≡ Some distance)
+    by_tags : (tags : Option ℕ) → kind_by_tags tags ≡ a_union_vector → (distance : ℕ) × (option_map (λ tags. named.distance) tags ≡ Some distance)
     by_tags None e = (cc)
     by_tags (Some tags) e = (named.distance, refl)
 
@@ -78,11 +78,11 @@ module _ (listed : List Listed) (fault : Kind → ℕ → Option Why) (good : Na
   pub value_good : (step distance : ℕ) → value_at listed step ≡ Some distance → fault a_value step ≡ None
   value_good = good_as a_value value_distance value_kind
 
-  pub tags_good : (step distance : ℕ) → distance_at tags_distance listed step ≡ Some distance → fault a_union_list step ≡ None
-  tags_good = good_as a_union_list tags_distance tags_kind
+  pub tags_good : (step distance : ℕ) → distance_at tags_distance listed step ≡ Some distance → fault a_union_vector step ≡ None
+  tags_good = good_as a_union_vector tags_distance tags_kind
 
-  pub references_good : (step distance : ℕ) → distance_at references_distance listed step ≡ Some distance → fault a_union_list step ≡ None
-  references_good = good_as a_union_list references_distance references_kind
+  pub references_good : (step distance : ℕ) → distance_at references_distance listed step ≡ Some distance → fault a_union_vector step ≡ None
+  references_good = good_as a_union_vector references_distance references_kind
 
 -- what may be named as one of a kind is listed, and is one
 abbrev pub GoodAreNamed : List Listed → (Kind → ℕ → Option Why) → Type 0
@@ -99,11 +99,11 @@ module _ (listed : List Listed) (fault : Kind → ℕ → Option Why) (good : Go
   pub good_value : (step : ℕ) → fault a_value step ≡ None → (distance : ℕ) × (value_at listed step ≡ Some distance)
   good_value = named_as a_value value_distance kind_value
 
-  pub good_tags : (step : ℕ) → fault a_union_list step ≡ None → (distance : ℕ) × (distance_at tags_distance listed step ≡ Some distance)
-  good_tags = named_as a_union_list tags_distance kind_tags
+  pub good_tags : (step : ℕ) → fault a_union_vector step ≡ None → (distance : ℕ) × (distance_at tags_distance listed step ≡ Some distance)
+  good_tags = named_as a_union_vector tags_distance kind_tags
 
-  pub good_references : (step : ℕ) → fault a_union_list step ≡ None → (distance : ℕ) × (distance_at references_distance listed step ≡ Some distance)
-  good_references = named_as a_union_list references_distance kind_references
+  pub good_references : (step : ℕ) → fault a_union_vector step ≡ None → (distance : ℕ) × (distance_at references_distance listed step ≡ Some distance)
+  good_references = named_as a_union_vector references_distance kind_references
 
 -- what is named lies in the bytes by each of its distances
 pub value_reached : (n : ℕ) (named : Named) (distance : ℕ) → IsReached n named → value_distance named ≡ Some distance → distance ≤ n
@@ -151,8 +151,8 @@ kind_written listed (refs steps) v got e =
     let made = made_of value.reference_list (all_of (value_at listed) steps) v e in
     subst (λ w. Some a_value ≡ Some (kind_named (named_by w got))) made.2 refl
 kind_written listed (unions items) v got e =
-    let made = made_of value.union_list (all_of (union_of listed) items) v e in
-    subst (λ w. Some a_union_list ≡ Some (kind_named (named_by w got))) made.2 refl
+    let made = made_of value.union_vector (all_of (union_of listed) items) v e in
+    subst (λ w. Some a_union_vector ≡ Some (kind_named (named_by w got))) made.2 refl
 kind_written listed (table fields) v got e =
     let made = made_of value.table (fields_of listed [] greatest_field fields) v e in
     subst (λ w. Some a_value ≡ Some (kind_named (named_by w got))) made.2 refl

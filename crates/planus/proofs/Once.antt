@@ -8,7 +8,7 @@ use Rattle.std.proofs.lemmas.Slice.Eq.{bytes_eq-Decides}
 use Rattle.planus_back.specs.Parts.{Part}
 use Rattle.planus_read.specs.Values.{Value}
 use Rattle.planus_write.specs.Shared.{Kind, texts, byte_lists, vtables, same_kind, Contents, same_contents, Switches, is_on, shared_as}
-use Rattle.planus_write.specs.Shared.{Seen, distance_seen, found, and_seen}
+use Rattle.planus_write.specs.Shared.{Seen, distance_seen, earlier_distance, and_seen}
 use Rattle.planus_write.specs.Past.{Past, Entry, PutsAfter, PutsAll, part_after, found_before}
 use Rattle.planus_write.specs.Parts.{Named, last_of, text_entry, byte_list_entry}
 use Rattle.planus.specs.Steps.{Step, text, bytes, numbers, refs, unions, table, finish, clear}
@@ -57,7 +57,7 @@ not_both None d e f = (cc)
 not_both (Some n) d e f = (cc)
 
 -- new contents hide none that were seen
-added_stays : (shared : Option Contents) (distance : ℕ) (seen : List Seen) → found seen shared ≡ None → Stays seen (and_seen shared distance seen)
+added_stays : (shared : Option Contents) (distance : ℕ) (seen : List Seen) → earlier_distance seen shared ≡ None → Stays seen (and_seen shared distance seen)
 added_stays None distance seen is_new contents d h = h
 added_stays (Some shared) distance seen is_new contents d h = by_test (same_contents shared contents) refl
   where
@@ -65,7 +65,7 @@ added_stays (Some shared) distance seen is_new contents d h = by_test (same_cont
     by_test true is = absurd (not_both (distance_seen seen contents) d (ap (distance_seen seen) (sym (one_contents shared contents is)) ∙ is_new) h)
     by_test false is = h
 
-after_stays : (earlier : Option ℕ) (part : Part) (shared : Option Contents) (before : Past) (d : ℕ) (after : Past) → found before.seen shared ≡ earlier
+after_stays : (earlier : Option ℕ) (part : Part) (shared : Option Contents) (before : Past) (d : ℕ) (after : Past) → earlier_distance before.seen shared ≡ earlier
     → PutsAfter earlier part shared before d after → Stays before.seen after.seen
 after_stays (Some n) part shared before d after is puts = subst (λ (past : Past). Stays before.seen past.seen) (sym puts.1) (λ contents d h. h)
 after_stays None part shared before d after is puts = subst (Stays before.seen) (sym puts.seen) (added_stays shared d before.seen is)
@@ -79,9 +79,9 @@ all_stays switches (entry ∷ entries) got before ds after puts = λ contents d 
 
 -- contents are found at the distance that they got
 after_found : (earlier : Option ℕ) (part : Part) (shared : Option Contents) (contents : Contents) (before : Past) (d : ℕ) (after : Past) → shared ≡ Some contents
-    → found before.seen shared ≡ earlier → PutsAfter earlier part shared before d after → distance_seen after.seen contents ≡ Some d
+    → earlier_distance before.seen shared ≡ earlier → PutsAfter earlier part shared before d after → distance_seen after.seen contents ≡ Some d
 after_found (Some n) part shared contents before d after same is puts =
-    ap (λ (past : Past). distance_seen past.seen contents) puts.1 ∙ sym (ap (found before.seen) same) ∙ is ∙ ap (λ (n : ℕ). Some n) (sym puts.0)
+    ap (λ (past : Past). distance_seen past.seen contents) puts.1 ∙ sym (ap (earlier_distance before.seen) same) ∙ is ∙ ap (λ (n : ℕ). Some n) (sym puts.0)
 after_found None part shared contents before d after same is puts =
     ap (λ seen. distance_seen seen contents) (puts.seen ∙ ap (λ o. and_seen o d before.seen) same)
     ∙ ap (λ b. if b then Some d else distance_seen before.seen contents) (same_itself contents)
@@ -123,7 +123,7 @@ module _ (switches : Switches) (all : List Step) where
 
   record Once (done : List Step) (state : State) : Type 0 where
     numbered : state.next ≡ length done
-    found : AllByRecursion (IsFound state.past.seen) state.listed
+    earlier_distance : AllByRecursion (IsFound state.past.seen) state.listed
     finished : AllByRecursion (λ (given : Finish). AreOnce switches all given.places) state.finished
 
   -- one step that writes
@@ -143,7 +143,7 @@ module _ (switches : Switches) (all : List Step) where
         → AllByRecursion (λ (given : Finish). AreOnce switches all given.places) (finishes_added step before after.past) → Once (done ++ step ∷ []) after
     once_with new given = record {
       numbered = let next = writes.next in let counted = h.numbered in omega (arith, next, counted, length-append done (step ∷ []));
-      found = subst (AllByRecursion (IsFound after.past.seen)) (sym writes.listed)
+      earlier_distance = subst (AllByRecursion (IsFound after.past.seen)) (sym writes.listed)
           (all_append (IsFound after.past.seen) before.listed (values_added (value_of before.listed step) before.next writes.got)
           (all_weaker (IsFound before.past.seen) (IsFound after.past.seen)
           (λ one was contents at on. all_stays switches writes.entries [] before.past writes.got after.past writes.puts contents one.named.distance (was contents at on)) before.listed h.found) new);
@@ -182,7 +182,7 @@ module _ (switches : Switches) (all : List Step) where
       once_with done (finish front root identifier) before after there writes h tt (are_once before.past.seen before.listed h.found, tt)
   step_once done clear before after there is_clear h =
       subst (Once (done ++ clear ∷ [])) (sym is_clear)
-      (record { numbered = let counted = h.numbered in omega (arith, counted, length-append done (clear ∷ [])); found = tt; finished = h.finished })
+      (record { numbered = let counted = h.numbered in omega (arith, counted, length-append done (clear ∷ [])); earlier_distance = tt; finished = h.finished })
 
   leads_once : (done rest : List Step) → all ≡ done ++ rest → (before after : State) → LeadsTo switches before rest after → Once done before
       → AllByRecursion (λ (given : Finish). AreOnce switches all given.places) after.finished
@@ -195,7 +195,7 @@ module _ (switches : Switches) (all : List Step) where
 pub equal_contents_have_one_distance : EqualContentsHaveOneDistance
 equal_contents_have_one_distance switches steps finished runs =
     subst (AllByRecursion (λ (given : Finish). AreOnce switches steps given.places)) (sym runs.2)
-    (leads_once switches steps [] steps refl nothing_written runs.0 runs.1 (record { numbered = refl; found = tt; finished = tt }))
+    (leads_once switches steps [] steps refl nothing_written runs.0 runs.1 (record { numbered = refl; earlier_distance = tt; finished = tt }))
 
 -- what was got before stays
 got_stays : (switches : Switches) (entries : List Entry) (got : List ℕ) (before : Past) (ds : List ℕ) (after : Past) → PutsAll switches entries got before ds after → (k d : ℕ)

@@ -149,7 +149,7 @@ values_are_fit before (value.plain_list size alignment items) written =
     list_fit plain_item size alignment before items (value.plain_list size alignment items) (plain_items size alignment before items written)
 values_are_fit before (value.reference_list distances) written =
     list_fit reference_item 4 4 before distances (value.reference_list distances) (reference_items before distances written)
-values_are_fit before (value.union_list items) written =
+values_are_fit before (value.union_vector items) written =
     let list = list_fit reference_item 4 4 before (distances_in items) (value.reference_list (distances_in items)) (reference_items before (distances_in items) (all_distances before items written)) in (
       list.0,
       (

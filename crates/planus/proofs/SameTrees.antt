@@ -136,9 +136,9 @@ module _ (ones others : List Listed) where
       subst (λ w. SameValue ones others v w) other.2 (subst (λ v. SameValue ones others v (value.reference_list other.0)) one.2
       (all_pairs (value_at ones) (value_at others) (SameDistance value_distance) (λ step d e is also. (step, is, also)) steps one.0 other.0 one.1 other.1))
   value_same (unions items) v w e f =
-      let one = made_of value.union_list (all_of (union_of ones) items) v e in
-      let other = made_of value.union_list (all_of (union_of others) items) w f in
-      subst (λ w. SameValue ones others v w) other.2 (subst (λ v. SameValue ones others v (value.union_list other.0)) one.2
+      let one = made_of value.union_vector (all_of (union_of ones) items) v e in
+      let other = made_of value.union_vector (all_of (union_of others) items) w f in
+      subst (λ w. SameValue ones others v w) other.2 (subst (λ v. SameValue ones others v (value.union_vector other.0)) one.2
       (all_pairs (union_of ones) (union_of others) (SameUnion ones others) union_same items one.0 other.0 one.1 other.1))
   value_same (table fields) v w e f =
       let one = made_of value.table (fields_of ones [] greatest_field fields) v e in

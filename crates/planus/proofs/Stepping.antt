@@ -25,7 +25,7 @@ use Rattle.planus_write.specs.declared.offset.Text.{Text}
 use Rattle.planus_write.specs.declared.offset.List.{List as ListOf}
 use Rattle.planus.specs.Steps.{Step, Front, text, bytes, numbers, refs, unions, finish, clear}
 use Rattle.planus_write.specs.Unions.{item_of, union_reach, WritesUnionVector}
-use Rattle.planus_write.specs.UnionLaws.{ready_union_list_is_put, ready_union_list_is_refused}
+use Rattle.planus_write.specs.UnionLaws.{ready_union_vector_is_put, ready_union_vector_is_refused}
 use Rattle.planus_write.specs.declared.union_offset.UnionOffset.{UnionOffset}
 use Rattle.planus_write.specs.declared.union_vector_offset.UnionVectorOffset.{UnionVectorOffset}
 use Rattle.std.specs.Int.{Width, byte_len, to_le_bytes}
@@ -241,10 +241,10 @@ value_inside old reached step distance h =
 module _ (items : List (ℕ × ℕ)) (offsets : List (UnionOffset (Unit {0}))) (old : Progress)
     (found : all_of (union_of (values_listed old)) items ≡ Some (map item_of offsets)) where
   abbrev unions_value : Value
-  unions_value = value.union_list (map item_of offsets)
+  unions_value = value.union_vector (map item_of offsets)
 
   unions_value_is : value_of (values_listed old) (unions items) ≡ Some unions_value
-  unions_value_is = ap (option_map value.union_list) found
+  unions_value_is = ap (option_map value.union_vector) found
 
   unions_are : entries_put (values_listed old) (unions items) ≡ Some (entries_of unions_value)
   unions_are = ap (option_map entries_of) unions_value_is
@@ -252,7 +252,7 @@ module _ (items : List (ℕ × ℕ)) (offsets : List (UnionOffset (Unit {0}))) (
   unions_write : (vector : UnionVectorOffset (Unit {0})) (after : builder.State) → WritesUnionVector Answers offsets old.builder (Ok vector) after
       → (got : List ℕ) × WritesEntries (entries_of unions_value) [] old.builder (Ok got) after × (named_by unions_value got ≡ vector_named vector)
   unions_write vector after done =
-      let put = ready_union_list_is_put offsets old.builder vector after done in (
+      let put = ready_union_vector_is_put offsets old.builder vector after done in (
         put.0,
         put.1,
         ap (λ d. record { distance = d; tags = Some (last_of put.0) }) (sym put.2) ∙ ap (λ d. record { distance = vector.values.distance; tags = Some d }) (sym put.3),
@@ -261,7 +261,7 @@ module _ (items : List (ℕ × ℕ)) (offsets : List (UnionOffset (Unit {0}))) (
   unions_refused : (after : builder.State) → WritesUnionVector {T = Unit {0}} Answers offsets old.builder (Err TooLarge) after
       → WritesEntries (entries_of unions_value) [] old.builder (Err TooLarge) after
   unions_refused after refused =
-      elim (ready_union_list_is_refused (Unit {0}) offsets old.builder TooLarge after refused) as (λ _. WritesEntries (entries_of unions_value) [] old.builder (Err TooLarge) after) [
+      elim (ready_union_vector_is_refused (Unit {0}) offsets old.builder TooLarge after refused) as (λ _. WritesEntries (entries_of unions_value) [] old.builder (Err TooLarge) after) [
         | inl e ↦ (cc)
         | inr put ↦ put
       ]

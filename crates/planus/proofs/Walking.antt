@@ -8,7 +8,7 @@ use Rattle.std.specs.String.{string_bytes}
 use Rattle.std.proofs.lemmas.Str.{IsUtf8-string_bytes}
 use Rattle.planus.specs.Steps.{Step, text, bytes, numbers, refs, unions, table, finish, clear}
 use Rattle.planus.specs.Steps.{bare_step}
-use Rattle.planus.specs.Kinds.{Kind, a_value, a_union_list, kind_named, naming_fault}
+use Rattle.planus.specs.Kinds.{Kind, a_value, a_union_vector, kind_named, naming_fault}
 use Rattle.planus_read.specs.Values.{Value}
 use Rattle.planus_write.specs.Shared.{Switches}
 use Rattle.planus_write.specs.Past.{Entry}
@@ -71,7 +71,7 @@ all_utf8 (step ∷ steps) (suc i) content e = all_utf8 steps i content e
 -- what is of a kind may be named so
 no_wrong_kind : (kind : Kind) → naming_fault kind (Some (Some kind)) ≡ None
 no_wrong_kind a_value = refl
-no_wrong_kind a_union_list = refl
+no_wrong_kind a_union_vector = refl
 
 -- numbers that are a list have no fault
 numbers_good : (width : Option Width) (items : List ℕ) (v : Value) → numbers_value width items ≡ Some v → numbers_fault width items ≡ None
@@ -126,8 +126,8 @@ module _ (switches : Switches) (all cs : List Step) (c : Step) (rest : List Step
       let of_all = made_of value.reference_list (all_of (value_at state.listed) steps) made.0 made.1 in
       all_good (value_at state.listed) (fault_here a_value) value_named steps of_all.0 of_all.1
   put_fault (unions items) entries h =
-      let made = made_of entries_of (option_map value.union_list (all_of (union_of state.listed) items)) entries h in
-      let of_all = made_of value.union_list (all_of (union_of state.listed) items) made.0 made.1 in
+      let made = made_of entries_of (option_map value.union_vector (all_of (union_of state.listed) items)) entries h in
+      let of_all = made_of value.union_vector (all_of (union_of state.listed) items) made.0 made.1 in
       all_good (union_of state.listed) (union_fault (fault_here a_value)) union_good items of_all.0 of_all.1
   put_fault (table fields) entries h =
       let made = made_of entries_of (option_map value.table (fields_of state.listed [] greatest_field fields)) entries h in

@@ -5,23 +5,23 @@ use Rattle.planus.specs.Steps.{Step, unions, finish, clear}
 use Rattle.planus.specs.declared.faults.Why.{Why}
 use Rattle.planus.specs.declared.faults.Why.TheVariants.{NoSuchStep, WrongKind}
 
--- A value, which has one distance, and is what a reference leads to; and a union list, which has two:
+-- A value, which has one distance, and is what a reference leads to; and a vector of unions, which has two:
 -- that of its tags and that of its references.
 pub data Kind : Type 0 where
   a_value : Kind
-  a_union_list : Kind
+  a_union_vector : Kind
 
 -- the kind of what a step writes, if it writes any
 abbrev pub kind_of : Step → Option Kind
-kind_of (unions items) = Some a_union_list
+kind_of (unions items) = Some a_union_vector
 kind_of (finish front root identifier) = None
 kind_of clear = None
 kind_of _ = Some a_value
 
--- the kind of what is named: there are tags of a union list alone
+-- the kind of what is named: there are tags of a vector of unions alone
 abbrev pub kind_by_tags : Option ℕ → Kind
 kind_by_tags None = a_value
-kind_by_tags (Some tags) = a_union_list
+kind_by_tags (Some tags) = a_union_vector
 
 abbrev pub kind_named : Named → Kind
 kind_named named = kind_by_tags named.tags
@@ -32,6 +32,6 @@ abbrev pub naming_fault : Kind → Option (Option Kind) → Option Why
 naming_fault kind None = Some NoSuchStep
 naming_fault kind (Some None) = Some WrongKind
 naming_fault a_value (Some (Some a_value)) = None
-naming_fault a_value (Some (Some a_union_list)) = Some WrongKind
-naming_fault a_union_list (Some (Some a_value)) = Some WrongKind
-naming_fault a_union_list (Some (Some a_union_list)) = None
+naming_fault a_value (Some (Some a_union_vector)) = Some WrongKind
+naming_fault a_union_vector (Some (Some a_value)) = Some WrongKind
+naming_fault a_union_vector (Some (Some a_union_vector)) = None

@@ -16,7 +16,7 @@ use Rattle.planus.specs.declared.written.Written.TheVariants.{Value, Unions}
 abbrev pub offset_named : {T : Type 0} → Offset T → Named
 offset_named offset = record { distance = offset.distance; tags = None }
 
--- what a union list is named by
+-- what a vector of unions is named by
 abbrev pub vector_named : {T : Type 0} → UnionVectorOffset T → Named
 vector_named vector =
     record { distance = vector.values.distance; tags = Some vector.tags.distance }

@@ -122,19 +122,19 @@ abbrev pub given_by : Result (Vec Finished Global) ReplayError → Result (List 
 given_by (Ok finished) = Ok (map finish_given finished.items)
 given_by (Err error) = Err error
 
--- a want of memory, of which nothing is said
+-- a refusal of memory, of which nothing is said
 abbrev pub IsOutOfMemory : Result (List Finish) ReplayError → Type 0
 IsOutOfMemory (Err OutOfMemory) = ⊤
 IsOutOfMemory _ = ⊥
 
--- Want of memory aside, there is one answer to a list of steps.
+-- A refusal of memory aside, there is one answer to a list of steps.
 abbrev pub AnswersAreOne : Type 0
 AnswersAreOne =
     (switches : Switches) (steps : List Step) (a b : Result (List Finish) ReplayError)
     → Replays switches steps a → Replays switches steps b
     → IsOutOfMemory a ⊎ IsOutOfMemory b ⊎ (a ≡ b)
 
--- an answer that isn't a want of memory
+-- an answer that isn't a refusal of memory
 abbrev pub IsAnswered : Switches → List Step → Type 0
 IsAnswered switches steps = (answer : Result (List Finish) ReplayError)
     × Replays switches steps answer × (IsOutOfMemory answer → ⊥)

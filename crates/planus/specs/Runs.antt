@@ -27,11 +27,11 @@ abbrev pub named_at : List Listed → ℕ → Option Named
 named_at [] step = None
 named_at (one ∷ rest) step = if one.step == step then Some one.named else named_at rest step
 
--- the distance of a value, to which a reference leads; a union list has none that is its own
+-- the distance of a value, to which a reference leads; a vector of unions has none that is its own
 abbrev pub value_distance : Named → Option ℕ
 value_distance named = if is_none named.tags then Some named.distance else None
 
--- the distances of a union list, that of its tags and that of its references; a value has neither
+-- the distances of a vector of unions, that of its tags and that of its references; a value has neither
 abbrev pub tags_distance : Named → Option ℕ
 tags_distance named = named.tags
 
@@ -126,7 +126,7 @@ value_of listed (text content) = Some (value.text content)
 value_of listed (bytes content) = Some (value.byte_list content)
 value_of listed (numbers width items) = numbers_value (width_of width) items
 value_of listed (refs steps) = option_map value.reference_list (all_of (value_at listed) steps)
-value_of listed (unions items) = option_map value.union_list (all_of (union_of listed) items)
+value_of listed (unions items) = option_map value.union_vector (all_of (union_of listed) items)
 value_of listed (table fields) =
     option_map value.table (fields_of listed [] greatest_field fields)
 value_of listed (finish front root identifier) = None

@@ -1,7 +1,7 @@
 -- What two runs of the same steps have in common, whatever is written once in each.
 use Rattle.std.specs.Prelude.{◌≡◌, ℕ, List, [], ◌∷◌, Option, Some, ⊤, slice_get}
 use Rattle.planus_read.specs.Values.{Value, Field, text, byte_list, plain_list, reference_list}
-use Rattle.planus_read.specs.Values.{union_list, table, plain, reference, tags, values}
+use Rattle.planus_read.specs.Values.{union_vector, table, plain, reference, tags, values}
 use Rattle.planus_read.specs.Stands.{ReferenceStands}
 use Rattle.planus_write.specs.Shared.{Switches}
 use Rattle.planus_write.specs.Parts.{Named}
@@ -48,7 +48,7 @@ SameValue ones others (plain_list size alignment items) (plain_list s a other) =
     (size ≡ s) × (alignment ≡ a) × (items ≡ other)
 SameValue ones others (reference_list ds) (reference_list es) =
     AllPairs (LeadToOneStep value_distance ones others) ds es
-SameValue ones others (union_list items) (union_list other) =
+SameValue ones others (union_vector items) (union_vector other) =
     AllPairs (SameUnion ones others) items other
 SameValue ones others (table entries) (table other) =
     AllPairs (SameEntry ones others) entries other

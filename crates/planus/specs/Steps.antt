@@ -29,7 +29,7 @@ front_of true = size_first
 front_of false = root_first
 
 -- a text with its bytes; a list of bytes; numbers, and of how many bytes each is; references to the
--- values of earlier steps, by the numbers of these; a list of unions, of each its tag and the number
+-- values of earlier steps, by the numbers of these; a vector of unions, of each its tag and the number
 -- of an earlier step, whose value it is; a table of fields with their slots; a finish with what stands
 -- at its front, the number of its root's step, and a file identifier, if there is one; a clear
 pub data Step : Type 0 where

@@ -4,7 +4,7 @@ use Rattle.std.specs.Option.{option_or}
 use Rattle.std.specs.Int.{Width}
 use Rattle.planus.specs.Steps.{FieldStep, number_field, ref_field, tags_field, values_field}
 use Rattle.planus.specs.Slots.{slot_fault, rising_fault, alignment_of, greatest_field}
-use Rattle.planus.specs.Kinds.{Kind, a_value, a_union_list}
+use Rattle.planus.specs.Kinds.{Kind, a_value, a_union_vector}
 use Rattle.planus.specs.Runs.{field_width, fits_width}
 use Rattle.planus.specs.declared.faults.Why.{Why}
 use Rattle.planus.specs.declared.faults.Why.TheVariants.{WidthUnknown, ValueTooBig}
@@ -16,12 +16,12 @@ number_fault (Some width) number =
     if fits_width width number then None else Some ValueTooBig
 
 -- what is wrong with what a field holds, if this is what is wrong with naming each step: a reference
--- names a value, and tags and values a union list
+-- names a value, and tags and values a vector of unions
 abbrev pub content_fault : (Kind → ℕ → Option Why) → FieldStep → Option Why
 content_fault fault (number_field width number) = number_fault (field_width width) number
 content_fault fault (ref_field step) = fault a_value step
-content_fault fault (tags_field step) = fault a_union_list step
-content_fault fault (values_field step) = fault a_union_list step
+content_fault fault (tags_field step) = fault a_union_vector step
+content_fault fault (values_field step) = fault a_union_vector step
 
 -- The first broken check of a field, behind those of these slots, the last of which has this
 -- alignment: its slot, what it holds, and its alignment.

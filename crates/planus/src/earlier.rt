@@ -2,7 +2,7 @@
 ghost use Rattle.std.specs.Prelude.{◌≡◌, map};
 ghost use Rattle.std.specs.Option.{option_map};
 ghost use Rattle.planus.specs.Steps.{content_of};
-ghost use Rattle.planus.specs.Kinds.{a_value, a_union_list};
+ghost use Rattle.planus.specs.Kinds.{a_value, a_union_vector};
 ghost use Rattle.planus.specs.Names.{name_of, offset_named, vector_named, written_at, FindsNamed};
 ghost use Rattle.planus.specs.Prepared.{PreparesField, PreparesUnion};
 
@@ -34,9 +34,9 @@ impl<'a> Earlier<'a> {
         }
     }
 
-    /// The list of unions of a step, by its number.
+    /// The vector of unions of a step, by its number.
     fn unions(&self, step: usize) -> Result<UnionVectorOffset<()>, Why>
-        ensures { FindsNamed a_union_list vector_named self.now.first
+        ensures { FindsNamed a_union_vector vector_named self.now.first
             (map name_of self.now.offsets.now) step result }
     {
         match self.written(step) {

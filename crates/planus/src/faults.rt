@@ -14,7 +14,7 @@ pub enum Why {
     /// No earlier step behind the last clear has the number.
     NoSuchStep,
     /// The step with the number wrote nothing that can be named so: a reference names a value, and
-    /// tags and values a list of unions.
+    /// tags and values a vector of unions.
     WrongKind,
     /// The tag of a union is 0.
     ZeroTag,

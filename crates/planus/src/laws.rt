@@ -6,13 +6,13 @@ ghost use Rattle.planus.specs.SameTrees.{TreesAreTheSame};
 ghost use Rattle.planus.specs.Streams.{SizedFinishesAreRead, SizedStreamsAreRead};
 
 /// Two answers to one list of steps, under the same switches, are the same, unless one of them is a
-/// want of memory. So no answer depends on the mask of the hashes.
+/// refusal of memory. So no answer depends on the mask of the hashes.
 pub fn answers_are_one()
     ensures { AnswersAreOne }
 {}
 
-/// There is an answer to every list of steps, under all switches, that isn't a want of memory. So
-/// want of memory aside there is exactly one.
+/// There is an answer to every list of steps, under all switches, that isn't a refusal of memory. So
+/// a refusal of memory aside there is exactly one.
 pub fn an_answer_is_there()
     ensures { AnAnswerIsThere }
 {}

@@ -30,8 +30,8 @@ pub use planus_read::{
 };
 pub use planus_tables::{
     FieldAt, Fields, HasContent, HasDefaultContent, HasListContent, HasUnionContent,
-    HasUnionListContent, LastAt, OrDefault, PreparedBody, PreparedFields, TableItem, TableKind,
-    TableRef, TableScalar, TagsField, UnionAt, UnionListAt, ValuesField, create_table, fields,
+    HasUnionVectorContent, LastAt, OrDefault, PreparedBody, PreparedFields, TableItem, TableKind,
+    TableRef, TableScalar, TagsField, UnionAt, UnionVectorAt, ValuesField, create_table, fields,
 };
 pub use planus_unions::{AsRead, ItemError, UnionVector, union_vectors};
 pub use planus_view::{CopyError, FromItem, Vector, vectors};

@@ -4,7 +4,7 @@ ghost use Rattle.planus_read.specs.Aligned.{field_alignment};
 ghost use Rattle.planus_read.specs.Bytes.{BytesStand};
 ghost use Rattle.planus_write.specs.Tables.{Declared, field_item, field_size};
 ghost use Rattle.planus_write.specs.ObjectWriting.{body_of, wrote};
-ghost use Rattle.planus_write.specs.TableWriting.{WasTold, entered, slot_position};
+ghost use Rattle.planus_write.specs.TableWriting.{WasTold, with_entry, slot_position};
 ghost use Rattle.planus.specs.Runs.{field_width};
 ghost use Rattle.planus.specs.Prepared.{field_is, field_reach, PreparesNumber};
 
@@ -22,7 +22,7 @@ pub(crate) enum PreparedField {
     U32(u32),
     U64(u64),
     Reference(Offset<()>),
-    // The tags and the references of a list of unions.
+    // The tags and the references of a vector of unions.
     Tags(Offset<()>),
     Values(Offset<()>),
 }

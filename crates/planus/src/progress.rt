@@ -250,7 +250,7 @@ impl Progress {
         self.write(&offsets)
     }
 
-    /// Writes a list of unions.
+    /// Writes a vector of unions.
     fn write_unions(&mut self, unions: &[UnionOffset<()>]) -> Result<(), ReplayError>
         requires { AllByRecursion (λ union. union_reach union ≤ length self.old.builder.bytes)
             unions.now }
@@ -262,7 +262,7 @@ impl Progress {
         Ok(())
     }
 
-    /// Writes a list of unions of the values of earlier steps.
+    /// Writes a vector of unions of the values of earlier steps.
     fn unions(&mut self, alloc: Global, items: &[(u8, usize)]) -> Result<(), ReplayError>
         requires reached { AreReached self.old }
         requires number { self.old.first + vec_len self.old.offsets < 2 ^ 64 }

@@ -11,7 +11,7 @@ pub enum Step {
     Numbers { width: u8, items: Vec<u64> },
     /// A list of references to the values of earlier steps, by their numbers from 0.
     Refs(Vec<usize>),
-    /// A list of unions: of each the tag of its variant, which is above 0, and its value, which is
+    /// A vector of unions: of each the tag of its variant, which is above 0, and its value, which is
     /// that of an earlier step, by its number from 0. It is two lists, of tags and of references,
     /// and named by [`FieldValue::Tags`] and [`FieldValue::Values`] alone.
     Unions(Vec<(u8, usize)>),
@@ -44,8 +44,8 @@ pub enum FieldValue {
     Number { width: u8, value: u64 },
     /// A reference of 4 bytes to the value of an earlier step, by its number from 0.
     Ref(usize),
-    /// A reference of 4 bytes to the tags of the list of unions of an earlier step.
+    /// A reference of 4 bytes to the tags of the vector of unions of an earlier step.
     Tags(usize),
-    /// A reference of 4 bytes to the references of the list of unions of an earlier step.
+    /// A reference of 4 bytes to the references of the vector of unions of an earlier step.
     Values(usize),
 }

@@ -13,7 +13,7 @@ use Rattle.planus_back.specs.CacheKeys.{key_at}
 use Rattle.planus_back.specs.declared.bucket.Bucket.{Bucket}
 use Rattle.planus_back.specs.Caches.{Held, Has, Fits, bucket, cut_hash}
 use Rattle.planus_back.specs.Caches.{IsEmpty, Adds, FitsWhereKeyStands, FitsWhereItsKeyStands, IsBucketOf, IsFound}
-use Rattle.planus_back.specs.Buckets.{distances_in, listed, AddsAt, FoundAmong}
+use Rattle.planus_back.specs.Buckets.{distances_in, lists_of, AddsAt, FoundAmong}
 use Rattle.planus_back.proofs.Buckets.{lookup-listed}
 use Rattle.planus_back.specs.declared.distances.Distances.{Distances}
 
@@ -134,7 +134,7 @@ unfolding IsBucketOf
 insert_fits key_in s t old b d (Ok x) e mask adds = λ key is. rw (← e) (Fits-from s t b.hash d adds key_in key mask (ap (λ held. cut_hash held.mask key) e ∙ sym is))
 insert_fits key_in s t old b d (Err x) e mask adds = tt
 
-module _ (key_in : List ℕ → Option (List ℕ)) (es : List (ℕ × Distances)) (s old : Held) (b : Bucket) (bytes key : List ℕ) (opened : s ≡ old) (is : s.buckets ≡ listed es)
+module _ (key_in : List ℕ → Option (List ℕ)) (es : List (ℕ × Distances)) (s old : Held) (b : Bucket) (bytes key : List ℕ) (opened : s ≡ old) (is : s.buckets ≡ lists_of es)
     (its : IsBucketOf old key b) (fits : Fits key_in old bytes) where
   at_bucket : (o : Option Distances) → lookup (nat_eq b.hash) es ≡ o → bucket old (cut_hash old.mask key) ≡ option_map distances_in o
   unfolding IsBucketOf

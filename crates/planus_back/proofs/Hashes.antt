@@ -3,10 +3,10 @@ use Rattle.std.proofs.Common.{◌≡◌, ℕ, ℤ, zero, suc, ◌+◌, ◌<◌, 
 use Rattle.std.proofs.lemmas.Grind.{common_steps}
 use Rattle.std.proofs.lemmas.List.{take-append-drop, drop_more}
 use Rattle.std.specs.Int.{w64, from_le_bytes}
-use Rattle.planus_back.specs.Caches.{joined, number_on, mixed, hash_on}
+use Rattle.planus_back.specs.Caches.{number_with, number_on, hash_with, hash_on}
 
 -- eight bytes at once
-pub word_more : (one two three four last : ℕ) (word rest : List ℕ) → length word ≡ 8 → hash_on one two three four last (word ++ rest) ≡ hash_on two three four (mixed one (from_le_bytes w64 word)) last rest
+pub word_more : (one two three four last : ℕ) (word rest : List ℕ) → length word ≡ 8 → hash_on one two three four last (word ++ rest) ≡ hash_on two three four (hash_with one (from_le_bytes w64 word)) last rest
 word_more one two three four last (a ∷ b ∷ c ∷ d ∷ e ∷ f ∷ g ∷ h ∷ []) rest eight = refl
 word_more one two three four last (a ∷ b ∷ c ∷ d ∷ e ∷ f ∷ g ∷ h ∷ i ∷ more) rest eight = absurd (omega (arith, eight))
 word_more one two three four last [] rest eight = absurd (omega (arith, eight))
@@ -19,7 +19,7 @@ word_more one two three four last (a ∷ b ∷ c ∷ d ∷ e ∷ f ∷ []) rest 
 word_more one two three four last (a ∷ b ∷ c ∷ d ∷ e ∷ f ∷ g ∷ []) rest eight = absurd (omega (arith, eight))
 
 -- the rest, which are fewer than eight
-pub few_more : (one two three four last : ℕ) (rest : List ℕ) → length rest < 8 → hash_on one two three four last rest ≡ mixed (mixed (mixed two three) one) (mixed four last)
+pub few_more : (one two three four last : ℕ) (rest : List ℕ) → length rest < 8 → hash_on one two three four last rest ≡ hash_with (hash_with (hash_with two three) one) (hash_with four last)
 few_more one two three four last [] few = refl
 few_more one two three four last (a ∷ []) few = refl
 few_more one two three four last (a ∷ b ∷ []) few = refl
@@ -31,7 +31,7 @@ few_more one two three four last (a ∷ b ∷ c ∷ d ∷ e ∷ f ∷ g ∷ []) 
 few_more one two three four last (a ∷ b ∷ c ∷ d ∷ e ∷ f ∷ g ∷ h ∷ more) few = absurd (omega (arith, few))
 
 -- the next byte of a number
-pub byte_taken : (number i : ℕ) (bytes : List ℕ) → i < length bytes → number_on number (drop i bytes) ≡ number_on (joined number (get_or bytes i 0)) (drop (i + 1) bytes)
+pub byte_taken : (number i : ℕ) (bytes : List ℕ) → i < length bytes → number_on number (drop i bytes) ≡ number_on (number_with number (get_or bytes i 0)) (drop (i + 1) bytes)
 byte_taken number i bytes within = ap (number_on number) (drop_more bytes i 0 within)
 
 -- all of them taken
@@ -49,7 +49,7 @@ pub eight_of : {A : Type 0} (all word behind : List A) → word ≡ take 8 all �
 eight_of all word behind front long = grind (arith, common_steps, front, long)
 
 pub number_taken : (byte : ℤ → ℕ) (number i : ℕ) (d : ℤ) (numbers : List ℤ) → i < length numbers
-    → number_on number (map byte (drop i numbers)) ≡ number_on (joined number (byte (get_or numbers i d))) (map byte (drop (i + 1) numbers))
+    → number_on number (map byte (drop i numbers)) ≡ number_on (number_with number (byte (get_or numbers i d))) (map byte (drop (i + 1) numbers))
 number_taken byte number i d numbers within = ap (λ xs. number_on number (map byte xs)) (drop_more numbers i d within)
 
 -- the number of eight

@@ -13,8 +13,8 @@ distances_in (One distance) = distance ∷ []
 distances_in (More distances) = (box_value distances).items
 
 -- a map, without how its lists lie in memory
-abbrev pub listed : List (ℕ × Distances) → List (ℕ × List ℕ)
-listed entries = map (λ entry. (entry.0, distances_in entry.1)) entries
+abbrev pub lists_of : List (ℕ × Distances) → List (ℕ × List ℕ)
+lists_of entries = map (λ entry. (entry.0, distances_in entry.1)) entries
 
 -- the distance is added at the end of the list at this hash, and nothing else changes
 abbrev pub AddsAt : List (ℕ × List ℕ) → ℕ → ℕ → List (ℕ × List ℕ) → Type 0

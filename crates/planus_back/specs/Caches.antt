@@ -14,18 +14,18 @@ pub record Held : Type 0 where
   pub buckets : List (ℕ × List ℕ)
 
 -- a number more of a hash
-abbrev pub mixed : ℕ → ℕ → ℕ
-mixed hash number =
+abbrev pub hash_with : ℕ → ℕ → ℕ
+hash_with hash number =
     ((bit_xor (bit_xor hash number) (bit_xor hash number / 2 ^ 32)) * 11400714819323198485) % 2 ^ 64
 
 -- one byte more of a number, the first of its bytes being the highest
-abbrev pub joined : ℕ → ℕ → ℕ
-joined number byte = (number * 256 + byte) % 2 ^ 64
+abbrev pub number_with : ℕ → ℕ → ℕ
+number_with number byte = (number * 256 + byte) % 2 ^ 64
 
 -- some bytes more of a number
 abbrev pub number_on : ℕ → List ℕ → ℕ
 number_on number [] = number
-number_on number (byte ∷ bytes) = number_on (joined number byte) bytes
+number_on number (byte ∷ bytes) = number_on (number_with number byte) bytes
 
 -- the last 8 bytes of a key as a number, or all of them where they are fewer
 abbrev pub last_number : List ℕ → ℕ
@@ -36,8 +36,8 @@ last_number key =
 -- which are fewer than 8, the last number
 abbrev pub hash_on : ℕ → ℕ → ℕ → ℕ → ℕ → List ℕ → ℕ
 hash_on one two three four last (a ∷ b ∷ c ∷ d ∷ e ∷ f ∷ g ∷ h ∷ rest) =
-    hash_on two three four (mixed one (from_le_bytes w64 (a ∷ b ∷ c ∷ d ∷ e ∷ f ∷ g ∷ h ∷ []))) last rest
-hash_on one two three four last rest = mixed (mixed (mixed two three) one) (mixed four last)
+    hash_on two three four (hash_with one (from_le_bytes w64 (a ∷ b ∷ c ∷ d ∷ e ∷ f ∷ g ∷ h ∷ []))) last rest
+hash_on one two three four last rest = hash_with (hash_with (hash_with two three) one) (hash_with four last)
 
 -- The hash of a key. The four begin with numbers that have nothing in common, so that keys whose
 -- words stand in another order have other hashes: the length, and multiples of the factor of `mixed`.

@@ -173,7 +173,7 @@ impl BackVec {
     }
 
     /// Puts `n` bytes in front, which the filler writes over zeros. There is room for them.
-    /// `place` is handed to the filler, as in [`BackVec::extend_write`].
+    /// The filler gets `place`, as in [`BackVec::extend_write`].
     #[inline]
     pub fn put_filled<F: Fill>(&mut self, place: u32, n: usize, filler: &F)
         requires room { n ≤ self.old.room }
@@ -188,7 +188,7 @@ impl BackVec {
     }
 
     /// Puts `n` bytes in front, all of which the writer writes, over whatever was there. There is
-    /// room for them. `place` is handed to the writer: the distance in bytes from the end of the
+    /// room for them. The writer gets `place`: the distance in bytes from the end of the
     /// buffer to the first of them.
     #[inline]
     pub fn put_overwritten<W: Overwrite>(&mut self, place: u32, n: usize, writer: &W)
@@ -230,7 +230,7 @@ impl BackVec {
         Ok(())
     }
 
-    /// Puts `n` bytes in front, which the filler writes over zeros. `place` is handed to it: the
+    /// Puts `n` bytes in front, which the filler writes over zeros. It gets `place`: the
     /// distance in bytes from the end of the buffer to the first of them. The filler must be such
     /// that it may be called with `n` bytes at that place. A refusal of memory changes nothing, and
     /// the filler isn't called.

@@ -1,7 +1,7 @@
 //! A cache of what stands in bytes that grow at their front.
 ghost use Rattle.std.specs.Prelude.{◌≡◌, map, OnOk, OnErr, IfOk};
 ghost use Rattle.std.specs.Int.{w8, cast_unsigned};
-ghost use Rattle.planus_back.specs.Buckets.{distances_in, listed, AddsAt, FoundAmong};
+ghost use Rattle.planus_back.specs.Buckets.{distances_in, lists_of, AddsAt, FoundAmong};
 ghost use Rattle.planus_back.specs.Caches.{Fits, IsEmpty, IsBucketOf, IsFound, Adds};
 ghost use Rattle.planus_back.specs.Caches.{FitsWhereKeyStands, FitsWhereItsKeyStands};
 
@@ -26,16 +26,16 @@ pub struct Cache<C> {
     buckets: HashMap<u64, Distances, Handed>,
     hash_mask: u64,
     alloc: Global,
-    of: PhantomData<C>,
+    _marker: PhantomData<C>,
 }
 
 impl<C> Model for Cache<C> {
-    ghost use Rattle.planus_back.specs.Buckets.{listed};
+    ghost use Rattle.planus_back.specs.Buckets.{lists_of};
     ghost use Rattle.planus_back.specs.Caches.{Held};
 
     ghost Value = { Held };
 
-    ghost view = { λ a. record { mask = a.hash_mask; buckets = listed a.buckets.entries } };
+    ghost view = { λ a. record { mask = a.hash_mask; buckets = lists_of a.buckets.entries } };
 }
 
 /// The first of the distances at which the key stands.
@@ -70,9 +70,9 @@ fn add(
     hash: u64,
     distance: u32,
 ) -> Result<(), AllocError>
-    ensures ok { OnOk result (AddsAt (listed buckets.old.entries) hash distance
-        (listed buckets.new.entries)) }
-    ensures err { OnErr result (listed buckets.new.entries ≡ listed buckets.old.entries) }
+    ensures ok { OnOk result (AddsAt (lists_of buckets.old.entries) hash distance
+        (lists_of buckets.new.entries)) }
+    ensures err { OnErr result (lists_of buckets.new.entries ≡ lists_of buckets.old.entries) }
 {
     match buckets.entry(hash) {
         Ok(Entry::Occupied(mut entry)) => entry.get_mut().push(alloc, distance),
@@ -94,7 +94,7 @@ impl<C: GetCacheKey> Cache<C> {
             buckets: HashMap::with_hasher(alloc, Handed::new()),
             hash_mask,
             alloc,
-            of: PhantomData,
+            _marker: PhantomData,
         })
     }
 

@@ -1,7 +1,7 @@
 //! What is looked for in a cache: bytes, as they are or as signed numbers.
 ghost use Rattle.std.specs.Prelude.{◌≡◌, ◌↔◌, ℕ, List, map, IsTrue};
 ghost use Rattle.std.specs.Int.{w8, w64, cast_unsigned, from_le_bytes};
-ghost use Rattle.planus_back.specs.Caches.{joined, mixed, last_number, hash_of};
+ghost use Rattle.planus_back.specs.Caches.{number_with, hash_with, last_number, hash_of};
 
 /// What a hash is multiplied by: an odd number whose bits have no order.
 const FACTOR: u64 = 11400714819323198485;
@@ -38,7 +38,7 @@ pub(crate) struct Signed<'a>(pub(crate) &'a [i8]);
 // carries upwards alone.
 #[inline]
 fn mix(hash: u64, number: u64) -> u64
-    ensures { result ≡ mixed hash number }
+    ensures { result ≡ hash_with hash number }
 {
     let both = hash ^ number;
     (both ^ (both >> 32)).wrapping_mul(FACTOR)
@@ -47,7 +47,7 @@ fn mix(hash: u64, number: u64) -> u64
 // One byte more of a number.
 #[inline]
 fn join(number: u64, byte: u8) -> u64
-    ensures { result ≡ joined number byte }
+    ensures { result ≡ number_with number byte }
 {
     number.wrapping_mul(256).wrapping_add(byte as u64)
 }

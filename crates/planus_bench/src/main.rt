@@ -37,7 +37,7 @@ fn print_copied(rt: &HostRuntime, name: &str, copied: Copied) -> io::Result<()> 
 
 fn main(rt: HostRuntime) -> io::Result<()> {
     print_outcome(&rt, "a list of two texts", Call::List)?;
-    print_outcome(&rt, "a list of two unions", Call::Unions)?;
+    print_outcome(&rt, "a vector of two unions", Call::Unions)?;
     print_outcome(&rt, "a weapon", Call::Weapon)?;
     print_copied(&rt, "copies of five numbers", copy_numbers(rt.alloc()))?;
     print_copied(&rt, "copies of five texts", copy_texts(rt.alloc()))?;

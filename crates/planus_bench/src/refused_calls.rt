@@ -14,7 +14,7 @@ use std::alloc::Global;
 pub enum Call {
     /// A list of the texts `A` and `B`, in a new builder.
     List,
-    /// A list of two unions, with the tags 1 and 2 and the texts `A` and `B`, which stand there.
+    /// A vector of two unions, with the tags 1 and 2 and the texts `A` and `B`, which stand there.
     Unions,
     /// A table with the text `Axe` and the number 24, in a new builder.
     Weapon,
@@ -54,14 +54,14 @@ impl TableKind for Weapon {
     }
 }
 
-/// Where a value was written: what it is named by, and for a list of unions its tags.
+/// Where a value was written: what it is named by, and for a vector of unions its tags.
 #[derive(Clone, Copy)]
 pub struct Written {
     value: Offset<()>,
     tags: Option<Offset<()>>,
 }
 
-/// The texts that stand there before a list of unions is written.
+/// The texts that stand there before a vector of unions is written.
 const TEXTS: &[u8] = b"\x01\0\0\0B\0\0\0\x01\0\0\0A\0";
 
 /// The builder has what is at this distance.
@@ -84,7 +84,7 @@ fn write_list(builder: &mut Builder) -> Result<Written, BuildError> {
     })
 }
 
-/// Writes the list of unions of two texts, which are found.
+/// Writes the vector of unions of two texts, which are found.
 fn write_unions(builder: &mut Builder) -> Result<Written, BuildError> {
     let [a, b] = write_texts(builder)?;
     let first: UnionOffset<()> = UnionOffset::new(1, a.downcast());

@@ -40,7 +40,7 @@ module _ {X A : Type 0} {may : X → State → Type 0} {prepare : X → Outcome 
   reached_past a new last h later =
       reached_still (reach a) new last later (lawful.reaches x mid a new may_after h)
 
--- what is written of the parts of a union and of a list of unions
+-- what is written of the parts of a union and of a vector of unions
 pub written_parts : {A B C D T : Type 0} (fields : A → B → C → D → List TableField)
     {a a' : A} {b b' : B} {c c' : C} {d d' : D} (old : State) (answer : Result (Offset T) BuildError)
     (new : State) → a ≡ a' → b ≡ b' → c ≡ c' → d ≡ d'
@@ -56,7 +56,7 @@ pub value_reached : {K : Type 0} (n : ℕ) (union : Option (UnionOffset K))
 value_reached n None h = h
 value_reached n (Some union) h = h
 
--- those to the tags and to the values of a list of unions no further than the list
+-- those to the tags and to the values of a vector of unions no further than the list
 pub tags_reached : {K : Type 0} (n : ℕ) (vector : Option (UnionVectorOffset K))
     → reach_if union_vector_reach vector ≤ n
     → reach_if offset_reach (option_map (λ vector. vector.tags) vector) ≤ n

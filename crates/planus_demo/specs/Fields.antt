@@ -12,7 +12,7 @@ use Rattle.planus_demo.specs.declared.script.ReadFault.{ReadFault}
 use Rattle.planus_demo.specs.declared.script.ReadFault.TheVariants.{BadField}
 
 -- the kind that a word names: numbers of 1, 2, 4 or 8 bytes, references, and the tags and the
--- references of lists of unions
+-- references of vectors of unions
 abbrev pub kind_of : List ℕ → Option FieldKind
 kind_of word =
     if bytes_eq word (codes "u8") then Some (Number 1)

@@ -1,4 +1,4 @@
--- Lists of unions, as the words of a line say them.
+-- Vectors of unions, as the words of a line say them.
 use Rattle.std.specs.Prelude.{ℕ, nat_lt, List, Option, Some, None, Result, Ok, Err, if◌then◌else◌}
 use Rattle.planus_demo.specs.Words.{cut_at, number_of, items_of}
 use Rattle.planus_demo.specs.declared.script.ReadFault.{ReadFault}

@@ -122,7 +122,7 @@ fn output_of_dump(alloc: Global, schema: &Schema, input: &[u8]) -> Result<Output
 }
 
 /// Reads a line of bytes, as [`crate::run::run`] prints it, and prints the lines of its dump, or
-/// why there is none. Answers whether there is one.
+/// why there is none. Returns whether there is one.
 pub fn run_dump<R: Read, W: Write>(
     alloc: Global,
     schema: &Schema,

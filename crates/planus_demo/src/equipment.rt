@@ -17,7 +17,7 @@ pub struct Equipment;
 impl Equipment {
     /// Writes a weapon, if it isn't written already. Returns it as a piece of equipment: with tag 1.
     ///
-    /// An offset that is handed in must be one that this builder answered since the last clear. A
+    /// An offset among the arguments must be one that this builder returned since the last clear. A
     /// refusal is that of [`WriteAsOffset::prepare`].
     pub fn create_weapon<W: WriteAsOffset<Weapon> + Drop>(
         builder: &mut Builder,

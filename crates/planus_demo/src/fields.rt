@@ -17,9 +17,9 @@ enum FieldKind {
     Number { width: u8 },
     /// A reference to the value of a step.
     Ref,
-    /// The tags of a step's list of unions.
+    /// The tags of a step's vector of unions.
     Tags,
-    /// The references of a step's list of unions.
+    /// The references of a step's vector of unions.
     Values,
 }
 

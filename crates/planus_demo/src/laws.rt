@@ -2,12 +2,12 @@
 
 ghost use Rattle.planus_demo.specs.Printed.{ATextIsPrinted, PrintedIsOne};
 
-/// Of each input one text is printed, want of memory aside.
+/// Of each input one text is printed, a refusal of memory aside.
 pub fn printed_is_one()
     ensures { PrintedIsOne }
 {}
 
-/// Of each input there is a text that is printed. So want of memory aside it is exactly one.
+/// Of each input there is a text that is printed. So a refusal of memory aside it is exactly one.
 pub fn a_text_is_printed()
     ensures { ATextIsPrinted }
 {}

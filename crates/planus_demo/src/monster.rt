@@ -44,7 +44,7 @@ impl Monster {
     /// Writes a monster: prepares its fields in the order of the arguments, and then writes the
     /// table of those that are there; hit points of 100 are left out. Returns its offset.
     ///
-    /// An offset that is handed in must be one that this builder answered since the last clear.
+    /// An offset among the arguments must be one that this builder returned since the last clear.
     ///
     /// [`BuildError::TooLarge`] and [`BuildError::OutOfMemory`] as of
     /// [`Builder::create_vector`]. What was written before the refused write stays, and nothing

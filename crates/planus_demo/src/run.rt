@@ -97,7 +97,7 @@ pub fn write_out<W: Write>(writer: &mut W, bytes: &[u8]) -> std::result::Result<
 }
 
 /// Reads a script, and prints a line of bytes for each of its finishes, or its first fault alone.
-/// Answers whether it was clean.
+/// Returns whether it was clean.
 pub fn run<R: Read, W: Write>(
     alloc: Global,
     reader: &mut R,

@@ -1,4 +1,4 @@
-//! What a table has of a union or of a list of unions: two fields each.
+//! What a table has of a union or of a vector of unions: two fields each.
 
 ghost use Rattle.std.specs.Prelude.{◌≡◌};
 ghost use Rattle.std.specs.Option.{option_map};
@@ -25,7 +25,7 @@ pub(crate) fn value_of<T>(union: &Option<UnionOffset<T>>) -> Option<Offset<()>>
     }
 }
 
-/// Returns the reference to the tags of a list of unions, if there is one.
+/// Returns the reference to the tags of a vector of unions, if there is one.
 pub(crate) fn tags_of<T>(vector: &Option<UnionVectorOffset<T>>) -> Option<Offset<List<u8>>>
     ensures { result ≡ option_map (λ vector. vector.tags) vector.now }
 {
@@ -35,7 +35,7 @@ pub(crate) fn tags_of<T>(vector: &Option<UnionVectorOffset<T>>) -> Option<Offset
     }
 }
 
-/// Returns the reference to the values of a list of unions, if there is one.
+/// Returns the reference to the values of a vector of unions, if there is one.
 pub(crate) fn values_of<T>(
     vector: &Option<UnionVectorOffset<T>>,
 ) -> Option<Offset<List<Offset<()>>>>

@@ -1,4 +1,4 @@
-//! Lists of unions, as the words of a line say them.
+//! Vectors of unions, as the words of a line say them.
 ghost use Rattle.std.specs.Prelude.{◌≡◌};
 ghost use Rattle.std.specs.Option.{option_copied};
 ghost use Rattle.planus.specs.Steps as step;
@@ -27,7 +27,7 @@ impl FromWord for (u8, usize) {
     }
 }
 
-/// A list of unions, from what stands behind the first word.
+/// A vector of unions, from what stands behind the first word.
 pub(crate) fn unions(alloc: Global, words: Option<&str>) -> Result<Step, LineError>
     ensures { AnswersLine result (list_step step.unions
         (unions_of (words_behind (option_copied words.entry)))) }

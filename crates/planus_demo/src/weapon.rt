@@ -54,7 +54,7 @@ impl Weapon {
     /// Writes a weapon: prepares its name and its damage, and then writes the table of those that
     /// are there; a damage of 0 is left out. Returns its offset.
     ///
-    /// An offset that is handed in must be one that this builder answered since the last clear.
+    /// An offset among the arguments must be one that this builder returned since the last clear.
     ///
     /// [`BuildError::TooLarge`] and [`BuildError::OutOfMemory`] as of
     /// [`Builder::create_vector`]. What was written before the refused write stays, and nothing

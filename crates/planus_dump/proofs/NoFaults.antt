@@ -327,7 +327,7 @@ module _ (B : List ℕ) (k : ℕ) (entries : List (ℕ × Field)) (seen : Seen) 
           let second : (Slot seen.slots (i + 1) == 0) ≡ true = eq-eqb (Slot seen.slots (i + 1)) 0 next_zero in
           rw (first, second) refl
 
--- the events of a union's slots and of a union vector's, as these are answered
+-- the events of a union's slots and of a vector of unions's, as these are answered
 union_field_by : (E : TableEvents) (schema : Schema) (index : ℕ) (object path : List ℕ) (r : Result (Option SeenUnion) (List ℕ)) (o : Option SeenUnion) → r ≡ Ok o
     → HaveNoFault (union_field_events E schema index object path (Ok o)) → HaveNoFault (union_field_events E schema index object path r)
 union_field_by E schema index object path r o e h = subst (λ (a : Result (Option SeenUnion) (List ℕ)). HaveNoFault (union_field_events E schema index object path a)) (sym e) h
@@ -420,17 +420,17 @@ module _ (steps : List Step) (given : Finish) (values : AllByRecursion (ValueHol
   union_no_fault index _ _ is same next = absurd is
 
   -- the items of a vector of unions
-  union_list_no_fault : (index q p t d : ℕ) (step : Step) (v : Value) → IsListOfUnions steps IsTable (slice_get schema.unions.items index) (Some step) → value_of given.places step ≡ Some v
+  union_vector_items_no_fault : (index q p t d : ℕ) (step : Step) (v : Value) → IsListOfUnions steps IsTable (slice_get schema.unions.items index) (Some step) → value_of given.places step ≡ Some v
       → ReadsBack given.bytes (at_both (position_of given.bytes t) (position_of given.bytes d)) v
       → Leads given.bytes (k + q) (position_of given.bytes t) → Leads given.bytes (k + p) (position_of given.bytes d)
       → HaveNoFault (unions_events E schema index path (some_of (union_vector_at seen.object q p)))
-  union_list_no_fault index q p t d (unions items) v is e reads tags references =
+  union_vector_items_no_fault index q p t d (unions items) v is e reads tags references =
       let B = given.bytes in
       let kt : ℕ = position_of given.bytes t in
       let kv : ℕ = position_of given.bytes d in
       let S : List ℕ = drop k given.bytes in
-      let made = made_of value.union_list (all_of (union_of given.places) items) v e in
-      let back : ReadsBack given.bytes (at_both kt kv) (value.union_list made.0) = subst (ReadsBack given.bytes (at_both kt kv)) (sym made.2) reads in
+      let made = made_of value.union_vector (all_of (union_of given.places) items) v e in
+      let back : ReadsBack given.bytes (at_both kt kv) (value.union_vector made.0) = subst (ReadsBack given.bytes (at_both kt kv)) (sym made.2) reads in
       let list = back k q p tags references in
       let found = answered_unions S q p _ list.vector in
       let vector : SeenUnions = record { tags = drop (items_at S q) S; references = drop (items_at S p) S; count = count_at S q } in
@@ -449,7 +449,7 @@ module _ (steps : List Step) (given : Finish) (values : AllByRecursion (ValueHol
             (tagged_no_fault steps given values E IsTable tables (slice_get schema.unions.items index) one.pair.0 one.step one.pair.1 (kv + 4) (j * 4) (item_path path j) one.holds one.is_value
             (list.each_reference j one.pair one.there).leads (item_path_no_space path j h)))),
       )
-  union_list_no_fault index q p t d _ v is e reads tags references = absurd is
+  union_vector_items_no_fault index q p t d _ v is e reads tags references = absurd is
 
   -- a vector of unions
   union_vector_no_fault : (index : ℕ) (o p : Option FieldStep) → IsUnionVector steps IsTable (slice_get schema.unions.items index) o p → SameSlot given.places o (field_at entries i)
@@ -468,7 +468,7 @@ module _ (steps : List Step) (given : Finish) (values : AllByRecursion (ValueHol
       let whole : unions_at seen i ≡ some_of (union_vector_at seen.object (Slot seen.slots i) (Slot seen.slots (i + 1)))
       = unions_is seen i (Slot seen.slots i) (Slot seen.slots (i + 1)) (omega arith) refl refl (least_is_some (Slot seen.slots i) first.0) (least_is_some (Slot seen.slots (i + 1)) second.0) in
       subst (λ (a : Result (Option SeenUnions) (List ℕ)). HaveNoFault (unions_events E schema index path a)) (sym whole)
-      (union_list_no_fault index (Slot seen.slots i) (Slot seen.slots (i + 1)) made_tags.0 made.0 held.step held.value
+      (union_vector_items_no_fault index (Slot seen.slots i) (Slot seen.slots (i + 1)) made_tags.0 made.0 held.step held.value
       (subst (IsListOfUnions steps IsTable (slice_get schema.unions.items index)) held.there is.1) held.is_value held.reads_back
       (references_lead given.bytes (k + Slot seen.slots i) made_tags.0 there) (references_lead given.bytes (k + Slot seen.slots (i + 1)) made.0 behind))
   union_vector_no_fault index _ _ is same next = absurd is

@@ -104,7 +104,7 @@ abbrev pub some_of : {A : Type 0} → Result A (List ℕ) → Result (Option A) 
 some_of (Ok x) = Ok (Some x)
 some_of (Err fault) = Err fault
 
--- the vector of a union vector's two distances: none where both are 0
+-- the vector of a vector of unions's two distances: none where both are 0
 abbrev pub union_vector_by : List ℕ → ℕ → ℕ → Result (Option SeenUnions) (List ℕ)
 union_vector_by object f g =
     if f == 0 && g == 0 then Ok None

@@ -98,7 +98,7 @@ pub trait WriteAsOptionalUnion<T> {
     ghost is_lawful: { IsLawful may outcome (reach_if union_reach) };
 }
 
-/// What can be written as a field of a list of unions that is left out where the list is empty.
+/// What can be written as a field of a vector of unions that is left out where the list is empty.
 pub trait WriteAsDefaultUnionVector<T> {
     ghost may: { Self → State → Type 0 };
 
@@ -116,7 +116,7 @@ pub trait WriteAsDefaultUnionVector<T> {
     ghost is_lawful: { IsLawful may outcome (reach_if union_vector_reach) };
 }
 
-/// What can be written as a field of a list of unions that may be absent.
+/// What can be written as a field of a vector of unions that may be absent.
 pub trait WriteAsOptionalUnionVector<T> {
     ghost may: { Self → State → Type 0 };
 

@@ -9,7 +9,7 @@ use Rattle.std.specs.Prelude.{slice_get}
 use Rattle.std.specs.Int.{Width, w8, w16, w32, w64, w128, byte_len, from_le_bytes}
 use Rattle.planus_read.specs.Stands.{Stands, at, at_both, ReferenceStands, PlainStands, ItemsStand}
 use Rattle.planus_read.specs.Stands.{ListStands}
-use Rattle.planus_read.specs.Values.{plain_list, reference_list, union_list}
+use Rattle.planus_read.specs.Values.{plain_list, reference_list, union_vector}
 use Rattle.planus_read.specs.Bytes.{Num, BytesStand}
 use Rattle.planus_read.proofs.Bytes.{parts_stand}
 use Rattle.planus_read.specs.Reading.{Leads, VectorThere, UnionVectorThere}
@@ -64,11 +64,11 @@ pub reference_lists_read :
 reference_lists_read S f k distances to h = list_there ReferenceStands S 4
     (reference_inside S) f k distances to h
 
-pub union_lists_read :
+pub union_vectors_stand_read :
     (S : List ℕ) (f g kt kv : ℕ) (items : List (ℕ × ℕ)) → Leads S f kt → Leads S g kv
-    → Stands S (at_both kt kv) (union_list items)
+    → Stands S (at_both kt kv) (union_vector items)
     → UnionVectorThere S f g (kt + 4) (kv + 4) (length items)
-union_lists_read S f g kt kv items to_tags to_references h =
+union_vectors_stand_read S f g kt kv items to_tags to_references h =
     let tags : List ℕ = map (λ item. item.0) items in
     let count : length tags ≡ length items = length-map items (λ item. item.0) in
     let references : length (map (λ item. item.1) items) ≡ length items =

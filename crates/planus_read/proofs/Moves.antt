@@ -8,7 +8,7 @@ use Rattle.std.proofs.lemmas.Int.{ints}
 use Rattle.std.specs.Int.{Width, w16, w32, byte_len, from_le_bytes, cast_signed}
 use Rattle.std.specs.Option.{option_map}
 use Rattle.planus_read.specs.Bytes.{Num, Int, BytesStand}
-use Rattle.planus_read.specs.Values.{text, byte_list, plain_list, reference_list, union_list, table}
+use Rattle.planus_read.specs.Values.{text, byte_list, plain_list, reference_list, union_vector, table}
 use Rattle.planus_read.specs.Values.{Field, plain, reference, tags, values, field_at, vtable_size}
 use Rattle.planus_read.specs.Stands.{ReferenceStands, PlainStands, ItemsStand, FieldStands}
 use Rattle.planus_read.specs.Stands.{SlotStands, TableStands, at, at_both}
@@ -136,8 +136,8 @@ keeps_standing front B (at k) (reference_list distances) h = (
       (reference_moves front B) (k + 4) (length front + k + 4) 4 distances (omega arith) h.1,
 )
 keeps_standing front B (at k) (table entries) h = table_moves front B k entries h
-keeps_standing front B (at k) (union_list items) h = h
-keeps_standing front B (at_both kt kv) (union_list items) h = (
+keeps_standing front B (at k) (union_vector items) h = h
+keeps_standing front B (at_both kt kv) (union_vector items) h = (
   (
     num_moves front B kt (length front + kt) w32 refl ∙ h.0.0,
     bytes_move front B (kt + 4) (length front + kt + 4) (map (λ item. item.0) items)
@@ -256,8 +256,8 @@ stands_alone front B (at k) (reference_list distances) h = (
       (reference_back front B) (k + 4) (length front + k + 4) 4 distances (omega arith) h.1,
 )
 stands_alone front B (at k) (table entries) h = table_back front B k entries h
-stands_alone front B (at k) (union_list items) h = h
-stands_alone front B (at_both kt kv) (union_list items) h = (
+stands_alone front B (at k) (union_vector items) h = h
+stands_alone front B (at_both kt kv) (union_vector items) h = (
   (
     count_back front B kt (length (map (λ item. item.0) items)) h.0.0,
     bytes_back front B (kt + 4) (length front + kt + 4) (map (λ item. item.0) items)

@@ -12,7 +12,7 @@ use Rattle.planus_read.specs.declared.place.Place.{Place}
 use Rattle.planus_read.specs.declared.table_reader.Table.{Table}
 use Rattle.planus_read.specs.Bytes.{Num, BytesStand, position_of}
 use Rattle.planus_read.specs.Clauses.{Answer, shown}
-use Rattle.planus_read.specs.Values.{Value, text, byte_list, plain_list, reference_list, union_list}
+use Rattle.planus_read.specs.Values.{Value, text, byte_list, plain_list, reference_list, union_vector}
 use Rattle.planus_read.specs.Values.{table, Field, plain, reference, tags, values, field_at}
 use Rattle.planus_read.specs.Values.{vtable_size}
 use Rattle.planus_read.specs.Stands.{at, at_both, Stands, ReferenceStands, TableStands}
@@ -23,7 +23,7 @@ use Rattle.planus_read.specs.ReadingLaws.{IsAnswered}
 use Rattle.planus_read.specs.Tables.{Slot, ShowsTable}
 use Rattle.planus_read.specs.TableReading.{SlotReads, HasFields}
 use Rattle.planus_read.specs.ReadsBack.{PlainReads, ReferenceReads, FieldsReadBack, ListReads}
-use Rattle.planus_read.specs.ReadsBack.{UnionListReads, TableReads, WhatStandsReadsBack}
+use Rattle.planus_read.specs.ReadsBack.{UnionVectorReads, TableReads, WhatStandsReadsBack}
 use Rattle.planus_read.proofs.ReadingLaws.{lawful_number, lawful_signed, lawful_truth, lawful_text}
 use Rattle.planus_read.proofs.ReadingLaws.{lawful_byte_list, lawful_vector, lawful_union_vector}
 use Rattle.planus_read.proofs.ReadingLaws.{lawful_table}
@@ -31,7 +31,7 @@ use Rattle.planus_read.proofs.Reading.{num_inside, number_of_signed}
 use Rattle.planus_read.proofs.PieceLaws.{references_lead, num_in_piece, leads_in_pieces}
 use Rattle.planus_read.proofs.PieceLaws.{bytes_in_piece, stands_in_pieces}
 use Rattle.planus_read.proofs.ListItems.{num_of_bytes, plain_lists_read, reference_lists_read}
-use Rattle.planus_read.proofs.ListItems.{union_lists_read, plain_items_stand, reference_items_stand}
+use Rattle.planus_read.proofs.ListItems.{union_vectors_stand_read, plain_items_stand, reference_items_stand}
 use Rattle.planus_read.proofs.ListItems.{union_items_stand}
 use Rattle.planus_read.proofs.TableReading.{table_there, any_slot_reads, table_slot_bytes}
 use Rattle.planus_read.proofs.TableReading.{slot_reads_whole}
@@ -155,11 +155,11 @@ reference_list_reads B k distances h start f to =
           (reference_items_stand B k distances h i distance e);
     }
 
-union_list_reads :
-    (B : List ℕ) (kt kv : ℕ) (items : List (ℕ × ℕ)) → Stands B (at_both kt kv) (union_list items)
+union_vector_reads :
+    (B : List ℕ) (kt kv : ℕ) (items : List (ℕ × ℕ)) → Stands B (at_both kt kv) (union_vector items)
     → (start f g : ℕ) → Leads B (start + f) kt → Leads B (start + g) kv
-    → UnionListReads B kt kv start f g items
-union_list_reads B kt kv items h start f g to_tags to_references =
+    → UnionVectorReads B kt kv start f g items
+union_vector_reads B kt kv items h start f g to_tags to_references =
     let tags_here : InPiece B start f kt = in_piece B start f kt to_tags in
     let references_here : InPiece B start g kv = in_piece B start g kv to_references in
     let vector : UnionItems = record {
@@ -168,9 +168,9 @@ union_list_reads B kt kv items h start f g to_tags to_references =
       count = length items;
     } in
     let moved_there : Stands B (at_both (start + (kt - start)) (start + (kv - start)))
-    (union_list items) =
-    subst (λ n. Stands B (at_both n (start + (kv - start))) (union_list items)) tags_here.whole
-    (subst (λ n. Stands B (at_both kt n) (union_list items)) references_here.whole h) in
+    (union_vector items) =
+    subst (λ n. Stands B (at_both n (start + (kv - start))) (union_vector items)) tags_here.whole
+    (subst (λ n. Stands B (at_both kt n) (union_vector items)) references_here.whole h) in
     let count_inside : kt + byte_len w32 ≤ length B =
     num_inside B kt w32 (length (map (λ item. item.0) items)) h.0.0 in
     record {
@@ -179,10 +179,10 @@ union_list_reads B kt kv items h start f g to_tags to_references =
       first_tag = omega (arith, tags_here.whole);
       first_reference = omega (arith, references_here.whole);
       vector = (lawful_union_vector (drop start B) f g).answered vector
-          (union_lists_read (drop start B) f g (kt - start)
+          (union_vectors_stand_read (drop start B) f g (kt - start)
           (kv - start) items tags_here.leads references_here.leads
           (stands_in_pieces B start (at_both (kt - start) (kv - start))
-          (union_list items) tags_here.inside moved_there));
+          (union_vector items) tags_here.inside moved_there));
       each_tag = λ i item e. (lawful_number (drop (kt + 4) B) i w8).answered item.0
           (sym (num_in_piece B (kt + 4) i w8 count_inside)
           ∙ (union_items_stand B kt kv items h i item e).0);
@@ -253,8 +253,8 @@ what_stands_reads_back B (at k) (plain_list size alignment items) well h = plain
 what_stands_reads_back B (at k) (reference_list distances) well h = reference_list_reads B k
     distances h
 what_stands_reads_back B (at k) (table entries) well h = table_reads B k entries h
-what_stands_reads_back B (at k) (union_list items) well h = h
-what_stands_reads_back B (at_both kt kv) (union_list items) well h = union_list_reads B kt kv items
+what_stands_reads_back B (at k) (union_vector items) well h = h
+what_stands_reads_back B (at_both kt kv) (union_vector items) well h = union_vector_reads B kt kv items
     h
 what_stands_reads_back B (at_both kt kv) (text bytes) well h = h
 what_stands_reads_back B (at_both kt kv) (byte_list bytes) well h = h

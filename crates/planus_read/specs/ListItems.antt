@@ -2,7 +2,7 @@
 use Rattle.std.specs.Prelude.{◌≡◌, ℕ, ◌+◌, ◌*◌, List, slice_get, Some}
 use Rattle.std.specs.Int.{w8}
 use Rattle.planus_read.specs.Bytes.{Num}
-use Rattle.planus_read.specs.Values.{plain_list, reference_list, union_list}
+use Rattle.planus_read.specs.Values.{plain_list, reference_list, union_vector}
 use Rattle.planus_read.specs.Stands.{Stands, at, at_both, PlainStands, ReferenceStands}
 
 -- Item i of a list of plain items follows the count and i items.
@@ -20,10 +20,10 @@ ReferenceItemsStand =
     → (i distance : ℕ) → slice_get distances i ≡ Some distance
     → ReferenceStands B (k + 4 + i * 4) distance
 
--- Tag i of a union list follows the count of the tags and i tags; its reference follows the count
+-- Tag i of a vector of unions follows the count of the tags and i tags; its reference follows the count
 -- of the references and i references.
 abbrev pub UnionItemsStand : Type 0
 UnionItemsStand =
-    (B : List ℕ) (kt kv : ℕ) (items : List (ℕ × ℕ)) → Stands B (at_both kt kv) (union_list items)
+    (B : List ℕ) (kt kv : ℕ) (items : List (ℕ × ℕ)) → Stands B (at_both kt kv) (union_vector items)
     → (i : ℕ) (item : ℕ × ℕ) → slice_get items i ≡ Some item
     → (Num B (kt + 4 + i) w8 ≡ Some item.0) × ReferenceStands B (kv + 4 + i * 4) item.1

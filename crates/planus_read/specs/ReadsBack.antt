@@ -10,7 +10,7 @@ use Rattle.planus_read.specs.declared.place.TaggedPlace.{TaggedPlace}
 use Rattle.planus_read.specs.declared.table_reader.Table.{Table}
 use Rattle.planus_read.specs.Bytes.{position_of}
 use Rattle.planus_read.specs.Clauses.{Answer, shown}
-use Rattle.planus_read.specs.Values.{Value, text, byte_list, plain_list, reference_list, union_list}
+use Rattle.planus_read.specs.Values.{Value, text, byte_list, plain_list, reference_list, union_vector}
 use Rattle.planus_read.specs.Values.{table, Field, plain, reference, tags, values}
 use Rattle.planus_read.specs.Stands.{Position, at, at_both, Stands, FieldStands}
 use Rattle.planus_read.specs.Places.{IsPlace, IsTaggedPlace, LeadsOn, TaggedLeadsOn}
@@ -76,10 +76,10 @@ pub record ListReads
   pub each :
       (i : ℕ) (item : X) → slice_get items i ≡ Some item → ItemReads (k + 4) (i * size) item
 
--- The union list at kt and kv, read at f and g of the piece of B from start on: a vector of as many
+-- The vector of unions at kt and kv, read at f and g of the piece of B from start on: a vector of as many
 -- unions; each tag is answered over the piece that begins at the first tag, each reference over the
 -- piece that begins at the first reference.
-pub record UnionListReads (B : List ℕ) (kt kv start f g : ℕ) (items : List (ℕ × ℕ)) : Type 0 where
+pub record UnionVectorReads (B : List ℕ) (kt kv start f g : ℕ) (items : List (ℕ × ℕ)) : Type 0 where
   pub tags_position : ℕ
   pub references_position : ℕ
   pub first_tag : start + tags_position ≡ kt + 4
@@ -123,10 +123,10 @@ ReadsBack B (at k) (plain_list size alignment items) =
 ReadsBack B (at k) (reference_list distances) =
     ByReferences B k (λ start f. ListReads (ReferenceReads B) B k start f 4 distances)
 ReadsBack B (at k) (table entries) = ByReferences B k (λ start f. TableReads B k start f entries)
-ReadsBack B (at_both kt kv) (union_list items) =
+ReadsBack B (at_both kt kv) (union_vector items) =
     (start f g : ℕ) → Leads B (start + f) kt → Leads B (start + g) kv
-    → UnionListReads B kt kv start f g items
-ReadsBack B (at k) (union_list items) = ⊥
+    → UnionVectorReads B kt kv start f g items
+ReadsBack B (at k) (union_vector items) = ⊥
 ReadsBack B (at_both kt kv) _ = ⊥
 
 -- What stands reads back, if it is well-formed.

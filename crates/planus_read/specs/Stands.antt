@@ -3,7 +3,7 @@ use Rattle.std.specs.Prelude.{◌≡◌, ℕ, ◌+◌, ◌*◌, ◌≤◌, ◌<�
 use Rattle.std.specs.Prelude.{Option, Some, None, ⊤, pos, ◌-ℤ◌}
 use Rattle.std.specs.Int.{w16, w32}
 use Rattle.planus_read.specs.Bytes.{Num, Int, BytesStand}
-use Rattle.planus_read.specs.Values.{Value, text, byte_list, plain_list, reference_list, union_list}
+use Rattle.planus_read.specs.Values.{Value, text, byte_list, plain_list, reference_list, union_vector}
 use Rattle.planus_read.specs.Values.{table, Field, plain, reference, tags, values}
 use Rattle.planus_read.specs.Values.{field_at, vtable_size}
 
@@ -60,7 +60,7 @@ pub record TableStands (B : List ℕ) (k : ℕ) (entries : List (ℕ × Field)) 
       (i : ℕ) → 2 * i + 6 ≤ vtable_size entries
       → SlotStands B k (vtable + 4 + 2 * i) (field_at entries i)
 
--- The positions of a value: one, or of a union list that of its tags and that of its references.
+-- The positions of a value: one, or of a vector of unions that of its tags and that of its references.
 pub data Position : Type 0 where
   at : ℕ → Position
   at_both : ℕ → ℕ → Position
@@ -68,16 +68,16 @@ pub data Position : Type 0 where
 -- The value stands there. Each item of a plain list has the list's size. That the bytes of a text are
 -- UTF-8 is not asked here; `WellFormed` asks it of a value, and the readers of what they find.
 -- The format: a text is a vector of UTF-8 bytes followed by a zero byte that the count leaves out;
--- a byte list has no such byte; a union vector is two vectors, of tags and of references.
+-- a byte list has no such byte; a vector of unions is two vectors, of tags and of references.
 abbrev pub Stands : List ℕ → Position → Value → Type 0
 Stands B (at k) (text bytes) =
     (Num B k w32 ≡ Some (length bytes)) × BytesStand B (k + 4) (bytes ++ 0 ∷ [])
 Stands B (at k) (byte_list bytes) = ByteListStands B k bytes
 Stands B (at k) (plain_list size alignment items) = ListStands (PlainStands size) B k size items
 Stands B (at k) (reference_list distances) = ListStands ReferenceStands B k 4 distances
-Stands B (at_both kt kv) (union_list items) =
+Stands B (at_both kt kv) (union_vector items) =
     ByteListStands B kt (map (λ item. item.0) items)
     × ListStands ReferenceStands B kv 4 (map (λ item. item.1) items)
 Stands B (at k) (table entries) = TableStands B k entries
-Stands B (at k) (union_list items) = ⊥
+Stands B (at k) (union_vector items) = ⊥
 Stands B (at_both kt kv) _ = ⊥

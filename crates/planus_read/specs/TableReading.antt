@@ -79,7 +79,7 @@ UnionsRead {T} reads =
     × ((r : Result T ErrorKind) → Required (UnionAnswer reads table i) r
     → Required (UnionRead reads B k union) r)
 
--- Slots i and i + 1 hold the tags and the values of union lists at these distances, or neither is
+-- Slots i and i + 1 hold the tags and the values of vectors of unions at these distances, or neither is
 -- used.
 abbrev pub HoldUnionVector : List (ℕ × Field) → ℕ → Option (ℕ × ℕ) → Type 0
 HoldUnionVector entries i None = (field_at entries i ≡ None) × (field_at entries (i + 1) ≡ None)

@@ -14,7 +14,7 @@ pub data Field : Type 0 where
   plain : Plain → Field
   -- a value, or the value of a union
   reference : ℕ → Field
-  -- the tags of a union list, and its references
+  -- the tags of a vector of unions, and its references
   tags : ℕ → Field
   values : ℕ → Field
 
@@ -26,7 +26,7 @@ pub data Value : Type 0 where
   plain_list : (size alignment : ℕ) → List (List ℕ) → Value
   reference_list : List ℕ → Value
   -- pairs of a tag and a reference
-  union_list : List (ℕ × ℕ) → Value
+  union_vector : List (ℕ × ℕ) → Value
   -- a map from slots to fields
   table : List (ℕ × Field) → Value
 

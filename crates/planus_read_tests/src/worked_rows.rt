@@ -6,7 +6,7 @@ ghost use Rattle.planus_read_tests.specs.Rows.{text_axe_bytes, u64_list_bytes, o
 ghost use Rattle.planus_read_tests.specs.Rows.{weapon_bytes, weapon_fields, union_vector_bytes};
 ghost use Rattle.planus_read_tests.specs.Rows.{two_texts, u16_table_bytes, u16_table_fields};
 ghost use Rattle.planus_read.specs.Stands.{Stands, ReferenceStands, at, at_both};
-ghost use Rattle.planus_read.specs.Values.{text, plain_list, union_list, table};
+ghost use Rattle.planus_read.specs.Values.{text, plain_list, union_vector, table};
 ghost use Rattle.std.specs.Prelude.{◌∷◌, []};
 
 /// The text `Axe`, finished: it stands aligned at 4, and the root reference leads to it.
@@ -37,8 +37,8 @@ pub fn weapon()
 
 /// Two texts and the vector of unions of both, not finished.
 pub fn union_vector()
-    ensures stands { Stands union_vector_bytes (at_both 0 8) (union_list two_texts) }
-    ensures aligned { AlignedAt union_vector_bytes (at_both 0 8) (union_list two_texts) }
+    ensures stands { Stands union_vector_bytes (at_both 0 8) (union_vector two_texts) }
+    ensures aligned { AlignedAt union_vector_bytes (at_both 0 8) (union_vector two_texts) }
     ensures first_stands { Stands union_vector_bytes (at 28) (text (65 ∷ [])) }
     ensures first_aligned { AlignedAt union_vector_bytes (at 28) (text (65 ∷ [])) }
     ensures second_stands { Stands union_vector_bytes (at 20) (text (66 ∷ [])) }

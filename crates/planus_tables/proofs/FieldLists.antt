@@ -11,7 +11,7 @@ use Rattle.planus_read.specs.Values.{Field}
 use Rattle.planus_read.specs.Aligned.{field_alignment}
 use Rattle.planus_write.specs.Items.{Item}
 use Rattle.planus_write.specs.Tables.{Declared, total_size, declared_of, body_size, body_bytes, field_size, field_item}
-use Rattle.planus_write.specs.TableWriting.{Writer, WasTold, slot_position, blank, entered}
+use Rattle.planus_write.specs.TableWriting.{Writer, WasTold, slot_position, blank, with_entry}
 use Rattle.planus_write.specs.ObjectWriting.{ObjectBody, wrote}
 use Rattle.planus_write.proofs.ToldTables.{pair_elsewhere}
 use Rattle.planus_write.proofs.WrittenBodies.{wrote_both}
@@ -58,7 +58,7 @@ bytes_append (field ∷ fields) others place =
 
 -- a slot other than the one that is declared stays unused
 pub still_unused : (writer : Writer) (one : Declared) (other : ℕ) → (other ≡ one.slot → ⊥)
-    → IsUnused writer one.slot → IsUnused writer other → IsUnused (entered one writer) other
+    → IsUnused writer one.slot → IsUnused writer other → IsUnused (with_entry one writer) other
 still_unused writer one other apart unused also =
     pair_elsewhere writer.vtable (to_le_bytes w16 writer.object_size) (slot_position one.slot) refl
     inside (slot_position other) (0 ∷ 0 ∷ []) elsewhere also

@@ -13,18 +13,19 @@ use Rattle.planus_read.specs.Located.{Located, Required}
 use Rattle.planus_read.specs.Stands.{at_both, Stands, ReferenceStands}
 use Rattle.planus_read.specs.TableReading.{HasFields, SlotReads, SomeOf, UnionRead, UnionVectorRead}
 use Rattle.planus_read.specs.Tables.{ReadsBoth, UnionAnswer, UnionVectorAnswer, slot_of}
-use Rattle.planus_read.specs.Values.{Field, plain, reference, tags, values as values_field, union_list}
+use Rattle.planus_read.specs.Values.{Field, plain, reference, tags, values as values_field, union_vector}
 use Rattle.planus_read.specs.Values.{field_at, slot_count}
 use Rattle.planus_read.proofs.PieceLaws.{references_lead}
 use Rattle.planus_read.proofs.TableReading.{slot_below, unions_read, union_vectors_read}
-use Rattle.planus_unions.specs.declared.union_vector.UnionVectorOf.{UnionVectorOf}
-use Rattle.planus_unions.proofs.ReadBack.{union_lists}
+use Rattle.planus_unions.proofs.ReadBack.{union_vectors}
+use Rattle.planus_view.specs.declared.union_vector.UnionSliceView.{UnionSliceView}
+use Rattle.planus_view.specs.declared.vector_of.VectorOf.{VectorOf}
 use Rattle.planus_tables.specs.Contents.{Content, item, value, values, written}
 use Rattle.planus_tables.specs.Contents.{union_tags, union_values, written_tags}
 use Rattle.planus_tables.specs.Contents.{written_values, tag_content, value_content}
 use Rattle.planus_tables.specs.ReadBack.{FieldHolds, FieldHoldsIf, SlotHolds}
 use Rattle.planus_tables.specs.ReadUnions.{IsReference, ReadsUnion, UnionsReadBack, reads_unions, AreUnions}
-use Rattle.planus_tables.specs.ReadUnions.{UnionVectorsReadBack, NewUnionVectorsReadBack}
+use Rattle.planus_tables.specs.ReadUnions.{UnionVectorSlotsReadBack, NewUnionVectorsReadBack}
 use Rattle.planus_tables.specs.ReadUnions.{WrittenUnions, UnionsStand, WrittenUnionVectorsReadBack}
 use Rattle.planus_tables.specs.ReadUnions.{AbsentUnionVectorsReadBack}
 
@@ -204,25 +205,25 @@ module _ {T : Type 0} (reads : ReadsBoth T) where
 abbrev pub RefersToUnions : List ℕ → Field → Field → List (ℕ × ℕ) → Type 0
 RefersToUnions B one next items =
     (tags_at values_at : ℕ) × (one ≡ tags tags_at) × (next ≡ values_field values_at)
-    × Stands B (at_both (position_of B tags_at) (position_of B values_at)) (union_list items)
+    × Stands B (at_both (position_of B tags_at) (position_of B values_at)) (union_vector items)
 
 module _ (T E : Type 0) where
   -- an answer to a vector of unions where both references stand
   some_unions : (B : List ℕ) (k tags_at values_at : ℕ) (items : List (ℕ × ℕ))
-      → Stands B (at_both (position_of B tags_at) (position_of B values_at)) (union_list items)
-      → (r : Result (Option (UnionVectorOf T E)) ErrorKind)
+      → Stands B (at_both (position_of B tags_at) (position_of B values_at)) (union_vector items)
+      → (r : Result (Option (VectorOf (UnionSliceView T E))) ErrorKind)
       → UnionVectorRead reads_unions B k (Some (tags_at, values_at)) r
       → IsOkAnd r (λ found. IsSomeAnd found (AreUnions B items))
   some_unions B k tags_at values_at items stands (Ok None) h = absurd h.2.2
   some_unions B k tags_at values_at items stands (Ok (Some vector)) h = (
     position_of B tags_at,
     position_of B values_at,
-    union_lists T E B (position_of B tags_at) (position_of B values_at) k h.0 h.2.0 items stands
+    union_vectors T E B (position_of B tags_at) (position_of B values_at) k h.0 h.2.0 items stands
         (references_lead B (k + h.0) tags_at h.1) (references_lead B (k + h.2.0) values_at h.2.1)
         (Ok vector) h.2.2,
   )
   some_unions B k tags_at values_at items stands (Err e) h =
-      union_lists T E B (position_of B tags_at) (position_of B values_at) k h.0 h.2.0 items stands
+      union_vectors T E B (position_of B tags_at) (position_of B values_at) k h.0 h.2.0 items stands
       (references_lead B (k + h.0) tags_at h.1) (references_lead B (k + h.2.0) values_at h.2.1)
       (Err e) h.2.2
 
@@ -232,7 +233,7 @@ module _ (T E : Type 0) where
       → FieldHolds B (values_of x) next → RefersToUnions B one next (items x)) where
     vector_read : (B : List ℕ) (read : Table) (slot : ℕ) (x : X)
         → SlotHolds B read slot (Some (tags_of x)) → SlotHolds B read (slot + 1) (Some (values_of x))
-        → May B x → (r : Result (Option (UnionVectorOf T E)) ErrorKind)
+        → May B x → (r : Result (Option (VectorOf (UnionSliceView T E))) ErrorKind)
         → UnionVectorAnswer reads_unions read slot r
         → IsOkAnd r (λ found. IsSomeAnd found (AreUnions B (items x)))
     vector_read B read slot x holds next_holds may r h =
@@ -243,13 +244,13 @@ module _ (T E : Type 0) where
         (Some (refer.0, refer.1))
         (fields.one_at ∙ ap Some refer.2, fields.next_at ∙ ap Some refer.3)).0 r h)
 
-    pub vectors_read_back : UnionVectorsReadBack T E May tags_of values_of items
+    pub vectors_read_back : UnionVectorSlotsReadBack T E May tags_of values_of items
     vectors_read_back = record { optional = optional; required = required }
       where
         optional : (B : List ℕ) (read : Table) (slot : ℕ) (x : X)
             → SlotHolds B read slot (Some (tags_of x))
             → SlotHolds B read (slot + 1) (Some (values_of x)) → May B x
-            → (type_ method : List ℕ) (offset : ℕ) (r : Result (Option (UnionVectorOf T E)) Error)
+            → (type_ method : List ℕ) (offset : ℕ) (r : Result (Option (VectorOf (UnionSliceView T E))) Error)
             → Located (UnionVectorAnswer reads_unions read slot) type_ method offset r
             → IsOkAnd r (λ found. IsSomeAnd found (AreUnions B (items x)))
         optional B read slot x holds next_holds may type_ method offset (Ok found) h =
@@ -260,7 +261,7 @@ module _ (T E : Type 0) where
         required : (B : List ℕ) (read : Table) (slot : ℕ) (x : X)
             → SlotHolds B read slot (Some (tags_of x))
             → SlotHolds B read (slot + 1) (Some (values_of x)) → May B x
-            → (type_ method : List ℕ) (offset : ℕ) (r : Result (UnionVectorOf T E) Error)
+            → (type_ method : List ℕ) (offset : ℕ) (r : Result (VectorOf (UnionSliceView T E)) Error)
             → Located (Required (UnionVectorAnswer reads_unions read slot)) type_ method offset r
             → IsOkAnd r (AreUnions B (items x))
         required B read slot x holds next_holds may type_ method offset (Ok found) h =
@@ -282,7 +283,7 @@ module _ (T E : Type 0) where
       (unions.tags_at, unions.values_at, holds, next_holds, stands))
 
   absent_vector_read : (B : List ℕ) (read : Table) (slot : ℕ) → SlotHolds B read slot None
-      → SlotHolds B read (slot + 1) None → (r : Result (Option (UnionVectorOf T E)) ErrorKind)
+      → SlotHolds B read (slot + 1) None → (r : Result (Option (VectorOf (UnionSliceView T E))) ErrorKind)
       → UnionVectorAnswer reads_unions read slot r → r ≡ Ok None
   absent_vector_read B read slot holds next_holds r h =
       (union_vectors_read reads_unions B holds.position holds.entries read holds.fields slot None

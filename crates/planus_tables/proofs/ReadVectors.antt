@@ -7,7 +7,8 @@ use Rattle.planus_read.specs.Bytes.{position_of}
 use Rattle.planus_read.specs.Stands.{FieldStands}
 use Rattle.planus_read.specs.Values.{Value, Field, plain_list, reference_list}
 use Rattle.planus_read.proofs.PieceLaws.{references_lead}
-use Rattle.planus_view.specs.declared.vector.Vector.{Vector}
+use Rattle.planus_view.specs.declared.vector.SliceView.{SliceView}
+use Rattle.planus_view.specs.declared.vector_of.VectorOf.{VectorOf}
 use Rattle.planus_view.proofs.ReadBack.{plain_lists, reference_lists}
 use Rattle.planus_tables.specs.Contents.{value, values}
 use Rattle.planus_tables.specs.ReadBack.{AllStand, FieldHolds}
@@ -31,7 +32,7 @@ module _ {T : Type 0} (stride : StrideGhosts T) where
     where
       answered : (B : List ℕ) (list : ℕ × List (List ℕ)) (field : Field) → ⊤
           → FieldHolds B (value (plain_list stride.STRIDE list.0 list.1)) field → (start f : ℕ)
-          → FieldStands B (start + f) field → (r : Result (Vector T stride) ErrorKind)
+          → FieldStands B (start + f) field → (r : Result (VectorOf (SliceView T stride)) ErrorKind)
           → reads_vector stride (drop start B) start f r
           → IsOkAnd r (λ vector. ArePlainItems stride B list.1 vector)
       answered B list field may holds start f stands r h =
@@ -47,7 +48,7 @@ module _ {T : Type 0} (stride : StrideGhosts T) where
     where
       answered : (B distances : List ℕ) (field : Field) → ⊤
           → FieldHolds B (value (reference_list distances)) field → (start f : ℕ)
-          → FieldStands B (start + f) field → (r : Result (Vector T stride) ErrorKind)
+          → FieldStands B (start + f) field → (r : Result (VectorOf (SliceView T stride)) ErrorKind)
           → reads_vector stride (drop start B) start f r
           → IsOkAnd r (λ vector. AreReferences stride B distances vector)
       answered B distances field may holds start f stands r h =
@@ -64,7 +65,7 @@ module _ {T : Type 0} (stride : StrideGhosts T) where
     where
       answered : (B : List ℕ) (contents : List Value) (field : Field) → ⊤
           → FieldHolds B (values contents) field → (start f : ℕ)
-          → FieldStands B (start + f) field → (r : Result (Vector T stride) ErrorKind)
+          → FieldStands B (start + f) field → (r : Result (VectorOf (SliceView T stride)) ErrorKind)
           → reads_vector stride (drop start B) start f r
           → IsOkAnd r (λ vector. (distances : List ℕ) × AllStand B contents distances
           × AreReferences stride B distances vector)

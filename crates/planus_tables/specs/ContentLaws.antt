@@ -2,7 +2,7 @@
 use Rattle.std.specs.Prelude.{◌≡◌, ℕ, List, [], ◌∷◌, ◌++◌, length, Bool, true, false, Option, Some, None, Ok, ⊤}
 use Rattle.std.specs.Bool.{Decides}
 use Rattle.std.proofs.Common.{refl, subst, sym}
-use Rattle.planus_read.specs.Values.{Value, Field, reference, text, byte_list, union_list}
+use Rattle.planus_read.specs.Values.{Value, Field, reference, text, byte_list, union_vector}
 use Rattle.planus_fields.specs.Fields.{MayIf, PreparesIf, LeftOutWhere}
 use Rattle.planus_write.specs.Kept.{IsKept}
 use Rattle.planus_write.specs.Laws.{extends_on, extends_itself}
@@ -53,13 +53,13 @@ field_stays before after (union_tags items) field extends is = (
   is.0,
   is.1,
   is.2,
-  kept_stays before after (union_list items) (named_at_both is.0 is.1) extends is.3,
+  kept_stays before after (union_vector items) (named_at_both is.0 is.1) extends is.3,
 )
 field_stays before after (union_values items) field extends is = (
   is.0,
   is.1,
   is.2,
-  kept_stays before after (union_list items) (named_at_both is.0 is.1) extends is.3,
+  kept_stays before after (union_vector items) (named_at_both is.0 is.1) extends is.3,
 )
 field_stays before after (written_tags distance) field extends is = is
 field_stays before after (written_values distance) field extends is = is

@@ -2,7 +2,7 @@
 use Rattle.std.specs.Prelude.{◌≡◌, ℕ, List, [], ◌∷◌, ◌++◌, Bool, if◌then◌else◌, Option, Some, None, Ok, ⊤}
 use Rattle.std.specs.Int.{w8, to_le_bytes}
 use Rattle.planus_read.specs.Values.{Value, Field, Plain, plain, reference, tags, values as values_field}
-use Rattle.planus_read.specs.Values.{reference_list, union_list, table}
+use Rattle.planus_read.specs.Values.{reference_list, union_vector, table}
 use Rattle.planus_write.specs.Kept.{IsKept}
 use Rattle.planus_write.specs.Parts.{Named}
 use Rattle.planus_write.specs.Past.{Past}
@@ -13,7 +13,7 @@ use Rattle.planus_write.specs.declared.union_offset.UnionOffset.{UnionOffset}
 use Rattle.planus_write.specs.declared.union_vector_offset.UnionVectorOffset.{UnionVectorOffset}
 
 -- What a field holds: a number or a truth value; a reference to a value; a reference to a list of
--- references to values; or a reference to what was written before, at this distance. A list of unions
+-- references to values; or a reference to what was written before, at this distance. A vector of unions
 -- has two fields, one that refers to its tags and one that refers to its values: they are those of
 -- the list of these pairs of a tag and a distance, or of one that was written before.
 pub data Content : Type 0 where
@@ -38,7 +38,7 @@ AllKept past (one ∷ others) (distance ∷ distances) =
 AllKept past [] (distance ∷ distances) = ⊥
 AllKept past (one ∷ others) [] = ⊥
 
--- the same of a list of unions
+-- the same of a vector of unions
 abbrev pub named_at_both : (tags_at values_at : ℕ) → Named
 named_at_both tags_at values_at = record { distance = values_at; tags = Some tags_at }
 
@@ -55,10 +55,10 @@ FieldIs past (values contents) field =
 FieldIs past (written distance) field = field ≡ reference distance
 FieldIs past (union_tags items) field =
     (tags_at values_at : ℕ) × (field ≡ tags tags_at)
-    × IsKept past (union_list items) (named_at_both tags_at values_at)
+    × IsKept past (union_vector items) (named_at_both tags_at values_at)
 FieldIs past (union_values items) field =
     (tags_at values_at : ℕ) × (field ≡ values_field values_at)
-    × IsKept past (union_list items) (named_at_both tags_at values_at)
+    × IsKept past (union_vector items) (named_at_both tags_at values_at)
 FieldIs past (written_tags distance) field = field ≡ tags distance
 FieldIs past (written_values distance) field = field ≡ values_field distance
 
@@ -142,23 +142,23 @@ pub record PreparesUnion {X T : Type 0} (may : X → State → Type 0)
       → may x old → outcome x old (Ok prepared) new → IsPast old past
       → Comes past new (λ after. UnionHolds after (content x) prepared)
 
--- The two fields of a list of unions hold these; or it is left out.
-abbrev pub UnionListHolds : {T : Type 0} → Past → Option (Content × Content)
+-- The two fields of a vector of unions hold these; or it is left out.
+abbrev pub UnionVectorHolds : {T : Type 0} → Past → Option (Content × Content)
     → Option (UnionVectorOffset T) → Type 0
-UnionListHolds past None None = ⊤
-UnionListHolds past (Some contents) (Some vector) =
+UnionVectorHolds past None None = ⊤
+UnionVectorHolds past (Some contents) (Some vector) =
     FieldIs past contents.0 (tags vector.tags.distance)
     × FieldIs past contents.1 (values_field vector.values.distance)
-UnionListHolds past None (Some vector) = ⊥
-UnionListHolds past (Some contents) None = ⊥
+UnionVectorHolds past None (Some vector) = ⊥
+UnionVectorHolds past (Some contents) None = ⊥
 
--- Once a list of unions is prepared, its two fields hold these.
-pub record PreparesUnionList {X T : Type 0} (may : X → State → Type 0)
+-- Once a vector of unions is prepared, its two fields hold these.
+pub record PreparesUnionVector {X T : Type 0} (may : X → State → Type 0)
     (outcome : X → Outcome (Option (UnionVectorOffset T))) (contents : X → Option (Content × Content)) : Type 0 where
   pub comes :
       (x : X) (old : State) (prepared : Option (UnionVectorOffset T)) (new : State) (past : Past)
       → may x old → outcome x old (Ok prepared) new → IsPast old past
-      → Comes past new (λ after. UnionListHolds after (contents x) prepared)
+      → Comes past new (λ after. UnionVectorHolds after (contents x) prepared)
 
 -- what each of its fields holds
 abbrev pub tags_content : Option (Content × Content) → Option Content
@@ -203,8 +203,8 @@ abbrev pub union_if : {X : Type 0} → (X → Option (ℕ × Content)) → Optio
 union_if content None = None
 union_if content (Some x) = content x
 
--- the same of a list of unions
-abbrev pub union_list_if : {X : Type 0} → (X → Option (Content × Content)) → Option X
+-- the same of a vector of unions
+abbrev pub union_vector_if : {X : Type 0} → (X → Option (Content × Content)) → Option X
     → Option (Content × Content)
-union_list_if contents None = None
-union_list_if contents (Some x) = contents x
+union_vector_if contents None = None
+union_vector_if contents (Some x) = contents x

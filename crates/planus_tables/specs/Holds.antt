@@ -80,7 +80,7 @@ abbrev pub holds_union_tag : {T : Type 0} → Option (UnionOffset T) → Option 
 holds_union_tag union =
     tag_content (union_if (λ union. Some (union.tag, written (union_reach union))) union)
 
--- the tags and the values of a list of unions that were written before
+-- the tags and the values of a vector of unions that were written before
 abbrev pub holds_union_tags : {T : Type 0} → List (UnionOffset T) → Option Content
 holds_union_tags unions = Some (union_tags (map item_of unions))
 

@@ -56,7 +56,7 @@ reference_is_item distance = record {
   stands = λ before reached. reached;
 }
 
--- the references of a list of unions
+-- the references of a vector of unions
 pub tags_are_item : (distance : ℕ)
     → IsItem 4 4 (reference_item distance) distance (tags_field distance)
 tags_are_item distance = record {
@@ -105,8 +105,8 @@ pub none_is_unchanged : {A : Type 0} (old : State) (prepared : A) (new : State)
     → PreparesNone old (Ok prepared) new → new ≡ old
 none_is_unchanged old prepared new done = done
 
--- how far a list of unions and the others refer
-pub union_list_field_reach : {T A B : Type 0} (tags_of : UnionVectorOffset T → A) (tags_reach : A → ℕ)
+-- how far a vector of unions and the others refer
+pub union_vector_field_reach : {T A B : Type 0} (tags_of : UnionVectorOffset T → A) (tags_reach : A → ℕ)
     (values_of : UnionVectorOffset T → B) (values_reach : B → ℕ)
     → ((vector : UnionVectorOffset T) → tags_reach (tags_of vector) ≡ vector.tags.distance)
     → ((vector : UnionVectorOffset T) → values_reach (values_of vector) ≡ vector.values.distance)
@@ -114,7 +114,7 @@ pub union_list_field_reach : {T A B : Type 0} (tags_of : UnionVectorOffset T →
     (fields tags : ℕ) → tags_in ≡ option_map tags_of vector → values_in ≡ option_map values_of vector
     → max (max (reach_if tags_reach tags_in) (max (reach_if values_reach values_in) fields)) tags
     ≤ max (reach_if union_vector_reach vector) (max fields tags)
-union_list_field_reach {T} {A} {B} tags_of tags_reach values_of values_reach tags_is values_is vector
+union_vector_field_reach {T} {A} {B} tags_of tags_reach values_of values_reach tags_is values_is vector
     tags_in values_in fields tags same_tags same_values =
     let one = ap (reach_if tags_reach) same_tags in
     let two = ap (reach_if values_reach) same_values in

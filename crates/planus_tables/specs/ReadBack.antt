@@ -12,7 +12,7 @@ use Rattle.planus_read.specs.Stands.{Stands, at, at_both, ReferenceStands}
 use Rattle.planus_read.specs.TableReading.{HasFields}
 use Rattle.planus_read.specs.Tables.{Reads, FieldAnswer}
 use Rattle.planus_read.specs.Values.{Value, Field, plain, reference, tags, values as values_field}
-use Rattle.planus_read.specs.Values.{reference_list, union_list, table, field_at}
+use Rattle.planus_read.specs.Values.{reference_list, union_vector, table, field_at}
 use Rattle.planus_write.specs.Finishing.{FinishGives}
 use Rattle.planus_write.specs.Past.{Past}
 use Rattle.planus_write.specs.Preparing.{IsPrepared}
@@ -45,10 +45,10 @@ FieldHolds B (values contents) field =
 FieldHolds B (written distance) field = field ≡ reference distance
 FieldHolds B (union_tags items) field =
     (tags_at values_at : ℕ) × (field ≡ tags tags_at)
-    × Stands B (at_both (position_of B tags_at) (position_of B values_at)) (union_list items)
+    × Stands B (at_both (position_of B tags_at) (position_of B values_at)) (union_vector items)
 FieldHolds B (union_values items) field =
     (tags_at values_at : ℕ) × (field ≡ values_field values_at)
-    × Stands B (at_both (position_of B tags_at) (position_of B values_at)) (union_list items)
+    × Stands B (at_both (position_of B tags_at) (position_of B values_at)) (union_vector items)
 FieldHolds B (written_tags distance) field = field ≡ tags distance
 FieldHolds B (written_values distance) field = field ≡ values_field distance
 

@@ -12,10 +12,11 @@ use Rattle.planus_read.specs.Reading.{union_vector_reading}
 use Rattle.planus_read.specs.Stands.{Stands, at_both, ReferenceStands}
 use Rattle.planus_read.specs.TableReading.{SomeOf}
 use Rattle.planus_read.specs.Tables.{ReadsBoth, UnionAnswer, UnionVectorAnswer}
-use Rattle.planus_read.specs.Values.{reference, union_list}
+use Rattle.planus_read.specs.Values.{reference, union_vector}
 use Rattle.planus_unions.specs.ReadBack.{IsUnionVectorOf}
-use Rattle.planus_unions.specs.UnionVectorView.{ShowsUnionVector}
-use Rattle.planus_unions.specs.declared.union_vector.UnionVectorOf.{UnionVectorOf}
+use Rattle.planus_view.specs.UnionVectorView.{ShowsUnionVector}
+use Rattle.planus_view.specs.declared.union_vector.UnionSliceView.{UnionSliceView}
+use Rattle.planus_view.specs.declared.vector_of.VectorOf.{VectorOf}
 use Rattle.planus_tables.specs.Contents.{Content, value, values, written}
 use Rattle.planus_tables.specs.Contents.{union_tags, union_values, written_tags}
 use Rattle.planus_tables.specs.Contents.{written_values, tag_content, value_content}
@@ -62,35 +63,35 @@ pub record UnionsReadBack {T : Type 0} (reads : ReadsBoth T) : Type 0 where
       → Located (UnionAnswer reads read slot) type_ method offset r → r ≡ Ok None
 
 -- what a vector of unions is answered with
-abbrev pub reads_unions : {T E : Type 0} → ReadsBoth (UnionVectorOf T E)
+abbrev pub reads_unions : {T E : Type 0} → ReadsBoth (VectorOf (UnionSliceView T E))
 reads_unions S start f g r =
     Answer (shown (ShowsUnionVector S start) (union_vector_reading S f g)) r
 
 -- it is the vector of these items, wherever they stand in B
-abbrev pub AreUnions : {T E : Type 0} → List ℕ → List (ℕ × ℕ) → UnionVectorOf T E → Type 0
+abbrev pub AreUnions : {T E : Type 0} → List ℕ → List (ℕ × ℕ) → VectorOf (UnionSliceView T E) → Type 0
 AreUnions {T} {E} B items vector = (kt kv : ℕ) × IsUnionVectorOf T E B kt kv items vector
 
 -- What the calls of a table return at two neighbouring slots, the first of which refers to the tags
 -- of a vector of unions and the second to its values, with these items.
-pub record UnionVectorsReadBack (T E : Type 0) {X : Type 0} (May : List ℕ → X → Type 0)
+pub record UnionVectorSlotsReadBack (T E : Type 0) {X : Type 0} (May : List ℕ → X → Type 0)
     (tags_of values_of : X → Content) (items : X → List (ℕ × ℕ)) : Type 0 where
   pub optional :
       (B : List ℕ) (read : Table) (slot : ℕ) (x : X) → SlotHolds B read slot (Some (tags_of x))
       → SlotHolds B read (slot + 1) (Some (values_of x)) → May B x
-      → (type_ method : List ℕ) (offset : ℕ) (r : Result (Option (UnionVectorOf T E)) Error)
+      → (type_ method : List ℕ) (offset : ℕ) (r : Result (Option (VectorOf (UnionSliceView T E))) Error)
       → Located (UnionVectorAnswer reads_unions read slot) type_ method offset r
       → IsOkAnd r (λ found. IsSomeAnd found (AreUnions B (items x)))
   pub required :
       (B : List ℕ) (read : Table) (slot : ℕ) (x : X) → SlotHolds B read slot (Some (tags_of x))
       → SlotHolds B read (slot + 1) (Some (values_of x)) → May B x
-      → (type_ method : List ℕ) (offset : ℕ) (r : Result (UnionVectorOf T E) Error)
+      → (type_ method : List ℕ) (offset : ℕ) (r : Result (VectorOf (UnionSliceView T E)) Error)
       → Located (Required (UnionVectorAnswer reads_unions read slot)) type_ method offset r
       → IsOkAnd r (AreUnions B (items x))
 
 -- So is one that was written with its table, and one that was written before, where it stands.
 abbrev pub NewUnionVectorsReadBack : (T E : Type 0) → Type 0
 NewUnionVectorsReadBack T E =
-    UnionVectorsReadBack T E (λ B items. ⊤) union_tags union_values (λ items. items)
+    UnionVectorSlotsReadBack T E (λ B items. ⊤) union_tags union_values (λ items. items)
 
 -- a vector of unions that stands in B: its items, and the distances of its tags and of its values
 pub record WrittenUnions : Type 0 where
@@ -101,11 +102,11 @@ pub record WrittenUnions : Type 0 where
 abbrev pub UnionsStand : List ℕ → WrittenUnions → Type 0
 UnionsStand B unions =
     Stands B (at_both (position_of B unions.tags_at) (position_of B unions.values_at))
-    (union_list unions.items)
+    (union_vector unions.items)
 
 abbrev pub WrittenUnionVectorsReadBack : (T E : Type 0) → Type 0
 WrittenUnionVectorsReadBack T E =
-    UnionVectorsReadBack T E UnionsStand (λ unions. written_tags unions.tags_at)
+    UnionVectorSlotsReadBack T E UnionsStand (λ unions. written_tags unions.tags_at)
     (λ unions. written_values unions.values_at) (λ unions. unions.items)
 
 -- Of two neighbouring slots that hold nothing they return none.
@@ -113,5 +114,5 @@ abbrev pub AbsentUnionVectorsReadBack : (T E : Type 0) → Type 0
 AbsentUnionVectorsReadBack T E =
     (B : List ℕ) (read : Table) (slot : ℕ) → SlotHolds B read slot None
     → SlotHolds B read (slot + 1) None
-    → (type_ method : List ℕ) (offset : ℕ) (r : Result (Option (UnionVectorOf T E)) Error)
+    → (type_ method : List ℕ) (offset : ℕ) (r : Result (Option (VectorOf (UnionSliceView T E))) Error)
     → Located (UnionVectorAnswer reads_unions read slot) type_ method offset r → r ≡ Ok None

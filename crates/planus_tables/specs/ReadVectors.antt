@@ -8,23 +8,24 @@ use Rattle.planus_read.specs.Tables.{Reads}
 use Rattle.planus_read.specs.Values.{Value, plain_list, reference_list}
 use Rattle.planus_view.specs.ReadBack.{IsVectorOf}
 use Rattle.planus_view.specs.VectorView.{ShowsVector}
-use Rattle.planus_view.specs.declared.vector.Vector.{Vector}
+use Rattle.planus_view.specs.declared.vector.SliceView.{SliceView}
+use Rattle.planus_view.specs.declared.vector_of.VectorOf.{VectorOf}
 use Rattle.planus_tables.specs.Contents.{value, values}
 use Rattle.planus_tables.specs.ReadBack.{AllStand, ContentsReadBack}
 
 module _ {T : Type 0} (stride : StrideGhosts T) where
   -- what a vector is answered with
-  abbrev pub reads_vector : Reads (Vector T stride)
+  abbrev pub reads_vector : Reads (VectorOf (SliceView T stride))
   reads_vector S start f r =
       Answer (shown (ShowsVector S start) (vector_reading S f stride.STRIDE)) r
 
   -- it is the vector of plain items of these bytes, or of references to these distances, wherever
   -- they stand in B
-  abbrev pub ArePlainItems : List ℕ → List (List ℕ) → Vector T stride → Type 0
+  abbrev pub ArePlainItems : List ℕ → List (List ℕ) → VectorOf (SliceView T stride) → Type 0
   ArePlainItems B items vector =
       (k : ℕ) × IsVectorOf stride (λ start f item. PlainReads (drop start B) f item) B k items vector
 
-  abbrev pub AreReferences : List ℕ → List ℕ → Vector T stride → Type 0
+  abbrev pub AreReferences : List ℕ → List ℕ → VectorOf (SliceView T stride) → Type 0
   AreReferences B distances vector =
       (k : ℕ) × IsVectorOf stride (ReferenceReads B) B k distances vector
 

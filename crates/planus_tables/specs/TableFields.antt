@@ -39,7 +39,7 @@ union_value_in slot union = field_in slot (λ union. reference (union_reach unio
 abbrev pub union_tag_in : {T : Type 0} → ℕ → Option (UnionOffset T) → List (ℕ × Field)
 union_tag_in slot union = field_in slot (λ union. tag_field union.tag) union
 
--- the fields of a list of unions, if it is there: the references to its tags and to its values
+-- the fields of a vector of unions, if it is there: the references to its tags and to its values
 abbrev pub list_tags_in : {T : Type 0} → ℕ → Option (UnionVectorOffset T) → List (ℕ × Field)
 list_tags_in slot vector = field_in slot (λ vector. tags vector.tags.distance) vector
 

@@ -1,10 +1,10 @@
--- The laws of what unions and lists of unions hold, which have two fields each.
+-- The laws of what unions and vectors of unions hold, which have two fields each.
 use Rattle.std.specs.Prelude.{◌≡◌, ℕ, ◌≤◌, List, [], ◌∷◌, ◌++◌, length, map, Option, Some, None, Ok, ⊤}
 use Rattle.std.specs.Int.{w8, to_le_bytes}
 use Rattle.std.specs.List.{AllByRecursion}
 use Rattle.std.specs.Option.{option_map}
 use Rattle.std.proofs.Common.{refl, subst, sym, ap}
-use Rattle.planus_read.specs.Values.{Field, plain, reference, tags, values as values_field, union_list}
+use Rattle.planus_read.specs.Values.{Field, plain, reference, tags, values as values_field, union_vector}
 use Rattle.planus_fields.specs.Fields.{MayIf, PreparesIf, LeftOutWhere, reach_if}
 use Rattle.planus_write.specs.Kept.{IsKept}
 use Rattle.planus_write.specs.Laws.{extends_on}
@@ -13,7 +13,7 @@ use Rattle.planus_write.specs.Past.{Past}
 use Rattle.planus_write.specs.Placing.{Outcome}
 use Rattle.planus_write.specs.Preparing.{AllMay, Answers, IsLawful}
 use Rattle.planus_write.specs.State.{State, IsPast, Extends, Grows}
-use Rattle.planus_write.specs.UnionLaws.{ready_union_list_is_put}
+use Rattle.planus_write.specs.UnionLaws.{ready_union_vector_is_put}
 use Rattle.planus_write.specs.Unions.{union_reach, union_vector_reach, item_of, WritesUnionVector}
 use Rattle.planus_write.specs.declared.offset.Offset.{Offset}
 use Rattle.planus_write.specs.declared.union_offset.UnionOffset.{UnionOffset}
@@ -22,9 +22,9 @@ use Rattle.planus_write.proofs.PutEntries.{entries_put}
 use Rattle.planus_write.proofs.Standing.{values_are_kept}
 use Rattle.planus_tables.specs.Contents.{Content, written, union_tags, union_values, written_tags}
 use Rattle.planus_tables.specs.Contents.{written_values, named_at_both, FieldIs, HoldsIf, UnionHolds}
-use Rattle.planus_tables.specs.Contents.{UnionListHolds, content_in, there_of, Comes, value_content}
+use Rattle.planus_tables.specs.Contents.{UnionVectorHolds, content_in, there_of, Comes, value_content}
 use Rattle.planus_tables.specs.Contents.{tag_content, tags_content, values_content, union_if}
-use Rattle.planus_tables.specs.Contents.{union_list_if, PreparesUnion, PreparesUnionList}
+use Rattle.planus_tables.specs.Contents.{union_vector_if, PreparesUnion, PreparesUnionVector}
 use Rattle.planus_tables.specs.Contents.{PreparesContents}
 use Rattle.planus_tables.specs.ContentLaws.{field_stays, one_more, stays_there}
 use Rattle.planus_tables.specs.Preparing.{PreparesBoth}
@@ -109,11 +109,11 @@ union_and_others_prepared tag_slot value_slot x_of y_of offset_of is value_of ta
           ));
     }
 
--- a list of unions: its two fields
+-- a vector of unions: its two fields
 module _ {T A : Type 0} (of : UnionVectorOffset T → A) (field : A → Field) where
   list_tags_hold : ((vector : UnionVectorOffset T) → field (of vector) ≡ tags vector.tags.distance)
       → (before after : Past) (contents : Option (Content × Content)) (vector : Option (UnionVectorOffset T))
-      → Extends before after → UnionListHolds before contents vector
+      → Extends before after → UnionVectorHolds before contents vector
       → HoldsIf after (tags_content contents) field (option_map of vector)
   list_tags_hold is before after None None extends holds = tt
   list_tags_hold is before after (Some contents) (Some vector) extends holds =
@@ -124,7 +124,7 @@ module _ {T A : Type 0} (of : UnionVectorOffset T → A) (field : A → Field) w
 
   list_values_hold : ((vector : UnionVectorOffset T) → field (of vector) ≡ values_field vector.values.distance)
       → (before after : Past) (contents : Option (Content × Content)) (vector : Option (UnionVectorOffset T))
-      → Extends before after → UnionListHolds before contents vector
+      → Extends before after → UnionVectorHolds before contents vector
       → HoldsIf after (values_content contents) field (option_map of vector)
   list_values_hold is before after None None extends holds = tt
   list_values_hold is before after (Some contents) (Some vector) extends holds =
@@ -133,8 +133,8 @@ module _ {T A : Type 0} (of : UnionVectorOffset T → A) (field : A → Field) w
   list_values_hold is before after None (Some vector) extends holds = holds
   list_values_hold is before after (Some contents) None extends holds = holds
 
--- one list of unions and the others
-pub union_list_and_others_prepared : {T U V X Y Z B C : Type 0} {may_first : X → State → Type 0}
+-- one vector of unions and the others
+pub union_vector_and_others_prepared : {T U V X Y Z B C : Type 0} {may_first : X → State → Type 0}
     {first : X → Outcome (Option (UnionVectorOffset T))} {may_rest : Y → State → Type 0}
     {rest : Y → Outcome B} (tags_slot values_slot : ℕ) (x_of : Z → X) (y_of : Z → Y)
     (tags_of : UnionVectorOffset T → U) (tags_field : U → Field)
@@ -146,7 +146,7 @@ pub union_list_and_others_prepared : {T U V X Y Z B C : Type 0} {may_first : X �
     (contents last_contents : Y → List (ℕ × Option Content)) (there last_there : B → List (ℕ × Field))
     → IsLawful may_first first (reach_if union_vector_reach)
     → ((y : Y) (old new : State) → Grows old new → may_rest y old → may_rest y new)
-    → PreparesUnionList may_first first content
+    → PreparesUnionVector may_first first content
     → PreparesContents may_rest rest contents last_contents there last_there
     → PreparesContents {X = Z} (λ fields old. may_first (x_of fields) old × may_rest (y_of fields) old)
     (λ fields old answer new.
@@ -160,7 +160,7 @@ pub union_list_and_others_prepared : {T U V X Y Z B C : Type 0} {may_first : X �
     (λ prepared. field_in tags_slot tags_field (tags_in prepared)
     ++ (field_in values_slot values_are (values_in prepared) ++ there (of_rest prepared)))
     (λ prepared. last_there (of_rest prepared))
-union_list_and_others_prepared tags_slot values_slot x_of y_of tags_of tags_field values_of values_are
+union_vector_and_others_prepared tags_slot values_slot x_of y_of tags_of tags_field values_of values_are
     tags_is values_is tags_in values_in of_rest content contents last_contents there last_there firsts
     stays one others =
     record {
@@ -190,25 +190,25 @@ union_list_and_others_prepared tags_slot values_slot x_of y_of tags_of tags_fiel
           ));
     }
 
--- a list of unions that may be absent
-pub optional_union_list_prepared : {X T : Type 0} {may : X → State → Type 0}
+-- a vector of unions that may be absent
+pub optional_union_vector_prepared : {X T : Type 0} {may : X → State → Type 0}
     {outcome : X → Outcome (Option (UnionVectorOffset T))} {contents : X → Option (Content × Content)}
-    → PreparesUnionList may outcome contents
-    → PreparesUnionList (λ x old. MayIf may x old) (λ x old answer new. PreparesIf outcome x old answer new)
-    (λ x. union_list_if contents x)
-optional_union_list_prepared {X} {T} {may} {outcome} {contents} lawful = record { comes = prepared }
+    → PreparesUnionVector may outcome contents
+    → PreparesUnionVector (λ x old. MayIf may x old) (λ x old answer new. PreparesIf outcome x old answer new)
+    (λ x. union_vector_if contents x)
+optional_union_vector_prepared {X} {T} {may} {outcome} {contents} lawful = record { comes = prepared }
   where
     prepared : (x : Option X) (old : State) (prepared : Option (UnionVectorOffset T)) (new : State) (past : Past)
         → MayIf may x old → PreparesIf outcome x old (Ok prepared) new → IsPast old past
-        → Comes past new (λ after. UnionListHolds after (union_list_if contents x) prepared)
+        → Comes past new (λ after. UnionVectorHolds after (union_vector_if contents x) prepared)
     prepared None old None new past may done is_past =
         stays_there past old new (λ after. ⊤) done.1 is_past tt
     prepared None old (Some found) new past may done is_past = cc
     prepared (Some x) old found new past may done is_past = lawful.comes x old found new past may done is_past
 
--- a list of unions that is written already
+-- a vector of unions that is written already
 pub union_vector_offset_prepared : {T : Type 0} {may : UnionVectorOffset T → State → Type 0}
-    → PreparesUnionList may (λ vector old answer new. LeftOutWhere ⊥ (Answers vector) old answer new)
+    → PreparesUnionVector may (λ vector old answer new. LeftOutWhere ⊥ (Answers vector) old answer new)
     (λ vector. Some (written_tags vector.tags.distance, written_values vector.values.distance))
 union_vector_offset_prepared {T} {may} = record { comes = comes }
   where
@@ -217,7 +217,7 @@ union_vector_offset_prepared {T} {may} = record { comes = comes }
         → IsPast old past
         → Comes past new
         (λ after.
-        UnionListHolds after
+        UnionVectorHolds after
         (Some (written_tags vector.tags.distance, written_values vector.values.distance)) prepared)
     comes vector old None new past may done is_past = elim done.0 [ ]
     comes vector old (Some found) new past may done is_past =
@@ -240,9 +240,9 @@ unions_lie (union ∷ unions) old past is_past may = (
   unions_lie unions old past is_past may.1,
 )
 
--- a list of unions that are written already
+-- a vector of unions that are written already
 pub unions_prepared : {X T : Type 0} (items : X → List (UnionOffset T))
-    → PreparesUnionList (λ x old. AllMay (λ union state. union_reach union ≤ length state.bytes) (items x) old)
+    → PreparesUnionVector (λ x old. AllMay (λ union state. union_reach union ≤ length state.bytes) (items x) old)
     (λ x old answer new. LeftOutWhere ⊥ (WritesUnionVector Answers (items x)) old answer new)
     (λ x. Some (union_tags (map item_of (items x)), union_values (map item_of (items x))))
 unions_prepared {X} {T} items = record { comes = comes }
@@ -252,18 +252,18 @@ unions_prepared {X} {T} items = record { comes = comes }
         → LeftOutWhere ⊥ (WritesUnionVector Answers (items x)) old (Ok prepared) new → IsPast old past
         → Comes past new
         (λ after.
-        UnionListHolds after
+        UnionVectorHolds after
         (Some (union_tags (map item_of (items x)), union_values (map item_of (items x)))) prepared)
     comes x old None new past may done is_past = elim done.0 [ ]
     comes x old (Some vector) new past may done is_past =
         let pairs = map item_of (items x) in
-        let put = ready_union_list_is_put (items x) old vector new done.1 in
-        let placed = entries_put (entries_of (union_list pairs)) [] old put.0 new past put.1 is_past in
-        let kept = values_are_kept old.switches (union_list pairs) past put.0 placed.0
+        let put = ready_union_vector_is_put (items x) old vector new done.1 in
+        let placed = entries_put (entries_of (union_vector pairs)) [] old put.0 new past put.1 is_past in
+        let kept = values_are_kept old.switches (union_vector pairs) past put.0 placed.0
         (unions_lie (items x) old past is_past may) is_past.kept placed.1 in
-        let stands = subst (λ (d : ℕ). IsKept placed.0 (union_list pairs) (named_at_both d vector.values.distance))
+        let stands = subst (λ (d : ℕ). IsKept placed.0 (union_vector pairs) (named_at_both d vector.values.distance))
         (sym put.3)
-        (subst (λ (d : ℕ). IsKept placed.0 (union_list pairs) (named_at_both (last_of put.0) d))
+        (subst (λ (d : ℕ). IsKept placed.0 (union_vector pairs) (named_at_both (last_of put.0) d))
         (sym put.2) kept.0) in (
           placed.0,
           placed.2,
@@ -326,20 +326,20 @@ pub union_prepared_as : {X Y T : Type 0} {may : X → State → Type 0}
     (λ y. content (of y))
 union_prepared_as of lawful = record { comes = λ y. lawful.comes (of y) }
 
--- a list of unions that is always left out
-pub never_union_list_prepared : {X T : Type 0} {may : X → State → Type 0}
-    → PreparesUnionList {X = X} {T = T} may (λ x old answer new. Answers None old answer new) (λ x. None)
-never_union_list_prepared {X} {T} {may} = record {
+-- a vector of unions that is always left out
+pub never_union_vector_prepared : {X T : Type 0} {may : X → State → Type 0}
+    → PreparesUnionVector {X = X} {T = T} may (λ x old answer new. Answers None old answer new) (λ x. None)
+never_union_vector_prepared {X} {T} {may} = record {
   comes = λ x old prepared new past may done is_past.
       (let same : None ≡ prepared = cc in
-      subst (λ (prepared : Option (UnionVectorOffset T)). Comes past new (λ after. UnionListHolds after None prepared)) same
+      subst (λ (prepared : Option (UnionVectorOffset T)). Comes past new (λ after. UnionVectorHolds after None prepared)) same
       (stays_there past old new (λ after. ⊤) done.1 is_past tt));
 }
 
--- a list of unions that is prepared as something else
-pub union_list_prepared_as : {X Y T : Type 0} {may : X → State → Type 0}
+-- a vector of unions that is prepared as something else
+pub union_vector_prepared_as : {X Y T : Type 0} {may : X → State → Type 0}
     {outcome : X → Outcome (Option (UnionVectorOffset T))} {contents : X → Option (Content × Content)}
-    (of : Y → X) → PreparesUnionList may outcome contents
-    → PreparesUnionList (λ y old. may (of y) old) (λ y old answer new. outcome (of y) old answer new)
+    (of : Y → X) → PreparesUnionVector may outcome contents
+    → PreparesUnionVector (λ y old. may (of y) old) (λ y old answer new. outcome (of y) old answer new)
     (λ y. contents (of y))
-union_list_prepared_as of lawful = record { comes = λ y. lawful.comes (of y) }
+union_vector_prepared_as of lawful = record { comes = λ y. lawful.comes (of y) }

@@ -1,7 +1,7 @@
 //! What the values of fields hold.
 ghost use Rattle.std.specs.Prelude.{ℕ, List, Option as option};
 ghost use Rattle.planus_tables.specs.Contents.{Content, PreparesOptional, PreparesUnion};
-ghost use Rattle.planus_tables.specs.Contents.{PreparesUnionList};
+ghost use Rattle.planus_tables.specs.Contents.{PreparesUnionVector};
 ghost use Rattle.planus_tables.specs.ListContents.{ListHasContent};
 
 use crate::table_item::TableItem;
@@ -45,14 +45,14 @@ pub trait HasUnionContent<T>: WriteAsOptionalUnion<T> {
     ghost has_content: { PreparesUnion Self.may Self.outcome content };
 }
 
-/// What can be written as a list of unions that may be absent, and says what its two fields hold.
-pub trait HasUnionListContent<T>: WriteAsOptionalUnionVector<T> {
+/// What can be written as a vector of unions that may be absent, and says what its two fields hold.
+pub trait HasUnionVectorContent<T>: WriteAsOptionalUnionVector<T> {
     /// What the field of the tags and that of the values hold, or nothing where the list is left
     /// out.
     ghost contents: { Self → option (Content × Content) };
 
     /// Once the list is prepared, its fields hold these.
-    ghost has_contents: { PreparesUnionList Self.may Self.outcome contents };
+    ghost has_contents: { PreparesUnionVector Self.may Self.outcome contents };
 }
 
 /// What can be written as an item of a list of `P`, and says what such a list holds.

@@ -9,7 +9,7 @@ pub struct FieldAt<const SLOT: usize, P, V> {
     /// The value that is written.
     pub value: V,
     /// As what it is encoded.
-    pub of: PhantomData<P>,
+    pub _marker: PhantomData<P>,
 }
 
 /// Writes a list of fields, each as `SLOT: KIND = VALUE`: its slot, the type as which it is
@@ -23,16 +23,16 @@ macro_rules! fields {
         (
             $crate::UnionAt::<$tag, $slot, $kind, _> {
                 value: $value,
-                of: std::marker::PhantomData,
+                _marker: std::marker::PhantomData,
             },
             $crate::fields!($($($rest)*)?),
         )
     };
     (($tags:literal, $slot:literal): unions $kind:ty = $value:expr $(, $($rest:tt)*)?) => {
         (
-            $crate::UnionListAt::<$tags, $slot, $kind, _> {
+            $crate::UnionVectorAt::<$tags, $slot, $kind, _> {
                 value: $value,
-                of: std::marker::PhantomData,
+                _marker: std::marker::PhantomData,
             },
             $crate::fields!($($($rest)*)?),
         )
@@ -41,7 +41,7 @@ macro_rules! fields {
         (
             $crate::LastAt::<$slot, $kind, _> {
                 value: $value,
-                of: std::marker::PhantomData,
+                _marker: std::marker::PhantomData,
             },
             $crate::fields!($($($rest)*)?),
         )
@@ -50,7 +50,7 @@ macro_rules! fields {
         (
             $crate::FieldAt::<$slot, $kind, _> {
                 value: $value,
-                of: std::marker::PhantomData,
+                _marker: std::marker::PhantomData,
             },
             $crate::fields!($($($rest)*)?),
         )

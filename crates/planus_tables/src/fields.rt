@@ -9,7 +9,7 @@ ghost use Rattle.planus_tables.specs.Contents.{Content, PreparesContents, value_
 ghost use Rattle.planus_tables.specs.Contents.{tag_content, tags_content, values_content};
 ghost use Rattle.planus_tables.specs.ContentLaws.{none_prepared, both_prepared, last_prepared};
 ghost use Rattle.planus_tables.specs.UnionContents.{union_and_others_prepared};
-ghost use Rattle.planus_tables.specs.UnionContents.{union_list_and_others_prepared};
+ghost use Rattle.planus_tables.specs.UnionContents.{union_vector_and_others_prepared};
 ghost use Rattle.planus_tables.specs.Preparing.{ComesInTurn, PreparesBoth, PreparesNone};
 ghost use Rattle.planus_tables.specs.PreparingLaws.{none_comes_in_turn, both_come_in_turn};
 ghost use Rattle.planus_tables.specs.PreparingLaws.{one_is_put, mapped_is_put, last_reach};
@@ -19,22 +19,22 @@ ghost use Rattle.planus_tables.specs.TableFields.{union_tag_in, list_tags_in, li
 ghost use Rattle.planus_write.specs.Placing.{Outcome, then_does};
 ghost use Rattle.planus_tables.specs.PreparingLaws.{both_is_lawful, none_is_lawful};
 ghost use Rattle.planus_tables.specs.PreparingLaws.{field_reach, union_field_reach};
-ghost use Rattle.planus_tables.specs.PreparingLaws.{union_list_field_reach};
+ghost use Rattle.planus_tables.specs.PreparingLaws.{union_vector_field_reach};
 ghost use Rattle.planus_read.specs.Values.{Field, reference, tags as tags_field};
 ghost use Rattle.planus_read.specs.Values.{values as values_field};
 ghost use Rattle.planus_tables.specs.PreparingLaws.{none_is_unchanged};
 ghost use Rattle.planus_tables.specs.declared.prepared_body.PreparedBody.{PreparedBody};
 
-use crate::contents::{HasContent, HasUnionContent, HasUnionListContent};
+use crate::contents::{HasContent, HasUnionContent, HasUnionVectorContent};
 use crate::field_at::FieldAt;
 use crate::last_at::LastAt;
 use crate::prepared_body::PreparedBody;
 use crate::prepared_fields::PreparedFields;
 use crate::table_item::TableItem;
 use crate::union_at::UnionAt;
-use crate::union_list_at::UnionListAt;
-use crate::union_list_parts::{TagsField, ValuesField, tags_of, values_of};
 use crate::union_parts::{tag_of, value_of};
+use crate::union_vector_at::UnionVectorAt;
+use crate::union_vector_parts::{TagsField, ValuesField, tags_of, values_of};
 use planus_write::{BuildError, Builder, List, Offset, Primitive};
 use std::marker::PhantomData;
 
@@ -149,7 +149,7 @@ where
         let PreparedBody { fields, last } = self.1.prepare(builder)?;
         let first = FieldAt {
             value,
-            of: PhantomData,
+            _marker: PhantomData,
         };
         Ok(PreparedBody {
             fields: (first, fields),
@@ -213,7 +213,7 @@ where
         let PreparedBody { fields, last } = self.1.prepare(builder)?;
         let first = FieldAt {
             value,
-            of: PhantomData,
+            _marker: PhantomData,
         };
         Ok(PreparedBody {
             fields,
@@ -283,11 +283,11 @@ impl<
         let PreparedBody { fields, last } = self.1.prepare(builder)?;
         let value = FieldAt {
             value: value_of(&union),
-            of: PhantomData,
+            _marker: PhantomData,
         };
         let tag = FieldAt {
             value: tag_of(&union),
-            of: PhantomData,
+            _marker: PhantomData,
         };
         Ok(PreparedBody {
             fields: (value, fields),
@@ -335,9 +335,9 @@ impl<
     const TAGS: usize,
     const VALUES: usize,
     T,
-    V: HasUnionListContent<T>,
+    V: HasUnionVectorContent<T>,
     R: Fields<N>,
-> Fields<N> for (UnionListAt<TAGS, VALUES, T, V>, R) {
+> Fields<N> for (UnionVectorAt<TAGS, VALUES, T, V>, R) {
     type Prepared = (
         FieldAt<TAGS, Offset<List<u8>>, Option<TagsField>>,
         (
@@ -371,11 +371,11 @@ impl<
         let PreparedBody { fields, last } = self.1.prepare(builder)?;
         let list_tags = FieldAt {
             value: tags_of(&vector),
-            of: PhantomData,
+            _marker: PhantomData,
         };
         let list_values = FieldAt {
             value: values_of(&vector),
-            of: PhantomData,
+            _marker: PhantomData,
         };
         Ok(PreparedBody {
             fields: (list_tags, (list_values, fields)),
@@ -392,7 +392,7 @@ impl<
         (body.fields.0.value ≡ option_map (λ vector. record { 0 = vector.tags }) vector)
         × (body.fields.1.0.value ≡ option_map (λ vector. record { 0 = vector.values }) vector))
         (λ body. record { fields = body.fields.1.1; last = body.last }) _
-        (λ vector body same. union_list_field_reach (λ vector. record { 0 = vector.tags })
+        (λ vector body same. union_vector_field_reach (λ vector. record { 0 = vector.tags })
         (λ field. field.0.distance) (λ vector. record { 0 = vector.values })
         (λ field. field.0.distance) (λ vector. refl) (λ vector. refl) vector
         body.fields.0.value body.fields.1.0.value
@@ -414,7 +414,7 @@ impl<
         (λ vector. refl) vector same.0 _ ts)
         (λ vector body same ls. refl) R.comes_in_turn };
 
-    ghost have_contents = { union_list_and_others_prepared TAGS VALUES (λ fields. fields.0.value)
+    ghost have_contents = { union_vector_and_others_prepared TAGS VALUES (λ fields. fields.0.value)
         (λ fields. fields.1) (λ vector. record { 0 = vector.tags })
         (λ field. tags_field field.0.distance) (λ vector. record { 0 = vector.values })
         (λ field. values_field field.0.distance) (λ vector. refl) (λ vector. refl)

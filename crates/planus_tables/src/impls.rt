@@ -9,4 +9,4 @@ mod offset;
 mod option;
 mod text;
 mod union;
-mod union_list;
+mod union_vector;

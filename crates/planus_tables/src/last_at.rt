@@ -10,5 +10,5 @@ pub struct LastAt<const SLOT: usize, P, V> {
     /// The value that is written.
     pub value: V,
     /// As what it is encoded.
-    pub of: PhantomData<P>,
+    pub _marker: PhantomData<P>,
 }

@@ -17,12 +17,12 @@ mod table_kind;
 mod table_ref;
 mod table_scalar;
 mod union_at;
-mod union_list_at;
-mod union_list_parts;
 mod union_parts;
+mod union_vector_at;
+mod union_vector_parts;
 
 pub use contents::{
-    HasContent, HasDefaultContent, HasListContent, HasUnionContent, HasUnionListContent,
+    HasContent, HasDefaultContent, HasListContent, HasUnionContent, HasUnionVectorContent,
 };
 pub use create::create_table;
 pub use field_at::FieldAt;
@@ -36,5 +36,5 @@ pub use table_kind::TableKind;
 pub use table_ref::TableRef;
 pub use table_scalar::TableScalar;
 pub use union_at::UnionAt;
-pub use union_list_at::UnionListAt;
-pub use union_list_parts::{TagsField, ValuesField};
+pub use union_vector_at::UnionVectorAt;
+pub use union_vector_parts::{TagsField, ValuesField};

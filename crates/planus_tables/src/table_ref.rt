@@ -22,7 +22,7 @@ pub struct TableRef<'a, K> {
     /// The table.
     pub table: Table<'a>,
     /// Its kind.
-    pub of: PhantomData<K>,
+    pub _marker: PhantomData<K>,
 }
 
 impl<'a, K> Clone for TableRef<'a, K> {
@@ -45,7 +45,7 @@ impl<'a, K> TableRef<'a, K> {
     {
         TableRef {
             table,
-            of: PhantomData,
+            _marker: PhantomData,
         }
     }
 }

@@ -9,5 +9,5 @@ pub struct UnionAt<const TAG: usize, const VALUE: usize, T, V> {
     /// The union that is written.
     pub value: V,
     /// Its kind.
-    pub of: PhantomData<T>,
+    pub _marker: PhantomData<T>,
 }

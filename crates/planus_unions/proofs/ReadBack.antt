@@ -8,8 +8,8 @@ use Rattle.planus_read.specs.Bytes.{Num}
 use Rattle.planus_read.specs.declared.errors.ErrorKind.{ErrorKind}
 use Rattle.planus_read.specs.Clauses.{Answer, shown}
 use Rattle.planus_read.specs.Reading.{UnionItems, union_vector_reading}
-use Rattle.planus_read.specs.ReadsBack.{UnionListReads}
-use Rattle.planus_read.specs.Values.{union_list}
+use Rattle.planus_read.specs.ReadsBack.{UnionVectorReads}
+use Rattle.planus_read.specs.Values.{union_vector}
 use Rattle.planus_read.specs.Stands.{at_both}
 use Rattle.planus_read.proofs.Reading.{num_inside, num_value}
 use Rattle.planus_read.proofs.ReadsBack.{what_stands_reads_back}
@@ -48,7 +48,7 @@ view_moves B start tags references count kt kv n a b c v h =
 module _ (T E : Type 0) where
   vector_of :
       (B : List ℕ) (kt kv start f g : ℕ) (items : List (ℕ × ℕ))
-      → UnionListReads B kt kv start f g items → (r : Result (VectorOf (UnionSliceView T E)) ErrorKind)
+      → UnionVectorReads B kt kv start f g items → (r : Result (VectorOf (UnionSliceView T E)) ErrorKind)
       → Answer
       (shown (ShowsUnionVector (drop start B) start) (union_vector_reading (drop start B) f g)) r
       → IsOkAnd r (IsUnionVectorOf T E B kt kv items)
@@ -77,5 +77,5 @@ module _ (T E : Type 0) where
   pub union_vectors : UnionVectorsReadBack T E
   union_vectors B kt kv start f g items stands tags values r h =
       vector_of B kt kv start f g items
-      (what_stands_reads_back B (at_both kt kv) (union_list items) tt stands start f g tags values)
+      (what_stands_reads_back B (at_both kt kv) (union_vector items) tt stands start f g tags values)
       r h

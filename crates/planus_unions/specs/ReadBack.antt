@@ -6,7 +6,7 @@ use Rattle.planus_read.specs.Clauses.{Answer, shown}
 use Rattle.planus_read.specs.Reading.{Leads, union_vector_reading}
 use Rattle.planus_read.specs.ReadsBack.{ReferenceReads}
 use Rattle.planus_read.specs.Stands.{Stands, at_both}
-use Rattle.planus_read.specs.Values.{union_list}
+use Rattle.planus_read.specs.Values.{union_vector}
 use Rattle.planus_view.specs.declared.union_vector.UnionSliceView.{UnionSliceView}
 use Rattle.planus_view.specs.declared.vector_of.VectorOf.{VectorOf}
 use Rattle.planus_view.specs.UnionVectorView.{view_of, ShowsUnionVector}
@@ -35,7 +35,7 @@ module _ (T E : Type 0) where
   abbrev pub UnionVectorsReadBack : Type 0
   UnionVectorsReadBack =
       (B : List ℕ) (kt kv start f g : ℕ) (items : List (ℕ × ℕ))
-      → Stands B (at_both kt kv) (union_list items) → Leads B (start + f) kt
+      → Stands B (at_both kt kv) (union_vector items) → Leads B (start + f) kt
       → Leads B (start + g) kv → (r : Result (VectorOf (UnionSliceView T E)) ErrorKind)
       → Answer
       (shown (ShowsUnionVector (drop start B) start) (union_vector_reading (drop start B) f g)) r

@@ -15,7 +15,7 @@ use Rattle.planus_read.specs.Stands.{Stands, at}
 use Rattle.planus_read.specs.Aligned.{AlignedAt}
 use Rattle.planus_write.specs.Shared.{Kind, texts, byte_lists, vtables, same_kind, Contents}
 use Rattle.planus_write.specs.Shared.{same_contents, Switches, is_on, shared_as, Seen}
-use Rattle.planus_write.specs.Shared.{distance_seen, found, and_seen}
+use Rattle.planus_write.specs.Shared.{distance_seen, earlier_distance, and_seen}
 use Rattle.planus_write.specs.Past.{Past, Adds, PutsAfter, Puts, PutsAll}
 use Rattle.planus_write.specs.State.{Extends}
 use Rattle.planus_write.specs.Laws.{added_extends, extends_itself}
@@ -168,14 +168,14 @@ module _ (kind : Kind) (part : List ℕ → Part) (new_kept : NewAreKept kind pa
       )
 
   put_shared : (shared : Option Contents) → (shared ≡ None) ⊎ (shared ≡ Some contents)
-      → (earlier : Option ℕ) → found before.seen shared ≡ earlier
+      → (earlier : Option ℕ) → earlier_distance before.seen shared ≡ earlier
       → PutsAfter earlier (part content) shared before distance after
       → ContentsKept kind content before distance after
   put_shared shared is_shared None e put = put_new shared is_shared put
   put_shared shared is_shared (Some d) e put =
       let seen_there : KindIsKept before kind content d = elim is_shared as (λ _. KindIsKept before kind content d) [
-        | inl none ↦ (let f : found before.seen None ≡ Some d = subst (λ (s : Option Contents). found before.seen s ≡ Some d) none e in absurd (cc))
-        | inr some ↦ found_kept before before.seen kind content d all (subst (λ (s : Option Contents). found before.seen s ≡ Some d) some e)
+        | inl none ↦ (let f : earlier_distance before.seen None ≡ Some d = subst (λ (s : Option Contents). earlier_distance before.seen s ≡ Some d) none e in absurd (cc))
+        | inr some ↦ found_kept before before.seen kind content d all (subst (λ (s : Option Contents). earlier_distance before.seen s ≡ Some d) some e)
       ] in
       subst (λ past. ContentsKept kind content before distance past) (sym put.1)
       (subst (λ n. KindIsKept before kind content n) (sym put.0) seen_there, all, extends_itself before)
@@ -188,7 +188,7 @@ pub put_kept : (kind : Kind) (part : List ℕ → Part) → NewAreKept kind part
     → ContentsKept kind content before distance after
 put_kept kind part new_kept switches content got before distance after all put =
     let shared : Option Contents = shared_as switches (Some (record { kind = kind; bytes = content })) in
-    put_shared kind part new_kept content before distance after all shared (shared_or_not switches (record { kind = kind; bytes = content })) (found before.seen shared) refl put
+    put_shared kind part new_kept content before distance after all shared (shared_or_not switches (record { kind = kind; bytes = content })) (earlier_distance before.seen shared) refl put
 
 -- the same of a value that is this one entry
 pub contents_kept : (kind : Kind) (part : List ℕ → Part) → NewAreKept kind part

@@ -1,4 +1,4 @@
--- Union lists are kept once their references and their tags are put down.
+-- Vectors of unions are kept once their references and their tags are put down.
 use Rattle.std.proofs.Common.{◌≡◌, ℕ, ◌+◌, ◌-◌, ◌*◌, ◌≤◌, List, [], ◌∷◌, length, map}
 use Rattle.std.proofs.Common.{refl, sym, ap, ◌∙◌, subst, arith, Some, None, lit<}
 use mathlib.Core.Path.{fun_ext}
@@ -60,11 +60,11 @@ unions_aligned : (k : ℕ) (items : List (ℕ × ℕ)) → ItemsStand (λ positi
 unions_aligned k [] h = tt
 unions_aligned k (item ∷ items) h = (h.0, unions_aligned (k + 4) items h.1)
 
--- Where the references of unions are kept, and so are the tags, the union list is.
+-- Where the references of unions are kept, and so are the tags, the vector of unions is.
 both_kept : (past : Past) (items : List (ℕ × ℕ)) (references tags : ℕ)
     → IsKept past (value.reference_list (distances_in items)) (record { distance = references; tags = None })
     → IsKept past (value.byte_list (tags_in items)) (record { distance = tags; tags = None })
-    → IsKept past (value.union_list items) (record { distance = references; tags = Some tags })
+    → IsKept past (value.union_vector items) (record { distance = references; tags = Some tags })
 both_kept past items references tags first second = record {
   reached = first.reached;
   tags_reached = second.reached;
@@ -74,13 +74,13 @@ both_kept past items references tags first second = record {
       (second.aligned front keep, (list.0, unions_aligned _ items list.1));
 }
 
--- once the entries of a union list are put down, it is kept, and all that was seen still is
-pub union_list_kept : (switches : Switches) (items : List (ℕ × ℕ)) (before : Past) (got : List ℕ) (after : Past)
+-- once the entries of a vector of unions are put down, it is kept, and all that was seen still is
+pub union_vector_kept : (switches : Switches) (items : List (ℕ × ℕ)) (before : Past) (got : List ℕ) (after : Past)
     → AllByRecursion (λ item. item.1 ≤ length before.written.bytes) items → AllSeenKept before
     → PutsAll switches (union_entries items) [] before got after
-    → IsKept after (value.union_list items) (record { distance = second_of got; tags = Some (last_of got) })
+    → IsKept after (value.union_vector items) (record { distance = second_of got; tags = Some (last_of got) })
     × AllSeenKept after × Extends before after
-union_list_kept switches items before got after reached all puts =
+union_vector_kept switches items before got after reached all puts =
     let second = puts.3 in
     let third = second.3 in
     let fourth = third.3 in
@@ -98,5 +98,5 @@ union_list_kept switches items before got after reached all puts =
     ) in
     let both = both_kept fourth.1 items second.0 fourth.0
     (kept_stays second.1 fourth.1 (value.reference_list distances) (record { distance = second.0; tags = None }) listed.2 references.0) listed.0 in
-    subst (λ past. IsKept past (value.union_list items) (record { distance = second_of got; tags = Some (last_of got) }) × AllSeenKept past × Extends before past) (sym fourth.3.1)
-    (subst (λ (all : List ℕ). IsKept fourth.1 (value.union_list items) (record { distance = second_of all; tags = Some (last_of all) })) (sym fourth.3.0) both, listed.1, extends_on before second.1 fourth.1 references.2 listed.2)
+    subst (λ past. IsKept past (value.union_vector items) (record { distance = second_of got; tags = Some (last_of got) }) × AllSeenKept past × Extends before past) (sym fourth.3.1)
+    (subst (λ (all : List ℕ). IsKept fourth.1 (value.union_vector items) (record { distance = second_of all; tags = Some (last_of all) })) (sym fourth.3.0) both, listed.1, extends_on before second.1 fourth.1 references.2 listed.2)

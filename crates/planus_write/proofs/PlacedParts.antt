@@ -13,14 +13,14 @@ use Rattle.planus_back.specs.Promises.{Promise, Keep, greatest_alignment}
 use Rattle.planus_back.specs.Padding.{greatest_place, promise_of}
 use Rattle.planus_back.specs.Parts.{Part, Placed}
 use Rattle.planus_write.specs.Shared.{Kind, Contents, Switches, Seen, texts, byte_lists, vtables, same_kind, is_on}
-use Rattle.planus_write.specs.Shared.{shared_as, found, distance_seen, and_seen}
-use Rattle.planus_write.specs.Past.{Past, Entry, just, part_after, Adds, PutsAfter, Puts}
+use Rattle.planus_write.specs.Shared.{shared_as, earlier_distance, distance_seen, and_seen}
+use Rattle.planus_write.specs.Past.{Past, Entry, unshared_entry, part_after, Adds, PutsAfter, Puts}
 use Rattle.planus_write.specs.Past.{found_before, no_past}
 use Rattle.planus_write.specs.Parts.{front_part, front_entry, root_words, sized_words, sized_finish_entry, identifier_bytes}
 use Rattle.planus_write.specs.Backed.{Backed, DescribedBy, PutsBytes, MakesRoom, LacksRoom}
 use Rattle.planus_write.specs.Sharing.{Shares, FindsIf, KeepsIf, LacksSharedRoom, FindsOrReserves}
 use Rattle.planus_write.specs.Kept.{AllSeenKept}
-use Rattle.planus_write.specs.State.{State, IsPast, FindsSeen, Holdings, held, contents_in}
+use Rattle.planus_write.specs.State.{State, IsPast, FindsSeen, Holdings, holding_of, contents_in}
 use Rattle.planus_write.specs.Placing.{PutsDown, MayLackMemory}
 use Rattle.planus_write.specs.Placing.{RefusedFor, Refuses, LeftAsItWas}
 use Rattle.planus_write.specs.Laws.{left_grows}
@@ -170,12 +170,12 @@ holding texts holdings x = record holdings { held_texts = x }
 holding byte_lists holdings x = record holdings { held_byte_lists = x }
 holding vtables holdings x = record holdings { held_vtables = x }
 
-holding_it : (kind : Kind) (holdings : Holdings) (x : Held) → held (holding kind holdings x) kind ≡ x
+holding_it : (kind : Kind) (holdings : Holdings) (x : Held) → holding_of (holding kind holdings x) kind ≡ x
 holding_it texts holdings x = refl
 holding_it byte_lists holdings x = refl
 holding_it vtables holdings x = refl
 
-holding_others : (kind other : Kind) (holdings : Holdings) (x : Held) → same_kind kind other ≡ false → held (holding kind holdings x) other ≡ held holdings other
+holding_others : (kind other : Kind) (holdings : Holdings) (x : Held) → same_kind kind other ≡ false → holding_of (holding kind holdings x) other ≡ holding_of holdings other
 holding_others texts texts holdings x e = cc
 holding_others byte_lists byte_lists holdings x e = cc
 holding_others vtables vtables holdings x e = cc
@@ -186,12 +186,12 @@ holding_others byte_lists vtables holdings x e = refl
 holding_others vtables texts holdings x e = refl
 holding_others vtables byte_lists holdings x e = refl
 
-held_again : (kind other : Kind) (holdings : Holdings) (x : Held) → x ≡ held holdings kind → held (holding kind holdings x) other ≡ held holdings other
+held_again : (kind other : Kind) (holdings : Holdings) (x : Held) → x ≡ holding_of holdings kind → holding_of (holding kind holdings x) other ≡ holding_of holdings other
 held_again kind other holdings x same = by_case (same_kind kind other) refl
   where
-    by_case : (b : Bool) → same_kind kind other ≡ b → held (holding kind holdings x) other ≡ held holdings other
+    by_case : (b : Bool) → same_kind kind other ≡ b → holding_of (holding kind holdings x) other ≡ holding_of holdings other
     by_case false e = holding_others kind other holdings x e
-    by_case true e = subst (λ k. held (holding kind holdings x) k ≡ held holdings k) (same_of kind other e) (holding_it kind holdings x ∙ same)
+    by_case true e = subst (λ k. holding_of (holding kind holdings x) k ≡ holding_of holdings k) (same_of kind other e) (holding_it kind holdings x ∙ same)
 
 -- a key lies wholly in the bytes
 stands_within : (key_in : List ℕ → Option (List ℕ)) (bytes : List ℕ) (distance : ℕ) (key : List ℕ) → key_at key_in bytes distance ≡ Some key → distance ≤ length bytes
@@ -226,29 +226,29 @@ module _ (kind : Kind) (contents : List ℕ) (part : Part) (got : List ℕ) (b :
   shared_if on e = ap (λ b. if b then Some known else None) e
 
   -- what the cache doesn't find wasn't seen
-  not_seen : (past : Past) → IsPast before past → FindsIf true (contents_in kind) (held holdings kind) b.bytes contents None → distance_seen past.seen known ≡ None
+  not_seen : (past : Past) → IsPast before past → FindsIf true (contents_in kind) (holding_of holdings kind) b.bytes contents None → distance_seen past.seen known ≡ None
   not_seen past h none = by_case (distance_seen past.seen known) refl
     where
       by_case : (answer : Option ℕ) → distance_seen past.seen known ≡ answer → answer ≡ None
       by_case None e = refl
       by_case (Some distance) e = (let x = ((h.seen kind).finds contents distance).0 e in absurd (none distance x.0 x.1))
 
-  is_new : FindsIf (is_on switches kind) (contents_in kind) (held holdings kind) b.bytes contents None → (past : Past) → IsPast before past → found_before switches the_entry past ≡ None
+  is_new : FindsIf (is_on switches kind) (contents_in kind) (holding_of holdings kind) b.bytes contents None → (past : Past) → IsPast before past → found_before switches the_entry past ≡ None
   is_new none past h = by_case (is_on switches kind) refl
     where
       by_case : (on : Bool) → is_on switches kind ≡ on → found_before switches the_entry past ≡ None
       by_case true e =
-          ap (found past.seen) (shared_if true e) ∙ not_seen past h (subst (λ on. FindsIf on (contents_in kind) (held holdings kind) b.bytes contents None) e none)
-      by_case false e = ap (found past.seen) (shared_if false e)
+          ap (earlier_distance past.seen) (shared_if true e) ∙ not_seen past h (subst (λ on. FindsIf on (contents_in kind) (holding_of holdings kind) b.bytes contents None) e none)
+      by_case false e = ap (earlier_distance past.seen) (shared_if false e)
 
   -- contents that are found were seen
-  pub shared_found : (distance : ℕ) → FindsIf (is_on switches kind) (contents_in kind) (held holdings kind) b.bytes contents (Some distance)
+  pub shared_found : (distance : ℕ) → FindsIf (is_on switches kind) (contents_in kind) (holding_of holdings kind) b.bytes contents (Some distance)
       → length b.bytes ≤ greatest_place → PutsDown the_entry got before distance before
   shared_found distance finds small = by_case (is_on switches kind) refl
     where
       by_case : (on : Bool) → is_on switches kind ≡ on → PutsDown the_entry got before distance before
       by_case true e =
-          let there : FindsIf true (contents_in kind) (held holdings kind) b.bytes contents (Some distance) = subst (λ on. FindsIf on (contents_in kind) (held holdings kind) b.bytes contents (Some distance)) e finds in
+          let there : FindsIf true (contents_in kind) (holding_of holdings kind) b.bytes contents (Some distance) = subst (λ on. FindsIf on (contents_in kind) (holding_of holdings kind) b.bytes contents (Some distance)) e finds in
           record {
             grows = ([], refl);
             reached = stands_within (contents_in kind) b.bytes distance contents there.1;
@@ -256,18 +256,18 @@ module _ (kind : Kind) (contents : List ℕ) (part : Part) (got : List ℕ) (b :
             puts = λ past h. (
               past,
               subst (λ (earlier : Option ℕ). PutsAfter earlier part (shared_as switches (Some known)) past distance past)
-                  (sym (ap (found past.seen) (shared_if true e) ∙ ((h.seen kind).finds contents distance).1 there)) (refl, refl),
+                  (sym (ap (earlier_distance past.seen) (shared_if true e) ∙ ((h.seen kind).finds contents distance).1 there)) (refl, refl),
               h,
             );
             room = λ within. refl;
             switches = refl;
           }
       by_case false e =
-          let none : Some distance ≡ None = subst (λ on. FindsIf on (contents_in kind) (held holdings kind) b.bytes contents (Some distance)) e finds in
+          let none : Some distance ≡ None = subst (λ on. FindsIf on (contents_in kind) (holding_of holdings kind) b.bytes contents (Some distance)) e finds in
           absurd (none_is_not_some distance (sym none))
 
-  module _ (place : ℕ) (mid n : Backed) (x : Held) (bytes : List ℕ) (none : FindsIf (is_on switches kind) (contents_in kind) (held holdings kind) b.bytes contents None)
-      (room : MakesRoom part.size part.alignment b place mid) (keeps : KeepsIf (is_on switches kind) (contents_in kind) contents place (held holdings kind) x)
+  module _ (place : ℕ) (mid n : Backed) (x : Held) (bytes : List ℕ) (none : FindsIf (is_on switches kind) (contents_in kind) (holding_of holdings kind) b.bytes contents None)
+      (room : MakesRoom part.size part.alignment b place mid) (keeps : KeepsIf (is_on switches kind) (contents_in kind) contents place (holding_of holdings kind) x)
       (bytes_are : part.bytes_at place ≡ bytes) (length_is : length bytes ≡ part.size) (put : PutsBytes bytes mid n) (stands : key_at (contents_in kind) n.bytes place ≡ Some contents)
       (are_kept : AreKept kind contents part) where
     abbrev after : State
@@ -279,16 +279,16 @@ module _ (kind : Kind) (contents : List ℕ) (part : Part) (got : List ℕ) (b :
     in_front : n.bytes ≡ (bytes ++ replicate room.padding 0) ++ b.bytes
     in_front = new_bytes part.size part.alignment place b mid n bytes room length_is put
 
-    still : (past : Past) → IsPast before past → (other : Kind) → held (holding kind holdings x) other ≡ held holdings other → FindsSeen after past.seen other
+    still : (past : Past) → IsPast before past → (other : Kind) → holding_of (holding kind holdings x) other ≡ holding_of holdings other → FindsSeen after past.seen other
     still past h other same = finds_still before after (bytes ++ replicate room.padding 0) in_front past.seen other (h.seen other) same
 
     seen_it : (past : Past) → IsPast before past → is_on switches kind ≡ true → FindsSeen after (seen_more past.seen) kind
     seen_it past h e =
-        let on : KeepsIf true (contents_in kind) contents place (held holdings kind) x = subst (λ on. KeepsIf on (contents_in kind) contents place (held holdings kind) x) e keeps in
-        let finds : FindsIf true (contents_in kind) (held holdings kind) b.bytes contents None = subst (λ on. FindsIf on (contents_in kind) (held holdings kind) b.bytes contents None) e none in
-        let it : held (holding kind holdings x) kind ≡ x = holding_it kind holdings x in
-        let adds : caches.Adds (held holdings kind) place (held (holding kind holdings x) kind) = subst (λ (y : Held). caches.Adds (held holdings kind) place y) (sym it) on.0 in
-        let fits : caches.FitsWhereKeyStands (contents_in kind) (held holdings kind) contents place (held (holding kind holdings x) kind) = subst (λ (y : Held). caches.FitsWhereKeyStands (contents_in kind) (held holdings kind) contents place y) (sym it) on.1 in
+        let on : KeepsIf true (contents_in kind) contents place (holding_of holdings kind) x = subst (λ on. KeepsIf on (contents_in kind) contents place (holding_of holdings kind) x) e keeps in
+        let finds : FindsIf true (contents_in kind) (holding_of holdings kind) b.bytes contents None = subst (λ on. FindsIf on (contents_in kind) (holding_of holdings kind) b.bytes contents None) e none in
+        let it : holding_of (holding kind holdings x) kind ≡ x = holding_it kind holdings x in
+        let adds : caches.Adds (holding_of holdings kind) place (holding_of (holding kind holdings x) kind) = subst (λ (y : Held). caches.Adds (holding_of holdings kind) place y) (sym it) on.0 in
+        let fits : caches.FitsWhereKeyStands (contents_in kind) (holding_of holdings kind) contents place (holding_of (holding kind holdings x) kind) = subst (λ (y : Held). caches.FitsWhereKeyStands (contents_in kind) (holding_of holdings kind) contents place y) (sym it) on.1 in
         finds_added before after (bytes ++ replicate room.padding 0) in_front past.seen kind contents place adds fits stands (not_seen past h finds) (h.seen kind)
 
     seen_on : (past : Past) → IsPast before past → is_on switches kind ≡ true → (other : Kind) → (same : Bool) → same_kind kind other ≡ same → FindsSeen after (seen_more past.seen) other
@@ -299,7 +299,7 @@ module _ (kind : Kind) (contents : List ℕ) (part : Part) (got : List ℕ) (b :
     seen_after past h other true e =
         subst (λ (shared : Option Contents). FindsSeen after (and_seen shared place past.seen) other) (sym (shared_if true e)) (seen_on past h e other (same_kind kind other) refl)
     seen_after past h other false e =
-        let same : x ≡ held holdings kind = subst (λ on. KeepsIf on (contents_in kind) contents place (held holdings kind) x) e keeps in
+        let same : x ≡ holding_of holdings kind = subst (λ on. KeepsIf on (contents_in kind) contents place (holding_of holdings kind) x) e keeps in
         subst (λ (shared : Option Contents). FindsSeen after (and_seen shared place past.seen) other) (sym (shared_if false e))
         (still past h other (held_again kind other holdings x same))
 
@@ -310,7 +310,7 @@ module _ (kind : Kind) (contents : List ℕ) (part : Part) (got : List ℕ) (b :
         (λ past h after adds.
         added_kept kind contents part (shared_as switches (Some known)) (shared_or_not switches known) past place after h.kept (are_kept (shared_as switches (Some known)) past place after adds) adds)
 
-  pub shared_refused : (error : BuildError) (n : Backed) → FindsIf (is_on switches kind) (contents_in kind) (held holdings kind) b.bytes contents None
+  pub shared_refused : (error : BuildError) (n : Backed) → FindsIf (is_on switches kind) (contents_in kind) (holding_of holdings kind) b.bytes contents None
       → LacksSharedRoom error (is_on switches kind) part.size part.alignment b n → Refuses the_entry got before error (state_from n switches holdings)
   shared_refused TooLarge n none lacks = record {
     unchanged = ap (λ backed. state_from backed switches holdings) lacks.0;
@@ -339,19 +339,19 @@ module _ (kind : Kind) (contents : List ℕ) (part : Part) (got : List ℕ) (b :
           }
 
 -- a part that isn't shared
-pub part_sized : (part : Part) (old : State) → IsSized (just part) [] old part.size part.alignment
+pub part_sized : (part : Part) (old : State) → IsSized (unshared_entry part) [] old part.size part.alignment
 part_sized part old = record { size_is = λ past h. refl; alignment_is = λ past h. refl }
 
 module _ (part : Part) (place : ℕ) (b mid n : Backed) (switches : Switches) (holdings : Holdings) (room : MakesRoom part.size part.alignment b place mid)
     (count : length (part.bytes_at place) ≡ part.size) (put : PutsBytes (part.bytes_at place) mid n) where
-  pub part_put : PutsDown (just part) [] (state_from b switches holdings) place (state_from n switches holdings)
+  pub part_put : PutsDown (unshared_entry part) [] (state_from b switches holdings) place (state_from n switches holdings)
   part_put = alone_down (λ got promises. part) [] part.size part.alignment b switches holdings (part_sized part (state_from b switches holdings)) place mid n (part.bytes_at place) room (λ past h. refl) count put
 
   pub part_ends : length n.bytes ≡ place
   part_ends = new_length part.size part.alignment place b mid n (part.bytes_at place) room count put
 
-  pub part_put_last : PutsDown (just part) [] (state_from b switches holdings) (length n.bytes) (state_from n switches holdings)
-  part_put_last = subst (λ m. PutsDown (just part) [] (state_from b switches holdings) m (state_from n switches holdings)) (sym part_ends) part_put
+  pub part_put_last : PutsDown (unshared_entry part) [] (state_from b switches holdings) (length n.bytes) (state_from n switches holdings)
+  part_put_last = subst (λ m. PutsDown (unshared_entry part) [] (state_from b switches holdings) m (state_from n switches holdings)) (sym part_ends) part_put
 
 -- what is put in two pieces is put
 pub both_put : (front back : List ℕ) (mid between new : Backed) → PutsBytes back mid between → PutsBytes front between new → PutsBytes (front ++ back) mid new

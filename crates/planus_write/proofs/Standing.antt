@@ -15,7 +15,7 @@ use Rattle.planus_write.proofs.PartBytes.{length_after, finish_size, sized_finis
 use Rattle.planus_write.proofs.KeptContents.{contents_kept, new_texts, new_byte_lists}
 use Rattle.planus_write.proofs.KeptLists.{list_kept, plain_items, reference_items}
 use Rattle.planus_write.proofs.KeptTables.{table_kept}
-use Rattle.planus_write.proofs.KeptUnions.{union_list_kept}
+use Rattle.planus_write.proofs.KeptUnions.{union_vector_kept}
 
 pub values_are_kept : ValuesAreKept
 values_are_kept switches (value.text content) before got after written all puts =
@@ -28,8 +28,8 @@ values_are_kept switches (value.plain_list size alignment items) before got afte
 values_are_kept switches (value.reference_list distances) before got after written all puts =
     list_kept reference_item 4 4 distances (value.reference_list distances) switches before got after
     (reference_items (length before.written.bytes) distances written) all puts
-values_are_kept switches (value.union_list items) before got after written all puts =
-    union_list_kept switches items before got after written all puts
+values_are_kept switches (value.union_vector items) before got after written all puts =
+    union_vector_kept switches items before got after written all puts
 values_are_kept switches (value.table entries) before got after written all puts =
     table_kept entries switches before got after written all puts
 

@@ -11,7 +11,7 @@ use Rattle.planus_back.specs.Promises.{IsPowerOfTwo}
 use Rattle.planus_back.specs.Padding.{greatest_place}
 use Rattle.planus_back.specs.Parts.{Part}
 use Rattle.planus_back.proofs.PaddingLaws.{exists}
-use Rattle.planus_write.specs.Past.{Entry, just}
+use Rattle.planus_write.specs.Past.{Entry, unshared_entry}
 use Rattle.planus_write.specs.Parts.{items_bytes, items_part, count_part, filled_part}
 use Rattle.planus_write.specs.Items.{Item}
 use Rattle.planus_write.specs.State.{State}
@@ -64,7 +64,7 @@ count_fits count stride size place same positive le =
     omega (arith, one, le)
 
 -- a part of more bytes than any place is too large, whatever was written before
-pub refused_by_size : (part : Part) (got : List ℕ) (old : State) → IsPowerOfTwo part.alignment → greatest_place < part.size → Refuses (just part) got old TooLarge old
+pub refused_by_size : (part : Part) (got : List ℕ) (old : State) → IsPowerOfTwo part.alignment → greatest_place < part.size → Refuses (unshared_entry part) got old TooLarge old
 refused_by_size part got old power far = record {
   unchanged = refl;
   cause = λ past h.
@@ -80,28 +80,28 @@ refused_by_size part got old power far = record {
 }
 
 -- what a part is put down behind doesn't matter to it
-pub put_behind : (part : Part) (before got : List ℕ) (old : State) (distance : ℕ) (new : State) → WritesEntry (just part) before old (Ok distance) new → WritesEntry (just part) got old (Ok distance) new
+pub put_behind : (part : Part) (before got : List ℕ) (old : State) (distance : ℕ) (new : State) → WritesEntry (unshared_entry part) before old (Ok distance) new → WritesEntry (unshared_entry part) got old (Ok distance) new
 put_behind part before got old distance new h = record { grows = h.grows; reached = h.reached; fits = h.fits; puts = h.puts; room = h.room; switches = h.switches }
 
-pub refused_behind : (part : Part) (before got : List ℕ) (old : State) (error : BuildError) (new : State) → WritesEntry (just part) before old (Err error) new → WritesEntry (just part) got old (Err error) new
+pub refused_behind : (part : Part) (before got : List ℕ) (old : State) (error : BuildError) (new : State) → WritesEntry (unshared_entry part) before old (Err error) new → WritesEntry (unshared_entry part) got old (Err error) new
 refused_behind part before got old TooLarge new h = record { unchanged = h.unchanged; cause = λ past is_past. (let c = h.cause past is_past in record { is_new = c.is_new; too_large = c.too_large }) }
 refused_behind part before got old OutOfMemory new h = record { unchanged = h.unchanged; cause = λ past is_past. (let c = h.cause past is_past in record { is_new = c.is_new; lacks = c.lacks }) }
 
 -- a part, and the count in front of it
 module _ (part : Part) (count : ℕ) (old : State) where
   abbrev counted : List Entry
-  counted = just part ∷ just (count_part count) ∷ []
+  counted = unshared_entry part ∷ unshared_entry (count_part count) ∷ []
 
-  pub part_refused : (T : Type 0) (error : BuildError) (new : State) → WritesEntry (just part) [] old (Err error) new
+  pub part_refused : (T : Type 0) (error : BuildError) (new : State) → WritesEntry (unshared_entry part) [] old (Err error) new
       → AsOffset {T = T} (AnswersLast (WritesEntries counted [])) old (Err error) new
   part_refused T error new refused = inl (inl refused)
 
-  module _ (first : ℕ) (between : State) (put : WritesEntry (just part) [] old (Ok first) between) where
-    pub count_refused : (T : Type 0) (error : BuildError) (new : State) → WritesEntry (just (count_part count)) [] between (Err error) new
+  module _ (first : ℕ) (between : State) (put : WritesEntry (unshared_entry part) [] old (Ok first) between) where
+    pub count_refused : (T : Type 0) (error : BuildError) (new : State) → WritesEntry (unshared_entry (count_part count)) [] between (Err error) new
         → AsOffset {T = T} (AnswersLast (WritesEntries counted [])) old (Err error) new
     count_refused T error new refused = inl (inr (first, between, put, inl (refused_behind (count_part count) [] (first ∷ []) between error new refused)))
 
-    pub counted_written : {T : Type 0} (offset : Offset T) (new : State) → WritesEntry (just (count_part count)) [] between (Ok offset.distance) new
+    pub counted_written : {T : Type 0} (offset : Offset T) (new : State) → WritesEntry (unshared_entry (count_part count)) [] between (Ok offset.distance) new
         → AsOffset (AnswersLast (WritesEntries counted [])) old (Ok offset) new
     counted_written offset new put_count =
         (first ∷ offset.distance ∷ [], new, (first, between, put, (offset.distance, new, put_behind (count_part count) [] (first ∷ []) between offset.distance new put_count, (refl, refl))), (refl, refl))

@@ -3,7 +3,7 @@ use Rattle.std.proofs.Common.{◌≡◌, ℕ, ◌+◌, ◌-◌, List, [], ◌∷
 use Rattle.std.specs.Prelude.{Ok, Err}
 use Rattle.planus_back.specs.Parts.{Part}
 use Rattle.planus_write.specs.Items.{Item}
-use Rattle.planus_write.specs.Past.{just}
+use Rattle.planus_write.specs.Past.{unshared_entry}
 use Rattle.planus_write.specs.Parts.{filled_part}
 use Rattle.planus_write.specs.Tables.{Declared, total_size, slots_used, vtable_of, vtable_entry, object_part, word_part, word_entry}
 use Rattle.planus_write.specs.TableWriting.{Writer, WasTold, WritesTable}
@@ -14,10 +14,10 @@ use Rattle.planus_write.specs.declared.errors.BuildError.TheVariants.{OutOfMemor
 use Rattle.planus_write.proofs.WrittenLists.{put_behind, refused_behind}
 
 -- the word of a vtable's distance is the word behind that
-word_put : (vtable body : ℕ) (old : State) (distance : ℕ) (new : State) → PutsDown (just (word_part vtable)) [] old distance new → PutsDown word_entry (vtable ∷ body ∷ []) old distance new
+word_put : (vtable body : ℕ) (old : State) (distance : ℕ) (new : State) → PutsDown (unshared_entry (word_part vtable)) [] old distance new → PutsDown word_entry (vtable ∷ body ∷ []) old distance new
 word_put vtable body old distance new h = record { grows = h.grows; reached = h.reached; fits = h.fits; puts = h.puts; room = h.room; switches = h.switches }
 
-word_not_put : (vtable body : ℕ) (old : State) (error : BuildError) (new : State) → Refuses (just (word_part vtable)) [] old error new → Refuses word_entry (vtable ∷ body ∷ []) old error new
+word_not_put : (vtable body : ℕ) (old : State) (error : BuildError) (new : State) → Refuses (unshared_entry (word_part vtable)) [] old error new → Refuses word_entry (vtable ∷ body ∷ []) old error new
 word_not_put vtable body old TooLarge new h = record { unchanged = h.unchanged; cause = λ past is_past. (let c = h.cause past is_past in record { is_new = c.is_new; too_large = c.too_large }) }
 word_not_put vtable body old OutOfMemory new h = record { unchanged = h.unchanged; cause = λ past is_past. (let c = h.cause past is_past in record { is_new = c.is_new; lacks = c.lacks }) }
 
@@ -35,23 +35,23 @@ module _ (writer : Writer) (vtable : List ℕ) (body : Item) (declared : List De
     first : PutsDown (vtable_entry (vtable_of (slots_used declared) declared)) [] old place mid
     first = subst (λ bytes. PutsDown (vtable_entry bytes) [] old place mid) vtable_is put
 
-    pub body_refused : (error : BuildError) (new : State) → Refuses (just (filled_part (writer.object_size - 4) (writer.mask + 1) (λ place n. body place))) [] mid error new → WritesTable declared body old (Err error) new
+    pub body_refused : (error : BuildError) (new : State) → Refuses (unshared_entry (filled_part (writer.object_size - 4) (writer.mask + 1) (λ place n. body place))) [] mid error new → WritesTable declared body old (Err error) new
     body_refused error new refused =
         inr (
           place,
           mid,
           first,
           inl (refused_behind (object_part declared body) [] (place ∷ []) mid error new
-              (subst (λ (part : Part). Refuses (just part) [] mid error new) (body_is writer declared body told) refused)),
+              (subst (λ (part : Part). Refuses (unshared_entry part) [] mid error new) (body_is writer declared body told) refused)),
         )
 
-    module _ (at : ℕ) (between : State) (body_put : PutsDown (just (filled_part (writer.object_size - 4) (writer.mask + 1) (λ place n. body place))) [] mid at between) where
-      second : PutsDown (just (object_part declared body)) (place ∷ []) mid at between
-      second = put_behind (object_part declared body) [] (place ∷ []) mid at between (subst (λ (part : Part). PutsDown (just part) [] mid at between) (body_is writer declared body told) body_put)
+    module _ (at : ℕ) (between : State) (body_put : PutsDown (unshared_entry (filled_part (writer.object_size - 4) (writer.mask + 1) (λ place n. body place))) [] mid at between) where
+      second : PutsDown (unshared_entry (object_part declared body)) (place ∷ []) mid at between
+      second = put_behind (object_part declared body) [] (place ∷ []) mid at between (subst (λ (part : Part). PutsDown (unshared_entry part) [] mid at between) (body_is writer declared body told) body_put)
 
-      pub word_refused : (error : BuildError) (new : State) → Refuses (just (word_part place)) [] between error new → WritesTable declared body old (Err error) new
+      pub word_refused : (error : BuildError) (new : State) → Refuses (unshared_entry (word_part place)) [] between error new → WritesTable declared body old (Err error) new
       word_refused error new refused = inr (place, mid, first, inr (at, between, second, inl (word_not_put place at between error new refused)))
 
-      pub table_written : (word : ℕ) (new : State) → PutsDown (just (word_part place)) [] between word new → word ≡ length new.bytes → WritesTable declared body old (Ok tt) new
+      pub table_written : (word : ℕ) (new : State) → PutsDown (unshared_entry (word_part place)) [] between word new → word ≡ length new.bytes → WritesTable declared body old (Ok tt) new
       table_written word new last whole =
           (place ∷ at ∷ word ∷ [], (place, mid, first, (at, between, second, (word, new, word_put place at between word new last, (refl, refl)))), whole)

@@ -1,7 +1,7 @@
--- A list of unions is written: its references and their count, its tags and their count.
+-- A vector of unions is written: its references and their count, its tags and their count.
 use Rattle.std.proofs.Common.{◌≡◌, ℕ, List, [], ◌∷◌, ◌++◌, length, map, refl, ap, ◌∙◌, subst, inl, inr}
 use Rattle.std.specs.Prelude.{Ok, Err}
-use Rattle.planus_write.specs.Past.{Entry, just}
+use Rattle.planus_write.specs.Past.{Entry, unshared_entry}
 use Rattle.planus_write.specs.Parts.{list_entries, tags_entries, tags_part, count_part, tags_in}
 use Rattle.planus_write.specs.Parts.{distances_in, last_of}
 use Rattle.planus_write.specs.Items.{Item, reference_item}
@@ -87,7 +87,7 @@ module _ {X T : Type 0} (prepare : X → Outcome (UnionOffset T)) (xs : List X) 
         let third = h.2 in
         let fourth = third.3 in
         let behind : List ℕ = first.0 ∷ second.0 ∷ [] in
-        let put_tags = subst (λ (state : State). WritesEntry (just (tags_part tags)) behind state (Ok third.0) third.1) same (put_behind (tags_part tags) [] behind between third.0 third.1 third.2) in
+        let put_tags = subst (λ (state : State). WritesEntry (unshared_entry (tags_part tags)) behind state (Ok third.0) third.1) same (put_behind (tags_part tags) [] behind between third.0 third.1 third.2) in
         let put_count = put_behind (count_part (length tags)) (third.0 ∷ []) (first.0 ∷ second.0 ∷ third.0 ∷ []) third.1 fourth.0 fourth.1 fourth.2 in
         let last : offset.distance ≡ last_of h.0 = cc in
         let all : h.0 ≡ third.0 ∷ fourth.0 ∷ [] = cc in (

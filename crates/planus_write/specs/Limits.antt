@@ -1,4 +1,4 @@
--- Whether a part can be placed behind so many bytes: within the greatest place, and within the room.
+-- Whether a part can be placed behind this number of bytes: within the greatest place, and within the room.
 use Rattle.std.specs.Prelude.{ℕ, ◌+◌, ◌<◌, ◌≤◌, List}
 use Rattle.planus_back.specs.Padding.{IsLeastPadding, greatest_place}
 use Rattle.planus_back.specs.Promises.{Promise}

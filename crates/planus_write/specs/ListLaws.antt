@@ -174,7 +174,7 @@ ready_list_is_put {A} {T} leaves size alignment xs old offset new h =
       counted,
     )
 
--- It is refused for want of memory, or where its entries are.
+-- It is refused since memory is refused, or where its entries are.
 pub ready_list_is_refused : {A : Type 0} (T : Type 0) (leaves : A → Item) (size alignment : ℕ) (xs : List A)
     (old : State) (error : BuildError) (new : State)
     → WritesList {T = T} Answers leaves size alignment xs old (Err error) new

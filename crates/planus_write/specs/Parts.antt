@@ -5,12 +5,12 @@ use Rattle.std.specs.List.{AllByRecursion}
 use Rattle.std.specs.Int.{w32, to_le_bytes, ◌∣◌}
 use Rattle.planus_back.specs.Promises.{Promise, greatest_alignment}
 use Rattle.planus_back.specs.Parts.{Part}
-use Rattle.planus_read.specs.Values.{Value, text, byte_list, plain_list, reference_list, union_list}
+use Rattle.planus_read.specs.Values.{Value, text, byte_list, plain_list, reference_list, union_vector}
 use Rattle.planus_read.specs.Values.{table}
 use Rattle.planus_read.specs.Bytes.{position_of}
 use Rattle.planus_read.specs.Stands.{Position, at, at_both}
 use Rattle.planus_write.specs.Shared.{texts, byte_lists}
-use Rattle.planus_write.specs.Past.{Entry, just}
+use Rattle.planus_write.specs.Past.{Entry, unshared_entry}
 use Rattle.planus_write.specs.Items.{Item, plain_item, reference_item}
 use Rattle.planus_write.specs.Tables.{IsTable, table_entries}
 
@@ -72,15 +72,15 @@ count_part count =
 -- The format: a vector is a count of 4 bytes, which its items follow.
 abbrev pub list_entries : (size alignment : ℕ) → List Item → List Entry
 list_entries size alignment items =
-    just (items_part size alignment items) ∷ just (count_part (length items)) ∷ []
+    unshared_entry (items_part size alignment items) ∷ unshared_entry (count_part (length items)) ∷ []
 
--- the tags of a union list as one part, aligned to 4
+-- the tags of a vector of unions as one part, aligned to 4
 abbrev pub tags_part : List ℕ → Part
 tags_part tags = record { size = length tags; alignment = 4; bytes_at = λ place. tags }
 
 -- the tags, and then their count in front of them
 abbrev pub tags_entries : List ℕ → List Entry
-tags_entries tags = just (tags_part tags) ∷ just (count_part (length tags)) ∷ []
+tags_entries tags = unshared_entry (tags_part tags) ∷ unshared_entry (count_part (length tags)) ∷ []
 
 -- the tags of unions, and the distances to which they refer
 abbrev pub tags_in : List (ℕ × ℕ) → List ℕ
@@ -89,7 +89,7 @@ tags_in items = map (λ item. item.0) items
 abbrev pub distances_in : List (ℕ × ℕ) → List ℕ
 distances_in items = map (λ item. item.1) items
 
--- A union list: the list of its references, and in front of that the list of its tags.
+-- A vector of unions: the list of its references, and in front of that the list of its tags.
 -- The format: a vector of unions is two vectors of equal count: tags of one byte, and references.
 abbrev pub union_entries : List (ℕ × ℕ) → List Entry
 union_entries items =
@@ -165,7 +165,7 @@ IsWritten before (byte_list bytes) = ⊤
 IsWritten before (plain_list size alignment items) = IsPlainList size alignment items
 IsWritten before (reference_list distances) =
     AllByRecursion (λ distance. distance ≤ before) distances
-IsWritten before (union_list items) = AllByRecursion (λ item. item.1 ≤ before) items
+IsWritten before (union_vector items) = AllByRecursion (λ item. item.1 ≤ before) items
 IsWritten before (table entries) = IsTable before entries
 
 -- The entries of a value, in the order in which they are put down.
@@ -175,10 +175,10 @@ entries_of (byte_list bytes) = byte_list_entry bytes ∷ []
 entries_of (plain_list size alignment items) =
     list_entries size alignment (map plain_item items)
 entries_of (reference_list distances) = list_entries 4 4 (map reference_item distances)
-entries_of (union_list items) = union_entries items
+entries_of (union_vector items) = union_entries items
 entries_of (table entries) = table_entries entries
 
--- The distances by which a value is named: its own, or of a union vector that of its references and
+-- The distances by which a value is named: its own, or of a vector of unions that of its references and
 -- that of its tags.
 pub record Named : Type 0 where
   pub distance : ℕ
@@ -195,10 +195,10 @@ abbrev pub second_of : List ℕ → ℕ
 second_of (first ∷ second ∷ rest) = second
 second_of _ = 0
 
--- What a value is named by, once its entries got these distances: the last of them; of a union list
+-- What a value is named by, once its entries got these distances: the last of them; of a vector of unions
 -- the second, which the count of its references got, and the last, which that of its tags got.
 abbrev pub named_by : Value → List ℕ → Named
-named_by (union_list items) got = record { distance = second_of got; tags = Some (last_of got) }
+named_by (union_vector items) got = record { distance = second_of got; tags = Some (last_of got) }
 named_by value got = record { distance = last_of got; tags = None }
 
 -- the positions of what is named by one distance, or by two

@@ -2,7 +2,7 @@
 use Rattle.std.specs.Prelude.{◌≡◌, ℕ, List, [], ◌∷◌, ◌++◌, Option, Some, None, ◌⊎◌}
 use Rattle.planus_back.specs.Promises.{Promise}
 use Rattle.planus_back.specs.Parts.{Part, Written, Placed, IsTooLarge}
-use Rattle.planus_write.specs.Shared.{Contents, Switches, Seen, shared_as, found, and_seen}
+use Rattle.planus_write.specs.Shared.{Contents, Switches, Seen, shared_as, earlier_distance, and_seen}
 
 -- The bytes and what was promised of them; the contents that were written to be shared, and where;
 -- and the parts and their places, in the order in which they were placed.
@@ -29,8 +29,8 @@ pub record Entry : Type 0 where
   pub part : List ℕ → List Promise → Part
 
 -- an entry that isn't shared, and whose part depends on nothing
-abbrev pub just : Part → Entry
-just part = record { contents = None; part = λ got promises. part }
+abbrev pub unshared_entry : Part → Entry
+unshared_entry part = record { contents = None; part = λ got promises. part }
 
 abbrev pub part_after : Entry → List ℕ → Past → Part
 part_after entry got past = entry.part got past.written.promises
@@ -52,7 +52,7 @@ PutsAfter None part shared before distance after = Adds part shared before dista
 
 -- where the contents of an entry were seen, if they were and it is shared
 abbrev pub found_before : Switches → Entry → Past → Option ℕ
-found_before switches entry past = found past.seen (shared_as switches entry.contents)
+found_before switches entry past = earlier_distance past.seen (shared_as switches entry.contents)
 
 -- One entry is put down, behind those that got these distances, and gets this distance.
 abbrev pub Puts : Switches → Entry → List ℕ → Past → ℕ → Past → Type 0

@@ -15,7 +15,7 @@ use Rattle.planus_write.specs.declared.errors.BuildError.TheVariants.{OutOfMemor
 abbrev pub Outcome : Type 0 → Type 1
 Outcome A = State → Result A BuildError → State → Type 0
 
--- One call, and then another that is handed its answer. A refusal of the first is that of both;
+-- One call, and then another that takes its answer. A refusal of the first is that of both;
 -- where the second is refused, the first is done.
 abbrev pub then_does : {A B : Type 0} → Outcome A → (A → Outcome B) → Outcome B
 then_does {A} {B} first second old (Ok b) new = (a : A) × (between : State)

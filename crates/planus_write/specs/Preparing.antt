@@ -99,9 +99,9 @@ WritesPrepared {T} size alignment items old answer new =
     AsOffset (AnswersLast (WritesEntries (list_entries size alignment items) [])) old answer new
 
 -- prepared items, without where they lie in memory
-abbrev pub listed : {A : Type 0} → Result (Vec A Global) BuildError → Result (List A) BuildError
-listed {A} (Ok items) = Ok items.items
-listed {A} (Err error) = Err error
+abbrev pub prepared_list : {A : Type 0} → Result (Vec A Global) BuildError → Result (List A) BuildError
+prepared_list {A} (Ok items) = Ok items.items
+prepared_list {A} (Err error) = Err error
 
 -- each of the values may be prepared
 abbrev pub AllMay : {X : Type 0} → (X → State → Type 0) → List X → State → Type 0

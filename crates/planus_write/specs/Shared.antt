@@ -55,9 +55,9 @@ distance_seen (one ∷ seen) contents =
     if same_contents one.contents contents then Some one.distance else distance_seen seen contents
 
 -- the same of a part that may not be shared at all
-abbrev pub found : List Seen → Option Contents → Option ℕ
-found seen None = None
-found seen (Some contents) = distance_seen seen contents
+abbrev pub earlier_distance : List Seen → Option Contents → Option ℕ
+earlier_distance seen None = None
+earlier_distance seen (Some contents) = distance_seen seen contents
 
 -- what was seen, with these contents in front, if a part is shared by them
 abbrev pub and_seen : Option Contents → ℕ → List Seen → List Seen

@@ -15,10 +15,10 @@ pub record Holdings : Type 0 where
   pub held_byte_lists : Held
   pub held_vtables : Held
 
-abbrev pub held : Holdings → Kind → Held
-held holdings texts = holdings.held_texts
-held holdings byte_lists = holdings.held_byte_lists
-held holdings vtables = holdings.held_vtables
+abbrev pub holding_of : Holdings → Kind → Held
+holding_of holdings texts = holdings.held_texts
+holding_of holdings byte_lists = holdings.held_byte_lists
+holding_of holdings vtables = holdings.held_vtables
 
 -- how the contents of a kind are found at the front of some bytes
 abbrev pub contents_in : Kind → List ℕ → Option (List ℕ)
@@ -38,10 +38,10 @@ pub record State : Type 0 where
 
 -- The cache of a kind fits the bytes, and finds contents there exactly where they were seen.
 pub record FindsSeen (state : State) (seen : List Seen) (kind : Kind) : Type 0 where
-  pub fits : Fits (contents_in kind) (held state.holdings kind) state.bytes
+  pub fits : Fits (contents_in kind) (holding_of state.holdings kind) state.bytes
   pub finds : (bytes : List ℕ) (distance : ℕ)
       → (distance_seen seen (record { kind = kind; bytes = bytes }) ≡ Some distance)
-      ↔ (Has (held state.holdings kind) distance
+      ↔ (Has (holding_of state.holdings kind) distance
       × (key_at (contents_in kind) state.bytes distance ≡ Some bytes))
 
 -- This may be what was written: the builder has its bytes, describes its promises, and finds the

@@ -29,8 +29,8 @@ abbrev pub blank : ℕ → Writer
 blank n = record { vtable = replicate n 0; vtable_size = 4; object_size = 4; mask = 3 }
 
 -- One entry more: the slot's two bytes say where its field stands, behind the others.
-abbrev pub entered : Declared → Writer → Writer
-entered one writer = record {
+abbrev pub with_entry : Declared → Writer → Writer
+with_entry one writer = record {
   vtable =
       take (slot_position one.slot) writer.vtable
       ++ (to_le_bytes w16 writer.object_size ++ drop (slot_position one.slot + 2) writer.vtable);

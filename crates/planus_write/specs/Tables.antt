@@ -8,7 +8,7 @@ use Rattle.planus_read.specs.Values.{Field, plain, reference, tags, values, fiel
 use Rattle.planus_read.specs.Values.{vtable_size}
 use Rattle.planus_read.specs.Aligned.{field_alignment}
 use Rattle.planus_write.specs.Shared.{vtables}
-use Rattle.planus_write.specs.Past.{Entry, just}
+use Rattle.planus_write.specs.Past.{Entry, unshared_entry}
 use Rattle.planus_write.specs.Items.{Item, plain_item, reference_item}
 
 -- the bytes of a field, by its place
@@ -144,7 +144,7 @@ word_entry = record { contents = None; part = λ got promises. word_part (first_
 -- A table of so many slots: its vtable, its body, and its word.
 abbrev pub object_entries : (slots : ℕ) → List Declared → Item → List Entry
 object_entries slots declared body =
-    vtable_entry (vtable_of slots declared) ∷ just (object_part declared body) ∷ word_entry ∷ []
+    vtable_entry (vtable_of slots declared) ∷ unshared_entry (object_part declared body) ∷ word_entry ∷ []
 
 abbrev pub table_entries : List (ℕ × Field) → List Entry
 table_entries entries =

@@ -19,7 +19,7 @@ pub union_offset_is_lawful : {T : Type 0}
     → IsLawful {X = UnionOffset T} (λ union old. union_reach union ≤ length old.bytes) Answers union_reach
 union_offset_is_lawful {T} = written_is_lawful (λ (union : UnionOffset T). union_reach union)
 
--- so is a list of unions
+-- so is a vector of unions
 pub union_vector_offset_is_lawful : {T : Type 0}
     → IsLawful {X = UnionVectorOffset T} (λ vector old. union_vector_reach vector ≤ length old.bytes)
     Answers union_vector_reach
@@ -59,7 +59,7 @@ module _ {X T : Type 0} (may : X → State → Type 0) (outcome : X → Outcome 
       (subst (λ (state : State). (second.0 ≤ length state.bytes) × (fourth.0 ≤ length state.bytes)) (sym fourth.3.1)
       (still, fourth.2.reached))
 
-  -- a list of unions is lawful
+  -- a vector of unions is lawful
   pub union_vector_is_lawful : {Y : Type 0} (items_of : Y → List X)
       → IsLawful {X = Y} {A = UnionVectorOffset T} (λ y old. AllMay may (items_of y) old)
       (λ y old answer new. WritesUnionVector outcome (items_of y) old answer new) union_vector_reach
@@ -75,13 +75,13 @@ module _ {X T : Type 0} (may : X → State → Type 0) (outcome : X → Outcome 
     stays = λ y old new grows h. may_still may outcome union_reach lawful (items_of y) old new grows h;
   }
 
--- A list of unions that are written already is put down by its entries alone.
-pub ready_union_list_is_put : {T : Type 0} (unions : List (UnionOffset T)) (old : State)
+-- A vector of unions that are written already is put down by its entries alone.
+pub ready_union_vector_is_put : {T : Type 0} (unions : List (UnionOffset T)) (old : State)
     (vector : UnionVectorOffset T) (new : State)
     → WritesUnionVector Answers unions old (Ok vector) new
     → (got : List ℕ) × WritesEntries (union_entries (map item_of unions)) [] old (Ok got) new
     × (vector.values.distance ≡ second_of got) × (vector.tags.distance ≡ last_of got)
-ready_union_list_is_put {T} unions old vector new h =
+ready_union_vector_is_put {T} unions old vector new h =
     let done = h.1 in
     let ready = ready_items unions done.2.1 done.0 done.1 done.2.3 in (
       h.0,
@@ -97,16 +97,16 @@ ready_union_list_is_put {T} unions old vector new h =
       h.3,
     )
 
--- It is refused for want of memory, or where its entries are.
-pub ready_union_list_is_refused : (T : Type 0) (unions : List (UnionOffset T)) (old : State)
+-- It is refused since memory is refused, or where its entries are.
+pub ready_union_vector_is_refused : (T : Type 0) (unions : List (UnionOffset T)) (old : State)
     (error : BuildError) (new : State)
     → WritesUnionVector {T = T} Answers unions old (Err error) new
     → (error ≡ OutOfMemory)
     ⊎ WritesEntries (union_entries (map item_of unions)) [] old (Err error) new
-ready_union_list_is_refused T unions old error new (inl (inl h)) = inl h.0
-ready_union_list_is_refused T unions old error new (inl (inr h)) =
+ready_union_vector_is_refused T unions old error new (inl (inl h)) = inl h.0
+ready_union_vector_is_refused T unions old error new (inl (inr h)) =
     absurd (ready_is_given unions h.1 error new h.3)
-ready_union_list_is_refused T unions old error new (inr (all, mid, h, refused)) =
+ready_union_vector_is_refused T unions old error new (inr (all, mid, h, refused)) =
     let ready = ready_items unions h.1 all mid h.3 in
     inr
     (subst

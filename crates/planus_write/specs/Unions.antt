@@ -14,7 +14,7 @@ use Rattle.planus_write.specs.declared.union_vector_offset.UnionVectorOffset.{Un
 abbrev pub union_reach : {T : Type 0} → UnionOffset T → ℕ
 union_reach union = union.offset.distance
 
--- how far a list of unions refers, by its tags and by its references
+-- how far a vector of unions refers, by its tags and by its references
 abbrev pub union_vector_reach : {T : Type 0} → UnionVectorOffset T → ℕ
 union_vector_reach vector = max vector.tags.distance vector.values.distance
 
@@ -22,7 +22,7 @@ union_vector_reach vector = max vector.tags.distance vector.values.distance
 abbrev pub item_of : {T : Type 0} → UnionOffset T → ℕ × ℕ
 item_of union = (union.tag, union.offset.distance)
 
--- of the distances that the entries of a union list got, those of its references and of its tags are
+-- of the distances that the entries of a vector of unions got, those of its references and of its tags are
 -- answered as offsets
 abbrev pub AsUnionVector : {T : Type 0} → Outcome (List ℕ) → Outcome (UnionVectorOffset T)
 AsUnionVector {T} writes old (Ok vector) new = (got : List ℕ) × writes old (Ok got) new
@@ -39,12 +39,12 @@ PreparesUnions {X} {T} prepare xs old (Ok unions) new = (all : List (UnionOffset
     × (unions.values.items ≡ map (λ union. union.offset) all)
 PreparesUnions {X} {T} prepare xs old (Err error) new = PreparesItems prepare xs old (Err error) new
 
--- the tags of a list of unions were written, or refused
+-- the tags of a vector of unions were written, or refused
 abbrev pub WritesTags : {T : Type 0} → List ℕ → Outcome (Offset T)
 WritesTags {T} tags old answer new =
     AsOffset (AnswersLast (WritesEntries (tags_entries tags) [])) old answer new
 
--- A list of unions was written, or refused: they are prepared, and then its entries are put down.
+-- A vector of unions was written, or refused: they are prepared, and then its entries are put down.
 abbrev pub WritesUnionVector : {X T : Type 0} → (X → Outcome (UnionOffset T)) → List X
     → Outcome (UnionVectorOffset T)
 WritesUnionVector {X} {T} prepare xs old answer new =

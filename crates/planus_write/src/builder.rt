@@ -47,7 +47,7 @@ impl Model for Builder {
 impl Builder {
     ghost use Rattle.std.specs.Borrow.{sem};
     ghost use Rattle.planus_write.specs.Shared.{all_on};
-    ghost use Rattle.planus_write.specs.Past.{Past, no_past, just};
+    ghost use Rattle.planus_write.specs.Past.{Past, no_past, unshared_entry};
     ghost use Rattle.planus_write.specs.Parts.{filled_part, count_part};
     ghost use Rattle.planus_write.specs.Tables.{vtable_entry, word_part};
     ghost use Rattle.planus_write.specs.State.{IsPast};
@@ -140,7 +140,7 @@ impl Builder {
         Offset::at(self.backing.len() as u32)
     }
 
-    /// Whether an offset lies in the bytes, as one does that this builder answered since the last
+    /// Whether an offset lies in the bytes, as one does that this builder returned since the last
     /// clear: it may be referred to.
     #[inline]
     pub fn has<T>(&self, offset: &Offset<T>) -> bool
@@ -223,7 +223,7 @@ impl Builder {
     // The count of a list, right in front of its items.
     #[inline]
     pub(crate) fn write_count(&mut self, count: u32) -> Result<u32, BuildError>
-        ensures { WritesEntry (just (count_part count)) [] self.old result self.new }
+        ensures { WritesEntry (unshared_entry (count_part count)) [] self.old result self.new }
     {
         let place = self.backing.make_room(4, 0)?;
         self.backing.put(&count.to_le_bytes());
@@ -254,7 +254,7 @@ impl Builder {
     #[inline]
     pub(crate) fn write_word(&mut self, vtable: u32) -> Result<u32, BuildError>
         requires { vtable ≤ greatest_place }
-        ensures entry { WritesEntry (just (word_part vtable)) [] self.old result self.new }
+        ensures entry { WritesEntry (unshared_entry (word_part vtable)) [] self.old result self.new }
         ensures last { IfOk result (λ place. place ≡ length self.new.bytes) }
     {
         let place = self.backing.make_room(4, 0)?;
@@ -268,7 +268,7 @@ impl Builder {
     }
 
     /// Writes a part of `size` bytes, aligned to `alignment_mask + 1`, whose bytes the filler
-    /// writes over zeros. It is handed the part's place: the distance in bytes from the end of the
+    /// writes over zeros. It gets the part's place: the distance in bytes from the end of the
     /// buffer to the part's first byte.
     ///
     /// The filler may be called with `size` bytes at every place from `len() + size` to `len() +
@@ -289,7 +289,7 @@ impl Builder {
         requires fits { (place : ℕ) → length self.old.bytes + size ≤ place
             → place ≤ length self.old.bytes + size + alignment_mask → place ≤ greatest_place
             → F.fits filler.now place size }
-        ensures { WritesPart (just (filled_part size (alignment_mask + 1)
+        ensures { WritesPart (unshared_entry (filled_part size (alignment_mask + 1)
             (F.leaves filler.now))) self.old result self.new }
     {
         let place = self.backing.make_room(size, alignment_mask)?;
@@ -312,7 +312,7 @@ impl Builder {
         requires fits { (place : ℕ) → length self.old.bytes + size ≤ place
             → place ≤ length self.old.bytes + size + alignment_mask → place ≤ greatest_place
             → W.fits writer.now place size }
-        ensures written { WritesPart (just (filled_part size (alignment_mask + 1)
+        ensures written { WritesPart (unshared_entry (filled_part size (alignment_mask + 1)
             (W.leaves writer.now))) self.old result self.new }
         ensures small { IfOk result (λ done. size ≤ greatest_place) }
     {
@@ -322,8 +322,8 @@ impl Builder {
     }
 
     /// Writes a text: one part of a count of 4 bytes, its bytes and a zero byte, aligned to 4
-    /// bytes. Answers its offset. Nothing is written for an offset, which must be one that this
-    /// builder answered since the last clear, nor where an equal text is found that was written
+    /// bytes. Returns its offset. Nothing is written for an offset, which must be one that this
+    /// builder returned since the last clear, nor where an equal text is found that was written
     /// since then.
     ///
     /// [`BuildError::TooLarge`] where the part's place would be above 2147483647 bytes from the
@@ -342,9 +342,9 @@ impl Builder {
 
     /// Writes a list: the items are prepared in order and written as one part, aligned as they are
     /// but at least to 4 bytes, and then the count of 4 bytes in front of them; or a byte list, as
-    /// one part of a count and the bytes, unless an equal byte list is found. Answers its offset.
+    /// one part of a count and the bytes, unless an equal byte list is found. Returns its offset.
     /// Nothing is written for an offset; each offset that is handed in must be one that this builder
-    /// answered since the last clear.
+    /// returned since the last clear.
     ///
     /// [`BuildError::TooLarge`] where a part's place would be above 2147483647 bytes from the end;
     /// [`BuildError::OutOfMemory`] where memory for the prepared items is refused, which numbers,
@@ -361,10 +361,10 @@ impl Builder {
         list.prepare(self)
     }
 
-    /// Writes a list of unions: they are prepared in order, and their references are written as one
+    /// Writes a vector of unions: they are prepared in order, and their references are written as one
     /// part, aligned to 4 bytes, with a count of 4 bytes in front of them, and then their tags in
-    /// the same way. Answers the offsets of both lists. Nothing is written for these offsets; each
-    /// offset that is handed in must be one that this builder answered since the last clear.
+    /// the same way. Returns the offsets of both vectors. Nothing is written for these offsets; each
+    /// offset among them must be one that this builder returned since the last clear.
     ///
     /// A refusal is that of [`Builder::create_vector`].
     pub fn create_union_vector<T, X: WriteAsUnionVector<T> + Drop>(
@@ -379,8 +379,8 @@ impl Builder {
 
     /// Prepares the root, and puts in front of everything its reference, and behind that the file
     /// identifier, if there is one. The length is then such that every part since the last clear
-    /// stands aligned. Answers all bytes. An offset as the root must be one that this builder
-    /// answered since the last clear.
+    /// stands aligned. Returns all bytes. An offset as the root must be one that this builder
+    /// returned since the last clear.
     ///
     /// Writing may go on afterwards, and finish again.
     ///
@@ -406,8 +406,8 @@ impl Builder {
     /// Prepares the root, and puts in front of everything a number of 4 bytes, which says how many
     /// bytes follow it, behind that the root's reference, and behind that the file identifier, if
     /// there is one. Every part since the last clear then stands aligned from that number on.
-    /// Answers all bytes, which can stand in front of others in a stream. An offset as the root must
-    /// be one that this builder answered since the last clear.
+    /// Returns all bytes, which can stand in front of others in a stream. An offset as the root must
+    /// be one that this builder returned since the last clear.
     ///
     /// Writing may go on afterwards, and finish again.
     ///

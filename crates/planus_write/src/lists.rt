@@ -4,7 +4,7 @@ ghost use Rattle.std.specs.List.{AllByRecursion};
 ghost use Rattle.planus_back.specs.Promises.{IsPowerOfTwo};
 ghost use Rattle.planus_write.specs.Parts.{items_bytes};
 ghost use Rattle.planus_write.specs.Preparing.{AllMay, MayStand, PreparesItems, WritesList};
-ghost use Rattle.planus_write.specs.Preparing.{WritesPrepared, listed};
+ghost use Rattle.planus_write.specs.Preparing.{WritesPrepared, prepared_list};
 
 use crate::backing::WORD_MASK;
 use crate::builder::Builder;
@@ -39,7 +39,7 @@ pub(crate) fn write_each<P: Primitive, V: WriteAsPrimitive<P>>(
 #[derive(Drop)]
 struct Items<'a, P: Primitive, T: VectorWrite<P>> {
     values: &'a [T::Value],
-    of: PhantomData<P>,
+    _marker: PhantomData<P>,
 }
 
 impl<'a, P: Primitive, T: VectorWrite<P>> Overwrite for Items<'a, P, T> {
@@ -61,7 +61,7 @@ fn prepare_items<P: Primitive, T: VectorWrite<P>>(
     items: &[T],
 ) -> Result<Vec<T::Value>, BuildError>
     requires { AllMay T.may items.now builder.old }
-    ensures prepared { PreparesItems T.outcome items.now builder.old (listed result) builder.new }
+    ensures prepared { PreparesItems T.outcome items.now builder.old (prepared_list result) builder.new }
     ensures reached { IfOk result (λ values.
         AllByRecursion (λ value. T.Value.reach value ≤ length builder.new.bytes) values.items) }
 {
@@ -102,7 +102,7 @@ pub(crate) fn write_prepared<P: Primitive, T: VectorWrite<P>>(
     };
     let prepared: Items<'_, P, T> = Items {
         values,
-        of: PhantomData,
+        _marker: PhantomData,
     };
     builder.write_over(size, items_mask::<P>(), &prepared)?;
     let place = builder.write_count(values.len() as u32)?;

@@ -8,14 +8,14 @@ pub struct Text;
 
 /// The kind of an offset to a list of `P`.
 pub struct List<P> {
-    of: PhantomData<P>,
+    _marker: PhantomData<P>,
 }
 
 /// A value of kind `T` that a builder has written, by its distance in bytes from the end of the
 /// buffer to its first byte.
 pub struct Offset<T> {
     distance: u32,
-    of: PhantomData<T>,
+    _marker: PhantomData<T>,
 }
 
 impl<T> Clone for Offset<T> {
@@ -41,7 +41,7 @@ impl<T> Offset<T> {
     {
         Offset {
             distance,
-            of: PhantomData,
+            _marker: PhantomData,
         }
     }
 

@@ -3,7 +3,7 @@ ghost use Rattle.std.specs.Prelude.{◌≡◌, ◌+◌, ◌≤◌, ◌++◌, ℕ
 ghost use Rattle.std.specs.Int.{w16, to_le_bytes};
 ghost use Rattle.planus_read.specs.Bytes.{BytesStand};
 ghost use Rattle.planus_write.specs.Tables.{Declared};
-ghost use Rattle.planus_write.specs.TableWriting.{WasTold, WritesTable, slot_position, blank, entered};
+ghost use Rattle.planus_write.specs.TableWriting.{WasTold, WritesTable, slot_position, blank, with_entry};
 
 use crate::builder::Builder;
 use crate::errors::BuildError;
@@ -100,7 +100,7 @@ impl<const N: usize> TableWriter<N> {
         requires small { slot_position slot + 2 ≤ 65534 }
         requires unused { BytesStand self.old.vtable (slot_position slot) (0 ∷ 0 ∷ []) }
         requires fits { self.old.object_size + P.SIZE ≤ 65535 }
-        ensures entered { self.new ≡ entered (record {
+        ensures entered { self.new ≡ with_entry (record {
           slot = slot;
           size = P.SIZE;
           alignment = P.ALIGNMENT;

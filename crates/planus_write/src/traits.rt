@@ -22,7 +22,7 @@ pub trait Primitive: Sized {
 
     ghost SIZE: { ℕ };
 
-    /// Its first byte stands at a multiple of so many bytes from the start of a buffer.
+    /// Its first byte stands at a multiple of this number of bytes from the start of a buffer.
     const ALIGNMENT: usize;
 
     /// One less than [`Primitive::ALIGNMENT`].
@@ -60,13 +60,13 @@ pub trait WriteAsPrimitive<P: Primitive> {
 ///
 /// The ghost member `may` says when a value may be prepared: every offset that it holds has a
 /// distance of at most the builder's length. `outcome` names what preparing it does: the builder
-/// before, the answer, and the builder after.
+/// before, the result, and the builder after.
 pub trait WriteAsOffset<T> {
     ghost may: { Self → State → Type 0 };
 
     ghost outcome: { Self → State → Result (Offset T) BuildError → State → Type 0 };
 
-    /// Writes the value, if it isn't an offset already, and answers its offset.
+    /// Writes the value, if it isn't an offset already, and returns its offset.
     ///
     /// [`BuildError::TooLarge`] where a part's place would be above 2147483647 bytes from the end;
     /// [`BuildError::OutOfMemory`] where memory is refused: for the prepared items of a list, unless
@@ -78,7 +78,7 @@ pub trait WriteAsOffset<T> {
         ensures { outcome self.now builder.old result builder.new };
 
     /// The bytes before are the end of the bytes after, every promise stays, and the switches do;
-    /// the distance that is answered is at most the builder's length.
+    /// the distance that is returned is at most the builder's length.
     ghost is_lawful: { IsLawful may outcome (λ offset. offset.distance) };
 }
 
@@ -90,7 +90,7 @@ pub trait WriteAsUnion<T> {
 
     ghost outcome: { Self → State → Result (UnionOffset T) BuildError → State → Type 0 };
 
-    /// Writes the variant's value, if that isn't written already, and answers its tag and its
+    /// Writes the variant's value, if that isn't written already, and returns its tag and its
     /// offset. A refusal is that of [`WriteAsOffset::prepare`].
     fn prepare(&self, builder: &mut Builder) -> std::result::Result<UnionOffset<T>, BuildError>
         requires { may self.now builder.old }
@@ -100,7 +100,7 @@ pub trait WriteAsUnion<T> {
     ghost is_lawful: { IsLawful may outcome union_reach };
 }
 
-/// What a builder can write as a list of unions of kind `T`.
+/// What a builder can write as a vector of unions of kind `T`.
 ///
 /// The ghost members `may` and `outcome` are as those of [`WriteAsOffset`].
 pub trait WriteAsUnionVector<T> {
@@ -109,7 +109,7 @@ pub trait WriteAsUnionVector<T> {
     ghost outcome: { Self → State → Result (UnionVectorOffset T) BuildError → State → Type 0 };
 
     /// Writes the list of the references and in front of it the list of the tags, if they aren't
-    /// written already, and answers their offsets. A refusal is that of
+    /// written already, and returns their offsets. A refusal is that of
     /// [`Builder::create_union_vector`].
     fn prepare(
         &self,

@@ -9,7 +9,7 @@ use std::marker::PhantomData;
 pub struct UnionOffset<T> {
     tag: u8,
     offset: Offset<()>,
-    of: PhantomData<T>,
+    _marker: PhantomData<T>,
 }
 
 impl<T> Clone for UnionOffset<T> {
@@ -39,7 +39,7 @@ impl<T> UnionOffset<T> {
         UnionOffset {
             tag,
             offset,
-            of: PhantomData,
+            _marker: PhantomData,
         }
     }
 

@@ -1,15 +1,15 @@
-//! Offsets of lists of unions.
+//! Offsets of vectors of unions.
 
 use crate::offset::{List, Offset};
 use std::alloc::AllocError;
 use std::marker::PhantomData;
 
-/// A list of unions of kind `T` that a builder has written: the offset of the list of its tags, and
+/// A vector of unions of kind `T` that a builder has written: the offset of the list of its tags, and
 /// that of the list of its references. As a field it takes two slots, the tags' first.
 pub struct UnionVectorOffset<T> {
     tags: Offset<List<u8>>,
     values: Offset<List<Offset<()>>>,
-    of: PhantomData<T>,
+    _marker: PhantomData<T>,
 }
 
 impl<T> Clone for UnionVectorOffset<T> {
@@ -30,7 +30,7 @@ impl<T> Copy for UnionVectorOffset<T> {}
 impl<T> UnionVectorOffset<T> {
     ghost use Rattle.std.specs.Prelude.{◌≡◌};
 
-    /// The list of unions of a list of tags and a list of as many references.
+    /// The vector of unions of a list of tags and a list of as many references.
     #[inline]
     pub fn new(
         tags_offset: Offset<List<u8>>,
@@ -42,7 +42,7 @@ impl<T> UnionVectorOffset<T> {
         UnionVectorOffset {
             tags: tags_offset,
             values: values_offset,
-            of: PhantomData,
+            _marker: PhantomData,
         }
     }
 

@@ -1,4 +1,4 @@
-//! Lists of unions: their references and their tags, each a list with its count.
+//! Vectors of unions: their references and their tags, each a list with its count.
 ghost use Rattle.std.specs.Prelude.{◌≡◌, ◌≤◌, length, IfOk};
 ghost use Rattle.std.specs.List.{AllByRecursion};
 ghost use Rattle.planus_write.specs.Preparing.{AllMay};
@@ -44,7 +44,7 @@ fn prepare_unions<T, U: WriteAsUnion<T>>(
     Ok(PreparedUnions { tags, values })
 }
 
-/// The tags of a list of unions, as one part, and the count in front of them.
+/// The tags of a vector of unions, as one part, and the count in front of them.
 fn write_tags(builder: &mut Builder, tags: &[u8]) -> Result<Offset<List<u8>>, BuildError>
     ensures { WritesTags tags.now builder.old result builder.new }
 {
@@ -59,7 +59,7 @@ fn write_tags(builder: &mut Builder, tags: &[u8]) -> Result<Offset<List<u8>>, Bu
     Ok(Offset::at(place))
 }
 
-/// A list of unions: they are prepared in order, and then their references are written, and in
+/// A vector of unions: they are prepared in order, and then their references are written, and in
 /// front of these their tags.
 pub(crate) fn write_union_vector<T, U: WriteAsUnion<T>>(
     builder: &mut Builder,

@@ -36,7 +36,7 @@ pub struct Entry;
 /// An entry in a buffer.
 pub type EntryRef<'a> = TableRef<'a, Entry>;
 
-/// What an entry has, as it is handed in. Its origin, its cause and its parents are written already.
+/// What an entry has, as `Entry::create` takes it. Its origin, its cause and its parents are written already.
 #[derive(Drop)]
 pub struct EntryFields<'a> {
     pub at: u64,

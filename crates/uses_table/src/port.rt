@@ -28,7 +28,7 @@ pub struct Owner;
 /// The kind of an offset to a port.
 pub struct Port;
 
-/// What a port has, as it is handed in.
+/// What a port has, as `Port::create` takes it.
 #[derive(Drop)]
 pub struct PortFields<'a> {
     pub owner: Option<UnionOffset<Owner>>,

@@ -5,7 +5,7 @@ use planus_tables::TableRef;
 use planus_write::{BuildError, Builder, UnionOffset};
 use std::test::Fail;
 
-// Whether the root is a ship with this name and this hull, and so many numbers as its cargo.
+// Whether the root is a ship with this name and this hull, and this number of items as its cargo.
 fn is_ship(bytes: &[u8], name: &str, hull: u16, cargo: Option<usize>) -> bool {
     let ship: Result<TableRef<'_, Ship>, _> = ReadAsRoot::read_as_root(bytes);
     match ship {

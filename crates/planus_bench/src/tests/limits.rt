@@ -59,7 +59,7 @@ impl<'a> WriteAsPrimitive<Largest> for Bytes<'a> {
 fn put_largest<'b>(builder: &'b mut Builder, field: Bytes<'_>) -> Result<&'b [u8], BuildError> {
     let mut writer: TableWriter<6> = TableWriter::default();
     writer.write_entry::<Largest>(0);
-    let of: PhantomData<Largest> = PhantomData;
+    let _marker: PhantomData<Largest> = PhantomData;
     writer.finish(builder, &One { field, of })?;
     let root = builder.current_offset::<()>();
     builder.finish(root, None)
@@ -95,7 +95,7 @@ fn the_largest_object(rt: HostRuntime) -> Result<(), Fail> {
 fn put_greatest_slot(builder: &mut Builder) -> Result<&[u8], BuildError> {
     let mut writer: TableWriter<65534> = TableWriter::default();
     writer.write_entry::<u8>(32764);
-    let of: PhantomData<u8> = PhantomData;
+    let _marker: PhantomData<u8> = PhantomData;
     writer.finish(builder, &One { field: 5u8, of })?;
     let root = builder.current_offset::<()>();
     builder.finish(root, None)

@@ -100,7 +100,7 @@ const ROWS: [(&[(usize, usize)], &[usize]); 7] = [
     (&[(7, 4), (8, 8), (4, 1), (4, 8)], &[0, 0, 0, 0]),
     // A weapon.
     (&[(8, 4), (8, 2), (6, 4), (4, 1), (4, 4)], &[0, 0, 2, 0, 0]),
-    // Two texts and a list of two unions.
+    // Two texts and a vector of two unions.
     (
         &[(6, 4), (6, 4), (8, 4), (4, 1), (2, 4), (4, 1)],
         &[0, 2, 0, 0, 2, 0],

@@ -318,7 +318,7 @@ impl Written {
         None
     }
 
-    // The distance of the tags of the list of unions of a step.
+    // The distance of the tags of the vector of unions of a step.
     fn tags(&self, step: usize) -> Option<usize> {
         for value in &self.values {
             if value.step == step {

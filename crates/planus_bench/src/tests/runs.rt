@@ -58,14 +58,14 @@ pub fn unions(alloc: Global, root: usize, count: usize) -> Result<Step, AllocErr
     Ok(Step::Unions(items))
 }
 
-// What a table may refer to: a value, and a list of unions, if there is one.
+// What a table may refer to: a value, and a vector of unions, if there is one.
 #[derive(Clone, Copy)]
 pub struct Named {
     pub root: usize,
     pub unions: Option<usize>,
 }
 
-// References to the tags and to the references of a list of unions, or else to one value.
+// References to the tags and to the references of a vector of unions, or else to one value.
 pub fn two_references(named: Named) -> [FieldValue; 2] {
     match named.unions {
         Some(unions) => [FieldValue::Tags(unions), FieldValue::Values(unions)],
@@ -126,7 +126,7 @@ struct Mixed {
     alloc: Global,
     numbers: Numbers,
     steps: Vec<Step>,
-    // The steps since the last clear that wrote a value other than a list of unions.
+    // The steps since the last clear that wrote a value other than a vector of unions.
     values: Vec<usize>,
     last_unions: Option<usize>,
 }
@@ -192,7 +192,7 @@ impl Mixed {
     }
 }
 
-// Texts, lists, lists of unions and tables of mixed lengths, finishes with and without an
+// Texts, lists, vectors of unions and tables of mixed lengths, finishes with and without an
 // identifier, and a clear now and then.
 fn mixed_steps(alloc: Global, count: usize) -> Result<Vec<Step>, AllocError> {
     let mut mixed = Mixed {
@@ -209,7 +209,7 @@ fn mixed_steps(alloc: Global, count: usize) -> Result<Vec<Step>, AllocError> {
     Ok(steps)
 }
 
-// The numbers of clears, of finishes without an identifier, of those with one, and of lists of unions.
+// The numbers of clears, of finishes without an identifier, of those with one, and of vectors of unions.
 pub fn counts(steps: &[Step]) -> (usize, usize, usize, usize) {
     let mut counts: (usize, usize, usize, usize) = (0, 0, 0, 0);
     for step in steps {

@@ -14,7 +14,7 @@ use std::test::Fail;
 #[derive(Drop)]
 pub struct One<P: Primitive, T: WriteAsPrimitive<P>> {
     pub field: T,
-    pub of: PhantomData<P>,
+    pub _marker: PhantomData<P>,
 }
 
 impl<P: Primitive, T: WriteAsPrimitive<P>> ObjectFill for One<P, T> {
@@ -149,7 +149,7 @@ fn a_table_with_a_free_slot_between(rt: HostRuntime) {
 pub fn put_number(builder: &mut Builder, field: u16) -> Result<(), BuildError> {
     let mut writer: TableWriter<6> = TableWriter::default();
     writer.write_entry::<u16>(0);
-    let of: PhantomData<u16> = PhantomData;
+    let _marker: PhantomData<u16> = PhantomData;
     writer.finish(builder, &One { field, of })
 }
 

@@ -1,4 +1,4 @@
-//! Lists of unions, by a replay.
+//! Vectors of unions, by a replay.
 
 use super::plain_run::plain_run;
 use super::settings::Switches;
@@ -14,7 +14,7 @@ const TWO_TEXTS: [u8; 58] = [
     b'A', 0,
 ];
 
-// A table of the tags and the references of the list of unions of a step.
+// A table of the tags and the references of the vector of unions of a step.
 fn tags_and_values(alloc: Global, unions: usize) -> Result<Step, AllocError> {
     let mut fields = Vec::new(alloc);
     for (slot, value) in [

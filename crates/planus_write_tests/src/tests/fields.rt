@@ -86,7 +86,7 @@ fn drink_is<X: WriteAsOptionalUnion<Drinks>>(
     }
 }
 
-// Whether a list of unions has its values and its tags at these distances, or isn't there.
+// Whether a vector of unions has its values and its tags at these distances, or isn't there.
 fn stands(prepared: Option<UnionVectorOffset<Drinks>>, want: Option<(u32, u32)>) -> bool {
     match (prepared, want) {
         (None, None) => true,
@@ -97,7 +97,7 @@ fn stands(prepared: Option<UnionVectorOffset<Drinks>>, want: Option<(u32, u32)>)
     }
 }
 
-// Prepares a list of unions that is left out where it is empty; tells whether it is as wanted.
+// Prepares a vector of unions that is left out where it is empty; tells whether it is as wanted.
 fn order_is<X: WriteAsDefaultUnionVector<Drinks>>(
     builder: &mut Builder,
     field: &X,

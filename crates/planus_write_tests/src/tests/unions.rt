@@ -15,7 +15,7 @@ fn tagged(builder: &mut Builder, tag: u8, text: &str) -> Result<UnionOffset<()>,
     Ok(UnionOffset::new(tag, text.downcast()))
 }
 
-// Whether a list of unions, of which only the bound is known, stands at these distances, its
+// Whether a vector of unions, of which only the bound is known, stands at these distances, its
 // references' first, and the builder has these bytes.
 fn list_stands<X: WriteAsUnionVector<()> + Drop>(
     builder: &mut Builder,

@@ -1,4 +1,4 @@
-//! The references to the tags and to the values of a list of unions.
+//! The references to the tags and to the values of a vector of unions.
 ghost use Rattle.std.specs.Prelude.{◌≡◌};
 ghost use Rattle.std.specs.Option.{option_map};
 ghost use Rattle.planus_read.specs.Values.{tags, values};
@@ -8,7 +8,7 @@ ghost use Rattle.planus_tables.specs.PreparingLaws.{tags_are_item, values_are_it
 use crate::table_item::TableItem;
 use planus_write::{List, Offset, UnionVectorOffset, WriteAsPrimitive};
 
-/// A reference to the tags of a list of unions, as a field of a table.
+/// A reference to the tags of a vector of unions, as a field of a table.
 #[derive(Clone, Copy)]
 pub struct TagsField(Offset<List<u8>>);
 
@@ -29,7 +29,7 @@ impl TableItem<Offset<List<u8>>> for TagsField {
     ghost is_item = { λ field. tags_are_item field.0.distance };
 }
 
-/// A reference to the values of a list of unions, as a field of a table.
+/// A reference to the values of a vector of unions, as a field of a table.
 #[derive(Clone, Copy)]
 pub struct ValuesField(Offset<List<Offset<()>>>);
 
@@ -50,7 +50,7 @@ impl TableItem<Offset<List<Offset<()>>>> for ValuesField {
     ghost is_item = { λ field. values_are_item field.0.distance };
 }
 
-/// Returns the field of the tags of a list of unions, if there is one.
+/// Returns the field of the tags of a vector of unions, if there is one.
 #[inline]
 pub(crate) fn tags_of<T>(vector: &Option<UnionVectorOffset<T>>) -> Option<TagsField>
     ensures { result ≡ option_map (λ vector. record { 0 = vector.tags }) vector.now }
@@ -61,7 +61,7 @@ pub(crate) fn tags_of<T>(vector: &Option<UnionVectorOffset<T>>) -> Option<TagsFi
     }
 }
 
-/// Returns the field of the values of a list of unions, if there is one.
+/// Returns the field of the values of a vector of unions, if there is one.
 #[inline]
 pub(crate) fn values_of<T>(vector: &Option<UnionVectorOffset<T>>) -> Option<ValuesField>
     ensures { result ≡ option_map (λ vector. record { 0 = vector.values }) vector.now }
