@@ -123,7 +123,7 @@ module _ (switches : Switches) (all : List Step) where
 
   record Once (done : List Step) (state : State) : Type 0 where
     numbered : state.next ≡ length done
-    earlier_distance : AllByRecursion (IsFound state.past.seen) state.listed
+    found : AllByRecursion (IsFound state.past.seen) state.listed
     finished : AllByRecursion (λ (given : Finish). AreOnce switches all given.places) state.finished
 
   -- one step that writes
@@ -143,7 +143,7 @@ module _ (switches : Switches) (all : List Step) where
         → AllByRecursion (λ (given : Finish). AreOnce switches all given.places) (finishes_added step before after.past) → Once (done ++ step ∷ []) after
     once_with new given = record {
       numbered = let next = writes.next in let counted = h.numbered in omega (arith, next, counted, length-append done (step ∷ []));
-      earlier_distance = subst (AllByRecursion (IsFound after.past.seen)) (sym writes.listed)
+      found = subst (AllByRecursion (IsFound after.past.seen)) (sym writes.listed)
           (all_append (IsFound after.past.seen) before.listed (values_added (value_of before.listed step) before.next writes.got)
           (all_weaker (IsFound before.past.seen) (IsFound after.past.seen)
           (λ one was contents at on. all_stays switches writes.entries [] before.past writes.got after.past writes.puts contents one.named.distance (was contents at on)) before.listed h.found) new);
@@ -182,7 +182,7 @@ module _ (switches : Switches) (all : List Step) where
       once_with done (finish front root identifier) before after there writes h tt (are_once before.past.seen before.listed h.found, tt)
   step_once done clear before after there is_clear h =
       subst (Once (done ++ clear ∷ [])) (sym is_clear)
-      (record { numbered = let counted = h.numbered in omega (arith, counted, length-append done (clear ∷ [])); earlier_distance = tt; finished = h.finished })
+      (record { numbered = let counted = h.numbered in omega (arith, counted, length-append done (clear ∷ [])); found = tt; finished = h.finished })
 
   leads_once : (done rest : List Step) → all ≡ done ++ rest → (before after : State) → LeadsTo switches before rest after → Once done before
       → AllByRecursion (λ (given : Finish). AreOnce switches all given.places) after.finished
@@ -195,7 +195,7 @@ module _ (switches : Switches) (all : List Step) where
 pub equal_contents_have_one_distance : EqualContentsHaveOneDistance
 equal_contents_have_one_distance switches steps finished runs =
     subst (AllByRecursion (λ (given : Finish). AreOnce switches steps given.places)) (sym runs.2)
-    (leads_once switches steps [] steps refl nothing_written runs.0 runs.1 (record { numbered = refl; earlier_distance = tt; finished = tt }))
+    (leads_once switches steps [] steps refl nothing_written runs.0 runs.1 (record { numbered = refl; found = tt; finished = tt }))
 
 -- what was got before stays
 got_stays : (switches : Switches) (entries : List Entry) (got : List ℕ) (before : Past) (ds : List ℕ) (after : Past) → PutsAll switches entries got before ds after → (k d : ℕ)

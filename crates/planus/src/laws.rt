@@ -11,8 +11,8 @@ pub fn answers_are_one()
     ensures { AnswersAreOne }
 {}
 
-/// There is an answer to every list of steps, under all switches, that isn't a refusal of memory. So
-/// a refusal of memory aside there is exactly one.
+/// There is an answer to every list of steps, under all switches, that isn't a refusal of memory.
+/// So a refusal of memory aside there is exactly one.
 pub fn an_answer_is_there()
     ensures { AnAnswerIsThere }
 {}
@@ -33,8 +33,8 @@ pub fn trees_are_the_same()
 {}
 
 /// What a finish with the size in front gives is read with exactly its bytes, whatever is behind
-/// them, and every value of the run stands and reads back in the piece that is returned, the root by
-/// the reference at its front. So such finishes, put behind one another, are read one by one.
+/// them, and every value of the run stands and reads back in the piece that is returned, the root
+/// by the reference at its front. So such finishes, put behind one another, are read one by one.
 pub fn sized_finishes_are_read()
     ensures one { SizedFinishesAreRead }
     ensures stream { SizedStreamsAreRead }

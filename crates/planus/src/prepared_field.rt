@@ -60,7 +60,7 @@ impl PreparedField {
         requires small { slot ≤ 255 }
         requires unused { BytesStand writer.old.vtable (slot_position slot) (0 ∷ 0 ∷ []) }
         requires fits { writer.old.object_size + field_size (field_is self.now) ≤ 65535 }
-        ensures entered { writer.new ≡ entered (record {
+        ensures entered { writer.new ≡ with_entry (record {
           slot = slot;
           size = field_size (field_is self.now);
           alignment = field_alignment (field_is self.now);

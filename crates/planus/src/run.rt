@@ -13,7 +13,7 @@ use crate::steps::Step;
 use planus_write::Caches;
 use std::alloc::Global;
 
-/// What each finish of the steps gives, in order.
+/// Returns what each finish of the steps gives, in order.
 ///
 /// Equal texts, byte lists and vtables are written once where `caches` says so; equal contents of
 /// such a kind then have one distance in `places`.

@@ -11,9 +11,9 @@ pub enum Step {
     Numbers { width: u8, items: Vec<u64> },
     /// A list of references to the values of earlier steps, by their numbers from 0.
     Refs(Vec<usize>),
-    /// A vector of unions: of each the tag of its variant, which is above 0, and its value, which is
-    /// that of an earlier step, by its number from 0. It is two lists, of tags and of references,
-    /// and named by [`FieldValue::Tags`] and [`FieldValue::Values`] alone.
+    /// A vector of unions: of each the tag of its variant, which is above 0, and its value, which
+    /// is that of an earlier step, by its number from 0. It is two lists, of tags and of
+    /// references, and named by [`FieldValue::Tags`] and [`FieldValue::Values`] alone.
     Unions(Vec<(u8, usize)>),
     /// A table of fields, in the order in which they are declared and written. No alignment is
     /// above that of the field before it.

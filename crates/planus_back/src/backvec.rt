@@ -38,8 +38,8 @@ impl Drop for BackVec {
 }
 
 impl BackVec {
-    /// An empty vector, with room for `n` bytes and at least 16. Asks for that many bytes of
-    /// memory, and is refused only where the memory is.
+    /// Returns an empty vector, with room for `n` bytes and at least 16. Asks for that many bytes
+    /// of memory, and is refused only where the memory is.
     pub fn with_capacity(alloc: Global, n: usize) -> Result<BackVec, AllocError>
         ensures bytes { IfOk result (λ v. v.bytes ≡ []) }
         ensures room { IfOk result (λ v. n ≤ v.room) }
@@ -52,12 +52,12 @@ impl BackVec {
         })
     }
 
-    /// The allocator that the vector takes memory from.
+    /// Returns the allocator that the vector takes memory from.
     pub fn alloc(&self) -> Global {
         self.block.alloc()
     }
 
-    /// The number of bytes.
+    /// Returns the number of bytes.
     #[inline]
     pub fn len(&self) -> usize
         ensures { result ≡ length self.now.bytes }
@@ -65,7 +65,7 @@ impl BackVec {
         self.block.capacity() - self.start
     }
 
-    /// How many more bytes fit in front without memory.
+    /// Returns how many more bytes fit in front without memory.
     #[inline]
     pub fn room(&self) -> usize
         ensures { result ≡ self.now.room }
@@ -73,7 +73,7 @@ impl BackVec {
         self.start // all before the bytes is free
     }
 
-    /// The bytes.
+    /// Returns the bytes.
     #[inline]
     pub fn as_slice(&self) -> &[u8]
         ensures { result.now ≡ self.now.bytes }

@@ -3,7 +3,8 @@ ghost use Rattle.std.specs.Prelude.{◌≡◌, ◌+◌, ◌≤◌, ℕ, ◌++◌
 ghost use Rattle.std.specs.Prelude.{false};
 ghost use Rattle.core.specs.Mem.Slots.Ownership.{Filled, SameOutside};
 ghost use Rattle.core.specs.Mem.Slots.{SamePlaces, slots_filled, slots_items, slots_len};
-ghost use Rattle.planus_back.specs.Blocks.{HoldsFrom, IsBlock, Puts, Readies, bytes_from, capacity_of};
+ghost use Rattle.planus_back.specs.Blocks.{HoldsFrom, IsBlock, Puts, Readies, bytes_from};
+ghost use Rattle.planus_back.specs.Blocks.{capacity_of};
 
 use crate::cells::{Deed, allocate, deallocate, lend, lend_mut};
 use crate::fill::{Fill, Overwrite};
@@ -33,7 +34,8 @@ pub struct Block {
 fn zero(places: &mut Slots<u8>, at: usize, n: usize)
     requires { at + n ≤ slots_len places.old }
     ensures items { slots_items places.new
-        ≡ take at (slots_items places.old) ++ replicate n 0 ++ drop (at + n) (slots_items places.old) }
+        ≡ take at (slots_items places.old) ++ replicate n 0 ++ drop (at + n) (slots_items
+        places.old) }
     ensures filled { Filled (slots_filled places.new) at (at + n)
         × SameOutside false (slots_filled places.old) (slots_filled places.new) at (at + n) }
     ensures places { SamePlaces places.old places.new }

@@ -85,8 +85,8 @@ fn add(
 }
 
 impl<C: GetCacheKey> Cache<C> {
-    /// An empty cache, which uses the bits of a hash that are set in `hash_mask`; with 0 all hashes
-    /// are equal.
+    /// Returns an empty cache, which uses the bits of a hash that are set in `hash_mask`; with 0
+    /// all hashes are equal.
     pub fn new(alloc: Global, hash_mask: u64) -> Result<Cache<C>, AllocError>
         ensures { IfOk result IsEmpty }
     {

@@ -33,7 +33,8 @@ impl<T, A: Allocator> Model for Deed<T, A> {
 /// The `len` values from the place `from` on of the block that begins at `base`.
 #[inline]
 pub(crate) fn lend<'a, T>(slots: &'a Slots<T>, base: *mut T, from: usize, len: usize) -> &'a [T]
-    requires { InBlock base × (base ≡ slots_ptr slots.now) × (from + len ≤ slots_len slots.now) × Filled (slots_filled slots.now) from (from + len) }
+    requires { InBlock base × (base ≡ slots_ptr slots.now) × (from + len ≤ slots_len slots.now) ×
+        Filled (slots_filled slots.now) from (from + len) }
     ensures { result.now ≡ take len (drop from (slots_items slots.now)) }
 {
     unsafe { slice::from_raw_parts(base.add(from), len) }
@@ -47,7 +48,8 @@ pub(crate) fn lend_mut<'a, T>(
     from: usize,
     len: usize,
 ) -> &'a mut [T]
-    requires { (base ≡ slots_ptr slots.old) × (from + len ≤ slots_len slots.old) × Filled (slots_filled slots.old) from (from + len) }
+    requires { (base ≡ slots_ptr slots.old) × (from + len ≤ slots_len slots.old) × Filled
+        (slots_filled slots.old) from (from + len) }
     ensures* writes_back { sem 𝓛 (lends_run T.row slots.entry from len result) }
     ensures value { result.now ≡ take len (drop from (slots_items slots.old)) }
 {
@@ -61,7 +63,8 @@ pub(crate) fn allocate<T, A: Allocator>(
     len: usize,
 ) -> Result<(*mut T, Slots<T>, Deed<T, A>), AllocError>
     requires { FitsInBlock T.row len × T }
-    ensures { IfOk result (λ r. InBlock r.0 × (r.0 ≡ slots_ptr r.1) × (slots_len r.1 ≡ len) × (r.2.at ≡ r.0) × (r.2.len ≡ len) × (r.2.alloc ≡ alloc.now)) }
+    ensures { IfOk result (λ r. InBlock r.0 × (r.0 ≡ slots_ptr r.1) × (slots_len r.1 ≡ len) ×
+        (r.2.at ≡ r.0) × (r.2.len ≡ len) × (r.2.alloc ≡ alloc.now)) }
 {
     match alloc.allocate(len * size_of::<T>(), align_of::<T>()) {
         Ok(block) => {

@@ -16,8 +16,8 @@ const THREE_FACTORS: u64 = 15755400384260043839;
 pub(crate) trait Key {
     ghost bytes_of: { Self → List ℕ };
 
-    // The hash of the bytes: 8 at a time by four hashes in turn, so that none waits for another, and
-    // then the last 8, some of which may have been among these.
+    // The hash of the bytes: 8 at a time by four hashes in turn, so that none waits for another,
+    // and then the last 8, some of which may have been among these.
     fn hash(&self) -> u64
         ensures { result ≡ hash_of (bytes_of self.now) };
 

@@ -1,12 +1,12 @@
 //! The lowest layer of a flatbuffers writer that works from the back.
 //!
 //! [`BackVec`] is a byte vector that grows towards its front, the end of a block of raw memory: the
-//! module `block` says which of its places hold bytes, and all that touches a pointer is in `cells`.
-//! [`Promises`] keeps, in a remainder and a mask, exactly the finished lengths at which every part
-//! placed so far stands aligned, and names the least padding in front of the next one. [`Fill`] and
-//! [`Overwrite`] write the bytes of one part in place. [`Cache`] finds what stands in a buffer by its
-//! contents. [`laws`] states what the definitions of padding, places and caches are good for, and
-//! [`plain`] finds the least padding by trying.
+//! module `block` says which of its places hold bytes, and all that touches a pointer is in
+//! `cells`. [`Promises`] keeps, in a remainder and a mask, exactly the finished lengths at which
+//! every part placed so far stands aligned, and names the least padding in front of the next one.
+//! [`Fill`] and [`Overwrite`] write the bytes of one part in place. [`Cache`] finds what stands in
+//! a buffer by its contents. [`laws`] states what the definitions of padding, places and caches are
+//! good for, and [`plain`] finds the least padding by trying.
 #![tactic(auto)]
 
 pub mod backvec;

@@ -41,7 +41,7 @@ impl Model for Promises {
 }
 
 impl Promises {
-    /// No promise yet, in front of no bytes: every length keeps them.
+    /// Returns no promise yet, in front of no bytes: every length keeps them.
     pub const fn new() -> Promises
         ensures delayed { result.delayed ≡ 0 }
         ensures mask { result.mask ≡ 0 }
@@ -53,8 +53,8 @@ impl Promises {
         }
     }
 
-    /// How many bytes at least are still to come, in front of those so far, up to a length that
-    /// keeps every promise.
+    /// Returns how many bytes at least are still to come, in front of those so far, up to a length
+    /// that keeps every promise.
     #[inline]
     pub fn delayed(&self) -> usize
         ensures { result ≡ self.now.delayed }
@@ -62,7 +62,7 @@ impl Promises {
         self.delayed
     }
 
-    /// One less than the greatest alignment promised so far, or 0.
+    /// Returns one less than the greatest alignment promised so far, or 0.
     #[inline]
     pub fn mask(&self) -> usize
         ensures mask { result ≡ self.now.mask }
@@ -77,9 +77,9 @@ impl Promises {
         self.mask
     }
 
-    /// The least padding, in bytes, for a part of `size` bytes in front of the `len` bytes so far,
-    /// such that every promise and the part's own alignment `mask + 1` can still be kept; and the
-    /// promises with that of the part, in front of it.
+    /// Returns the least padding, in bytes, for a part of `size` bytes in front of the `len` bytes
+    /// so far, such that every promise and the part's own alignment `mask + 1` can still be kept;
+    /// and the promises with that of the part, in front of it.
     ///
     /// `mask + 1` is a power of two up to 2^30, and `len` at most 2147483647. [`TooLarge`] where
     /// `len`, the padding and `size` together are above 2147483647.

@@ -15,7 +15,8 @@ use planus::{BuildError, Builder, UnionOffset, WriteAsOffset};
 pub struct Equipment;
 
 impl Equipment {
-    /// Writes a weapon, if it isn't written already. Returns it as a piece of equipment: with tag 1.
+    /// Writes a weapon, if it isn't written already. Returns it as a piece of equipment: with tag
+    /// 1.
     ///
     /// An offset among the arguments must be one that this builder returned since the last clear. A
     /// refusal is that of [`WriteAsOffset::prepare`].

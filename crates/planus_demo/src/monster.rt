@@ -162,7 +162,8 @@ impl<'a> MonsterRef<'a> {
     /// [`UnionVector`].
     pub fn loot(&self) -> Result<Option<UnionVector<'a, EquipmentRef<'a>>>>
         ensures { Located (UnionVectorAnswer
-            (λ S start f g r. Answer (shown (ShowsUnionVector S start) (union_vector_reading S f g)) r)
+            (λ S start f g r. Answer (shown (ShowsUnionVector S start) (union_vector_reading S f g))
+            r)
             (monster_table self.now) 6)
             (codes "Monster") (codes "loot") (table_start (monster_table self.now)) result }
     {

@@ -38,7 +38,7 @@ fn finished_text(alloc: Global, finished: &[Finished]) -> Result<String, AllocEr
     Ok(text)
 }
 
-/// What is printed of a replay's answer. The steps stand on the lines of these numbers.
+/// Returns what is printed of a replay's answer. The steps stand on the lines of these numbers.
 pub fn answer_text(
     alloc: Global,
     numbers: &[usize],

@@ -39,7 +39,7 @@ impl From<AllocError> for RunError {
     }
 }
 
-/// The bytes of a script, or the first bytes of one that is too long.
+/// Returns the bytes of a script, or the first bytes of one that is too long.
 pub fn read_script<R: Read>(alloc: Global, reader: &mut R) -> std::result::Result<Vec<u8>, RunError>
     ensures bytes { IfOk result (λ input. IfSome (R.remaining reader.old)
         (λ bytes. input.items ≡ take (greatest_script + 1) bytes)) }
@@ -114,8 +114,8 @@ pub fn run<R: Read, W: Write>(
     Ok(output.clean)
 }
 
-/// The exit status: 0 for a clean script, 1 after a printed fault, 2 where reading or writing
-/// failed, or memory for the script was refused.
+/// Returns the exit status: 0 for a clean script, 1 after a printed fault, 2 where reading or
+/// writing failed, or memory for the script was refused.
 pub fn status(answer: &std::result::Result<bool, RunError>) -> u8
     ensures { result ≡ status_of answer.now }
 {

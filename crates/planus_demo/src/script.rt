@@ -35,11 +35,12 @@ pub enum ReadFault {
     UnknownCommand,
     /// A word that should be a number isn't one to twenty decimal digits, or is too great.
     BadNumber,
-    /// A word that should be bytes isn't an even number of hexadecimal digits, or a word follows it.
+    /// A word that should be bytes isn't an even number of hexadecimal digits, or a word follows
+    /// it.
     BadHex,
     /// A word that should be a field isn't of the form `S=u8:N`, `S=u16:N`, `S=u32:N`, `S=u64:N`,
-    /// `S=ref:I`, `S=tags:I` or `S=values:I`; or one that should be a union isn't of the form `T:I`,
-    /// or its tag is above 255.
+    /// `S=ref:I`, `S=tags:I` or `S=values:I`; or one that should be a union isn't of the form
+    /// `T:I`, or its tag is above 255.
     BadField,
     /// A word that should be a file identifier isn't four bytes from `!` to `~`.
     BadIdentifier,
@@ -268,7 +269,7 @@ fn finish_step(root: usize, id: Option<[u8; 4]>, sized: bool) -> Step
     }
 }
 
-/// The byte of two hexadecimal digits.
+/// Returns the byte of two hexadecimal digits.
 pub fn byte_of(high: u8, low: u8) -> Option<u8>
     ensures { result ≡ byte_of_lem high low }
 {
@@ -469,7 +470,7 @@ impl Script {
     }
 }
 
-/// The steps of a script, or the first line with a fault of reading.
+/// Returns the steps of a script, or the first line with a fault of reading.
 pub fn parse(alloc: Global, input: &[u8]) -> std::result::Result<Script, ParseError>
     ensures { AnswersScript result (script_of input.now) }
 {

@@ -31,7 +31,7 @@ use Rattle.planus_dump.specs.Tests.{table_tests}
 use Rattle.planus_dump.specs.Answers.{Seen, SeenItems, SeenUnion, SeenUnions, table_at, union_at, unions_at, tagged_union, union_vector_by, union_vector_at, some_of}
 use Rattle.planus_dump.specs.Events.{TableEvents, stride_of, variant_of, item_events, items_events, list_events, place_events, variant_events, union_events, union_field_events, union_items_events, unions_events, present, kind_events, fields_events, table_events, shape_events, events, leaf_events}
 use Rattle.planus_dump.specs.FaultLines.{HasNoSpace, HaveNoFault, IsNoFault}
-use Rattle.planus_dump.specs.Describes.{plain_size, IsText, IsByteList, held_at, IsItem, IsListOf, IsReferred, IsField, IsVariant, IsTagged, IsUnion, IsListOfUnions, IsUnionVector, HasKind, IsTableOf, Describes}
+use Rattle.planus_dump.specs.Describes.{plain_size, IsText, IsByteList, held_at, IsItem, IsListOf, IsReferred, IsField, IsVariant, IsTagged, IsUnion, IsVectorOfUnions, IsUnionVector, HasKind, IsTableOf, Describes}
 use Rattle.planus_dump.specs.declared.schemas.Schema.{Schema}
 use Rattle.planus_dump.specs.declared.schemas.TableSchema.{TableSchema}
 use Rattle.planus_dump.specs.declared.schemas.FieldSchema.{FieldSchema}
@@ -420,7 +420,7 @@ module _ (steps : List Step) (given : Finish) (values : AllByRecursion (ValueHol
   union_no_fault index _ _ is same next = absurd is
 
   -- the items of a vector of unions
-  union_vector_items_no_fault : (index q p t d : ℕ) (step : Step) (v : Value) → IsListOfUnions steps IsTable (slice_get schema.unions.items index) (Some step) → value_of given.places step ≡ Some v
+  union_vector_items_no_fault : (index q p t d : ℕ) (step : Step) (v : Value) → IsVectorOfUnions steps IsTable (slice_get schema.unions.items index) (Some step) → value_of given.places step ≡ Some v
       → ReadsBack given.bytes (at_both (position_of given.bytes t) (position_of given.bytes d)) v
       → Leads given.bytes (k + q) (position_of given.bytes t) → Leads given.bytes (k + p) (position_of given.bytes d)
       → HaveNoFault (unions_events E schema index path (some_of (union_vector_at seen.object q p)))
@@ -469,7 +469,7 @@ module _ (steps : List Step) (given : Finish) (values : AllByRecursion (ValueHol
       = unions_is seen i (Slot seen.slots i) (Slot seen.slots (i + 1)) (omega arith) refl refl (least_is_some (Slot seen.slots i) first.0) (least_is_some (Slot seen.slots (i + 1)) second.0) in
       subst (λ (a : Result (Option SeenUnions) (List ℕ)). HaveNoFault (unions_events E schema index path a)) (sym whole)
       (union_vector_items_no_fault index (Slot seen.slots i) (Slot seen.slots (i + 1)) made_tags.0 made.0 held.step held.value
-      (subst (IsListOfUnions steps IsTable (slice_get schema.unions.items index)) held.there is.1) held.is_value held.reads_back
+      (subst (IsVectorOfUnions steps IsTable (slice_get schema.unions.items index)) held.there is.1) held.is_value held.reads_back
       (references_lead given.bytes (k + Slot seen.slots i) made_tags.0 there) (references_lead given.bytes (k + Slot seen.slots (i + 1)) made.0 behind))
   union_vector_no_fault index _ _ is same next = absurd is
 

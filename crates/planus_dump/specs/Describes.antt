@@ -101,18 +101,18 @@ module _ (steps : List Step) (IsTable : ℕ → ℕ → Type 0) where
       (width ≡ 1) × IsTagged variants tag n
   IsUnion variants _ _ = ⊥
 
-  -- the step writes a list of such unions
-  abbrev pub IsListOfUnions : Option (Vec (ℕ × ℕ) Global) → Option Step → Type 0
-  IsListOfUnions variants (Some (unions items)) =
+  -- the step writes a vector of such unions
+  abbrev pub IsVectorOfUnions : Option (Vec (ℕ × ℕ) Global) → Option Step → Type 0
+  IsVectorOfUnions variants (Some (unions items)) =
       AllByRecursion (λ item. IsTagged variants item.0 item.1) items
-  IsListOfUnions variants _ = ⊥
+  IsVectorOfUnions variants _ = ⊥
 
-  -- a vector of unions: both slots are absent, or hold the tags and the values of one such list
+  -- a vector of unions: both slots are absent, or hold the tags and the values of one such vector
   abbrev pub IsUnionVector :
       Option (Vec (ℕ × ℕ) Global) → Option FieldStep → Option FieldStep → Type 0
   IsUnionVector variants None None = ⊤
   IsUnionVector variants (Some (tags_field n)) (Some (values_field m)) =
-      (n ≡ m) × IsListOfUnions variants (slice_get steps n)
+      (n ≡ m) × IsVectorOfUnions variants (slice_get steps n)
   IsUnionVector variants _ _ = ⊥
 
   module _ (schema : Schema) where

@@ -4,8 +4,8 @@ ghost use Rattle.planus_write.specs.Items.{plain_item};
 
 use planus_write::{Primitive, WriteAsPrimitive};
 
-/// Stands for what is prepared of a field that is always left out. No call hands one out, and nobody
-/// else can make one; its bytes would be zeros.
+/// Stands for what is prepared of a field that is always left out. No call hands one out, and
+/// nobody else can make one; its bytes would be zeros.
 #[derive(Drop)]
 pub struct LeftOut(());
 

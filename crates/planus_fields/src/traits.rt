@@ -9,6 +9,7 @@ ghost use Rattle.planus_write.specs.Preparing.{IsLawful};
 ghost use Rattle.planus_write.specs.Unions.{union_reach, union_vector_reach};
 ghost use Rattle.planus_write.specs.declared.errors.BuildError.{BuildError};
 ghost use Rattle.planus_write.specs.declared.union_offset.UnionOffset.{UnionOffset};
+ghost use Rattle.planus_write.specs.declared.union_vector_offset.UnionVectorOffset.{};
 ghost use Rattle.planus_write.specs.declared.union_vector_offset.UnionVectorOffset.{UnionVectorOffset};
 ghost use Rattle.planus_fields.specs.Fields.{reach_if};
 
@@ -102,7 +103,8 @@ pub trait WriteAsOptionalUnion<T> {
 pub trait WriteAsDefaultUnionVector<T> {
     ghost may: { Self → State → Type 0 };
 
-    ghost outcome: { Self → State → Result (option (UnionVectorOffset T)) BuildError → State → Type 0 };
+    ghost outcome: { Self → State → Result (option (UnionVectorOffset T)) BuildError → State → Type
+        0 };
 
     /// Writes the list, as [`planus_write::WriteAsUnionVector::prepare`] does. With `None` the tags
     /// and the values are left out, and nothing was written.
@@ -120,7 +122,8 @@ pub trait WriteAsDefaultUnionVector<T> {
 pub trait WriteAsOptionalUnionVector<T> {
     ghost may: { Self → State → Type 0 };
 
-    ghost outcome: { Self → State → Result (option (UnionVectorOffset T)) BuildError → State → Type 0 };
+    ghost outcome: { Self → State → Result (option (UnionVectorOffset T)) BuildError → State → Type
+        0 };
 
     /// Writes the list, as [`planus_write::WriteAsUnionVector::prepare`] does. With `None` the tags
     /// and the values are left out, and nothing was written.

@@ -16,8 +16,8 @@ pub const NUMBERS: [u8; 44] = [
     4, 0, 6, 0, 8, 0, 10, 0, 12, 0, 14, 0, 16, 0, 18, 0,
 ];
 
-/// A finished table with the number 80 of 2 bytes in slot 0, the text `Orc` in slot 1, a list of one
-/// table in slot 3, and that table as a union of tag 1 in slots 4 and 5.
+/// A finished table with the number 80 of 2 bytes in slot 0, the text `Orc` in slot 1, a list of
+/// one table in slot 3, and that table as a union of tag 1 in slots 4 and 5.
 pub const MONSTER: [u8; 84] = [
     4, 0, 0, 0, 236, 255, 255, 255, 40, 0, 0, 0, 28, 0, 0, 0, 40, 0, 0, 0, 80, 0, 1, 0, 16, 0, 19,
     0, 16, 0, 4, 0, 0, 0, 8, 0, 18, 0, 12, 0, 1, 0, 0, 0, 12, 0, 0, 0, 3, 0, 0, 0, 79, 114, 99, 0,

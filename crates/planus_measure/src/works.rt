@@ -23,8 +23,8 @@ const NO_CACHES: Caches = Caches {
     hash_mask: 0,
 };
 
-/// One kind of operation. Sizes are in bytes. Where nothing else is said, the builder has no caches,
-/// and room for what is written.
+/// One kind of operation. Sizes are in bytes. Where nothing else is said, the builder has no
+/// caches, and room for what is written.
 #[derive(Clone, Copy)]
 pub enum Work {
     /// Texts whose sizes go round from the first number up to the second.

@@ -124,8 +124,8 @@ pub fn unions_are_answered<'buf, T: TableReadUnion<'buf>>()
 {}
 
 /// `access_union_vector` and `access_union_vector_required` return the vectors of unions of a table
-/// that was written: of two slots with the tags and the values of vectors of unions what `T` returns
-/// where both references are encoded, and of two slots that aren't used `None` and
+/// that was written: of two slots with the tags and the values of vectors of unions what `T`
+/// returns where both references are encoded, and of two slots that aren't used `None` and
 /// `MissingRequired`.
 pub fn union_vectors_are_answered<'buf, T: TableReadUnionVector<'buf>>()
     ensures { UnionVectorsRead T.reads }

@@ -10,8 +10,8 @@ use crate::slice_helpers::SliceWithStartOffset;
 use crate::traits::TableRead;
 
 /// Returns the first of the buffers with their sizes in front that these bytes are: the piece of as
-/// many bytes as the number of 4 bytes at the front says, which follow that number, and so with 4 as
-/// its start; and the bytes behind it. The piece begins with the reference to the root.
+/// many bytes as the number of 4 bytes at the front says, which follow that number, and so with 4
+/// as its start; and the bytes behind it. The piece begins with the reference to the root.
 ///
 /// [`ErrorKind::InvalidOffset`] where there are fewer than 4 bytes, and then
 /// [`ErrorKind::InvalidLength`] where fewer bytes follow the number than it says.

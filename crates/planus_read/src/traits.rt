@@ -28,10 +28,16 @@ pub trait ReadAsRoot<'a>: Sized {
 ///
 /// | Type | Errors |
 /// |---|---|
-/// | `u8` to `u64`, `i8` to `i64`, `bool` | [`ErrorKind::InvalidOffset`] where its bytes don't all lie in the piece |
-/// | `&str` | [`ErrorKind::InvalidOffset`] where the reference, what it leads to or the count doesn't lie in the piece; [`ErrorKind::MissingNullTerminator`] where no zero byte follows the text, or the text passes the end; [`ErrorKind::InvalidUtf8`] where its bytes aren't UTF-8 |
-/// | `&[u8]`, [`crate::SignedBytes`] | [`ErrorKind::InvalidOffset`] as of a text; [`ErrorKind::InvalidLength`] where the bytes pass the end |
-/// | [`crate::table_reader::Table`] | [`ErrorKind::InvalidOffset`], [`ErrorKind::InvalidVtableLength`] and [`ErrorKind::InvalidLength`], as its own `from_buffer` says |
+/// | `u8` to `u64`, `i8` to `i64`, `bool` | [`ErrorKind::InvalidOffset`] where its bytes don't all
+/// lie in the piece |
+/// | `&str` | [`ErrorKind::InvalidOffset`] where the reference, what it leads to or the count
+/// doesn't lie in the piece; [`ErrorKind::MissingNullTerminator`] where no zero byte follows the
+/// text, or the text passes the end; [`ErrorKind::InvalidUtf8`] where its bytes aren't UTF-8 |
+/// | `&[u8]`, [`crate::SignedBytes`] | [`ErrorKind::InvalidOffset`] as of a text;
+/// [`ErrorKind::InvalidLength`] where the bytes pass the end |
+/// | [`crate::table_reader::Table`] | [`ErrorKind::InvalidOffset`],
+/// [`ErrorKind::InvalidVtableLength`] and [`ErrorKind::InvalidLength`], as its own `from_buffer`
+/// says |
 /// | [`crate::Place`] | none |
 pub trait TableRead<'buf>: Sized {
     /// What may be returned for a piece with these bytes and this start at this offset.

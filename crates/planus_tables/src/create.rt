@@ -42,9 +42,9 @@ impl<'a, const N: usize, F: PreparedFields<N>, L: PreparedFields<N>> ObjectFill
 ///
 /// `N` is 4, and 2 for each slot up to the greatest. The fields come by falling alignment: numbers
 /// of eight bytes first, then references, unions and numbers of four bytes, those of two, and those
-/// of one. They are prepared in the same order; one that is marked `last` is written behind all that
-/// aren't, as the tags of unions are. No slot is used twice, and with all fields the table
-/// is at most 65535 bytes without its vtable. All this is computed of the types of the fields.
+/// of one. They are prepared in the same order; one that is marked `last` is written behind all
+/// that aren't, as the tags of unions are. No slot is used twice, and with all fields the table is
+/// at most 65535 bytes without its vtable. All this is computed of the types of the fields.
 ///
 /// A refusal is that of the first field that is refused, or else that of the table:
 /// [`BuildError::TooLarge`] where a part's place would be above 2147483647 bytes from the end, and

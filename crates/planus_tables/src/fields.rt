@@ -1,5 +1,6 @@
 //! The fields of a table, as they are handed in.
-ghost use Rattle.std.specs.Prelude.{◌≡◌, ℕ, List, [], ◌∷◌, ◌++◌, Result, Option as option, max, ⊤, refl};
+ghost use Rattle.std.specs.Prelude.{◌≡◌, ℕ, List, [], ◌∷◌, ◌++◌, Result, Option as option, max, ⊤};
+ghost use Rattle.std.specs.Prelude.{refl};
 ghost use Rattle.std.specs.Option.{option_map};
 ghost use Rattle.planus_write.specs.State.{State};
 ghost use Rattle.planus_write.specs.Preparing.{Answers, IsLawful};
@@ -39,8 +40,8 @@ use planus_write::{BuildError, Builder, List, Offset, Primitive};
 use std::marker::PhantomData;
 
 /// The fields of a table with `N` bytes for its vtable, in the order in which they are prepared and
-/// written: `()`, or a pair of one field and the others. The tags of unions, and fields that come last,
-/// are written behind all others, in the same order.
+/// written: `()`, or a pair of one field and the others. The tags of unions, and fields that come
+/// last, are written behind all others, in the same order.
 ///
 /// The ghost members `may` and `outcome` are as those of [`planus_write::WriteAsOffset`].
 pub trait Fields<const N: usize> {
@@ -56,8 +57,8 @@ pub trait Fields<const N: usize> {
     /// What the slots of those hold that come last.
     ghost last_contents: { Self → List (ℕ × option Content) };
 
-    /// The fields are prepared, one after another, behind those that were before; a refusal ends it.
-    /// Answered are all fields, one by one, each there or not, and then all that come last.
+    /// The fields are prepared, one after another, behind those that were before; a refusal ends
+    /// it. Answered are all fields, one by one, each there or not, and then all that come last.
     ghost in_turn: { Self → (ts ls : List (List (ℕ × Field))) → Outcome (List (List (ℕ × Field))) };
 
     ghost may: { Self → State → Type 0 };
@@ -168,7 +169,8 @@ where
         (R.Prepared.reach body.fields.1) (R.Last.reach body.last) same)
         V.is_lawful R.is_lawful };
 
-    ghost comes_in_turn = { both_come_in_turn V.outcome R.outcome (λ fields. fields.0.value) (λ fields. fields.1)
+    ghost comes_in_turn = { both_come_in_turn V.outcome R.outcome (λ fields. fields.0.value) (λ
+        fields. fields.1)
         (λ value body. body.fields.0.value ≡ value)
         (λ body. record { fields = body.fields.1; last = body.last })
         (λ value ts. ts ++ field_in SLOT V.Prepared.field value ∷ []) (λ value ls. ls)
@@ -232,7 +234,8 @@ where
         (R.Prepared.reach body.fields) (R.Last.reach body.last.1) same)
         V.is_lawful R.is_lawful };
 
-    ghost comes_in_turn = { both_come_in_turn V.outcome R.outcome (λ fields. fields.0.value) (λ fields. fields.1)
+    ghost comes_in_turn = { both_come_in_turn V.outcome R.outcome (λ fields. fields.0.value) (λ
+        fields. fields.1)
         (λ value body. body.last.0.value ≡ value)
         (λ body. record { fields = body.fields; last = body.last.1 })
         (λ value ts. ts) (λ value ls. ls ++ field_in SLOT V.Prepared.field value ∷ [])
@@ -308,7 +311,8 @@ impl<
         (R.Prepared.reach body.fields.1) (R.Last.reach body.last.1) same.0)
         V.is_lawful R.is_lawful };
 
-    ghost comes_in_turn = { both_come_in_turn V.outcome R.outcome (λ fields. fields.0.value) (λ fields. fields.1)
+    ghost comes_in_turn = { both_come_in_turn V.outcome R.outcome (λ fields. fields.0.value) (λ
+        fields. fields.1)
         (λ union body. (body.fields.0.value ≡ option_map (λ union. union.offset) union)
         × (body.last.0.value ≡ option_map (λ union. union.tag) union))
         (λ body. record { fields = body.fields.1; last = body.last.1 })
@@ -399,7 +403,8 @@ impl<
         (R.Prepared.reach body.fields.1.1) (R.Last.reach body.last) same.0 same.1)
         V.is_lawful R.is_lawful };
 
-    ghost comes_in_turn = { both_come_in_turn V.outcome R.outcome (λ fields. fields.0.value) (λ fields. fields.1)
+    ghost comes_in_turn = { both_come_in_turn V.outcome R.outcome (λ fields. fields.0.value) (λ
+        fields. fields.1)
         (λ vector body.
         (body.fields.0.value ≡ option_map (λ vector. record { 0 = vector.tags }) vector)
         × (body.fields.1.0.value ≡ option_map (λ vector. record { 0 = vector.values }) vector))

@@ -15,8 +15,8 @@ ghost use Rattle.planus_tables.specs.ReadVectors.{ValueVectorsReadBack};
 
 use planus_read::{Stride, TableRead, TableReadUnion};
 
-/// A table that is kept, as `create_table` says with `Ok`, stands in what was written, with all that
-/// it refers to.
+/// A table that is kept, as `create_table` says with `Ok`, stands in what was written, with all
+/// that it refers to.
 pub fn kept_tables_stand()
     ensures { KeptTablesStand }
 {}
@@ -26,18 +26,18 @@ pub fn finished_tables_stand<T>()
     ensures { FinishedTablesStand T }
 {}
 
-/// A table that stands is read as the root, where the reference at the front leads to it, as an item
-/// of a vector, where the item's reference does, and by any other reference that does, as that of a
-/// union: with all its contents, so that each slot holds what is said of it, or nothing.
+/// A table that stands is read as the root, where the reference at the front leads to it, as an
+/// item of a vector, where the item's reference does, and by any other reference that does, as that
+/// of a union: with all its contents, so that each slot holds what is said of it, or nothing.
 pub fn views_read_back<K>()
     ensures root { RootsReadBack K }
     ensures item { ItemsReadBack K }
     ensures reference { ReferencesReadBack K }
 {}
 
-/// What the calls of a table return of a slot, by what it holds, as a field that may be absent, that
-/// must be there, or that has a default: a text that is UTF-8, the slice of a byte list, a number, a
-/// truth value.
+/// What the calls of a table return of a slot, by what it holds, as a field that may be absent,
+/// that must be there, or that has a default: a text that is UTF-8, the slice of a byte list, a
+/// number, a truth value.
 pub fn fields_read_back()
     ensures texts { TextsReadBack }
     ensures byte_lists { ByteListsReadBack }
@@ -63,7 +63,8 @@ pub fn absent_fields_read_back<'buf, T: TableRead<'buf>>()
 {}
 
 /// What they return of a slot that holds a list: the vector of its items, plain ones or references.
-/// Of a list of values that was written with its table, such as texts, the references lead to these.
+/// Of a list of values that was written with its table, such as texts, the references lead to
+/// these.
 pub fn vectors_read_back<T: Stride>()
     ensures plain { PlainVectorsReadBack T.Stride }
     ensures references { ReferenceVectorsReadBack T.Stride }

@@ -20,8 +20,8 @@ use planus_write::{ObjectWriter, Primitive, TableWriter};
 /// the others.
 ///
 /// The ghost member `all` has the entries of all fields that may be there, and `there` the fields
-/// that are, in order, each with its slot. `reach` is how far from the end of the buffer they refer,
-/// in bytes.
+/// that are, in order, each with its slot. `reach` is how far from the end of the buffer they
+/// refer, in bytes.
 pub trait PreparedFields<const N: usize> {
     ghost all: { List Declared };
 
@@ -29,9 +29,9 @@ pub trait PreparedFields<const N: usize> {
 
     ghost reach: { Self → ℕ };
 
-    /// Declares the fields that are there. The slots of all that may be there lie in the vtable, are
-    /// apart, and nothing is declared for them yet; with all of them the object is at most 65535
-    /// bytes. For any other slot nothing is declared.
+    /// Declares the fields that are there. The slots of all that may be there lie in the vtable,
+    /// are apart, and nothing is declared for them yet; with all of them the object is at most
+    /// 65535 bytes. For any other slot nothing is declared.
     fn declare(&self, writer: &mut TableWriter<N>)
         requires small { N ≤ 65534 }
         requires slots { IsTrue (has_slots N all) }

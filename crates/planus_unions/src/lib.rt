@@ -1,5 +1,5 @@
-//! Views of vectors of unions in a buffer, under their names in planus: their items and sub-views by
-//! index, and iterators from both ends.
+//! Views of vectors of unions in a buffer, under their names in planus: their items and sub-views
+//! by index, and iterators from both ends.
 #![tactic(auto)]
 
 pub mod laws;

@@ -234,8 +234,8 @@ where
     ghost use Rattle.planus_view.specs.Vectors.{count_in, IsSubVector, IsItemIn};
 
     /// Returns all items, converted in order, or the first refusal: that of a conversion, or, of a
-    /// vector of unions, [`CopyError::Read`] of an item that can't be read. Memory for them is asked
-    /// for once, before the first is read: [`CopyError::OutOfMemory`] where there is none.
+    /// vector of unions, [`CopyError::Read`] of an item that can't be read. Memory for them is
+    /// asked for once, before the first is read: [`CopyError::OutOfMemory`] where there is none.
     pub fn to_vec<'n, O: Drop>(&self, alloc: Global) -> Result<Vec<O>, CopyError<'n>>
     where
         V::Copied: Conversion<V::Item, O>,

@@ -1,5 +1,6 @@
 //! The builder.
-ghost use Rattle.std.specs.Prelude.{◌≡◌, ◌+◌, ◌≤◌, ◌^◌, [], length, IsTrue, ◌↔◌, IfOk, IfErr, ℕ, Some};
+ghost use Rattle.std.specs.Prelude.{◌≡◌, ◌+◌, ◌≤◌, ◌^◌, [], length, IsTrue, ◌↔◌, IfOk, IfErr, ℕ};
+ghost use Rattle.std.specs.Prelude.{Some};
 ghost use Rattle.std.specs.Prelude.{pos, ◌-ℤ◌};
 ghost use Rattle.std.specs.Int.{w32, to_le_bytes, cast_unsigned};
 ghost use Rattle.planus_back.specs.Promises.{IsPowerOfTwo};
@@ -20,6 +21,12 @@ use std::alloc::Global;
 use std::marker::Model;
 
 /// Writes flatbuffers from the back, and names each value by its distance from the end.
+///
+/// ```text
+/// let mut builder = Builder::new(rt.alloc()).map_err(refused)?;
+/// let text = builder.create_string("Axe").map_err(refused)?;
+/// let bytes = builder.finish(text, None).map_err(refused)?;
+/// ```
 ///
 /// Equal texts, byte lists and vtables are written once, as far as its [`Caches`] say: the second
 /// one since the last clear gets the distance of the first. Nothing is written then, and no memory
@@ -60,7 +67,7 @@ impl Builder {
     ghost use Rattle.planus_write.specs.Finishing.{WritesSizedRoot};
     ghost use Rattle.planus_read.specs.SizePrefixed.{IsPrefixed};
 
-    /// An empty builder, which writes equal texts, byte lists and vtables once;
+    /// Returns an empty builder, which writes equal texts, byte lists and vtables once;
     /// [`BuildError::OutOfMemory`] where memory is refused.
     pub fn new(alloc: Global) -> Result<Builder, BuildError>
         ensures past { IfOk result (λ builder. IsPast builder no_past) }
@@ -70,7 +77,7 @@ impl Builder {
         Builder::with_capacity(alloc, 0)
     }
 
-    /// The same with room for `capacity` bytes.
+    /// Returns the same with room for `capacity` bytes.
     pub fn with_capacity(alloc: Global, capacity: usize) -> Result<Builder, BuildError>
         ensures past { IfOk result (λ builder. IsPast builder no_past) }
         ensures room { IfOk result (λ builder. capacity ≤ builder.room) }
@@ -80,8 +87,8 @@ impl Builder {
         Builder::with_caches(alloc, capacity, Caches::all())
     }
 
-    /// An empty builder with room for `capacity` bytes, which writes equal contents once where
-    /// `caches` says so; [`BuildError::OutOfMemory`] where memory is refused.
+    /// Returns an empty builder with room for `capacity` bytes, which writes equal contents once
+    /// where `caches` says so; [`BuildError::OutOfMemory`] where memory is refused.
     pub fn with_caches(
         alloc: Global,
         capacity: usize,
@@ -100,7 +107,7 @@ impl Builder {
         })
     }
 
-    /// The number of bytes.
+    /// Returns the number of bytes.
     #[inline]
     pub fn len(&self) -> usize
         ensures { result ≡ length self.now.bytes }
@@ -108,7 +115,7 @@ impl Builder {
         self.backing.len()
     }
 
-    /// Whether nothing is written.
+    /// Returns whether nothing is written.
     #[inline]
     pub fn is_empty(&self) -> bool
         ensures { IsTrue result ↔ (self.now.bytes ≡ []) }
@@ -116,7 +123,7 @@ impl Builder {
         self.len() == 0
     }
 
-    /// The bytes.
+    /// Returns the bytes.
     #[inline]
     pub fn as_slice(&self) -> &[u8]
         ensures { result.now ≡ self.now.bytes }
@@ -124,7 +131,7 @@ impl Builder {
         self.backing.as_slice()
     }
 
-    /// How many more bytes fit in front without memory.
+    /// Returns how many more bytes fit in front without memory.
     #[inline]
     pub fn room(&self) -> usize
         ensures { result ≡ self.now.room }
@@ -132,7 +139,7 @@ impl Builder {
         self.backing.room()
     }
 
-    /// The offset of what was written last: it begins at the front of the bytes.
+    /// Returns the offset of what was written last: it begins at the front of the bytes.
     #[inline]
     pub fn current_offset<T>(&self) -> Offset<T>
         ensures { result.distance ≡ length self.now.bytes }
@@ -140,8 +147,8 @@ impl Builder {
         Offset::at(self.backing.len() as u32)
     }
 
-    /// Whether an offset lies in the bytes, as one does that this builder returned since the last
-    /// clear: it may be referred to.
+    /// Returns whether an offset lies in the bytes, as one does that this builder returned since
+    /// the last clear: it may be referred to.
     #[inline]
     pub fn has<T>(&self, offset: &Offset<T>) -> bool
         ensures { IsTrue result ↔ IsIn self.now offset.now }
@@ -149,7 +156,7 @@ impl Builder {
         offset.distance() as usize <= self.len()
     }
 
-    /// Says, to a caller who was handed a builder, that something may have been written: clauses
+    /// Says, to a caller whose argument is a builder, that something may have been written: clauses
     /// that speak of every past of a builder speak of one. It does nothing.
     #[inline]
     pub fn has_a_past(&self)
@@ -158,7 +165,7 @@ impl Builder {
         let _backing = &self.backing;
     }
 
-    /// Takes all bytes and promises away, and forgets which contents were written. The memory of
+    /// Removes all bytes and promises, and forgets which contents were written. The memory of
     /// the bytes is kept, so that there is room for as many bytes more.
     pub fn clear(&mut self)
         ensures past { IsPast self.new no_past }
@@ -298,8 +305,8 @@ impl Builder {
     }
 
     /// Writes a part as [`Builder::write_with`] does, under the same conditions, but by a writer of
-    /// all its `size` bytes, whatever stood there before: nothing is zeroed first. A refusal is that
-    /// of [`Builder::write_with`].
+    /// all its `size` bytes, whatever stood there before: nothing is zeroed first. A refusal is
+    /// that of [`Builder::write_with`].
     #[inline]
     pub fn write_over<W: Overwrite>(
         &mut self,
@@ -343,8 +350,8 @@ impl Builder {
     /// Writes a list: the items are prepared in order and written as one part, aligned as they are
     /// but at least to 4 bytes, and then the count of 4 bytes in front of them; or a byte list, as
     /// one part of a count and the bytes, unless an equal byte list is found. Returns its offset.
-    /// Nothing is written for an offset; each offset that is handed in must be one that this builder
-    /// returned since the last clear.
+    /// Nothing is written for an offset; each offset among the arguments must be one that this
+    /// builder returned since the last clear.
     ///
     /// [`BuildError::TooLarge`] where a part's place would be above 2147483647 bytes from the end;
     /// [`BuildError::OutOfMemory`] where memory for the prepared items is refused, which numbers,
@@ -361,10 +368,10 @@ impl Builder {
         list.prepare(self)
     }
 
-    /// Writes a vector of unions: they are prepared in order, and their references are written as one
-    /// part, aligned to 4 bytes, with a count of 4 bytes in front of them, and then their tags in
-    /// the same way. Returns the offsets of both vectors. Nothing is written for these offsets; each
-    /// offset among them must be one that this builder returned since the last clear.
+    /// Writes a vector of unions: they are prepared in order, and their references are written as
+    /// one part, aligned to 4 bytes, with a count of 4 bytes in front of them, and then their tags
+    /// in the same way. Returns the offsets of both vectors. Nothing is written for these offsets;
+    /// each offset among them must be one that this builder returned since the last clear.
     ///
     /// A refusal is that of [`Builder::create_vector`].
     pub fn create_union_vector<T, X: WriteAsUnionVector<T> + Drop>(
@@ -385,8 +392,8 @@ impl Builder {
     /// Writing may go on afterwards, and finish again.
     ///
     /// [`BuildError::TooLarge`] and [`BuildError::OutOfMemory`] as where the root is prepared
-    /// ([`WriteAsOffset::prepare`]), and then as in [`Builder::write_with`]. A root that was written
-    /// for this call stays then; the reference and the identifier leave nothing behind.
+    /// ([`WriteAsOffset::prepare`]), and then as in [`Builder::write_with`]. A root that was
+    /// written for this call stays then; the reference and the identifier leave nothing behind.
     pub fn finish<T, X: WriteAsOffset<T> + Drop>(
         &mut self,
         root: X,
@@ -406,8 +413,8 @@ impl Builder {
     /// Prepares the root, and puts in front of everything a number of 4 bytes, which says how many
     /// bytes follow it, behind that the root's reference, and behind that the file identifier, if
     /// there is one. Every part since the last clear then stands aligned from that number on.
-    /// Returns all bytes, which can stand in front of others in a stream. An offset as the root must
-    /// be one that this builder returned since the last clear.
+    /// Returns all bytes, which can stand in front of others in a stream. An offset as the root
+    /// must be one that this builder returned since the last clear.
     ///
     /// Writing may go on afterwards, and finish again.
     ///

@@ -18,7 +18,8 @@ pub struct Caches {
 }
 
 impl Caches {
-    /// Equal contents of every kind are written once, and all bits of their hashes are used.
+    /// Returns that equal contents of every kind are written once, and all bits of their hashes are
+    /// used.
     pub const fn all() -> Caches
         ensures vtables { result.vtables ≡ true }
         ensures texts { result.texts ≡ true }

@@ -61,7 +61,8 @@ fn prepare_items<P: Primitive, T: VectorWrite<P>>(
     items: &[T],
 ) -> Result<Vec<T::Value>, BuildError>
     requires { AllMay T.may items.now builder.old }
-    ensures prepared { PreparesItems T.outcome items.now builder.old (prepared_list result) builder.new }
+    ensures prepared { PreparesItems T.outcome items.now builder.old (prepared_list result)
+        builder.new }
     ensures reached { IfOk result (λ values.
         AllByRecursion (λ value. T.Value.reach value ≤ length builder.new.bytes) values.items) }
 {

@@ -35,7 +35,7 @@ impl<'a> ObjectWriter<'a> {
         }
     }
 
-    /// The number of bytes that are still to be written.
+    /// Returns the number of bytes that are still to be written.
     #[inline]
     pub fn remaining(&self) -> usize
         ensures { result ≡ (body_of self.now).remaining }

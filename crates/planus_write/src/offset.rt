@@ -45,8 +45,8 @@ impl<T> Offset<T> {
         }
     }
 
-    /// The distance in bytes from the end of the buffer to the value's first byte; the last byte of
-    /// a buffer has distance 1.
+    /// Returns the distance in bytes from the end of the buffer to the value's first byte; the last
+    /// byte of a buffer has distance 1.
     #[inline]
     pub fn distance(&self) -> u32
         ensures { result ≡ self.now.distance }
@@ -54,7 +54,7 @@ impl<T> Offset<T> {
         self.distance
     }
 
-    /// The same offset, with its kind forgotten.
+    /// Returns the same offset, with its kind forgotten.
     #[inline]
     pub fn downcast(&self) -> Offset<()>
         ensures { result.distance ≡ self.now.distance }

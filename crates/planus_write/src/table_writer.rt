@@ -3,7 +3,8 @@ ghost use Rattle.std.specs.Prelude.{◌≡◌, ◌+◌, ◌≤◌, ◌++◌, ℕ
 ghost use Rattle.std.specs.Int.{w16, to_le_bytes};
 ghost use Rattle.planus_read.specs.Bytes.{BytesStand};
 ghost use Rattle.planus_write.specs.Tables.{Declared};
-ghost use Rattle.planus_write.specs.TableWriting.{WasTold, WritesTable, slot_position, blank, with_entry};
+ghost use Rattle.planus_write.specs.TableWriting.{WasTold, WritesTable, slot_position, blank};
+ghost use Rattle.planus_write.specs.TableWriting.{with_entry};
 
 use crate::builder::Builder;
 use crate::errors::BuildError;
@@ -80,7 +81,7 @@ impl<'a, F: ObjectFill> Overwrite for Body<'a, F> {
 }
 
 impl<const N: usize> TableWriter<N> {
-    /// Says, to a caller who was handed a writer, that it was told some list of entries: clauses
+    /// Says, to a caller whose argument is a writer, that it was told some list of entries: clauses
     /// that speak of every such list speak of one, where `N` is at least 4. It does nothing.
     #[inline]
     pub fn was_told(&self)
@@ -91,9 +92,9 @@ impl<const N: usize> TableWriter<N> {
 
     /// Declares a field for a slot.
     ///
-    /// The slot's two bytes lie in the first `N` bytes of a vtable and in 65534, nothing is declared
-    /// for it yet, and the object is at most 65535 bytes with the field. For the fields to stand
-    /// aligned, no field's alignment is above that of the field before it.
+    /// The slot's two bytes lie in the first `N` bytes of a vtable and in 65534, nothing is
+    /// declared for it yet, and the object is at most 65535 bytes with the field. For the fields to
+    /// stand aligned, no field's alignment is above that of the field before it.
     #[inline]
     pub fn write_entry<P: Primitive>(&mut self, slot: usize)
         requires inside { slot_position slot + 2 ≤ N }
@@ -127,9 +128,9 @@ impl<const N: usize> TableWriter<N> {
     /// lies in the builder's bytes.
     ///
     /// [`BuildError::TooLarge`] where a part's place would be above 2147483647 bytes from the end;
-    /// [`BuildError::OutOfMemory`] where a part doesn't fit [`Builder::room`] and memory is refused,
-    /// or memory to find the vtable again is. What was written before the refused write stays, and
-    /// nothing after it is begun.
+    /// [`BuildError::OutOfMemory`] where a part doesn't fit [`Builder::room`] and memory is
+    /// refused, or memory to find the vtable again is. What was written before the refused write
+    /// stays, and nothing after it is begun.
     pub fn finish<F: ObjectFill>(self, builder: &mut Builder, filler: &F) -> Result<(), BuildError>
         requires enough { 4 ≤ N }
         requires size { F.size filler.now + 4 ≡ self.object_size }

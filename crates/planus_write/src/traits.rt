@@ -7,6 +7,7 @@ ghost use Rattle.planus_write.specs.State.{State};
 ghost use Rattle.planus_write.specs.declared.errors.BuildError.{BuildError};
 ghost use Rattle.planus_write.specs.declared.offset.Offset.{Offset};
 ghost use Rattle.planus_write.specs.declared.union_offset.UnionOffset.{UnionOffset};
+ghost use Rattle.planus_write.specs.declared.union_vector_offset.UnionVectorOffset.{};
 ghost use Rattle.planus_write.specs.declared.union_vector_offset.UnionVectorOffset.{UnionVectorOffset};
 ghost use Rattle.planus_write.specs.Unions.{union_reach, union_vector_reach};
 
@@ -69,10 +70,10 @@ pub trait WriteAsOffset<T> {
     /// Writes the value, if it isn't an offset already, and returns its offset.
     ///
     /// [`BuildError::TooLarge`] where a part's place would be above 2147483647 bytes from the end;
-    /// [`BuildError::OutOfMemory`] where memory is refused: for the prepared items of a list, unless
-    /// they need no preparing, for a part that doesn't fit the builder's room, or to find contents
-    /// again that are shared. A refusal leaves what was written before it, and nothing of the refused
-    /// write.
+    /// [`BuildError::OutOfMemory`] where memory is refused: for the prepared items of a list,
+    /// unless they need no preparing, for a part that doesn't fit the builder's room, or to find
+    /// contents again that are shared. A refusal leaves what was written before it, and nothing of
+    /// the refused write.
     fn prepare(&self, builder: &mut Builder) -> std::result::Result<Offset<T>, BuildError>
         requires { may self.now builder.old }
         ensures { outcome self.now builder.old result builder.new };
@@ -146,8 +147,8 @@ pub trait VectorWrite<P: Primitive>: Sized {
         ensures { outcome self.now builder.old result builder.new };
 
     /// Returns the items themselves where each of them is what stands in the list, as a number, a
-    /// truth value and an offset are: preparing them does nothing, and a list asks for no memory for
-    /// prepared ones. `None` where items are to be prepared.
+    /// truth value and an offset are: preparing them does nothing, and a list asks for no memory
+    /// for prepared ones. `None` where items are to be prepared.
     #[inline]
     fn as_prepared(items: &[Self]) -> Option<&[Self::Value]>
         ensures { IfSome result (λ values. (old : State) → AllMay may items.now old

@@ -30,7 +30,7 @@ impl<T> Copy for UnionOffset<T> {}
 impl<T> UnionOffset<T> {
     ghost use Rattle.std.specs.Prelude.{◌≡◌};
 
-    /// The union of a tag, which is above 0 in a field, and the offset of its value.
+    /// Returns the union of a tag, which is above 0 in a field, and the offset of its value.
     #[inline]
     pub fn new(tag: u8, offset: Offset<()>) -> UnionOffset<T>
         ensures tag { result.tag ≡ tag }
@@ -43,7 +43,7 @@ impl<T> UnionOffset<T> {
         }
     }
 
-    /// The tag of the variant.
+    /// Returns the tag of the variant.
     #[inline]
     pub fn tag(&self) -> u8
         ensures { result ≡ self.now.tag }
@@ -51,7 +51,7 @@ impl<T> UnionOffset<T> {
         self.tag
     }
 
-    /// The offset of the variant's value.
+    /// Returns the offset of the variant's value.
     #[inline]
     pub fn offset(&self) -> Offset<()>
         ensures { result ≡ self.now.offset }

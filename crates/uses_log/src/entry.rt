@@ -36,7 +36,8 @@ pub struct Entry;
 /// An entry in a buffer.
 pub type EntryRef<'a> = TableRef<'a, Entry>;
 
-/// What an entry has, as `Entry::create` takes it. Its origin, its cause and its parents are written already.
+/// What an entry has, as `Entry::create` takes it. Its origin, its cause and its parents are
+/// written already.
 #[derive(Drop)]
 pub struct EntryFields<'a> {
     pub at: u64,
@@ -117,8 +118,8 @@ impl Entry {
         entry.table.access::<OriginRef<'a>>(4, "Entry", "origin")
     }
 
-    /// Returns why it is there, or `None` where nothing is said of it. Where the entry holds an origin
-    /// that stands in the bytes, it is that origin.
+    /// Returns why it is there, or `None` where nothing is said of it. Where the entry holds an
+    /// origin that stands in the bytes, it is that origin.
     pub fn cause<'a>(entry: &EntryRef<'a>) -> Result<Option<CauseRef<'a>>>
         ensures read_back { (B : list ℕ) (contents : list (ℕ × option Content))
             (cause : UnionOffset Cause) → cause.tag ≡ 2

@@ -1,6 +1,7 @@
 //! How grave an entry is.
 
-/// How grave an entry is, of the schema `enum Level : uint8 { Info, Warning, Fault }`, by its number.
+/// How grave an entry is, of the schema `enum Level : uint8 { Info, Warning, Fault }`, by its
+/// number.
 #[derive(Clone, Copy, Debug, PartialEq)]
 pub struct Level(pub u8);
 

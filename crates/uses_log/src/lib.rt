@@ -1,4 +1,5 @@
-//! A log: entries of eight fields of mixed kinds, written from a list of their fields, and read back.
+//! A log: entries of eight fields of mixed kinds, written from a list of their fields, and read
+//! back.
 #![tactic(auto)]
 
 mod cause;

@@ -66,7 +66,8 @@ impl Ship {
         create_table::<Ship, 10, _>(builder, fields)
     }
 
-    /// Returns the name. Its errors are those of a field `&str` that must be there. Where the ship holds a text that is UTF-8 as its name, it is that text.
+    /// Returns the name. Its errors are those of a field `&str` that must be there. Where the ship
+    /// holds a text that is UTF-8 as its name, it is that text.
     pub fn name<'a>(ship: &ShipRef<'a>) -> Result<&'a str>
         ensures answer { Located (Required (FieldAnswer reads_text ship.now.table 0))
             (codes "Ship") (codes "name") (table_start ship.now.table) result }
@@ -77,8 +78,8 @@ impl Ship {
         ship.table.access_required::<&str>(0, "Ship", "name")
     }
 
-    /// Returns the hull, 100 where there is none. Its errors are those of a field `u16`. Where the ship holds a number as its hull, it is
-    /// that number.
+    /// Returns the hull, 100 where there is none. Its errors are those of a field `u16`. Where the
+    /// ship holds a number as its hull, it is that number.
     pub fn hull(ship: &ShipRef<'_>) -> Result<u16>
         ensures answer { Located (OrElse 100 (FieldAnswer (reads_unsigned w16) ship.now.table 1))
             (codes "Ship") (codes "hull") (table_start ship.now.table) result }

@@ -228,8 +228,8 @@ fn item_is<T: Item>(item: Option<T>, spot: Spot<'_>) -> bool {
 }
 
 // Whether the items of a vector are those of the plain one by each way to come to them: by their
-// position, from the front, and from the back. One that is taken from the front is read in the piece
-// that begins with it.
+// position, from the front, and from the back. One that is taken from the front is read in the
+// piece that begins with it.
 fn items_agree<'a, T: VectorRead<'a> + Item>(
     vector: Vector<'a, T>,
     plain: PlainList,

@@ -132,8 +132,8 @@ fn written_again(builder: &mut Builder) -> bool {
 }
 
 // Whether a builder with room refuses contents that are new where there is no memory for their
-// entries, and writes them once there is; nothing where memory was left. All have one hash, of which
-// the first distance takes no block of memory, and the second does.
+// entries, and writes them once there is; nothing where memory was left. All have one hash, of
+// which the first distance takes no block of memory, and the second does.
 fn entries_are_refused(alloc: Global) -> Result<Option<bool>, BuildError> {
     let mut builder = Builder::with_caches(alloc, 256, Switches::of(7).caches(0))?;
     let first = are_at(write_three(&mut builder, "Axe", false), [8, 16, 32]);

@@ -57,8 +57,8 @@ fn full_table(alloc: Global, named: Named) -> Result<Step, AllocError> {
     Ok(Step::Table(fields))
 }
 
-// Adds a list of numbers, `count` references to it, as many unions of it, and a table that refers to
-// all of them.
+// Adds a list of numbers, `count` references to it, as many unions of it, and a table that refers
+// to all of them.
 fn push_lists(
     alloc: Global,
     steps: &mut Vec<Step>,

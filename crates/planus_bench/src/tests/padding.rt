@@ -30,7 +30,8 @@ fn request(
 
 // The product of the alignments, where the plain program may be asked about such promises.
 fn checked_period(len: usize, promises: &[(usize, usize)]) -> Option<usize>
-    ensures { IfSome result (λ p. AlignmentsAboveZero promises.now × DistancesWithin len promises.now × (p ≡ period promises.now)) }
+    ensures { IfSome result (λ p. AlignmentsAboveZero promises.now × DistancesWithin len
+        promises.now × (p ≡ period promises.now)) }
 {
     match promises {
         [] => Some(1),

@@ -31,7 +31,8 @@ fn places(parts: &[Part; 3], paddings: [usize; 3]) -> Places {
     places
 }
 
-// Whether some length keeps all parts aligned: one of eight in a row, since no alignment is greater.
+// Whether some length keeps all parts aligned: one of eight in a row, since no alignment is
+// greater.
 fn is_kept(parts: &[Part; 3], places: Places) -> bool {
     for more in 0..8usize {
         let len = places[2].wrapping_add(more);

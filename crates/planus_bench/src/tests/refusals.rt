@@ -31,8 +31,8 @@ fn is_refused(
     Ok(if exhausted { Some(refused) } else { None })
 }
 
-// What a call comes to in a new builder with so many bytes of memory, and with all of it where it is
-// refused.
+// What a call comes to in a new builder with so many bytes of memory, and with all of it where it
+// is refused.
 fn outcome_with(alloc: Global, call: Call, spare: usize) -> Result<Option<Outcome>, BuildError> {
     let mut builder = Builder::new(alloc)?;
     prepare(&mut builder, call)?;
@@ -123,8 +123,8 @@ fn other_with(
     Ok((exhausted, made))
 }
 
-// At how many turns, each with so many bytes more, such a call is refused before it is made, where it
-// is always made again with memory; nothing where memory was left.
+// At how many turns, each with so many bytes more, such a call is refused before it is made, where
+// it is always made again with memory; nothing where memory was left.
 fn refusals_of(
     alloc: Global,
     other: Other,

@@ -73,8 +73,8 @@ pub fn two_references(named: Named) -> [FieldValue; 2] {
     }
 }
 
-// A table of at most six fields: numbers, and references. The slots are `apart` from each other, and
-// the fields are declared from the greatest slot on.
+// A table of at most six fields: numbers, and references. The slots are `apart` from each other,
+// and the fields are declared from the greatest slot on.
 pub fn table(alloc: Global, named: Named, count: usize, apart: u16) -> Result<Step, AllocError> {
     let mut fields = Vec::new(alloc);
     let [first, second] = two_references(named);
@@ -209,7 +209,8 @@ fn mixed_steps(alloc: Global, count: usize) -> Result<Vec<Step>, AllocError> {
     Ok(steps)
 }
 
-// The numbers of clears, of finishes without an identifier, of those with one, and of vectors of unions.
+// The numbers of clears, of finishes without an identifier, of those with one, and of vectors of
+// unions.
 pub fn counts(steps: &[Step]) -> (usize, usize, usize, usize) {
     let mut counts: (usize, usize, usize, usize) = (0, 0, 0, 0);
     for step in steps {

@@ -6,8 +6,8 @@ use planus::{Caches, Field, FieldValue, Finished, Step, StepPlace, replay};
 use std::alloc::{AllocError, Global};
 use std::test::Fail;
 
-// A table at 4 with its vtable at 16. Slots 0 and 1 hold a vector of two unions, of tags 1 and 2 and
-// the texts `A` and `B`.
+// A table at 4 with its vtable at 16. Slots 0 and 1 hold a vector of two unions, of tags 1 and 2
+// and the texts `A` and `B`.
 const TWO_TEXTS: [u8; 58] = [
     4, 0, 0, 0, 0xf4, 0xff, 0xff, 0xff, 16, 0, 0, 0, 20, 0, 0, 0, 8, 0, 12, 0, 4, 0, 8, 0, 2, 0, 0,
     0, 1, 2, 0, 0, 2, 0, 0, 0, 16, 0, 0, 0, 4, 0, 0, 0, 1, 0, 0, 0, b'B', 0, 0, 0, 1, 0, 0, 0,

@@ -180,7 +180,8 @@ fn limits(rt: HostRuntime) -> Result<(), Fail> {
     Ok(())
 }
 
-// Without memory nothing is read. The input, and `out of memory`, fit in 4 MiB, and the lines don't.
+// Without memory nothing is read. The input, and `out of memory`, fit in 4 MiB, and the lines
+// don't.
 #[test]
 fn refused_memory(rt: HostRuntime) -> Result<(), Fail> {
     let schema = nodes(rt.alloc())?;

@@ -149,8 +149,8 @@ impl Write for OddWriter {
     }
 }
 
-// Whether such a run, or dump, answers this whose k-th write does something else, and writes so many
-// bytes.
+// Whether such a run, or dump, answers this whose k-th write does something else, and writes so
+// many bytes.
 fn writes(
     alloc: Global,
     schema: Option<&Schema>,

@@ -261,8 +261,8 @@ enum Part {
     // The texts, the last one first.
     Text { last: usize },
     Number,
-    // A reference to a text. The first of them is this one, and each stands four bytes nearer to the
-    // end than the one before, and its text 48 bytes further.
+    // A reference to a text. The first of them is this one, and each stands four bytes nearer to
+    // the end than the one before, and its text 48 bytes further.
     Reference { first: usize },
     Tag,
     // The offset of a field of one byte.

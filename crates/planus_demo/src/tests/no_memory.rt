@@ -20,8 +20,8 @@ fn exhaust_but(alloc: Global, held: &mut Vec<Vec<u8>>, spare: usize) -> Result<b
     Ok(exhausted)
 }
 
-// Runs a script, or with a schema dumps bytes, while all memory but so many bytes is taken, and adds
-// what it prints. Tells whether the memory was taken, and the answer.
+// Runs a script, or with a schema dumps bytes, while all memory but so many bytes is taken, and
+// adds what it prints. Tells whether the memory was taken, and the answer.
 fn ran_without_memory(
     alloc: Global,
     schema: Option<&Schema>,
@@ -143,8 +143,8 @@ enum Turn {
     Wrong,
 }
 
-// Writes an axe with so many bytes of memory. Tells whether it was refused; nothing where memory was
-// left.
+// Writes an axe with so many bytes of memory. Tells whether it was refused; nothing where memory
+// was left.
 fn axe_is_refused(
     alloc: Global,
     builder: &mut Builder,
@@ -181,8 +181,8 @@ fn axe_with(alloc: Global, spare: usize) -> Result<Turn, BuildError> {
     })
 }
 
-// What a run of the script gives with so many bytes of memory, and adds what it prints. Tells whether
-// the memory was taken.
+// What a run of the script gives with so many bytes of memory, and adds what it prints. Tells
+// whether the memory was taken.
 fn ran_with(
     alloc: Global,
     spare: usize,

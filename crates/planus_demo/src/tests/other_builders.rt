@@ -1,5 +1,5 @@
-//! Buffers that other builders wrote, of flatc 2.0.8 from JSON, of C++ by its generated functions, and
-//! of Python by `flatbuffers.Builder`. Their vtables stand in front of their tables.
+//! Buffers that other builders wrote, of flatc 2.0.8 from JSON, of C++ by its generated functions,
+//! and of Python by `flatbuffers.Builder`. Their vtables stand in front of their tables.
 
 use super::weapon::is_weapon;
 use crate::equipment_ref::EquipmentRef;

@@ -19,7 +19,8 @@ impl<P: Primitive, T: VectorWrite<P>, const N: usize> WriteAs<Offset<List<P>>> f
 
     ghost may = { λ items old. AllMay T.may items old };
 
-    ghost outcome = { λ items old answer new. WritesList T.outcome T.Value.leaves P.SIZE P.ALIGNMENT items old answer new };
+    ghost outcome = { λ items old answer new.
+        WritesList T.outcome T.Value.leaves P.SIZE P.ALIGNMENT items old answer new };
 
     #[inline]
     fn prepare(&self, builder: &mut Builder) -> Result<Offset<List<P>>, BuildError> {
@@ -34,14 +35,16 @@ impl<P: Primitive, T: VectorWrite<P>, const N: usize> WriteAsOptional<Offset<Lis
 
     ghost may = { λ items old. AllMay T.may items old };
 
-    ghost outcome = { λ items old answer new. AlwaysWritten (WritesList T.outcome T.Value.leaves P.SIZE P.ALIGNMENT items) old answer new };
+    ghost outcome = { λ items old answer new.
+        AlwaysWritten (WritesList T.outcome T.Value.leaves P.SIZE P.ALIGNMENT items) old answer new };
 
     #[inline]
     fn prepare(&self, builder: &mut Builder) -> Result<Option<Offset<List<P>>>, BuildError> {
         Ok(Some(WriteAsOffset::prepare(self, builder)?))
     }
 
-    ghost is_lawful = { left_out_is_lawful (λ items. ⊥) (list_is_lawful P.SIZE P.ALIGNMENT (λ items. items) T.is_lawful) };
+    ghost is_lawful = { left_out_is_lawful (λ items. ⊥) (list_is_lawful P.SIZE P.ALIGNMENT (λ items.
+        items) T.is_lawful) };
 }
 
 impl<T, U: WriteAsUnion<T>, const N: usize> WriteAsDefaultUnionVector<T> for [U; N] {

@@ -41,7 +41,8 @@ impl<P: Primitive, D, T: WriteAsDefault<P, D>> WriteAsDefault<P, D> for Box<T> {
 
     ghost may = { λ boxed old. T.may boxed.value old };
 
-    ghost outcome = { λ boxed default old answer new. T.outcome boxed.value default old answer new };
+    ghost outcome = { λ boxed default old answer new.
+        T.outcome boxed.value default old answer new };
 
     #[inline]
     fn prepare(

@@ -44,7 +44,8 @@ impl<'a, P: Primitive, D, T: WriteAsDefault<P, D>> WriteAsDefault<P, D> for ByRe
 
     ghost may = { λ by_ref old. T.may by_ref.0.now old };
 
-    ghost outcome = { λ by_ref default old answer new. T.outcome by_ref.0.now default old answer new };
+    ghost outcome = { λ by_ref default old answer new.
+        T.outcome by_ref.0.now default old answer new };
 
     #[inline]
     fn prepare(

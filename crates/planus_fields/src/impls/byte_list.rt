@@ -28,14 +28,16 @@ impl<'a> WriteAsOptional<Offset<List<u8>>> for ByteList<'a> {
 
     ghost may = { λ list old. ⊤ };
 
-    ghost outcome = { λ list old answer new. AlwaysWritten (WritesByteList list.0.now) old answer new };
+    ghost outcome = { λ list old answer new.
+        AlwaysWritten (WritesByteList list.0.now) old answer new };
 
     #[inline]
     fn prepare(&self, builder: &mut Builder) -> Result<Option<Offset<List<u8>>>, BuildError> {
         Ok(Some(WriteAsOffset::prepare(self, builder)?))
     }
 
-    ghost is_lawful = { left_out_is_lawful (λ list. ⊥) (entry_is_lawful (λ list. byte_list_entry list.0.now)) };
+    ghost is_lawful = { left_out_is_lawful (λ list. ⊥) (entry_is_lawful (λ list. byte_list_entry
+        list.0.now)) };
 }
 
 impl<'a> WriteAsDefault<Offset<List<u8>>, ()> for ByteList<'a> {
@@ -59,5 +61,6 @@ impl<'a> WriteAsDefault<Offset<List<u8>>, ()> for ByteList<'a> {
     }
 
     ghost is_lawful = { λ default.
-        left_out_is_lawful (λ list. list.0.now ≡ []) (entry_is_lawful (λ list. byte_list_entry list.0.now)) };
+        left_out_is_lawful (λ list. list.0.now ≡ []) (entry_is_lawful (λ list. byte_list_entry
+        list.0.now)) };
 }

@@ -14,14 +14,16 @@ impl<'a> WriteAs<Offset<List<i8>>> for SignedList<'a> {
 
     ghost may = { λ list old. ⊤ };
 
-    ghost outcome = { λ list old answer new. WritesByteList (map (λ number. cast_unsigned w8 number) list.0.now) old answer new };
+    ghost outcome = { λ list old answer new.
+        WritesByteList (map (λ number. cast_unsigned w8 number) list.0.now) old answer new };
 
     #[inline]
     fn prepare(&self, builder: &mut Builder) -> Result<Offset<List<i8>>, BuildError> {
         WriteAsOffset::prepare(self, builder)
     }
 
-    ghost is_lawful = { entry_is_lawful (λ list. byte_list_entry (map (λ number. cast_unsigned w8 number) list.0.now)) };
+    ghost is_lawful = { entry_is_lawful (λ list. byte_list_entry (map (λ number. cast_unsigned w8
+        number) list.0.now)) };
 }
 
 impl<'a> WriteAsOptional<Offset<List<i8>>> for SignedList<'a> {
@@ -29,14 +31,17 @@ impl<'a> WriteAsOptional<Offset<List<i8>>> for SignedList<'a> {
 
     ghost may = { λ list old. ⊤ };
 
-    ghost outcome = { λ list old answer new. AlwaysWritten (WritesByteList (map (λ number. cast_unsigned w8 number) list.0.now)) old answer new };
+    ghost outcome = { λ list old answer new.
+        AlwaysWritten (WritesByteList (map (λ number. cast_unsigned w8 number) list.0.now)) old
+        answer new };
 
     #[inline]
     fn prepare(&self, builder: &mut Builder) -> Result<Option<Offset<List<i8>>>, BuildError> {
         Ok(Some(WriteAsOffset::prepare(self, builder)?))
     }
 
-    ghost is_lawful = { left_out_is_lawful (λ list. ⊥) (entry_is_lawful (λ list. byte_list_entry (map (λ number. cast_unsigned w8 number) list.0.now))) };
+    ghost is_lawful = { left_out_is_lawful (λ list. ⊥) (entry_is_lawful (λ list. byte_list_entry
+        (map (λ number. cast_unsigned w8 number) list.0.now))) };
 }
 
 impl<'a> WriteAsDefault<Offset<List<i8>>, ()> for SignedList<'a> {
@@ -45,7 +50,8 @@ impl<'a> WriteAsDefault<Offset<List<i8>>, ()> for SignedList<'a> {
     ghost may = { λ list old. ⊤ };
 
     ghost outcome = { λ list default old answer new.
-        LeftOutWhere (list.0.now ≡ []) (WritesByteList (map (λ number. cast_unsigned w8 number) list.0.now)) old answer new };
+        LeftOutWhere (list.0.now ≡ []) (WritesByteList (map (λ number. cast_unsigned w8 number)
+        list.0.now)) old answer new };
 
     #[inline]
     fn prepare(
@@ -60,5 +66,6 @@ impl<'a> WriteAsDefault<Offset<List<i8>>, ()> for SignedList<'a> {
     }
 
     ghost is_lawful = { λ default.
-        left_out_is_lawful (λ list. list.0.now ≡ []) (entry_is_lawful (λ list. byte_list_entry (map (λ number. cast_unsigned w8 number) list.0.now))) };
+        left_out_is_lawful (λ list. list.0.now ≡ []) (entry_is_lawful (λ list. byte_list_entry (map
+        (λ number. cast_unsigned w8 number) list.0.now))) };
 }

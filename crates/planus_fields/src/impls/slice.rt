@@ -36,7 +36,8 @@ impl<'a, P: Primitive, T: VectorWrite<P>> WriteAsOptional<Offset<List<P>>> for &
     ghost may = { λ items old. AllMay T.may items.now old };
 
     ghost outcome = { λ items old answer new.
-        AlwaysWritten (WritesList T.outcome T.Value.leaves P.SIZE P.ALIGNMENT items.now) old answer new };
+        AlwaysWritten (WritesList T.outcome T.Value.leaves P.SIZE P.ALIGNMENT items.now) old answer
+        new };
 
     #[inline]
     fn prepare(&self, builder: &mut Builder) -> Result<Option<Offset<List<P>>>, BuildError> {
@@ -53,7 +54,8 @@ impl<'a, P: Primitive, T: VectorWrite<P>> WriteAsDefault<Offset<List<P>>, ()> fo
     ghost may = { λ items old. AllMay T.may items.now old };
 
     ghost outcome = { λ items default old answer new.
-        LeftOutWhere (items.now ≡ []) (WritesList T.outcome T.Value.leaves P.SIZE P.ALIGNMENT items.now) old answer new };
+        LeftOutWhere (items.now ≡ []) (WritesList T.outcome T.Value.leaves P.SIZE P.ALIGNMENT
+        items.now) old answer new };
 
     #[inline]
     fn prepare(

@@ -35,7 +35,8 @@ impl<'a> WriteAsOptional<Offset<Text>> for &'a str {
         Ok(Some(WriteAsOffset::prepare(self, builder)?))
     }
 
-    ghost is_lawful = { left_out_is_lawful (λ text. ⊥) (entry_is_lawful (λ text. text_entry text.now)) };
+    ghost is_lawful = { left_out_is_lawful (λ text. ⊥) (entry_is_lawful (λ text. text_entry
+        text.now)) };
 }
 
 impl<'a, 'b> WriteAsDefault<Offset<Text>, &'b str> for &'a str {
@@ -59,5 +60,6 @@ impl<'a, 'b> WriteAsDefault<Offset<Text>, &'b str> for &'a str {
     }
 
     ghost is_lawful = { λ default.
-        left_out_is_lawful (λ text. text.now ≡ default.now) (entry_is_lawful (λ text. text_entry text.now)) };
+        left_out_is_lawful (λ text. text.now ≡ default.now) (entry_is_lawful (λ text. text_entry
+        text.now)) };
 }

@@ -29,14 +29,16 @@ impl WriteAsOptional<Offset<Text>> for String {
 
     ghost may = { λ text old. ⊤ };
 
-    ghost outcome = { λ text old answer new. AlwaysWritten (WritesText (string_bytes text)) old answer new };
+    ghost outcome = { λ text old answer new.
+        AlwaysWritten (WritesText (string_bytes text)) old answer new };
 
     #[inline]
     fn prepare(&self, builder: &mut Builder) -> Result<Option<Offset<Text>>, BuildError> {
         Ok(Some(WriteAsOffset::prepare(self, builder)?))
     }
 
-    ghost is_lawful = { left_out_is_lawful (λ text. ⊥) (entry_is_lawful (λ text. text_entry (string_bytes text))) };
+    ghost is_lawful = { left_out_is_lawful (λ text. ⊥) (entry_is_lawful (λ text. text_entry
+        (string_bytes text))) };
 }
 
 impl<'a> WriteAsDefault<Offset<Text>, &'a str> for String {
@@ -45,7 +47,8 @@ impl<'a> WriteAsDefault<Offset<Text>, &'a str> for String {
     ghost may = { λ text old. ⊤ };
 
     ghost outcome = { λ text default old answer new.
-        LeftOutWhere (string_bytes text ≡ default.now) (WritesText (string_bytes text)) old answer new };
+        LeftOutWhere (string_bytes text ≡ default.now) (WritesText (string_bytes text)) old answer
+        new };
 
     #[inline]
     fn prepare(
@@ -60,5 +63,6 @@ impl<'a> WriteAsDefault<Offset<Text>, &'a str> for String {
     }
 
     ghost is_lawful = { λ default.
-        left_out_is_lawful (λ text. string_bytes text ≡ default.now) (entry_is_lawful (λ text. text_entry (string_bytes text))) };
+        left_out_is_lawful (λ text. string_bytes text ≡ default.now) (entry_is_lawful (λ text.
+        text_entry (string_bytes text))) };
 }

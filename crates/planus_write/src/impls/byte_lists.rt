@@ -35,5 +35,6 @@ impl<'a> WriteAsOffset<List<i8>> for SignedList<'a> {
         builder.write_byte_list(self)
     }
 
-    ghost is_lawful = { entry_is_lawful (λ list. byte_list_entry (map (λ number. cast_unsigned w8 number) list.0.now)) };
+    ghost is_lawful = { entry_is_lawful (λ list. byte_list_entry (map (λ number. cast_unsigned w8
+        number) list.0.now)) };
 }

@@ -77,8 +77,8 @@ fn a_text_of_one_mebibyte(rt: HostRuntime) -> Result<(), Fail> {
     Ok(())
 }
 
-// Whether a text of 524336 bytes is written so often. It takes 524341 bytes, and each one behind the
-// first three more, by which it stands aligned.
+// Whether a text of 524336 bytes is written so often. It takes 524341 bytes, and each one behind
+// the first three more, by which it stands aligned.
 fn texts_are_repeated(builder: &mut Builder, text: &str, count: usize) -> Result<bool, BuildError> {
     for _ in 0..count {
         builder.create_string(text)?;
