@@ -7,7 +7,7 @@ use Rattle.std.proofs.lemmas.Bool.Decides.{nat_tests}
 use Rattle.std.specs.String.{string_bytes}
 use Rattle.planus_dump.specs.Lines.{field_path, item_path}
 use Rattle.planus_dump.specs.FaultLines.{is_fault_line, begins_with, HasNoSpace}
-use Rattle.planus_dump.specs.Laws.{FaultLinesAreTold}
+use Rattle.planus_dump.specs.Laws.{FaultLinesAreTold, PathsHaveNoSpace}
 use Rattle.planus_dump.specs.Schemas.{is_name, is_name_byte, is_good, table_fits, field_fits, union_fits, table_count, union_count}
 use Rattle.planus_dump.specs.declared.schemas.Schema.{Schema}
 use Rattle.planus_dump.specs.declared.schemas.TableSchema.{TableSchema}
@@ -91,6 +91,13 @@ name_byte byte e = by_test (byte == 32) refl
 
 name_no_space : (name : List ℕ) → is_name name ≡ true → HasNoSpace name
 name_no_space name e = all_true is_name_byte (λ byte. (byte == 32) ≡ false) name_byte name (both_true (not (length name == 0)) (list_all is_name_byte name) e).1
+
+pub no_space_in_paths : PathsHaveNoSpace
+no_space_in_paths = record {
+  root = (refl, (refl, (refl, (refl, tt))));
+  field = λ path name h e. field_path_no_space path name h (name_no_space name e);
+  item = item_path_no_space;
+}
 
 -- the names of a table's fields have no spaces
 abbrev pub HasNames : TableSchema → Type 0

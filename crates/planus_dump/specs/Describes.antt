@@ -51,8 +51,7 @@ abbrev pub held_at : List (ℕ × FieldStep) → ℕ → Option FieldStep
 held_at [] slot = None
 held_at (field ∷ fields) slot = if field.0 == slot then Some field.1 else held_at fields slot
 
--- Of the steps of a run, where IsTable says of which of them, by their numbers, a table of the
--- schema says what is so, by its index.
+-- Here IsTable index n says that the schema's table with this index describes step n.
 module _ (steps : List Step) (IsTable : ℕ → ℕ → Type 0) where
   -- the step of this number is what an item refers to: a text or a table
   abbrev pub IsItem : Item → ℕ → Type 0

@@ -1,5 +1,5 @@
 -- What ties a dump to the run that wrote what is dumped.
-use Rattle.std.specs.Prelude.{◌≡◌, ℕ, List, drop, true, false, Ok, Vec, String}
+use Rattle.std.specs.Prelude.{◌≡◌, ℕ, List, drop, codes, true, false, Ok, Vec, String}
 use Rattle.std.specs.List.{AllByRecursion}
 use Rattle.std.specs.String.{string_bytes}
 use Rattle.std.specs.declared.alloc.Global.{Global}
@@ -8,11 +8,11 @@ use Rattle.planus.specs.Steps.{Step}
 use Rattle.planus.specs.Runs.{Finish}
 use Rattle.planus.specs.Headline.{FinishHolds, root_at}
 use Rattle.planus_dump.specs.Lines.{value_line, fault_line, table_line, list_line, union_line}
-use Rattle.planus_dump.specs.Lines.{unions_line}
-use Rattle.planus_dump.specs.FaultLines.{is_fault_line, HaveNoFault}
+use Rattle.planus_dump.specs.Lines.{unions_line, field_path, item_path}
+use Rattle.planus_dump.specs.FaultLines.{is_fault_line, HasNoSpace, HaveNoFault}
 use Rattle.planus_dump.specs.Describes.{Fits}
 use Rattle.planus_dump.specs.Dumped.{Dumped, events_of}
-use Rattle.planus_dump.specs.Schemas.{is_good}
+use Rattle.planus_dump.specs.Schemas.{is_name, is_good}
 use Rattle.planus_dump.specs.declared.schemas.Schema.{Schema}
 
 -- Of the kinds of lines at a path without spaces, that of a reader's fault is a fault line, and no
@@ -24,6 +24,15 @@ pub record FaultLinesAreTold (path : List ℕ) : Type 0 where
   pub list : (count : ℕ) → is_fault_line (list_line path count) ≡ false
   pub union : (tag : ℕ) → is_fault_line (union_line path tag) ≡ false
   pub unions : (count : ℕ) → is_fault_line (unions_line path count) ≡ false
+
+-- There is no space in the path of the root, nor in that of a field with a name that a good schema may
+-- have, nor in that of an item, where there is none in the path in front of it.
+pub record PathsHaveNoSpace : Type 0 where
+  pub root : HasNoSpace (codes "root")
+  pub field :
+      (path name : List ℕ) → HasNoSpace path → is_name name ≡ true
+      → HasNoSpace (field_path path name)
+  pub item : (path : List ℕ) (i : ℕ) → HasNoSpace path → HasNoSpace (item_path path i)
 
 -- The bytes of a finish from the reference to its root on, which is where a reader begins: all of
 -- them, or those behind the size.

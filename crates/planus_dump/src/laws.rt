@@ -4,17 +4,21 @@ ghost use Rattle.std.specs.Prelude.{List, ℕ};
 ghost use Rattle.planus_dump.specs.FaultLines.{HasNoSpace};
 ghost use Rattle.planus_dump.specs.Shapes.{WorkedRowsFit};
 ghost use Rattle.planus_dump.specs.declared.schemas.Schema as schema;
-ghost use Rattle.planus_dump.specs.Laws.{FaultLinesAreTold, FinishesHaveNoFault, DumpsHaveNoFault};
+ghost use Rattle.planus_dump.specs.Laws.{FaultLinesAreTold, PathsHaveNoSpace};
+ghost use Rattle.planus_dump.specs.Laws.{FinishesHaveNoFault, DumpsHaveNoFault};
 
-/// Which lines are those of a reader's fault is told by the line alone: at a path without spaces,
-/// as those of a good schema are, such a line has a `!` behind its first space, and no other has.
+/// Which lines are those of a reader's fault is told by the line alone: at a path without spaces
+/// such a line has a `!` behind its first space, and no other has. The paths of a good schema have
+/// no spaces.
 pub fn fault_lines_are_told()
-    ensures { (path : List ℕ) → HasNoSpace path → FaultLinesAreTold path }
+    ensures lines { (path : List ℕ) → HasNoSpace path → FaultLinesAreTold path }
+    ensures paths { PathsHaveNoSpace }
 {}
 
-/// What a run finished dumps with no fault line, if the schema fits what its root's step wrote: the
-/// schema names the fields that are there by their slots, sizes and kinds, and so on in what they
-/// refer to. With the size in front this is so of the piece behind it.
+/// What a run finished dumps with no line of a reader's fault, if the schema fits what its root's
+/// step wrote: each field of the schema is absent, or a number of its size, or refers to what its
+/// kind says, and so on in what it refers to. With the size in front this is so of the piece behind
+/// that.
 pub fn finishes_have_no_fault()
     ensures events { FinishesHaveNoFault }
     ensures lines { DumpsHaveNoFault }
