@@ -30,13 +30,13 @@ twenty_four = plain (record { bytes = 24 ∷ 0 ∷ []; alignment = 2 })
 abbrev pub weapon_fields : List (ℕ × Field)
 weapon_fields = (0, reference 8) ∷ (1, twenty_four) ∷ []
 
--- the texts `A` and `B` and the union list of both, with tags 1 and 2, not finished
+-- the texts `A` and `B` and the vector of unions of both, with tags 1 and 2, not finished
 abbrev pub union_vector_bytes : List ℕ
 union_vector_bytes =
     2 ∷ 0 ∷ 0 ∷ 0 ∷ 1 ∷ 2 ∷ 0 ∷ 0 ∷ 2 ∷ 0 ∷ 0 ∷ 0 ∷ 16 ∷ 0 ∷ 0 ∷ 0 ∷ 4 ∷ 0 ∷ 0 ∷ 0 ∷ 1 ∷ 0 ∷ 0 ∷ 0
     ∷ 66 ∷ 0 ∷ 0 ∷ 0 ∷ 1 ∷ 0 ∷ 0 ∷ 0 ∷ 65 ∷ 0 ∷ []
 
--- the items of that union list: tags, and the distances of the texts
+-- the items of that vector of unions: tags, and the distances of the texts
 abbrev pub two_texts : List (ℕ × ℕ)
 two_texts = (1, 6) ∷ (2, 14) ∷ []
 

@@ -145,8 +145,8 @@ impl<V: ReadView> Items<V> {
         self.next()
     }
 
-    /// Skips up to `skipped` items at the back and returns the last one before them, or `None` where
-    /// none is left.
+    /// Skips up to `skipped` items at the back and returns the last one before them, or `None`
+    /// where none is left.
     #[inline]
     pub fn nth_back(&mut self, skipped: usize) -> Option<V::Item>
         ensures { (mid : Items V V.View) × IsLeft self.old (front_of self.old)

@@ -27,8 +27,8 @@ pub struct SubViews<V: View, C: Cut> {
 impl<V: View, C: Cut> SubViews<V, C> {
     ghost use Rattle.planus_view.specs.RangesLeft.{whole_of, ranges_of, IsOverRanges};
 
-    /// Creates an iterator over the sub-views at all ranges of the view for this size, which is above
-    /// 0.
+    /// Creates an iterator over the sub-views at all ranges of the view for this size, which is
+    /// above 0.
     #[inline]
     #[tactic(auto, using(crate::proofs::LeftOf::all_left))]
     pub fn new(whole: V, size: usize) -> Self

@@ -14,8 +14,8 @@ pub trait View: Copy {
     fn len(&self) -> usize
         ensures { result ≡ count self.now };
 
-    /// Returns the sub-view of the positions from `lo` up to `hi`: `lo` is at most `hi`, and `hi` at
-    /// most the number of items.
+    /// Returns the sub-view of the positions from `lo` up to `hi`: `lo` is at most `hi`, and `hi`
+    /// at most the number of items.
     fn sub_view(&self, lo: usize, hi: usize) -> Self
         requires order { lo ≤ hi }
         requires inside { hi ≤ count self.now }
