@@ -13,22 +13,24 @@ use Rattle.planus_view.specs.UnionVectorView.{view_of, ShowsUnionVector}
 
 module _ (T E : Type 0) where
   -- The vector of these unions at kt and kv of B: its tags and its references begin behind the
-  -- counts, it has as many items, and each has its tag, and its reference, from which reading goes on.
+  -- counts, it has as many items, and each has its tag, and its reference, from which reading goes
+  -- on.
   pub record IsUnionVectorOf
-      (B : List ℕ) (kt kv : ℕ) (items : List (ℕ × ℕ)) (v : VectorOf (UnionSliceView T E)) : Type 0 where
-    pub view :
-        view_of v ≡ record {
-          tags = drop (kt + 4) B;
-          references = drop (kv + 4) B;
-          start = kv + 4;
-          count = length items;
-        }
-    pub tags :
-        (i : ℕ) (item : ℕ × ℕ) → slice_get items i ≡ Some item
-        → slice_index (drop (kt + 4) B) i ≡ item.0
-    pub references :
-        (i : ℕ) (item : ℕ × ℕ) → slice_get items i ≡ Some item
-        → ReferenceReads B (kv + 4) (i * 4) item.1
+      (B : List ℕ) (kt kv : ℕ) (items : List (ℕ × ℕ)) (v : VectorOf (UnionSliceView T E)) : Type 0
+    where
+      pub view :
+          view_of v ≡ record {
+            tags = drop (kt + 4) B;
+            references = drop (kv + 4) B;
+            start = kv + 4;
+            count = length items;
+          }
+      pub tags :
+          (i : ℕ) (item : ℕ × ℕ) → slice_get items i ≡ Some item
+          → slice_index (drop (kt + 4) B) i ≡ item.0
+      pub references :
+          (i : ℕ) (item : ℕ × ℕ) → slice_get items i ≡ Some item
+          → ReferenceReads B (kv + 4) (i * 4) item.1
 
   -- A vector of unions that stands at kt and kv of B is returned by any two references that lead to
   -- it, over each piece of B that begins no further on than these.

@@ -1,5 +1,4 @@
-//! Views of vectors of unions in a buffer, under their names in planus: their items and sub-views
-//! by index, and iterators from both ends.
+//! Vectors of unions in a buffer, under their names in planus, and a law over what is read of them.
 #![tactic(auto)]
 
 pub mod laws;

@@ -22,11 +22,11 @@ module _ {V C : Type 0} {view : ViewGhosts V} {cut : CutGhosts C} where
   left_of s = take (s.back - s.front) (drop s.front (ranges_of s))
 
   -- the iterator is over the view v, cut for this size, with these ranges left
-  pub record IsOverRanges (v : V) (size : ℕ) (left : List (ℕ × ℕ)) (s : SubViews V C view cut) : Type 0
-    where
-      pub whole : whole_of s ≡ v
-      pub size_is : size_of s ≡ size
-      pub left_is : left_of s ≡ left
+  pub record IsOverRanges
+      (v : V) (size : ℕ) (left : List (ℕ × ℕ)) (s : SubViews V C view cut) : Type 0 where
+    pub whole : whole_of s ≡ v
+    pub size_is : size_of s ≡ size
+    pub left_is : left_of s ≡ left
 
   -- both are over one view, for one size
   pub record IsSameCut (s t : SubViews V C view cut) : Type 0 where

@@ -1,5 +1,5 @@
--- A view of unions: the tags from the first item on, one byte each; the references, of 4 bytes each,
--- and where in the buffer they start; and how many items there are.
+-- A view of unions: the tags from the first item on, one byte each; the references, of 4 bytes
+-- each, and where in the buffer they start; and how many items there are.
 use Rattle.std.specs.Prelude.{◌≡◌, ℕ, ◌+◌, ◌-◌, ◌*◌, ◌≤◌, List, drop}
 use Rattle.std.proofs.Common.{arith, ap, refl, ◌∙◌}
 use Rattle.std.proofs.lemmas.List.{drop-drop}

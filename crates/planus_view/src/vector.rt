@@ -84,7 +84,7 @@ impl<'buf, T: VectorRead<'buf>> ReadView for SliceView<'buf, T> {
     }
 }
 
-impl<'buf, T: Stride> TableRead<'buf> for VectorOf<SliceView<'buf, T>> {
+impl<'buf, T: Stride> TableRead<'buf> for Vector<'buf, T> {
     ghost use Rattle.planus_read.specs.Clauses.{Answer, shown};
     ghost use Rattle.planus_read.specs.Reading.{vector_reading};
     ghost use Rattle.planus_view.specs.VectorView.{ShowsVector};
@@ -113,7 +113,7 @@ impl<'buf, T: Stride> TableRead<'buf> for VectorOf<SliceView<'buf, T>> {
     }
 }
 
-impl<'buf, T: Stride> VectorOf<SliceView<'buf, T>> {
+impl<'buf, T: Stride> Vector<'buf, T> {
     ghost use Rattle.planus_view.specs.VectorView.{view_of};
 
     /// Returns a vector with no items, which lies in no buffer and starts at 0.
@@ -130,8 +130,9 @@ impl<'buf, T: Stride> VectorOf<SliceView<'buf, T>> {
     }
 }
 
-impl<'buf, T: VectorReadInner<'buf> + Drop, E: From<T::Error> + Into<Error> + Drop> VectorOf<
-    SliceView<'buf, Result<T, E>>,
+impl<'buf, T: VectorReadInner<'buf> + Drop, E: From<T::Error> + Into<Error> + Drop> Vector<
+    'buf,
+    Result<T, E>,
 > {
     ghost use Rattle.planus_read.specs.Converted.{Converted};
     ghost use Rattle.planus_view.specs.Copies.{AreAllConverted, IsRefusal, ReadConverts};

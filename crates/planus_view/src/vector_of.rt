@@ -154,7 +154,8 @@ impl<V: View> VectorOf<V> {
     #[inline]
     pub fn chunks_exact(&self, size: usize) -> SubViews<VectorOf<V>, ByChunksExact>
         requires { 0 < size }
-        ensures { IsOverRanges self.now size (chunks_exact (count_in V.count self.now) size) result }
+        ensures { IsOverRanges self.now size
+            (chunks_exact (count_in V.count self.now) size) result }
     {
         SubViews::new(*self, size)
     }
@@ -164,7 +165,8 @@ impl<V: View> VectorOf<V> {
     #[inline]
     pub fn rchunks_exact(&self, size: usize) -> SubViews<VectorOf<V>, ByRChunksExact>
         requires { 0 < size }
-        ensures { IsOverRanges self.now size (rchunks_exact (count_in V.count self.now) size) result }
+        ensures { IsOverRanges self.now size
+            (rchunks_exact (count_in V.count self.now) size) result }
     {
         SubViews::new(*self, size)
     }
@@ -233,8 +235,8 @@ where
     ghost use Rattle.planus_view.specs.Copies.{AreAllConverted, IsRefusal};
     ghost use Rattle.planus_view.specs.Vectors.{count_in, IsSubVector, IsItemIn};
 
-    /// Returns all items, converted in order, or the first refusal: that of a conversion, or, of a
-    /// vector of unions, [`CopyError::Read`] of an item that can't be read. Memory for them is
+    /// Returns all items, converted in order, or the first refusal: that of a conversion, or, in a
+    /// vector of unions, [`CopyError::Read`] of an item that can't be read. Memory for the items is
     /// asked for once, before the first is read: [`CopyError::OutOfMemory`] where there is none.
     pub fn to_vec<'n, O: Drop>(&self, alloc: Global) -> Result<Vec<O>, CopyError<'n>>
     where

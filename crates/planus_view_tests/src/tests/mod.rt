@@ -1,3 +1,4 @@
+mod calls;
 mod no_memory;
 mod unions;
 mod vectors;

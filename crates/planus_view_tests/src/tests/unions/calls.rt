@@ -2,12 +2,13 @@
 
 ghost use Rattle.std.specs.Prelude.{◌≡◌, ⊤, codes};
 
+use super::super::calls::{item_calls_agree, part_calls_agree};
 use super::super::{push_numbers, shows};
 use super::unions;
 use planus_read::errors::ErrorKind;
 use planus_read::{Error, SliceWithStartOffset, TableRead, TableReadUnion, VectorName};
 use planus_unions::UnionVector;
-use planus_view::{CopyError, Cut, SubViews};
+use planus_view::CopyError;
 use std::alloc::{AllocError, Global};
 use std::test::Fail;
 
@@ -59,73 +60,22 @@ fn held(item: Option<Result<Number, Error>>) -> Option<u32> {
     }
 }
 
-// How many items the sub-vectors have.
-fn taken<C: Cut>(parts: SubViews<UnionVector<'_, Number>, C>) -> usize {
-    let mut items: usize = 0;
-    for part in parts {
-        items = items.wrapping_add(part.len());
-    }
-    items
-}
-
-// How many items a split leaves.
-fn rest_of(split: Option<(Result<Number, Error>, UnionVector<'_, Number>)>) -> Option<usize> {
-    match split {
-        Some((_item, rest)) => Some(rest.len()),
-        None => None,
-    }
-}
-
-// Whether a split gives parts of these lengths.
-fn parts_are(
-    parts: (UnionVector<'_, Number>, UnionVector<'_, Number>),
-    want: (usize, usize),
-) -> bool {
-    let (front, back) = parts;
-    front.len() == want.0 && back.len() == want.1
-}
-
-// Whether the calls of items agree with the numbers `first` to `last` of `len` items.
-fn item_calls_agree(v: UnionVector<'_, Number>, first: Option<u32>, last: Option<u32>) -> bool {
-    let rest = v.len().checked_sub(1);
-    let mut behind = v.iter();
+// Whether the items at both ends have these numbers, or there are none.
+fn ends_are(v: UnionVector<'_, Number>, first: Option<u32>, last: Option<u32>) -> bool {
     held(v.first()) == first
         && held(v.last()) == last
         && held(v.get(0usize)) == first
-        && held(behind.next_back()) == last
-        && rest_of(v.split_first()) == rest
-        && match v.split_last() {
-            Some((_last, front)) => Some(front.len()) == rest,
-            None => rest.is_none(),
-        }
-        && v.into_iter().count() == v.len()
-}
-
-// Whether the calls of sub-vectors agree with so many items.
-fn part_calls_agree(v: UnionVector<'_, Number>, len: usize) -> bool {
-    let even = len - len % 2;
-    v.len() == len
-        && v.is_empty() == (len == 0)
-        && matches!(v.get(..), Some(all) if all.len() == len)
-        && v.get_unchecked(0..0).len() == 0
-        && parts_are(v.split_at_unchecked(0), (0, len))
-        && match v.split_at(1) {
-            Some(parts) => parts_are(parts, (1, len.saturating_sub(1))),
-            None => len == 0,
-        }
-        && taken(v.chunks(2)) == len
-        && taken(v.rchunks(2)) == len
-        && taken(v.chunks_exact(2)) == even
-        && v.chunks_exact(2).remainder().len() == len % 2
-        && taken(v.rchunks_exact(2)) == even
-        && v.rchunks_exact(2).remainder().len() == len % 2
-        && taken(v.windows(1)) == len
+        && held(v.iter().next_back()) == last
 }
 
 // Whether all calls agree with the numbers that stand in these bytes.
 fn bytes_agree(bytes: &[u8], len: usize, first: u32, last: u32) -> bool {
     match unions(bytes, 0, 4) {
-        Ok(v) => item_calls_agree(v, Some(first), Some(last)) && part_calls_agree(v, len),
+        Ok(v) => {
+            ends_are(v, Some(first), Some(last))
+                && item_calls_agree(v, len)
+                && part_calls_agree(v, len)
+        }
         Err(_) => false,
     }
 }
@@ -141,7 +91,8 @@ fn last_chunk_begins(five: UnionVector<'_, Number>, number: u32) -> bool {
 
 pub fn union_calls_agree() -> bool {
     let none = UnionVector::new_empty();
-    item_calls_agree(none, None, None)
+    ends_are(none, None, None)
+        && item_calls_agree(none, 0)
         && part_calls_agree(none, 0)
         && bytes_agree(&ONE, 1, 0, 0)
         && bytes_agree(&FIVE, 5, 10, 14)

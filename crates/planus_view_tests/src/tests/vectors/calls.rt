@@ -4,9 +4,10 @@
 ghost use Rattle.std.proofs.Common.{lit≤};
 ghost use Rattle.std.specs.Prelude.{⊤, ◌<◌, ◌^◌, length};
 
+use super::super::calls::{item_calls_agree, part_calls_agree};
 use super::FIVE;
 use planus_read::{Error, SliceWithStartOffset, Stride, TableRead, VectorRead};
-use planus_view::{Cut, SubViews, Vector};
+use planus_view::Vector;
 
 // Two bytes, of which the second is known.
 #[derive(Clone, Copy)]
@@ -29,73 +30,6 @@ impl<'buf> VectorRead<'buf> for Second {
         let [_, second] = *buffer.unchecked_advance_as_array::<2>(offset).as_array();
         Second(second)
     }
-}
-
-// How many items a split leaves.
-fn rest_of<'buf, T: VectorRead<'buf> + Drop>(split: Option<(T, Vector<'buf, T>)>) -> Option<usize> {
-    match split {
-        Some((_item, rest)) => Some(rest.len()),
-        None => None,
-    }
-}
-
-// Whether the calls of the items agree with so many items.
-fn item_calls_agree<'buf, T: VectorRead<'buf> + Drop>(v: Vector<'buf, T>, len: usize) -> bool {
-    let some = len > 0;
-    let rest = len.checked_sub(1);
-    let mut back = v.iter();
-    back.next_back().is_some() == some
-        && back.len() == rest.unwrap_or(0)
-        && v.first().is_some() == some
-        && v.last().is_some() == some
-        && v.get(0).is_some() == some
-        && rest_of(v.split_first()) == rest
-        && match v.split_last() {
-            Some((_last, front)) => Some(front.len()) == rest,
-            None => rest.is_none(),
-        }
-        && v.iter().count() == len
-        && v.into_iter().count() == len
-}
-
-// Whether a split gives parts of these lengths.
-fn parts_are<'buf, T: Stride>(
-    parts: (Vector<'buf, T>, Vector<'buf, T>),
-    want: (usize, usize),
-) -> bool {
-    let (front, back) = parts;
-    front.len() == want.0 && back.len() == want.1
-}
-
-// How many items the sub-vectors have, by a copy of the iterator.
-pub fn taken<'buf, T: Stride, C: Cut>(parts: SubViews<Vector<'buf, T>, C>) -> usize {
-    let mut items: usize = 0;
-    for part in parts.clone().unwrap() {
-        items = items.wrapping_add(part.len());
-    }
-    items
-}
-
-// Whether the calls of sub-vectors agree with so many items, where the parts are of two.
-fn part_calls_agree<'buf, T: Stride>(v: Vector<'buf, T>, len: usize) -> bool {
-    let rest = len.saturating_sub(1);
-    let even = len - len % 2;
-    v.len() == len
-        && v.is_empty() == (len == 0)
-        && matches!(v.get(..), Some(all) if all.len() == len)
-        && v.get_unchecked(0..0).len() == 0
-        && parts_are(v.split_at_unchecked(0), (0, len))
-        && match v.split_at(1) {
-            Some(parts) => parts_are(parts, (1, rest)),
-            None => len == 0,
-        }
-        && taken(v.chunks(2)) == len
-        && taken(v.rchunks(2)) == len
-        && taken(v.chunks_exact(2)) == even
-        && v.chunks_exact(2).remainder().len() == len % 2
-        && taken(v.rchunks_exact(2)) == even
-        && v.rchunks_exact(2).remainder().len() == len % 2
-        && taken(v.windows(2)) == rest.wrapping_mul(2)
 }
 
 // One text and five, each of them empty.

@@ -2,8 +2,8 @@
 
 ghost use Rattle.std.specs.Prelude.{⊤};
 
+use super::super::calls::taken;
 use super::super::push_numbers;
-use super::calls::taken;
 use super::rows::{DAMAGED, TEXTS, texts};
 use super::{five, numbers};
 use planus_read::errors::ErrorKind;
