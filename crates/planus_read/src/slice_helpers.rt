@@ -86,7 +86,7 @@ impl<'buf> SliceWithStartOffset<'buf> {
     /// Returns the piece that begins `amount` bytes further on, or [`ErrorKind::InvalidOffset`]
     /// where that is past the end.
     #[inline]
-    pub fn advance(&self, amount: usize) -> std::result::Result<Self, ErrorKind>
+    pub fn advance(&self, amount: usize) -> Result<Self, ErrorKind>
         ensures piece { IfOk result (λ piece. IsAdvanced self.now amount piece) }
         ensures error { IfErr result (λ e.
             (length (slice_bytes self.now) < amount) × (e ≡ ErrorKind.InvalidOffset)) }
@@ -115,7 +115,7 @@ impl<'buf> SliceWithStartOffset<'buf> {
     pub fn advance_as_array<const N: usize>(
         &self,
         amount: usize,
-    ) -> std::result::Result<ArrayWithStartOffset<'buf, N>, ErrorKind>
+    ) -> Result<ArrayWithStartOffset<'buf, N>, ErrorKind>
         ensures array { IfOk result (λ array.
             IsArrayAt (slice_bytes self.now) (slice_start self.now) amount array) }
         ensures error { IfErr result (λ e.
@@ -189,7 +189,7 @@ impl<'buf, const N: usize> ArrayWithStartOffset<'buf, N> {
     pub fn advance_as_array<const K: usize>(
         &self,
         amount: usize,
-    ) -> std::result::Result<ArrayWithStartOffset<'buf, K>, ErrorKind>
+    ) -> Result<ArrayWithStartOffset<'buf, K>, ErrorKind>
         ensures array { IfOk result (λ array.
             IsArrayAt (array_bytes self.now) (array_start self.now) amount array) }
         ensures error { IfErr result (λ e. (N < amount + K) × (e ≡ ErrorKind.InvalidOffset)) }

@@ -1,5 +1,5 @@
 -- A table that is kept stands in what a finish of it gives, and the reference at the front leads to it.
-use Rattle.std.proofs.Common.{◌≡◌, ℕ, ◌≤◌, List, [], length, true, Option, None, Ok, sym, subst, ap, ◌∙◌}
+use Rattle.std.proofs.Common.{◌≡◌, ℕ, ◌≤◌, List, [], length, true, Option, None, sym, subst, ap, ◌∙◌}
 use Rattle.planus_read.specs.Stands.{ReferenceStands}
 use Rattle.planus_write.specs.Finishing.{FinishGives}
 use Rattle.planus_write.specs.Laws.{put_extends}

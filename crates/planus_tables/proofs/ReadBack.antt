@@ -1,5 +1,5 @@
 -- What is read of a table that was written.
-use Rattle.std.proofs.Common.{◌≡◌, ℕ, ◌+◌, ◌<◌, ◌^◌, List, [], ◌∷◌, length, drop, refl, sym, subst, ap, ◌∙◌, arith, Bool, true, false, Option, Some, None, Result, Ok, Err, inl, inr}
+use Rattle.std.proofs.Common.{◌≡◌, ℕ, ◌+◌, List, [], ◌∷◌, drop, refl, sym, subst, ap, ◌∙◌, Bool, true, false, Option, Some, None, Result, Ok, Err, inl, inr}
 use Rattle.std.specs.Prelude.{not, ◌==◌, if◌then◌else◌, IsOkAnd, IsSomeAnd}
 use Rattle.std.proofs.lemmas.Bool.{and_parts, eqb-true, not-true}
 use Rattle.planus_read.specs.declared.errors.ErrorKind.{ErrorKind}
@@ -8,11 +8,11 @@ use Rattle.planus_read.specs.declared.table_reader.Table.{Table}
 use Rattle.planus_read.specs.Bytes.{position_of}
 use Rattle.planus_read.specs.Clauses.{Answer, shown}
 use Rattle.planus_read.specs.Located.{Located, Required, OrDefault}
-use Rattle.planus_read.specs.Reading.{Leads, table_reading}
+use Rattle.planus_read.specs.Reading.{table_reading}
 use Rattle.planus_read.specs.Stands.{at, FieldStands, ReferenceStands}
-use Rattle.planus_read.specs.TableReading.{HasFields, FieldRead}
+use Rattle.planus_read.specs.TableReading.{FieldRead}
 use Rattle.planus_read.specs.Tables.{Reads, FieldAnswer}
-use Rattle.planus_read.specs.Values.{Value, Field, reference, table, field_at}
+use Rattle.planus_read.specs.Values.{Value, Field, table, field_at}
 use Rattle.planus_read.proofs.PieceLaws.{references_lead}
 use Rattle.planus_read.proofs.ReadsBack.{what_stands_reads_back}
 use Rattle.planus_read.proofs.TableReading.{fields_read}

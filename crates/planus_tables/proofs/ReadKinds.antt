@@ -1,5 +1,5 @@
 -- What is read of a field of each kind.
-use Rattle.std.proofs.Common.{◌≡◌, ℕ, ◌+◌, ◌<◌, ◌^◌, ℤ, List, [], ◌∷◌, length, drop, refl, sym, subst, ap, ◌∙◌, Bool, true, false, Option, Result, Ok, to_z-of_z, FitsSigned}
+use Rattle.std.proofs.Common.{◌≡◌, ℕ, ◌+◌, ℤ, List, [], ◌∷◌, length, drop, refl, sym, subst, ap, ◌∙◌, Bool, true, false, Option, Result, Ok, to_z-of_z, FitsSigned}
 use Rattle.std.specs.Prelude.{not, ◌==◌, IsOkAnd, ⊤}
 use Rattle.std.specs.Borrow.{Bor}
 use Rattle.std.specs.Int.{Width, w8, w16, w32, w64, byte_len, to_le_bytes, from_le_bytes, cast_signed, cast_unsigned, from_bool}
@@ -9,16 +9,15 @@ use Rattle.std.proofs.Math.Nat.{mod-eq_of_lt}
 use Rattle.std.proofs.lemmas.Nat.{from_le_bytes-to_le_bytes_2, from_le_bytes-to_le_bytes_4, from_le_bytes-to_le_bytes_8}
 use Rattle.planus_read.specs.declared.errors.ErrorKind.{ErrorKind}
 use Rattle.planus_read.specs.Bytes.{position_of}
-use Rattle.planus_read.specs.Clauses.{Answer, shown}
 use Rattle.planus_read.specs.Pieces.{ShowsBytes}
-use Rattle.planus_read.specs.Reading.{number_reading, signed_reading, truth_reading, text_reading, byte_list_reading, table_reading}
+use Rattle.planus_read.specs.Reading.{text_reading, byte_list_reading}
 use Rattle.planus_read.specs.Stands.{at, FieldStands}
-use Rattle.planus_read.specs.Values.{Field, plain, reference, text, byte_list}
+use Rattle.planus_read.specs.Values.{Field, plain, text, byte_list}
 use Rattle.planus_read.proofs.PieceLaws.{references_lead}
 use Rattle.planus_read.proofs.ReadingLaws.{is_shown, lawful_text, lawful_byte_list}
 use Rattle.planus_read.proofs.ReadsBack.{fields_read_back, what_stands_reads_back}
-use Rattle.planus_tables.specs.Contents.{Content, item, value, written}
-use Rattle.planus_tables.specs.ReadBack.{FieldHolds, TableStands, TableHolds, ContentsReadBack}
+use Rattle.planus_tables.specs.Contents.{Content, value, written}
+use Rattle.planus_tables.specs.ReadBack.{FieldHolds, TableStands, TableHolds}
 use Rattle.planus_tables.specs.ReadKinds.{TextsReadBack, ByteListsReadBack, NumbersReadBack}
 use Rattle.planus_tables.specs.ReadKinds.{SignedReadBack, TruthsReadBack, TablesReadBack}
 use Rattle.planus_tables.specs.ReadKinds.{unsigned_content, signed_content, truth_content}

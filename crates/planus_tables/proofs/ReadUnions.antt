@@ -1,5 +1,5 @@
 -- What is read of the unions and of the vectors of unions of a table that was written.
-use Rattle.std.proofs.Common.{◌≡◌, ℕ, ◌+◌, ◌*◌, ◌<◌, ◌≤◌, max, List, [], ◌∷◌, length, drop, refl, sym, subst, ap, ◌∙◌, arith, Bool, true, false, Option, Some, None, Result, Ok, Err, inl, inr}
+use Rattle.std.proofs.Common.{◌≡◌, ℕ, ◌+◌, ◌*◌, ◌<◌, ◌≤◌, max, List, [], ◌∷◌, refl, sym, subst, ap, ◌∙◌, arith, Bool, true, false, Option, Some, None, Result, Ok, Err, inl, inr}
 use Rattle.std.specs.Prelude.{◌≢◌, ◌==◌, if◌then◌else◌, IsOkAnd, IsSomeAnd, ⊤}
 use Rattle.std.specs.Int.{w8, to_le_bytes}
 use Rattle.std.proofs.Math.Nat.{mod-eq_of_lt}
@@ -8,12 +8,11 @@ use Rattle.planus_read.specs.declared.errors.ErrorKind.{ErrorKind}
 use Rattle.planus_read.specs.declared.located.Error.{Error}
 use Rattle.planus_read.specs.declared.table_reader.Table.{Table}
 use Rattle.planus_read.specs.Bytes.{position_of}
-use Rattle.planus_read.specs.Clauses.{Answer}
 use Rattle.planus_read.specs.Located.{Located, Required}
-use Rattle.planus_read.specs.Stands.{at_both, Stands, ReferenceStands}
+use Rattle.planus_read.specs.Stands.{at_both, Stands}
 use Rattle.planus_read.specs.TableReading.{HasFields, SlotReads, SomeOf, UnionRead, UnionVectorRead}
 use Rattle.planus_read.specs.Tables.{ReadsBoth, UnionAnswer, UnionVectorAnswer, slot_of}
-use Rattle.planus_read.specs.Values.{Field, plain, reference, tags, values as values_field, union_vector}
+use Rattle.planus_read.specs.Values.{Field, reference, tags, values as values_field, union_vector}
 use Rattle.planus_read.specs.Values.{field_at, slot_count}
 use Rattle.planus_read.proofs.PieceLaws.{references_lead}
 use Rattle.planus_read.proofs.TableReading.{slot_below, unions_read, union_vectors_read}
@@ -26,7 +25,7 @@ use Rattle.planus_tables.specs.Contents.{written_values, tag_content, value_cont
 use Rattle.planus_tables.specs.ReadBack.{FieldHolds, FieldHoldsIf, SlotHolds}
 use Rattle.planus_tables.specs.ReadUnions.{IsReference, ReadsUnion, UnionsReadBack, reads_unions, AreUnions}
 use Rattle.planus_tables.specs.ReadUnions.{UnionVectorSlotsReadBack, NewUnionVectorsReadBack}
-use Rattle.planus_tables.specs.ReadUnions.{WrittenUnions, UnionsStand, WrittenUnionVectorsReadBack}
+use Rattle.planus_tables.specs.ReadUnions.{UnionsStand, WrittenUnionVectorsReadBack}
 use Rattle.planus_tables.specs.ReadUnions.{AbsentUnionVectorsReadBack}
 
 -- A table that was read has two neighbouring fields, which hold these in B.

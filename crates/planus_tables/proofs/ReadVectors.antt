@@ -1,5 +1,5 @@
 -- What is read of the vectors of a table that was written.
-use Rattle.std.proofs.Common.{◌≡◌, ℕ, ◌+◌, List, drop, subst, Result, Ok, Err}
+use Rattle.std.proofs.Common.{ℕ, ◌+◌, List, drop, subst, Result, Ok, Err}
 use Rattle.std.specs.Prelude.{IsOkAnd, ⊤}
 use Rattle.planus_read.specs.declared.errors.ErrorKind.{ErrorKind}
 use Rattle.planus_read.specs.declared.traits.Stride.{Ghosts as StrideGhosts}

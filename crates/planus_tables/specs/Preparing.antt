@@ -1,5 +1,5 @@
 -- How the fields of a list are prepared, and their table is written.
-use Rattle.std.specs.Prelude.{◌≡◌, ℕ, List, ◌++◌, Result, Ok, Err, ◌⊎◌}
+use Rattle.std.specs.Prelude.{◌≡◌, ℕ, List, ◌++◌, Ok, Err, ◌⊎◌}
 use Rattle.planus_read.specs.Values.{Field}
 use Rattle.planus_write.specs.Placing.{Outcome}
 use Rattle.planus_tables.specs.TableFields.{all_of}

@@ -1,6 +1,6 @@
 -- What is read of the fields of a table that was written, in the words of what they hold.
 use Rattle.std.specs.Prelude.{◌≡◌, ℕ, ◌+◌, ◌≤◌, ◌==◌, List, [], ◌∷◌, length, drop, Bool, true, not, ◌&&◌, if◌then◌else◌}
-use Rattle.std.specs.Prelude.{Option, Some, None, Result, Ok, Err, IsOkAnd, IsSomeAnd, IsTrue, ⊤}
+use Rattle.std.specs.Prelude.{Option, Some, None, Result, Ok, IsOkAnd, IsSomeAnd, IsTrue, ⊤}
 use Rattle.planus_read.specs.declared.errors.ErrorKind.{ErrorKind}
 use Rattle.planus_read.specs.declared.located.Error.{Error}
 use Rattle.planus_read.specs.declared.table_reader.Table.{Table}

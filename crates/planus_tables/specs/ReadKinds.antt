@@ -1,5 +1,5 @@
 -- What is read of a field of each kind, for contracts of callers.
-use Rattle.std.specs.Prelude.{◌≡◌, ℕ, ◌<◌, ◌^◌, ℤ, List, [], ◌∷◌, Bool, Option, Result, FitsSigned, ◌*◌, ⊤}
+use Rattle.std.specs.Prelude.{◌≡◌, ℕ, ◌<◌, ◌^◌, ℤ, List, [], ◌∷◌, Bool, Option, FitsSigned, ◌*◌, ⊤}
 use Rattle.std.specs.Borrow.{Bor}
 use Rattle.std.specs.Int.{Width, byte_len, to_le_bytes, cast_unsigned, from_bool}
 use Rattle.std.specs.Str.{IsUtf8}
