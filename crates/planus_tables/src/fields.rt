@@ -1,4 +1,4 @@
-//! The fields of a table, as they are handed in.
+//! The fields of a table, as `create_table` takes them.
 ghost use Rattle.std.specs.Prelude.{◌≡◌, ℕ, List, [], ◌∷◌, ◌++◌, Result, Option as option, max, ⊤};
 ghost use Rattle.std.specs.Prelude.{refl};
 ghost use Rattle.std.specs.Option.{option_map};

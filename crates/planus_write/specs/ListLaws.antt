@@ -125,7 +125,7 @@ list_is_lawful {may = may} {outcome = outcome} {reach = reach} {leaves = leaves}
           may_still may outcome reach lawful (items_of y) old new grows h;
     }
 
--- items that need no preparing are as they were handed in
+-- items that need no preparing stay as they are
 pub ready_items : {A : Type 0} (xs : List A) (old : State) (items : List A) (new : State)
     → PreparesAll Answers xs old (Ok items) new → (items ≡ xs) × (new ≡ old)
 ready_items [] old items new h = (let same : items ≡ [] = cc in same, h.1)

@@ -36,8 +36,8 @@ impl From<Error> for LogError {
     }
 }
 
-/// Writes an entry as the root of a buffer, and reads its text. With `Ok` this is the text that was
-/// handed in.
+/// Writes an entry as the root of a buffer, and reads its text. With `Ok` this is the text of the
+/// argument.
 pub fn text_read_back<'b>(
     builder: &'b mut Builder,
     entry: EntryFields<'_>,
