@@ -25,8 +25,8 @@ pub record FaultLinesAreTold (path : List ℕ) : Type 0 where
   pub union : (tag : ℕ) → is_fault_line (union_line path tag) ≡ false
   pub unions : (count : ℕ) → is_fault_line (unions_line path count) ≡ false
 
--- There is no space in the path of the root, nor in that of a field with a name that a good schema may
--- have, nor in that of an item, where there is none in the path in front of it.
+-- There is no space in the path of the root, nor in that of a field with a name that a good schema
+-- may have, nor in that of an item, where there is none in the path in front of it.
 pub record PathsHaveNoSpace : Type 0 where
   pub root : HasNoSpace (codes "root")
   pub field :

@@ -26,7 +26,7 @@ pub record DumpsFirst
   pub run : Replays switches steps (Ok (given ∷ others))
   pub dumped : Dumped schema given.bytes budget answer
 
--- no line of this dump says of a fault, if the schema fits what the root's step of that finish wrote
+-- no line of this dump says of a fault, if the schema fits what the root's step wrote
 pub record DumpsFit
     (switches : Switches) (steps : List Step) (schema : Schema) (budget : ℕ)
     (lines : Vec (String Global) Global) : Type 0 where

@@ -21,8 +21,9 @@ pub enum DumpRunError {
 /// Runs steps, and returns the lines of what the first of their finishes gave, or `None` where they
 /// have none. There are no more lines than the budget.
 ///
-/// If the schema fits what the root's step wrote, and the finish has the root in front, no line says
-/// of a reader's fault. Of a finish with the size in front the bytes are dumped from the size on.
+/// If the schema fits what the root's step wrote, and the finish has the root in front, no line
+/// says of a reader's fault. Of a finish with the size in front the bytes are dumped from the size
+/// on.
 pub fn dump_run(
     alloc: Global,
     caches: Caches,
