@@ -60,7 +60,7 @@ fn put_largest<'b>(builder: &'b mut Builder, field: Bytes<'_>) -> Result<&'b [u8
     let mut writer: TableWriter<6> = TableWriter::default();
     writer.write_entry::<Largest>(0);
     let _marker: PhantomData<Largest> = PhantomData;
-    writer.finish(builder, &One { field, of })?;
+    writer.finish(builder, &One { field, _marker })?;
     let root = builder.current_offset::<()>();
     builder.finish(root, None)
 }
@@ -96,7 +96,7 @@ fn put_greatest_slot(builder: &mut Builder) -> Result<&[u8], BuildError> {
     let mut writer: TableWriter<65534> = TableWriter::default();
     writer.write_entry::<u8>(32764);
     let _marker: PhantomData<u8> = PhantomData;
-    writer.finish(builder, &One { field: 5u8, of })?;
+    writer.finish(builder, &One { field: 5u8, _marker })?;
     let root = builder.current_offset::<()>();
     builder.finish(root, None)
 }

@@ -39,8 +39,8 @@ pub fn put<P: Primitive, T: WriteAsPrimitive<P> + Drop>(
 {
     let mut writer: TableWriter<8> = TableWriter::default();
     writer.write_entry::<P>(1);
-    let of = PhantomData;
-    writer.finish(builder, &One { field, of })
+    let _marker = PhantomData;
+    writer.finish(builder, &One { field, _marker })
 }
 
 // The same, finished.
@@ -150,7 +150,7 @@ pub fn put_number(builder: &mut Builder, field: u16) -> Result<(), BuildError> {
     let mut writer: TableWriter<6> = TableWriter::default();
     writer.write_entry::<u16>(0);
     let _marker: PhantomData<u16> = PhantomData;
-    writer.finish(builder, &One { field, of })
+    writer.finish(builder, &One { field, _marker })
 }
 
 // Whether two tables of one number each, of which the second is the root, are these bytes.
