@@ -183,6 +183,14 @@ pub prepared_as : {X Y A : Type 0} {may : X → State → Type 0} {outcome : X �
     (λ y. content (of y)) field
 prepared_as of lawful = record { comes = λ y. lawful.comes (of y) }
 
+-- the same of a value that is always there
+pub content_prepared_as : {X Y A : Type 0} {may : X → State → Type 0} {outcome : X → Outcome A}
+    {content : X → Content} {field : A → Field} (of : Y → X)
+    → PreparesContent may outcome content field
+    → PreparesContent (λ y old. may (of y) old) (λ y old answer new. outcome (of y) old answer new)
+    (λ y. content (of y)) field
+content_prepared_as of lawful = record { comes = λ y. lawful.comes (of y) }
+
 -- a value whose entries are put down
 pub value_added : (content : Value) (old : State) (got : List ℕ) (new : State) (past : Past)
     → WritesEntries (entries_of content) [] old (Ok got) new → IsPast old past

@@ -12,6 +12,7 @@ mod last_at;
 pub mod laws;
 mod or_default;
 mod prepared_fields;
+mod required;
 mod table_item;
 mod table_kind;
 mod table_ref;
@@ -23,7 +24,8 @@ mod union_vector_parts;
 
 pub use behind::Behind;
 pub use contents::{
-    HasContent, HasDefaultContent, HasListContent, HasUnionContent, HasUnionVectorContent,
+    HasContent, HasDefaultContent, HasListContent, HasRequiredContent, HasUnionContent,
+    HasUnionVectorContent,
 };
 pub use create::create_table;
 pub use field_at::FieldAt;
@@ -31,6 +33,7 @@ pub use fields::Fields;
 pub use last_at::LastAt;
 pub use or_default::OrDefault;
 pub use prepared_fields::PreparedFields;
+pub use required::Required;
 pub use table_item::TableItem;
 pub use table_kind::TableKind;
 pub use table_ref::TableRef;
