@@ -8,8 +8,5 @@ pub mod Limited
 pub mod OneText
 pub mod SomeText
 pub mod Lists
-pub mod FieldLists
-pub mod WrittenWeapons
-pub mod WrittenMonsters
 pub mod SpacedBytes
 pub mod DumpLimited

@@ -7,7 +7,6 @@ pub mod Texts
 pub mod Printed
 pub mod Outputs
 pub mod Runner
-pub mod TableFields
 pub mod Weapons
 pub mod WeaponViews
 pub mod Variants

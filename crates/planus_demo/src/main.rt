@@ -10,15 +10,12 @@ mod laws;
 mod mode;
 mod modes;
 mod monster;
-mod monster_body;
 mod output;
 mod print;
 mod run;
 mod script;
-mod table_fields;
 #[cfg(test)]
 mod tests;
-mod union_parts;
 mod unions;
 mod weapon;
 

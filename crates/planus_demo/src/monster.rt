@@ -11,30 +11,29 @@
 ghost use Rattle.std.specs.Prelude.{◌≤◌, length, pos, codes, IfOk};
 ghost use Rattle.std.specs.Int.{w16};
 ghost use Rattle.planus_read.specs.Clauses.{Answer, shown};
-ghost use Rattle.planus_read.specs.Located.{Located, Required, OrDefault};
+ghost use Rattle.planus_read.specs.Located.{Located, Required as required, OrDefault as or_default};
 ghost use Rattle.planus_read.specs.Pieces.{ShowsBytes};
 ghost use Rattle.planus_read.specs.Reading.{text_reading, byte_list_reading, signed_reading};
 ghost use Rattle.planus_read.specs.Reading.{vector_reading, union_vector_reading, table_reading};
 ghost use Rattle.planus_read.specs.Tables.{FieldAnswer, UnionAnswer, UnionVectorAnswer};
 ghost use Rattle.planus_read.specs.Tables.{table_start};
 ghost use Rattle.planus_write.specs.State.{Grows};
+ghost use Rattle.planus_tables.specs.Contents.{WritesContents};
 ghost use Rattle.planus_view.specs.VectorView.{ShowsVector};
 ghost use Rattle.planus_view.specs.UnionVectorView.{ShowsUnionVector};
 ghost use Rattle.planus_demo.specs.Equipments.{ReadsEquipment};
-ghost use Rattle.planus_demo.specs.Monsters.{WritesMonster};
+ghost use Rattle.planus_demo.specs.Monsters.{WritesMonster, monster_contents};
 ghost use Rattle.planus_demo.specs.MonsterViews.{monster_table, ShowsMonster};
 
 use crate::equipment::Equipment;
 use crate::equipment_ref::EquipmentRef;
-use crate::monster_body::MonsterBody;
-use crate::union_parts::{tag_of, tags_of, value_of, values_of};
 use crate::weapon::{Weapon, WeaponRef};
 use planus::errors::ErrorKind;
 use planus::table_reader::Table;
 use planus::{
-    BuildError, Builder, List, Offset, ReadAsRoot, Result, SliceWithStartOffset, TableRead, Text,
-    UnionVector, Vector, WriteAs, WriteAsDefault, WriteAsOptional, WriteAsOptionalUnion,
-    WriteAsOptionalUnionVector,
+    BuildError, Builder, ByRef, HasContent, HasDefaultContent, HasRequiredContent,
+    HasUnionContent, HasUnionVectorContent, List, Offset, OrDefault, ReadAsRoot, Required, Result,
+    SliceWithStartOffset, TableItem, TableRead, Text, UnionVector, Vector, create_table, fields,
 };
 
 /// The kind of an offset to a monster.
@@ -59,12 +58,16 @@ impl Monster {
         loot: L,
     ) -> std::result::Result<Offset<Monster>, BuildError>
     where
-        H: WriteAsDefault<i16, i16> + Drop,
-        N: WriteAs<Offset<Text>> + Drop,
-        I: WriteAsOptional<Offset<List<u8>>> + Drop,
-        W: WriteAsOptional<Offset<List<Offset<Weapon>>>> + Drop,
-        E: WriteAsOptionalUnion<Equipment> + Drop,
-        L: WriteAsOptionalUnionVector<Equipment> + Drop,
+        H: HasDefaultContent<i16, i16> + Drop,
+        N: HasRequiredContent<Offset<Text>> + Drop,
+        I: HasContent<Offset<List<u8>>> + Drop,
+        W: HasContent<Offset<List<Offset<Weapon>>>> + Drop,
+        E: HasUnionContent<Equipment> + Drop,
+        L: HasUnionVectorContent<Equipment> + Drop,
+        H::Prepared: TableItem<i16>,
+        N::Prepared: TableItem<Offset<Text>>,
+        I::Prepared: TableItem<Offset<List<u8>>>,
+        W::Prepared: TableItem<Offset<List<Offset<Weapon>>>>,
         requires hp { H.may hp builder.old }
         requires name { N.may name builder.old }
         requires inventory { I.may inventory builder.old }
@@ -72,29 +75,29 @@ impl Monster {
         requires equipped { E.may equipped builder.old }
         requires loot { L.may loot builder.old }
         ensures written { WritesMonster
-            (H.outcome hp (pos 100)) H.Prepared.leaves (N.outcome name) N.Prepared.leaves
-            (I.outcome inventory) I.Prepared.leaves (W.outcome weapons) W.Prepared.leaves
+            (H.outcome hp (pos 100)) H.Prepared.field (N.outcome name) N.Prepared.field
+            (I.outcome inventory) I.Prepared.field (W.outcome weapons) W.Prepared.field
             (E.outcome equipped) (L.outcome loot) builder.old result builder.new }
+        ensures kept { IfOk result (λ offset. WritesContents
+            (monster_contents (H.content hp (pos 100)) (N.content name) (I.content inventory)
+            (W.content weapons) (E.content equipped) (L.contents loot))
+            builder.old offset.distance builder.new) }
         ensures grows { Grows builder.old builder.new }
         ensures reached { IfOk result (λ offset. offset.distance ≤ length builder.new.bytes) }
     {
-        let hp = hp.prepare(builder, &100)?;
-        let name = name.prepare(builder)?;
-        let inventory = inventory.prepare(builder)?;
-        let weapons = weapons.prepare(builder)?;
-        let equipped = equipped.prepare(builder)?;
-        let loot = loot.prepare(builder)?;
-        let body = MonsterBody {
-            hp,
-            name,
-            inventory,
-            weapons,
-            equipped_tag: tag_of(&equipped),
-            equipped: value_of(&equipped),
-            loot_tags: tags_of(&loot),
-            loot: values_of(&loot),
+        let hp = OrDefault {
+            value: ByRef(&hp),
+            default: 100,
         };
-        body.write(builder)
+        let fields = fields![
+            0: last i16 = hp,
+            1: Offset<Text> = Required(ByRef(&name)),
+            2: Offset<List<u8>> = ByRef(&inventory),
+            3: Offset<List<Offset<Weapon>>> = ByRef(&weapons),
+            (4, 5): union Equipment = ByRef(&equipped),
+            (6, 7): unions Equipment = ByRef(&loot),
+        ];
+        create_table::<Monster, 20, _>(builder, fields)
     }
 }
 
@@ -107,7 +110,7 @@ pub struct MonsterRef<'a> {
 impl<'a> MonsterRef<'a> {
     /// Returns the hit points, 100 where there are none. Their errors are those of a field `i16`.
     pub fn hp(&self) -> Result<i16>
-        ensures { Located (OrDefault (pos 100) (FieldAnswer
+        ensures { Located (or_default (pos 100) (FieldAnswer
             (λ S start f r. Answer (signed_reading S f w16) r) (monster_table self.now) 0))
             (codes "Monster") (codes "hp") (table_start (monster_table self.now)) result }
     {
@@ -117,7 +120,7 @@ impl<'a> MonsterRef<'a> {
     /// Returns the name. [`ErrorKind::MissingRequired`] where there is none, and the errors of a
     /// field `&str`.
     pub fn name(&self) -> Result<&'a str>
-        ensures { Located (Required (FieldAnswer
+        ensures { Located (required (FieldAnswer
             (λ S start f r. Answer (shown ShowsBytes (text_reading S f)) r)
             (monster_table self.now) 1))
             (codes "Monster") (codes "name") (table_start (monster_table self.now)) result }

@@ -4,51 +4,29 @@
 //! table Weapon { name: string; damage: int16 = 0; }
 //! ```
 
-ghost use Rattle.std.specs.Prelude.{◌≡◌, ◌≤◌, ◌+◌, length, max, pos, codes, IfOk};
+ghost use Rattle.std.specs.Prelude.{◌≡◌, ◌≤◌, [], ◌∷◌, length, pos, codes, IfOk};
 ghost use Rattle.std.specs.Int.{w16};
 ghost use Rattle.std.proofs.Common.{lit≤};
 ghost use Rattle.planus_read.specs.Clauses.{Answer, shown};
-ghost use Rattle.planus_read.specs.Located.{Located, OrDefault};
+ghost use Rattle.planus_read.specs.Located.{Located, OrDefault as or_default};
 ghost use Rattle.planus_read.specs.Pieces.{ShowsBytes};
 ghost use Rattle.planus_read.specs.Reading.{text_reading, signed_reading, table_reading};
 ghost use Rattle.planus_read.specs.Tables.{FieldAnswer, table_start};
-ghost use Rattle.planus_fields.specs.Fields.{reach_if};
 ghost use Rattle.planus_write.specs.State.{Grows};
-ghost use Rattle.planus_demo.specs.TableFields.{size_if, bytes_of};
-ghost use Rattle.planus_demo.specs.Weapons.{weapon_fields, WritesWeapon};
+ghost use Rattle.planus_tables.specs.Contents.{WritesContents};
+ghost use Rattle.planus_demo.specs.Weapons.{WritesWeapon};
 ghost use Rattle.planus_demo.specs.WeaponViews.{weapon_table, ShowsWeapon};
 
-use crate::table_fields::{declare_if, write_if};
 use planus::errors::ErrorKind;
 use planus::table_reader::Table;
 use planus::{
-    BuildError, Builder, Error, ObjectFill, ObjectWriter, Offset, ReadAsRoot, ReadError, Result,
-    SliceWithStartOffset, Stride, TableRead, TableWriter, Text, VectorReadInner, WriteAsDefault,
-    WriteAsOptional, WriteAsPrimitive,
+    BuildError, Builder, ByRef, Error, HasContent, HasDefaultContent, Offset, OrDefault,
+    ReadAsRoot, ReadError, Result, SliceWithStartOffset, Stride, TableItem, TableRead, Text,
+    VectorReadInner, create_table, fields,
 };
 
 /// The kind of an offset to a weapon.
 pub struct Weapon;
-
-/// The fields of a weapon, prepared.
-#[derive(Drop)]
-struct WeaponBody<N, D> {
-    name: Option<N>,
-    damage: Option<D>,
-}
-
-impl<N: WriteAsPrimitive<Offset<Text>>, D: WriteAsPrimitive<i16>> ObjectFill for WeaponBody<N, D> {
-    ghost size = { λ body. size_if 4 body.name + size_if 2 body.damage };
-
-    ghost reach = { λ body. max (reach_if N.reach body.name) (reach_if D.reach body.damage) };
-
-    ghost leaves = { λ body. bytes_of (weapon_fields N.leaves D.leaves body.name body.damage) };
-
-    fn fill(&self, writer: &mut ObjectWriter<'_>) {
-        write_if::<Offset<Text>, N>(writer, &self.name);
-        write_if::<i16, D>(writer, &self.damage);
-    }
-}
 
 impl Weapon {
     /// Writes a weapon: prepares its name and its damage, and then writes the table of those that
@@ -65,22 +43,26 @@ impl Weapon {
         damage: D,
     ) -> std::result::Result<Offset<Weapon>, BuildError>
     where
-        N: WriteAsOptional<Offset<Text>> + Drop,
-        D: WriteAsDefault<i16, i16> + Drop,
+        N: HasContent<Offset<Text>> + Drop,
+        D: HasDefaultContent<i16, i16> + Drop,
+        N::Prepared: TableItem<Offset<Text>>,
+        D::Prepared: TableItem<i16>,
         requires name { N.may name builder.old }
         requires damage { D.may damage builder.old }
-        ensures written { WritesWeapon (N.outcome name) N.Prepared.leaves
-            (D.outcome damage (pos 0)) D.Prepared.leaves builder.old result builder.new }
+        ensures written { WritesWeapon (N.outcome name) N.Prepared.field
+            (D.outcome damage (pos 0)) D.Prepared.field builder.old result builder.new }
+        ensures kept { IfOk result (λ offset. WritesContents
+            ((0, N.content name) ∷ (1, D.content damage (pos 0)) ∷ [])
+            builder.old offset.distance builder.new) }
         ensures grows { Grows builder.old builder.new }
         ensures reached { IfOk result (λ offset. offset.distance ≤ length builder.new.bytes) }
     {
-        let name = name.prepare(builder)?;
-        let damage = damage.prepare(builder, &0)?;
-        let mut writer: TableWriter<8> = TableWriter::default();
-        declare_if::<Offset<Text>, N::Prepared, 8>(&mut writer, 0, &name);
-        declare_if::<i16, D::Prepared, 8>(&mut writer, 1, &damage);
-        writer.finish(builder, &WeaponBody { name, damage })?;
-        Ok(builder.current_offset())
+        let damage = OrDefault {
+            value: ByRef(&damage),
+            default: 0,
+        };
+        let fields = fields![0: Offset<Text> = ByRef(&name), 1: i16 = damage];
+        create_table::<Weapon, 8, _>(builder, fields)
     }
 }
 
@@ -103,7 +85,7 @@ impl<'a> WeaponRef<'a> {
 
     /// Returns the damage, 0 where there is none. Its errors are those of a field `i16`.
     pub fn damage(&self) -> Result<i16>
-        ensures { Located (OrDefault (pos 0) (FieldAnswer
+        ensures { Located (or_default (pos 0) (FieldAnswer
             (λ S start f r. Answer (signed_reading S f w16) r) (weapon_table self.now) 1))
             (codes "Weapon") (codes "damage") (table_start (weapon_table self.now)) result }
     {

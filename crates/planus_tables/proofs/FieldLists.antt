@@ -15,18 +15,8 @@ use Rattle.planus_write.specs.TableWriting.{Writer, WasTold, slot_position, blan
 use Rattle.planus_write.specs.ObjectWriting.{ObjectBody, wrote}
 use Rattle.planus_write.proofs.ToldTables.{pair_elsewhere}
 use Rattle.planus_write.proofs.WrittenBodies.{wrote_both}
-use Rattle.planus_tables.specs.TableFields.{field_in, size_if, IsUnused, IsItem}
-
--- the entries of fields that follow others
-pub entries_append : (fields others : List (ℕ × Field))
-    → declared_of (fields ++ others) ≡ declared_of fields ++ declared_of others
-entries_append [] others = refl
-entries_append (entry ∷ fields) others =
-    ap (λ rest. record {
-      slot = entry.0;
-      size = field_size entry.1;
-      alignment = field_alignment entry.1;
-    } ∷ rest) (entries_append fields others)
+use Rattle.planus_tables.specs.PreparingLaws.{entries_append}
+use Rattle.planus_tables.specs.TableFields.{field_in, size_if, item_if, IsUnused, IsItem}
 
 -- their sizes
 pub total_append : (all others : List Declared)
@@ -127,3 +117,18 @@ both_written fields others old between new first rest =
     (λ place. body_bytes place others) (λ place. body_bytes place (fields ++ others)) old
     (bytes_append fields others old.place)
     ∙ ap (λ n. wrote n (λ place. body_bytes place (fields ++ others)) old) (sym (size_append fields others))
+
+-- one field that may be absent is written
+pub one_written : {A : Type 0} (slot : ℕ) (field : A → Field) (leaves : A → Item) (reach : A → ℕ)
+    (size alignment : ℕ)
+    → ((a : A) → IsItem size alignment (leaves a) (reach a) (field a)) → (value : Option A)
+    → (body : ObjectBody)
+    → wrote (size_if size value) (item_if leaves value) body
+    ≡ wrote (body_size (field_in slot field value)) (λ place. body_bytes place (field_in slot field value)) body
+one_written slot field leaves reach size alignment items None body = refl
+one_written slot field leaves reach size alignment items (Some a) body =
+    let item = items a in
+    let sizes : size ≡ field_size (field a) + 0 = let e = item.size_is in omega (arith, e) in
+    let bytes : leaves a body.place ≡ field_item (field a) body.place ++ []
+    = sym (append-nil (field_item (field a) body.place) ∙ ap (λ (item : Item). item body.place) item.leaves_is) in
+    rw (sizes, bytes) refl

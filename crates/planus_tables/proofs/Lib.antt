@@ -5,3 +5,4 @@ pub mod ReadKinds
 pub mod Finished
 pub mod ReadVectors
 pub mod ReadUnions
+pub mod Steps

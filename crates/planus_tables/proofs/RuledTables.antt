@@ -1,5 +1,5 @@
 -- Tables whose entries pass the test can be declared, and are tables of the format.
-use Rattle.std.proofs.Common.{◌≡◌, ℕ, ◌+◌, ◌*◌, ◌≤◌, max, List, [], ◌∷◌, ◌++◌, length, refl, sym, subst, ap, ◌∙◌, arith, Bool, true, false, Option, Some, None, Result, Ok, Err, inl, inr}
+use Rattle.std.proofs.Common.{◌≡◌, ℕ, ◌+◌, ◌*◌, ◌≤◌, max, List, [], ◌∷◌, ◌++◌, length, refl, sym, subst, ap, ◌∙◌, arith, Bool, true, false, Option, Some, None, Ok, inl, inr}
 use Rattle.std.specs.Prelude.{not, leb, ◌==◌, if◌then◌else◌, ⊤}
 use Rattle.std.specs.List.{AllByRecursion}
 use Rattle.std.proofs.lemmas.Bool.{and_from, and_parts, leb-true, eqb-false, ne_eqb, not-true}
@@ -7,25 +7,23 @@ use Rattle.planus_read.specs.Values.{Field, table, field_at, slot_count}
 use Rattle.planus_read.specs.Aligned.{field_alignment}
 use Rattle.planus_write.specs.Kept.{IsKept}
 use Rattle.planus_write.specs.Past.{Past}
-use Rattle.planus_write.specs.Placing.{Outcome, then_does}
 use Rattle.planus_write.specs.Preparing.{WritesEntries}
 use Rattle.planus_write.specs.Parts.{entries_of}
 use Rattle.planus_write.specs.State.{State}
 use Rattle.planus_write.specs.Tables.{Declared, declared_of, total_size, body_bytes, slots_used, object_entries, IsField, IsTable, Falling, SlotsOnce}
 use Rattle.planus_write.specs.TableWriting.{Writer, WritesTable, slot_position, blank}
-use Rattle.planus_write.specs.declared.errors.BuildError.{BuildError}
 use Rattle.planus_write.specs.declared.offset.Offset.{Offset}
 use Rattle.planus_write.proofs.PutEntries.{entries_put}
 use Rattle.planus_write.proofs.Standing.{values_are_kept}
 use Rattle.planus_write.proofs.Staying.{kept_stays}
-use Rattle.planus_tables.specs.TableFields.{IsUnused, all_of}
+use Rattle.planus_tables.specs.TableFields.{IsUnused}
 use Rattle.planus_tables.specs.TableRules.{is_apart, has_slots, is_falling, can_hold, Among}
-use Rattle.planus_tables.specs.Preparing.{AnswersFields, WritesFields}
-use Rattle.planus_write.specs.Laws.{extends_on}
-use Rattle.planus_tables.specs.Contents.{Content, FieldsAre, there_of, Comes, StillKept, TableIsKept, named_at}
+use Rattle.planus_write.specs.Laws.{extends_on, extends_itself}
+use Rattle.std.proofs.lemmas.List.{append-nil}
+use Rattle.planus_tables.specs.Contents.{Content, FieldsAre, there_of, Comes, StillKept, TableIsKept, named_at, WritesBehind}
 use Rattle.planus_tables.specs.ContentLaws.{fields_stay}
-use Rattle.planus_tables.specs.PreparingLaws.{among_more}
-use Rattle.planus_tables.proofs.FieldLists.{blank_unused, entries_append}
+use Rattle.planus_tables.specs.PreparingLaws.{among_both, stand_both, entries_append}
+use Rattle.planus_tables.proofs.FieldLists.{blank_unused}
 
 -- What the test says.
 pub record Holds (n : ℕ) (all : List Declared) : Type 0 where
@@ -126,6 +124,14 @@ slots_append n (one ∷ all) others slots =
       apart = more_apart one all others here.1 rest.apart;
     }
 
+-- what is unused in the slots of two lists is so in those of each
+pub unused_parts : (writer : Writer) (all others : List Declared)
+    → AllByRecursion (λ one. IsUnused writer one.slot) (all ++ others)
+    → AllByRecursion (λ one. IsUnused writer one.slot) all × AllByRecursion (λ one. IsUnused writer one.slot) others
+unused_parts writer [] others unused = (tt, unused)
+unused_parts writer (one ∷ all) others unused =
+    let rest = unused_parts writer all others unused.1 in ((unused.0, rest.0), rest.1)
+
 -- what is unused in a slot that is apart from one and from the others stays so
 pub other_unused : (before between after : Writer) (one : Declared) (all : List Declared)
     → ((other : ℕ) → (other ≡ one.slot → ⊥) → IsUnused before other → IsUnused between other)
@@ -146,30 +152,6 @@ others_unused before after all (other ∷ others) apart stays unused = (
   stays other.slot apart.0 unused.0,
   others_unused before after all others apart.1 stays unused.1,
 )
-
--- some entries of one list and some of another are among both
-among_others : (some all others : List Declared) → Among some others → Among some (all ++ others)
-among_others some [] others among = among
-among_others some (one ∷ all) others among =
-    among_more some (all ++ others) one (among_others some all others among)
-
-pub among_both : (some more all others : List Declared) → Among some all → Among more others
-    → Among (some ++ more) (all ++ others)
-among_both [] more all others first second = among_others more all others second
-among_both (one ∷ some) more [] others first second = elim first [ ]
-among_both (one ∷ some) more (entry ∷ all) others (inl first) second =
-    inl (first.0, among_both some more all others first.1 second)
-among_both (one ∷ some) more (entry ∷ all) others (inr first) second =
-    inr (among_both (one ∷ some) more all others first second)
-
--- fields of two lists are fields
-pub stand_both : (before : ℕ) (fields others : List (ℕ × Field))
-    → AllByRecursion (λ entry. IsField before entry.1) fields
-    → AllByRecursion (λ entry. IsField before entry.1) others
-    → AllByRecursion (λ entry. IsField before entry.1) (fields ++ others)
-stand_both before [] others first second = second
-stand_both before (field ∷ fields) others first second =
-    (first.0, stand_both before fields others first.1 second)
 
 -- and what they hold is what both hold
 pub contents_both : (past : Past) (contents tags : List (ℕ × Option Content)) (fields others : List (ℕ × Field))
@@ -302,31 +284,6 @@ slots_counted : (fields : List (ℕ × Field)) → slots_used (declared_of field
 slots_counted [] = refl
 slots_counted (entry ∷ fields) = ap (max (entry.0 + 1)) (slots_counted fields)
 
--- The fields are prepared in turn, and then their table is written, or refused.
-module _ {T : Type 0} (in_turn : Outcome (List (List (ℕ × Field)))) (there last : List (ℕ × Field))
-    (old between : State)
-    (turns : (all : List (List (ℕ × Field))) × in_turn old (Ok all) between × (all_of all ≡ there ++ last)) where
-  as_prepared : (answer : Result (Offset T) BuildError) (new : State)
-      → AnswersFields (there ++ last) between answer new → WritesFields turns.0 between answer new
-  as_prepared answer new done =
-      subst (λ fields. AnswersFields fields between answer new) (sym turns.2) done
-
-  pub table_created : (unit : Unit {0}) (offset : Offset T) (new : State)
-      → WritesTable (declared_of (there ++ last)) (λ place. body_bytes place (there ++ last)) between
-      (Ok unit) new
-      → offset.distance ≡ length new.bytes → then_does in_turn WritesFields old (Ok offset) new
-  table_created unit offset new written at =
-      (turns.0, between, turns.1, as_prepared (Ok offset) new (written, at))
-
-  pub table_refused : (error : BuildError) (answer : Result (Offset T) BuildError) (new : State)
-      → answer ≡ Err error
-      → WritesTable (declared_of (there ++ last)) (λ place. body_bytes place (there ++ last)) between
-      (Err error) new
-      → then_does in_turn WritesFields old answer new
-  table_refused error answer new same written =
-      subst (λ answer. then_does in_turn WritesFields old answer new) (sym same)
-      (inr (turns.0, between, turns.1, as_prepared (Err error) new written))
-
 -- A table whose fields are prepared is kept once it is written.
 pub contents_kept : {T : Type 0} (n : ℕ) (all : List Declared) (fields : List (ℕ × Field))
     (contents : List (ℕ × Option Content)) (between : State) → Holds n all
@@ -370,24 +327,33 @@ contents_kept n all fields contents between rules among stand unit offset new wr
     )
 
 -- so is one whose fields are those of two lists
-pub fields_kept : {T : Type 0} (n : ℕ) (all others : List Declared) (fields tags : List (ℕ × Field))
-    (contents last_contents : List (ℕ × Option Content)) (between : State) → Holds n (all ++ others)
-    → Among (declared_of fields) all → Among (declared_of tags) others
+pub fields_kept : {T : Type 0} (n : ℕ) (all others : List Declared) (fields last : List (ℕ × Field))
+    (between : State) → Holds n (all ++ others)
+    → Among (declared_of fields) all → Among (declared_of last) others
     → AllByRecursion (λ entry. IsField (length between.bytes) entry.1) fields
-    → AllByRecursion (λ entry. IsField (length between.bytes) entry.1) tags
+    → AllByRecursion (λ entry. IsField (length between.bytes) entry.1) last
     → (unit : Unit {0}) (offset : Offset T) (new : State)
-    → WritesTable (declared_of (fields ++ tags)) (λ place. body_bytes place (fields ++ tags)) between
+    → WritesTable (declared_of (fields ++ last)) (λ place. body_bytes place (fields ++ last)) between
     (Ok unit) new
-    → offset.distance ≡ length new.bytes → (past : Past)
-    → Comes past between
-    (λ after. FieldsAre after (there_of contents) fields × FieldsAre after (there_of last_contents) tags)
-    → Comes past new
-    (λ after. StillKept past after × TableIsKept after (contents ++ last_contents) offset.distance)
-fields_kept n all others fields tags contents last_contents between rules among tags_among stand
-    tags_stand unit offset new written at past prepared =
-    contents_kept n (all ++ others) (fields ++ tags) (contents ++ last_contents) between rules
-    (subst (λ some. Among some (all ++ others)) (sym (entries_append fields tags))
-    (among_both (declared_of fields) (declared_of tags) all others among tags_among))
-    (stand_both (length between.bytes) fields tags stand tags_stand)
+    → offset.distance ≡ length new.bytes
+    → WritesBehind fields last [] [] between offset.distance new
+fields_kept n all others fields last between rules among last_among stand last_stand unit offset new
+    written at =
+    λ past before last_before is_past are last_are.
+    let same : (before ++ []) ++ (last_before ++ []) ≡ before ++ last_before
+    = ap (λ contents. contents ++ (last_before ++ [])) (append-nil before)
+    ∙ ap (λ contents. before ++ contents) (append-nil last_before) in
+    let kept = contents_kept n (all ++ others) (fields ++ last) (before ++ last_before) between rules
+    (subst (λ some. Among some (all ++ others)) (sym (entries_append fields last))
+    (among_both (declared_of fields) (declared_of last) all others among last_among))
+    (stand_both (length between.bytes) fields last stand last_stand)
     unit offset new written at past
-    (prepared.0, prepared.1, prepared.2, contents_both prepared.0 contents last_contents fields tags prepared.3.0 prepared.3.1)
+    (past, is_past, extends_itself past, contents_both past before last_before fields last are last_are) in (
+      kept.0,
+      kept.1,
+      kept.2,
+      (
+        kept.3.0,
+        subst (λ contents. TableIsKept kept.0 contents offset.distance) (sym same) kept.3.1,
+      ),
+    )

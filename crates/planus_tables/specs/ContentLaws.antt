@@ -1,25 +1,24 @@
 -- The laws of what fields hold.
-use Rattle.std.specs.Prelude.{◌≡◌, ℕ, List, [], ◌∷◌, ◌++◌, length, Bool, true, false, Option, Some, None, Ok, ⊤}
+use Rattle.std.specs.Prelude.{◌≡◌, ℕ, List, [], ◌∷◌, length, Bool, true, false, Option, Some, None, Ok, ⊤}
 use Rattle.std.specs.Bool.{Decides}
 use Rattle.std.proofs.Common.{refl, subst, sym}
 use Rattle.planus_read.specs.Values.{Value, Field, reference, text, byte_list, union_vector}
 use Rattle.planus_fields.specs.Fields.{MayIf, PreparesIf, LeftOutWhere}
 use Rattle.planus_write.specs.Kept.{IsKept}
-use Rattle.planus_write.specs.Laws.{extends_on, extends_itself}
+use Rattle.planus_write.specs.Laws.{extends_itself}
 use Rattle.planus_write.specs.Parts.{IsWritten, entries_of, last_of, Named, named_by}
 use Rattle.planus_write.specs.Past.{Past}
 use Rattle.planus_write.specs.Placing.{Outcome}
-use Rattle.planus_write.specs.Preparing.{Answers, IsLawful, WritesEntries, WritesByteList, WritesText}
-use Rattle.planus_write.specs.State.{State, IsPast, Extends, Grows}
+use Rattle.planus_write.specs.Preparing.{Answers, WritesEntries, WritesByteList, WritesText}
+use Rattle.planus_write.specs.State.{State, IsPast, Extends}
 use Rattle.planus_write.specs.declared.offset.Offset.{Offset}
 use Rattle.planus_write.proofs.PutEntries.{entries_put}
 use Rattle.planus_write.proofs.Standing.{values_are_kept}
 use Rattle.planus_write.proofs.Staying.{kept_stays}
 use Rattle.planus_tables.specs.Contents.{Content, item, value, values, written, union_tags, union_values}
 use Rattle.planus_tables.specs.Contents.{written_tags, written_values, named_at, named_at_both, AllKept}
-use Rattle.planus_tables.specs.Contents.{FieldIs, HoldsIf, FieldsAre, content_in, there_of, Comes, unless}
-use Rattle.planus_tables.specs.Contents.{holds_if, PreparesContent, PreparesOptional, PreparesContents}
-use Rattle.planus_tables.specs.Preparing.{PreparesBoth}
+use Rattle.planus_tables.specs.Contents.{FieldIs, HoldsIf, FieldsAre, there_of, Comes, unless}
+use Rattle.planus_tables.specs.Contents.{holds_if, PreparesContent, PreparesOptional}
 use Rattle.planus_tables.specs.TableFields.{field_in}
 
 -- values that are kept still are later
@@ -84,112 +83,20 @@ fields_stay before after (content ∷ contents) (field ∷ fields) extends are =
 fields_stay before after [] (field ∷ fields) extends are = are
 fields_stay before after (content ∷ contents) [] extends are = are
 
-pub one_more : {A : Type 0} (past : Past) (slot : ℕ) (content : Option Content) (field : A → Field)
-    (prepared : Option A) (contents : List (ℕ × Content)) (fields : List (ℕ × Field))
-    → HoldsIf past content field prepared → FieldsAre past contents fields
-    → FieldsAre past (content_in slot content ++ contents) (field_in slot field prepared ++ fields)
-one_more past slot None field None contents fields holds are = are
-one_more past slot (Some content) field (Some prepared) contents fields holds are =
-    (refl, holds, are)
-one_more past slot None field (Some prepared) contents fields holds are = elim holds [ ]
-one_more past slot (Some content) field None contents fields holds are = elim holds [ ]
-
 -- nothing is done, so that what holds of every past holds
 pub stays_there : (past : Past) (old new : State) (Holds : Past → Type 0) → new ≡ old
     → IsPast old past → Holds past → Comes past new Holds
 stays_there past old new Holds same is_past holds =
     (past, subst (λ state. IsPast state past) (sym same) is_past, extends_itself past, holds)
 
--- no fields
-pub none_prepared : {X A : Type 0} {may : X → State → Type 0} {outcome : X → Outcome A}
-    → ((x : X) (old : State) (prepared : A) (new : State) → outcome x old (Ok prepared) new → new ≡ old)
-    → PreparesContents may outcome (λ x. []) (λ x. []) (λ prepared. []) (λ prepared. [])
-none_prepared unchanged = record {
-  comes = λ x old prepared new past may done is_past.
-      stays_there past old new (λ after. ⊤ × ⊤) (unchanged x old prepared new done) is_past (tt, tt);
-}
-
--- one field and the others
-pub both_prepared : {X Y Z A B C : Type 0} {may_first : X → State → Type 0}
-    {first : X → Outcome (Option A)} {first_reach : Option A → ℕ} {may_rest : Y → State → Type 0}
-    {rest : Y → Outcome B} (slot : ℕ) (x_of : Z → X) (y_of : Z → Y) (of_first : C → Option A)
-    (of_rest : C → B) (content : X → Option Content) (field : A → Field)
-    (contents last_contents : Y → List (ℕ × Option Content)) (there last_there : B → List (ℕ × Field))
-    → IsLawful may_first first first_reach
-    → ((y : Y) (old new : State) → Grows old new → may_rest y old → may_rest y new)
-    → PreparesOptional may_first first content field
-    → PreparesContents may_rest rest contents last_contents there last_there
-    → PreparesContents {X = Z} (λ fields old. may_first (x_of fields) old × may_rest (y_of fields) old)
-    (λ fields old answer new.
-    PreparesBoth (λ a prepared. of_first prepared ≡ a) of_rest (first (x_of fields))
-    (rest (y_of fields)) old answer new)
-    (λ fields. (slot, content (x_of fields)) ∷ contents (y_of fields))
-    (λ fields. last_contents (y_of fields))
-    (λ prepared. field_in slot field (of_first prepared) ++ there (of_rest prepared))
-    (λ prepared. last_there (of_rest prepared))
-both_prepared slot x_of y_of of_first of_rest content field contents last_contents there last_there
-    firsts stays one others =
-    record {
-      comes = λ fields old prepared new past may done is_past.
-          (let between = done.1 in
-          let grown = firsts.grows (x_of fields) old (Ok done.0) between may.0 done.3 in
-          let near = one.comes (x_of fields) old done.0 between past may.0 done.3 is_past in
-          let far = others.comes (y_of fields) between (of_rest prepared) new near.0
-          (stays (y_of fields) old between grown may.1) done.4 near.1 in
-          let holds = subst (λ first. HoldsIf near.0 (content (x_of fields)) field first) (sym done.2) near.3 in (
-            far.0,
-            far.1,
-            extends_on past near.0 far.0 near.2 far.2,
-            (
-              one_more far.0 slot (content (x_of fields)) field (of_first prepared)
-                  (there_of (contents (y_of fields))) (there (of_rest prepared))
-                  (holds_stays near.0 far.0 (content (x_of fields)) field (of_first prepared) far.2 holds)
-                  far.3.0,
-              far.3.1,
-            ),
-          ));
-    }
-
--- the same of one that comes last
-pub last_prepared : {X Y Z A B C : Type 0} {may_first : X → State → Type 0}
-    {first : X → Outcome (Option A)} {first_reach : Option A → ℕ} {may_rest : Y → State → Type 0}
-    {rest : Y → Outcome B} (slot : ℕ) (x_of : Z → X) (y_of : Z → Y) (of_first : C → Option A)
-    (of_rest : C → B) (content : X → Option Content) (field : A → Field)
-    (contents last_contents : Y → List (ℕ × Option Content)) (there last_there : B → List (ℕ × Field))
-    → IsLawful may_first first first_reach
-    → ((y : Y) (old new : State) → Grows old new → may_rest y old → may_rest y new)
-    → PreparesOptional may_first first content field
-    → PreparesContents may_rest rest contents last_contents there last_there
-    → PreparesContents {X = Z} (λ fields old. may_first (x_of fields) old × may_rest (y_of fields) old)
-    (λ fields old answer new.
-    PreparesBoth (λ a prepared. of_first prepared ≡ a) of_rest (first (x_of fields))
-    (rest (y_of fields)) old answer new)
-    (λ fields. contents (y_of fields))
-    (λ fields. (slot, content (x_of fields)) ∷ last_contents (y_of fields))
-    (λ prepared. there (of_rest prepared))
-    (λ prepared. field_in slot field (of_first prepared) ++ last_there (of_rest prepared))
-last_prepared slot x_of y_of of_first of_rest content field contents last_contents there last_there
-    firsts stays one others =
-    record {
-      comes = λ fields old prepared new past may done is_past.
-          (let between = done.1 in
-          let grown = firsts.grows (x_of fields) old (Ok done.0) between may.0 done.3 in
-          let near = one.comes (x_of fields) old done.0 between past may.0 done.3 is_past in
-          let far = others.comes (y_of fields) between (of_rest prepared) new near.0
-          (stays (y_of fields) old between grown may.1) done.4 near.1 in
-          let holds = subst (λ first. HoldsIf near.0 (content (x_of fields)) field first) (sym done.2) near.3 in (
-            far.0,
-            far.1,
-            extends_on past near.0 far.0 near.2 far.2,
-            (
-              far.3.0,
-              one_more far.0 slot (content (x_of fields)) field (of_first prepared)
-                  (there_of (last_contents (y_of fields))) (last_there (of_rest prepared))
-                  (holds_stays near.0 far.0 (content (x_of fields)) field (of_first prepared) far.2 holds)
-                  far.3.1,
-            ),
-          ));
-    }
+-- what one field holds, of a list of one
+pub only_field : {A : Type 0} (past : Past) (slot : ℕ) (content : Option Content) (field : A → Field)
+    (prepared : Option A) → HoldsIf past content field prepared
+    → FieldsAre past (there_of ((slot, content) ∷ [])) (field_in slot field prepared)
+only_field past slot None field None holds = tt
+only_field past slot (Some content) field (Some prepared) holds = (refl, holds, tt)
+only_field past slot None field (Some prepared) holds = elim holds [ ]
+only_field past slot (Some content) field None holds = elim holds [ ]
 
 -- what is prepared already
 pub ready_prepared : {A : Type 0} {may : A → State → Type 0} (content : A → Content)
@@ -275,6 +182,14 @@ pub prepared_as : {X Y A : Type 0} {may : X → State → Type 0} {outcome : X �
     → PreparesOptional (λ y old. may (of y) old) (λ y old answer new. outcome (of y) old answer new)
     (λ y. content (of y)) field
 prepared_as of lawful = record { comes = λ y. lawful.comes (of y) }
+
+-- the same of a value that is always there
+pub content_prepared_as : {X Y A : Type 0} {may : X → State → Type 0} {outcome : X → Outcome A}
+    {content : X → Content} {field : A → Field} (of : Y → X)
+    → PreparesContent may outcome content field
+    → PreparesContent (λ y old. may (of y) old) (λ y old answer new. outcome (of y) old answer new)
+    (λ y. content (of y)) field
+content_prepared_as of lawful = record { comes = λ y. lawful.comes (of y) }
 
 -- a value whose entries are put down
 pub value_added : (content : Value) (old : State) (got : List ℕ) (new : State) (past : Past)

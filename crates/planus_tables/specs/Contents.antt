@@ -179,15 +179,17 @@ tag_content None = None
 tag_content (Some content) =
     Some (item (record { bytes = to_le_bytes w8 content.0; alignment = 1 }))
 
--- Once fields are prepared, they hold their contents, and so do the tags of unions.
-pub record PreparesContents {X A : Type 0} (may : X → State → Type 0) (outcome : X → Outcome A)
-    (contents last_contents : X → List (ℕ × Option Content))
-    (there last_there : A → List (ℕ × Field)) : Type 0 where
-  pub comes :
-      (x : X) (old : State) (prepared : A) (new : State) (past : Past) → may x old
-      → outcome x old (Ok prepared) new → IsPast old past
-      → Comes past new (λ after. FieldsAre after (there_of (contents x)) (there prepared)
-      × FieldsAre after (there_of (last_contents x)) (last_there prepared))
+-- The same of a table whose first fields are prepared already, and those that come last, where these
+-- hold some contents: the table has these too, in front of the others and of the others that come
+-- last.
+abbrev pub WritesBehind :
+    (there last : List (ℕ × Field)) (contents last_contents : List (ℕ × Option Content)) → State → ℕ
+    → State → Type 0
+WritesBehind there last contents last_contents old distance new =
+    (past : Past) (before last_before : List (ℕ × Option Content)) → IsPast old past
+    → FieldsAre past (there_of before) there → FieldsAre past (there_of last_before) last
+    → Comes past new (λ after. StillKept past after
+    × TableIsKept after ((before ++ contents) ++ (last_before ++ last_contents)) distance)
 
 -- nothing where the value is the default, else this
 abbrev pub unless : {A : Type 0} → Bool → Option A → Option A

@@ -1,20 +1,19 @@
 -- The laws of what unions and vectors of unions hold, which have two fields each.
-use Rattle.std.specs.Prelude.{◌≡◌, ℕ, ◌≤◌, List, [], ◌∷◌, ◌++◌, length, map, Option, Some, None, Ok, ⊤}
+use Rattle.std.specs.Prelude.{◌≡◌, ℕ, ◌≤◌, List, [], ◌∷◌, length, map, Option, Some, None, Ok, ⊤}
 use Rattle.std.specs.Int.{w8, to_le_bytes}
 use Rattle.std.specs.List.{AllByRecursion}
 use Rattle.std.specs.Option.{option_map}
 use Rattle.std.proofs.Common.{refl, subst, sym, ap}
 use Rattle.planus_read.specs.Values.{Field, plain, reference, tags, values as values_field, union_vector}
-use Rattle.planus_fields.specs.Fields.{MayIf, PreparesIf, LeftOutWhere, reach_if}
+use Rattle.planus_fields.specs.Fields.{MayIf, PreparesIf, LeftOutWhere}
 use Rattle.planus_write.specs.Kept.{IsKept}
-use Rattle.planus_write.specs.Laws.{extends_on}
 use Rattle.planus_write.specs.Parts.{entries_of, last_of}
 use Rattle.planus_write.specs.Past.{Past}
 use Rattle.planus_write.specs.Placing.{Outcome}
-use Rattle.planus_write.specs.Preparing.{AllMay, Answers, IsLawful}
-use Rattle.planus_write.specs.State.{State, IsPast, Extends, Grows}
+use Rattle.planus_write.specs.Preparing.{AllMay, Answers}
+use Rattle.planus_write.specs.State.{State, IsPast, Extends}
 use Rattle.planus_write.specs.UnionLaws.{ready_union_vector_is_put}
-use Rattle.planus_write.specs.Unions.{union_reach, union_vector_reach, item_of, WritesUnionVector}
+use Rattle.planus_write.specs.Unions.{union_reach, item_of, WritesUnionVector}
 use Rattle.planus_write.specs.declared.offset.Offset.{Offset}
 use Rattle.planus_write.specs.declared.union_offset.UnionOffset.{UnionOffset}
 use Rattle.planus_write.specs.declared.union_vector_offset.UnionVectorOffset.{UnionVectorOffset}
@@ -22,16 +21,13 @@ use Rattle.planus_write.proofs.PutEntries.{entries_put}
 use Rattle.planus_write.proofs.Standing.{values_are_kept}
 use Rattle.planus_tables.specs.Contents.{Content, written, union_tags, union_values, written_tags}
 use Rattle.planus_tables.specs.Contents.{written_values, named_at_both, FieldIs, HoldsIf, UnionHolds}
-use Rattle.planus_tables.specs.Contents.{UnionVectorHolds, content_in, there_of, Comes, value_content}
+use Rattle.planus_tables.specs.Contents.{UnionVectorHolds, Comes, value_content}
 use Rattle.planus_tables.specs.Contents.{tag_content, tags_content, values_content, union_if}
 use Rattle.planus_tables.specs.Contents.{union_vector_if, PreparesUnion, PreparesUnionVector}
-use Rattle.planus_tables.specs.Contents.{PreparesContents}
-use Rattle.planus_tables.specs.ContentLaws.{field_stays, one_more, stays_there}
-use Rattle.planus_tables.specs.Preparing.{PreparesBoth}
-use Rattle.planus_tables.specs.TableFields.{field_in}
+use Rattle.planus_tables.specs.ContentLaws.{field_stays, stays_there}
 
 -- a union: its tag and the reference to its value
-union_value_holds : {T U : Type 0} (offset_of : UnionOffset T → Offset U)
+pub union_value_holds : {T U : Type 0} (offset_of : UnionOffset T → Offset U)
     → ((union : UnionOffset T) → (offset_of union).distance ≡ union_reach union)
     → (before after : Past) (content : Option (ℕ × Content)) (union : Option (UnionOffset T))
     → Extends before after → UnionHolds before content union
@@ -43,7 +39,7 @@ union_value_holds offset_of is before after (Some content) (Some union) extends 
 union_value_holds offset_of is before after None (Some union) extends holds = holds
 union_value_holds offset_of is before after (Some content) None extends holds = holds
 
-union_tag_holds : {T : Type 0} (before after : Past) (content : Option (ℕ × Content))
+pub union_tag_holds : {T : Type 0} (before after : Past) (content : Option (ℕ × Content))
     (union : Option (UnionOffset T)) → UnionHolds before content union
     → HoldsIf after (tag_content content)
     (λ tag. plain (record { bytes = to_le_bytes w8 tag; alignment = 1 })) (option_map (λ union. union.tag) union)
@@ -53,65 +49,9 @@ union_tag_holds before after (Some content) (Some union) holds =
 union_tag_holds before after None (Some union) holds = holds
 union_tag_holds before after (Some content) None holds = holds
 
--- one union and the others
-pub union_and_others_prepared : {T U X Y Z B C : Type 0} {may_first : X → State → Type 0}
-    {first : X → Outcome (Option (UnionOffset T))} {may_rest : Y → State → Type 0}
-    {rest : Y → Outcome B} (tag_slot value_slot : ℕ) (x_of : Z → X) (y_of : Z → Y)
-    (offset_of : UnionOffset T → Offset U)
-    → ((union : UnionOffset T) → (offset_of union).distance ≡ union_reach union)
-    → (value_of : C → Option (Offset U)) (tag_of : C → Option ℕ) (of_rest : C → B)
-    (content : X → Option (ℕ × Content))
-    (contents last_contents : Y → List (ℕ × Option Content)) (there last_there : B → List (ℕ × Field))
-    → IsLawful may_first first (reach_if union_reach)
-    → ((y : Y) (old new : State) → Grows old new → may_rest y old → may_rest y new)
-    → PreparesUnion may_first first content
-    → PreparesContents may_rest rest contents last_contents there last_there
-    → PreparesContents {X = Z} (λ fields old. may_first (x_of fields) old × may_rest (y_of fields) old)
-    (λ fields old answer new.
-    PreparesBoth
-    (λ union prepared. (value_of prepared ≡ option_map offset_of union)
-    × (tag_of prepared ≡ option_map (λ union. union.tag) union))
-    of_rest (first (x_of fields)) (rest (y_of fields)) old answer new)
-    (λ fields. (value_slot, value_content (content (x_of fields))) ∷ contents (y_of fields))
-    (λ fields. (tag_slot, tag_content (content (x_of fields))) ∷ last_contents (y_of fields))
-    (λ prepared. field_in value_slot (λ offset. reference offset.distance) (value_of prepared)
-    ++ there (of_rest prepared))
-    (λ prepared. field_in tag_slot (λ tag. plain (record { bytes = to_le_bytes w8 tag; alignment = 1 })) (tag_of prepared)
-    ++ last_there (of_rest prepared))
-union_and_others_prepared tag_slot value_slot x_of y_of offset_of is value_of tag_of of_rest content
-    contents last_contents there last_there firsts stays one others =
-    record {
-      comes = λ fields old prepared new past may done is_past.
-          (let between = done.1 in
-          let grown = firsts.grows (x_of fields) old (Ok done.0) between may.0 done.3 in
-          let near = one.comes (x_of fields) old done.0 between past may.0 done.3 is_past in
-          let far = others.comes (y_of fields) between (of_rest prepared) new near.0
-          (stays (y_of fields) old between grown may.1) done.4 near.1 in
-          let holds = content (x_of fields) in
-          let value_holds = subst
-          (λ value. HoldsIf far.0 (value_content holds) (λ offset. reference offset.distance) value)
-          (sym done.2.0) (union_value_holds offset_of is near.0 far.0 holds done.0 far.2 near.3) in
-          let tag_holds = subst
-          (λ tag. HoldsIf far.0 (tag_content holds) (λ tag. plain (record { bytes = to_le_bytes w8 tag; alignment = 1 })) tag)
-          (sym done.2.1) (union_tag_holds near.0 far.0 holds done.0 near.3) in (
-            far.0,
-            far.1,
-            extends_on past near.0 far.0 near.2 far.2,
-            (
-              one_more far.0 value_slot (value_content holds) (λ offset. reference offset.distance)
-                  (value_of prepared) (there_of (contents (y_of fields))) (there (of_rest prepared))
-                  value_holds far.3.0,
-              one_more far.0 tag_slot (tag_content holds)
-                  (λ tag. plain (record { bytes = to_le_bytes w8 tag; alignment = 1 }))
-                  (tag_of prepared) (there_of (last_contents (y_of fields))) (last_there (of_rest prepared))
-                  tag_holds far.3.1,
-            ),
-          ));
-    }
-
 -- a vector of unions: its two fields
 module _ {T A : Type 0} (of : UnionVectorOffset T → A) (field : A → Field) where
-  list_tags_hold : ((vector : UnionVectorOffset T) → field (of vector) ≡ tags vector.tags.distance)
+  pub list_tags_hold : ((vector : UnionVectorOffset T) → field (of vector) ≡ tags vector.tags.distance)
       → (before after : Past) (contents : Option (Content × Content)) (vector : Option (UnionVectorOffset T))
       → Extends before after → UnionVectorHolds before contents vector
       → HoldsIf after (tags_content contents) field (option_map of vector)
@@ -122,7 +62,7 @@ module _ {T A : Type 0} (of : UnionVectorOffset T → A) (field : A → Field) w
   list_tags_hold is before after None (Some vector) extends holds = holds
   list_tags_hold is before after (Some contents) None extends holds = holds
 
-  list_values_hold : ((vector : UnionVectorOffset T) → field (of vector) ≡ values_field vector.values.distance)
+  pub list_values_hold : ((vector : UnionVectorOffset T) → field (of vector) ≡ values_field vector.values.distance)
       → (before after : Past) (contents : Option (Content × Content)) (vector : Option (UnionVectorOffset T))
       → Extends before after → UnionVectorHolds before contents vector
       → HoldsIf after (values_content contents) field (option_map of vector)
@@ -132,63 +72,6 @@ module _ {T A : Type 0} (of : UnionVectorOffset T → A) (field : A → Field) w
       (subst (λ (field : Field). FieldIs before contents.1 field) (sym (is vector)) holds.1)
   list_values_hold is before after None (Some vector) extends holds = holds
   list_values_hold is before after (Some contents) None extends holds = holds
-
--- one vector of unions and the others
-pub union_vector_and_others_prepared : {T U V X Y Z B C : Type 0} {may_first : X → State → Type 0}
-    {first : X → Outcome (Option (UnionVectorOffset T))} {may_rest : Y → State → Type 0}
-    {rest : Y → Outcome B} (tags_slot values_slot : ℕ) (x_of : Z → X) (y_of : Z → Y)
-    (tags_of : UnionVectorOffset T → U) (tags_field : U → Field)
-    (values_of : UnionVectorOffset T → V) (values_are : V → Field)
-    → ((vector : UnionVectorOffset T) → tags_field (tags_of vector) ≡ tags vector.tags.distance)
-    → ((vector : UnionVectorOffset T) → values_are (values_of vector) ≡ values_field vector.values.distance)
-    → (tags_in : C → Option U) (values_in : C → Option V) (of_rest : C → B)
-    (content : X → Option (Content × Content))
-    (contents last_contents : Y → List (ℕ × Option Content)) (there last_there : B → List (ℕ × Field))
-    → IsLawful may_first first (reach_if union_vector_reach)
-    → ((y : Y) (old new : State) → Grows old new → may_rest y old → may_rest y new)
-    → PreparesUnionVector may_first first content
-    → PreparesContents may_rest rest contents last_contents there last_there
-    → PreparesContents {X = Z} (λ fields old. may_first (x_of fields) old × may_rest (y_of fields) old)
-    (λ fields old answer new.
-    PreparesBoth
-    (λ vector prepared. (tags_in prepared ≡ option_map tags_of vector)
-    × (values_in prepared ≡ option_map values_of vector))
-    of_rest (first (x_of fields)) (rest (y_of fields)) old answer new)
-    (λ fields. (tags_slot, tags_content (content (x_of fields)))
-    ∷ (values_slot, values_content (content (x_of fields))) ∷ contents (y_of fields))
-    (λ fields. last_contents (y_of fields))
-    (λ prepared. field_in tags_slot tags_field (tags_in prepared)
-    ++ (field_in values_slot values_are (values_in prepared) ++ there (of_rest prepared)))
-    (λ prepared. last_there (of_rest prepared))
-union_vector_and_others_prepared tags_slot values_slot x_of y_of tags_of tags_field values_of values_are
-    tags_is values_is tags_in values_in of_rest content contents last_contents there last_there firsts
-    stays one others =
-    record {
-      comes = λ fields old prepared new past may done is_past.
-          (let between = done.1 in
-          let grown = firsts.grows (x_of fields) old (Ok done.0) between may.0 done.3 in
-          let near = one.comes (x_of fields) old done.0 between past may.0 done.3 is_past in
-          let far = others.comes (y_of fields) between (of_rest prepared) new near.0
-          (stays (y_of fields) old between grown may.1) done.4 near.1 in
-          let holds = content (x_of fields) in
-          let tags_hold = subst (λ tags. HoldsIf far.0 (tags_content holds) tags_field tags)
-          (sym done.2.0) (list_tags_hold tags_of tags_field tags_is near.0 far.0 holds done.0 far.2 near.3) in
-          let values_hold = subst (λ values. HoldsIf far.0 (values_content holds) values_are values)
-          (sym done.2.1) (list_values_hold values_of values_are values_is near.0 far.0 holds done.0 far.2 near.3) in (
-            far.0,
-            far.1,
-            extends_on past near.0 far.0 near.2 far.2,
-            (
-              one_more far.0 tags_slot (tags_content holds) tags_field (tags_in prepared)
-                  (content_in values_slot (values_content holds) ++ there_of (contents (y_of fields)))
-                  (field_in values_slot values_are (values_in prepared) ++ there (of_rest prepared))
-                  tags_hold
-                  (one_more far.0 values_slot (values_content holds) values_are (values_in prepared)
-                  (there_of (contents (y_of fields))) (there (of_rest prepared)) values_hold far.3.0),
-              far.3.1,
-            ),
-          ));
-    }
 
 -- a vector of unions that may be absent
 pub optional_union_vector_prepared : {X T : Type 0} {may : X → State → Type 0}

@@ -1,12 +1,12 @@
 //! What the values of fields hold.
 ghost use Rattle.std.specs.Prelude.{ℕ, List, Option as option};
-ghost use Rattle.planus_tables.specs.Contents.{Content, PreparesOptional, PreparesUnion};
-ghost use Rattle.planus_tables.specs.Contents.{PreparesUnionVector};
+ghost use Rattle.planus_tables.specs.Contents.{Content, PreparesContent, PreparesOptional};
+ghost use Rattle.planus_tables.specs.Contents.{PreparesUnion, PreparesUnionVector};
 ghost use Rattle.planus_tables.specs.ListContents.{ListHasContent};
 
 use crate::table_item::TableItem;
 use planus_fields::{
-    WriteAsDefault, WriteAsOptional, WriteAsOptionalUnion, WriteAsOptionalUnionVector,
+    WriteAs, WriteAsDefault, WriteAsOptional, WriteAsOptionalUnion, WriteAsOptionalUnionVector,
 };
 use planus_write::{Primitive, VectorWrite};
 
@@ -20,6 +20,18 @@ where
 
     /// Once the value is prepared, the field holds this.
     ghost has_content: { PreparesOptional Self.may Self.outcome content Self.Prepared.field };
+}
+
+/// What can be written as a required field, and says what the field then holds.
+pub trait HasRequiredContent<P: Primitive>: WriteAs<P>
+where
+    Self::Prepared: TableItem<P>,
+{
+    /// What the field holds.
+    ghost content: { Self → Content };
+
+    /// Once the value is prepared, the field holds this.
+    ghost has_content: { PreparesContent Self.may Self.outcome content Self.Prepared.field };
 }
 
 /// What can be written as a field with a default, and says what the field then holds.

@@ -3,37 +3,59 @@ ghost use Rattle.std.specs.Prelude.{◌≤◌, [], ◌++◌, max, length, IfOk, 
 ghost use Rattle.planus_write.specs.State.{Grows};
 ghost use Rattle.planus_write.specs.Tables.{body_size, body_bytes};
 ghost use Rattle.planus_tables.specs.TableRules.{can_hold};
-ghost use Rattle.planus_tables.specs.Preparing.{WritesFields};
+ghost use Rattle.planus_tables.specs.Preparing.{AnswersFields, WritesFields};
 ghost use Rattle.planus_write.specs.Placing.{then_does};
-ghost use Rattle.planus_tables.specs.Contents.{WritesContents};
+ghost use Rattle.planus_tables.specs.Contents.{WritesContents, WritesBehind};
 
 use crate::fields::Fields;
-use crate::prepared_body::PreparedBody;
 use crate::prepared_fields::PreparedFields;
 use planus_write::{BuildError, Builder, ObjectFill, ObjectWriter, Offset, TableWriter};
 
 /// What writes the body of a table.
 #[derive(Drop)]
 struct Body<'a, const N: usize, F: PreparedFields<N>, L: PreparedFields<N>> {
-    prepared: &'a PreparedBody<F, L>,
+    fields: &'a F,
+    last: &'a L,
 }
 
 impl<'a, const N: usize, F: PreparedFields<N>, L: PreparedFields<N>> ObjectFill
     for Body<'a, N, F, L> {
-    ghost size = { λ body.
-        body_size (F.there body.prepared.now.fields ++ L.there body.prepared.now.last) };
+    ghost size = { λ body. body_size (F.there body.fields.now ++ L.there body.last.now) };
 
-    ghost reach = { λ body.
-        max (F.reach body.prepared.now.fields) (L.reach body.prepared.now.last) };
+    ghost reach = { λ body. max (F.reach body.fields.now) (L.reach body.last.now) };
 
     ghost leaves = { λ body place.
-        body_bytes place (F.there body.prepared.now.fields ++ L.there body.prepared.now.last) };
+        body_bytes place (F.there body.fields.now ++ L.there body.last.now) };
 
     #[inline]
     fn fill(&self, writer: &mut ObjectWriter<'_>) {
-        self.prepared.fields.write(writer);
-        self.prepared.last.write(writer);
+        self.fields.write(writer);
+        self.last.write(writer);
     }
+}
+
+/// Writes the table of prepared fields, and behind them those that come last.
+#[inline]
+pub(crate) fn write_table<T, const N: usize, F: PreparedFields<N>, L: PreparedFields<N>>(
+    builder: &mut Builder,
+    fields: &F,
+    last: &L,
+) -> Result<Offset<T>, BuildError>
+    requires rules { IsTrue (can_hold N (F.all ++ L.all)) }
+    requires fields { F.reach fields.now ≤ length builder.old.bytes }
+    requires last { L.reach last.now ≤ length builder.old.bytes }
+    ensures written { AnswersFields (F.there fields.now ++ L.there last.now)
+        builder.old result builder.new }
+    ensures kept { IfOk result (λ offset. WritesBehind (F.there fields.now) (L.there last.now)
+        [] [] builder.old offset.distance builder.new) }
+    ensures reached { IfOk result (λ offset. offset.distance ≤ length builder.new.bytes) }
+    ensures grows { Grows builder.old builder.new }
+{
+    let mut writer: TableWriter<N> = TableWriter::default();
+    fields.declare(&mut writer);
+    last.declare(&mut writer);
+    writer.finish(builder, &Body { fields, last })?;
+    Ok(builder.current_offset())
 }
 
 /// Writes a table: prepares its fields in order, and then writes the table of those that are there,
@@ -49,12 +71,13 @@ impl<'a, const N: usize, F: PreparedFields<N>, L: PreparedFields<N>> ObjectFill
 /// A refusal is that of the first field that is refused, or else that of the table:
 /// [`BuildError::TooLarge`] where a part's place would be above 2147483647 bytes from the end, and
 /// [`BuildError::OutOfMemory`] where memory is refused. What was written before it stays.
+#[inline]
 pub fn create_table<T, const N: usize, F: Fields<N> + Drop>(
     builder: &mut Builder,
     fields: F,
 ) -> Result<Offset<T>, BuildError>
     requires may { F.may fields builder.old }
-    requires rules { IsTrue (can_hold N (F.Prepared.all ++ F.Last.all)) }
+    requires rules { IsTrue (can_hold N (F.all ++ F.all_last)) }
     ensures written { then_does (F.in_turn fields [] []) WritesFields
         builder.old result builder.new }
     ensures kept { IfOk result (λ offset. WritesContents
@@ -63,15 +86,5 @@ pub fn create_table<T, const N: usize, F: Fields<N> + Drop>(
     ensures reached { IfOk result (λ offset. offset.distance ≤ length builder.new.bytes) }
     ensures grows { Grows builder.old builder.new }
 {
-    let prepared = fields.prepare(builder)?;
-    let mut writer: TableWriter<N> = TableWriter::default();
-    prepared.fields.declare(&mut writer);
-    prepared.last.declare(&mut writer);
-    writer.finish(
-        builder,
-        &Body {
-            prepared: &prepared,
-        },
-    )?;
-    Ok(builder.current_offset())
+    fields.write::<T, (), ()>(builder, &(), &())
 }

@@ -1,6 +1,7 @@
 //! Tables from lists of their fields: one call that writes any table, and one view that reads it.
 #![tactic(auto)]
 
+mod behind;
 mod contents;
 mod create;
 mod field_at;
@@ -10,8 +11,8 @@ mod impls;
 mod last_at;
 pub mod laws;
 mod or_default;
-mod prepared_body;
 mod prepared_fields;
+mod required;
 mod table_item;
 mod table_kind;
 mod table_ref;
@@ -21,16 +22,18 @@ mod union_parts;
 mod union_vector_at;
 mod union_vector_parts;
 
+pub use behind::Behind;
 pub use contents::{
-    HasContent, HasDefaultContent, HasListContent, HasUnionContent, HasUnionVectorContent,
+    HasContent, HasDefaultContent, HasListContent, HasRequiredContent, HasUnionContent,
+    HasUnionVectorContent,
 };
 pub use create::create_table;
 pub use field_at::FieldAt;
 pub use fields::Fields;
 pub use last_at::LastAt;
 pub use or_default::OrDefault;
-pub use prepared_body::PreparedBody;
 pub use prepared_fields::PreparedFields;
+pub use required::Required;
 pub use table_item::TableItem;
 pub use table_kind::TableKind;
 pub use table_ref::TableRef;

@@ -1,23 +1,18 @@
 //! The fields of a table, prepared.
-ghost use Rattle.std.specs.Prelude.{◌≡◌, ◌≤◌, ◌+◌, ℕ, List, [], ◌∷◌, ◌++◌, length, max, IsTrue};
+ghost use Rattle.std.specs.Prelude.{◌≡◌, ◌≤◌, ◌+◌, ℕ, List, [], ◌++◌, IsTrue};
 ghost use Rattle.std.specs.List.{AllByRecursion};
-ghost use Rattle.planus_fields.specs.Fields.{reach_if};
 ghost use Rattle.planus_read.specs.Values.{Field};
 ghost use Rattle.planus_write.specs.ObjectWriting.{body_of, wrote};
 ghost use Rattle.planus_write.specs.Tables.{Declared, IsField, declared_of, body_size};
 ghost use Rattle.planus_write.specs.Tables.{body_bytes, total_size};
 ghost use Rattle.planus_write.specs.TableWriting.{WasTold};
-ghost use Rattle.planus_tables.specs.TableFields.{field_in, IsUnused};
+ghost use Rattle.planus_tables.specs.TableFields.{IsUnused};
 ghost use Rattle.planus_tables.specs.TableRules.{Among, has_slots, is_apart};
-ghost use Rattle.planus_tables.specs.PreparingLaws.{all_stand, all_among};
 
-use crate::field_at::FieldAt;
-use crate::field_parts::{declare_if, write_if};
-use crate::table_item::TableItem;
-use planus_write::{ObjectWriter, Primitive, TableWriter};
+use planus_write::{ObjectWriter, TableWriter};
 
-/// The fields of a table with `N` bytes for its vtable, prepared: `()`, or a pair of one field and
-/// the others.
+/// The fields of a table with `N` bytes for its vtable, prepared: `()`, or a
+/// [`Behind`](crate::Behind), one field behind the others.
 ///
 /// The ghost member `all` has the entries of all fields that may be there, and `there` the fields
 /// that are, in order, each with its slot. `reach` is how far from the end of the buffer they
@@ -76,37 +71,4 @@ impl<const N: usize> PreparedFields<N> for () {
     ghost stand = { λ fields before reached. tt };
 
     ghost among = { λ fields. tt };
-}
-
-impl<
-    const N: usize,
-    const SLOT: usize,
-    P: Primitive,
-    A: TableItem<P>,
-    R: PreparedFields<N>,
-> PreparedFields<N> for (FieldAt<SLOT, P, Option<A>>, R) {
-    ghost all = { record { slot = SLOT; size = P.SIZE; alignment = P.ALIGNMENT } ∷ R.all };
-
-    ghost there = { λ fields. field_in SLOT A.field fields.0.value ++ R.there fields.1 };
-
-    ghost reach = { λ fields. max (reach_if A.reach fields.0.value) (R.reach fields.1) };
-
-    #[inline]
-    fn declare(&self, writer: &mut TableWriter<N>) {
-        declare_if::<P, A, N>(writer, SLOT, &self.0.value);
-        self.1.declare(writer);
-    }
-
-    #[inline]
-    fn write(&self, writer: &mut ObjectWriter<'_>) {
-        write_if::<P, A>(writer, &self.0.value);
-        self.1.write(writer);
-    }
-
-    ghost stand = { λ fields before reached.
-        all_stand SLOT A.field A.reach A.leaves P.SIZE P.ALIGNMENT A.is_item fields.0.value
-        (R.there fields.1) before (R.reach fields.1) reached (R.stand fields.1 before) };
-
-    ghost among = { λ fields. all_among SLOT A.field A.reach A.leaves P.SIZE P.ALIGNMENT A.is_item
-        fields.0.value (R.there fields.1) R.all (R.among fields.1) };
 }

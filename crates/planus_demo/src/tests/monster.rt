@@ -9,8 +9,8 @@ use crate::equipment_ref::EquipmentRef;
 use crate::monster::{Monster, MonsterRef};
 use planus::errors::ErrorKind;
 use planus::{
-    BuildError, Builder, ByteList, Caches, DefaultValue, Offset, ReadAsRoot, UnionOffset,
-    WriteAsDefault,
+    BuildError, Builder, ByteList, Caches, DefaultValue, HasDefaultContent, Offset, ReadAsRoot,
+    TableItem, UnionOffset,
 };
 use std::alloc::Global;
 use std::test::Fail;
@@ -207,10 +207,12 @@ fn has_all_hit_points(bytes: &[u8]) -> bool {
 }
 
 // Whether a goblin with these hit points is written as the one above, and read.
-fn goblin_is_written<H: WriteAsDefault<i16, i16> + Drop>(
+fn goblin_is_written<H: HasDefaultContent<i16, i16> + Drop>(
     builder: &mut Builder,
     hp: H,
 ) -> Result<bool, BuildError>
+where
+    H::Prepared: TableItem<i16>,
     requires { H.may hp builder.old }
 {
     let goblin = Monster::create(builder, hp, "Gob", (), (), (), ())?;

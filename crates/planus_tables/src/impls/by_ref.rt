@@ -1,7 +1,7 @@
 //! References: a field holds what the value holds that they lead to.
-ghost use Rattle.planus_tables.specs.ContentLaws.{prepared_as};
+ghost use Rattle.planus_tables.specs.ContentLaws.{content_prepared_as, prepared_as};
 
-use crate::contents::{HasContent, HasDefaultContent};
+use crate::contents::{HasContent, HasDefaultContent, HasRequiredContent};
 use crate::table_item::TableItem;
 use planus_write::{ByRef, Primitive};
 
@@ -12,6 +12,15 @@ where
     ghost content = { λ by_ref. V.content by_ref.0.now };
 
     ghost has_content = { prepared_as (λ by_ref. by_ref.0.now) V.has_content };
+}
+
+impl<'a, P: Primitive, V: HasRequiredContent<P>> HasRequiredContent<P> for ByRef<'a, V>
+where
+    V::Prepared: TableItem<P>,
+{
+    ghost content = { λ by_ref. V.content by_ref.0.now };
+
+    ghost has_content = { content_prepared_as (λ by_ref. by_ref.0.now) V.has_content };
 }
 
 impl<'a, P: Primitive, D, V: HasDefaultContent<P, D>> HasDefaultContent<P, D> for ByRef<'a, V>

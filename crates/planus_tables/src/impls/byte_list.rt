@@ -7,7 +7,7 @@ ghost use Rattle.planus_tables.specs.ContentLaws.{always_prepared, byte_list_pre
 ghost use Rattle.planus_tables.specs.ContentLaws.{left_out_prepared};
 ghost use Rattle.planus_tables.specs.ListContents.{is_empty, empty_decides};
 
-use crate::contents::{HasContent, HasDefaultContent};
+use crate::contents::{HasContent, HasDefaultContent, HasRequiredContent};
 use planus_write::{ByteList, List, Offset, SignedList};
 
 impl<'a> HasContent<Offset<List<u8>>> for ByteList<'a> {
@@ -22,6 +22,20 @@ impl<'a> HasContent<Offset<List<i8>>> for SignedList<'a> {
 
     ghost has_content = { always_prepared
         (byte_list_prepared (λ list. map (λ number. cast_unsigned w8 number) list.0.now)) };
+}
+
+impl<'a> HasRequiredContent<Offset<List<u8>>> for ByteList<'a> {
+    ghost content = { λ list. value (byte_list list.0.now) };
+
+    ghost has_content = { byte_list_prepared (λ list. list.0.now) };
+}
+
+impl<'a> HasRequiredContent<Offset<List<i8>>> for SignedList<'a> {
+    ghost content = { λ list.
+        value (byte_list (map (λ number. cast_unsigned w8 number) list.0.now)) };
+
+    ghost has_content = {
+        byte_list_prepared (λ list. map (λ number. cast_unsigned w8 number) list.0.now) };
 }
 
 impl<'a> HasDefaultContent<Offset<List<u8>>, ()> for ByteList<'a> {

@@ -6,7 +6,7 @@ ghost use Rattle.planus_tables.specs.ContentLaws.{always_prepared, left_out_prep
 ghost use Rattle.planus_tables.specs.ListContents.{is_empty, empty_decides, list_prepared};
 ghost use Rattle.planus_tables.specs.ListContents.{plain_list_has_content};
 
-use crate::contents::{HasContent, HasDefaultContent, HasListContent};
+use crate::contents::{HasContent, HasDefaultContent, HasListContent, HasRequiredContent};
 use crate::table_scalar::TableScalar;
 use planus_write::{List, Offset, Primitive, ScalarItem};
 
@@ -32,6 +32,25 @@ impl<P: Primitive, T: HasListContent<P>> HasContent<Offset<List<P>>> for Vec<T> 
     ghost content = { λ items. Some (T.list items.items) };
 
     ghost has_content = { always_prepared (list_prepared (λ items. items.items) T.has_list) };
+}
+
+impl<'a, P: Primitive, T: HasListContent<P>> HasRequiredContent<Offset<List<P>>> for &'a [T] {
+    ghost content = { λ items. T.list items.now };
+
+    ghost has_content = { list_prepared (λ items. items.now) T.has_list };
+}
+
+impl<P: Primitive, T: HasListContent<P>, const N: usize> HasRequiredContent<Offset<List<P>>>
+    for [T; N] {
+    ghost content = { λ items. T.list items };
+
+    ghost has_content = { list_prepared (λ items. items) T.has_list };
+}
+
+impl<P: Primitive, T: HasListContent<P>> HasRequiredContent<Offset<List<P>>> for Vec<T> {
+    ghost content = { λ items. T.list items.items };
+
+    ghost has_content = { list_prepared (λ items. items.items) T.has_list };
 }
 
 impl<'a, P: Primitive, T: HasListContent<P>> HasDefaultContent<Offset<List<P>>, ()> for &'a [T] {

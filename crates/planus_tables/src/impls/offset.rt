@@ -6,7 +6,7 @@ ghost use Rattle.planus_tables.specs.ContentLaws.{always_prepared, ready_prepare
 ghost use Rattle.planus_tables.specs.ListContents.{offset_list_has_content};
 ghost use Rattle.planus_tables.specs.PreparingLaws.{reference_is_item};
 
-use crate::contents::{HasContent, HasDefaultContent, HasListContent};
+use crate::contents::{HasContent, HasDefaultContent, HasListContent, HasRequiredContent};
 use crate::table_item::TableItem;
 use planus_write::Offset;
 
@@ -21,6 +21,13 @@ impl<T> HasContent<Offset<T>> for Offset<T> {
 
     ghost has_content = { always_prepared (ready_prepared (λ offset. written offset.distance)
         (λ offset. reference offset.distance) (λ offset past. refl)) };
+}
+
+impl<T> HasRequiredContent<Offset<T>> for Offset<T> {
+    ghost content = { λ offset. written offset.distance };
+
+    ghost has_content = { ready_prepared (λ offset. written offset.distance)
+        (λ offset. reference offset.distance) (λ offset past. refl) };
 }
 
 impl<T, D> HasDefaultContent<Offset<T>, D> for Offset<T> {

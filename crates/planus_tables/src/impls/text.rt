@@ -11,7 +11,7 @@ ghost use Rattle.planus_tables.specs.ContentLaws.{always_prepared, left_out_prep
 ghost use Rattle.planus_tables.specs.ContentLaws.{text_prepared};
 ghost use Rattle.planus_tables.specs.ListContents.{values_have_content};
 
-use crate::contents::{HasContent, HasDefaultContent, HasListContent};
+use crate::contents::{HasContent, HasDefaultContent, HasListContent, HasRequiredContent};
 use planus_write::{Offset, Text};
 
 impl<'a> HasContent<Offset<Text>> for &'a str {
@@ -24,6 +24,18 @@ impl HasContent<Offset<Text>> for String {
     ghost content = { λ written. Some (value (text (string_bytes written))) };
 
     ghost has_content = { always_prepared (text_prepared string_bytes) };
+}
+
+impl<'a> HasRequiredContent<Offset<Text>> for &'a str {
+    ghost content = { λ written. value (text written.now) };
+
+    ghost has_content = { text_prepared (λ written. written.now) };
+}
+
+impl HasRequiredContent<Offset<Text>> for String {
+    ghost content = { λ written. value (text (string_bytes written)) };
+
+    ghost has_content = { text_prepared string_bytes };
 }
 
 impl<'a, 'b> HasDefaultContent<Offset<Text>, &'b str> for &'a str {
