@@ -31,8 +31,8 @@ use crate::weapon::{Weapon, WeaponRef};
 use planus::errors::ErrorKind;
 use planus::table_reader::Table;
 use planus::{
-    BuildError, Builder, ByRef, HasContent, HasDefaultContent, HasRequiredContent,
-    HasUnionContent, HasUnionVectorContent, List, Offset, OrDefault, ReadAsRoot, Required, Result,
+    BuildError, Builder, ByRef, HasContent, HasDefaultContent, HasRequiredContent, HasUnionContent,
+    HasUnionVectorContent, List, Offset, OrDefault, ReadAsRoot, Required, Result,
     SliceWithStartOffset, TableItem, TableRead, Text, UnionVector, Vector, create_table, fields,
 };
 

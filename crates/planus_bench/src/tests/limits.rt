@@ -96,7 +96,13 @@ fn put_greatest_slot(builder: &mut Builder) -> Result<&[u8], BuildError> {
     let mut writer: TableWriter<65534> = TableWriter::default();
     writer.write_entry::<u8>(32764);
     let _marker: PhantomData<u8> = PhantomData;
-    writer.finish(builder, &One { field: 5u8, _marker })?;
+    writer.finish(
+        builder,
+        &One {
+            field: 5u8,
+            _marker,
+        },
+    )?;
     let root = builder.current_offset::<()>();
     builder.finish(root, None)
 }

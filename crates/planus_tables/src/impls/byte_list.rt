@@ -34,8 +34,7 @@ impl<'a> HasRequiredContent<Offset<List<i8>>> for SignedList<'a> {
     ghost content = { λ list.
         value (byte_list (map (λ number. cast_unsigned w8 number) list.0.now)) };
 
-    ghost has_content = {
-        byte_list_prepared (λ list. map (λ number. cast_unsigned w8 number) list.0.now) };
+    ghost has_content = { byte_list_prepared (λ list. map (λ number. cast_unsigned w8 number) list.0.now) };
 }
 
 impl<'a> HasDefaultContent<Offset<List<u8>>, ()> for ByteList<'a> {
