@@ -11,7 +11,7 @@
 ghost use Rattle.std.specs.Prelude.{◌≤◌, length, pos, codes, IfOk};
 ghost use Rattle.std.specs.Int.{w16};
 ghost use Rattle.planus_read.specs.Clauses.{Answer, shown};
-ghost use Rattle.planus_read.specs.Located.{Located, Required as required, OrDefault as or_default};
+ghost use Rattle.planus_read.specs.Located.{Located, Required as IsThere, OrDefault as OrElse};
 ghost use Rattle.planus_read.specs.Pieces.{ShowsBytes};
 ghost use Rattle.planus_read.specs.Reading.{text_reading, byte_list_reading, signed_reading};
 ghost use Rattle.planus_read.specs.Reading.{vector_reading, union_vector_reading, table_reading};
@@ -110,7 +110,7 @@ pub struct MonsterRef<'a> {
 impl<'a> MonsterRef<'a> {
     /// Returns the hit points, 100 where there are none. Their errors are those of a field `i16`.
     pub fn hp(&self) -> Result<i16>
-        ensures { Located (or_default (pos 100) (FieldAnswer
+        ensures { Located (OrElse (pos 100) (FieldAnswer
             (λ S start f r. Answer (signed_reading S f w16) r) (monster_table self.now) 0))
             (codes "Monster") (codes "hp") (table_start (monster_table self.now)) result }
     {
@@ -120,7 +120,7 @@ impl<'a> MonsterRef<'a> {
     /// Returns the name. [`ErrorKind::MissingRequired`] where there is none, and the errors of a
     /// field `&str`.
     pub fn name(&self) -> Result<&'a str>
-        ensures { Located (required (FieldAnswer
+        ensures { Located (IsThere (FieldAnswer
             (λ S start f r. Answer (shown ShowsBytes (text_reading S f)) r)
             (monster_table self.now) 1))
             (codes "Monster") (codes "name") (table_start (monster_table self.now)) result }

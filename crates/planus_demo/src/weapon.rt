@@ -8,7 +8,7 @@ ghost use Rattle.std.specs.Prelude.{◌≡◌, ◌≤◌, [], ◌∷◌, length,
 ghost use Rattle.std.specs.Int.{w16};
 ghost use Rattle.std.proofs.Common.{lit≤};
 ghost use Rattle.planus_read.specs.Clauses.{Answer, shown};
-ghost use Rattle.planus_read.specs.Located.{Located, OrDefault as or_default};
+ghost use Rattle.planus_read.specs.Located.{Located, OrDefault as OrElse};
 ghost use Rattle.planus_read.specs.Pieces.{ShowsBytes};
 ghost use Rattle.planus_read.specs.Reading.{text_reading, signed_reading, table_reading};
 ghost use Rattle.planus_read.specs.Tables.{FieldAnswer, table_start};
@@ -85,7 +85,7 @@ impl<'a> WeaponRef<'a> {
 
     /// Returns the damage, 0 where there is none. Its errors are those of a field `i16`.
     pub fn damage(&self) -> Result<i16>
-        ensures { Located (or_default (pos 0) (FieldAnswer
+        ensures { Located (OrElse (pos 0) (FieldAnswer
             (λ S start f r. Answer (signed_reading S f w16) r) (weapon_table self.now) 1))
             (codes "Weapon") (codes "damage") (table_start (weapon_table self.now)) result }
     {
