@@ -93,12 +93,6 @@ told_item slot field size alignment reach leaves value item writer fields told =
     (subst (λ (n : ℕ). WasTold writer (declared_of fields ++ record { slot = slot; size = size; alignment = n } ∷ []))
     (sym item.alignment_is) told))
 
--- or nothing more
-pub told_nothing_more : (writer : Writer) (fields : List (ℕ × Field))
-    → WasTold writer (declared_of fields) → WasTold writer (declared_of (fields ++ []))
-told_nothing_more writer fields told =
-    subst (λ all. WasTold writer (declared_of all)) (sym (append-nil fields)) told
-
 -- the size of one that may be absent
 pub size_of_field : {A : Type 0} (slot : ℕ) (field : A → Field) (size : ℕ) (value : Option A)
     → ((a : A) → field_size (field a) ≡ size)

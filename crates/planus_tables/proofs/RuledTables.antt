@@ -132,15 +132,6 @@ unused_parts writer [] others unused = (tt, unused)
 unused_parts writer (one ∷ all) others unused =
     let rest = unused_parts writer all others unused.1 in ((unused.0, rest.0), rest.1)
 
--- what is unused in a slot that is apart from one and from the others stays so
-pub other_unused : (before between after : Writer) (one : Declared) (all : List Declared)
-    → ((other : ℕ) → (other ≡ one.slot → ⊥) → IsUnused before other → IsUnused between other)
-    → ((other : ℕ) → is_apart other all ≡ true → IsUnused between other → IsUnused after other)
-    → (other : ℕ) → is_apart other (one ∷ all) ≡ true → IsUnused before other → IsUnused after other
-other_unused before between after one all first rest other apart unused =
-    let parts = apart_parts other one all apart in
-    rest other parts.1 (first other (λ same. eqb-false one.slot other parts.0 (sym same)) unused)
-
 -- what is unused in the slots of others stays so
 pub others_unused : (before after : Writer) (all others : List Declared)
     → AllByRecursion (λ other. is_apart other.slot all ≡ true) others

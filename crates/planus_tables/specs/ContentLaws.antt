@@ -63,15 +63,6 @@ field_stays before after (union_values items) field extends is = (
 field_stays before after (written_tags distance) field extends is = is
 field_stays before after (written_values distance) field extends is = is
 
-pub holds_stays : {A : Type 0} (before after : Past) (content : Option Content) (field : A → Field)
-    (prepared : Option A) → Extends before after → HoldsIf before content field prepared
-    → HoldsIf after content field prepared
-holds_stays before after None field None extends holds = tt
-holds_stays before after (Some content) field (Some prepared) extends holds =
-    field_stays before after content (field prepared) extends holds
-holds_stays before after None field (Some prepared) extends holds = holds
-holds_stays before after (Some content) field None extends holds = holds
-
 pub fields_stay : (before after : Past) (contents : List (ℕ × Content)) (fields : List (ℕ × Field))
     → Extends before after → FieldsAre before contents fields → FieldsAre after contents fields
 fields_stay before after [] [] extends are = tt
