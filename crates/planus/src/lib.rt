@@ -29,10 +29,10 @@ pub use planus_read::{
     located, read_size_prefixed, table_reader,
 };
 pub use planus_tables::{
-    Behind, FieldAt, Fields, HasContent, HasDefaultContent, HasListContent, HasRequiredContent,
-    HasUnionContent, HasUnionVectorContent, LastAt, OrDefault, PreparedFields, Required, TableItem,
-    TableKind, TableRef, TableScalar, TagsField, UnionAt, UnionVectorAt, ValuesField, create_table,
-    fields,
+    Behind, FieldAt, Fields, HasContent, HasDefaultContent, HasDefaultUnionVectorContent,
+    HasListContent, HasRequiredContent, HasUnionContent, HasUnionVectorContent, LastAt, OrDefault,
+    PreparedFields, Required, TableItem, TableKind, TableRef, TableScalar, TagsField, UnionAt,
+    UnionVectorAt, ValuesField, create_table, fields,
 };
 pub use planus_unions::{AsRead, ItemError, UnionVector, union_vectors};
 pub use planus_view::{CopyError, FromItem, Vector, vectors};

@@ -1,5 +1,5 @@
 -- What the fields of a table hold, in the words of its caller.
-use Rattle.std.specs.Prelude.{◌≡◌, ℕ, List, [], ◌∷◌, ◌++◌, Bool, if◌then◌else◌, Option, Some, None, Ok, ⊤}
+use Rattle.std.specs.Prelude.{◌≡◌, ℕ, List, [], ◌∷◌, ◌++◌, map, Bool, if◌then◌else◌, Option, Some, None, Ok, ⊤}
 use Rattle.std.specs.Int.{w8, to_le_bytes}
 use Rattle.planus_read.specs.Values.{Value, Field, Plain, plain, reference, tags, values as values_field}
 use Rattle.planus_read.specs.Values.{reference_list, union_vector, table}
@@ -8,7 +8,7 @@ use Rattle.planus_write.specs.Parts.{Named}
 use Rattle.planus_write.specs.Past.{Past}
 use Rattle.planus_write.specs.Placing.{Outcome}
 use Rattle.planus_write.specs.State.{State, IsPast, Extends}
-use Rattle.planus_write.specs.Unions.{union_reach}
+use Rattle.planus_write.specs.Unions.{union_reach, item_of}
 use Rattle.planus_write.specs.declared.union_offset.UnionOffset.{UnionOffset}
 use Rattle.planus_write.specs.declared.union_vector_offset.UnionVectorOffset.{UnionVectorOffset}
 
@@ -159,6 +159,10 @@ pub record PreparesUnionVector {X T : Type 0} (may : X → State → Type 0)
       (x : X) (old : State) (prepared : Option (UnionVectorOffset T)) (new : State) (past : Past)
       → may x old → outcome x old (Ok prepared) new → IsPast old past
       → Comes past new (λ after. UnionVectorHolds after (contents x) prepared)
+
+-- what its two fields hold where the unions were written before
+abbrev pub unions_hold : {T : Type 0} → List (UnionOffset T) → Content × Content
+unions_hold unions = (union_tags (map item_of unions), union_values (map item_of unions))
 
 -- what each of its fields holds
 abbrev pub tags_content : Option (Content × Content) → Option Content

@@ -7,6 +7,8 @@ use Rattle.planus_write.specs.declared.offset.Offset.{Offset}
 use Rattle.planus_write.specs.declared.union_offset.UnionOffset.{UnionOffset}
 use Rattle.planus_tables.specs.Contents.{Content, item, value, values, written}
 use Rattle.planus_tables.specs.Contents.{union_tags, union_values, value_content, tag_content, union_if}
+use Rattle.planus_tables.specs.Contents.{unions_hold, tags_content, values_content, unless}
+use Rattle.planus_tables.specs.ListContents.{is_empty}
 
 -- a number without a sign
 abbrev pub holds_u8 : ℕ → Option Content
@@ -86,3 +88,10 @@ holds_union_tags unions = Some (union_tags (map item_of unions))
 
 abbrev pub holds_union_values : {T : Type 0} → List (UnionOffset T) → Option Content
 holds_union_values unions = Some (union_values (map item_of unions))
+
+-- the same of a vector that is left out where it is empty
+abbrev pub holds_any_union_tags : {T : Type 0} → List (UnionOffset T) → Option Content
+holds_any_union_tags unions = tags_content (unless (is_empty unions) (Some (unions_hold unions)))
+
+abbrev pub holds_any_union_values : {T : Type 0} → List (UnionOffset T) → Option Content
+holds_any_union_values unions = values_content (unless (is_empty unions) (Some (unions_hold unions)))

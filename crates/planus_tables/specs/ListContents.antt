@@ -244,3 +244,33 @@ module _ {X S : Type 0} {may : X → State → Type 0} {outcome : X → Outcome 
           ),
         ));
   }
+
+-- items that are prepared as others
+all_may_as : {X Y : Type 0} (may : X → State → Type 0) (of : Y → X) (ys : List Y) (old : State)
+    → AllMay (λ y state. may (of y) state) ys old → AllMay may (map of ys) old
+all_may_as may of [] old mays = tt
+all_may_as may of (y ∷ ys) old mays = (mays.0, all_may_as may of ys old mays.1)
+
+all_as : {X Y A : Type 0} (outcome : X → Outcome A) (of : Y → X) (ys : List Y) (old : State)
+    (items : List A) (new : State)
+    → PreparesAll (λ y old answer new. outcome (of y) old answer new) ys old (Ok items) new
+    → PreparesAll outcome (map of ys) old (Ok items) new
+all_as outcome of [] old items new done = done
+all_as outcome of (y ∷ ys) old items new done =
+    (done.0, done.1, done.2, (done.3.0, done.3.1, all_as outcome of ys done.1 done.3.0 done.3.1 done.3.2, done.3.3))
+
+-- lists of them hold what lists of the others hold
+pub list_prepared_as : {X Y A : Type 0} {may : X → State → Type 0} {outcome : X → Outcome A}
+    {leaves : A → Item} {size alignment : ℕ} {list : List X → Content} (of : Y → X)
+    → ListHasContent may outcome leaves size alignment list
+    → ListHasContent (λ y old. may (of y) old) (λ y old answer new. outcome (of y) old answer new)
+    leaves size alignment (λ ys. list (map of ys))
+list_prepared_as {X} {Y} {A} {may} {outcome} of lawful = record {
+  comes = λ ys old distance new past mays done is_past.
+      lawful.comes (map of ys) old distance new past (all_may_as may of ys old mays) (
+        done.0,
+        done.1,
+        (done.2.0, done.2.1, done.2.2, all_as outcome of ys done.2.1 done.0 done.1 done.2.3),
+        done.3,
+      ) is_past;
+}

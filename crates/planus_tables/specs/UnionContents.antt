@@ -19,12 +19,14 @@ use Rattle.planus_write.specs.declared.union_offset.UnionOffset.{UnionOffset}
 use Rattle.planus_write.specs.declared.union_vector_offset.UnionVectorOffset.{UnionVectorOffset}
 use Rattle.planus_write.proofs.PutEntries.{entries_put}
 use Rattle.planus_write.proofs.Standing.{values_are_kept}
-use Rattle.planus_tables.specs.Contents.{Content, written, union_tags, union_values, written_tags}
+use Rattle.planus_tables.specs.Contents.{Content, written, written_tags}
 use Rattle.planus_tables.specs.Contents.{written_values, named_at_both, FieldIs, HoldsIf, UnionHolds}
 use Rattle.planus_tables.specs.Contents.{UnionVectorHolds, Comes, value_content}
 use Rattle.planus_tables.specs.Contents.{tag_content, tags_content, values_content, union_if}
-use Rattle.planus_tables.specs.Contents.{union_vector_if, PreparesUnion, PreparesUnionVector}
+use Rattle.planus_tables.specs.Contents.{union_vector_if, unions_hold, unless, PreparesUnion}
+use Rattle.planus_tables.specs.Contents.{PreparesUnionVector}
 use Rattle.planus_tables.specs.ContentLaws.{field_stays, stays_there}
+use Rattle.planus_tables.specs.ListContents.{is_empty}
 
 -- a union: its tag and the reference to its value
 pub union_value_holds : {T U : Type 0} (offset_of : UnionOffset T → Offset U)
@@ -123,39 +125,69 @@ unions_lie (union ∷ unions) old past is_past may = (
   unions_lie unions old past is_past may.1,
 )
 
+-- a vector of unions that are written already is put down
+unions_come : {T : Type 0} (unions : List (UnionOffset T)) (old : State) (vector : UnionVectorOffset T)
+    (new : State) (past : Past)
+    → AllMay (λ union state. union_reach union ≤ length state.bytes) unions old
+    → WritesUnionVector Answers unions old (Ok vector) new → IsPast old past
+    → Comes past new (λ after. UnionVectorHolds after (Some (unions_hold unions)) (Some vector))
+unions_come unions old vector new past may done is_past =
+    let pairs = map item_of unions in
+    let put = ready_union_vector_is_put unions old vector new done in
+    let placed = entries_put (entries_of (union_vector pairs)) [] old put.0 new past put.1 is_past in
+    let kept = values_are_kept old.switches (union_vector pairs) past put.0 placed.0
+    (unions_lie unions old past is_past may) is_past.kept placed.1 in
+    let stands = subst (λ (d : ℕ). IsKept placed.0 (union_vector pairs) (named_at_both d vector.values.distance))
+    (sym put.3)
+    (subst (λ (d : ℕ). IsKept placed.0 (union_vector pairs) (named_at_both (last_of put.0) d))
+    (sym put.2) kept.0) in (
+      placed.0,
+      placed.2,
+      kept.2,
+      (
+        (vector.tags.distance, vector.values.distance, refl, stands),
+        (vector.tags.distance, vector.values.distance, refl, stands),
+      ),
+    )
+
 -- a vector of unions that are written already
 pub unions_prepared : {X T : Type 0} (items : X → List (UnionOffset T))
     → PreparesUnionVector (λ x old. AllMay (λ union state. union_reach union ≤ length state.bytes) (items x) old)
     (λ x old answer new. LeftOutWhere ⊥ (WritesUnionVector Answers (items x)) old answer new)
-    (λ x. Some (union_tags (map item_of (items x)), union_values (map item_of (items x))))
+    (λ x. Some (unions_hold (items x)))
 unions_prepared {X} {T} items = record { comes = comes }
   where
     comes : (x : X) (old : State) (prepared : Option (UnionVectorOffset T)) (new : State) (past : Past)
         → AllMay (λ union state. union_reach union ≤ length state.bytes) (items x) old
         → LeftOutWhere ⊥ (WritesUnionVector Answers (items x)) old (Ok prepared) new → IsPast old past
-        → Comes past new
-        (λ after.
-        UnionVectorHolds after
-        (Some (union_tags (map item_of (items x)), union_values (map item_of (items x)))) prepared)
+        → Comes past new (λ after. UnionVectorHolds after (Some (unions_hold (items x))) prepared)
     comes x old None new past may done is_past = elim done.0 [ ]
     comes x old (Some vector) new past may done is_past =
-        let pairs = map item_of (items x) in
-        let put = ready_union_vector_is_put (items x) old vector new done.1 in
-        let placed = entries_put (entries_of (union_vector pairs)) [] old put.0 new past put.1 is_past in
-        let kept = values_are_kept old.switches (union_vector pairs) past put.0 placed.0
-        (unions_lie (items x) old past is_past may) is_past.kept placed.1 in
-        let stands = subst (λ (d : ℕ). IsKept placed.0 (union_vector pairs) (named_at_both d vector.values.distance))
-        (sym put.3)
-        (subst (λ (d : ℕ). IsKept placed.0 (union_vector pairs) (named_at_both (last_of put.0) d))
-        (sym put.2) kept.0) in (
-          placed.0,
-          placed.2,
-          kept.2,
-          (
-            (vector.tags.distance, vector.values.distance, refl, stands),
-            (vector.tags.distance, vector.values.distance, refl, stands),
-          ),
-        )
+        unions_come (items x) old vector new past may done.1 is_past
+
+-- the same of one that is left out where it is empty
+pub unions_or_none_prepared : {X T : Type 0} (items : X → List (UnionOffset T))
+    → PreparesUnionVector (λ x old. AllMay (λ union state. union_reach union ≤ length state.bytes) (items x) old)
+    (λ x old answer new. LeftOutWhere (items x ≡ []) (WritesUnionVector Answers (items x)) old answer new)
+    (λ x. unless (is_empty (items x)) (Some (unions_hold (items x))))
+unions_or_none_prepared {X} {T} items = record {
+  comes = λ x old prepared new past may done is_past.
+      comes (items x) old prepared new past may done is_past;
+}
+  where
+    comes : (unions : List (UnionOffset T)) (old : State) (prepared : Option (UnionVectorOffset T))
+        (new : State) (past : Past)
+        → AllMay (λ union state. union_reach union ≤ length state.bytes) unions old
+        → LeftOutWhere (unions ≡ []) (WritesUnionVector Answers unions) old (Ok prepared) new
+        → IsPast old past
+        → Comes past new
+        (λ after. UnionVectorHolds after (unless (is_empty unions) (Some (unions_hold unions))) prepared)
+    comes [] old None new past may done is_past =
+        stays_there past old new (λ after. ⊤) done.1 is_past tt
+    comes [] old (Some vector) new past may done is_past = absurd (done.0 refl)
+    comes (union ∷ unions) old None new past may done is_past = cc
+    comes (union ∷ unions) old (Some vector) new past may done is_past =
+        unions_come (union ∷ unions) old vector new past may done.1 is_past
 
 -- a union that is written already
 pub union_offset_prepared : {T : Type 0} {may : UnionOffset T → State → Type 0}

@@ -38,13 +38,13 @@ impl<
     ghost reach = { λ fields.
         max (B.reach fields.before.now) (reach_if A.reach fields.value.now) };
 
-    #[inline]
+    #[inline(always)]
     fn declare(&self, writer: &mut TableWriter<N>) {
         self.before.declare(writer);
         declare_if::<P, A, N>(writer, SLOT, self.value);
     }
 
-    #[inline]
+    #[inline(always)]
     fn write(&self, writer: &mut ObjectWriter<'_>) {
         self.before.write(writer);
         write_if::<P, A>(writer, self.value);

@@ -27,7 +27,7 @@ impl<'a, const N: usize, F: PreparedFields<N>, L: PreparedFields<N>> ObjectFill
     ghost leaves = { λ body place.
         body_bytes place (F.there body.fields.now ++ L.there body.last.now) };
 
-    #[inline]
+    #[inline(always)]
     fn fill(&self, writer: &mut ObjectWriter<'_>) {
         self.fields.write(writer);
         self.last.write(writer);
@@ -35,7 +35,7 @@ impl<'a, const N: usize, F: PreparedFields<N>, L: PreparedFields<N>> ObjectFill
 }
 
 /// Writes the table of prepared fields, and behind them those that come last.
-#[inline]
+#[inline(always)]
 pub(crate) fn write_table<T, const N: usize, F: PreparedFields<N>, L: PreparedFields<N>>(
     builder: &mut Builder,
     fields: &F,

@@ -11,7 +11,7 @@ use crate::table_item::TableItem;
 use planus_write::{ObjectWriter, Primitive, TableWriter, WriteAsPrimitive};
 
 /// Declares a field for a slot.
-#[inline]
+#[inline(always)]
 fn declare<P: Primitive, A: TableItem<P>, const N: usize>(
     writer: &mut TableWriter<N>,
     slot: usize,
@@ -31,7 +31,7 @@ fn declare<P: Primitive, A: TableItem<P>, const N: usize>(
 }
 
 /// Declares a field for a slot, if it is there.
-#[inline]
+#[inline(always)]
 pub(crate) fn declare_if<P: Primitive, A: TableItem<P>, const N: usize>(
     writer: &mut TableWriter<N>,
     slot: usize,
@@ -54,7 +54,7 @@ pub(crate) fn declare_if<P: Primitive, A: TableItem<P>, const N: usize>(
 }
 
 /// Writes a field behind what is written, if it is there.
-#[inline]
+#[inline(always)]
 pub(crate) fn write_if<P: Primitive, A: WriteAsPrimitive<P>>(
     writer: &mut ObjectWriter<'_>,
     field: &Option<A>,

@@ -90,7 +90,7 @@ impl<const N: usize> Fields<N> for () {
 
     ghost may = { λ fields old. ⊤ };
 
-    #[inline]
+    #[inline(always)]
     fn write<T, B: PreparedFields<N>, L: PreparedFields<N>>(
         &self,
         builder: &mut Builder,
@@ -122,7 +122,7 @@ where
 
     ghost may = { λ fields old. V.may fields.0.value old × R.may fields.1 old };
 
-    #[inline]
+    #[inline(always)]
     fn write<T, B: PreparedFields<N>, L: PreparedFields<N>>(
         &self,
         builder: &mut Builder,
@@ -165,7 +165,7 @@ where
 
     ghost may = { λ fields old. V.may fields.0.value old × R.may fields.1 old };
 
-    #[inline]
+    #[inline(always)]
     fn write<T, B: PreparedFields<N>, L: PreparedFields<N>>(
         &self,
         builder: &mut Builder,
@@ -212,7 +212,7 @@ impl<
 
     ghost may = { λ fields old. V.may fields.0.value old × R.may fields.1 old };
 
-    #[inline]
+    #[inline(always)]
     fn write<T, B: PreparedFields<N>, L: PreparedFields<N>>(
         &self,
         builder: &mut Builder,
@@ -268,7 +268,7 @@ impl<
 
     ghost may = { λ fields old. V.may fields.0.value old × R.may fields.1 old };
 
-    #[inline]
+    #[inline(always)]
     fn write<T, B: PreparedFields<N>, L: PreparedFields<N>>(
         &self,
         builder: &mut Builder,

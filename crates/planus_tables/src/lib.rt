@@ -24,8 +24,8 @@ mod union_vector_parts;
 
 pub use behind::Behind;
 pub use contents::{
-    HasContent, HasDefaultContent, HasListContent, HasRequiredContent, HasUnionContent,
-    HasUnionVectorContent,
+    HasContent, HasDefaultContent, HasDefaultUnionVectorContent, HasListContent,
+    HasRequiredContent, HasUnionContent, HasUnionVectorContent,
 };
 pub use create::create_table;
 pub use field_at::FieldAt;

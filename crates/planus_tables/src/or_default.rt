@@ -1,11 +1,18 @@
 //! A field with a default.
+ghost use Rattle.planus_write.specs.Laws.{lawful_of};
+ghost use Rattle.planus_tables.specs.UnionContents.{union_vector_prepared_as};
 
-use crate::contents::{HasContent, HasDefaultContent};
+use crate::contents::{
+    HasContent, HasDefaultContent, HasDefaultUnionVectorContent, HasUnionVectorContent,
+};
 use crate::table_item::TableItem;
-use planus_fields::{WriteAsDefault, WriteAsOptional};
-use planus_write::{BuildError, Builder, Primitive};
+use planus_fields::{
+    WriteAsDefault, WriteAsDefaultUnionVector, WriteAsOptional, WriteAsOptionalUnionVector,
+};
+use planus_write::{BuildError, Builder, Primitive, UnionVectorOffset};
 
-/// A value that is left out where it is the default.
+/// A value that is left out where it is the default. The default of a list, also of one of unions,
+/// is `()`: the empty one.
 #[derive(Drop)]
 pub struct OrDefault<V, D> {
     /// The value.
@@ -42,4 +49,23 @@ where
     ghost has_content = { record {
       comes = λ field. (V.has_content field.default).comes field.value;
     } };
+}
+
+impl<T, V: WriteAsDefaultUnionVector<T>> WriteAsOptionalUnionVector<T> for OrDefault<V, ()> {
+    ghost may = { λ field old. V.may field.value old };
+
+    ghost outcome = { λ field old answer new. V.outcome field.value old answer new };
+
+    #[inline]
+    fn prepare(&self, builder: &mut Builder) -> Result<Option<UnionVectorOffset<T>>, BuildError> {
+        self.value.prepare(builder)
+    }
+
+    ghost is_lawful = { lawful_of (λ field. field.value) V.is_lawful };
+}
+
+impl<T, V: HasDefaultUnionVectorContent<T>> HasUnionVectorContent<T> for OrDefault<V, ()> {
+    ghost contents = { λ field. V.contents field.value };
+
+    ghost has_contents = { union_vector_prepared_as (λ field. field.value) V.has_contents };
 }

@@ -62,10 +62,10 @@ impl<const N: usize> PreparedFields<N> for () {
 
     ghost reach = { λ fields. 0 };
 
-    #[inline]
+    #[inline(always)]
     fn declare(&self, _writer: &mut TableWriter<N>) {}
 
-    #[inline]
+    #[inline(always)]
     fn write(&self, _writer: &mut ObjectWriter<'_>) {}
 
     ghost stand = { λ fields before reached. tt };

@@ -17,7 +17,7 @@ impl WriteAsPrimitive<Offset<List<u8>>> for TagsField {
 
     ghost leaves = { λ field. reference_item field.0.distance };
 
-    #[inline]
+    #[inline(always)]
     fn write(&self, bytes: &mut [u8], place: u32) {
         self.0.write(bytes, place);
     }
@@ -38,7 +38,7 @@ impl WriteAsPrimitive<Offset<List<Offset<()>>>> for ValuesField {
 
     ghost leaves = { λ field. reference_item field.0.distance };
 
-    #[inline]
+    #[inline(always)]
     fn write(&self, bytes: &mut [u8], place: u32) {
         self.0.write(bytes, place);
     }
@@ -51,7 +51,7 @@ impl TableItem<Offset<List<Offset<()>>>> for ValuesField {
 }
 
 /// Returns the field of the tags of a vector of unions, if there is one.
-#[inline]
+#[inline(always)]
 pub(crate) fn tags_of<T>(vector: &Option<UnionVectorOffset<T>>) -> Option<TagsField>
     ensures { result ≡ option_map (λ vector. record { 0 = vector.tags }) vector.now }
 {
@@ -62,7 +62,7 @@ pub(crate) fn tags_of<T>(vector: &Option<UnionVectorOffset<T>>) -> Option<TagsFi
 }
 
 /// Returns the field of the values of a vector of unions, if there is one.
-#[inline]
+#[inline(always)]
 pub(crate) fn values_of<T>(vector: &Option<UnionVectorOffset<T>>) -> Option<ValuesField>
     ensures { result ≡ option_map (λ vector. record { 0 = vector.values }) vector.now }
 {

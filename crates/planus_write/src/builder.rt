@@ -307,7 +307,7 @@ impl Builder {
     /// Writes a part as [`Builder::write_with`] does, under the same conditions, but by a writer of
     /// all its `size` bytes, whatever stood there before: nothing is zeroed first. A refusal is
     /// that of [`Builder::write_with`].
-    #[inline]
+    #[inline(always)]
     pub fn write_over<W: Overwrite>(
         &mut self,
         size: usize,

@@ -131,6 +131,7 @@ impl<const N: usize> TableWriter<N> {
     /// [`BuildError::OutOfMemory`] where a part doesn't fit [`Builder::room`] and memory is
     /// refused, or memory to find the vtable again is. What was written before the refused write
     /// stays, and nothing after it is begun.
+    #[inline(always)]
     pub fn finish<F: ObjectFill>(self, builder: &mut Builder, filler: &F) -> Result<(), BuildError>
         requires enough { 4 ≤ N }
         requires size { F.size filler.now + 4 ≡ self.object_size }

@@ -12,18 +12,16 @@ ghost use Rattle.std.specs.Ordering.{int_eq};
 ghost use Rattle.planus_write.specs.State.{Grows};
 ghost use Rattle.planus_write.specs.InBuilder.{IsIn, AllIn, AllUnionsIn};
 ghost use Rattle.planus_tables.specs.Contents.{WritesContents, unless};
+ghost use Rattle.planus_tables.specs.Holds.{holds_any_union_tags, holds_any_union_values};
 ghost use Rattle.planus_tables.specs.Holds.{holds_bool, holds_i16, holds_offsets, holds_texts};
-ghost use Rattle.planus_tables.specs.Holds.{holds_u64, holds_union_tag, holds_union_tags};
-ghost use Rattle.planus_tables.specs.Holds.{holds_union_value, holds_union_values};
+ghost use Rattle.planus_tables.specs.Holds.{holds_u64, holds_union_tag, holds_union_value};
 
+use crate::owner::{Owner, OwnerRef};
 use crate::ship::Ship;
 use planus_read::Result;
 use planus_tables::{OrDefault, TableKind, TableRef, create_table, fields};
-use planus_view::Vector;
+use planus_view::{UnionVector, Vector};
 use planus_write::{BuildError, Builder, ByRef, List, Offset, Text, UnionOffset};
-
-/// The kind of a union: who owns a port.
-pub struct Owner;
 
 /// The kind of an offset to a port.
 pub struct Port;
@@ -41,7 +39,8 @@ pub struct PortFields<'a> {
 }
 
 impl Port {
-    /// Writes a port, whose owner, ships and shares are written already. A depth of -5 is left out.
+    /// Writes a port, whose owner, ships and shares are written already. A depth of -5
+    /// is left out, and so are shares of which there are none.
     pub fn create(
         builder: &mut Builder,
         port: PortFields<'_>,
@@ -54,8 +53,8 @@ impl Port {
             ∷ (1, holds_union_value port.entry.owner)
             ∷ (2, holds_offsets port.entry.ships.now)
             ∷ (3, holds_texts (λ berth. berth.now) port.entry.berths.now)
-            ∷ (7, holds_union_tags port.entry.shares.now)
-            ∷ (8, holds_union_values port.entry.shares.now)
+            ∷ (7, holds_any_union_tags port.entry.shares.now)
+            ∷ (8, holds_any_union_values port.entry.shares.now)
             ∷ (4, unless (int_eq port.entry.depth (negsuc 4)) (holds_i16 port.entry.depth))
             ∷ (5, holds_bool port.entry.is_open)
             ∷ (0, holds_union_tag port.entry.owner) ∷ [])
@@ -68,19 +67,34 @@ impl Port {
             value: ByRef(&port.depth),
             default: -5,
         };
+        let shares = OrDefault {
+            value: port.shares,
+            default: (),
+        };
         let fields = fields![
             6: u64 = port.founded,
             (0, 1): union Owner = port.owner,
             2: Offset<List<Offset<Ship>>> = port.ships,
             3: Offset<List<Offset<Text>>> = port.berths,
-            (7, 8): unions Owner = port.shares,
+            (7, 8): unions Owner = shares,
             4: i16 = depth,
             5: bool = port.is_open,
         ];
         create_table::<Port, 22, _>(builder, fields)
     }
 
-    /// Returns the ships of a port that is read, or `None` where there are none.
+    /// Returns the owner of a port that is read, or `None` where there is none.
+    pub fn owner<'a>(port: &TableRef<'a, Port>) -> Result<Option<OwnerRef<'a>>> {
+        port.table.access_union::<OwnerRef<'a>>(0, "Port", "owner")
+    }
+
+    /// Returns who has shares of it, or `None` where nothing is said of it.
+    pub fn shares<'a>(port: &TableRef<'a, Port>) -> Result<Option<UnionVector<'a, OwnerRef<'a>>>> {
+        port.table
+            .access_union_vector::<UnionVector<'a, OwnerRef<'a>>>(7, "Port", "shares")
+    }
+
+    /// Returns its ships, or `None` where there are none.
     pub fn ships<'a>(
         port: &TableRef<'a, Port>,
     ) -> Result<Option<Vector<'a, Result<TableRef<'a, Ship>>>>> {

@@ -1,5 +1,5 @@
 //! Ships and ports that are written are read back.
-use crate::{Owner, Port, PortFields, Ship};
+use crate::{Owner, OwnerRef, Port, PortFields, Ship};
 use planus_read::ReadAsRoot;
 use planus_tables::TableRef;
 use planus_write::{BuildError, Builder, UnionOffset};
@@ -28,19 +28,21 @@ fn ships_are_read(builder: &mut Builder) -> Result<bool, BuildError> {
     Ok(full && is_ship(bytes, "Argo", 100, None))
 }
 
-// Whether the root is a port with this depth and so many ships.
-fn is_port(bytes: &[u8], depth: i16, ships: usize) -> bool {
+// Whether the root is a port with this depth, so many ships and these shares, which Jason owns.
+fn is_port(bytes: &[u8], depth: i16, ships: usize, shares: Option<usize>) -> bool {
     let port: Result<TableRef<'_, Port>, _> = ReadAsRoot::read_as_root(bytes);
     match port {
         Ok(port) => {
             matches!(Port::depth(&port), Ok(read) if read == depth)
                 && matches!(Port::ships(&port), Ok(Some(read)) if read.len() == ships)
+                && matches!(Port::owner(&port), Ok(Some(OwnerRef::Name("Jason"))))
+                && matches!(Port::shares(&port), Ok(read) if read.map(|all| all.len()) == shares)
         }
         Err(_) => false,
     }
 }
 
-fn ports_are_read(builder: &mut Builder, depth: i16) -> Result<bool, BuildError> {
+fn ports_are_read(builder: &mut Builder, depth: i16, is_shared: bool) -> Result<bool, BuildError> {
     let ship = Ship::create(builder, "Argo", 100, None)?;
     let text = builder.create_string("Jason")?;
     let owner: UnionOffset<Owner> = UnionOffset::new(1, text.downcast());
@@ -51,21 +53,21 @@ fn ports_are_read(builder: &mut Builder, depth: i16) -> Result<bool, BuildError>
         depth,
         is_open: true,
         founded: 1000,
-        shares: &[owner, owner],
+        shares: if is_shared { &[owner, owner] } else { &[] },
     };
     let port = Port::create(builder, port)?;
     let bytes = builder.finish(port, None)?;
-    Ok(is_port(bytes, depth, 1))
+    Ok(is_port(bytes, depth, 1, if is_shared { Some(2) } else { None }))
 }
 
 #[test]
 fn tables_are_read_back(rt: HostRuntime) -> Result<(), Fail> {
     let mut builder = Builder::new(rt.alloc())?;
     assert!(rt; matches!(ships_are_read(&mut builder), Ok(true)), "ships");
-    for depth in [-5, 7] {
+    for (depth, is_shared) in [(-5, true), (7, false)] {
         builder.clear();
         assert!(rt;
-            matches!(ports_are_read(&mut builder, depth), Ok(true)),
+            matches!(ports_are_read(&mut builder, depth, is_shared), Ok(true)),
             "ports"
         );
     }

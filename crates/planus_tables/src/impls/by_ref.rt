@@ -1,7 +1,9 @@
 //! References: a field holds what the value holds that they lead to.
+ghost use Rattle.std.specs.Prelude.{map};
 ghost use Rattle.planus_tables.specs.ContentLaws.{content_prepared_as, prepared_as};
+ghost use Rattle.planus_tables.specs.ListContents.{list_prepared_as};
 
-use crate::contents::{HasContent, HasDefaultContent, HasRequiredContent};
+use crate::contents::{HasContent, HasDefaultContent, HasListContent, HasRequiredContent};
 use crate::table_item::TableItem;
 use planus_write::{ByRef, Primitive};
 
@@ -30,4 +32,10 @@ where
     ghost content = { λ by_ref default. V.content by_ref.0.now default };
 
     ghost has_content = { λ default. prepared_as (λ by_ref. by_ref.0.now) (V.has_content default) };
+}
+
+impl<'a, P: Primitive, T: HasListContent<P>> HasListContent<P> for ByRef<'a, T> {
+    ghost list = { λ items. T.list (map (λ by_ref. by_ref.0.now) items) };
+
+    ghost has_list = { list_prepared_as (λ by_ref. by_ref.0.now) T.has_list };
 }

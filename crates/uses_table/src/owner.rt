@@ -1,0 +1,35 @@
+//! Who owns a port, of the schema `union Owner { name: string, ship: Ship }`.
+ghost use Rattle.std.specs.Prelude.{⊤};
+
+use crate::ship::Ship;
+use planus_read::errors::ErrorKind;
+use planus_read::{SliceWithStartOffset, TableRead, TableReadUnion};
+use planus_tables::TableRef;
+
+/// The kind of a union that is an owner: a name with tag 1, a ship with tag 2.
+pub struct Owner;
+
+/// An owner in a buffer.
+#[derive(Clone, Copy)]
+pub enum OwnerRef<'a> {
+    /// A name.
+    Name(&'a str),
+    /// A ship.
+    Ship(TableRef<'a, Ship>),
+}
+
+impl<'a> TableReadUnion<'a> for OwnerRef<'a> {
+    ghost reads = { λ S start tag f r. ⊤ };
+
+    fn from_buffer(
+        buffer: SliceWithStartOffset<'a>,
+        tag: u8,
+        offset: usize,
+    ) -> Result<OwnerRef<'a>, ErrorKind> {
+        match tag {
+            1 => Ok(OwnerRef::Name(TableRead::from_buffer(buffer, offset)?)),
+            2 => Ok(OwnerRef::Ship(TableRead::from_buffer(buffer, offset)?)),
+            _ => Err(ErrorKind::UnknownUnionTag { tag }),
+        }
+    }
+}
