@@ -1,4 +1,6 @@
 //! Ships and ports that are written are read back.
+ghost use Rattle.std.specs.Prelude.{◌≤◌};
+
 use crate::{Owner, OwnerRef, Port, PortFields, Ship};
 use planus_read::ReadAsRoot;
 use planus_tables::TableRef;
@@ -28,24 +30,36 @@ fn ships_are_read(builder: &mut Builder) -> Result<bool, BuildError> {
     Ok(full && is_ship(bytes, "Argo", 100, None))
 }
 
-// Whether the root is a port with this depth, so many ships and these shares, which Jason owns.
-fn is_port(bytes: &[u8], depth: i16, ships: usize, shares: Option<usize>) -> bool {
+// Whether so many have shares of a port, and nothing is said of it where nobody has.
+fn has_shares(port: &TableRef<'_, Port>, count: usize) -> bool {
+    match Port::shares(port) {
+        Ok(Some(shares)) => count > 0 && shares.len() == count,
+        Ok(None) => count == 0,
+        Err(_) => false,
+    }
+}
+
+// Whether the root is a port with this depth, so many ships and shares, which Jason owns.
+fn is_port(bytes: &[u8], depth: i16, ships: usize, shares: usize) -> bool {
     let port: Result<TableRef<'_, Port>, _> = ReadAsRoot::read_as_root(bytes);
     match port {
         Ok(port) => {
             matches!(Port::depth(&port), Ok(read) if read == depth)
                 && matches!(Port::ships(&port), Ok(Some(read)) if read.len() == ships)
                 && matches!(Port::owner(&port), Ok(Some(OwnerRef::Name("Jason"))))
-                && matches!(Port::shares(&port), Ok(read) if read.map(|all| all.len()) == shares)
+                && has_shares(&port, shares)
         }
         Err(_) => false,
     }
 }
 
-fn ports_are_read(builder: &mut Builder, depth: i16, is_shared: bool) -> Result<bool, BuildError> {
+fn ports_are_read(builder: &mut Builder, depth: i16, shares: usize) -> Result<bool, BuildError>
+    requires { shares ≤ 2 }
+{
     let ship = Ship::create(builder, "Argo", 100, None)?;
     let text = builder.create_string("Jason")?;
     let owner: UnionOffset<Owner> = UnionOffset::new(1, text.downcast());
+    let owners = [owner, owner];
     let port = PortFields {
         owner: Some(owner),
         ships: &[ship],
@@ -53,21 +67,21 @@ fn ports_are_read(builder: &mut Builder, depth: i16, is_shared: bool) -> Result<
         depth,
         is_open: true,
         founded: 1000,
-        shares: if is_shared { &[owner, owner] } else { &[] },
+        shares: owners.split_at(shares).0,
     };
     let port = Port::create(builder, port)?;
     let bytes = builder.finish(port, None)?;
-    Ok(is_port(bytes, depth, 1, if is_shared { Some(2) } else { None }))
+    Ok(is_port(bytes, depth, 1, shares))
 }
 
 #[test]
 fn tables_are_read_back(rt: HostRuntime) -> Result<(), Fail> {
     let mut builder = Builder::new(rt.alloc())?;
     assert!(rt; matches!(ships_are_read(&mut builder), Ok(true)), "ships");
-    for (depth, is_shared) in [(-5, true), (7, false)] {
+    for (depth, shares) in [(-5, 2), (7, 0)] {
         builder.clear();
         assert!(rt;
-            matches!(ports_are_read(&mut builder, depth, is_shared), Ok(true)),
+            matches!(ports_are_read(&mut builder, depth, shares), Ok(true)),
             "ports"
         );
     }
