@@ -190,7 +190,7 @@ impl BackVec {
     /// Puts `n` bytes in front, all of which the writer writes, over whatever was there. There is
     /// room for them. The writer gets `place`: the distance in bytes from the end of the
     /// buffer to the first of them.
-    #[inline]
+    #[inline(always)]
     pub fn put_overwritten<W: Overwrite>(&mut self, place: u32, n: usize, writer: &W)
         requires room { n ≤ self.old.room }
         requires fits { W.fits writer.now place n }

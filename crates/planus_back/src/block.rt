@@ -152,7 +152,7 @@ impl Block {
 
     /// Lets the writer write `n` bytes from the place `at` on, over whatever is there, up to places
     /// that hold bytes.
-    #[inline]
+    #[inline(always)]
     pub(crate) fn put_overwritten<W: Overwrite>(
         &mut self,
         at: usize,

@@ -166,7 +166,7 @@ impl Backing {
     }
 
     // The writer's bytes, for which there is room.
-    #[inline]
+    #[inline(always)]
     pub(crate) fn put_overwritten<W: Overwrite>(&mut self, place: u32, size: usize, writer: &W)
         requires room { size ≤ self.old.room }
         requires within { size + length self.old.bytes ≤ greatest_place }
