@@ -1,5 +1,6 @@
 -- What the fields of a table hold, in the words of its caller.
-use Rattle.std.specs.Prelude.{◌≡◌, ℕ, List, [], ◌∷◌, ◌++◌, map, Bool, if◌then◌else◌, Option, Some, None, Ok, ⊤}
+use Rattle.std.specs.Prelude.{◌≡◌, ℕ, List, [], ◌∷◌, ◌++◌, map, Bool, true, false, if◌then◌else◌, Option, Some, None}
+use Rattle.std.specs.Prelude.{Ok, ⊤}
 use Rattle.std.specs.Int.{w8, to_le_bytes}
 use Rattle.planus_read.specs.Values.{Value, Field, Plain, plain, reference, tags, values as values_field}
 use Rattle.planus_read.specs.Values.{reference_list, union_vector, table}
@@ -198,6 +199,15 @@ WritesBehind there last contents last_contents old distance new =
 -- nothing where the value is the default, else this
 abbrev pub unless : {A : Type 0} → Bool → Option A → Option A
 unless is_default content = if is_default then None else content
+
+-- a list has no items
+abbrev pub is_empty : {A : Type 0} → List A → Bool
+is_empty [] = true
+is_empty (x ∷ xs) = false
+
+-- what the two fields of a vector of unions hold that were written before, nothing where it is empty
+abbrev pub any_unions_hold : {T : Type 0} → List (UnionOffset T) → Option (Content × Content)
+any_unions_hold unions = unless (is_empty unions) (Some (unions_hold unions))
 
 -- nothing of an absent field, else what the value holds
 abbrev pub holds_if : {X : Type 0} → (X → Option Content) → Option X → Option Content

@@ -2,13 +2,12 @@
 use Rattle.std.specs.Prelude.{ℕ, List, [], ◌∷◌, map, Bool, Option, Some, ℤ}
 use Rattle.std.specs.Int.{w8, w16, w32, w64, to_le_bytes, cast_unsigned, from_bool}
 use Rattle.planus_read.specs.Values.{text, byte_list, plain_list, reference_list}
-use Rattle.planus_write.specs.Unions.{union_reach, item_of}
+use Rattle.planus_write.specs.Unions.{union_reach}
 use Rattle.planus_write.specs.declared.offset.Offset.{Offset}
 use Rattle.planus_write.specs.declared.union_offset.UnionOffset.{UnionOffset}
 use Rattle.planus_tables.specs.Contents.{Content, item, value, values, written}
-use Rattle.planus_tables.specs.Contents.{union_tags, union_values, value_content, tag_content, union_if}
-use Rattle.planus_tables.specs.Contents.{unions_hold, tags_content, values_content, unless}
-use Rattle.planus_tables.specs.ListContents.{is_empty}
+use Rattle.planus_tables.specs.Contents.{value_content, tag_content, union_if}
+use Rattle.planus_tables.specs.Contents.{unions_hold, any_unions_hold, tags_content, values_content}
 
 -- a number without a sign
 abbrev pub holds_u8 : ℕ → Option Content
@@ -84,14 +83,14 @@ holds_union_tag union =
 
 -- the tags and the values of a vector of unions that were written before
 abbrev pub holds_union_tags : {T : Type 0} → List (UnionOffset T) → Option Content
-holds_union_tags unions = Some (union_tags (map item_of unions))
+holds_union_tags unions = tags_content (Some (unions_hold unions))
 
 abbrev pub holds_union_values : {T : Type 0} → List (UnionOffset T) → Option Content
-holds_union_values unions = Some (union_values (map item_of unions))
+holds_union_values unions = values_content (Some (unions_hold unions))
 
 -- the same of a vector that is left out where it is empty
 abbrev pub holds_any_union_tags : {T : Type 0} → List (UnionOffset T) → Option Content
-holds_any_union_tags unions = tags_content (unless (is_empty unions) (Some (unions_hold unions)))
+holds_any_union_tags unions = tags_content (any_unions_hold unions)
 
 abbrev pub holds_any_union_values : {T : Type 0} → List (UnionOffset T) → Option Content
-holds_any_union_values unions = values_content (unless (is_empty unions) (Some (unions_hold unions)))
+holds_any_union_values unions = values_content (any_unions_hold unions)

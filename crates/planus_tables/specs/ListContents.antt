@@ -1,5 +1,5 @@
 -- The laws of what lists hold.
-use Rattle.std.specs.Prelude.{◌≡◌, ℕ, ◌≤◌, List, [], ◌∷◌, length, map, Bool, true, false, Ok}
+use Rattle.std.specs.Prelude.{◌≡◌, ℕ, ◌≤◌, List, [], ◌∷◌, length, map, Ok}
 use Rattle.std.specs.Bool.{Decides}
 use Rattle.std.specs.List.{AllByRecursion}
 use Rattle.std.proofs.Common.{refl, subst, sym, ap}
@@ -17,7 +17,7 @@ use Rattle.planus_write.specs.State.{State, IsPast}
 use Rattle.planus_write.specs.declared.offset.Offset.{Offset}
 use Rattle.planus_write.proofs.Staying.{kept_stays}
 use Rattle.planus_tables.specs.Contents.{Content, value, values, named_at, AllKept, FieldIs, Comes}
-use Rattle.planus_tables.specs.Contents.{PreparesContent}
+use Rattle.planus_tables.specs.Contents.{is_empty, PreparesContent}
 use Rattle.planus_tables.specs.ContentLaws.{all_stay, value_added}
 
 -- a list of items was written, or refused: its items are prepared, and then its entries put down
@@ -94,11 +94,7 @@ ready_put {Y} leaves size alignment ys old distance new done =
       put.at,
     )
 
--- a list has no items
-abbrev pub is_empty : {A : Type 0} → List A → Bool
-is_empty [] = true
-is_empty (x ∷ xs) = false
-
+-- whether a list has no items
 pub empty_decides : {A : Type 0} (xs : List A) → Decides (is_empty xs) (xs ≡ [])
 empty_decides [] = ((λ h. refl), (λ h. refl))
 empty_decides (x ∷ xs) = ((λ h. cc), (λ h. cc))

@@ -23,10 +23,9 @@ use Rattle.planus_tables.specs.Contents.{Content, written, written_tags}
 use Rattle.planus_tables.specs.Contents.{written_values, named_at_both, FieldIs, HoldsIf, UnionHolds}
 use Rattle.planus_tables.specs.Contents.{UnionVectorHolds, Comes, value_content}
 use Rattle.planus_tables.specs.Contents.{tag_content, tags_content, values_content, union_if}
-use Rattle.planus_tables.specs.Contents.{union_vector_if, unions_hold, unless, PreparesUnion}
+use Rattle.planus_tables.specs.Contents.{union_vector_if, unions_hold, any_unions_hold, PreparesUnion}
 use Rattle.planus_tables.specs.Contents.{PreparesUnionVector}
 use Rattle.planus_tables.specs.ContentLaws.{field_stays, stays_there}
-use Rattle.planus_tables.specs.ListContents.{is_empty}
 
 -- a union: its tag and the reference to its value
 pub union_value_holds : {T U : Type 0} (offset_of : UnionOffset T → Offset U)
@@ -169,7 +168,7 @@ unions_prepared {X} {T} items = record { comes = comes }
 pub unions_or_none_prepared : {X T : Type 0} (items : X → List (UnionOffset T))
     → PreparesUnionVector (λ x old. AllMay (λ union state. union_reach union ≤ length state.bytes) (items x) old)
     (λ x old answer new. LeftOutWhere (items x ≡ []) (WritesUnionVector Answers (items x)) old answer new)
-    (λ x. unless (is_empty (items x)) (Some (unions_hold (items x))))
+    (λ x. any_unions_hold (items x))
 unions_or_none_prepared {X} {T} items = record {
   comes = λ x old prepared new past may done is_past.
       comes (items x) old prepared new past may done is_past;
@@ -181,7 +180,7 @@ unions_or_none_prepared {X} {T} items = record {
         → LeftOutWhere (unions ≡ []) (WritesUnionVector Answers unions) old (Ok prepared) new
         → IsPast old past
         → Comes past new
-        (λ after. UnionVectorHolds after (unless (is_empty unions) (Some (unions_hold unions))) prepared)
+        (λ after. UnionVectorHolds after (any_unions_hold unions) prepared)
     comes [] old None new past may done is_past =
         stays_there past old new (λ after. ⊤) done.1 is_past tt
     comes [] old (Some vector) new past may done is_past = absurd (done.0 refl)

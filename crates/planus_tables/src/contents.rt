@@ -60,22 +60,22 @@ pub trait HasUnionContent<T>: WriteAsOptionalUnion<T> {
 
 /// What can be written as a vector of unions that may be absent, and says what its two fields hold.
 pub trait HasUnionVectorContent<T>: WriteAsOptionalUnionVector<T> {
-    /// What the field of the tags and that of the values hold, or nothing where the list is left
+    /// What the field of the tags and that of the values hold, or nothing where the vector is left
     /// out.
     ghost contents: { Self → option (Content × Content) };
 
-    /// Once the list is prepared, its fields hold these.
+    /// Once the vector is prepared, its fields hold these.
     ghost has_contents: { PreparesUnionVector Self.may Self.outcome contents };
 }
 
 /// What can be written as a vector of unions that is left out where it is empty, and says what its
 /// two fields hold.
 pub trait HasDefaultUnionVectorContent<T>: WriteAsDefaultUnionVector<T> {
-    /// What the field of the tags and that of the values hold, or nothing where the list is left
+    /// What the field of the tags and that of the values hold, or nothing where the vector is left
     /// out.
     ghost contents: { Self → option (Content × Content) };
 
-    /// Once the list is prepared, its fields hold these.
+    /// Once the vector is prepared, its fields hold these.
     ghost has_contents: { PreparesUnionVector Self.may Self.outcome contents };
 }
 

@@ -14,8 +14,8 @@ pub struct FieldAt<const SLOT: usize, P, V> {
 
 /// Writes a list of fields, each as `SLOT: KIND = VALUE`: its slot, the type as which it is
 /// encoded, and its value; `SLOT: last KIND = VALUE` is a [`LastAt`](crate::LastAt). A union is
-/// written as `(TAG, VALUE): union KIND = VALUE`, and a list of
-/// unions as `(TAGS, VALUES): unions KIND = VALUE`, with their two slots.
+/// written as `(TAG, VALUE): union KIND = VALUE`, and a vector of unions as
+/// `(TAGS, VALUES): unions KIND = VALUE`, with their two slots.
 #[macro_export]
 macro_rules! fields {
     () => { () };

@@ -11,7 +11,7 @@ use planus_fields::{
 };
 use planus_write::{BuildError, Builder, Primitive, UnionVectorOffset};
 
-/// A value that is left out where it is the default. The default of a list, also of one of unions,
+/// A value that is left out where it is the default. The default of a list and of a vector of unions
 /// is `()`: the empty one.
 #[derive(Drop)]
 pub struct OrDefault<V, D> {

@@ -6,7 +6,7 @@ use std::marker::PhantomData;
 /// a list of fields as a [`FieldAt`](crate::FieldAt) does.
 #[derive(Drop)]
 pub struct UnionVectorAt<const TAGS: usize, const VALUES: usize, T, V> {
-    /// The list that is written.
+    /// The vector that is written.
     pub value: V,
     /// Its kind.
     pub _marker: PhantomData<T>,

@@ -1,9 +1,9 @@
 //! Who owns a port, of the schema `union Owner { name: string, ship: Ship }`.
-ghost use Rattle.std.specs.Prelude.{⊤};
+ghost use Rattle.std.specs.Prelude.{◌≡◌, codes, ⊤};
 
 use crate::ship::Ship;
 use planus_read::errors::ErrorKind;
-use planus_read::{SliceWithStartOffset, TableRead, TableReadUnion};
+use planus_read::{SliceWithStartOffset, TableRead, TableReadUnion, VectorName};
 use planus_tables::TableRef;
 
 /// The kind of a union that is an owner: a name with tag 1, a ship with tag 2.
@@ -31,5 +31,15 @@ impl<'a> TableReadUnion<'a> for OwnerRef<'a> {
             2 => Ok(OwnerRef::Ship(TableRead::from_buffer(buffer, offset)?)),
             _ => Err(ErrorKind::UnknownUnionTag { tag }),
         }
+    }
+}
+
+impl<'a> VectorName for OwnerRef<'a> {
+    ghost name = { codes "[Owner]" };
+
+    fn vector_name() -> &'static str
+        ensures { result.now ≡ codes "[Owner]" }
+    {
+        "[Owner]"
     }
 }

@@ -30,10 +30,16 @@ fn ships_are_read(builder: &mut Builder) -> Result<bool, BuildError> {
     Ok(full && is_ship(bytes, "Argo", 100, None))
 }
 
-// Whether so many have shares of a port, and nothing is said of it where nobody has.
+// Whether so many have shares of a port, the last one the ship Argo, and nothing is said of it where
+// nobody has.
 fn has_shares(port: &TableRef<'_, Port>, count: usize) -> bool {
     match Port::shares(port) {
-        Ok(Some(shares)) => count > 0 && shares.len() == count,
+        Ok(Some(shares)) => match shares.last() {
+            Some(Ok(OwnerRef::Ship(ship))) => {
+                shares.len() == count && matches!(Ship::name(&ship), Ok("Argo"))
+            }
+            _ => false,
+        },
         Ok(None) => count == 0,
         Err(_) => false,
     }
@@ -59,7 +65,7 @@ fn ports_are_read(builder: &mut Builder, depth: i16, shares: usize) -> Result<bo
     let ship = Ship::create(builder, "Argo", 100, None)?;
     let text = builder.create_string("Jason")?;
     let owner: UnionOffset<Owner> = UnionOffset::new(1, text.downcast());
-    let owners = [owner, owner];
+    let owners = [owner, UnionOffset::new(2, ship.downcast())];
     let port = PortFields {
         owner: Some(owner),
         ships: &[ship],

@@ -2,10 +2,10 @@
 ghost use Rattle.std.specs.Prelude.{◌≡◌, [], Some, map};
 ghost use Rattle.std.specs.Int.{w8, cast_unsigned};
 ghost use Rattle.planus_read.specs.Values.{byte_list};
-ghost use Rattle.planus_tables.specs.Contents.{value, unless};
+ghost use Rattle.planus_tables.specs.Contents.{is_empty, value, unless};
 ghost use Rattle.planus_tables.specs.ContentLaws.{always_prepared, byte_list_prepared};
 ghost use Rattle.planus_tables.specs.ContentLaws.{left_out_prepared};
-ghost use Rattle.planus_tables.specs.ListContents.{is_empty, empty_decides};
+ghost use Rattle.planus_tables.specs.ListContents.{empty_decides};
 
 use crate::contents::{HasContent, HasDefaultContent, HasRequiredContent};
 use planus_write::{ByteList, List, Offset, SignedList};

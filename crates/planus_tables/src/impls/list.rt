@@ -1,9 +1,9 @@
 //! Lists of items that lie in a slice, in an array or in a `Vec`.
 ghost use Rattle.std.specs.Prelude.{◌≡◌, [], Some, map};
 ghost use Rattle.planus_read.specs.Values.{plain_list};
-ghost use Rattle.planus_tables.specs.Contents.{value, unless};
+ghost use Rattle.planus_tables.specs.Contents.{is_empty, value, unless};
 ghost use Rattle.planus_tables.specs.ContentLaws.{always_prepared, left_out_prepared};
-ghost use Rattle.planus_tables.specs.ListContents.{is_empty, empty_decides, list_prepared};
+ghost use Rattle.planus_tables.specs.ListContents.{empty_decides, list_prepared};
 ghost use Rattle.planus_tables.specs.ListContents.{plain_list_has_content};
 
 use crate::contents::{HasContent, HasDefaultContent, HasListContent, HasRequiredContent};

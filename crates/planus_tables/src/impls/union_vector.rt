@@ -1,9 +1,8 @@
 //! Vectors of unions that are written already, and vectors of unions that may be absent or are left
 //! out where they are empty.
 ghost use Rattle.std.specs.Prelude.{Some, None};
-ghost use Rattle.planus_tables.specs.Contents.{union_vector_if, unions_hold, unless};
+ghost use Rattle.planus_tables.specs.Contents.{any_unions_hold, union_vector_if, unions_hold};
 ghost use Rattle.planus_tables.specs.Contents.{written_tags, written_values};
-ghost use Rattle.planus_tables.specs.ListContents.{is_empty};
 ghost use Rattle.planus_tables.specs.UnionContents.{never_union_vector_prepared, unions_prepared};
 ghost use Rattle.planus_tables.specs.UnionContents.{unions_or_none_prepared};
 ghost use Rattle.planus_tables.specs.UnionContents.{optional_union_vector_prepared};
@@ -40,19 +39,19 @@ impl<T> HasUnionVectorContent<T> for Vec<UnionOffset<T>> {
 }
 
 impl<'a, T> HasDefaultUnionVectorContent<T> for &'a [UnionOffset<T>] {
-    ghost contents = { λ items. unless (is_empty items.now) (Some (unions_hold items.now)) };
+    ghost contents = { λ items. any_unions_hold items.now };
 
     ghost has_contents = { unions_or_none_prepared (λ items. items.now) };
 }
 
 impl<T, const N: usize> HasDefaultUnionVectorContent<T> for [UnionOffset<T>; N] {
-    ghost contents = { λ items. unless (is_empty items) (Some (unions_hold items)) };
+    ghost contents = { λ items. any_unions_hold items };
 
     ghost has_contents = { unions_or_none_prepared (λ items. items) };
 }
 
 impl<T> HasDefaultUnionVectorContent<T> for Vec<UnionOffset<T>> {
-    ghost contents = { λ items. unless (is_empty items.items) (Some (unions_hold items.items)) };
+    ghost contents = { λ items. any_unions_hold items.items };
 
     ghost has_contents = { unions_or_none_prepared (λ items. items.items) };
 }
