@@ -30,9 +30,10 @@ pub use planus_read::{
 };
 pub use planus_tables::{
     Behind, FieldAt, Fields, HasContent, HasDefaultContent, HasDefaultUnionVectorContent,
-    HasListContent, HasRequiredContent, HasUnionContent, HasUnionVectorContent, LastAt, OrDefault,
-    PreparedFields, Required, TableItem, TableKind, TableRef, TableScalar, TagsField, UnionAt,
-    UnionVectorAt, ValuesField, create_table, fields,
+    HasListContent, HasRequiredContent, HasUnionContent, HasUnionItemContent,
+    HasUnionVectorContent, LastAt, OrDefault, PreparedFields, Required, TableItem, TableKind,
+    TableRef, TableScalar, TagsField, UnionAt, UnionVectorAt, ValuesField, Variant, create_table,
+    fields, variant,
 };
 pub use planus_unions::{AsRead, ItemError, UnionVector, union_vectors};
 pub use planus_view::{CopyError, FromItem, Vector, vectors};

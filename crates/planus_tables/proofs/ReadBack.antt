@@ -12,15 +12,16 @@ use Rattle.planus_read.specs.Reading.{table_reading}
 use Rattle.planus_read.specs.Stands.{at, FieldStands, ReferenceStands}
 use Rattle.planus_read.specs.TableReading.{FieldRead}
 use Rattle.planus_read.specs.Tables.{Reads, FieldAnswer}
-use Rattle.planus_read.specs.Values.{Value, Field, table, field_at}
+use Rattle.planus_read.specs.Values.{Value, Field, reference, table, field_at}
 use Rattle.planus_read.proofs.PieceLaws.{references_lead}
 use Rattle.planus_read.proofs.ReadsBack.{what_stands_reads_back}
 use Rattle.planus_read.proofs.TableReading.{fields_read}
 use Rattle.planus_write.specs.Past.{Past}
 use Rattle.planus_tables.specs.Contents.{Content, item, value, values, written, union_tags, union_values}
 use Rattle.planus_tables.specs.Contents.{written_tags, written_values, AllKept, FieldIs, FieldsAre}
-use Rattle.planus_tables.specs.Contents.{there_of, TableIsKept}
-use Rattle.planus_tables.specs.ReadBack.{AllStand, FieldHolds, FieldHoldsIf, FieldsHold, is_other}
+use Rattle.planus_tables.specs.Contents.{there_of, TableIsKept, Unions, no_unions, union_and, UnionsAre}
+use Rattle.planus_tables.specs.ReadBack.{AllStand, UnionsHold, FieldHolds, FieldHoldsIf}
+use Rattle.planus_tables.specs.ReadBack.{FieldsHold, is_other}
 use Rattle.planus_tables.specs.ReadBack.{are_apart, content_at, TableStands, SlotHolds, TableHolds}
 use Rattle.planus_tables.specs.ReadBack.{ReferencesReadBack, ContentsReadBack, AbsentFieldsReadBack}
 use Rattle.planus_tables.specs.Views.{ShowsView}
@@ -35,17 +36,31 @@ all_stand past (one ∷ others) (distance ∷ distances) kept =
 all_stand past [] (distance ∷ distances) kept = kept
 all_stand past (one ∷ others) [] kept = kept
 
-field_holds : (past : Past) (content : Content) (field : Field) → FieldIs past content field
-    → FieldHolds past.written.bytes content field
-field_holds past (item content) field is = is
-field_holds past (value content) field is = (is.0, is.1, is.2.stands)
-field_holds past (values contents) field is =
-    (is.0, is.1, (is.2.0, is.2.1.stands, all_stand past contents is.2.0 is.2.2))
-field_holds past (written distance) field is = is
-field_holds past (union_tags items) field is = (is.0, is.1, is.2, is.3.stands)
-field_holds past (union_values items) field is = (is.0, is.1, is.2, is.3.stands)
-field_holds past (written_tags distance) field is = is
-field_holds past (written_values distance) field is = is
+mutual
+  field_holds : (past : Past) (content : Content) (field : Field) → FieldIs past content field
+      → FieldHolds past.written.bytes content field
+  field_holds past (item content) field is = is
+  field_holds past (value content) field is = (is.0, is.1, is.2.stands)
+  field_holds past (values contents) field is =
+      (is.0, is.1, (is.2.0, is.2.1.stands, all_stand past contents is.2.0 is.2.2))
+  field_holds past (written distance) field is = is
+  field_holds past (union_tags contents) field is =
+      (is.0, is.1, is.2, (is.3.0, is.3.1.stands, unions_hold past contents is.3.0 is.3.2))
+  field_holds past (union_values contents) field is =
+      (is.0, is.1, is.2, (is.3.0, is.3.1.stands, unions_hold past contents is.3.0 is.3.2))
+  field_holds past (written_tags distance) field is = is
+  field_holds past (written_values distance) field is = is
+
+  unions_hold : (past : Past) (contents : Unions) (unions : List (ℕ × ℕ))
+      → UnionsAre past contents unions → UnionsHold past.written.bytes contents unions
+  unions_hold past no_unions [] are = tt
+  unions_hold past (union_and tag content others) (union ∷ unions) are = (
+    are.0,
+    field_holds past content (reference union.1) are.1,
+    unions_hold past others unions are.2,
+  )
+  unions_hold past no_unions (union ∷ unions) are = are
+  unions_hold past (union_and tag content others) [] are = are
 
 fields_hold : (past : Past) (contents : List (ℕ × Content)) (fields : List (ℕ × Field))
     → FieldsAre past contents fields → FieldsHold past.written.bytes contents fields

@@ -1,6 +1,6 @@
 -- What is read of the unions and of the vectors of unions of a table that was written.
 use Rattle.std.proofs.Common.{◌≡◌, ℕ, ◌+◌, ◌*◌, ◌<◌, ◌≤◌, max, List, [], ◌∷◌, refl, sym, subst, ap, ◌∙◌, arith, Bool, true, false, Option, Some, None, Result, Ok, Err, inl, inr}
-use Rattle.std.specs.Prelude.{◌≢◌, ◌==◌, if◌then◌else◌, IsOkAnd, IsSomeAnd, ⊤}
+use Rattle.std.specs.Prelude.{◌≢◌, ◌==◌, map, if◌then◌else◌, IsOkAnd, IsSomeAnd, ⊤}
 use Rattle.std.specs.Int.{w8, to_le_bytes}
 use Rattle.std.proofs.Math.Nat.{mod-eq_of_lt}
 use Rattle.std.proofs.lemmas.Bool.{eqb-true, eq-eqb, ne_eqb}
@@ -9,7 +9,7 @@ use Rattle.planus_read.specs.declared.located.Error.{Error}
 use Rattle.planus_read.specs.declared.table_reader.Table.{Table}
 use Rattle.planus_read.specs.Bytes.{position_of}
 use Rattle.planus_read.specs.Located.{Located, Required}
-use Rattle.planus_read.specs.Stands.{at_both, Stands}
+use Rattle.planus_read.specs.Stands.{at_both, ByteListStands, Stands}
 use Rattle.planus_read.specs.TableReading.{HasFields, SlotReads, SomeOf, UnionRead, UnionVectorRead}
 use Rattle.planus_read.specs.Tables.{ReadsBoth, UnionAnswer, UnionVectorAnswer, slot_of}
 use Rattle.planus_read.specs.Values.{Field, reference, tags, values as values_field, union_vector}
@@ -19,11 +19,12 @@ use Rattle.planus_read.proofs.TableReading.{slot_below, unions_read, union_vecto
 use Rattle.planus_unions.proofs.ReadBack.{union_vectors}
 use Rattle.planus_view.specs.declared.union_vector.UnionSliceView.{UnionSliceView}
 use Rattle.planus_view.specs.declared.vector_of.VectorOf.{VectorOf}
-use Rattle.planus_tables.specs.Contents.{Content, item, value, values, written}
-use Rattle.planus_tables.specs.Contents.{union_tags, union_values, written_tags}
+use Rattle.planus_tables.specs.Contents.{Content, Unions, item, value, values, written}
+use Rattle.planus_tables.specs.Contents.{no_unions, union_and, union_tags, union_values, written_tags}
 use Rattle.planus_tables.specs.Contents.{written_values, tag_content, value_content}
-use Rattle.planus_tables.specs.ReadBack.{FieldHolds, FieldHoldsIf, SlotHolds}
+use Rattle.planus_tables.specs.ReadBack.{FieldHolds, FieldHoldsIf, SlotHolds, UnionsHold}
 use Rattle.planus_tables.specs.ReadUnions.{IsReference, ReadsUnion, UnionsReadBack, reads_unions, AreUnions}
+use Rattle.planus_tables.specs.ReadUnions.{AreNewUnions}
 use Rattle.planus_tables.specs.ReadUnions.{UnionVectorSlotsReadBack, NewUnionVectorsReadBack}
 use Rattle.planus_tables.specs.ReadUnions.{UnionsStand, WrittenUnionVectorsReadBack}
 use Rattle.planus_tables.specs.ReadUnions.{AbsentUnionVectorsReadBack}
@@ -200,6 +201,20 @@ module _ {T : Type 0} (reads : ReadsBoth T) where
       absent B read slot holds next_holds type_ method offset (Err e) h =
           let none = absent_read B read slot holds next_holds (Err e.error_kind) h.0 in (cc)
 
+-- the tags of unions are those that are said of them
+abbrev said_tags : Unions → List ℕ
+said_tags no_unions = []
+said_tags (union_and tag content others) = tag ∷ said_tags others
+
+tags_of_unions : (B : List ℕ) (contents : Unions) (unions : List (ℕ × ℕ))
+    → UnionsHold B contents unions → map (λ union. union.0) unions ≡ said_tags contents
+tags_of_unions B no_unions [] hold = refl
+tags_of_unions B (union_and tag content others) (union ∷ unions) hold =
+    ap (λ (first : ℕ). first ∷ map (λ union. union.0) unions) hold.0
+    ∙ ap (λ (all : List ℕ). tag ∷ all) (tags_of_unions B others unions hold.2)
+tags_of_unions B no_unions (union ∷ unions) hold = elim hold [ ]
+tags_of_unions B (union_and tag content others) [] hold = elim hold [ ]
+
 -- where both fields refer to a vector of unions
 abbrev pub RefersToUnions : List ℕ → Field → Field → List (ℕ × ℕ) → Type 0
 RefersToUnions B one next items =
@@ -226,24 +241,37 @@ module _ (T E : Type 0) where
       (references_lead B (k + h.0) tags_at h.1) (references_lead B (k + h.2.0) values_at h.2.1)
       (Err e) h.2.2
 
+  -- what is read has what follows from it
+  read_as : (P Q : VectorOf (UnionSliceView T E) → Type 0)
+      → ((vector : VectorOf (UnionSliceView T E)) → P vector → Q vector)
+      → (r : Result (Option (VectorOf (UnionSliceView T E))) ErrorKind)
+      → IsOkAnd r (λ found. IsSomeAnd found P) → IsOkAnd r (λ found. IsSomeAnd found Q)
+  read_as P Q of (Ok (Some vector)) h = of vector h
+  read_as P Q of (Ok None) h = elim h [ ]
+  read_as P Q of (Err e) h = elim h [ ]
+
   module _ {X : Type 0} (May : List ℕ → X → Type 0) (tags_of values_of : X → Content)
-      (items : X → List (ℕ × ℕ))
+      (IsRead : List ℕ → X → VectorOf (UnionSliceView T E) → Type 0)
       (refers : (B : List ℕ) (x : X) (one next : Field) → May B x → FieldHolds B (tags_of x) one
-      → FieldHolds B (values_of x) next → RefersToUnions B one next (items x)) where
+      → FieldHolds B (values_of x) next
+      → (items : List (ℕ × ℕ)) × RefersToUnions B one next items
+      × ((vector : VectorOf (UnionSliceView T E)) → AreUnions B items vector → IsRead B x vector)) where
     vector_read : (B : List ℕ) (read : Table) (slot : ℕ) (x : X)
         → SlotHolds B read slot (Some (tags_of x)) → SlotHolds B read (slot + 1) (Some (values_of x))
         → May B x → (r : Result (Option (VectorOf (UnionSliceView T E))) ErrorKind)
         → UnionVectorAnswer reads_unions read slot r
-        → IsOkAnd r (λ found. IsSomeAnd found (AreUnions B (items x)))
+        → IsOkAnd r (λ found. IsSomeAnd found (IsRead B x))
     vector_read B read slot x holds next_holds may r h =
         let fields = both B read slot (tags_of x) (values_of x) holds next_holds in
         let refer = refers B x fields.one fields.next may fields.one_holds fields.next_holds in
-        some_unions B fields.position refer.0 refer.1 (items x) refer.4 r
+        let leads = refer.1 in
+        read_as (AreUnions B refer.0) (IsRead B x) refer.2 r
+        (some_unions B fields.position leads.0 leads.1 refer.0 leads.4 r
         ((union_vectors_read reads_unions B fields.position fields.entries read fields.fields slot
-        (Some (refer.0, refer.1))
-        (fields.one_at ∙ ap Some refer.2, fields.next_at ∙ ap Some refer.3)).0 r h)
+        (Some (leads.0, leads.1))
+        (fields.one_at ∙ ap Some leads.2, fields.next_at ∙ ap Some leads.3)).0 r h))
 
-    pub vectors_read_back : UnionVectorSlotsReadBack T E May tags_of values_of items
+    pub vectors_read_back : UnionVectorSlotsReadBack T E May tags_of values_of IsRead
     vectors_read_back = record { optional = optional; required = required }
       where
         optional : (B : List ℕ) (read : Table) (slot : ℕ) (x : X)
@@ -251,7 +279,7 @@ module _ (T E : Type 0) where
             → SlotHolds B read (slot + 1) (Some (values_of x)) → May B x
             → (type_ method : List ℕ) (offset : ℕ) (r : Result (Option (VectorOf (UnionSliceView T E))) Error)
             → Located (UnionVectorAnswer reads_unions read slot) type_ method offset r
-            → IsOkAnd r (λ found. IsSomeAnd found (AreUnions B (items x)))
+            → IsOkAnd r (λ found. IsSomeAnd found (IsRead B x))
         optional B read slot x holds next_holds may type_ method offset (Ok found) h =
             vector_read B read slot x holds next_holds may (Ok found) h
         optional B read slot x holds next_holds may type_ method offset (Err e) h =
@@ -262,7 +290,7 @@ module _ (T E : Type 0) where
             → SlotHolds B read (slot + 1) (Some (values_of x)) → May B x
             → (type_ method : List ℕ) (offset : ℕ) (r : Result (VectorOf (UnionSliceView T E)) Error)
             → Located (Required (UnionVectorAnswer reads_unions read slot)) type_ method offset r
-            → IsOkAnd r (AreUnions B (items x))
+            → IsOkAnd r (IsRead B x)
         required B read slot x holds next_holds may type_ method offset (Ok found) h =
             vector_read B read slot x holds next_holds may (Ok (Some found)) h
         required B read slot x holds next_holds may type_ method offset (Err e) (inl h, located) =
@@ -271,15 +299,33 @@ module _ (T E : Type 0) where
             vector_read B read slot x holds next_holds may (Ok None) h.0
 
   pub new_union_vectors_read_back : NewUnionVectorsReadBack T E
-  new_union_vectors_read_back = vectors_read_back (λ B items. ⊤) union_tags union_values (λ items. items)
-      (λ B items one next may holds next_holds.
-      (holds.0, next_holds.1, holds.2, next_holds.2, (holds.3.0, next_holds.3.1)))
+  new_union_vectors_read_back = vectors_read_back (λ B contents. ⊤) union_tags union_values AreNewUnions
+      (λ B contents one next may holds next_holds.
+      (let tags_are = tags_of_unions B contents holds.3.0 holds.3.2
+      ∙ sym (tags_of_unions B contents next_holds.3.0 next_holds.3.2) in (
+        next_holds.3.0,
+        (
+          holds.0,
+          next_holds.1,
+          holds.2,
+          next_holds.2,
+          (
+            subst (λ (all : List ℕ). ByteListStands B (position_of B holds.0) all) tags_are
+                holds.3.1.0,
+            next_holds.3.1.1,
+          ),
+        ),
+        (λ vector are. (next_holds.3.0, next_holds.3.2, are)),
+      )))
 
   pub written_union_vectors_read_back : WrittenUnionVectorsReadBack T E
   written_union_vectors_read_back = vectors_read_back UnionsStand (λ unions. written_tags unions.tags_at)
-      (λ unions. written_values unions.values_at) (λ unions. unions.items)
-      (λ B unions one next stands holds next_holds.
-      (unions.tags_at, unions.values_at, holds, next_holds, stands))
+      (λ unions. written_values unions.values_at) (λ B unions. AreUnions B unions.items)
+      (λ B unions one next stands holds next_holds. (
+        unions.items,
+        (unions.tags_at, unions.values_at, holds, next_holds, stands),
+        (λ vector are. are),
+      ))
 
   absent_vector_read : (B : List ℕ) (read : Table) (slot : ℕ) → SlotHolds B read slot None
       → SlotHolds B read (slot + 1) None → (r : Result (Option (VectorOf (UnionSliceView T E))) ErrorKind)

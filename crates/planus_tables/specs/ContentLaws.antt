@@ -17,6 +17,7 @@ use Rattle.planus_write.proofs.Standing.{values_are_kept}
 use Rattle.planus_write.proofs.Staying.{kept_stays}
 use Rattle.planus_tables.specs.Contents.{Content, item, value, values, written, union_tags, union_values}
 use Rattle.planus_tables.specs.Contents.{written_tags, written_values, named_at, named_at_both, AllKept}
+use Rattle.planus_tables.specs.Contents.{Unions, no_unions, union_and, UnionsAre}
 use Rattle.planus_tables.specs.Contents.{FieldIs, HoldsIf, FieldsAre, there_of, Comes, unless}
 use Rattle.planus_tables.specs.Contents.{holds_if, PreparesContent, PreparesOptional}
 use Rattle.planus_tables.specs.TableFields.{field_in}
@@ -32,36 +33,57 @@ all_stay before after (content ∷ contents) (distance ∷ distances) extends ke
 all_stay before after [] (distance ∷ distances) extends kept = kept
 all_stay before after (content ∷ contents) [] extends kept = kept
 
--- what a field holds it still holds later
-pub field_stays : (before after : Past) (content : Content) (field : Field) → Extends before after
-    → FieldIs before content field → FieldIs after content field
-field_stays before after (item content) field extends is = is
-field_stays before after (value content) field extends is =
-    (is.0, is.1, kept_stays before after content (named_at is.0) extends is.2)
-field_stays before after (values contents) field extends is = (
-  is.0,
-  is.1,
-  (
-    is.2.0,
-    kept_stays before after _ (named_at is.0) extends is.2.1,
-    all_stay before after contents is.2.0 extends is.2.2,
-  ),
-)
-field_stays before after (written distance) field extends is = is
-field_stays before after (union_tags items) field extends is = (
-  is.0,
-  is.1,
-  is.2,
-  kept_stays before after (union_vector items) (named_at_both is.0 is.1) extends is.3,
-)
-field_stays before after (union_values items) field extends is = (
-  is.0,
-  is.1,
-  is.2,
-  kept_stays before after (union_vector items) (named_at_both is.0 is.1) extends is.3,
-)
-field_stays before after (written_tags distance) field extends is = is
-field_stays before after (written_values distance) field extends is = is
+mutual
+  -- what a field holds it still holds later
+  pub field_stays : (before after : Past) (content : Content) (field : Field) → Extends before after
+      → FieldIs before content field → FieldIs after content field
+  field_stays before after (item content) field extends is = is
+  field_stays before after (value content) field extends is =
+      (is.0, is.1, kept_stays before after content (named_at is.0) extends is.2)
+  field_stays before after (values contents) field extends is = (
+    is.0,
+    is.1,
+    (
+      is.2.0,
+      kept_stays before after _ (named_at is.0) extends is.2.1,
+      all_stay before after contents is.2.0 extends is.2.2,
+    ),
+  )
+  field_stays before after (written distance) field extends is = is
+  field_stays before after (union_tags contents) field extends is = (
+    is.0,
+    is.1,
+    is.2,
+    (
+      is.3.0,
+      kept_stays before after (union_vector is.3.0) (named_at_both is.0 is.1) extends is.3.1,
+      unions_stay before after contents is.3.0 extends is.3.2,
+    ),
+  )
+  field_stays before after (union_values contents) field extends is = (
+    is.0,
+    is.1,
+    is.2,
+    (
+      is.3.0,
+      kept_stays before after (union_vector is.3.0) (named_at_both is.0 is.1) extends is.3.1,
+      unions_stay before after contents is.3.0 extends is.3.2,
+    ),
+  )
+  field_stays before after (written_tags distance) field extends is = is
+  field_stays before after (written_values distance) field extends is = is
+
+  -- and so do unions
+  pub unions_stay : (before after : Past) (contents : Unions) (unions : List (ℕ × ℕ))
+      → Extends before after → UnionsAre before contents unions → UnionsAre after contents unions
+  unions_stay before after no_unions [] extends are = tt
+  unions_stay before after (union_and tag content others) (union ∷ unions) extends are = (
+    are.0,
+    field_stays before after content (reference union.1) extends are.1,
+    unions_stay before after others unions extends are.2,
+  )
+  unions_stay before after no_unions (union ∷ unions) extends are = are
+  unions_stay before after (union_and tag content others) [] extends are = are
 
 pub fields_stay : (before after : Past) (contents : List (ℕ × Content)) (fields : List (ℕ × Field))
     → Extends before after → FieldsAre before contents fields → FieldsAre after contents fields

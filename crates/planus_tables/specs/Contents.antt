@@ -1,5 +1,5 @@
 -- What the fields of a table hold, in the words of its caller.
-use Rattle.std.specs.Prelude.{◌≡◌, ℕ, List, [], ◌∷◌, ◌++◌, map, Bool, true, false, if◌then◌else◌, Option, Some, None}
+use Rattle.std.specs.Prelude.{◌≡◌, ℕ, List, [], ◌∷◌, ◌++◌, Bool, true, false, if◌then◌else◌, Option, Some, None}
 use Rattle.std.specs.Prelude.{Ok, ⊤}
 use Rattle.std.specs.Int.{w8, to_le_bytes}
 use Rattle.planus_read.specs.Values.{Value, Field, Plain, plain, reference, tags, values as values_field}
@@ -9,23 +9,34 @@ use Rattle.planus_write.specs.Parts.{Named}
 use Rattle.planus_write.specs.Past.{Past}
 use Rattle.planus_write.specs.Placing.{Outcome}
 use Rattle.planus_write.specs.State.{State, IsPast, Extends}
-use Rattle.planus_write.specs.Unions.{union_reach, item_of}
+use Rattle.planus_write.specs.Unions.{union_reach}
 use Rattle.planus_write.specs.declared.union_offset.UnionOffset.{UnionOffset}
 use Rattle.planus_write.specs.declared.union_vector_offset.UnionVectorOffset.{UnionVectorOffset}
 
--- What a field holds: a number or a truth value; a reference to a value; a reference to a list of
--- references to values; or a reference to what was written before, at this distance. A vector of unions
--- has two fields, one that refers to its tags and one that refers to its values: they are those of
--- the list of these pairs of a tag and a distance, or of one that was written before.
-pub data Content : Type 0 where
-  item : Plain → Content
-  value : Value → Content
-  values : List Value → Content
-  written : ℕ → Content
-  union_tags : List (ℕ × ℕ) → Content
-  union_values : List (ℕ × ℕ) → Content
-  written_tags : ℕ → Content
-  written_values : ℕ → Content
+mutual
+  -- What a field holds: a number or a truth value; a reference to a value; a reference to a list of
+  -- references to values; or a reference to what was written before, at this distance. A vector of
+  -- unions has two fields, one that refers to its tags and one that refers to its values: they are those
+  -- of a list of these unions, or of one that was written before.
+  pub data Content : Type 0 where
+    item : Plain → Content
+    value : Value → Content
+    values : List Value → Content
+    written : ℕ → Content
+    union_tags : Unions → Content
+    union_values : Unions → Content
+    written_tags : ℕ → Content
+    written_values : ℕ → Content
+
+  -- The unions of a vector: the tag of each, and what the reference to its value holds.
+  pub data Unions : Type 0 where
+    no_unions : Unions
+    union_and : ℕ → Content → Unions → Unions
+
+-- some tags, and what the reference to the value of each holds, as such unions
+abbrev pub as_unions : List (ℕ × Content) → Unions
+as_unions [] = no_unions
+as_unions (one ∷ others) = union_and one.0 one.1 (as_unions others)
 
 -- named by one distance
 abbrev pub named_at : ℕ → Named
@@ -43,25 +54,36 @@ AllKept past (one ∷ others) [] = ⊥
 abbrev pub named_at_both : (tags_at values_at : ℕ) → Named
 named_at_both tags_at values_at = record { distance = values_at; tags = Some tags_at }
 
--- The field holds this. What it refers to is kept; of what was written before that is the caller's
--- to know.
-abbrev pub FieldIs : Past → Content → Field → Type 0
-FieldIs past (item content) field = field ≡ plain content
-FieldIs past (value content) field =
-    (distance : ℕ) × (field ≡ reference distance) × IsKept past content (named_at distance)
-FieldIs past (values contents) field =
-    (distance : ℕ) × (field ≡ reference distance)
-    × ((distances : List ℕ) × IsKept past (reference_list distances) (named_at distance)
-    × AllKept past contents distances)
-FieldIs past (written distance) field = field ≡ reference distance
-FieldIs past (union_tags items) field =
-    (tags_at values_at : ℕ) × (field ≡ tags tags_at)
-    × IsKept past (union_vector items) (named_at_both tags_at values_at)
-FieldIs past (union_values items) field =
-    (tags_at values_at : ℕ) × (field ≡ values_field values_at)
-    × IsKept past (union_vector items) (named_at_both tags_at values_at)
-FieldIs past (written_tags distance) field = field ≡ tags distance
-FieldIs past (written_values distance) field = field ≡ values_field distance
+abbrev mutual
+  -- The field holds this. What it refers to is kept; of what was written before that is the caller's
+  -- to know.
+  pub FieldIs : Past → Content → Field → Type 0
+  FieldIs past (item content) field = field ≡ plain content
+  FieldIs past (value content) field =
+      (distance : ℕ) × (field ≡ reference distance) × IsKept past content (named_at distance)
+  FieldIs past (values contents) field =
+      (distance : ℕ) × (field ≡ reference distance)
+      × ((distances : List ℕ) × IsKept past (reference_list distances) (named_at distance)
+      × AllKept past contents distances)
+  FieldIs past (written distance) field = field ≡ reference distance
+  FieldIs past (union_tags contents) field =
+      (tags_at values_at : ℕ) × (field ≡ tags tags_at)
+      × ((unions : List (ℕ × ℕ)) × IsKept past (union_vector unions) (named_at_both tags_at values_at)
+      × UnionsAre past contents unions)
+  FieldIs past (union_values contents) field =
+      (tags_at values_at : ℕ) × (field ≡ values_field values_at)
+      × ((unions : List (ℕ × ℕ)) × IsKept past (union_vector unions) (named_at_both tags_at values_at)
+      × UnionsAre past contents unions)
+  FieldIs past (written_tags distance) field = field ≡ tags distance
+  FieldIs past (written_values distance) field = field ≡ values_field distance
+
+  -- Unions, each a tag and a distance, have these tags, and the references to their values hold these.
+  pub UnionsAre : Past → Unions → List (ℕ × ℕ) → Type 0
+  UnionsAre past no_unions [] = ⊤
+  UnionsAre past (union_and tag content others) (union ∷ unions) =
+      (union.0 ≡ tag) × FieldIs past content (reference union.1) × UnionsAre past others unions
+  UnionsAre past no_unions (union ∷ unions) = ⊥
+  UnionsAre past (union_and tag content others) [] = ⊥
 
 -- a field that may be left out holds this, or it is left out
 abbrev pub HoldsIf : {A : Type 0} → Past → Option Content → (A → Field) → Option A → Type 0
@@ -143,6 +165,14 @@ pub record PreparesUnion {X T : Type 0} (may : X → State → Type 0)
       → may x old → outcome x old (Ok prepared) new → IsPast old past
       → Comes past new (λ after. UnionHolds after (content x) prepared)
 
+-- The same of a union that is always there, as one of a vector.
+pub record PreparesUnionItem {X T : Type 0} (may : X → State → Type 0)
+    (outcome : X → Outcome (UnionOffset T)) (content : X → ℕ × Content) : Type 0 where
+  pub comes :
+      (x : X) (old : State) (prepared : UnionOffset T) (new : State) (past : Past) → may x old
+      → outcome x old (Ok prepared) new → IsPast old past
+      → Comes past new (λ after. UnionHolds after (Some (content x)) (Some prepared))
+
 -- The two fields of a vector of unions hold these; or it is left out.
 abbrev pub UnionVectorHolds : {T : Type 0} → Past → Option (Content × Content)
     → Option (UnionVectorOffset T) → Type 0
@@ -161,9 +191,13 @@ pub record PreparesUnionVector {X T : Type 0} (may : X → State → Type 0)
       → may x old → outcome x old (Ok prepared) new → IsPast old past
       → Comes past new (λ after. UnionVectorHolds after (contents x) prepared)
 
--- what its two fields hold where the unions were written before
-abbrev pub unions_hold : {T : Type 0} → List (UnionOffset T) → Content × Content
-unions_hold unions = (union_tags (map item_of unions), union_values (map item_of unions))
+-- what its two fields hold
+abbrev pub unions_hold : List (ℕ × Content) → Content × Content
+unions_hold contents = (union_tags (as_unions contents), union_values (as_unions contents))
+
+-- the tag of a union that was written before, and what the reference to its value holds
+abbrev pub written_union : {T : Type 0} → UnionOffset T → ℕ × Content
+written_union union = (union.tag, written (union_reach union))
 
 -- what each of its fields holds
 abbrev pub tags_content : Option (Content × Content) → Option Content
@@ -205,9 +239,9 @@ abbrev pub is_empty : {A : Type 0} → List A → Bool
 is_empty [] = true
 is_empty (x ∷ xs) = false
 
--- what the two fields of a vector of unions hold that were written before, nothing where it is empty
-abbrev pub any_unions_hold : {T : Type 0} → List (UnionOffset T) → Option (Content × Content)
-any_unions_hold unions = unless (is_empty unions) (Some (unions_hold unions))
+-- what the two fields of a vector of unions hold that is left out where it is empty
+abbrev pub any_unions_hold : List (ℕ × Content) → Option (Content × Content)
+any_unions_hold contents = unless (is_empty contents) (Some (unions_hold contents))
 
 -- nothing of an absent field, else what the value holds
 abbrev pub holds_if : {X : Type 0} → (X → Option Content) → Option X → Option Content

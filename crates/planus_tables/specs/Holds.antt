@@ -1,13 +1,13 @@
 -- What a field of each kind holds, for contracts of callers.
 use Rattle.std.specs.Prelude.{ℕ, List, [], ◌∷◌, map, Bool, Option, Some, ℤ}
 use Rattle.std.specs.Int.{w8, w16, w32, w64, to_le_bytes, cast_unsigned, from_bool}
-use Rattle.planus_read.specs.Values.{text, byte_list, plain_list, reference_list}
-use Rattle.planus_write.specs.Unions.{union_reach}
+use Rattle.planus_read.specs.Values.{Value, text, byte_list, plain_list, reference_list}
 use Rattle.planus_write.specs.declared.offset.Offset.{Offset}
 use Rattle.planus_write.specs.declared.union_offset.UnionOffset.{UnionOffset}
 use Rattle.planus_tables.specs.Contents.{Content, item, value, values, written}
 use Rattle.planus_tables.specs.Contents.{value_content, tag_content, union_if}
-use Rattle.planus_tables.specs.Contents.{unions_hold, any_unions_hold, tags_content, values_content}
+use Rattle.planus_tables.specs.Contents.{unions_hold, any_unions_hold, written_union, tags_content}
+use Rattle.planus_tables.specs.Contents.{values_content}
 
 -- a number without a sign
 abbrev pub holds_u8 : ℕ → Option Content
@@ -74,23 +74,37 @@ holds_offset distance = Some (written distance)
 
 -- the value and the tag of a union that was written before, if there is one
 abbrev pub holds_union_value : {T : Type 0} → Option (UnionOffset T) → Option Content
-holds_union_value union =
-    value_content (union_if (λ union. Some (union.tag, written (union_reach union))) union)
+holds_union_value union = value_content (union_if (λ union. Some (written_union union)) union)
 
 abbrev pub holds_union_tag : {T : Type 0} → Option (UnionOffset T) → Option Content
-holds_union_tag union =
-    tag_content (union_if (λ union. Some (union.tag, written (union_reach union))) union)
+holds_union_tag union = tag_content (union_if (λ union. Some (written_union union)) union)
 
--- the tags and the values of a vector of unions that were written before
+-- the tags and the values of a vector of unions, by the tag of each and what its value holds
+abbrev pub holds_tags_of : List (ℕ × Content) → Option Content
+holds_tags_of unions = tags_content (Some (unions_hold unions))
+
+abbrev pub holds_values_of : List (ℕ × Content) → Option Content
+holds_values_of unions = values_content (Some (unions_hold unions))
+
+-- the same of unions with one tag, each with its value
+abbrev pub holds_variant_tags : {X : Type 0} → ℕ → (X → Value) → List X → Option Content
+holds_variant_tags tag content unions =
+    holds_tags_of (map (λ union. (tag, value (content union))) unions)
+
+abbrev pub holds_variant_values : {X : Type 0} → ℕ → (X → Value) → List X → Option Content
+holds_variant_values tag content unions =
+    holds_values_of (map (λ union. (tag, value (content union))) unions)
+
+-- the same of unions that were written before
 abbrev pub holds_union_tags : {T : Type 0} → List (UnionOffset T) → Option Content
-holds_union_tags unions = tags_content (Some (unions_hold unions))
+holds_union_tags unions = holds_tags_of (map written_union unions)
 
 abbrev pub holds_union_values : {T : Type 0} → List (UnionOffset T) → Option Content
-holds_union_values unions = values_content (Some (unions_hold unions))
+holds_union_values unions = holds_values_of (map written_union unions)
 
 -- the same of a vector that is left out where it is empty
 abbrev pub holds_any_union_tags : {T : Type 0} → List (UnionOffset T) → Option Content
-holds_any_union_tags unions = tags_content (any_unions_hold unions)
+holds_any_union_tags unions = tags_content (any_unions_hold (map written_union unions))
 
 abbrev pub holds_any_union_values : {T : Type 0} → List (UnionOffset T) → Option Content
-holds_any_union_values unions = values_content (any_unions_hold unions)
+holds_any_union_values unions = values_content (any_unions_hold (map written_union unions))

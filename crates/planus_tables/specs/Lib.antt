@@ -12,3 +12,4 @@ pub mod ReadBack
 pub mod ReadKinds
 pub mod ReadVectors
 pub mod ReadUnions
+pub mod Variants

@@ -20,7 +20,7 @@ use Rattle.planus_write.specs.State.{State, IsPast}
 use Rattle.planus_write.specs.declared.offset.Offset.{Offset}
 use Rattle.planus_tables.specs.Contents.{Content, item, value, values, written, union_tags}
 use Rattle.planus_tables.specs.Contents.{union_values, written_tags, written_values, there_of}
-use Rattle.planus_tables.specs.Contents.{TableIsKept}
+use Rattle.planus_tables.specs.Contents.{Unions, no_unions, union_and, TableIsKept}
 use Rattle.planus_tables.specs.Views.{ShowsView}
 use Rattle.planus_tables.specs.declared.table_ref.TableRef.{TableRef}
 
@@ -32,25 +32,39 @@ AllStand B (one ∷ others) (distance ∷ distances) =
 AllStand B [] (distance ∷ distances) = ⊥
 AllStand B (one ∷ others) [] = ⊥
 
--- The field holds this in B. What it refers to stands there; of what was written before that is the
--- caller's to know.
-abbrev pub FieldHolds : List ℕ → Content → Field → Type 0
-FieldHolds B (item content) field = field ≡ plain content
-FieldHolds B (value content) field =
-    (distance : ℕ) × (field ≡ reference distance) × Stands B (at (position_of B distance)) content
-FieldHolds B (values contents) field =
-    (distance : ℕ) × (field ≡ reference distance)
-    × ((distances : List ℕ) × Stands B (at (position_of B distance)) (reference_list distances)
-    × AllStand B contents distances)
-FieldHolds B (written distance) field = field ≡ reference distance
-FieldHolds B (union_tags items) field =
-    (tags_at values_at : ℕ) × (field ≡ tags tags_at)
-    × Stands B (at_both (position_of B tags_at) (position_of B values_at)) (union_vector items)
-FieldHolds B (union_values items) field =
-    (tags_at values_at : ℕ) × (field ≡ values_field values_at)
-    × Stands B (at_both (position_of B tags_at) (position_of B values_at)) (union_vector items)
-FieldHolds B (written_tags distance) field = field ≡ tags distance
-FieldHolds B (written_values distance) field = field ≡ values_field distance
+abbrev mutual
+  -- The field holds this in B. What it refers to stands there; of what was written before that is the
+  -- caller's to know.
+  pub FieldHolds : List ℕ → Content → Field → Type 0
+  FieldHolds B (item content) field = field ≡ plain content
+  FieldHolds B (value content) field =
+      (distance : ℕ) × (field ≡ reference distance) × Stands B (at (position_of B distance)) content
+  FieldHolds B (values contents) field =
+      (distance : ℕ) × (field ≡ reference distance)
+      × ((distances : List ℕ) × Stands B (at (position_of B distance)) (reference_list distances)
+      × AllStand B contents distances)
+  FieldHolds B (written distance) field = field ≡ reference distance
+  FieldHolds B (union_tags contents) field =
+      (tags_at values_at : ℕ) × (field ≡ tags tags_at)
+      × ((unions : List (ℕ × ℕ))
+      × Stands B (at_both (position_of B tags_at) (position_of B values_at)) (union_vector unions)
+      × UnionsHold B contents unions)
+  FieldHolds B (union_values contents) field =
+      (tags_at values_at : ℕ) × (field ≡ values_field values_at)
+      × ((unions : List (ℕ × ℕ))
+      × Stands B (at_both (position_of B tags_at) (position_of B values_at)) (union_vector unions)
+      × UnionsHold B contents unions)
+  FieldHolds B (written_tags distance) field = field ≡ tags distance
+  FieldHolds B (written_values distance) field = field ≡ values_field distance
+
+  -- Unions, each a tag and a distance, have these tags, and the references to their values hold these
+  -- in B.
+  pub UnionsHold : List ℕ → Unions → List (ℕ × ℕ) → Type 0
+  UnionsHold B no_unions [] = ⊤
+  UnionsHold B (union_and tag content others) (union ∷ unions) =
+      (union.0 ≡ tag) × FieldHolds B content (reference union.1) × UnionsHold B others unions
+  UnionsHold B no_unions (union ∷ unions) = ⊥
+  UnionsHold B (union_and tag content others) [] = ⊥
 
 -- a field that may be absent holds this in B, or it is absent
 abbrev pub FieldHoldsIf : List ℕ → Option Content → Option Field → Type 0

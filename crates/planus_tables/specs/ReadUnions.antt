@@ -17,10 +17,10 @@ use Rattle.planus_unions.specs.ReadBack.{IsUnionVectorOf}
 use Rattle.planus_view.specs.UnionVectorView.{ShowsUnionVector}
 use Rattle.planus_view.specs.declared.union_vector.UnionSliceView.{UnionSliceView}
 use Rattle.planus_view.specs.declared.vector_of.VectorOf.{VectorOf}
-use Rattle.planus_tables.specs.Contents.{Content, value, values, written}
+use Rattle.planus_tables.specs.Contents.{Content, Unions, value, values, written}
 use Rattle.planus_tables.specs.Contents.{union_tags, union_values, written_tags}
 use Rattle.planus_tables.specs.Contents.{written_values, tag_content, value_content}
-use Rattle.planus_tables.specs.ReadBack.{FieldHolds, SlotHolds}
+use Rattle.planus_tables.specs.ReadBack.{FieldHolds, SlotHolds, UnionsHold}
 
 -- the field that holds this is a reference
 abbrev pub IsReference : Content → Type 0
@@ -71,27 +71,35 @@ reads_unions S start f g r =
 abbrev pub AreUnions : {T E : Type 0} → List ℕ → List (ℕ × ℕ) → VectorOf (UnionSliceView T E) → Type 0
 AreUnions {T} {E} B items vector = (kt kv : ℕ) × IsUnionVectorOf T E B kt kv items vector
 
+-- it is the vector of unions that have these tags, and the references to whose values hold these in B
+abbrev pub AreNewUnions :
+    {T E : Type 0} → List ℕ → Unions → VectorOf (UnionSliceView T E) → Type 0
+AreNewUnions B contents vector =
+    (unions : List (ℕ × ℕ)) × UnionsHold B contents unions × AreUnions B unions vector
+
 -- What the calls of a table return at two neighbouring slots, the first of which refers to the tags
--- of a vector of unions and the second to its values, with these items.
+-- of a vector of unions and the second to its values.
 pub record UnionVectorSlotsReadBack (T E : Type 0) {X : Type 0} (May : List ℕ → X → Type 0)
-    (tags_of values_of : X → Content) (items : X → List (ℕ × ℕ)) : Type 0 where
+    (tags_of values_of : X → Content)
+    (IsRead : List ℕ → X → VectorOf (UnionSliceView T E) → Type 0) : Type 0 where
   pub optional :
       (B : List ℕ) (read : Table) (slot : ℕ) (x : X) → SlotHolds B read slot (Some (tags_of x))
       → SlotHolds B read (slot + 1) (Some (values_of x)) → May B x
       → (type_ method : List ℕ) (offset : ℕ) (r : Result (Option (VectorOf (UnionSliceView T E))) Error)
       → Located (UnionVectorAnswer reads_unions read slot) type_ method offset r
-      → IsOkAnd r (λ found. IsSomeAnd found (AreUnions B (items x)))
+      → IsOkAnd r (λ found. IsSomeAnd found (IsRead B x))
   pub required :
       (B : List ℕ) (read : Table) (slot : ℕ) (x : X) → SlotHolds B read slot (Some (tags_of x))
       → SlotHolds B read (slot + 1) (Some (values_of x)) → May B x
       → (type_ method : List ℕ) (offset : ℕ) (r : Result (VectorOf (UnionSliceView T E)) Error)
       → Located (Required (UnionVectorAnswer reads_unions read slot)) type_ method offset r
-      → IsOkAnd r (AreUnions B (items x))
+      → IsOkAnd r (IsRead B x)
 
--- So is one that was written with its table, and one that was written before, where it stands.
+-- So they do of one that was written with its table, and of one that was written before, where it
+-- stands.
 abbrev pub NewUnionVectorsReadBack : (T E : Type 0) → Type 0
 NewUnionVectorsReadBack T E =
-    UnionVectorSlotsReadBack T E (λ B items. ⊤) union_tags union_values (λ items. items)
+    UnionVectorSlotsReadBack T E (λ B contents. ⊤) union_tags union_values AreNewUnions
 
 -- a vector of unions that stands in B: its items, and the distances of its tags and of its values
 pub record WrittenUnions : Type 0 where
@@ -107,7 +115,7 @@ UnionsStand B unions =
 abbrev pub WrittenUnionVectorsReadBack : (T E : Type 0) → Type 0
 WrittenUnionVectorsReadBack T E =
     UnionVectorSlotsReadBack T E UnionsStand (λ unions. written_tags unions.tags_at)
-    (λ unions. written_values unions.values_at) (λ unions. unions.items)
+    (λ unions. written_values unions.values_at) (λ B unions. AreUnions B unions.items)
 
 -- Of two neighbouring slots that hold nothing they return none.
 abbrev pub AbsentUnionVectorsReadBack : (T E : Type 0) → Type 0

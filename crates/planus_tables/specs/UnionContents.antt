@@ -10,22 +10,24 @@ use Rattle.planus_write.specs.Kept.{IsKept}
 use Rattle.planus_write.specs.Parts.{entries_of, last_of}
 use Rattle.planus_write.specs.Past.{Past}
 use Rattle.planus_write.specs.Placing.{Outcome}
-use Rattle.planus_write.specs.Preparing.{AllMay, Answers}
+use Rattle.planus_write.specs.Laws.{extends_on, reached_still}
+use Rattle.planus_write.specs.ListLaws.{all_grow, may_still}
+use Rattle.planus_write.specs.Preparing.{AllMay, Answers, IsLawful, PreparesAll}
 use Rattle.planus_write.specs.State.{State, IsPast, Extends}
-use Rattle.planus_write.specs.UnionLaws.{ready_union_vector_is_put}
 use Rattle.planus_write.specs.Unions.{union_reach, item_of, WritesUnionVector}
 use Rattle.planus_write.specs.declared.offset.Offset.{Offset}
 use Rattle.planus_write.specs.declared.union_offset.UnionOffset.{UnionOffset}
 use Rattle.planus_write.specs.declared.union_vector_offset.UnionVectorOffset.{UnionVectorOffset}
 use Rattle.planus_write.proofs.PutEntries.{entries_put}
 use Rattle.planus_write.proofs.Standing.{values_are_kept}
-use Rattle.planus_tables.specs.Contents.{Content, written, written_tags}
+use Rattle.planus_tables.specs.Contents.{Content, written_tags}
 use Rattle.planus_tables.specs.Contents.{written_values, named_at_both, FieldIs, HoldsIf, UnionHolds}
 use Rattle.planus_tables.specs.Contents.{UnionVectorHolds, Comes, value_content}
 use Rattle.planus_tables.specs.Contents.{tag_content, tags_content, values_content, union_if}
 use Rattle.planus_tables.specs.Contents.{union_vector_if, unions_hold, any_unions_hold, PreparesUnion}
-use Rattle.planus_tables.specs.Contents.{PreparesUnionVector}
-use Rattle.planus_tables.specs.ContentLaws.{field_stays, stays_there}
+use Rattle.planus_tables.specs.Contents.{UnionsAre, as_unions, written_union}
+use Rattle.planus_tables.specs.Contents.{PreparesUnionItem, PreparesUnionVector}
+use Rattle.planus_tables.specs.ContentLaws.{field_stays, stays_there, unions_stay}
 
 -- a union: its tag and the reference to its value
 pub union_value_holds : {T U : Type 0} (offset_of : UnionOffset T → Offset U)
@@ -114,97 +116,144 @@ union_vector_offset_prepared {T} {may} = record { comes = comes }
           ap (λ (vector : UnionVectorOffset T). values_field vector.values.distance) same,
         )
 
--- unions that may be prepared refer to what was written
-unions_lie : {T : Type 0} (unions : List (UnionOffset T)) (old : State) (past : Past) → IsPast old past
-    → AllMay (λ union state. union_reach union ≤ length state.bytes) unions old
-    → AllByRecursion (λ item. item.1 ≤ length past.written.bytes) (map item_of unions)
-unions_lie [] old past is_past may = tt
-unions_lie (union ∷ unions) old past is_past may = (
-  subst (λ (bytes : List ℕ). union_reach union ≤ length bytes) (sym is_past.bytes) may.0,
-  unions_lie unions old past is_past may.1,
-)
+-- Unions are prepared, one after another: they are these, and what they refer to lies in the bytes.
+module _ {X T : Type 0} {may : X → State → Type 0} {outcome : X → Outcome (UnionOffset T)}
+    (lawful : IsLawful may outcome union_reach) (content : X → ℕ × Content)
+    (prepares : PreparesUnionItem may outcome content) where
+  abbrev Come : List X → List (UnionOffset T) → State → Past → Type 0
+  Come xs unions new after = UnionsAre after (as_unions (map content xs)) (map item_of unions)
+      × AllByRecursion (λ union. union.1 ≤ length new.bytes) (map item_of unions)
 
--- a vector of unions that are written already is put down
-unions_come : {T : Type 0} (unions : List (UnionOffset T)) (old : State) (vector : UnionVectorOffset T)
-    (new : State) (past : Past)
-    → AllMay (λ union state. union_reach union ≤ length state.bytes) unions old
-    → WritesUnionVector Answers unions old (Ok vector) new → IsPast old past
-    → Comes past new (λ after. UnionVectorHolds after (Some (unions_hold unions)) (Some vector))
-unions_come unions old vector new past may done is_past =
-    let pairs = map item_of unions in
-    let put = ready_union_vector_is_put unions old vector new done in
-    let placed = entries_put (entries_of (union_vector pairs)) [] old put.0 new past put.1 is_past in
-    let kept = values_are_kept old.switches (union_vector pairs) past put.0 placed.0
-    (unions_lie unions old past is_past may) is_past.kept placed.1 in
-    let stands = subst (λ (d : ℕ). IsKept placed.0 (union_vector pairs) (named_at_both d vector.values.distance))
-    (sym put.3)
-    (subst (λ (d : ℕ). IsKept placed.0 (union_vector pairs) (named_at_both (last_of put.0) d))
-    (sym put.2) kept.0) in (
-      placed.0,
-      placed.2,
-      kept.2,
-      (
-        (vector.tags.distance, vector.values.distance, refl, stands),
-        (vector.tags.distance, vector.values.distance, refl, stands),
-      ),
-    )
+  unions_come : (xs : List X) (old : State) (unions : List (UnionOffset T)) (new : State) (past : Past)
+      → AllMay may xs old → PreparesAll outcome xs old (Ok unions) new → IsPast old past
+      → Comes past new (Come xs unions new)
+  unions_come [] old unions new past mays done is_past =
+      let same : [] ≡ unions = cc in
+      stays_there past old new (Come [] unions new) done.1 is_past
+      (subst (λ (unions : List (UnionOffset T)). Come [] unions new past) same (tt, tt))
+  unions_come (x ∷ xs) old unions new past mays done is_past =
+      let between = done.1 in
+      let near = prepares.comes x old done.0 between past mays.0 done.2 is_past in
+      let rest = may_still may outcome union_reach lawful xs old between
+      (lawful.grows x old (Ok done.0) between mays.0 done.2) mays.1 in
+      let far = unions_come xs between done.3.0 done.3.1 near.0 rest done.3.2 near.1 in
+      let first = field_stays near.0 far.0 (content x).1 (reference (union_reach done.0)) far.2 near.3.1 in
+      let reached = reached_still (union_reach done.0) between done.3.1
+      (all_grow may outcome union_reach lawful xs between rest (Ok done.3.0) done.3.1 done.3.2)
+      (lawful.reaches x old done.0 between mays.0 done.2) in
+      let same : done.0 ∷ done.3.0 ≡ unions = cc in (
+        far.0,
+        subst (λ (state : State). IsPast state far.0) (sym done.3.3.1) far.1,
+        extends_on past near.0 far.0 near.2 far.2,
+        subst (λ (unions : List (UnionOffset T)). Come (x ∷ xs) unions new far.0) same
+            (subst (λ (state : State). Come (x ∷ xs) (done.0 ∷ done.3.0) state far.0)
+            (sym done.3.3.1) ((near.3.0, first, far.3.0), (reached, far.3.1))),
+      )
 
--- a vector of unions that are written already
-pub unions_prepared : {X T : Type 0} (items : X → List (UnionOffset T))
-    → PreparesUnionVector (λ x old. AllMay (λ union state. union_reach union ≤ length state.bytes) (items x) old)
-    (λ x old answer new. LeftOutWhere ⊥ (WritesUnionVector Answers (items x)) old answer new)
-    (λ x. Some (unions_hold (items x)))
-unions_prepared {X} {T} items = record { comes = comes }
-  where
-    comes : (x : X) (old : State) (prepared : Option (UnionVectorOffset T)) (new : State) (past : Past)
-        → AllMay (λ union state. union_reach union ≤ length state.bytes) (items x) old
-        → LeftOutWhere ⊥ (WritesUnionVector Answers (items x)) old (Ok prepared) new → IsPast old past
-        → Comes past new (λ after. UnionVectorHolds after (Some (unions_hold (items x))) prepared)
-    comes x old None new past may done is_past = elim done.0 [ ]
-    comes x old (Some vector) new past may done is_past =
-        unions_come (items x) old vector new past may done.1 is_past
+  -- a vector of them is put down
+  vector_comes : (xs : List X) (old : State) (vector : UnionVectorOffset T) (new : State) (past : Past)
+      → AllMay may xs old → WritesUnionVector outcome xs old (Ok vector) new → IsPast old past
+      → Comes past new
+      (λ after. UnionVectorHolds after (Some (unions_hold (map content xs))) (Some vector))
+  vector_comes xs old vector new past mays h is_past =
+      let done = h.1 in
+      let prepared = subst (λ (state : State). PreparesAll outcome xs state (Ok done.0) done.1)
+      done.2.2 done.2.3 in
+      let all = unions_come xs old done.0 done.1 past mays prepared is_past in
+      let pairs = map item_of done.0 in
+      let inside = subst (λ (bytes : List ℕ). AllByRecursion (λ union. union.1 ≤ length bytes) pairs)
+      (sym all.1.bytes) all.3.1 in
+      let placed = entries_put (entries_of (union_vector pairs)) [] done.1 h.0 new all.0 done.3 all.1 in
+      let kept = values_are_kept done.1.switches (union_vector pairs) all.0 h.0 placed.0 inside
+      all.1.kept placed.1 in
+      let stands = subst
+      (λ (d : ℕ). IsKept placed.0 (union_vector pairs) (named_at_both d vector.values.distance))
+      (sym h.3)
+      (subst (λ (d : ℕ). IsKept placed.0 (union_vector pairs) (named_at_both (last_of h.0) d))
+      (sym h.2) kept.0) in
+      let are = unions_stay all.0 placed.0 (as_unions (map content xs)) pairs kept.2 all.3.0 in (
+        placed.0,
+        placed.2,
+        extends_on past all.0 placed.0 all.2 kept.2,
+        (
+          (vector.tags.distance, vector.values.distance, refl, (pairs, stands, are)),
+          (vector.tags.distance, vector.values.distance, refl, (pairs, stands, are)),
+        ),
+      )
 
--- the same of one that is left out where it is empty
-pub unions_or_none_prepared : {X T : Type 0} (items : X → List (UnionOffset T))
-    → PreparesUnionVector (λ x old. AllMay (λ union state. union_reach union ≤ length state.bytes) (items x) old)
-    (λ x old answer new. LeftOutWhere (items x ≡ []) (WritesUnionVector Answers (items x)) old answer new)
-    (λ x. any_unions_hold (items x))
-unions_or_none_prepared {X} {T} items = record {
-  comes = λ x old prepared new past may done is_past.
-      comes (items x) old prepared new past may done is_past;
-}
-  where
-    comes : (unions : List (UnionOffset T)) (old : State) (prepared : Option (UnionVectorOffset T))
-        (new : State) (past : Past)
-        → AllMay (λ union state. union_reach union ≤ length state.bytes) unions old
-        → LeftOutWhere (unions ≡ []) (WritesUnionVector Answers unions) old (Ok prepared) new
-        → IsPast old past
-        → Comes past new
-        (λ after. UnionVectorHolds after (any_unions_hold unions) prepared)
-    comes [] old None new past may done is_past =
-        stays_there past old new (λ after. ⊤) done.1 is_past tt
-    comes [] old (Some vector) new past may done is_past = absurd (done.0 refl)
-    comes (union ∷ unions) old None new past may done is_past = cc
-    comes (union ∷ unions) old (Some vector) new past may done is_past =
-        unions_come (union ∷ unions) old vector new past may done.1 is_past
+  -- a vector of such unions
+  pub unions_prepared : {Y : Type 0} (items : Y → List X)
+      → PreparesUnionVector (λ y old. AllMay may (items y) old)
+      (λ y old answer new. LeftOutWhere ⊥ (WritesUnionVector outcome (items y)) old answer new)
+      (λ y. Some (unions_hold (map content (items y))))
+  unions_prepared {Y} items = record { comes = comes }
+    where
+      comes : (y : Y) (old : State) (prepared : Option (UnionVectorOffset T)) (new : State) (past : Past)
+          → AllMay may (items y) old
+          → LeftOutWhere ⊥ (WritesUnionVector outcome (items y)) old (Ok prepared) new
+          → IsPast old past
+          → Comes past new
+          (λ after. UnionVectorHolds after (Some (unions_hold (map content (items y)))) prepared)
+      comes y old None new past mays done is_past = elim done.0 [ ]
+      comes y old (Some vector) new past mays done is_past =
+          vector_comes (items y) old vector new past mays done.1 is_past
+
+  -- the same of one that is left out where it is empty
+  pub unions_or_none_prepared : {Y : Type 0} (items : Y → List X)
+      → PreparesUnionVector (λ y old. AllMay may (items y) old)
+      (λ y old answer new. LeftOutWhere (items y ≡ []) (WritesUnionVector outcome (items y)) old answer new)
+      (λ y. any_unions_hold (map content (items y)))
+  unions_or_none_prepared {Y} items = record {
+    comes = λ y old prepared new past mays done is_past.
+        comes (items y) old prepared new past mays done is_past;
+  }
+    where
+      comes : (xs : List X) (old : State) (prepared : Option (UnionVectorOffset T)) (new : State)
+          (past : Past) → AllMay may xs old
+          → LeftOutWhere (xs ≡ []) (WritesUnionVector outcome xs) old (Ok prepared) new
+          → IsPast old past
+          → Comes past new (λ after. UnionVectorHolds after (any_unions_hold (map content xs)) prepared)
+      comes [] old None new past mays done is_past =
+          stays_there past old new (λ after. ⊤) done.1 is_past tt
+      comes [] old (Some vector) new past mays done is_past = absurd (done.0 refl)
+      comes (x ∷ xs) old None new past mays done is_past = cc
+      comes (x ∷ xs) old (Some vector) new past mays done is_past =
+          vector_comes (x ∷ xs) old vector new past mays done.1 is_past
 
 -- a union that is written already
-pub union_offset_prepared : {T : Type 0} {may : UnionOffset T → State → Type 0}
-    → PreparesUnion may (λ union old answer new. LeftOutWhere ⊥ (Answers union) old answer new)
-    (λ union. Some (union.tag, written (union_reach union)))
-union_offset_prepared {T} {may} = record { comes = comes }
+pub written_union_prepared : {T : Type 0} {may : UnionOffset T → State → Type 0}
+    → PreparesUnionItem may Answers written_union
+written_union_prepared {T} {may} = record {
+  comes = λ union old prepared new past may done is_past.
+      (let same : union ≡ prepared = cc in
+      stays_there past old new
+      (λ after. UnionHolds after (Some (written_union union)) (Some prepared)) done.1 is_past
+      (subst (λ (found : UnionOffset T). UnionHolds past (Some (written_union union)) (Some found)) same
+      (refl, refl)));
+}
+
+-- one that is prepared as something else
+pub union_item_prepared_as : {X Y T : Type 0} {may : X → State → Type 0}
+    {outcome : X → Outcome (UnionOffset T)} {content : X → ℕ × Content} (of : Y → X)
+    → PreparesUnionItem may outcome content
+    → PreparesUnionItem (λ y old. may (of y) old) (λ y old answer new. outcome (of y) old answer new)
+    (λ y. content (of y))
+union_item_prepared_as of lawful = record { comes = λ y. lawful.comes (of y) }
+
+-- a union that is always there
+pub always_union_prepared : {X T : Type 0} {may : X → State → Type 0}
+    {outcome : X → Outcome (UnionOffset T)} {content : X → ℕ × Content}
+    → PreparesUnionItem may outcome content
+    → PreparesUnion may (λ x old answer new. LeftOutWhere ⊥ (outcome x) old answer new)
+    (λ x. Some (content x))
+always_union_prepared {X} {T} {may} {outcome} {content} lawful = record { comes = comes }
   where
-    comes : (union : UnionOffset T) (old : State) (prepared : Option (UnionOffset T)) (new : State)
-        (past : Past) → may union old → LeftOutWhere ⊥ (Answers union) old (Ok prepared) new
-        → IsPast old past
-        → Comes past new (λ after. UnionHolds after (Some (union.tag, written (union_reach union))) prepared)
-    comes union old None new past may done is_past = elim done.0 [ ]
-    comes union old (Some found) new past may done is_past =
-        let same : found ≡ union = cc in
-        stays_there past old new
-        (λ after. (found.tag ≡ union.tag) × (reference (union_reach found) ≡ reference (union_reach union)))
-        done.1.1 is_past
-        (ap (λ (union : UnionOffset T). union.tag) same, ap (λ (union : UnionOffset T). reference (union_reach union)) same)
+    comes : (x : X) (old : State) (prepared : Option (UnionOffset T)) (new : State) (past : Past)
+        → may x old → LeftOutWhere ⊥ (outcome x) old (Ok prepared) new → IsPast old past
+        → Comes past new (λ after. UnionHolds after (Some (content x)) prepared)
+    comes x old None new past may done is_past = elim done.0 [ ]
+    comes x old (Some union) new past may done is_past =
+        lawful.comes x old union new past may done.1 is_past
 
 -- a union that may be absent
 pub optional_union_prepared : {X T : Type 0} {may : X → State → Type 0}

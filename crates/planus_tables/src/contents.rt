@@ -1,7 +1,8 @@
 //! What the values of fields hold.
 ghost use Rattle.std.specs.Prelude.{ℕ, List, Option as option};
 ghost use Rattle.planus_tables.specs.Contents.{Content, PreparesContent, PreparesOptional};
-ghost use Rattle.planus_tables.specs.Contents.{PreparesUnion, PreparesUnionVector};
+ghost use Rattle.planus_tables.specs.Contents.{PreparesUnion, PreparesUnionItem};
+ghost use Rattle.planus_tables.specs.Contents.{PreparesUnionVector};
 ghost use Rattle.planus_tables.specs.ListContents.{ListHasContent};
 
 use crate::table_item::TableItem;
@@ -9,7 +10,7 @@ use planus_fields::{
     WriteAs, WriteAsDefault, WriteAsDefaultUnionVector, WriteAsOptional, WriteAsOptionalUnion,
     WriteAsOptionalUnionVector,
 };
-use planus_write::{Primitive, VectorWrite};
+use planus_write::{Primitive, VectorWrite, WriteAsUnion};
 
 /// What can be written as a field that may be absent, and says what the field then holds.
 pub trait HasContent<P: Primitive>: WriteAsOptional<P>
@@ -56,6 +57,15 @@ pub trait HasUnionContent<T>: WriteAsOptionalUnion<T> {
 
     /// Once the union is prepared, it has this tag and holds this.
     ghost has_content: { PreparesUnion Self.may Self.outcome content };
+}
+
+/// What can be written as a union of a vector, and says what the union then is.
+pub trait HasUnionItemContent<T>: WriteAsUnion<T> {
+    /// The tag, and what the reference to the value holds.
+    ghost content: { Self → ℕ × Content };
+
+    /// Once the union is prepared, it has this tag and holds this.
+    ghost has_content: { PreparesUnionItem Self.may Self.outcome content };
 }
 
 /// What can be written as a vector of unions that may be absent, and says what its two fields hold.

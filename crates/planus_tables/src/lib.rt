@@ -21,11 +21,12 @@ mod union_at;
 mod union_parts;
 mod union_vector_at;
 mod union_vector_parts;
+mod variant;
 
 pub use behind::Behind;
 pub use contents::{
     HasContent, HasDefaultContent, HasDefaultUnionVectorContent, HasListContent,
-    HasRequiredContent, HasUnionContent, HasUnionVectorContent,
+    HasRequiredContent, HasUnionContent, HasUnionItemContent, HasUnionVectorContent,
 };
 pub use create::create_table;
 pub use field_at::FieldAt;
@@ -41,3 +42,4 @@ pub use table_scalar::TableScalar;
 pub use union_at::UnionAt;
 pub use union_vector_at::UnionVectorAt;
 pub use union_vector_parts::{TagsField, ValuesField};
+pub use variant::Variant;

@@ -1,10 +1,10 @@
-//! Ships and ports that are written are read back.
+//! Ships, ports and fleets that are written are read back.
 ghost use Rattle.std.specs.Prelude.{◌≤◌};
 
-use crate::{Owner, OwnerRef, Port, PortFields, Ship};
+use crate::{Fleet, Named, Owner, OwnerRef, Port, PortFields, Ship};
 use planus_read::ReadAsRoot;
-use planus_tables::TableRef;
-use planus_write::{BuildError, Builder, UnionOffset};
+use planus_tables::{TableRef, variant};
+use planus_write::{BuildError, Builder, Text, UnionOffset};
 use std::test::Fail;
 
 // Whether the root is a ship with this name and this hull, and this number of items as its cargo.
@@ -80,10 +80,35 @@ fn ports_are_read(builder: &mut Builder, depth: i16, shares: usize) -> Result<bo
     Ok(is_port(bytes, depth, 1, shares))
 }
 
+// Whether the root is a fleet that Jason owns, with so many captains, of which the last is Tiphys.
+fn is_fleet(bytes: &[u8], captains: usize) -> bool {
+    let fleet: Result<TableRef<'_, Fleet>, _> = ReadAsRoot::read_as_root(bytes);
+    match fleet {
+        Ok(fleet) => {
+            let last = match Fleet::captains(&fleet) {
+                Ok(Some(read)) if read.len() == captains => read.last(),
+                _ => None,
+            };
+            matches!(Fleet::owner(&fleet), Ok(Some(OwnerRef::Name("Jason"))))
+                && matches!(last, Some(Ok(OwnerRef::Name("Tiphys"))))
+        }
+        Err(_) => false,
+    }
+}
+
+fn fleets_are_read(builder: &mut Builder) -> Result<bool, BuildError> {
+    let captains: [Named<'_>; 2] = [variant![1: Text = "Jason"], variant![1: Text = "Tiphys"]];
+    let fleet = Fleet::create(builder, "Jason", &captains)?;
+    let bytes = builder.finish(fleet, None)?;
+    Ok(is_fleet(bytes, 2))
+}
+
 #[test]
 fn tables_are_read_back(rt: HostRuntime) -> Result<(), Fail> {
     let mut builder = Builder::new(rt.alloc())?;
     assert!(rt; matches!(ships_are_read(&mut builder), Ok(true)), "ships");
+    builder.clear();
+    assert!(rt; matches!(fleets_are_read(&mut builder), Ok(true)), "fleets");
     for (depth, shares) in [(-5, 2), (7, 0)] {
         builder.clear();
         assert!(rt;

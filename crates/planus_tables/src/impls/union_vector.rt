@@ -1,6 +1,6 @@
-//! Vectors of unions that are written already, and vectors of unions that may be absent or are left
-//! out where they are empty.
-ghost use Rattle.std.specs.Prelude.{Some, None};
+//! Vectors of unions that are written already or with their table, and vectors of unions that may be
+//! absent or are left out where they are empty.
+ghost use Rattle.std.specs.Prelude.{Some, None, map};
 ghost use Rattle.planus_tables.specs.Contents.{any_unions_hold, union_vector_if, unions_hold};
 ghost use Rattle.planus_tables.specs.Contents.{written_tags, written_values};
 ghost use Rattle.planus_tables.specs.UnionContents.{never_union_vector_prepared, unions_prepared};
@@ -9,9 +9,9 @@ ghost use Rattle.planus_tables.specs.UnionContents.{optional_union_vector_prepar
 ghost use Rattle.planus_tables.specs.UnionContents.{union_vector_prepared_as};
 ghost use Rattle.planus_tables.specs.UnionContents.{union_vector_offset_prepared};
 
-use crate::contents::{HasDefaultUnionVectorContent, HasUnionVectorContent};
+use crate::contents::{HasDefaultUnionVectorContent, HasUnionItemContent, HasUnionVectorContent};
 use planus_fields::DefaultValue;
-use planus_write::{ByRef, UnionOffset, UnionVectorOffset};
+use planus_write::{ByRef, UnionVectorOffset};
 
 impl<T> HasUnionVectorContent<T> for UnionVectorOffset<T> {
     ghost contents = { λ vector.
@@ -20,40 +20,46 @@ impl<T> HasUnionVectorContent<T> for UnionVectorOffset<T> {
     ghost has_contents = { union_vector_offset_prepared };
 }
 
-impl<'a, T> HasUnionVectorContent<T> for &'a [UnionOffset<T>] {
-    ghost contents = { λ items. Some (unions_hold items.now) };
+impl<'a, T, X: HasUnionItemContent<T>> HasUnionVectorContent<T> for &'a [X] {
+    ghost contents = { λ items. Some (unions_hold (map X.content items.now)) };
 
-    ghost has_contents = { unions_prepared (λ items. items.now) };
+    ghost has_contents = { unions_prepared X.is_lawful X.content X.has_content
+        (λ items. items.now) };
 }
 
-impl<T, const N: usize> HasUnionVectorContent<T> for [UnionOffset<T>; N] {
-    ghost contents = { λ items. Some (unions_hold items) };
+impl<T, X: HasUnionItemContent<T>, const N: usize> HasUnionVectorContent<T> for [X; N] {
+    ghost contents = { λ items. Some (unions_hold (map X.content items)) };
 
-    ghost has_contents = { unions_prepared (λ items. items) };
+    ghost has_contents = { unions_prepared X.is_lawful X.content X.has_content
+        (λ items. items) };
 }
 
-impl<T> HasUnionVectorContent<T> for Vec<UnionOffset<T>> {
-    ghost contents = { λ items. Some (unions_hold items.items) };
+impl<T, X: HasUnionItemContent<T>> HasUnionVectorContent<T> for Vec<X> {
+    ghost contents = { λ items. Some (unions_hold (map X.content items.items)) };
 
-    ghost has_contents = { unions_prepared (λ items. items.items) };
+    ghost has_contents = { unions_prepared X.is_lawful X.content X.has_content
+        (λ items. items.items) };
 }
 
-impl<'a, T> HasDefaultUnionVectorContent<T> for &'a [UnionOffset<T>] {
-    ghost contents = { λ items. any_unions_hold items.now };
+impl<'a, T, X: HasUnionItemContent<T>> HasDefaultUnionVectorContent<T> for &'a [X] {
+    ghost contents = { λ items. any_unions_hold (map X.content items.now) };
 
-    ghost has_contents = { unions_or_none_prepared (λ items. items.now) };
+    ghost has_contents = { unions_or_none_prepared X.is_lawful X.content X.has_content
+        (λ items. items.now) };
 }
 
-impl<T, const N: usize> HasDefaultUnionVectorContent<T> for [UnionOffset<T>; N] {
-    ghost contents = { λ items. any_unions_hold items };
+impl<T, X: HasUnionItemContent<T>, const N: usize> HasDefaultUnionVectorContent<T> for [X; N] {
+    ghost contents = { λ items. any_unions_hold (map X.content items) };
 
-    ghost has_contents = { unions_or_none_prepared (λ items. items) };
+    ghost has_contents = { unions_or_none_prepared X.is_lawful X.content X.has_content
+        (λ items. items) };
 }
 
-impl<T> HasDefaultUnionVectorContent<T> for Vec<UnionOffset<T>> {
-    ghost contents = { λ items. any_unions_hold items.items };
+impl<T, X: HasUnionItemContent<T>> HasDefaultUnionVectorContent<T> for Vec<X> {
+    ghost contents = { λ items. any_unions_hold (map X.content items.items) };
 
-    ghost has_contents = { unions_or_none_prepared (λ items. items.items) };
+    ghost has_contents = { unions_or_none_prepared X.is_lawful X.content X.has_content
+        (λ items. items.items) };
 }
 
 impl<T> HasDefaultUnionVectorContent<T> for UnionVectorOffset<T> {

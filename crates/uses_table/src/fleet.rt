@@ -1,0 +1,74 @@
+//! Fleets: tables whose unions are written with them, of the schema
+//!
+//! ```text
+//! table Fleet { owner: Owner; captains: [Owner]; }
+//! ```
+
+ghost use Rattle.std.specs.Prelude.{◌≡◌, ◌≤◌, [], ◌∷◌, length, codes, IfOk};
+ghost use Rattle.planus_read.specs.Values.{text};
+ghost use Rattle.planus_write.specs.State.{Grows};
+ghost use Rattle.planus_tables.specs.Contents.{WritesContents};
+ghost use Rattle.planus_tables.specs.Holds.{holds_text, holds_u8, holds_variant_tags};
+ghost use Rattle.planus_tables.specs.Holds.{holds_variant_values};
+
+use crate::owner::{Owner, OwnerRef};
+use planus_read::Result;
+use planus_tables::{TableKind, TableRef, Variant, create_table, fields, variant};
+use planus_view::UnionVector;
+use planus_write::{BuildError, Builder, Offset, Text};
+
+/// The kind of an offset to a fleet.
+pub struct Fleet;
+
+/// An owner by name.
+pub type Named<'a> = Variant<1, Text, &'a str>;
+
+impl Fleet {
+    /// Writes a fleet, and the names of its owner and of its captains.
+    pub fn create(
+        builder: &mut Builder,
+        owner: &str,
+        captains: &[Named<'_>],
+    ) -> std::result::Result<Offset<Fleet>, BuildError>
+        ensures kept { IfOk result (λ offset. WritesContents
+            ((1, holds_text owner.now)
+            ∷ (2, holds_variant_tags 1 (λ captain. text captain.value.now) captains.now)
+            ∷ (3, holds_variant_values 1 (λ captain. text captain.value.now) captains.now)
+            ∷ (0, holds_u8 1) ∷ [])
+            builder.old offset.distance builder.new) }
+        ensures reached { IfOk result (λ offset. offset.distance ≤ length builder.new.bytes) }
+        ensures grows { Grows builder.old builder.new }
+    {
+        let fields = fields![
+            (0, 1): union Owner = variant![1: Text = owner],
+            (2, 3): unions Owner = captains,
+        ];
+        create_table::<Fleet, 12, _>(builder, fields)
+    }
+
+    /// Returns the owner of a fleet that is read, or `None` where there is none.
+    pub fn owner<'a>(fleet: &TableRef<'a, Fleet>) -> Result<Option<OwnerRef<'a>>> {
+        fleet
+            .table
+            .access_union::<OwnerRef<'a>>(0, "Fleet", "owner")
+    }
+
+    /// Returns its captains, or `None` where nothing is said of them.
+    pub fn captains<'a>(
+        fleet: &TableRef<'a, Fleet>,
+    ) -> Result<Option<UnionVector<'a, OwnerRef<'a>>>> {
+        fleet
+            .table
+            .access_union_vector::<UnionVector<'a, OwnerRef<'a>>>(2, "Fleet", "captains")
+    }
+}
+
+impl TableKind for Fleet {
+    ghost name = { codes "[FleetRef]" };
+
+    fn name() -> &'static str
+        ensures { result.now ≡ codes "[FleetRef]" }
+    {
+        "[FleetRef]"
+    }
+}
