@@ -19,12 +19,15 @@ use Rattle.planus_read.proofs.TableReading.{slot_below, unions_read, union_vecto
 use Rattle.planus_unions.proofs.ReadBack.{union_vectors}
 use Rattle.planus_view.specs.declared.union_vector.UnionSliceView.{UnionSliceView}
 use Rattle.planus_view.specs.declared.vector_of.VectorOf.{VectorOf}
+use Rattle.planus_write.specs.Unions.{item_of, union_reach}
+use Rattle.planus_write.specs.declared.union_offset.UnionOffset.{UnionOffset}
 use Rattle.planus_tables.specs.Contents.{Content, Unions, item, value, values, written}
 use Rattle.planus_tables.specs.Contents.{no_unions, union_and, union_tags, union_values, written_tags}
+use Rattle.planus_tables.specs.Contents.{as_unions, written_union}
 use Rattle.planus_tables.specs.Contents.{written_values, tag_content, value_content}
 use Rattle.planus_tables.specs.ReadBack.{FieldHolds, FieldHoldsIf, SlotHolds, UnionsHold}
 use Rattle.planus_tables.specs.ReadUnions.{IsReference, ReadsUnion, UnionsReadBack, reads_unions, AreUnions}
-use Rattle.planus_tables.specs.ReadUnions.{AreNewUnions}
+use Rattle.planus_tables.specs.ReadUnions.{AreNewUnions, OffsetUnionVectorsReadBack}
 use Rattle.planus_tables.specs.ReadUnions.{UnionVectorSlotsReadBack, NewUnionVectorsReadBack}
 use Rattle.planus_tables.specs.ReadUnions.{UnionsStand, WrittenUnionVectorsReadBack}
 use Rattle.planus_tables.specs.ReadUnions.{AbsentUnionVectorsReadBack}
@@ -221,6 +224,40 @@ RefersToUnions B one next items =
     (tags_at values_at : ℕ) × (one ≡ tags tags_at) × (next ≡ values_field values_at)
     × Stands B (at_both (position_of B tags_at) (position_of B values_at)) (union_vector items)
 
+-- two fields that hold the tags and the values of the same unions do
+refer_to_unions : (B : List ℕ) (contents : Unions) (one next : Field)
+    → FieldHolds B (union_tags contents) one → FieldHolds B (union_values contents) next
+    → (items : List (ℕ × ℕ)) × RefersToUnions B one next items × UnionsHold B contents items
+refer_to_unions B contents one next holds next_holds =
+    let tags_are = tags_of_unions B contents holds.3.0 holds.3.2
+    ∙ sym (tags_of_unions B contents next_holds.3.0 next_holds.3.2) in (
+      next_holds.3.0,
+      (
+        holds.0,
+        next_holds.1,
+        holds.2,
+        next_holds.2,
+        (
+          subst (λ (all : List ℕ). ByteListStands B (position_of B holds.0) all) tags_are
+              holds.3.1.0,
+          next_holds.3.1.1,
+        ),
+      ),
+      next_holds.3.2,
+    )
+
+-- unions that were written before have their tags and their distances
+same_unions : {U : Type 0} (B : List ℕ) (unions : List (UnionOffset U)) (items : List (ℕ × ℕ))
+    → UnionsHold B (as_unions (map written_union unions)) items → items ≡ map item_of unions
+same_unions B [] [] hold = refl
+same_unions B (union ∷ unions) ((tag, distance) ∷ items) hold =
+    let same : distance ≡ union_reach union = cc in
+    ap (λ (tag : ℕ). (tag, distance) ∷ items) hold.0
+    ∙ ap (λ (distance : ℕ). (union.tag, distance) ∷ items) same
+    ∙ ap (λ (others : List (ℕ × ℕ)). item_of union ∷ others) (same_unions B unions items hold.2)
+same_unions B [] (one ∷ items) hold = elim hold [ ]
+same_unions B (union ∷ unions) [] hold = elim hold [ ]
+
 module _ (T E : Type 0) where
   -- an answer to a vector of unions where both references stand
   some_unions : (B : List ℕ) (k tags_at values_at : ℕ) (items : List (ℕ × ℕ))
@@ -301,21 +338,24 @@ module _ (T E : Type 0) where
   pub new_union_vectors_read_back : NewUnionVectorsReadBack T E
   new_union_vectors_read_back = vectors_read_back (λ B contents. ⊤) union_tags union_values AreNewUnions
       (λ B contents one next may holds next_holds.
-      (let tags_are = tags_of_unions B contents holds.3.0 holds.3.2
-      ∙ sym (tags_of_unions B contents next_holds.3.0 next_holds.3.2) in (
-        next_holds.3.0,
-        (
-          holds.0,
-          next_holds.1,
-          holds.2,
-          next_holds.2,
-          (
-            subst (λ (all : List ℕ). ByteListStands B (position_of B holds.0) all) tags_are
-                holds.3.1.0,
-            next_holds.3.1.1,
-          ),
-        ),
-        (λ vector are. (next_holds.3.0, next_holds.3.2, are)),
+      (let refer = refer_to_unions B contents one next holds next_holds in (
+        refer.0,
+        refer.1,
+        (λ vector are. (refer.0, refer.2, are)),
+      )))
+
+  pub offset_union_vectors_read_back : (U : Type 0) → OffsetUnionVectorsReadBack T E U
+  offset_union_vectors_read_back U = vectors_read_back (λ B unions. ⊤)
+      (λ unions. union_tags (as_unions (map written_union unions)))
+      (λ unions. union_values (as_unions (map written_union unions)))
+      (λ B unions. AreUnions B (map item_of unions))
+      (λ B unions one next may holds next_holds.
+      (let refer = refer_to_unions B (as_unions (map written_union unions)) one next holds next_holds in (
+        refer.0,
+        refer.1,
+        (λ vector are.
+            subst (λ (items : List (ℕ × ℕ)). AreUnions B items vector)
+            (same_unions B unions refer.0 refer.2) are),
       )))
 
   pub written_union_vectors_read_back : WrittenUnionVectorsReadBack T E

@@ -10,6 +10,7 @@ ghost use Rattle.planus_tables.specs.ReadKinds.{SignedReadBack, TruthsReadBack, 
 ghost use Rattle.planus_tables.specs.ReadUnions.{UnionsReadBack, NewUnionVectorsReadBack};
 ghost use Rattle.planus_tables.specs.ReadUnions.{WrittenUnionVectorsReadBack};
 ghost use Rattle.planus_tables.specs.ReadUnions.{AbsentUnionVectorsReadBack};
+ghost use Rattle.planus_tables.specs.ReadUnions.{OffsetUnionVectorsReadBack};
 ghost use Rattle.planus_tables.specs.ReadVectors.{PlainVectorsReadBack, ReferenceVectorsReadBack};
 ghost use Rattle.planus_tables.specs.ReadVectors.{ValueVectorsReadBack};
 
@@ -79,9 +80,10 @@ pub fn unions_read_back<'buf, T: TableReadUnion<'buf>>()
 
 /// What they return of two neighbouring slots that hold the tags and the values of a vector of
 /// unions: the vector of its items, be it written with its table or before; and `None` where both
-/// hold nothing.
-pub fn union_vectors_read_back<T, E>()
+/// hold nothing. `U` is the kind of unions that were written before their vector.
+pub fn union_vectors_read_back<T, E, U>()
     ensures new { NewUnionVectorsReadBack T E }
+    ensures offsets { OffsetUnionVectorsReadBack T E U }
     ensures written { WrittenUnionVectorsReadBack T E }
     ensures absent { AbsentUnionVectorsReadBack T E }
 {}
