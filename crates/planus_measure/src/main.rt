@@ -12,7 +12,7 @@ use std::{env, io};
 use works::{OPERATIONS, Work, Works};
 
 /// All works and their names, in the order of the table.
-const ALL: [(&str, Work); 30] = [
+const ALL: &[(&str, Work)] = &[
     ("texts of 3 bytes", Work::Texts(3, 3)),
     ("texts of 100 bytes", Work::Texts(100, 100)),
     ("texts of 0 to 60 bytes", Work::Texts(0, 60)),
@@ -104,7 +104,7 @@ fn main(rt: HostRuntime) -> io::Result<()> {
         "a thousand times", "done", "ns each"
     )?;
     for (name, work) in ALL {
-        measure(&rt, &mut works, name, work, rounds)?;
+        measure(&rt, &mut works, name, *work, rounds)?;
     }
     Ok(())
 }
