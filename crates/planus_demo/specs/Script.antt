@@ -1,5 +1,5 @@
 -- The script: what the bytes of an input say, line by line.
-use Rattle.std.specs.Prelude.{ℕ, ◌+◌, ◌*◌, ◌==◌, ◌&&◌, Bool, true, List, [], ◌∷◌, map}
+use Rattle.std.specs.Prelude.{ℕ, ◌+◌, ◌*◌, ◌==◌, ◌&&◌, Bool, true, false, List, [], ◌∷◌, map}
 use Rattle.std.specs.Prelude.{length, Option, Some, None, Result, Ok, Err, if◌then◌else◌, codes}
 use Rattle.std.specs.List.{slice_split, after_first, list_all}
 use Rattle.std.specs.Char.{is_digit, digit_value}
@@ -7,11 +7,13 @@ use Rattle.std.specs.Option.{option_map}
 use Rattle.std.specs.Int.{is_in_range}
 use Rattle.std.specs.Str.{is_utf8, bytes_eq}
 use Rattle.planus.specs.Steps.{Step, text, bytes, numbers, refs, unions, table, finish, clear}
-use Rattle.planus.specs.Steps.{Front, root_first, size_first, bare_field}
+use Rattle.planus.specs.Steps.{Front, front_of, bare_field}
 use Rattle.planus.specs.declared.steps.Field.{Field}
 use Rattle.planus_demo.specs.Words.{words_of, number_of, numbers_of}
 use Rattle.planus_demo.specs.Fields.{fields_of}
 use Rattle.planus_demo.specs.Unions.{unions_of}
+use Rattle.planus_demo.specs.declared.script.Command.{Command}
+use Rattle.planus_demo.specs.declared.script.Command.TheVariants as named
 use Rattle.planus_demo.specs.declared.script.ReadFault.{ReadFault}
 use Rattle.planus_demo.specs.declared.script.ReadFault.TheVariants.{NotUtf8, UnknownCommand}
 use Rattle.planus_demo.specs.declared.script.ReadFault.TheVariants.{BadHex, BadIdentifier}
@@ -105,21 +107,42 @@ list_step step (Err fault) = Err fault
 abbrev pub table_step : List Field → Step
 table_step fields = table (map bare_field fields)
 
+-- the command that the first word of a line names
+abbrev pub command_named : List ℕ → Option Command
+command_named word =
+    if bytes_eq word (codes "text") then Some named.Text
+    else if bytes_eq word (codes "bytes") then Some named.Bytes
+    else if bytes_eq word (codes "u16") then Some (named.Numbers 2)
+    else if bytes_eq word (codes "u32") then Some (named.Numbers 4)
+    else if bytes_eq word (codes "u64") then Some (named.Numbers 8)
+    else if bytes_eq word (codes "refs") then Some named.Refs
+    else if bytes_eq word (codes "unions") then Some named.Unions
+    else if bytes_eq word (codes "table") then Some named.Table
+    else if bytes_eq word (codes "finish") then Some (named.Finish false)
+    else if bytes_eq word (codes "sized") then Some (named.Finish true)
+    else if bytes_eq word (codes "clear") then Some named.Clear else None
+
+-- the step of a command, by the bytes behind it and the words that they are
+abbrev pub step_by : Command → List ℕ → List (List ℕ) → Result Step ReadFault
+step_by named.Text behind words = Ok (text behind)
+step_by named.Bytes behind words = bytes_of words
+step_by (named.Numbers width) behind words = list_step (numbers width) (numbers_of words)
+step_by named.Refs behind words = list_step refs (numbers_of words)
+step_by named.Unions behind words = list_step unions (unions_of words)
+step_by named.Table behind words = list_step table_step (fields_of words)
+step_by (named.Finish sized) behind words = finish_of (front_of sized) words
+step_by named.Clear behind words = clear_of words
+
+-- the same, if the command is known
+abbrev pub step_if : Option Command → List ℕ → List (List ℕ) → Result Step ReadFault
+step_if None behind words = Err UnknownCommand
+step_if (Some command) behind words = step_by command behind words
+
 -- what the words of a line say, and the bytes after its first space
 abbrev pub command_of_words : List ℕ → List (List ℕ) → Result Step ReadFault
 command_of_words line [] = Err UnknownCommand
 command_of_words line (word ∷ words) =
-    if bytes_eq word (codes "text") then Ok (text (after_first (λ b. b == 32) line))
-    else if bytes_eq word (codes "bytes") then bytes_of words
-    else if bytes_eq word (codes "u16") then list_step (numbers 2) (numbers_of words)
-    else if bytes_eq word (codes "u32") then list_step (numbers 4) (numbers_of words)
-    else if bytes_eq word (codes "u64") then list_step (numbers 8) (numbers_of words)
-    else if bytes_eq word (codes "refs") then list_step refs (numbers_of words)
-    else if bytes_eq word (codes "unions") then list_step unions (unions_of words)
-    else if bytes_eq word (codes "table") then list_step table_step (fields_of words)
-    else if bytes_eq word (codes "finish") then finish_of root_first words
-    else if bytes_eq word (codes "sized") then finish_of size_first words
-    else if bytes_eq word (codes "clear") then clear_of words else Err UnknownCommand
+    step_if (command_named word) (after_first (λ b. b == 32) line) words
 
 -- The step that a line is, or its first fault of reading.
 abbrev pub command_of : List ℕ → Result Step ReadFault

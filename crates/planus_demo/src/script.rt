@@ -14,6 +14,7 @@ ghost use Rattle.planus_demo.specs.Script.{byte_of as byte_of_lem, hex_bytes as 
 ghost use Rattle.planus_demo.specs.Script.{bytes_of, bytes_step, bytes_in as bytes_in_lem};
 ghost use Rattle.planus_demo.specs.Script.{lines_of, list_step};
 ghost use Rattle.planus_demo.specs.Script.{clear_of, command_of, command_of_words, script_of};
+ghost use Rattle.planus_demo.specs.Script.{command_named, step_by as step_by_lem};
 ghost use Rattle.planus_demo.specs.Script.{is_skipped as is_skipped_lem};
 ghost use Rattle.planus_demo.specs.Steps.{AnswersCommand, AnswersLine, AnswersScript, read_of};
 ghost use Rattle.planus_demo.specs.Steps.{AnswersList, bytes_or_fault};
@@ -405,35 +406,87 @@ fn is_skipped(line: &[u8]) -> bool
     }
 }
 
+/// The command that the first word of a line names.
+#[derive(Clone, Copy)]
+enum Command {
+    /// A text.
+    Text,
+    /// Bytes.
+    Bytes,
+    /// Numbers of so many bytes.
+    Numbers { width: u8 },
+    /// References to steps.
+    Refs,
+    /// A vector of unions.
+    Unions,
+    /// A table.
+    Table,
+    /// A finish, with the size in front if that is asked for.
+    Finish { sized: bool },
+    /// A clear.
+    Clear,
+}
+
+/// The command of this name.
+fn named(word: &str) -> Option<Command>
+    ensures { result ≡ command_named word.now }
+{
+    if word == "text" {
+        Some(Command::Text)
+    } else if word == "bytes" {
+        Some(Command::Bytes)
+    } else if word == "u16" {
+        Some(Command::Numbers { width: 2 })
+    } else if word == "u32" {
+        Some(Command::Numbers { width: 4 })
+    } else if word == "u64" {
+        Some(Command::Numbers { width: 8 })
+    } else if word == "refs" {
+        Some(Command::Refs)
+    } else if word == "unions" {
+        Some(Command::Unions)
+    } else if word == "table" {
+        Some(Command::Table)
+    } else if word == "finish" {
+        Some(Command::Finish { sized: false })
+    } else if word == "sized" {
+        Some(Command::Finish { sized: true })
+    } else if word == "clear" {
+        Some(Command::Clear)
+    } else {
+        None
+    }
+}
+
+/// The step of a command, from what stands behind it.
+fn step_by(
+    alloc: Global,
+    command: Command,
+    rest: Option<&str>,
+) -> std::result::Result<Step, LineError>
+    ensures { AnswersLine result (step_by_lem command (unwrap_or (option_copied rest.entry) [])
+        (words_behind (option_copied rest.entry))) }
+{
+    match command {
+        Command::Text => Ok(Step::Text(String::from_str(alloc, rest.unwrap_or(""))?)),
+        Command::Bytes => bytes(alloc, rest),
+        Command::Numbers { width } => list(alloc, width, rest),
+        Command::Refs => refs(alloc, rest),
+        Command::Unions => unions(alloc, rest),
+        Command::Table => table(alloc, rest),
+        Command::Finish { sized } => Ok(finish(rest, sized)?),
+        Command::Clear => Ok(clear(rest)?),
+    }
+}
+
 /// The step that the text of a line is.
 fn step_of_text(alloc: Global, line: &str) -> std::result::Result<Step, LineError>
     ensures { AnswersLine result (command_of_words line.now (words_of line.now)) }
 {
     let (word, rest) = first_word(line);
-    if word == "text" {
-        Ok(Step::Text(String::from_str(alloc, rest.unwrap_or(""))?))
-    } else if word == "bytes" {
-        bytes(alloc, rest)
-    } else if word == "u16" {
-        list(alloc, 2, rest)
-    } else if word == "u32" {
-        list(alloc, 4, rest)
-    } else if word == "u64" {
-        list(alloc, 8, rest)
-    } else if word == "refs" {
-        refs(alloc, rest)
-    } else if word == "unions" {
-        unions(alloc, rest)
-    } else if word == "table" {
-        table(alloc, rest)
-    } else if word == "finish" {
-        Ok(finish(rest, false)?)
-    } else if word == "sized" {
-        Ok(finish(rest, true)?)
-    } else if word == "clear" {
-        Ok(clear(rest)?)
-    } else {
-        Err(LineError::Fault(ReadFault::UnknownCommand))
+    match named(word) {
+        Some(command) => step_by(alloc, command, rest),
+        None => Err(LineError::Fault(ReadFault::UnknownCommand)),
     }
 }
 

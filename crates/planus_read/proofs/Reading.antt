@@ -12,10 +12,11 @@ use Rattle.std.specs.Option.{option_map}
 use Rattle.std.specs.Str.{IsUtf8}
 use denote.Ref.{Bor}
 use Rattle.planus_read.specs.declared.errors.ErrorKind.{ErrorKind}
+use Rattle.planus_read.specs.declared.errors.ErrorKind.TheVariants.{InvalidOffset}
 use Rattle.planus_read.specs.declared.slice_helpers.SliceWithStartOffset.{SliceWithStartOffset}
 use Rattle.planus_read.specs.Bytes.{Num, Int, BytesStand}
 use Rattle.planus_read.specs.Utf8.{utf8_clause}
-use Rattle.planus_read.specs.Clauses.{AllHold, FirstBroken, Answer, shown}
+use Rattle.planus_read.specs.Clauses.{AllHold, FirstBroken, Answer, clause, shown}
 use Rattle.planus_read.specs.Pieces.{slice_bytes, ShowsBytes}
 use Rattle.planus_read.specs.Heads.{ShowsItems, IsTextOf, text_of_clauses}
 use Rattle.planus_read.specs.Reading.{number, Items, TableLayout, text_reading, table_reading}
@@ -498,6 +499,25 @@ table_holds S f object vtable size h =
       place.1,
       size_is,
     )
+
+-- what is refused of an object is refused of the table that a reference leads to there
+object_behind :
+    (S : List ℕ) (object : ℕ) (e : ErrorKind) (b : Bool) → nat_le object (length S) ≡ b
+    → FirstBroken (object_clauses S object) e
+    → FirstBroken (clause (object ≤ length S) InvalidOffset ∷ object_clauses S object) e
+object_behind S object e true is broken = inr (leb-true object (length S) is, broken)
+object_behind S object e false is (inl broken) =
+    inl (λ h. let f : true ≡ false = sym (le-leb object (length S) h) ∙ is in cc, broken.1)
+object_behind S object e false is (inr broken) =
+    let inside : object ≤ length S = let word = broken.0 in omega arith in
+    absurd (let f : true ≡ false = sym (le-leb object (length S) inside) ∙ is in cc)
+
+pub table_refused :
+    (S : List ℕ) (f object : ℕ) (e : ErrorKind) → f + byte_len w32 ≤ length S → object ≡ target S f
+    → FirstBroken (object_clauses S object) e → FirstBroken (table_clauses S f) e
+table_refused S f object e reference to broken =
+    inr (reference, object_behind S (target S f) e (nat_le (target S f) (length S)) refl
+    (subst (λ o. FirstBroken (object_clauses S o) e) to broken))
 
 pub table_answer :
     (S : List ℕ) (start f : ℕ) (table : Table) → AllHold (table_clauses S f)

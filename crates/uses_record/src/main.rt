@@ -1,10 +1,9 @@
-//! Writes ships and a list of them, and reads them back in place.
+//! Writes ships and a list of them, and reads them back in place, also where bytes of the list are
+//! missing.
 #![tactic(auto)]
 
 mod names;
 mod ship;
-#[cfg(test)]
-mod tests;
 
 use names::{NamesError, names_in};
 use planus::{BuildError, Builder, Error, ReadAsRoot};
@@ -24,18 +23,15 @@ fn unreadable(_error: Error) -> io::Error {
     io::Error::from(io::ErrorKind::InvalidData)
 }
 
-/// Names that can't be had, as an error of the program.
-fn unnamed(error: NamesError) -> io::Error {
-    match error {
-        NamesError::OutOfMemory => io::Error::from(io::ErrorKind::OutOfMemory),
-        NamesError::Read(error) => unreadable(error),
-    }
-}
-
 /// Writes a ship, and prints what is read of it.
-fn print_ship(rt: &HostRuntime, builder: &mut Builder) -> io::Result<()> {
-    let cargo = [12, 50];
-    let ship = Ship::create(builder, "Argo", 250, Some(&cargo)).map_err(refused)?;
+fn print_ship(
+    rt: &HostRuntime,
+    builder: &mut Builder,
+    hull: u16,
+    cargo: Option<&[u32]>,
+) -> io::Result<()> {
+    builder.clear();
+    let ship = Ship::create(builder, "Argo", hull, cargo).map_err(refused)?;
     let bytes = builder.finish(ship, None).map_err(refused)?;
 
     let ship: ShipRef<'_> = ReadAsRoot::read_as_root(bytes).map_err(unreadable)?;
@@ -44,29 +40,48 @@ fn print_ship(rt: &HostRuntime, builder: &mut Builder) -> io::Result<()> {
         Ship::hull(&ship).map_err(unreadable)?,
     );
     println!(rt; "{} bytes with the ship {name}, hull {hull}", bytes.len())?;
-    if let Some(cargo) = Ship::cargo(&ship).map_err(unreadable)? {
-        for weight in cargo.iter() {
-            println!(rt; "cargo {weight}")?;
+    match Ship::cargo(&ship).map_err(unreadable)? {
+        Some(cargo) => {
+            for weight in cargo.iter() {
+                println!(rt; "cargo {weight}")?;
+            }
         }
+        None => println!(rt; "no cargo")?,
     }
     Ok(())
 }
 
-/// Writes a list of two ships, and prints their names.
-fn print_names(rt: &HostRuntime, builder: &mut Builder) -> io::Result<()> {
-    let first = Ship::create(builder, "Argo", 100, None).map_err(refused)?;
-    let second = Ship::create(builder, "Beagle", 90, None).map_err(refused)?;
-    let fleet = [first, second];
-    let bytes = builder.finish(&fleet[..], None).map_err(refused)?;
-    for name in names_in(rt.alloc(), bytes).map_err(unnamed)?.as_slice() {
-        println!(rt; "{name}")?;
+/// Prints the names of a list of ships, or why they can't be read.
+fn print_names(rt: &HostRuntime, bytes: &[u8]) -> io::Result<()> {
+    match names_in(rt.alloc(), bytes) {
+        Ok(names) => {
+            for name in names.as_slice() {
+                println!(rt; "{name}")?;
+            }
+            Ok(())
+        }
+        Err(NamesError::OutOfMemory) => Err(io::Error::from(io::ErrorKind::OutOfMemory)),
+        Err(NamesError::Read(error)) => println!(rt; "{error}"),
     }
-    Ok(())
+}
+
+/// Writes a list of two ships, and prints their names: of all its bytes, and without the last one,
+/// which is the zero byte behind the name that was written first.
+fn print_list(rt: &HostRuntime, builder: &mut Builder) -> io::Result<()> {
+    builder.clear();
+    let first = Ship::create(builder, "Argo", 100, None).map_err(refused)?;
+    let second = Ship::create(builder, "Beagle", 90, Some(&[7])).map_err(refused)?;
+    let list = [second, first];
+    let bytes = builder.finish(&list[..], None).map_err(refused)?;
+    print_names(rt, bytes)?;
+    let end = bytes.len().saturating_sub(1);
+    print_names(rt, &bytes[..end])
 }
 
 fn main(rt: HostRuntime) -> io::Result<()> {
     let mut builder = Builder::new(rt.alloc()).map_err(refused)?;
-    print_ship(&rt, &mut builder)?;
-    builder.clear();
-    print_names(&rt, &mut builder)
+    print_ship(&rt, &mut builder, 250, Some(&[12, 50]))?;
+    print_ship(&rt, &mut builder, 100, None)?;
+    print_list(&rt, &mut builder)?;
+    print_names(&rt, &[1])
 }

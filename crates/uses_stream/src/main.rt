@@ -1,10 +1,8 @@
 //! Writes three texts into one stream, each as a buffer with its size in front, and reads them back
-//! one by one: to the end, and then where the stream was cut.
+//! one by one: to the end, and then where the stream was cut at several lengths.
 #![tactic(auto)]
 
 mod stream;
-#[cfg(test)]
-mod tests;
 
 use planus::{BuildError, Builder, TableRead};
 use std::alloc::AllocError;
@@ -24,8 +22,9 @@ fn out_of_memory(_error: AllocError) -> io::Error {
     io::Error::from(io::ErrorKind::OutOfMemory)
 }
 
-/// Prints the text of each buffer of a stream, and how the stream ends.
+/// Prints how long a stream is, the text of each of its buffers, and how it ends.
 fn print_texts(rt: &HostRuntime, stream: &[u8]) -> io::Result<()> {
+    println!(rt; "{} bytes", stream.len())?;
     let records = read_all(rt.alloc(), stream).map_err(out_of_memory)?;
     for piece in &records.pieces {
         match <&str as TableRead>::from_buffer(*piece, 0) {
@@ -39,6 +38,10 @@ fn print_texts(rt: &HostRuntime, stream: &[u8]) -> io::Result<()> {
     }
 }
 
+// Where the stream of 49 bytes is cut: within its last buffer, right behind the size of that, within
+// this size, right behind the second buffer, within the first one, and in front of all.
+const CUTS: &[usize] = &[48, 36, 35, 32, 15, 0];
+
 fn main(rt: HostRuntime) -> io::Result<()> {
     let mut builder = Builder::new(rt.alloc()).map_err(refused)?;
     let mut stream = Vec::new(rt.alloc());
@@ -46,6 +49,10 @@ fn main(rt: HostRuntime) -> io::Result<()> {
         append(&mut stream, &mut builder, text).map_err(refused)?;
     }
     print_texts(&rt, stream.as_slice())?;
-    let cut = stream.len().saturating_sub(1);
-    print_texts(&rt, &stream.as_slice()[..cut])
+    for length in CUTS {
+        if let Some(part) = stream.as_slice().get(..*length) {
+            print_texts(&rt, part)?;
+        }
+    }
+    Ok(())
 }
