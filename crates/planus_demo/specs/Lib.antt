@@ -1,17 +1,7 @@
-pub mod Words
-pub mod Fields
-pub mod Unions
-pub mod Script
-pub mod Steps
-pub mod Texts
-pub mod Printed
-pub mod Outputs
-pub mod Runner
 pub mod Weapons
 pub mod WeaponViews
 pub mod Variants
 pub mod Equipments
 pub mod Monsters
 pub mod MonsterViews
-pub mod DumpRuns
 pub mod ModeWords

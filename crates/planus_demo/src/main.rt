@@ -2,24 +2,17 @@
 //! bytes. With the argument `weapon` or `monster` reads such a line, and prints what stands in it.
 #![tactic(auto)]
 
-mod dump_run;
 mod equipment;
 mod equipment_ref;
-mod fields;
-mod laws;
 mod mode;
 mod modes;
 mod monster;
-mod output;
-mod print;
-mod run;
-mod script;
 #[cfg(test)]
 mod tests;
-mod unions;
 mod weapon;
 
-use run::RunError;
+use planus_script::dump_run::run_dump;
+use planus_script::run::{self, RunError};
 use std::io::ErrorKind;
 use std::process::ExitCode;
 use std::{env, io};
@@ -46,7 +39,7 @@ fn dumped(rt: &HostRuntime, root: usize) -> Result<bool, RunError> {
     let schema = mode::schema(rt.alloc(), root)?;
     let mut reader = rt.reader();
     let mut writer = io::writer(rt);
-    dump_run::run_dump(rt.alloc(), &schema, &mut reader, &mut writer)
+    run_dump(rt.alloc(), &schema, &mut reader, &mut writer)
 }
 
 /// Runs a script.

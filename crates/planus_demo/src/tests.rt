@@ -9,14 +9,14 @@ mod other_builders;
 mod scripts;
 mod weapon;
 
-use crate::dump_run::run_dump;
-use crate::run::{RunError, run, status};
-use crate::script::{Script, parse};
 use planus::errors::ErrorKind;
 use planus::{
     BuildError, Builder, Caches, Error, Finished, Offset, SliceWithStartOffset, TableRead, replay,
 };
 use planus_dump::Schema;
+use planus_script::dump_run::run_dump;
+use planus_script::run::{RunError, run, status};
+use planus_script::script::{Script, parse};
 use std::alloc::Global;
 use std::io::{Read, Write};
 

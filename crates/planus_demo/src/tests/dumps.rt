@@ -5,8 +5,8 @@ use super::long_scripts::{end_line, push_bytes, push_references, push_text, push
 use super::no_memory::gives_without_memory;
 use crate::mode::{field, mode, schema};
 use crate::modes::Mode;
-use crate::run::RunError;
 use planus_dump::{Item, Kind, Schema, TableSchema};
+use planus_script::run::RunError;
 use std::alloc::{AllocError, Global};
 use std::test::Fail;
 

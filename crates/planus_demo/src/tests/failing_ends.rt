@@ -2,8 +2,8 @@
 
 use super::{answers, ran};
 use crate::mode::schema;
-use crate::run::{RunError, status};
 use planus_dump::Schema;
+use planus_script::run::{RunError, status};
 use std::alloc::Global;
 use std::io;
 use std::io::{Error, ErrorKind, Read, Write};

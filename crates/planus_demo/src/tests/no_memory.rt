@@ -4,11 +4,11 @@ use super::failing_ends::{PRINTED, SCRIPT};
 use super::long_scripts::{push_references, push_text, push_text_step};
 use super::weapon::{is_weapon, weapon};
 use super::{answers, finish_with, prints, ran};
-use crate::run::{RunError, status};
 use crate::weapon::WeaponRef;
 use planus::{BuildError, Builder, ReadAsRoot};
 use planus_dump::Schema;
 use planus_exhaust::{exhaust, exhaust_all_but};
+use planus_script::run::{RunError, status};
 use std::alloc::{AllocError, Global};
 use std::test::Fail;
 

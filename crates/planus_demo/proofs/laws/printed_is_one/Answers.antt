@@ -1,5 +1,0 @@
-use Rattle.planus_demo.proofs.OneText.{printed_is_one}
-use Rattle.planus_demo.proofs.laws.printed_is_one.Goals as goal
-
-pub returns : goal.returns
-returns c = printed_is_one

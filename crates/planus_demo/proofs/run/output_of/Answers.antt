@@ -1,7 +1,0 @@
-use Rattle.planus_demo.proofs.Named.{names_step}
-use Rattle.planus_demo.proofs.run.output_of.Goals as goal
-
-pub answer_text-requires : goal.answer_text-requires
-answer_text-requires c =
-    names_step _ c.args.input.now c.as_slice-in-Ok.result.now c.as_slice.result.now c.in-Ok.script c.replay-answer.result c.as_slice-in-Ok.ensures.value c.as_slice.ensures.value c.in-Ok.ensures
-    c.replay-answer.ensures.run

@@ -1,5 +1,0 @@
-use Rattle.planus_demo.proofs.Words.{clear_followed}
-use Rattle.planus_demo.proofs.script.clear.Goals as goal
-
-pub returns-in-Some : goal.returns-in-Some
-returns-in-Some c = rw c.in-Some.is (clear_followed c.in-Some.field-0.now)

@@ -1,0 +1,10 @@
+pub mod Words
+pub mod Fields
+pub mod Unions
+pub mod Script
+pub mod Steps
+pub mod Texts
+pub mod Printed
+pub mod Outputs
+pub mod Runner
+pub mod DumpRuns

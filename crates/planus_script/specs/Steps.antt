@@ -1,0 +1,47 @@
+-- The steps of the program, as the definitions see them, and what its readers of lines answer.
+use Rattle.std.specs.Prelude.{◌≡◌, ℕ, List, map, Vec, Option, Some, None, Result, Ok, Err, ⊤}
+use Rattle.std.specs.declared.alloc.Global.{Global}
+use Rattle.planus_script.specs.declared.script.ReadFault.TheVariants.{BadHex}
+use Rattle.planus.specs.Steps.{Step, bare_step}
+use Rattle.planus_script.specs.Script.{Read}
+use Rattle.planus.specs.declared.steps.Step as code
+use Rattle.planus_script.specs.declared.script.ReadFault.{ReadFault}
+use Rattle.planus_script.specs.declared.script.LineError.{LineError}
+use Rattle.planus_script.specs.declared.script.LineError.TheVariants as line
+use Rattle.planus_script.specs.declared.script.ParseError.{ParseError}
+use Rattle.planus_script.specs.declared.script.ParseError.TheVariants as parse
+use Rattle.planus_script.specs.declared.script.Script.{Script}
+
+-- a script, without where it lies in memory
+abbrev pub read_of : Script → Read
+read_of script =
+    record { numbers = script.numbers.items; commands = map bare_step script.steps.items }
+
+-- the answer is this command or this fault
+abbrev pub AnswersCommand : Result code.Step ReadFault → Result Step ReadFault → Type 0
+AnswersCommand (Ok step) expected = expected ≡ Ok (bare_step step)
+AnswersCommand (Err fault) expected = expected ≡ Err fault
+
+-- the same, unless memory was refused
+abbrev pub AnswersLine : Result code.Step LineError → Result Step ReadFault → Type 0
+AnswersLine (Ok step) expected = expected ≡ Ok (bare_step step)
+AnswersLine (Err (line.Fault fault)) expected = expected ≡ Err fault
+AnswersLine (Err line.OutOfMemory) expected = ⊤
+
+-- the answer is these items or this fault, unless memory was refused
+abbrev pub AnswersList : {A : Type 0} → Result (Vec A Global) LineError → Result (List A) ReadFault
+    → Type 0
+AnswersList (Ok items) expected = expected ≡ Ok items.items
+AnswersList (Err (line.Fault fault)) expected = expected ≡ Err fault
+AnswersList (Err line.OutOfMemory) expected = ⊤
+
+-- bytes, or the fault that digits are none
+abbrev pub bytes_or_fault : Option (List ℕ) → Result (List ℕ) ReadFault
+bytes_or_fault None = Err BadHex
+bytes_or_fault (Some bytes) = Ok bytes
+
+-- the answer is this script, or this line's fault, unless memory was refused
+abbrev pub AnswersScript : Result Script ParseError → Result Read (ℕ × ReadFault) → Type 0
+AnswersScript (Ok script) expected = expected ≡ Ok (read_of script)
+AnswersScript (Err (parse.Line number fault)) expected = expected ≡ Err (number, fault)
+AnswersScript (Err parse.OutOfMemory) expected = ⊤

@@ -1,0 +1,97 @@
+//! The fields of a table, as the words of a line say them.
+ghost use Rattle.std.specs.Prelude.{◌≡◌};
+ghost use Rattle.std.specs.Option.{option_copied};
+ghost use Rattle.planus_script.specs.Words.{words_behind};
+ghost use Rattle.planus_script.specs.Fields.{kind_of, slot_of, value_of, field_of, fields_of};
+ghost use Rattle.planus_script.specs.Script.{list_step, table_step};
+ghost use Rattle.planus_script.specs.Steps.{AnswersLine};
+
+use crate::script::{FromWord, LineError, ReadFault, cut, items, number};
+use planus::{Field, FieldValue, Step};
+use std::alloc::Global;
+
+/// The kind of what a field holds.
+#[derive(Clone, Copy)]
+enum FieldKind {
+    /// A number of so many bytes.
+    Number { width: u8 },
+    /// A reference to the value of a step.
+    Ref,
+    /// The tags of a step's vector of unions.
+    Tags,
+    /// The references of a step's vector of unions.
+    Values,
+}
+
+/// The kind that a word names.
+fn kind(word: &str) -> Option<FieldKind>
+    ensures { result ≡ kind_of word.now }
+{
+    if word == "u8" {
+        Some(FieldKind::Number { width: 1 })
+    } else if word == "u16" {
+        Some(FieldKind::Number { width: 2 })
+    } else if word == "u32" {
+        Some(FieldKind::Number { width: 4 })
+    } else if word == "u64" {
+        Some(FieldKind::Number { width: 8 })
+    } else if word == "ref" {
+        Some(FieldKind::Ref)
+    } else if word == "tags" {
+        Some(FieldKind::Tags)
+    } else if word == "values" {
+        Some(FieldKind::Values)
+    } else {
+        None
+    }
+}
+
+/// The slot of this number. Above 65535 it is 65535, which is too big as well.
+fn slot(number: u64) -> u16
+    ensures { result ≡ slot_of number }
+{
+    u16::try_from(number).unwrap_or(u16::MAX)
+}
+
+/// What a field of this kind holds.
+fn value(kind: FieldKind, number: u64) -> FieldValue
+    ensures { result ≡ value_of kind number }
+{
+    match kind {
+        FieldKind::Number { width } => FieldValue::Number {
+            width,
+            value: number,
+        },
+        FieldKind::Ref => FieldValue::Ref(number as usize),
+        FieldKind::Tags => FieldValue::Tags(number as usize),
+        FieldKind::Values => FieldValue::Values(number as usize),
+    }
+}
+
+impl FromWord for Field {
+    ghost said = { field_of };
+
+    /// The field that a word is, as `3=u16:24` or `0=ref:1`.
+    fn from_word(word: &str) -> Result<Field, ReadFault> {
+        let Some((slot_word, rest)) = cut(word, '=') else {
+            return Err(ReadFault::BadField);
+        };
+        let Some((kind_word, number_word)) = cut(rest, ':') else {
+            return Err(ReadFault::BadField);
+        };
+        let Some(kind) = kind(kind_word) else {
+            return Err(ReadFault::BadField);
+        };
+        let slot = slot(number(slot_word)?);
+        let value = value(kind, number(number_word)?);
+        Ok(Field { slot, value })
+    }
+}
+
+/// A table of fields, from what stands behind the first word.
+pub(crate) fn table(alloc: Global, words: Option<&str>) -> Result<Step, LineError>
+    ensures { AnswersLine result (list_step table_step
+        (fields_of (words_behind (option_copied words.entry)))) }
+{
+    Ok(Step::Table(items::<Field>(alloc, words)?))
+}

@@ -1,0 +1,127 @@
+//! From a reader to a writer.
+ghost use Rattle.std.specs.Prelude.{◌≡◌, ◌+◌, ℕ, List, take, Bool, true, false, IfOk, IfErr};
+ghost use Rattle.std.specs.Prelude.{IfSome, OnOk, Result, Ok, Err};
+ghost use Rattle.std.specs.Io.KnownBytes.{Appends, Keeps};
+ghost use Rattle.planus_script.specs.Printed.{greatest_script, PrintedOrOutOfMemory};
+ghost use Rattle.planus_script.specs.Outputs.{is_clean, printed_text};
+ghost use Rattle.planus_script.specs.Runner.{WritesPrinted, LeavesUnwritten, IsReading, status_of};
+
+use crate::output::Output;
+use crate::print::answer_text;
+use crate::script::{ParseError, parse};
+use planus::{Caches, replay};
+use std::alloc::{AllocError, Global};
+use std::io;
+use std::io::{ErrorKind, Read, Write};
+
+/// No script is longer, in bytes.
+pub const GREATEST_SCRIPT: usize = 1048576;
+
+/// Why a run failed.
+#[derive(Clone, Copy, Debug, PartialEq, Eq)]
+pub enum RunError {
+    /// Memory was refused while the script or what is printed was held. Nothing was written.
+    OutOfMemory,
+    /// Reading failed. Nothing was written.
+    Read,
+    /// Writing failed.
+    Write,
+}
+
+impl From<AllocError> for RunError {
+    ghost use Rattle.std.specs.Prelude.{◌≡◌};
+    ghost use Rattle.planus_script.specs.declared.run.RunError.TheVariants.{OutOfMemory};
+
+    ghost from_gives = { λ _ e. e ≡ OutOfMemory };
+
+    fn from(_error: AllocError) -> RunError {
+        RunError::OutOfMemory
+    }
+}
+
+/// Returns the bytes of a script, or the first bytes of one that is too long.
+pub fn read_script<R: Read>(alloc: Global, reader: &mut R) -> std::result::Result<Vec<u8>, RunError>
+    ensures bytes { IfOk result (λ input. IfSome (R.remaining reader.old)
+        (λ bytes. input.items ≡ take (greatest_script + 1) bytes)) }
+    ensures error { IfErr result (λ error. IsReading error) }
+{
+    let mut input = Vec::new(alloc);
+    let mut script = Read::take(&mut *reader, GREATEST_SCRIPT as u64 + 1);
+    match script.read_to_end(&mut input) {
+        Ok(_) => Ok(input),
+        Err(error) if error.kind() == ErrorKind::OutOfMemory => Err(RunError::OutOfMemory),
+        Err(_) => Err(RunError::Read),
+    }
+}
+
+/// What is printed of an input: it is parsed, and its steps are replayed, where equal contents are
+/// written once.
+fn output_of(alloc: Global, input: &[u8]) -> std::result::Result<Output, AllocError>
+    ensures { IfOk result (λ output. PrintedOrOutOfMemory input.now (is_clean output)
+        (printed_text output)) }
+{
+    if input.len() > GREATEST_SCRIPT {
+        let text = format!(in alloc; "script too long\n")?;
+        return Ok(Output { clean: false, text });
+    }
+    match parse(alloc, input) {
+        Err(ParseError::OutOfMemory) => Err(AllocError),
+        Err(ParseError::Line { number, fault }) => {
+            let text = format!(in alloc; "line {number}: {fault}\n")?;
+            Ok(Output { clean: false, text })
+        }
+        Ok(script) => {
+            let answer = replay(alloc, Caches::all(), script.steps.as_slice());
+            let text = answer_text(alloc, script.numbers.as_slice(), &answer)?;
+            Ok(Output {
+                clean: answer.is_ok(),
+                text,
+            })
+        }
+    }
+}
+
+/// Writes all bytes, and hands them on.
+pub fn write_out<W: Write>(writer: &mut W, bytes: &[u8]) -> std::result::Result<(), RunError>
+    ensures bytes { OnOk result (Appends (W.contents writer.old)
+        (W.contents writer.new) bytes.now) }
+    ensures error { IfErr result (λ error. error ≡ RunError.Write) }
+{
+    if writer.write_all(bytes).is_err() {
+        return Err(RunError::Write);
+    }
+    match writer.flush() {
+        Ok(()) => Ok(()),
+        Err(_) => Err(RunError::Write),
+    }
+}
+
+/// Reads a script, and prints a line of bytes for each of its finishes, or its first fault alone.
+/// Returns whether it was clean.
+pub fn run<R: Read, W: Write>(
+    alloc: Global,
+    reader: &mut R,
+    writer: &mut W,
+) -> std::result::Result<bool, RunError>
+    ensures printed { IfOk result (λ clean. IfSome (R.remaining reader.old)
+        (λ input. WritesPrinted input clean (W.contents writer.old) (W.contents writer.new))) }
+    ensures unwritten { IfErr result
+        (λ error. LeavesUnwritten error (W.contents writer.old) (W.contents writer.new)) }
+{
+    let input = read_script(alloc, reader)?;
+    let output = output_of(alloc, input.as_slice())?;
+    write_out(writer, output.text.as_bytes())?;
+    Ok(output.clean)
+}
+
+/// Returns the exit status: 0 for a clean script, 1 after a printed fault, 2 where reading or
+/// writing failed, or memory for the script was refused.
+pub fn status(answer: &std::result::Result<bool, RunError>) -> u8
+    ensures { result ≡ status_of answer.now }
+{
+    match answer {
+        Ok(true) => 0,
+        Ok(false) => 1,
+        Err(_) => 2,
+    }
+}
