@@ -94,17 +94,22 @@ fn measure(
     println!(rt; "{name:<42} {done:>8} {whole:>8}.{tenth}")
 }
 
-fn main(rt: HostRuntime) -> io::Result<()> {
-    let rounds = rounds(&rt)?;
-    let Ok(mut works) = Works::new(rt.alloc()) else {
-        return println!(rt; "out of memory");
-    };
+/// Measures all works.
+fn measure_all(rt: &HostRuntime, works: &mut Works, rounds: u64) -> io::Result<()> {
     println!(rt;
         "{:<42} {:>8} {:>10}",
         "a thousand times", "done", "ns each"
     )?;
     for (name, work) in ALL {
-        measure(&rt, &mut works, name, *work, rounds)?;
+        measure(rt, works, name, *work, rounds)?;
     }
     Ok(())
+}
+
+fn main(rt: HostRuntime) -> io::Result<()> {
+    let rounds = rounds(&rt)?;
+    match Works::new(rt.alloc()) {
+        Ok(mut works) => measure_all(&rt, &mut works, rounds),
+        Err(_) => println!(rt; "out of memory"),
+    }
 }

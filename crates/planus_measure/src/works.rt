@@ -126,6 +126,44 @@ fn different_texts(alloc: Global, count: usize, len: usize) -> Result<Vec<String
     Ok(texts)
 }
 
+/// The texts of a kind of operation, none where it needs none.
+fn texts_of(alloc: Global, work: Work) -> Result<Vec<String>, AllocError> {
+    match work {
+        Work::Texts(least, most) => texts(alloc, OPERATIONS, least, most),
+        Work::GrowingTexts => texts(alloc, OPERATIONS, 100, 100),
+        Work::FoundTexts(len) => texts(alloc, OPERATIONS, len, len),
+        Work::TextLists => texts(alloc, 64, 0, 63),
+        Work::NewTexts(len) => different_texts(alloc, OPERATIONS, len),
+        Work::AfterTexts(count) => different_texts(alloc, count, 20),
+        _ => Ok(Vec::new(alloc)),
+    }
+}
+
+/// The numbers of a kind of operation, none where it needs none.
+fn numbers_of(alloc: Global, work: Work) -> Result<Vec<u32>, AllocError> {
+    match work {
+        Work::NumberLists(len) => equal_numbers(alloc, len),
+        Work::ReadChunks => equal_numbers(alloc, 16 * OPERATIONS),
+        _ => Ok(Vec::new(alloc)),
+    }
+}
+
+/// So many equal numbers.
+fn equal_numbers(alloc: Global, len: usize) -> Result<Vec<u32>, AllocError> {
+    vec![in alloc; 7; len]
+}
+
+/// The bytes of a kind of operation, none where it needs none.
+fn bytes_of(alloc: Global, work: Work) -> Result<Vec<u8>, AllocError> {
+    match work {
+        Work::ByteLists(len) => vec![in alloc; 7; len],
+        Work::ReadWeapons => repeated(alloc, &WEAPON),
+        Work::ReadFields(_) => repeated(alloc, &NUMBERS),
+        Work::ReadMonsters => repeated(alloc, &MONSTER),
+        _ => Ok(Vec::new(alloc)),
+    }
+}
+
 /// A thousand times the same bytes.
 fn repeated(alloc: Global, bytes: &[u8]) -> Result<Vec<u8>, AllocError> {
     let mut all = Vec::new(alloc);
@@ -223,9 +261,14 @@ fn next_padding(promises: Promises, len: usize, size: usize) -> Option<(Promises
     promises.request(len, size, 7).ok()
 }
 
-/// A builder with no room and no caches.
-fn small_builder(alloc: Global) -> Result<Builder, BuildError> {
-    Builder::with_caches(alloc, 0, NO_CACHES)
+/// Writes each text in a new builder, which has no room, and returns the length of all.
+fn write_growing_texts(alloc: Global, texts: &[String]) -> Result<usize, BuildError> {
+    write_texts(&mut Builder::with_caches(alloc, 0, NO_CACHES)?, texts)
+}
+
+/// Writes parts of so many bytes in a new builder, which has no room, and returns the length of all.
+fn write_growing_parts(alloc: Global, size: usize) -> Result<usize, BuildError> {
+    write_parts(&mut Builder::with_caches(alloc, 0, NO_CACHES)?, size)
 }
 
 impl Works {
@@ -243,28 +286,26 @@ impl Works {
 
     /// Makes what a kind of operation needs that others don't.
     fn prepare(&mut self, work: Work) -> Result<(), BuildError> {
+        self.texts = texts_of(self.alloc, work)?;
+        self.numbers = numbers_of(self.alloc, work)?;
+        self.bytes = bytes_of(self.alloc, work)?;
         match work {
-            Work::Texts(least, most) => self.texts = texts(self.alloc, OPERATIONS, least, most)?,
-            Work::GrowingTexts => self.texts = texts(self.alloc, OPERATIONS, 100, 100)?,
-            Work::FoundTexts(len) => self.texts = texts(self.alloc, OPERATIONS, len, len)?,
-            Work::TextLists => self.texts = texts(self.alloc, 64, 0, 63)?,
-            Work::NewTexts(len) => self.texts = different_texts(self.alloc, OPERATIONS, len)?,
-            Work::AfterTexts(count) => {
-                self.texts = different_texts(self.alloc, count, 20)?;
-                self.caching = Builder::new(self.alloc)?;
-                write_texts(&mut self.caching, self.texts.as_slice())?;
-            }
-            Work::ReadWeapons => self.bytes = repeated(self.alloc, &WEAPON)?,
-            Work::ReadFields(_) => self.bytes = repeated(self.alloc, &NUMBERS)?,
-            Work::ReadMonsters => self.bytes = repeated(self.alloc, &MONSTER)?,
-            Work::ReadChunks => {
-                self.numbers = vec![in self.alloc; 7; 16 * OPERATIONS]?;
-                self.bytes = finished_list(self.alloc, &mut self.builder, &self.numbers)?;
-            }
-            Work::ByteLists(len) => self.bytes = vec![in self.alloc; 7; len]?,
-            Work::NumberLists(len) => self.numbers = vec![in self.alloc; 7; len]?,
-            _ => {}
+            Work::AfterTexts(_) => self.write_before(),
+            Work::ReadChunks => self.finish_numbers(),
+            _ => Ok(()),
         }
+    }
+
+    /// Puts a builder with caches in the place of the one before, and writes the texts.
+    fn write_before(&mut self) -> Result<(), BuildError> {
+        self.caching = Builder::new(self.alloc)?;
+        write_texts(&mut self.caching, self.texts.as_slice())?;
+        Ok(())
+    }
+
+    /// Finishes a list of the numbers, to be read.
+    fn finish_numbers(&mut self) -> Result<(), BuildError> {
+        self.bytes = finished_list(self.alloc, &mut self.builder, &self.numbers)?;
         Ok(())
     }
 
@@ -282,16 +323,14 @@ impl Works {
         let bytes = self.bytes.as_slice();
         match work {
             Work::Texts(_, _) => write_texts(builder, texts).ok(),
-            Work::GrowingTexts => write_texts(&mut small_builder(self.alloc).ok()?, texts).ok(),
+            Work::GrowingTexts => write_growing_texts(self.alloc, texts).ok(),
             Work::NewTexts(_) | Work::FoundTexts(_) => write_texts(&mut self.caching, texts).ok(),
             Work::AfterTexts(_) => write_messages(&mut self.caching).ok(),
             Work::TextLists => write_text_lists(builder, texts).ok(),
             Work::ByteLists(_) => write_byte_lists(builder, bytes).ok(),
             Work::NumberLists(_) => write_number_lists(builder, &self.numbers).ok(),
             Work::Parts(size) => write_parts(builder, size).ok(),
-            Work::GrowingParts(size) => {
-                write_parts(&mut small_builder(self.alloc).ok()?, size).ok()
-            }
+            Work::GrowingParts(size) => write_growing_parts(self.alloc, size).ok(),
             Work::TwoFields => tables::write_two(builder).ok(),
             Work::EightFields => tables::write_eight(builder).ok(),
             Work::Weapons => tables::write_weapons(builder).ok(),

@@ -516,8 +516,11 @@ pub table_refused :
     (S : List ℕ) (f object : ℕ) (e : ErrorKind) → f + byte_len w32 ≤ length S → object ≡ target S f
     → FirstBroken (object_clauses S object) e → FirstBroken (table_clauses S f) e
 table_refused S f object e reference to broken =
-    inr (reference, object_behind S (target S f) e (nat_le (target S f) (length S)) refl
-    (subst (λ o. FirstBroken (object_clauses S o) e) to broken))
+    inr (
+      reference,
+      object_behind S (target S f) e (nat_le (target S f) (length S)) refl
+          (subst (λ o. FirstBroken (object_clauses S o) e) to broken),
+    )
 
 pub table_answer :
     (S : List ℕ) (start f : ℕ) (table : Table) → AllHold (table_clauses S f)

@@ -23,8 +23,30 @@ fn unreadable(_error: Error) -> io::Error {
     io::Error::from(io::ErrorKind::InvalidData)
 }
 
+/// Prints the cargo of a ship.
+fn print_cargo(rt: &HostRuntime, ship: &ShipRef<'_>) -> io::Result<()> {
+    match Ship::cargo(ship).map_err(unreadable)? {
+        Some(cargo) => {
+            for weight in cargo.iter() {
+                println!(rt; "cargo {weight}")?;
+            }
+            Ok(())
+        }
+        None => println!(rt; "no cargo"),
+    }
+}
+
+/// Prints what is read of the ship of a buffer.
+fn print_ship(rt: &HostRuntime, bytes: &[u8]) -> io::Result<()> {
+    let ship: ShipRef<'_> = ReadAsRoot::read_as_root(bytes).map_err(unreadable)?;
+    let name = Ship::name(&ship).map_err(unreadable)?;
+    let hull = Ship::hull(&ship).map_err(unreadable)?;
+    println!(rt; "{} bytes with the ship {name}, hull {hull}", bytes.len())?;
+    print_cargo(rt, &ship)
+}
+
 /// Writes a ship, and prints what is read of it.
-fn print_ship(
+fn print_written(
     rt: &HostRuntime,
     builder: &mut Builder,
     hull: u16,
@@ -32,23 +54,7 @@ fn print_ship(
 ) -> io::Result<()> {
     builder.clear();
     let ship = Ship::create(builder, "Argo", hull, cargo).map_err(refused)?;
-    let bytes = builder.finish(ship, None).map_err(refused)?;
-
-    let ship: ShipRef<'_> = ReadAsRoot::read_as_root(bytes).map_err(unreadable)?;
-    let (name, hull) = (
-        Ship::name(&ship).map_err(unreadable)?,
-        Ship::hull(&ship).map_err(unreadable)?,
-    );
-    println!(rt; "{} bytes with the ship {name}, hull {hull}", bytes.len())?;
-    match Ship::cargo(&ship).map_err(unreadable)? {
-        Some(cargo) => {
-            for weight in cargo.iter() {
-                println!(rt; "cargo {weight}")?;
-            }
-        }
-        None => println!(rt; "no cargo")?,
-    }
-    Ok(())
+    print_ship(rt, builder.finish(ship, None).map_err(refused)?)
 }
 
 /// Prints the names of a list of ships, or why they can't be read.
@@ -78,10 +84,15 @@ fn print_list(rt: &HostRuntime, builder: &mut Builder) -> io::Result<()> {
     print_names(rt, &bytes[..end])
 }
 
+/// Prints ships, lists, and what is no list.
+fn print_all(rt: &HostRuntime, builder: &mut Builder) -> io::Result<()> {
+    print_written(rt, builder, 250, Some(&[12, 50]))?;
+    print_written(rt, builder, 100, None)?;
+    print_list(rt, builder)?;
+    print_names(rt, &[1])
+}
+
 fn main(rt: HostRuntime) -> io::Result<()> {
     let mut builder = Builder::new(rt.alloc()).map_err(refused)?;
-    print_ship(&rt, &mut builder, 250, Some(&[12, 50]))?;
-    print_ship(&rt, &mut builder, 100, None)?;
-    print_list(&rt, &mut builder)?;
-    print_names(&rt, &[1])
+    print_all(&rt, &mut builder)
 }

@@ -38,21 +38,32 @@ fn print_texts(rt: &HostRuntime, stream: &[u8]) -> io::Result<()> {
     }
 }
 
+/// Writes the stream of three texts.
+fn stream_of_texts(rt: &HostRuntime, builder: &mut Builder) -> io::Result<Vec<u8>> {
+    let mut stream = Vec::new(rt.alloc());
+    for text in ["Axe", "Bow", "Club"] {
+        append(&mut stream, builder, text).map_err(refused)?;
+    }
+    Ok(stream)
+}
+
 // Where the stream of 49 bytes is cut: within its last buffer, right behind the size of that, within
 // this size, right behind the second buffer, within the first one, and in front of all.
 const CUTS: &[usize] = &[48, 36, 35, 32, 15, 0];
 
-fn main(rt: HostRuntime) -> io::Result<()> {
-    let mut builder = Builder::new(rt.alloc()).map_err(refused)?;
-    let mut stream = Vec::new(rt.alloc());
-    for text in ["Axe", "Bow", "Club"] {
-        append(&mut stream, &mut builder, text).map_err(refused)?;
-    }
-    print_texts(&rt, stream.as_slice())?;
+/// Prints the texts of a stream, whole and cut.
+fn print_cuts(rt: &HostRuntime, stream: &[u8]) -> io::Result<()> {
+    print_texts(rt, stream)?;
     for length in CUTS {
-        if let Some(part) = stream.as_slice().get(..*length) {
-            print_texts(&rt, part)?;
+        if let Some(part) = stream.get(..*length) {
+            print_texts(rt, part)?;
         }
     }
     Ok(())
+}
+
+fn main(rt: HostRuntime) -> io::Result<()> {
+    let mut builder = Builder::new(rt.alloc()).map_err(refused)?;
+    let stream = stream_of_texts(&rt, &mut builder)?;
+    print_cuts(&rt, stream.as_slice())
 }
