@@ -6,3 +6,4 @@ pub mod Finished
 pub mod ReadVectors
 pub mod ReadUnions
 pub mod Steps
+pub mod RefusedTables
