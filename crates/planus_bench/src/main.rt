@@ -27,19 +27,25 @@ fn print_outcome(rt: &HostRuntime, name: &str, call: Call) -> io::Result<()> {
 
 /// Prints what a call on no builder came to.
 fn print_copied(rt: &HostRuntime, name: &str, copied: Copied) -> io::Result<()> {
-    match copied {
-        Copied::NotBegun => println!(rt; "{name}: refused before it"),
-        Copied::Made => println!(rt; "{name}: as it should be"),
-        Copied::MadeAgain => println!(rt; "{name}: refused, then as it should be"),
-        Copied::Wrong => println!(rt; "{name}: wrong"),
-    }
+    let what = match copied {
+        Copied::NotBegun => "refused before it",
+        Copied::Made => "as it should be",
+        Copied::MadeAgain => "refused, then as it should be",
+        Copied::Wrong => "wrong",
+    };
+    println!(rt; "{name}: {what}")
+}
+
+/// Makes all calls, and prints what they came to.
+fn print_all(rt: &HostRuntime) -> io::Result<()> {
+    print_outcome(rt, "a list of two texts", Call::List)?;
+    print_outcome(rt, "a vector of two unions", Call::Unions)?;
+    print_outcome(rt, "a weapon", Call::Weapon)?;
+    print_copied(rt, "copies of five numbers", copy_numbers(rt.alloc()))?;
+    print_copied(rt, "copies of five texts", copy_texts(rt.alloc()))?;
+    print_copied(rt, "a replay", replay_weapon(rt.alloc()))
 }
 
 fn main(rt: HostRuntime) -> io::Result<()> {
-    print_outcome(&rt, "a list of two texts", Call::List)?;
-    print_outcome(&rt, "a vector of two unions", Call::Unions)?;
-    print_outcome(&rt, "a weapon", Call::Weapon)?;
-    print_copied(&rt, "copies of five numbers", copy_numbers(rt.alloc()))?;
-    print_copied(&rt, "copies of five texts", copy_texts(rt.alloc()))?;
-    print_copied(&rt, "a replay", replay_weapon(rt.alloc()))
+    print_all(&rt)
 }

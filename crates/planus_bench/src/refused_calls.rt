@@ -21,7 +21,7 @@ pub enum Call {
 }
 
 /// What a call came to.
-#[derive(Clone, Copy, PartialEq, Eq)]
+#[derive(Clone, Copy)]
 pub enum Outcome {
     /// A request before the call was refused.
     NotBegun,
@@ -110,10 +110,13 @@ fn write_weapon(builder: &mut Builder) -> Result<Written, BuildError> {
 
 /// Writes what stands there before the call.
 pub fn prepare(builder: &mut Builder, call: Call) -> Result<(), BuildError> {
-    if let Call::Unions = call {
-        write_texts(builder)?;
+    match call {
+        Call::Unions => {
+            let [_a, _b] = write_texts(builder)?;
+            Ok(())
+        }
+        _ => Ok(()),
     }
-    Ok(())
 }
 
 /// Makes the call.

@@ -8,7 +8,7 @@ use planus::{
 use std::alloc::{AllocError, Global};
 
 /// What a call came to.
-#[derive(Clone, Copy, PartialEq, Eq)]
+#[derive(Clone, Copy)]
 pub enum Copied {
     /// A request before the call was refused.
     NotBegun,
@@ -18,6 +18,16 @@ pub enum Copied {
     MadeAgain,
     /// Something else came of it.
     Wrong,
+}
+
+impl Copied {
+    /// What a refused call comes to when it is made again with memory.
+    fn again(copied: Option<bool>) -> Copied {
+        match copied {
+            Some(true) => Copied::MadeAgain,
+            _ => Copied::Wrong,
+        }
+    }
 }
 
 /// The list of the numbers 1 to 5.
@@ -61,8 +71,8 @@ pub fn numbers_are_copied(alloc: Global) -> Option<bool> {
 pub fn copy_numbers(alloc: Global) -> Copied {
     match numbers_are_copied(alloc) {
         Some(true) => Copied::Made,
-        Some(false) if numbers_are_copied(alloc) == Some(true) => Copied::MadeAgain,
-        _ => Copied::Wrong,
+        Some(false) => Copied::again(numbers_are_copied(alloc)),
+        None => Copied::Wrong,
     }
 }
 
@@ -99,8 +109,8 @@ pub fn texts_are_copied(alloc: Global) -> Option<bool> {
 pub fn copy_texts(alloc: Global) -> Copied {
     match texts_are_copied(alloc) {
         Some(true) => Copied::Made,
-        Some(false) if texts_are_copied(alloc) == Some(true) => Copied::MadeAgain,
-        _ => Copied::Wrong,
+        Some(false) => Copied::again(texts_are_copied(alloc)),
+        None => Copied::Wrong,
     }
 }
 
@@ -146,8 +156,8 @@ pub fn weapon_is_replayed(alloc: Global, steps: &[Step]) -> Option<bool> {
 fn replay_twice(alloc: Global, steps: &[Step]) -> Copied {
     match weapon_is_replayed(alloc, steps) {
         Some(true) => Copied::Made,
-        Some(false) if weapon_is_replayed(alloc, steps) == Some(true) => Copied::MadeAgain,
-        _ => Copied::Wrong,
+        Some(false) => Copied::again(weapon_is_replayed(alloc, steps)),
+        None => Copied::Wrong,
     }
 }
 

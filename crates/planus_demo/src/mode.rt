@@ -1,5 +1,5 @@
 //! What the words behind the program's name choose.
-ghost use Rattle.std.specs.Prelude.{◌≡◌, map, IfOk};
+ghost use Rattle.std.specs.Prelude.{◌≡◌, ◌++◌, [], ◌∷◌, map, IfOk, OnOk};
 ghost use Rattle.std.specs.String.{string_bytes};
 ghost use Rattle.planus_dump.specs.Shapes.{field_shape, field_of, table_shape, HasShape};
 ghost use Rattle.planus_dump.specs.Shapes.{weapon_shape, monster_shape, worked_tables};
@@ -34,26 +34,57 @@ pub fn field(alloc: Global, slot: usize, name: &str, kind: Kind) -> Result<Field
     Ok(FieldSchema { slot, name, kind })
 }
 
+/// Adds a field.
+fn push_field(
+    alloc: Global,
+    fields: &mut Vec<FieldSchema>,
+    slot: usize,
+    name: &str,
+    kind: Kind,
+) -> Result<(), AllocError>
+    ensures { OnOk result (map field_shape fields.new.items
+        ≡ map field_shape fields.old.items ++ (field_of slot name.now kind ∷ [])) }
+{
+    fields.push(field(alloc, slot, name, kind)?)?;
+    Ok(())
+}
+
+/// Adds the fields of a weapon.
+fn push_weapon(alloc: Global, fields: &mut Vec<FieldSchema>) -> Result<(), AllocError>
+    ensures { OnOk result (map field_shape fields.new.items
+        ≡ map field_shape fields.old.items ++ weapon_shape.fields) }
+{
+    push_field(alloc, fields, 0, "name", Kind::One(Item::Text))?;
+    push_field(alloc, fields, 1, "damage", Kind::One(Item::I16))
+}
+
 fn weapon(alloc: Global) -> Result<TableSchema, AllocError>
     ensures { IfOk result (λ table. table_shape table ≡ weapon_shape) }
 {
     let mut fields = Vec::new(alloc);
-    fields.push(field(alloc, 0, "name", Kind::One(Item::Text))?)?;
-    fields.push(field(alloc, 1, "damage", Kind::One(Item::I16))?)?;
+    push_weapon(alloc, &mut fields)?;
     let name = String::from_str(alloc, "Weapon")?;
     Ok(TableSchema { name, fields })
+}
+
+/// Adds the fields of a monster.
+fn push_monster(alloc: Global, fields: &mut Vec<FieldSchema>) -> Result<(), AllocError>
+    ensures { OnOk result (map field_shape fields.new.items
+        ≡ map field_shape fields.old.items ++ monster_shape.fields) }
+{
+    push_field(alloc, fields, 0, "hp", Kind::One(Item::I16))?;
+    push_field(alloc, fields, 1, "name", Kind::One(Item::Text))?;
+    push_field(alloc, fields, 2, "inventory", Kind::Bytes)?;
+    push_field(alloc, fields, 3, "weapons", Kind::List(Item::Table(0)))?;
+    push_field(alloc, fields, 4, "equipped", Kind::Union(0))?;
+    push_field(alloc, fields, 6, "loot", Kind::UnionVector(0))
 }
 
 fn monster(alloc: Global) -> Result<TableSchema, AllocError>
     ensures { IfOk result (λ table. table_shape table ≡ monster_shape) }
 {
     let mut fields = Vec::new(alloc);
-    fields.push(field(alloc, 0, "hp", Kind::One(Item::I16))?)?;
-    fields.push(field(alloc, 1, "name", Kind::One(Item::Text))?)?;
-    fields.push(field(alloc, 2, "inventory", Kind::Bytes)?)?;
-    fields.push(field(alloc, 3, "weapons", Kind::List(Item::Table(0)))?)?;
-    fields.push(field(alloc, 4, "equipped", Kind::Union(0))?)?;
-    fields.push(field(alloc, 6, "loot", Kind::UnionVector(0))?)?;
+    push_monster(alloc, &mut fields)?;
     let name = String::from_str(alloc, "Monster")?;
     Ok(TableSchema { name, fields })
 }

@@ -1,5 +1,6 @@
 //! Scripts as a user runs them, and tables that are written and read.
 
+mod dumper;
 mod dumps;
 mod failing_ends;
 mod long_scripts;

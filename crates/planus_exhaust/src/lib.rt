@@ -2,6 +2,7 @@
 #![tactic(auto)]
 
 use std::alloc::{AllocError, Global};
+use std::io;
 
 // A block of which a sanitizer's malloc keeps the addresses for a while once it is given back.
 const SPARE: usize = 1 << 25;
@@ -44,6 +45,15 @@ pub fn exhaust_all_but(
     let taken: Vec<u8> = Vec::with_capacity(alloc, BLOCK.saturating_sub(spare))?;
     held.push(taken)?;
     Ok(exhausted)
+}
+
+/// Returns whether what was tried with all memory taken holds. Where memory was left, which is
+/// `None`, it says that the test doesn't apply, and returns true.
+pub fn holds_or_says(rt: &HostRuntime, found: Option<bool>) -> io::Result<bool> {
+    if found.is_none() {
+        println!(rt; "memory was left: this test does not apply")?;
+    }
+    Ok(found != Some(false))
 }
 
 // Takes the blocks, and returns whether no byte is left.

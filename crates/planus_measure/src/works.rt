@@ -94,20 +94,26 @@ pub struct Works {
     numbers: Vec<u32>,
 }
 
-/// So many texts, whose sizes go round from `least` up to `most` bytes.
-fn texts(
+/// Adds a text.
+fn push_text(alloc: Global, texts: &mut Vec<String>, text: &str) -> Result<(), AllocError> {
+    texts.push(String::from_str(alloc, text)?)?;
+    Ok(())
+}
+
+/// Adds so many texts, whose sizes go round from `least` up to `most` bytes.
+fn push_texts(
     alloc: Global,
+    texts: &mut Vec<String>,
     count: usize,
     least: usize,
     most: usize,
-) -> Result<Vec<String>, AllocError> {
-    let mut texts = Vec::with_capacity(alloc, count)?;
+) -> Result<(), AllocError> {
     let mut len = least;
     for _ in 0..count {
-        texts.push(String::from_str(alloc, LETTERS.get(..len).unwrap_or(""))?)?;
+        push_text(alloc, texts, LETTERS.get(..len).unwrap_or(""))?;
         len = if len < most { len + 1 } else { least };
     }
-    Ok(texts)
+    Ok(())
 }
 
 /// A number of 7 digits, and then letters.
@@ -116,26 +122,30 @@ fn different_text(alloc: Global, number: usize, letters: &str) -> Result<String,
     Ok(format!(in alloc; "{number}{letters}")?)
 }
 
-/// So many texts of `len` bytes, of which no two are equal.
-fn different_texts(alloc: Global, count: usize, len: usize) -> Result<Vec<String>, AllocError> {
+/// Adds so many texts of `len` bytes, of which no two are equal.
+fn push_different_texts(
+    alloc: Global,
+    texts: &mut Vec<String>,
+    count: usize,
+    len: usize,
+) -> Result<(), AllocError> {
     let letters = LETTERS.get(..len.saturating_sub(7)).unwrap_or("");
-    let mut texts = Vec::with_capacity(alloc, count)?;
     for number in 0..count {
         texts.push(different_text(alloc, number, letters)?)?;
     }
-    Ok(texts)
+    Ok(())
 }
 
-/// The texts of a kind of operation, none where it needs none.
-fn texts_of(alloc: Global, work: Work) -> Result<Vec<String>, AllocError> {
+/// Adds the texts of a kind of operation, none where it needs none.
+fn push_texts_of(alloc: Global, texts: &mut Vec<String>, work: Work) -> Result<(), AllocError> {
     match work {
-        Work::Texts(least, most) => texts(alloc, OPERATIONS, least, most),
-        Work::GrowingTexts => texts(alloc, OPERATIONS, 100, 100),
-        Work::FoundTexts(len) => texts(alloc, OPERATIONS, len, len),
-        Work::TextLists => texts(alloc, 64, 0, 63),
-        Work::NewTexts(len) => different_texts(alloc, OPERATIONS, len),
-        Work::AfterTexts(count) => different_texts(alloc, count, 20),
-        _ => Ok(Vec::new(alloc)),
+        Work::Texts(least, most) => push_texts(alloc, texts, OPERATIONS, least, most),
+        Work::GrowingTexts => push_texts(alloc, texts, OPERATIONS, 100, 100),
+        Work::FoundTexts(len) => push_texts(alloc, texts, OPERATIONS, len, len),
+        Work::TextLists => push_texts(alloc, texts, 64, 0, 63),
+        Work::NewTexts(len) => push_different_texts(alloc, texts, OPERATIONS, len),
+        Work::AfterTexts(count) => push_different_texts(alloc, texts, count, 20),
+        _ => Ok(()),
     }
 }
 
@@ -286,7 +296,8 @@ impl Works {
 
     /// Makes what a kind of operation needs that others don't.
     fn prepare(&mut self, work: Work) -> Result<(), BuildError> {
-        self.texts = texts_of(self.alloc, work)?;
+        self.texts.clear();
+        push_texts_of(self.alloc, &mut self.texts, work)?;
         self.numbers = numbers_of(self.alloc, work)?;
         self.bytes = bytes_of(self.alloc, work)?;
         match work {

@@ -1,9 +1,6 @@
 //! A list that is there once it is written: proved from what the calls and the laws say alone.
 #![tactic(auto)]
 
-#[cfg(test)]
-mod tests;
-
 ghost use Rattle.std.specs.Prelude.{map, IfOk, None};
 ghost use Rattle.std.specs.Int.{w16, to_le_bytes};
 ghost use Rattle.planus_read.specs.Values.{plain_list};

@@ -7,8 +7,6 @@ mod entry;
 mod level;
 mod origin;
 mod read_back;
-#[cfg(test)]
-mod tests;
 
 pub use cause::{Cause, CauseRef};
 pub use entry::{Entry, EntryFields, EntryRef};

@@ -5,8 +5,6 @@ mod fleet;
 mod owner;
 mod port;
 mod ship;
-#[cfg(test)]
-mod tests;
 
 pub use fleet::{Fleet, Named};
 pub use owner::{Owner, OwnerRef};

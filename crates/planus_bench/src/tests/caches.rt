@@ -1,10 +1,9 @@
 //! Equal contents, which a builder writes once, and its caches while memory is refused.
 
-use super::no_memory::holds_or_says;
 use super::settings::Switches;
 use super::tables::{ONE_VTABLE, TWO_VTABLES, put};
 use planus::{BuildError, Builder, ByteList, Caches, Field, FieldValue, Step, replay};
-use planus_exhaust::exhaust;
+use planus_exhaust::{exhaust, holds_or_says};
 use std::alloc::{AllocError, Global};
 use std::test::Fail;
 
@@ -40,10 +39,14 @@ fn vtables_are_shared(alloc: Global, steps: &[Step]) -> bool {
         && replays_to(alloc, Switches::of(6).caches(u64::MAX), steps, TWO_VTABLES)
 }
 
+fn equal_vtables_in(alloc: Global) -> Result<bool, AllocError> {
+    let steps = equal_tables(alloc)?;
+    Ok(vtables_are_shared(alloc, steps.as_slice()))
+}
+
 #[test]
 fn equal_vtables(rt: HostRuntime) -> Result<(), Fail> {
-    let steps = equal_tables(rt.alloc())?;
-    assert!(rt; vtables_are_shared(rt.alloc(), steps.as_slice()));
+    assert!(rt; equal_vtables_in(rt.alloc())?);
     Ok(())
 }
 
@@ -134,18 +137,22 @@ fn written_again(builder: &mut Builder) -> bool {
 // Whether a builder with room refuses contents that are new where there is no memory for their
 // entries, and writes them once there is; nothing where memory was left. All have one hash, of
 // which the first distance takes no block of memory, and the second does.
-fn entries_are_refused(alloc: Global) -> Result<Option<bool>, BuildError> {
-    let mut builder = Builder::with_caches(alloc, 256, Switches::of(7).caches(0))?;
-    let first = are_at(write_three(&mut builder, "Axe", false), [8, 16, 32]);
-    match found_without_memory(alloc, &mut builder)? {
-        Some(found) => Ok(Some(first && found && written_again(&mut builder))),
+fn entries_are_refused(alloc: Global, builder: &mut Builder) -> Result<Option<bool>, AllocError> {
+    let first = are_at(write_three(builder, "Axe", false), [8, 16, 32]);
+    match found_without_memory(alloc, builder)? {
+        Some(found) => Ok(Some(first && found && written_again(builder))),
         None => Ok(None),
     }
 }
 
+fn entries_in_256_bytes(alloc: Global) -> Result<Option<bool>, BuildError> {
+    let mut builder = Builder::with_caches(alloc, 256, Switches::of(7).caches(0))?;
+    Ok(entries_are_refused(alloc, &mut builder)?)
+}
+
 #[test]
 fn entries_with_refused_memory(rt: HostRuntime) -> Result<(), Fail> {
-    let refused = entries_are_refused(rt.alloc())?;
+    let refused = entries_in_256_bytes(rt.alloc())?;
     assert!(rt; holds_or_says(&rt, refused)?);
     Ok(())
 }

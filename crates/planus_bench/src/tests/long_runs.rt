@@ -153,21 +153,21 @@ fn push_bad_finish(steps: &mut Vec<Step>) -> Result<(), AllocError> {
     Ok(())
 }
 
+// Whether the steps are as many as they should be of each kind, whether replays of them agree, and
+// whether one with a bad step behind them is stopped there.
+fn long_replays_agree(alloc: Global, steps: &mut Vec<Step>) -> Result<[bool; 3], Fail> {
+    let counted = steps.len() == 20010 && counts(steps.as_slice()) == (300, 300, 7, 1);
+    let agree = replays_agree(alloc, steps.as_slice())?;
+    push_bad_finish(steps)?;
+    let stops = stops_at_the_last(alloc, steps.as_slice(), 20010);
+    Ok([counted, agree, stops])
+}
+
 #[test]
 fn a_run_of_20010_steps(rt: HostRuntime) -> Result<(), Fail> {
-    let alloc = rt.alloc();
-    let mut steps = long_steps(alloc)?;
-    let expected = (300, 300, 7, 1);
-    assert!(rt;
-        steps.len() == 20010 && counts(steps.as_slice()) == expected,
-        "steps"
-    );
-    assert!(rt; replays_agree(alloc, steps.as_slice())?, "finishes");
-    push_bad_finish(&mut steps)?;
-    assert!(rt;
-        stops_at_the_last(alloc, steps.as_slice(), 20010),
-        "a bad step"
-    );
+    let mut steps = long_steps(rt.alloc())?;
+    let found = long_replays_agree(rt.alloc(), &mut steps)?;
+    assert!(rt; found == [true; 3], "{found:?}");
     Ok(())
 }
 

@@ -5,21 +5,12 @@ use super::parts::{FOUR_WRITES, last_is, put_four};
 use super::settings::Switches;
 use planus::{BuildError, Builder, Caches, Offset, ReplayError, Step, Text, replay};
 use planus_back::{ByteVec, Cache};
-use planus_exhaust::exhaust;
+use planus_exhaust::{exhaust, holds_or_says};
 use std::alloc::{AllocError, Global};
-use std::io;
 use std::test::Fail;
 
 // What four writes leave of a room of 64 bytes can't hold this text.
 const TEXT: &str = "sixty-three bytes, which are more than are left of a room of 64";
-
-// Whether it holds, or memory was left, which is said.
-pub fn holds_or_says(rt: &HostRuntime, found: Option<bool>) -> io::Result<bool> {
-    if found.is_none() {
-        println!(rt; "memory was left: this test does not apply")?;
-    }
-    Ok(found != Some(false))
-}
 
 // Whether there is no memory for one more builder.
 fn new_is_refused(alloc: Global) -> bool {
@@ -70,12 +61,16 @@ fn writes_again(builder: &mut Builder) -> bool {
 }
 
 // Both; nothing where memory was left.
-fn builder_goes_on(alloc: Global) -> Result<Option<bool>, BuildError> {
-    let mut builder = Builder::with_caches(alloc, 64, Switches::of(0).caches(0))?;
-    match builder_without_memory(alloc, &mut builder)? {
-        Some(goes_on) => Ok(Some(goes_on && writes_again(&mut builder))),
+fn goes_on_and_writes(alloc: Global, builder: &mut Builder) -> Result<Option<bool>, BuildError> {
+    match builder_without_memory(alloc, builder)? {
+        Some(goes_on) => Ok(Some(goes_on && writes_again(builder))),
         None => Ok(None),
     }
+}
+
+fn builder_goes_on(alloc: Global) -> Result<Option<bool>, BuildError> {
+    let mut builder = Builder::with_caches(alloc, 64, Switches::of(0).caches(0))?;
+    goes_on_and_writes(alloc, &mut builder)
 }
 
 #[test]

@@ -311,13 +311,17 @@ fn a_round(alloc: Global, builder: &mut Builder, numbers: &mut Numbers) -> Resul
     Ok(stand && told)
 }
 
+fn a_round_in_a_new_one(alloc: Global, numbers: &mut Numbers) -> Result<bool, Fail> {
+    let mut builder = Builder::new(alloc)?;
+    a_round(alloc, &mut builder, numbers)
+}
+
 #[test]
 fn random_parts_stand_aligned(rt: HostRuntime) -> Result<(), Fail> {
     let mut numbers = Numbers { last: 1 };
     for round in 0..50 {
-        let mut builder = Builder::new(rt.alloc())?;
         assert!(rt;
-            a_round(rt.alloc(), &mut builder, &mut numbers)?,
+            a_round_in_a_new_one(rt.alloc(), &mut numbers)?,
             "round {round}"
         );
     }

@@ -86,11 +86,24 @@ impl<'a> Reading<'a> {
         }
     }
 
+    // Whether there is such a place, at which the value of a step is then read later.
+    fn reads_later(&mut self, place: Option<Place<'a>>, step: usize) -> Result<bool, Fail> {
+        match place {
+            Some(place) => {
+                self.later.push(Value { step, place })?;
+                Ok(true)
+            }
+            None => Ok(false),
+        }
+    }
+
     // Whether a list of references stands there, of which each leads to a value that is read later.
     fn has_references(&mut self, place: Place<'a>, steps: &[usize]) -> Result<bool, Fail> {
         let list = place.read::<Vector<'a, Place<'a>>>()?;
-        for (place, step) in list.iter().zip(steps.iter()) {
-            self.later.push(Value { step: *step, place })?;
+        for (i, step) in steps.iter().enumerate() {
+            if !self.reads_later(list.get(i), *step)? {
+                return Ok(false);
+            }
         }
         Ok(list.len() == steps.len())
     }
@@ -98,8 +111,10 @@ impl<'a> Reading<'a> {
     // The same of the references of unions.
     fn has_unions(&mut self, place: Place<'a>, unions: &[(u8, usize)]) -> Result<bool, Fail> {
         let list = place.read::<Vector<'a, Place<'a>>>()?;
-        for (place, (_, step)) in list.iter().zip(unions.iter()) {
-            self.later.push(Value { step: *step, place })?;
+        for (i, (_, step)) in unions.iter().enumerate() {
+            if !self.reads_later(list.get(i), *step)? {
+                return Ok(false);
+            }
         }
         Ok(list.len() == unions.len())
     }
@@ -108,10 +123,7 @@ impl<'a> Reading<'a> {
     fn has_field(&mut self, place: Place<'a>, value: &FieldValue) -> Result<bool, Fail> {
         match value {
             FieldValue::Number { width, value } => has_number(place, *width, *value),
-            FieldValue::Ref(step) => {
-                self.later.push(Value { step: *step, place })?;
-                Ok(true)
-            }
+            FieldValue::Ref(step) => self.reads_later(Some(place), *step),
             FieldValue::Tags(step) => has_tags(place, self.unions(*step)),
             FieldValue::Values(step) => self.has_unions(place, self.unions(*step)),
         }

@@ -1,13 +1,12 @@
 //! Calls in which one request for memory after the other is refused: they are made with all memory
 //! taken but a few bytes, and at each turn with a few bytes more.
 
-use super::no_memory::holds_or_says;
 use crate::refused_calls::{Call, Outcome, make, make_again, prepare};
 use crate::refused_copies::{
     numbers_are_copied, texts_are_copied, weapon_is_replayed, weapon_steps,
 };
 use planus::{BuildError, Builder, Step};
-use planus_exhaust::exhaust_all_but;
+use planus_exhaust::{exhaust_all_but, holds_or_says};
 use std::alloc::{AllocError, Global};
 use std::test::Fail;
 
@@ -31,20 +30,40 @@ fn is_refused(
     Ok(if exhausted { Some(refused) } else { None })
 }
 
-// What a call comes to in a new builder with so many bytes of memory, and with all of it where it
-// is refused.
-fn outcome_with(alloc: Global, call: Call, spare: usize) -> Result<Option<Outcome>, BuildError> {
-    let mut builder = Builder::new(alloc)?;
-    prepare(&mut builder, call)?;
-    Ok(match is_refused(alloc, &mut builder, call, spare)? {
-        Some(true) => Some(make_again(&mut builder, call)),
+// What a call comes to with so many bytes of memory, and with all of it where it is refused.
+fn outcome_in(
+    alloc: Global,
+    builder: &mut Builder,
+    call: Call,
+    spare: usize,
+) -> Result<Option<Outcome>, BuildError> {
+    prepare(builder, call)?;
+    Ok(match is_refused(alloc, builder, call, spare)? {
+        Some(true) => Some(make_again(builder, call)),
         Some(false) => Some(Outcome::Made { len: builder.len() }),
         None => None,
     })
 }
 
+// The same in a new builder.
+fn outcome_with(alloc: Global, call: Call, spare: usize) -> Result<Option<Outcome>, BuildError> {
+    let mut builder = Builder::new(alloc)?;
+    outcome_in(alloc, &mut builder, call, spare)
+}
+
 // The number of bytes at a refusal, and in the end.
 type Lengths = (usize, usize);
+
+// Notes that a call was refused at these lengths. Tells whether they are among these.
+fn note(met: &mut [bool; 3], all: &[Lengths], lengths: Lengths) -> bool {
+    for (at, known) in all.iter().enumerate() {
+        if *known == lengths && at < 3 {
+            met[at] = true;
+            return true;
+        }
+    }
+    false
+}
 
 // At how many different lengths a call is refused, made with more memory at each turn until it
 // isn't, where all are among these; nothing where memory was left.
@@ -53,12 +72,7 @@ fn states_met(alloc: Global, call: Call, all: &[Lengths]) -> Result<Option<usize
     for turn in 0..TURNS {
         match outcome_with(alloc, call, turn * STEP)? {
             None => return Ok(None),
-            Some(Outcome::MadeAgain { refused, len }) => {
-                match all.iter().position(|lengths| *lengths == (refused, len)) {
-                    Some(at) if at < 3 => met[at] = true,
-                    _ => return Ok(Some(0)),
-                }
-            }
+            Some(Outcome::MadeAgain { refused, len }) if note(&mut met, all, (refused, len)) => {}
             Some(Outcome::Made { .. }) => return Ok(Some(met.iter().filter(|met| **met).count())),
             _ => return Ok(Some(0)),
         }
@@ -66,27 +80,20 @@ fn states_met(alloc: Global, call: Call, all: &[Lengths]) -> Result<Option<usize
     Ok(Some(0))
 }
 
-// Of a list no request comes between its two texts: the builder has room for both, and their cache
-// for both entries.
+// Calls, the lengths at which they may be refused, and at how many of them they are at least. Of a
+// list no request comes between its two texts: the builder has room for both, and their cache for
+// both entries.
+const CALLS: &[(&str, Call, &[Lengths], usize)] = &[
+    ("a list", Call::List, &[(0, 26), (6, 26), (14, 26)], 2),
+    ("unions", Call::Unions, &[(14, 34), (30, 50)], 2),
+    ("a weapon", Call::Weapon, &[(0, 28), (8, 28), (16, 28)], 3),
+];
+
 #[test]
 fn calls_on_a_builder(rt: HostRuntime) -> Result<(), Fail> {
-    for (name, call, all, least) in [
-        (
-            "a list",
-            Call::List,
-            [(0, 26), (6, 26), (14, 26)].as_slice(),
-            2,
-        ),
-        ("unions", Call::Unions, [(14, 34), (30, 50)].as_slice(), 2),
-        (
-            "a weapon",
-            Call::Weapon,
-            [(0, 28), (8, 28), (16, 28)].as_slice(),
-            3,
-        ),
-    ] {
-        let met = states_met(rt.alloc(), call, all)?;
-        let enough = met.map(|states| states >= least);
+    for (name, call, all, least) in CALLS {
+        let met = states_met(rt.alloc(), *call, all)?;
+        let enough = met.map(|states| states >= *least);
         assert!(rt; holds_or_says(&rt, enough)?, "{name}: {met:?}");
     }
     Ok(())
@@ -109,7 +116,19 @@ fn other_is_made(alloc: Global, other: Other, steps: &[Step]) -> Option<bool> {
     }
 }
 
-// The same with so many bytes of memory. Tells whether memory was taken.
+// The same with all memory but so many bytes held. Tells whether memory was taken.
+fn other_beside(
+    alloc: Global,
+    held: &mut Vec<Vec<u8>>,
+    other: Other,
+    steps: &[Step],
+    spare: usize,
+) -> Result<(bool, Option<bool>), AllocError> {
+    let exhausted = exhaust_all_but(alloc, held, spare)?;
+    Ok((exhausted, other_is_made(alloc, other, steps)))
+}
+
+// The same, after which memory is there again.
 fn other_with(
     alloc: Global,
     other: Other,
@@ -117,10 +136,7 @@ fn other_with(
     spare: usize,
 ) -> Result<(bool, Option<bool>), AllocError> {
     let mut held: Vec<Vec<u8>> = Vec::with_capacity(alloc, 262144)?;
-    let exhausted = exhaust_all_but(alloc, &mut held, spare)?;
-    let made = other_is_made(alloc, other, steps);
-    drop(held);
-    Ok((exhausted, made))
+    other_beside(alloc, &mut held, other, steps, spare)
 }
 
 // At how many turns, each with so many bytes more, such a call is refused before it is made, where
@@ -147,18 +163,21 @@ fn refusals_of(
     Ok(Some(0))
 }
 
-// The copies of numbers take 10 bytes, and the list of five texts 120, so that more than four turns
-// come to the texts themselves.
+// Calls, how many bytes more there are at each turn, and at how many turns they are refused at
+// least. The copies of numbers take 10 bytes, and the list of five texts 120, so that more than four
+// turns come to the texts themselves.
+const OTHERS: &[(&str, Other, usize, usize)] = &[
+    ("numbers", Other::Numbers, STEP, 1),
+    ("texts", Other::Texts, STEP, 5),
+    ("a replay", Other::Replay, 128, 4),
+];
+
 #[test]
 fn calls_on_no_builder(rt: HostRuntime) -> Result<(), Fail> {
     let steps = weapon_steps(rt.alloc())?;
-    for (name, other, more, least) in [
-        ("numbers", Other::Numbers, STEP, 1),
-        ("texts", Other::Texts, STEP, 5),
-        ("a replay", Other::Replay, 4 * STEP, 4),
-    ] {
-        let refusals = refusals_of(rt.alloc(), other, more, steps.as_slice())?;
-        let enough = refusals.map(|turns| turns >= least);
+    for (name, other, more, least) in OTHERS {
+        let refusals = refusals_of(rt.alloc(), *other, *more, steps.as_slice())?;
+        let enough = refusals.map(|turns| turns >= *least);
         assert!(rt; holds_or_says(&rt, enough)?, "{name}: {refusals:?}");
     }
     Ok(())

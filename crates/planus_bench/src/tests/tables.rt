@@ -108,26 +108,22 @@ fn lists_read_back(builder: &mut Builder) -> Result<bool, Fail> {
     Ok(list.get(0) == Some(7) && list.get(1) == Some(8))
 }
 
-fn fields_read_back(builder: &mut Builder) -> Result<(), Fail> {
-    if !unsigned_numbers_read_back(builder)? {
-        return Err(Fail::new("unsigned numbers"));
-    }
-    if !signed_numbers_read_back(builder)? {
-        return Err(Fail::new("signed numbers"));
-    }
-    if !texts_and_bytes_read_back(builder)? {
-        return Err(Fail::new("texts and bytes"));
-    }
-    if !signed_bytes_read_back(builder)? || !lists_read_back(builder)? {
-        return Err(Fail::new("lists"));
-    }
-    Ok(())
+fn fields_read_back(builder: &mut Builder) -> Result<[bool; 5], Fail> {
+    Ok([
+        unsigned_numbers_read_back(builder)?,
+        signed_numbers_read_back(builder)?,
+        texts_and_bytes_read_back(builder)?,
+        signed_bytes_read_back(builder)?,
+        lists_read_back(builder)?,
+    ])
 }
 
 #[test]
 fn a_field_of_each_type(rt: HostRuntime) -> Result<(), Fail> {
     let mut builder = Builder::new(rt.alloc())?;
-    fields_read_back(&mut builder)
+    let found = fields_read_back(&mut builder)?;
+    assert!(rt; found == [true; 5], "{found:?}");
+    Ok(())
 }
 
 fn a_free_slot_is_none(bytes: &[u8]) -> bool {

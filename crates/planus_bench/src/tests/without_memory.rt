@@ -5,7 +5,6 @@ ghost use Rattle.std.specs.Prelude.{◌≡◌, ◌≤◌, length, IsTrue};
 
 use super::alignments::mask_of;
 use super::caches::text_at;
-use super::no_memory::holds_or_says;
 use super::parts::put;
 use super::tables::put_number;
 use planus::{
@@ -15,7 +14,7 @@ use planus::{
     check_version_compatibility,
 };
 use planus_back::{BackVec, ByteVec, Cache, GetCacheKey, Promises, TooLarge, VTable, laws};
-use planus_exhaust::exhaust;
+use planus_exhaust::{exhaust, holds_or_says};
 use planus_read::errors::ErrorKind;
 use std::alloc::{AllocError, Global};
 use std::test::Fail;
@@ -228,7 +227,19 @@ fn first_wrong_call(
     found
 }
 
-// The same with all memory taken. Tells whether it was.
+// The same with all memory held. Tells whether it was taken.
+fn first_wrong_beside(
+    alloc: Global,
+    held: &mut Vec<Vec<u8>>,
+    builder: &mut Builder,
+    back: &mut BackVec,
+    cache: &mut Cache<ByteVec>,
+) -> Result<(bool, Option<&'static str>), AllocError> {
+    let exhausted = exhaust(alloc, held)?;
+    Ok((exhausted, first_wrong_call(alloc, builder, back, cache)))
+}
+
+// The same, after which memory is there again.
 fn first_wrong_without_memory(
     alloc: Global,
     builder: &mut Builder,
@@ -236,10 +247,17 @@ fn first_wrong_without_memory(
     cache: &mut Cache<ByteVec>,
 ) -> Result<(bool, Option<&'static str>), AllocError> {
     let mut held: Vec<Vec<u8>> = Vec::with_capacity(alloc, 262144)?;
-    let exhausted = exhaust(alloc, &mut held)?;
-    let found = first_wrong_call(alloc, builder, back, cache);
-    drop(held);
-    Ok((exhausted, found))
+    first_wrong_beside(alloc, &mut held, builder, back, cache)
+}
+
+fn first_wrong_with(
+    alloc: Global,
+    builder: &mut Builder,
+    back: &mut BackVec,
+) -> Result<(bool, Option<&'static str>), AllocError> {
+    back.extend_from_slice(b"Axe")?;
+    let mut cache: Cache<ByteVec> = Cache::new(alloc, u64::MAX)?;
+    first_wrong_without_memory(alloc, builder, back, &mut cache)
 }
 
 fn first_wrong_in(
@@ -248,21 +266,23 @@ fn first_wrong_in(
 ) -> Result<(bool, Option<&'static str>), BuildError> {
     prepare(builder)?;
     let mut back = BackVec::with_capacity(alloc, 64)?;
-    back.extend_from_slice(b"Axe")?;
-    let mut cache: Cache<ByteVec> = Cache::new(alloc, u64::MAX)?;
-    Ok(first_wrong_without_memory(alloc, builder, &mut back, &mut cache)?)
+    Ok(first_wrong_with(alloc, builder, &mut back)?)
+}
+
+fn first_wrong_in_64_bytes(alloc: Global) -> Result<(bool, Option<&'static str>), BuildError> {
+    let mut builder = Builder::with_capacity(alloc, 64)?;
+    first_wrong_in(alloc, &mut builder)
 }
 
 #[test]
 fn no_call_asks_for_memory(rt: HostRuntime) -> Result<(), Fail> {
-    let mut builder = Builder::with_capacity(rt.alloc(), 64)?;
-    let (exhausted, wrong) = first_wrong_in(rt.alloc(), &mut builder)?;
-    let applies = if exhausted {
-        Some(wrong.is_none())
-    } else {
-        None
+    let (exhausted, wrong) = first_wrong_in_64_bytes(rt.alloc())?;
+    let holds = match wrong {
+        None if !exhausted => None,
+        None => Some(true),
+        Some(_) => Some(false),
     };
-    assert!(rt; holds_or_says(&rt, applies)?, "{wrong:?}");
-    assert!(rt; wrong.is_none(), "{wrong:?}");
+    let wrong = wrong.unwrap_or("");
+    assert!(rt; holds_or_says(&rt, holds)?, "{wrong}");
     Ok(())
 }

@@ -5,7 +5,8 @@ use super::long_scripts::{end_line, push_bytes, push_references, push_text, push
 use super::no_memory::gives_without_memory;
 use crate::mode::{field, mode, schema};
 use crate::modes::Mode;
-use planus_dump::{Item, Kind, Schema, TableSchema};
+use planus_dump::{FieldSchema, Item, Kind, Schema, TableSchema};
+use planus_exhaust::holds_or_says;
 use planus_script::run::RunError;
 use std::alloc::{AllocError, Global};
 use std::test::Fail;
@@ -32,33 +33,42 @@ fn dumps(alloc: Global, root: usize, input: &[u8], printed: &[u8], clean: bool) 
     answer == Ok(clean) && writer.as_slice() == printed
 }
 
+// The root of a schema, an input, what is printed of it, and whether it is a dump.
+const INPUTS: &[(usize, &str, &str, bool)] = &[
+    (
+        0,
+        "04 00 00 00 f4 ff ff ff 10 00 00 00 18 00 00 00 \
+        08 00 0a 00 04 00 08 00 03 00 00 00 41 78 65 00\n",
+        "root: table Weapon\nroot.name = \"Axe\"\nroot.damage = 24\n",
+        true,
+    ),
+    (
+        0,
+        "04 00 00 00 F4 FF FF FF 10 00 00 00 18 00 00 00 \
+        08 00 0A 00 04 00 08 00 03 00 00 00 41 78 65 01",
+        "root: table Weapon\nroot.name ! Missing null terminator\nroot.damage = 24\n",
+        true,
+    ),
+    (1, "", "root ! Invalid offset\n", true),
+    (1, "\n", "root ! Invalid offset\n", true),
+    (1, "00 00 00", "root ! Invalid offset\n", true),
+    (1, "00 0", "bad hex\n", false),
+    (1, "00  00", "bad hex\n", false),
+    (1, "00 0g\n", "bad hex\n", false),
+    (2, "", "bad schema\n", false),
+];
+
 #[test]
 fn inputs(rt: HostRuntime) {
-    let rows: [(usize, &[u8], &[u8], bool); 9] = [
-        (
-            0,
-            b"04 00 00 00 f4 ff ff ff 10 00 00 00 18 00 00 00 \
-              08 00 0a 00 04 00 08 00 03 00 00 00 41 78 65 00\n",
-            b"root: table Weapon\nroot.name = \"Axe\"\nroot.damage = 24\n",
-            true,
-        ),
-        (
-            0,
-            b"04 00 00 00 F4 FF FF FF 10 00 00 00 18 00 00 00 \
-              08 00 0A 00 04 00 08 00 03 00 00 00 41 78 65 01",
-            b"root: table Weapon\nroot.name ! Missing null terminator\nroot.damage = 24\n",
-            true,
-        ),
-        (1, b"", b"root ! Invalid offset\n", true),
-        (1, b"\n", b"root ! Invalid offset\n", true),
-        (1, b"00 00 00", b"root ! Invalid offset\n", true),
-        (1, b"00 0", b"bad hex\n", false),
-        (1, b"00  00", b"bad hex\n", false),
-        (1, b"00 0g\n", b"bad hex\n", false),
-        (2, b"", b"bad schema\n", false),
-    ];
-    for (root, input, printed, clean) in rows {
-        assert!(rt; dumps(rt.alloc(), root, input, printed, clean));
+    for (root, input, printed, clean) in INPUTS {
+        let same = dumps(
+            rt.alloc(),
+            *root,
+            input.as_bytes(),
+            printed.as_bytes(),
+            *clean,
+        );
+        assert!(rt; same, "{input}");
     }
 }
 
@@ -84,11 +94,17 @@ fn modes(rt: HostRuntime) {
     }
 }
 
-// The schema of a table with the next one in slot 0, and names in slot 1.
-fn nodes(alloc: Global) -> Result<Schema, AllocError> {
-    let mut fields = Vec::new(alloc);
+// Adds a table in slot 0, and names in slot 1.
+fn push_fields(alloc: Global, fields: &mut Vec<FieldSchema>) -> Result<(), AllocError> {
     fields.push(field(alloc, 0, "next", Kind::One(Item::Table(0)))?)?;
     fields.push(field(alloc, 1, "names", Kind::List(Item::Text))?)?;
+    Ok(())
+}
+
+// The schema of a table with the next one, and names.
+fn nodes(alloc: Global) -> Result<Schema, AllocError> {
+    let mut fields = Vec::new(alloc);
+    push_fields(alloc, &mut fields)?;
     let name = String::from_str(alloc, "Node")?;
     let mut tables = Vec::new(alloc);
     tables.push(TableSchema { name, fields })?;
@@ -134,31 +150,38 @@ enum Input {
     Zeros(usize),
 }
 
-fn input_of(alloc: Global, parts: Input) -> Result<Vec<u8>, AllocError> {
-    let mut input = match parts {
-        Input::Zeros(count) => vec![in alloc; b'0'; count]?,
-        _ => Vec::new(alloc),
-    };
-    match parts {
-        Input::Chain(tables) => push_chain(&mut input, tables)?,
-        Input::Names(names, letters) => push_names(&mut input, names, letters)?,
-        Input::Zeros(_) => {}
+fn push_zeros(input: &mut Vec<u8>, count: usize) -> Result<(), AllocError> {
+    for _ in 0..count {
+        input.push(b'0')?;
     }
+    Ok(())
+}
+
+fn push_input(input: &mut Vec<u8>, parts: Input) -> Result<(), AllocError> {
+    match parts {
+        Input::Chain(tables) => push_chain(input, tables),
+        Input::Names(names, letters) => push_names(input, names, letters),
+        Input::Zeros(count) => push_zeros(input, count),
+    }
+}
+
+fn input_of(alloc: Global, parts: Input) -> Result<Vec<u8>, AllocError> {
+    let mut input = Vec::new(alloc);
+    push_input(&mut input, parts)?;
     Ok(input)
+}
+
+// Whether so many bytes are printed, of which these are the first.
+fn is_begun(printed: &[u8], (len, first): (usize, &[u8])) -> bool {
+    printed.len() == len && printed.starts_with(first)
 }
 
 // Whether the dump of an input tells by its answer whether it is one, and prints so many bytes, of
 // which these are the first.
-fn begins(
-    alloc: Global,
-    schema: &Schema,
-    input: &[u8],
-    clean: bool,
-    (len, first): (usize, &[u8]),
-) -> bool {
+fn begins(alloc: Global, schema: &Schema, input: &[u8], clean: bool, want: (usize, &[u8])) -> bool {
     let mut printed = Vec::new(alloc);
     let answer = dumped(alloc, schema, input, &mut printed);
-    answer == Ok(clean) && printed.len() == len && printed.get(..first.len()) == Some(first)
+    answer == Ok(clean) && is_begun(printed.as_slice(), want)
 }
 
 // The table below 64 others lies too deep. There may be 10000 lines, and 1048576 bytes of input.
@@ -180,33 +203,32 @@ fn limits(rt: HostRuntime) -> Result<(), Fail> {
     Ok(())
 }
 
-// Without memory nothing is read. The input, and `out of memory`, fit in 4 MiB, and the lines
-// don't.
-#[test]
-fn refused_memory(rt: HostRuntime) -> Result<(), Fail> {
-    let schema = nodes(rt.alloc())?;
-    let input = input_of(rt.alloc(), Input::Names(9000, 1003))?;
+// Whether without memory nothing is read; where the input, and `out of memory`, fit in 4 MiB, and
+// the lines don't, that is said; and then all lines are printed. Nothing where memory was left.
+fn is_refused(alloc: Global, schema: &Schema, input: &[u8]) -> Result<Option<bool>, AllocError> {
     for (spare, want, text) in [
         (0, (Err(RunError::OutOfMemory), 2), ""),
         (4194304, (Ok(false), 1), "out of memory\n"),
     ] {
-        let (exhausted, refused) = gives_without_memory(
-            rt.alloc(),
-            Some(&schema),
-            input.as_slice(),
-            spare,
-            want,
-            text,
-        )?;
-        if !exhausted {
-            println!(rt; "memory was left: this test does not apply")?;
+        let refused = gives_without_memory(alloc, Some(schema), input, spare, want, text)?;
+        if refused != Some(true) {
+            return Ok(refused);
         }
-        assert!(rt; refused || !exhausted, "with {spare} bytes");
     }
-    let printed = (9223929, b"root: table Node\n".as_slice());
-    assert!(rt;
-        begins(rt.alloc(), &schema, input.as_slice(), true, printed),
-        "again"
-    );
+    let printed: (usize, &[u8]) = (9223929, b"root: table Node\n");
+    Ok(Some(begins(alloc, schema, input, true, printed)))
+}
+
+// The same of a table with 9000 names of 1003 letters.
+fn names_are_refused(alloc: Global, schema: &Schema) -> Result<Option<bool>, AllocError> {
+    let input = input_of(alloc, Input::Names(9000, 1003))?;
+    is_refused(alloc, schema, input.as_slice())
+}
+
+#[test]
+fn refused_memory(rt: HostRuntime) -> Result<(), Fail> {
+    let schema = nodes(rt.alloc())?;
+    let refused = names_are_refused(rt.alloc(), &schema)?;
+    assert!(rt; holds_or_says(&rt, refused)?);
     Ok(())
 }

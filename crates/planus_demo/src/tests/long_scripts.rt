@@ -233,21 +233,23 @@ fn push_stretches(alloc: Global, script: &mut Vec<u8>) -> Result<(), AllocError>
     Ok(())
 }
 
-const TABLE: &[u8] = b"\ntable 0=ref:20000 1=ref:19999 2=tags:20001 3=values:20001";
+const TABLE: &str = "\ntable 0=ref:20000 1=ref:19999 2=tags:20001 3=values:20001";
+
+// The values of the last stretch, one after the other: a word, and how many items follow it.
+const ITEMS: &[(&str, Item, usize)] = &[
+    ("", Item::Text, 4999),
+    ("u16", Item::Number, 5003),
+    ("\nrefs", Item::Reference, 2003),
+    ("\nunions", Item::Union, 2003),
+    (TABLE, Item::Field, 252),
+];
 
 // Adds a stretch of 5003 values, of which the last is a table that refers to lists of numbers, of
 // references and of unions, and seven finishes.
 fn push_last_stretch(alloc: Global, script: &mut Vec<u8>) -> Result<(), AllocError> {
-    let rows: [(&[u8], Item, usize); 5] = [
-        (b"", Item::Text, 4999),
-        (b"u16", Item::Number, 5003),
-        (b"\nrefs", Item::Reference, 2003),
-        (b"\nunions", Item::Union, 2003),
-        (TABLE, Item::Field, 252),
-    ];
-    for (before, item, count) in rows {
-        script.extend_from_slice(before)?;
-        push_items(alloc, script, item, count)?;
+    for (before, item, count) in ITEMS {
+        script.extend_from_slice(before.as_bytes())?;
+        push_items(alloc, script, *item, *count)?;
     }
     for _ in 0..7 {
         script.extend_from_slice(b"\nfinish 20002")?;
@@ -298,25 +300,26 @@ const REFERENCES: &[u8] = b"\xf0\xfe\xff\xff\x38\x2a\0\0\x84\x49\0\0\x08\x03\0\0
 // The sizes of the vtable and of the table, and the offsets of its references.
 const OFFSETS: &[u8] = b"\x04\x02\x10\x01\x04\0\x08\0\x0c\0\x10\0";
 
+// What stands behind the table, one after the other. The texts end 239952 bytes before the end, the
+// numbers and their padding of two bytes at 249960, the references at 257976, those of the unions at
+// 265992 and the tags, with a padding of one byte, at 268000; in front of each stands a count.
+const PARTS: &[(&[u8], Part, usize)] = &[
+    (OFFSETS, Part::Offset, 252),
+    (b"\xd3\x07\0\0", Part::Tag, 2003),
+    (b"\0\xd3\x07\0\0", Part::Reference { first: 265944 }, 2003),
+    (b"\xd3\x07\0\0", Part::Reference { first: 257928 }, 2003),
+    (b"\x8b\x13\0\0", Part::Number, 5003),
+    (b"\0\0", Part::Text { last: 4998 }, 4999),
+];
+
 // Adds what a finish of the last stretch prints that is the first, the second and so on.
 fn push_last_line(printed: &mut Vec<u8>, finishes: usize) -> Result<(), AllocError> {
     push_references(printed, finishes)?;
     push_bytes(printed, REFERENCES)?;
     push_bytes(printed, &[1; 252])?;
-    // The texts end 239952 bytes before the end, the numbers and their padding of two bytes at
-    // 249960, the references at 257976, those of the unions at 265992 and the tags, with a padding
-    // of one byte, at 268000; in front of each stands a count.
-    let rows: [(&[u8], Part, usize); 6] = [
-        (OFFSETS, Part::Offset, 252),
-        (b"\xd3\x07\0\0", Part::Tag, 2003),
-        (b"\0\xd3\x07\0\0", Part::Reference { first: 265944 }, 2003),
-        (b"\xd3\x07\0\0", Part::Reference { first: 257928 }, 2003),
-        (b"\x8b\x13\0\0", Part::Number, 5003),
-        (b"\0\0", Part::Text { last: 4998 }, 4999),
-    ];
-    for (before, part, count) in rows {
+    for (before, part, count) in PARTS {
         push_bytes(printed, before)?;
-        push_parts(printed, part, count)?;
+        push_parts(printed, *part, *count)?;
     }
     end_line(printed)
 }
@@ -339,21 +342,28 @@ fn lines_are_printed(alloc: Global, script: &[u8]) -> Result<bool, AllocError> {
     Ok(prints(alloc, script, 0, want.as_slice(), true))
 }
 
+// Whether the script is near the longest one, whether its finishes are printed, and whether a bad
+// step behind them is told.
+fn long_script_is_printed(alloc: Global, script: &mut Vec<u8>) -> Result<[bool; 3], AllocError> {
+    push_stretches(alloc, script)?;
+    push_last_stretch(alloc, script)?;
+    let is_long = script.len() > 1010000;
+    let finishes = lines_are_printed(alloc, script.as_slice())?;
+    script.extend_from_slice(b"finish 20010\n")?;
+    let bad = prints(
+        alloc,
+        script.as_slice(),
+        0,
+        b"line 20011: no such step\n",
+        false,
+    );
+    Ok([is_long, finishes, bad])
+}
+
 #[test]
 fn a_script_of_20010_steps(rt: HostRuntime) -> Result<(), Fail> {
     let mut script = Vec::new(rt.alloc());
-    push_stretches(rt.alloc(), &mut script)?;
-    push_last_stretch(rt.alloc(), &mut script)?;
-    assert!(rt; script.len() > 1010000, "near the longest script");
-    assert!(rt;
-        lines_are_printed(rt.alloc(), script.as_slice())?,
-        "finishes"
-    );
-    script.extend_from_slice(b"finish 20010\n")?;
-    let printed = b"line 20011: no such step\n";
-    assert!(rt;
-        prints(rt.alloc(), script.as_slice(), 0, printed, false),
-        "a bad step"
-    );
+    let found = long_script_is_printed(rt.alloc(), &mut script)?;
+    assert!(rt; found == [true; 3], "{found:?}");
     Ok(())
 }

@@ -7,7 +7,7 @@ use super::{answers, finish_with, prints, ran};
 use crate::weapon::WeaponRef;
 use planus::{BuildError, Builder, ReadAsRoot};
 use planus_dump::Schema;
-use planus_exhaust::{exhaust, exhaust_all_but};
+use planus_exhaust::{exhaust, exhaust_all_but, holds_or_says};
 use planus_script::run::{RunError, status};
 use std::alloc::{AllocError, Global};
 use std::test::Fail;
@@ -37,8 +37,8 @@ fn ran_without_memory(
     Ok((exhausted, answer))
 }
 
-// Tells whether the memory was taken, and whether such a run gives this answer, of this exit
-// status, and prints this text.
+// Whether such a run gives this answer, of this exit status, and prints this text; nothing where
+// memory was left.
 pub fn gives_without_memory(
     alloc: Global,
     schema: Option<&Schema>,
@@ -46,24 +46,21 @@ pub fn gives_without_memory(
     spare: usize,
     want: (Result<bool, RunError>, u8),
     text: &str,
-) -> Result<(bool, bool), AllocError> {
+) -> Result<Option<bool>, AllocError> {
     let mut printed: Vec<u8> = Vec::with_capacity(alloc, 64)?;
     let (exhausted, answer) = ran_without_memory(alloc, schema, script, spare, &mut printed)?;
     let same = answer == want.0
         && status(&answer) == want.1
         && printed.as_slice() == text.as_bytes();
-    Ok((exhausted, same))
+    Ok(if exhausted { Some(same) } else { None })
 }
 
 #[test]
 fn refused_memory(rt: HostRuntime) -> Result<(), Fail> {
     let script = b"text Axe\nfinish 0\n";
     let want = (Err(RunError::OutOfMemory), 2);
-    let (exhausted, refused) = gives_without_memory(rt.alloc(), None, script, 0, want, "")?;
-    if !exhausted {
-        println!(rt; "memory was left: this test does not apply")?;
-    }
-    assert!(rt; refused || !exhausted, "refused");
+    let refused = gives_without_memory(rt.alloc(), None, script, 0, want, "")?;
+    assert!(rt; holds_or_says(&rt, refused)?, "refused");
     let printed = b"04 00 00 00 03 00 00 00 41 78 65 00\n";
     assert!(rt; prints(rt.alloc(), script, 0, printed, true), "again");
     Ok(())
@@ -94,26 +91,23 @@ fn prints_finishes(alloc: Global, script: &[u8]) -> Result<bool, AllocError> {
     Ok(prints(alloc, script, 0, want.as_slice(), true))
 }
 
-// What is read, and `out of memory`, fit in 4 MiB, and what the finishes give doesn't.
+// Whether the script says that it is out of memory where what is read, and that line, fit in 4 MiB,
+// and what the finishes give doesn't, and then prints them; nothing where memory was left.
+fn is_refused(alloc: Global, script: &[u8]) -> Result<Option<bool>, AllocError> {
+    let (text, want) = ("out of memory\n", (Ok(false), 1));
+    let refused = gives_without_memory(alloc, None, script, 4194304, want, text)?;
+    if prints_finishes(alloc, script)? {
+        return Ok(refused);
+    }
+    Ok(Some(false))
+}
+
 #[test]
 fn out_of_memory_is_printed(rt: HostRuntime) -> Result<(), Fail> {
     let mut script = Vec::new(rt.alloc());
     push_finishes(&mut script)?;
-    let (text, want) = ("out of memory\n", (Ok(false), 1));
-    let (exhausted, refused) = gives_without_memory(
-        rt.alloc(),
-        None,
-        script.as_slice(),
-        4194304,
-        want,
-        text,
-    )?;
-    if !exhausted {
-        println!(rt; "memory was left: this test does not apply")?;
-    }
-    assert!(rt; refused || !exhausted, "refused");
-    let again = prints_finishes(rt.alloc(), script.as_slice());
-    assert!(rt; matches!(again, Ok(true)), "again");
+    let refused = is_refused(rt.alloc(), script.as_slice())?;
+    assert!(rt; holds_or_says(&rt, refused)?);
     Ok(())
 }
 
@@ -132,6 +126,7 @@ enum Call {
 }
 
 // What a call comes to with little memory, and then with all of it.
+#[derive(Clone, Copy)]
 enum Turn {
     // Memory was left where none should have been.
     NotApplied,
@@ -168,17 +163,22 @@ fn axe_is_written(builder: &mut Builder) -> Result<bool, BuildError> {
 }
 
 // A refused axe leaves so many bytes.
-fn axe_with(alloc: Global, spare: usize) -> Result<Turn, BuildError> {
-    let mut builder = Builder::new(alloc)?;
-    let refused = axe_is_refused(alloc, &mut builder, spare)?;
+fn axe_in(alloc: Global, builder: &mut Builder, spare: usize) -> Result<Turn, BuildError> {
+    let refused = axe_is_refused(alloc, builder, spare)?;
     let len = builder.len();
-    let written = axe_is_written(&mut builder)?;
+    let written = axe_is_written(builder)?;
     Ok(match refused {
         None => Turn::NotApplied,
         Some(false) => Turn::Made,
         Some(true) if written => Turn::Refused(len),
         Some(true) => Turn::Wrong,
     })
+}
+
+// The same in a new builder.
+fn axe_with(alloc: Global, spare: usize) -> Result<Turn, BuildError> {
+    let mut builder = Builder::new(alloc)?;
+    axe_in(alloc, &mut builder, spare)
 }
 
 // What a run of the script gives with so many bytes of memory, and adds what it prints. Tells
@@ -212,6 +212,17 @@ fn run_with(alloc: Global, spare: usize) -> Result<Turn, BuildError> {
     })
 }
 
+// Notes that a refused call left so many bytes. Tells whether that is among these.
+fn note(met: &mut [bool; 3], all: &[usize], left: usize) -> bool {
+    for (at, known) in all.iter().enumerate() {
+        if *known == left && at < 3 {
+            met[at] = true;
+            return true;
+        }
+    }
+    false
+}
+
 // How many different things a call leaves that is refused, with more memory at each turn until it
 // isn't, where all are among these; nothing where memory was left.
 fn states_met(
@@ -230,11 +241,8 @@ fn states_met(
         match turn {
             Turn::NotApplied => return Ok(None),
             Turn::Made => return Ok(Some(met.iter().filter(|met| **met).count())),
-            Turn::Refused(left) => match all.iter().position(|other| *other == left) {
-                Some(at) if at < 3 => met[at] = true,
-                _ => return Ok(Some(0)),
-            },
-            Turn::Wrong => return Ok(Some(0)),
+            Turn::Refused(left) if note(&mut met, all, left) => {}
+            _ => return Ok(Some(0)),
         }
     }
     Ok(Some(0))
@@ -249,10 +257,8 @@ fn one_refusal_after_the_other(rt: HostRuntime) -> Result<(), Fail> {
         (Call::Run, 256, [0, 14].as_slice()),
     ] {
         let met = states_met(rt.alloc(), call, more, all)?;
-        if met.is_none() {
-            println!(rt; "memory was left: this test does not apply")?;
-        }
-        assert!(rt; met.is_none() || met == Some(all.len()), "{met:?}");
+        let all_are = met.map(|states| states == all.len());
+        assert!(rt; holds_or_says(&rt, all_are)?, "{met:?}");
     }
     Ok(())
 }

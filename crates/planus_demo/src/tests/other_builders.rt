@@ -25,7 +25,7 @@ const CLUB: [u8; 32] = [
     0x76, 0x76, 0x41, 0,
 ];
 
-const WEAPONS: [(&[u8], WeaponRow); 3] = [
+const WEAPONS: &[(&[u8], WeaponRow)] = &[
     (&LASH, (Some("q\t\\gu"), -114)),
     (&STUB, (None, -162)),
     (&CLUB, (Some("mu\\\tvvA"), 0)),
@@ -125,7 +125,7 @@ const HOARDER_OF_PYTHON: [u8; 176] = [
     0xbc, 0xa2, 0x79, 0x76, 0,
 ];
 
-const MONSTERS: [(&[u8], MonsterRow); 5] = [
+const MONSTERS: &[(&[u8], MonsterRow)] = &[
     (&RAIDER_BYTES, RAIDER),
     (&RAIDER_OF_PYTHON, RAIDER),
     (&HOARDER_OF_FLATC, HOARDER),
@@ -143,7 +143,7 @@ fn weapon_is_read(bytes: &[u8], (name, damage): WeaponRow) -> bool {
 #[test]
 fn weapons_of_other_builders(rt: HostRuntime) {
     for (bytes, row) in WEAPONS {
-        assert!(rt; weapon_is_read(bytes, row), "{row:?}");
+        assert!(rt; weapon_is_read(bytes, *row), "{row:?}");
     }
 }
 
@@ -216,6 +216,6 @@ fn monster_is_read(bytes: &[u8], row: MonsterRow) -> bool {
 #[test]
 fn monsters_of_other_builders(rt: HostRuntime) {
     for (bytes, row) in MONSTERS {
-        assert!(rt; monster_is_read(bytes, row), "{} bytes", bytes.len());
+        assert!(rt; monster_is_read(bytes, *row), "{} bytes", bytes.len());
     }
 }

@@ -1,6 +1,7 @@
 //! Scripts and what they print.
 
 use super::prints;
+use std::alloc::Global;
 
 // Scripts, what they print, and whether they are clean.
 const ROWS: &[(&str, &str, bool)] = &[
@@ -259,16 +260,29 @@ const ROWS: &[(&str, &str, bool)] = &[
     ("text A\nsized 0\nrefs 1\n", "line 3: wrong kind\n", false),
 ];
 
+// The first script that prints something else.
+fn first_that_differs(alloc: Global) -> Option<&'static str> {
+    for (script, printed, clean) in ROWS {
+        if !prints(alloc, script.as_bytes(), 0, printed.as_bytes(), *clean) {
+            return Some(*script);
+        }
+    }
+    None
+}
+
 #[test]
 fn scripts(rt: HostRuntime) {
-    for (script, printed, clean) in ROWS {
-        let same = prints(rt.alloc(), script.as_bytes(), 0, printed.as_bytes(), *clean);
-        assert!(rt; same, "{script}");
-    }
-    let (script, printed) = (b"text \xff\n", b"line 1: not utf-8\n");
-    assert!(rt; prints(rt.alloc(), script, 0, printed, false), "not utf-8");
-    assert!(rt;
-        prints(rt.alloc(), b"# \xff\n", 0, b"", true),
-        "a comment that isn't utf-8"
-    );
+    let differs = first_that_differs(rt.alloc());
+    assert!(rt; differs.is_none(), "{differs:?}");
+}
+
+// A line that isn't UTF-8 is refused, but for a comment.
+fn only_comments_have_other_bytes(alloc: Global) -> bool {
+    prints(alloc, b"text \xff\n", 0, b"line 1: not utf-8\n", false)
+        && prints(alloc, b"# \xff\n", 0, b"", true)
+}
+
+#[test]
+fn scripts_that_are_not_utf_8(rt: HostRuntime) {
+    assert!(rt; only_comments_have_other_bytes(rt.alloc()));
 }

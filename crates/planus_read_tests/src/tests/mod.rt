@@ -4,6 +4,7 @@ mod pieces;
 mod size_prefixed;
 mod tables;
 mod traits;
+mod views;
 
 use crate::plain;
 use planus_read::errors::ErrorKind;

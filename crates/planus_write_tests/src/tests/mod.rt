@@ -1,3 +1,4 @@
+mod back;
 mod caches;
 mod fields;
 mod lists;

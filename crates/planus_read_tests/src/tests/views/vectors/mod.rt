@@ -1,16 +1,12 @@
 pub mod calls;
 pub mod copies;
 mod rows;
-mod steps;
 
 use planus_read::errors::ErrorKind;
 use planus_read::{SliceWithStartOffset, TableRead};
 use planus_view::Vector;
 
-// The list of the numbers 1 to 6 of two bytes each, and a reference to it in front.
-const SIX: [u8; 20] = [4, 0, 0, 0, 6, 0, 0, 0, 1, 0, 2, 0, 3, 0, 4, 0, 5, 0, 6, 0];
-
-// The same list of 1 to 5.
+// The list of the numbers 1 to 5 of two bytes each, and a reference to it in front.
 const FIVE: [u8; 18] = [4, 0, 0, 0, 5, 0, 0, 0, 1, 0, 2, 0, 3, 0, 4, 0, 5, 0];
 
 // Returns the vector of these numbers, to which the first four bytes lead.

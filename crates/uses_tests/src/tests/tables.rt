@@ -1,11 +1,11 @@
 //! Ships, ports and fleets that are written are read back.
 ghost use Rattle.std.specs.Prelude.{◌≤◌};
 
-use crate::{Fleet, Named, Owner, OwnerRef, Port, PortFields, Ship};
 use planus_read::ReadAsRoot;
 use planus_tables::{TableRef, variant};
 use planus_write::{BuildError, Builder, Text, UnionOffset};
 use std::test::Fail;
+use uses_table::{Fleet, Named, Owner, OwnerRef, Port, PortFields, Ship};
 
 // Whether the root is a ship with this name and this hull, and this number of items as its cargo.
 fn is_ship(bytes: &[u8], name: &str, hull: u16, cargo: Option<usize>) -> bool {

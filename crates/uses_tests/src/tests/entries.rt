@@ -4,11 +4,11 @@ ghost use Rattle.std.specs.Prelude.{IfOk};
 ghost use Rattle.planus_write.specs.InBuilder.{IsIn};
 ghost use Rattle.planus_write.specs.State.{Grows};
 
-use crate::{
-    Cause, CauseRef, Entry, EntryFields, EntryRef, Level, Origin, OriginRef, text_read_back,
-};
 use planus::{BuildError, Builder, Offset, ReadAsRoot, UnionOffset, has_identifier};
 use std::test::Fail;
+use uses_log::{
+    Cause, CauseRef, Entry, EntryFields, EntryRef, Level, Origin, OriginRef, text_read_back,
+};
 
 // Writes an entry with this text alone.
 fn note(builder: &mut Builder, text: &str) -> Result<Offset<Entry>, BuildError>

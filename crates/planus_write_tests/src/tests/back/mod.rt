@@ -1,3 +1,5 @@
+//! The back vector, the greatest place, keys and caches.
+
 ghost use Rattle.std.specs.Prelude.{◌≡◌, ◌≤◌, ◌+◌, ◌%◌, [], ◌∷◌, map, OnOk};
 ghost use Rattle.std.specs.Int.{w8, cast_unsigned};
 ghost use Rattle.planus_back.specs.CacheKeys.{bytes_in};

@@ -1,3 +1,5 @@
+//! Vectors and vectors of unions, and the iterators over them.
+
 mod calls;
 mod no_memory;
 mod unions;

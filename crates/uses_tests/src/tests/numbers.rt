@@ -1,8 +1,8 @@
-//! The example once, with ample memory.
+//! A list of numbers that is written, with ample memory.
 
-use crate::create_numbers;
 use planus::{BuildError, Builder};
 use std::test::Fail;
+use uses_laws::create_numbers;
 
 fn a_list_of_two_is_written(builder: &mut Builder) -> Result<bool, BuildError> {
     let list = create_numbers(builder, &[1, 2])?;
