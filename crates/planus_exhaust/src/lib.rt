@@ -1,4 +1,4 @@
-//! Takes all memory, for tests with refused memory.
+//! Takes all memory, for tests with refused memory, and says where they don't apply.
 #![tactic(auto)]
 
 use std::alloc::{AllocError, Global};

@@ -39,6 +39,7 @@ fn vtables_are_shared(alloc: Global, steps: &[Step]) -> bool {
         && replays_to(alloc, Switches::of(6).caches(u64::MAX), steps, TWO_VTABLES)
 }
 
+// The same of the steps of two tables.
 fn equal_vtables_in(alloc: Global) -> Result<bool, AllocError> {
     let steps = equal_tables(alloc)?;
     Ok(vtables_are_shared(alloc, steps.as_slice()))
@@ -145,6 +146,7 @@ fn entries_are_refused(alloc: Global, builder: &mut Builder) -> Result<Option<bo
     }
 }
 
+// The same of a new builder with room for 256 bytes.
 fn entries_in_256_bytes(alloc: Global) -> Result<Option<bool>, BuildError> {
     let mut builder = Builder::with_caches(alloc, 256, Switches::of(7).caches(0))?;
     Ok(entries_are_refused(alloc, &mut builder)?)

@@ -150,7 +150,7 @@ fn texts_are_found(alloc: Global, builder: &mut Builder, count: usize) -> Result
     Ok(true)
 }
 
-// A clear of many texts, and then one of few, where many were before.
+// The first number of texts that aren't found, of many and then of few, each behind a clear.
 fn first_count_that_fails(alloc: Global, builder: &mut Builder) -> Option<usize> {
     for count in [5003, 3, 5, 5003, 3] {
         if !matches!(texts_are_found(alloc, builder, count), Ok(true)) {

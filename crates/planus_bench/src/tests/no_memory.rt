@@ -68,6 +68,7 @@ fn goes_on_and_writes(alloc: Global, builder: &mut Builder) -> Result<Option<boo
     }
 }
 
+// The same of a new builder with room for 64 bytes.
 fn builder_goes_on(alloc: Global) -> Result<Option<bool>, BuildError> {
     let mut builder = Builder::with_caches(alloc, 64, Switches::of(0).caches(0))?;
     goes_on_and_writes(alloc, &mut builder)

@@ -311,6 +311,7 @@ fn a_round(alloc: Global, builder: &mut Builder, numbers: &mut Numbers) -> Resul
     Ok(stand && told)
 }
 
+// The same in a new builder.
 fn a_round_in_a_new_one(alloc: Global, numbers: &mut Numbers) -> Result<bool, Fail> {
     let mut builder = Builder::new(alloc)?;
     a_round(alloc, &mut builder, numbers)

@@ -108,6 +108,7 @@ fn lists_read_back(builder: &mut Builder) -> Result<bool, Fail> {
     Ok(list.get(0) == Some(7) && list.get(1) == Some(8))
 }
 
+// Whether fields read back: unsigned and signed numbers, texts and bytes, signed bytes, and lists.
 fn fields_read_back(builder: &mut Builder) -> Result<[bool; 5], Fail> {
     Ok([
         unsigned_numbers_read_back(builder)?,

@@ -250,6 +250,7 @@ fn first_wrong_without_memory(
     first_wrong_beside(alloc, &mut held, builder, back, cache)
 }
 
+// The same with these three bytes in the back vector, and an empty cache.
 fn first_wrong_with(
     alloc: Global,
     builder: &mut Builder,
