@@ -1,6 +1,6 @@
 -- A replay's steps, as the definitions see them.
 use Rattle.std.proofs.Common.{◌≡◌, ℕ, suc, ◌+◌, ◌≤◌, ◌<◌, List, [], ◌∷◌, ◌++◌, length, take, drop}
-use Rattle.std.proofs.Common.{map, get_or, refl, sym, ap, ◌∙◌, subst, None, Err, drop-cons}
+use Rattle.std.proofs.Common.{map, get_or, refl, sym, ap, ◌∙◌, subst, None, Ok, Err, drop-cons}
 use Rattle.std.specs.List.{AllByRecursion}
 use Rattle.std.proofs.lemmas.List.{take-append-drop, map-append, map_push, take_more, take_all}
 use Rattle.std.proofs.lemmas.List.{length-map, length-take-le}
@@ -81,6 +81,11 @@ module _ (switches : Switches) (steps : List code.Step) (i : ℕ) (item : code.S
 
   pub stops : (error : ReplayError) → Stopped progress (bare_step item) error → Replays switches (map bare_step steps) (Err error)
   stops error stopped = stopped_at (bare_step item) refl error stopped
+
+pub ran : (switches : Switches) (steps : List code.Step) (i : ℕ) (progress : Progress) → length steps ≤ i → Reaches switches steps i progress → Replays switches (map bare_step steps) (Ok (map finish_given progress.finished.items))
+ran switches steps i progress past h =
+    let all : first_steps steps i ≡ map bare_step steps = ap (map bare_step) (take_all i steps past) in
+    subst (λ cs. Replays switches cs (Ok (map finish_given progress.finished.items))) all (h.clean, (state_with progress h.run.0, h.run.2, refl))
 
 pub all_hold : (switches : Switches) (steps : List code.Step) (i : ℕ) (progress : Progress) → length steps ≤ i → Reaches switches steps i progress → AllByRecursion (FinishHolds switches (map bare_step steps)) (map finish_given progress.finished.items)
 all_hold switches steps i progress past h =

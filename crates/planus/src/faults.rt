@@ -33,16 +33,17 @@ impl fmt::Display for Why {
     ghost output = { λ why. Some (why_text why) };
 
     fn fmt<W: fmt::Write>(&self, f: &mut fmt::Formatter<W>) -> fmt::Result {
-        match self {
-            Why::WidthUnknown => write!(f, "width unknown"),
-            Why::ValueTooBig => write!(f, "value too big"),
-            Why::NoSuchStep => write!(f, "no such step"),
-            Why::WrongKind => write!(f, "wrong kind"),
-            Why::ZeroTag => write!(f, "zero tag"),
-            Why::SlotTooBig => write!(f, "slot too big"),
-            Why::SlotTwice => write!(f, "slot twice"),
-            Why::RisingAlignment => write!(f, "rising alignment"),
-        }
+        let text = match self {
+            Why::WidthUnknown => "width unknown",
+            Why::ValueTooBig => "value too big",
+            Why::NoSuchStep => "no such step",
+            Why::WrongKind => "wrong kind",
+            Why::ZeroTag => "zero tag",
+            Why::SlotTooBig => "slot too big",
+            Why::SlotTwice => "slot twice",
+            Why::RisingAlignment => "rising alignment",
+        };
+        write!(f, "{text}")
     }
 }
 

@@ -85,8 +85,8 @@ impl Fill for Sevens {
 #[derive(Drop)]
 pub struct Works {
     alloc: Global,
-    builder: Builder,
-    caching: Builder,
+    builder: Box<Builder>,
+    caching: Box<Builder>,
     // Of the work that is measured, what is written, or the buffers that are read, one behind the
     // other.
     texts: Vec<String>,
@@ -281,13 +281,21 @@ fn write_growing_parts(alloc: Global, size: usize) -> Result<usize, BuildError> 
     write_parts(&mut Builder::with_caches(alloc, 0, NO_CACHES)?, size)
 }
 
+/// A builder with room for so many bytes.
+fn builder_of(alloc: Global, room: usize, caches: Caches) -> Result<Box<Builder>, BuildError> {
+    match Box::new(alloc, Builder::with_caches(alloc, room, caches)?) {
+        Ok(builder) => Ok(builder),
+        Err(_) => Err(BuildError::OutOfMemory),
+    }
+}
+
 impl Works {
     /// A builder without caches and one with them, and what they write.
     pub fn new(alloc: Global) -> Result<Works, BuildError> {
         Ok(Works {
             alloc,
-            builder: Builder::with_caches(alloc, 1 << 23, NO_CACHES)?,
-            caching: Builder::with_capacity(alloc, 1 << 23)?,
+            builder: builder_of(alloc, 1 << 23, NO_CACHES)?,
+            caching: builder_of(alloc, 1 << 23, Caches::all())?,
             texts: Vec::new(alloc),
             bytes: Vec::new(alloc),
             numbers: Vec::new(alloc),
@@ -309,7 +317,7 @@ impl Works {
 
     /// Puts a builder with caches in the place of the one before, and writes the texts.
     fn write_before(&mut self) -> Result<(), BuildError> {
-        self.caching = Builder::new(self.alloc)?;
+        self.caching = builder_of(self.alloc, 0, Caches::all())?;
         write_texts(&mut self.caching, self.texts.as_slice())?;
         Ok(())
     }

@@ -55,14 +55,15 @@ impl fmt::Display for ReadFault {
     ghost output = { λ fault. Some (read_fault_text fault) };
 
     fn fmt<W: fmt::Write>(&self, f: &mut fmt::Formatter<W>) -> fmt::Result {
-        match self {
-            ReadFault::NotUtf8 => write!(f, "not utf-8"),
-            ReadFault::UnknownCommand => write!(f, "unknown command"),
-            ReadFault::BadNumber => write!(f, "bad number"),
-            ReadFault::BadHex => write!(f, "bad hex"),
-            ReadFault::BadField => write!(f, "bad field"),
-            ReadFault::BadIdentifier => write!(f, "bad identifier"),
-        }
+        let text = match self {
+            ReadFault::NotUtf8 => "not utf-8",
+            ReadFault::UnknownCommand => "unknown command",
+            ReadFault::BadNumber => "bad number",
+            ReadFault::BadHex => "bad hex",
+            ReadFault::BadField => "bad field",
+            ReadFault::BadIdentifier => "bad identifier",
+        };
+        write!(f, "{text}")
     }
 }
 

@@ -2,7 +2,7 @@ use Rattle.std.proofs.Common.{arith, refl}
 use Rattle.std.proofs.lemmas.Result.{err_from_is_err_and}
 use Rattle.planus_write.specs.Past.{no_past}
 use Rattle.planus_write.specs.View.{switches_of}
-use Rattle.planus.proofs.Replayed.{are_reached, number_is, reaches_next, stops, all_hold}
+use Rattle.planus.proofs.Replayed.{are_reached, number_is, ran, reaches_next, stops, all_hold}
 use Rattle.planus.proofs.run.replay.Goals as goal
 
 pub advance-requires-clause-reached : goal.advance-requires-clause-reached
@@ -16,6 +16,9 @@ returns-in_err-advance-clause-run c =
 pub loop-step-preserved : goal.loop-step-preserved
 loop-step-preserved c =
     reaches_next (switches_of c.args.caches) c.args.steps.now c.loop-step.step-index c.step-item.result c.loop-step-test.true c.step-item.is c.loop-step.progress c.loop-step.invariant c.advance.new.self c.in_ok-advance.ensures
+
+pub returns-clause-run : goal.returns-clause-run
+returns-clause-run c = ran (switches_of c.args.caches) c.args.steps.now c.loop-step.step-index c.loop-step.progress c.loop-step-test.false c.loop-step.invariant
 
 pub returns-clause-holds : goal.returns-clause-holds
 returns-clause-holds c = all_hold (switches_of c.args.caches) c.args.steps.now c.loop-step.step-index c.loop-step.progress c.loop-step-test.false c.loop-step.invariant

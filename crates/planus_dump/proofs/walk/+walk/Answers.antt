@@ -1,4 +1,4 @@
-use Rattle.std.proofs.Common.{◌≡◌, ◌-◌, ◌∷◌, [], drop, ap, sym, subst, ◌∙◌, Some, None, OnOk, slice_get, arith, refl, length, ◌≤◌}
+use Rattle.std.proofs.Common.{rules, ◌≡◌, ◌-◌, ◌∷◌, [], drop, ap, sym, subst, ◌∙◌, Some, None, OnOk, slice_get, arith, refl, length, ◌≤◌}
 use Rattle.std.proofs.lemmas.Bool.{ltb-true, ltb-false}
 use Rattle.std.proofs.lemmas.Option.{slice_get_past, slice_get_read}
 use Rattle.std.specs.String.{string_bytes}
@@ -120,3 +120,6 @@ dump_unions-loop-i-preserved t c =
 
 pub dump_unions-returns-in-None : goal.dump_unions-returns-in-None
 dump_unions-returns-in-None t c = absurd (omega (arith, c.in-None.ensures, c.len-count.ensures))
+
+pub dump_field-returns-in-None : goal.dump_field-returns-in-None
+dump_field-returns-in-None t c = search rules
