@@ -1,4 +1,5 @@
 use Rattle.std.proofs.Common.{◌+◌, arith}
+use Rattle.std.proofs.lemmas.Nat.{and_le_r}
 use Rattle.planus_back.proofs.Asked.{Asked, asked_for, padding_for}
 use Rattle.planus_back.proofs.PaddingLaws.{keeps_every}
 use Rattle.planus_back.specs.Requests.{Delay}
@@ -34,3 +35,6 @@ returns-then-place-gt-GREATEST_PLACE-clause-too_large_padding c =
     let inside : Delay = record { delayed = c.self.inside.delayed; mask = c.self.inside.mask } in
     let asked = asked_for inside c.args.len c.args.size c.args.mask c.self.invariant (omega arith) c.requires.power in
     rw (← c.self.view_is) (λ promises h. (padding_for inside c.args.size c.args.mask, asked.least_padding promises h, omega arith))
+
+pub returns-clause-below : goal.returns-clause-below
+returns-clause-below c = and_le_r _ c.args.mask
