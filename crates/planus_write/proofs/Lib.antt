@@ -10,6 +10,7 @@ pub mod KeptTables
 pub mod KeptUnions
 pub mod Standing
 pub mod Items
+pub mod PlannedRoom
 pub mod PreparedItems
 pub mod WrittenLists
 pub mod WrittenUnions

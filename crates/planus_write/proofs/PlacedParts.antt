@@ -342,6 +342,11 @@ module _ (kind : Kind) (contents : List ℕ) (part : Part) (got : List ℕ) (b :
 pub part_sized : (part : Part) (old : State) → IsSized (unshared_entry part) [] old part.size part.alignment
 part_sized part old = record { size_is = λ past h. refl; alignment_is = λ past h. refl }
 
+pub unshared_refused : (part : Part) (b : Backed) (switches : Switches) (holdings : Holdings) (error : BuildError) (n : Backed) → n ≡ b → LacksRoom part.size part.alignment b error
+    → Refuses (unshared_entry part) [] (state_from b switches holdings) error (state_from n switches holdings)
+unshared_refused part b switches holdings =
+    alone_refused (λ got promises. part) [] part.size part.alignment b switches holdings (part_sized part (state_from b switches holdings))
+
 module _ (part : Part) (place : ℕ) (b mid n : Backed) (switches : Switches) (holdings : Holdings) (room : MakesRoom part.size part.alignment b place mid)
     (count : length (part.bytes_at place) ≡ part.size) (put : PutsBytes (part.bytes_at place) mid n) where
   pub part_put : PutsDown (unshared_entry part) [] (state_from b switches holdings) place (state_from n switches holdings)
@@ -364,6 +369,10 @@ module _ (size : ℕ) (words : ℕ → List ℕ) (alignment : ℕ) (b : Backed) 
     (greatest : (promises : List Promise) → DescribedBy b promises → greatest_alignment 4 promises ≡ alignment) where
   pub front_sized : IsSized (front_entry size words) [] (state_from b switches holdings) size alignment
   front_sized = record { size_is = λ past h. refl; alignment_is = λ past h. greatest past.written.promises h.described }
+
+  pub front_refused : (error : BuildError) (n : Backed) → n ≡ b → LacksRoom size alignment b error
+      → Refuses (front_entry size words) [] (state_from b switches holdings) error (state_from n switches holdings)
+  front_refused = alone_refused (λ got promises. front_part size words promises) [] size alignment b switches holdings front_sized
 
   module _ (bytes : List ℕ) (place : ℕ) (mid n : Backed)
       (room : MakesRoom size alignment b place mid)

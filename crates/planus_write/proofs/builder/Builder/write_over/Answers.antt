@@ -1,10 +1,11 @@
 use Rattle.std.proofs.Common.{[], ◌+◌, length}
+use Rattle.std.proofs.lemmas.Result.{err_from_is_err_and}
 use Rattle.planus_back.specs.Parts.{Part}
 use Rattle.planus_write.specs.Past.{unshared_entry}
 use Rattle.planus_write.specs.Parts.{filled_part}
-use Rattle.planus_write.specs.Placing.{PutsDown}
+use Rattle.planus_write.specs.Placing.{PutsDown, Refuses}
 use Rattle.planus_write.specs.View.{state_of}
-use Rattle.planus_write.proofs.PlacedParts.{part_put_last, still_sound}
+use Rattle.planus_write.proofs.PlacedParts.{part_put_last, unshared_refused, still_sound, left_sound}
 use Rattle.planus_write.proofs.builder.Builder.write_over.Given as given
 use Rattle.planus_write.proofs.builder.Builder.write_over.Goals as goal
 
@@ -22,3 +23,17 @@ invariant_of-self-2 g c = still_sound (unshared_entry (part g c)) [] (state_of c
 
 pub returns-clause-written : goal.returns-clause-written
 returns-clause-written g c = rw (← c.self.view_is) (put g c)
+
+abbrev refused_part : (g : given.Over) → goal.After-from_residual g → Part
+refused_part g c = filled_part c.args.size (c.args.alignment_mask + 1) (g.W.Overwrite.leaves c.args.writer.now)
+
+refused : (g : given.Over) → (c : goal.After-from_residual g) → Refuses (unshared_entry (refused_part g c)) [] (state_of c.self.inside) c.in_err-place.field-0.0 (state_of (record c.self.inside { backing = c.make_room.new.self }))
+refused g c = unshared_refused (refused_part g c) c.self.inside.backing _ _ c.in_err-place.field-0.0 c.make_room.new.self c.in_err-place.ensures.0 c.in_err-place.ensures.1
+
+pub invariant_of-self : goal.invariant_of-self
+invariant_of-self g c = left_sound (unshared_entry (refused_part g c)) [] (state_of c.self.inside) _ c.in_err-place.field-0.0 c.self.invariant (refused g c)
+
+pub returns-in_err-place-clause-written : goal.returns-in_err-place-clause-written
+returns-in_err-place-clause-written g c =
+    let p = err_from_is_err_and c.from_residual.result c.from_residual.ensures.1 in
+    rw (p.1, p.2, ← c.self.view_is) (refused g c)
