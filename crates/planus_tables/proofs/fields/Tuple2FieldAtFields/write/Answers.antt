@@ -1,5 +1,6 @@
-use Rattle.std.proofs.Common.{[], ◌∷◌, ◌++◌, refl, sym, Ok}
+use Rattle.std.proofs.Common.{[], ◌∷◌, ◌++◌, refl, sym, Ok, Err, inl, append_assoc}
 use Rattle.std.proofs.lemmas.List.{append-nil}
+use Rattle.std.proofs.lemmas.Result.{err_from_is_err_and}
 use Rattle.planus_write.specs.Laws.{grows_on}
 use Rattle.planus_tables.specs.ContentLaws.{only_field}
 use Rattle.planus_tables.specs.Preparing.{WritesFields}
@@ -49,3 +50,36 @@ returns-clause-grows g c =
     (g.met.V.WriteAsOptional.is_lawful.grows c.args.self.now.0.value c.args.builder.now
     (Ok c.in_ok-value.value) c.prepare.new.builder c.requires.may.0 c.in_ok-value.ensures)
     c.write.ensures.grows
+
+pub returns-clause-reached : goal.returns-clause-reached
+returns-clause-reached g c = c.write.ensures.reached
+
+pub write-requires-clause-may : goal.write-requires-clause-may
+write-requires-clause-may g c =
+    g.met.R.Fields.stays c.args.self.now.1 c.args.builder.now c.prepare.new.builder
+    (g.met.V.WriteAsOptional.is_lawful.grows c.args.self.now.0.value c.args.builder.now
+    (Ok c.in_ok-value.value) c.prepare.new.builder c.requires.may.0 c.in_ok-value.ensures)
+    c.requires.may.1
+
+pub write-requires-clause-rules : goal.write-requires-clause-rules
+write-requires-clause-rules g c = simp append_assoc (simp append_assoc at c.requires.rules)
+
+pub returns-in_err-value-clause-written : goal.returns-in_err-value-clause-written
+returns-in_err-value-clause-written g c =
+    let p = err_from_is_err_and c.from_residual.result c.from_residual.ensures.1 in
+    rw (p.1, p.2) (λ ts ls same same_last. inl (inl c.in_err-value.ensures))
+
+pub returns-in_err-value-clause-kept : goal.returns-in_err-value-clause-kept
+returns-in_err-value-clause-kept g c =
+    let p = err_from_is_err_and c.from_residual.result c.from_residual.ensures.1 in
+    rw p.1 tt
+
+pub returns-in_err-value-clause-reached : goal.returns-in_err-value-clause-reached
+returns-in_err-value-clause-reached g c =
+    let p = err_from_is_err_and c.from_residual.result c.from_residual.ensures.1 in
+    rw p.1 tt
+
+pub returns-in_err-value-clause-grows : goal.returns-in_err-value-clause-grows
+returns-in_err-value-clause-grows g c =
+    g.met.V.WriteAsOptional.is_lawful.grows c.args.self.now.0.value c.args.builder.now
+    (Err c.in_err-value.field-0.0) c.prepare.new.builder c.requires.may.0 c.in_err-value.ensures

@@ -1,5 +1,6 @@
 use Rattle.std.specs.Int.{w8, to_le_bytes}
-use Rattle.std.proofs.Common.{[], ◌∷◌, ◌++◌, refl, sym, subst, ap, ◌∙◌, Ok}
+use Rattle.std.proofs.Common.{[], ◌∷◌, ◌++◌, refl, sym, subst, ap, ◌∙◌, Ok, Err, inl, append_assoc}
+use Rattle.std.proofs.lemmas.Result.{err_from_is_err_and}
 use Rattle.planus_read.specs.Values.{plain, reference}
 use Rattle.planus_write.specs.Laws.{grows_on, extends_itself}
 use Rattle.planus_write.specs.Unions.{union_reach}
@@ -78,3 +79,36 @@ returns-clause-grows g c =
     (g.met.V.WriteAsOptionalUnion.is_lawful.grows c.args.self.now.0.value c.args.builder.now
     (Ok c.in_ok-union.union) c.prepare.new.builder c.requires.may.0 c.in_ok-union.ensures)
     c.write.ensures.grows
+
+pub returns-clause-reached : goal.returns-clause-reached
+returns-clause-reached g c = c.write.ensures.reached
+
+pub write-requires-clause-may : goal.write-requires-clause-may
+write-requires-clause-may g c =
+    g.met.R.Fields.stays c.args.self.now.1 c.args.builder.now c.prepare.new.builder
+    (g.met.V.WriteAsOptionalUnion.is_lawful.grows c.args.self.now.0.value c.args.builder.now
+    (Ok c.in_ok-union.union) c.prepare.new.builder c.requires.may.0 c.in_ok-union.ensures)
+    c.requires.may.1
+
+pub write-requires-clause-rules : goal.write-requires-clause-rules
+write-requires-clause-rules g c = simp append_assoc (simp append_assoc at c.requires.rules)
+
+pub returns-in_err-union-clause-written : goal.returns-in_err-union-clause-written
+returns-in_err-union-clause-written g c =
+    let p = err_from_is_err_and c.from_residual.result c.from_residual.ensures.1 in
+    rw (p.1, p.2) (λ ts ls same same_last. inl (inl c.in_err-union.ensures))
+
+pub returns-in_err-union-clause-kept : goal.returns-in_err-union-clause-kept
+returns-in_err-union-clause-kept g c =
+    let p = err_from_is_err_and c.from_residual.result c.from_residual.ensures.1 in
+    rw p.1 tt
+
+pub returns-in_err-union-clause-reached : goal.returns-in_err-union-clause-reached
+returns-in_err-union-clause-reached g c =
+    let p = err_from_is_err_and c.from_residual.result c.from_residual.ensures.1 in
+    rw p.1 tt
+
+pub returns-in_err-union-clause-grows : goal.returns-in_err-union-clause-grows
+returns-in_err-union-clause-grows g c =
+    g.met.V.WriteAsOptionalUnion.is_lawful.grows c.args.self.now.0.value c.args.builder.now
+    (Err c.in_err-union.field-0.0) c.prepare.new.builder c.requires.may.0 c.in_err-union.ensures
