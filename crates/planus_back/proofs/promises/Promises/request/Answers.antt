@@ -1,7 +1,9 @@
-use Rattle.std.proofs.Common.{◌+◌, arith}
+use Rattle.std.proofs.Common.{◌≡◌, ℕ, ◌+◌, max, sym, subst, inl, inr, arith}
+use Rattle.std.proofs.lemmas.Bool.{cases_lt}
 use Rattle.std.proofs.lemmas.Nat.{and_le_r}
 use Rattle.planus_back.proofs.Asked.{Asked, asked_for, padding_for}
 use Rattle.planus_back.proofs.PaddingLaws.{keeps_every}
+use Rattle.planus_back.specs.Promises.{IsPowerOfTwo}
 use Rattle.planus_back.specs.Requests.{Delay}
 use Rattle.planus_back.proofs.promises.Promises.request.Goals as goal
 
@@ -38,3 +40,16 @@ returns-then-place-gt-GREATEST_PLACE-clause-too_large_padding c =
 
 pub returns-clause-below : goal.returns-clause-below
 returns-clause-below c = and_le_r _ c.args.mask
+
+greater_is_power : (a b : ℕ) → IsPowerOfTwo (a + 1) → IsPowerOfTwo (b + 1) → IsPowerOfTwo (max a b + 1)
+greater_is_power a b p q = elim (cases_lt a b) as (λ _. IsPowerOfTwo (max a b + 1)) [
+  | inl lt ↦ (let e : b ≡ max a b = omega (arith, lt) in subst (λ x. IsPowerOfTwo (x + 1)) e q)
+  | inr le ↦ (let e : a ≡ max a b = omega (arith, le) in subst (λ x. IsPowerOfTwo (x + 1)) e p)
+]
+
+pub invariant_of-next : goal.invariant_of-next
+invariant_of-next c = record {
+  power = subst (λ x. IsPowerOfTwo (x + 1)) (sym c.max.ensures) (greater_is_power c.self.inside.mask c.args.mask c.self.invariant.power c.requires.power);
+  bound = omega arith;
+  rest = omega (arith, and_le_r);
+}
