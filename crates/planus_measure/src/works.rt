@@ -281,7 +281,8 @@ fn write_growing_parts(alloc: Global, size: usize) -> Result<usize, BuildError> 
     write_parts(&mut Builder::with_caches(alloc, 0, NO_CACHES)?, size)
 }
 
-/// A builder with room for so many bytes.
+/// A builder with room for so many bytes. It is boxed, since what holds two of them would have a
+/// long type, which makes its proofs slow.
 fn builder_of(alloc: Global, room: usize, caches: Caches) -> Result<Box<Builder>, BuildError> {
     match Box::new(alloc, Builder::with_caches(alloc, room, caches)?) {
         Ok(builder) => Ok(builder),
