@@ -1,6 +1,6 @@
 //! Equal contents, with and without a cache for them.
 
-use super::{holds, prepared, stands_at};
+use super::{holds, new_builder, prepared, stands_at, with_caches};
 use planus_write::{BuildError, Builder, ByteList, Caches, SignedList, Text};
 use std::test::Fail;
 
@@ -31,7 +31,7 @@ fn a_text_twice(rt: HostRuntime) -> Result<(), Fail> {
             hash_mask,
             ..Caches::all()
         };
-        let mut builder = Builder::with_caches(rt.alloc(), 0, caches)?;
+        let mut builder = with_caches(rt.alloc(), caches)?;
         let twice = holds(a_text_twice_in(&mut builder, texts));
         builder.clear();
         let after = holds(a_text_after_another(&mut builder, texts));
@@ -55,7 +55,7 @@ fn equal_byte_lists_are_one(builder: &mut Builder) -> Result<bool, BuildError> {
 
 #[test]
 fn byte_lists(rt: HostRuntime) -> Result<(), Fail> {
-    let mut builder = Builder::new(rt.alloc())?;
+    let mut builder = new_builder(rt.alloc())?;
     assert!(rt;
         holds(byte_lists_and_texts_are_apart(&mut builder)),
         "and texts"

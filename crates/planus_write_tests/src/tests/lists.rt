@@ -2,7 +2,7 @@
 
 ghost use Rattle.planus_write.specs.Preparing.{AllMay};
 
-use super::{finishes, holds, prepared};
+use super::{finishes, holds, new_builder, prepared};
 use planus_write::{
     BuildError, Builder, ByRef, ByteList, List, Offset, Primitive, SignedList, Text, VectorWrite,
 };
@@ -65,7 +65,7 @@ fn lists_of_bytes(builder: &mut Builder) -> Result<bool, BuildError> {
 
 #[test]
 fn lists(rt: HostRuntime) -> Result<(), Fail> {
-    let mut builder = Builder::new(rt.alloc())?;
+    let mut builder = new_builder(rt.alloc())?;
     assert!(rt; lists_of_numbers(&mut builder), "numbers and texts");
     assert!(rt; holds(lists_of_wide_numbers(&mut builder)), "wide numbers");
     builder.clear();
@@ -98,7 +98,7 @@ fn a_list_of_many_numbers_in(
 #[test]
 fn a_list_of_100003_numbers(rt: HostRuntime) -> Result<(), Fail> {
     let (items, want) = many_numbers(rt.alloc())?;
-    let mut builder = Builder::new(rt.alloc())?;
+    let mut builder = new_builder(rt.alloc())?;
     let found = a_list_of_many_numbers_in(&mut builder, items, want.as_slice());
     assert!(rt; holds(found));
     Ok(())

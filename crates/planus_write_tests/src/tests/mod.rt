@@ -51,13 +51,27 @@ fn prepared<T, X: WriteAsOffset<T>>(
     value.prepare(builder)
 }
 
+// A builder in a box: what a function owns is written out with its type at each step of its proof,
+// and the type of a builder, with three caches, is long.
+fn with_caches(alloc: Global, caches: Caches) -> Result<Box<Builder>, BuildError> {
+    match Box::new(alloc, Builder::with_caches(alloc, 0, caches)?) {
+        Ok(builder) => Ok(builder),
+        Err(_) => Err(BuildError::OutOfMemory),
+    }
+}
+
+// A builder that writes equal contents once.
+fn new_builder(alloc: Global) -> Result<Box<Builder>, BuildError> {
+    with_caches(alloc, Caches::all())
+}
+
 // A builder that writes equal contents each time.
-fn without_caches(alloc: Global) -> Result<Builder, BuildError> {
+fn without_caches(alloc: Global) -> Result<Box<Builder>, BuildError> {
     let caches = Caches {
         vtables: false,
         texts: false,
         bytes: false,
         hash_mask: 0,
     };
-    Builder::with_caches(alloc, 0, caches)
+    with_caches(alloc, caches)
 }

@@ -1,6 +1,6 @@
 //! Finishes with their size in front.
 
-use super::{finishes, holds};
+use super::{finishes, holds, new_builder};
 use planus_write::{BuildError, Builder, List, Offset};
 use std::test::Fail;
 
@@ -51,7 +51,7 @@ fn a_list_is_finished(builder: &mut Builder) -> Result<bool, BuildError> {
 
 #[test]
 fn sizes_in_front(rt: HostRuntime) -> Result<(), Fail> {
-    let mut builder = Builder::new(rt.alloc())?;
+    let mut builder = new_builder(rt.alloc())?;
     assert!(rt; holds(texts_are_finished(&mut builder)), "texts");
     builder.clear();
     assert!(rt;

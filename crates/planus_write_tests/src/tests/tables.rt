@@ -3,7 +3,7 @@
 ghost use Rattle.std.specs.Prelude.{◌-◌, ◌++◌, []};
 ghost use Rattle.std.specs.Int.{w8, w16, w32, w64, to_le_bytes, cast_unsigned};
 
-use super::holds;
+use super::{holds, new_builder};
 use planus_write::{BuildError, Builder, ObjectFill, ObjectWriter, Offset, TableWriter, Text};
 use std::alloc::{AllocError, Global};
 use std::test::Fail;
@@ -134,7 +134,7 @@ fn its_bytes(alloc: Global) -> Result<Vec<u8>, AllocError> {
 #[test]
 fn the_greatest_slot(rt: HostRuntime) -> Result<(), Fail> {
     let want = its_bytes(rt.alloc())?;
-    let mut builder = Builder::new(rt.alloc())?;
+    let mut builder = new_builder(rt.alloc())?;
     let found = a_table_with_the_greatest_slot(&mut builder, want.as_slice());
     assert!(rt; holds(found));
     Ok(())
@@ -142,7 +142,7 @@ fn the_greatest_slot(rt: HostRuntime) -> Result<(), Fail> {
 
 #[test]
 fn tables(rt: HostRuntime) -> Result<(), Fail> {
-    let mut builder = Builder::new(rt.alloc())?;
+    let mut builder = new_builder(rt.alloc())?;
     assert!(rt; holds(an_empty_table(&mut builder)), "an empty one");
     assert!(rt; holds(a_table_with_numbers(&mut builder)), "numbers");
     assert!(rt; holds(a_table_with_a_text(&mut builder)), "a text");

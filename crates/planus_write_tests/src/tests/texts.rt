@@ -1,6 +1,6 @@
 //! Texts, with and without an identifier, and a long one.
 
-use super::{finishes, holds, prepared, without_caches};
+use super::{finishes, holds, new_builder, prepared, without_caches};
 use planus_write::{BuildError, Builder, ByRef, Text};
 use std::alloc::{AllocError, Global};
 use std::test::Fail;
@@ -25,7 +25,7 @@ fn a_named_text_is_finished(builder: &mut Builder) -> Result<bool, BuildError> {
 
 #[test]
 fn texts(rt: HostRuntime) -> Result<(), Fail> {
-    let mut builder = Builder::new(rt.alloc())?;
+    let mut builder = new_builder(rt.alloc())?;
     assert!(rt; holds(texts_are_finished(&mut builder)), "texts");
     builder.clear();
     assert!(rt;
@@ -72,7 +72,7 @@ fn a_text_of_one_mebibyte_in(alloc: Global, builder: &mut Builder) -> Result<boo
 
 #[test]
 fn a_text_of_one_mebibyte(rt: HostRuntime) -> Result<(), Fail> {
-    let mut builder = Builder::new(rt.alloc())?;
+    let mut builder = new_builder(rt.alloc())?;
     assert!(rt; a_text_of_one_mebibyte_in(rt.alloc(), &mut builder)?);
     Ok(())
 }
@@ -107,7 +107,7 @@ fn wrapped_texts_in(alloc: Global, builder: &mut Builder) -> Result<bool, BuildE
 
 #[test]
 fn wrapped_texts(rt: HostRuntime) -> Result<(), Fail> {
-    let mut builder = Builder::new(rt.alloc())?;
+    let mut builder = new_builder(rt.alloc())?;
     assert!(rt; holds(wrapped_texts_in(rt.alloc(), &mut builder)));
     Ok(())
 }

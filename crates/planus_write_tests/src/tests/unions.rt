@@ -4,7 +4,7 @@ ghost use Rattle.std.specs.Prelude.{◌≤◌, length, IsTrue, IfOk};
 ghost use Rattle.planus_write.specs.Preparing.{AllMay};
 ghost use Rattle.planus_write.specs.Unions.{union_reach};
 
-use super::holds;
+use super::{holds, new_builder};
 use planus_write::{BuildError, Builder, ByRef, UnionOffset, WriteAsUnion, WriteAsUnionVector};
 use std::alloc::Global;
 use std::test::Fail;
@@ -97,7 +97,7 @@ fn a_written_list_of_unions(builder: &mut Builder) -> Result<bool, BuildError> {
 
 #[test]
 fn lists_of_unions(rt: HostRuntime) -> Result<(), Fail> {
-    let mut builder = Builder::new(rt.alloc())?;
+    let mut builder = new_builder(rt.alloc())?;
     assert!(rt; a_list_of_no_unions(&mut builder), "none");
     builder.clear();
     assert!(rt; holds(a_list_of_unions(&mut builder)), "two");
@@ -143,7 +143,7 @@ fn wrapped_unions_in(alloc: Global, builder: &mut Builder) -> Result<bool, Build
 
 #[test]
 fn wrapped_unions(rt: HostRuntime) -> Result<(), Fail> {
-    let mut builder = Builder::new(rt.alloc())?;
+    let mut builder = new_builder(rt.alloc())?;
     assert!(rt; holds(wrapped_unions_in(rt.alloc(), &mut builder)));
     Ok(())
 }
