@@ -1,21 +1,25 @@
 #!/bin/sh
-# Refuses one request for memory after the other, in this program and in planus_demo over a script of
-# a weapon, until none is refused, and compares what is printed with what may be. It takes half a
-# minute a run, most of it to build, and a run for each request.
+# Refuses one request for memory after the other: in a test of this crate, whose calls make some
+# fifty, up to the given one; and in planus_demo over a script of a weapon, until none is refused.
+# Looks whether the test passes, and whether what the program prints may be. It takes half a minute a
+# run, most of it to build, and a run for each request.
 #
-#     sh refusals.sh [first N]
+#     sh refusals.sh [first N [last N of the test]]
 
 cd "$(dirname "$0")" || exit 2
-first=${1:-1}
-script=$(mktemp) out=$(mktemp) may=$(mktemp)
-trap 'rm -f "$script" "$out" "$may"' EXIT
+first=${1:-1} last=${2:-60}
+script=$(mktemp) out=$(mktemp)
+trap 'rm -f "$script" "$out"' EXIT
 printf 'text Axe\ntable 0=ref:0 1=u16:24\nfinish 1\n' > "$script"
 weapon='04 00 00 00 f4 ff ff ff 10 00 00 00 18 00 00 00 08 00 0a 00 04 00 08 00 03 00 00 00 41 78 65 00'
 differences=0
 
-# Runs a crate's program with the Nth request refused. Leaves what it printed and its status.
+# Runs rt try in a crate's folder with the Nth request refused. Leaves what was printed and the
+# status.
 try() {
-    (cd "../$1" && rt try --fail-alloc "$2" < "$script") > "$out" 2>&1
+    folder=$1 nth=$2
+    shift 2
+    (cd "../$folder" && rt try --fail-alloc "$nth" "$@" < "$script") > "$out" 2>&1
     status=$(sed -n 's/^run=ended status=\([0-9]*\) .*/\1/p' "$out")
     if [ -z "$status" ]; then
         cat "$out"
@@ -28,29 +32,13 @@ differ() {
     differences=$((differences + 1))
 }
 
-# What this program may print: each line as in stdout, or refused.
-{
-    cat stdout
-    sed 's/:.*/: refused before it/' stdout
-    for at in 0 6 14; do echo "a list of two texts: refused at $at bytes, then 26 bytes"; done
-    echo 'a vector of two unions: refused at 14 bytes, then 34 bytes'
-    echo 'a vector of two unions: refused at 30 bytes, then 50 bytes'
-    for at in 0 8 16; do echo "a weapon: refused at $at bytes, then 28 bytes"; done
-    sed -n 's/: as it should be/: refused, then as it should be/p' stdout
-} > "$may"
-
 n=$first
-while :; do
-    try planus_bench "$n"
-    requests=$(sed -n 's/^allocations: //p' "$out")
-    [ "$requests" -lt "$n" ] && break
-    lines=$(grep '^a \|^copies ' "$out")
-    wrong=$(echo "$lines" | grep -vxFf "$may")
-    [ "$status" = 0 ] && [ "$(echo "$lines" | wc -l)" = 6 ] || differ planus_bench "$n" "status $status"
-    [ -z "$wrong" ] || differ planus_bench "$n" "$wrong"
+while [ "$n" -le "$last" ]; do
+    try planus_bench "$n" --test -- calls_with_one_request_refused
+    grep -q '^test result: ok. 1 passed' "$out" || differ planus_bench "$n" "status $status"
     n=$((n + 1))
 done
-echo "planus_bench: N from $first to $((n - 1))"
+echo "planus_bench: N from $first to $last"
 
 # The requests of a program that reads its input aren't counted: three clean runs are the end.
 n=$first clean=0

@@ -17,9 +17,19 @@ mod plain_reader;
 mod plain_run;
 mod read_back;
 mod refusals;
+mod refused_calls;
+mod refused_copies;
 mod runs;
 mod settings;
 mod surface;
 mod tables;
 mod unions;
 mod without_memory;
+
+use std::process::Abort;
+
+// Fails a test, with these words, where something doesn't hold. An assertion is dear to prove, so
+// this is the one of many tests.
+fn check(rt: &impl Abort, holds: bool, what: &str) {
+    assert!(rt; holds, "{what}");
+}

@@ -1,9 +1,12 @@
 //! Calls in which one request for memory after the other is refused: they are made with all memory
-//! taken but a few bytes, and at each turn with a few bytes more.
+//! taken but a few bytes, and at each turn with a few bytes more; and once as they are, for a script
+//! that refuses each request in turn.
 
-use crate::refused_calls::{Call, Outcome, make, make_again, prepare};
-use crate::refused_copies::{
-    numbers_are_copied, texts_are_copied, weapon_is_replayed, weapon_steps,
+use super::check;
+use super::refused_calls::{Call, Outcome, make, make_again, outcome_of, prepare};
+use super::refused_copies::{
+    Copied, copy_numbers, copy_texts, numbers_are_copied, replay_weapon, texts_are_copied,
+    weapon_is_replayed, weapon_steps,
 };
 use planus::{BuildError, Builder, Step};
 use planus_exhaust::{exhaust_all_but, holds_or_says};
@@ -181,4 +184,30 @@ fn calls_on_no_builder(rt: HostRuntime) -> Result<(), Fail> {
         assert!(rt; holds_or_says(&rt, enough)?, "{name}: {refusals:?}");
     }
     Ok(())
+}
+
+// Whether a call in a builder of its own comes to what it may, where one request is refused or none.
+fn is_mended(alloc: Global, call: Call, all: &[Lengths]) -> bool {
+    match outcome_of(alloc, call) {
+        Outcome::NotBegun => true,
+        Outcome::Made { len } => matches!(all, [(_, want), ..] if *want == len),
+        Outcome::MadeAgain { refused, len } => note(&mut [false; 3], all, (refused, len)),
+        Outcome::Wrong => false,
+    }
+}
+
+// The script beside this crate refuses one request of this test after the other.
+#[test]
+fn calls_with_one_request_refused(rt: HostRuntime) {
+    for (name, call, all, _least) in CALLS {
+        check(&rt, is_mended(rt.alloc(), *call, all), name);
+    }
+    let copied = [
+        copy_numbers(rt.alloc()),
+        copy_texts(rt.alloc()),
+        replay_weapon(rt.alloc()),
+    ];
+    for call in copied {
+        check(&rt, !matches!(call, Copied::Wrong), "copies or a replay");
+    }
 }

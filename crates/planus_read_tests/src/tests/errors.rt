@@ -2,6 +2,7 @@
 
 use super::traits::field;
 use super::{fails_printing, prints};
+use crate::tests::check;
 use planus_read::Error;
 use planus_read::errors::{ErrorKind, ErrorLocation, UnknownEnumTagKind};
 use std::alloc::Global;
@@ -34,7 +35,7 @@ fn kinds_print_their_texts(rt: HostRuntime) {
         ),
     ];
     for (kind, text) in rows {
-        assert!(rt; prints(rt.alloc(), &kind, text), "{text}");
+        check(&rt, prints(rt.alloc(), &kind, text), text);
     }
 }
 
@@ -70,7 +71,7 @@ fn faults_in_utf8_print_as_std_prints_them(rt: HostRuntime) {
         ),
     ];
     for (bytes, text) in rows {
-        assert!(rt; fault_prints(rt.alloc(), bytes, text), "{text}");
+        check(&rt, fault_prints(rt.alloc(), bytes, text), text);
     }
 }
 
@@ -108,7 +109,7 @@ fn unknown_tags_print(alloc: Global) -> bool {
 
 #[test]
 fn errors_print_their_texts(rt: HostRuntime) {
-    assert!(rt; errors_print(rt.alloc()), "errors");
-    assert!(rt; locations_print(rt.alloc()), "locations");
-    assert!(rt; unknown_tags_print(rt.alloc()), "unknown tags");
+    check(&rt, errors_print(rt.alloc()), "errors");
+    check(&rt, locations_print(rt.alloc()), "locations");
+    check(&rt, unknown_tags_print(rt.alloc()), "unknown tags");
 }

@@ -10,6 +10,13 @@ use crate::plain;
 use planus_read::errors::ErrorKind;
 use std::alloc::Global;
 use std::fmt::Display;
+use std::process::Abort;
+
+// Fails a test, with these words, where something doesn't hold. An assertion is dear to prove, so
+// this is the one of most tests.
+fn check(rt: &impl Abort, holds: bool, what: &str) {
+    assert!(rt; holds, "{what}");
+}
 
 const WEAPON: [u8; 32] = [
     4, 0, 0, 0, 0xf4, 0xff, 0xff, 0xff, 16, 0, 0, 0, 24, 0, 0, 0, 8, 0, 10, 0, 4, 0, 8, 0, 3, 0, 0,
@@ -82,5 +89,5 @@ fn plain_programs_read() -> bool {
 
 #[test]
 fn plain_programs_read_the_weapon(rt: HostRuntime) {
-    assert!(rt; plain_programs_read());
+    check(&rt, plain_programs_read(), "plain programs read");
 }

@@ -2,6 +2,7 @@
 //! memory taken.
 
 use super::{pieces, size_prefixed, tables, traits};
+use crate::tests::check;
 use planus_exhaust::exhaust;
 use planus_read::Error;
 use planus_read::errors::{ErrorKind, UnknownEnumTagKind};
@@ -76,10 +77,10 @@ fn no_reader_asks_for_memory(rt: HostRuntime) -> Result<(), Fail> {
     if !exhausted {
         println!(rt; "memory was left: this test does not apply")?;
     }
-    assert!(rt; answers.rows, "the worked rows");
-    assert!(rt; answers.traits, "the traits");
-    assert!(rt; answers.pieces, "pieces");
-    assert!(rt; answers.streams, "sizes in front, and identifiers");
-    assert!(rt; answers.errors, "errors");
+    check(&rt, answers.rows, "the worked rows");
+    check(&rt, answers.traits, "the traits");
+    check(&rt, answers.pieces, "pieces");
+    check(&rt, answers.streams, "sizes in front, and identifiers");
+    check(&rt, answers.errors, "errors");
     Ok(())
 }

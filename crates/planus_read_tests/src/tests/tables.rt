@@ -1,6 +1,7 @@
 //! The worked tables, with expected values written out.
 
 use super::{UNIONS, WEAPON, fails_printing, fails_with, same_kind};
+use crate::tests::check;
 use planus_read::errors::ErrorKind;
 use planus_read::table_reader::Table;
 use planus_read::{
@@ -253,7 +254,11 @@ fn slots_fail(alloc: Global, one_number: Table<'_>, past_end: Table<'_>) -> bool
 
 #[test]
 fn errors_of_slots(rt: HostRuntime) -> Result<(), Fail> {
-    assert!(rt; slots_fail(rt.alloc(), table_at(&U16_TABLE)?, table_at(&TAG_PAST_END)?));
+    check(
+        &rt,
+        slots_fail(rt.alloc(), table_at(&U16_TABLE)?, table_at(&TAG_PAST_END)?),
+        "slots fail",
+    );
     Ok(())
 }
 
@@ -268,6 +273,10 @@ fn price_fails(alloc: Global, weapon: Table<'_>, type_: &str) -> bool {
 #[test]
 fn names_of_any_lifetime(rt: HostRuntime) -> Result<(), Fail> {
     let type_ = format!(in rt.alloc(); "Weapon{}", 2)?;
-    assert!(rt; price_fails(rt.alloc(), table_at(&WEAPON)?, type_.as_str()));
+    check(
+        &rt,
+        price_fails(rt.alloc(), table_at(&WEAPON)?, type_.as_str()),
+        "price fails",
+    );
     Ok(())
 }

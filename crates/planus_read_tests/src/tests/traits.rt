@@ -2,6 +2,7 @@
 
 use super::tables::Heads;
 use super::{UNIONS, fails_printing, fails_with, same_kind};
+use crate::tests::check;
 use planus_read::errors::{Error, ErrorKind};
 use planus_read::table_reader::Table;
 use planus_read::{
@@ -260,11 +261,11 @@ fn root_fails(alloc: Global) -> bool {
 
 #[test]
 fn errors_of_traits(rt: HostRuntime) {
-    assert!(rt; item_fails(rt.alloc()), "an item");
+    check(&rt, item_fails(rt.alloc()), "an item");
     let unknown = "In <[OneText]@3e8>::get(): Unknown union (tag = 9)";
     let outside = "In <[OneText]@3e8>::get(): Invalid offset";
     for (tag, offset, text) in [(9, 0, unknown), (1, 4, outside)] {
-        assert!(rt; union_fails(rt.alloc(), tag, offset, text), "{text}");
+        check(&rt, union_fails(rt.alloc(), tag, offset, text), text);
     }
-    assert!(rt; root_fails(rt.alloc()), "a root");
+    check(&rt, root_fails(rt.alloc()), "a root");
 }

@@ -1,6 +1,7 @@
 //! Equal contents, with and without a cache for them.
 
 use super::{holds, new_builder, prepared, stands_at, with_caches};
+use crate::tests::check;
 use planus_write::{BuildError, Builder, ByteList, Caches, SignedList, Text};
 use std::test::Fail;
 
@@ -56,11 +57,16 @@ fn equal_byte_lists_are_one(builder: &mut Builder) -> Result<bool, BuildError> {
 #[test]
 fn byte_lists(rt: HostRuntime) -> Result<(), Fail> {
     let mut builder = new_builder(rt.alloc())?;
-    assert!(rt;
+    check(
+        &rt,
         holds(byte_lists_and_texts_are_apart(&mut builder)),
-        "and texts"
+        "and texts",
     );
     builder.clear();
-    assert!(rt; holds(equal_byte_lists_are_one(&mut builder)), "equal ones");
+    check(
+        &rt,
+        holds(equal_byte_lists_are_one(&mut builder)),
+        "equal ones",
+    );
     Ok(())
 }

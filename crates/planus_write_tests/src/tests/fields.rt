@@ -4,6 +4,7 @@ ghost use Rattle.std.specs.Prelude.{◌≤◌, length};
 ghost use Rattle.planus_write.specs.Unions.{union_reach};
 
 use super::{holds, without_caches};
+use crate::tests::check;
 use planus_fields::{
     DefaultValue, WriteAs, WriteAsDefault, WriteAsDefaultUnionVector, WriteAsOptional,
     WriteAsOptionalUnion, WriteAsOptionalUnionVector,
@@ -155,8 +156,12 @@ fn numbers_are_left_out(builder: &mut Builder) -> bool {
 #[test]
 fn numbers(rt: HostRuntime) -> Result<(), Fail> {
     let mut builder = without_caches(rt.alloc())?;
-    assert!(rt; holds(numbers_are_prepared(&mut builder)), "always there");
-    assert!(rt; numbers_are_left_out(&mut builder), "left out");
+    check(
+        &rt,
+        holds(numbers_are_prepared(&mut builder)),
+        "always there",
+    );
+    check(&rt, numbers_are_left_out(&mut builder), "left out");
     Ok(())
 }
 
@@ -204,15 +209,20 @@ fn texts_of_before_are_there(builder: &mut Builder) -> Result<bool, BuildError> 
 fn texts(rt: HostRuntime) -> Result<(), Fail> {
     let owned = String::from_str(rt.alloc(), "Axe")?;
     let mut builder = without_caches(rt.alloc())?;
-    assert!(rt; texts_are_left_out(&mut builder, &owned), "left out");
-    assert!(rt; holds(texts_are_there(&mut builder, &owned)), "there");
+    check(&rt, texts_are_left_out(&mut builder, &owned), "left out");
+    check(&rt, holds(texts_are_there(&mut builder, &owned)), "there");
     builder.clear();
-    assert!(rt;
+    check(
+        &rt,
         holds(boxed_texts_are_there(rt.alloc(), &mut builder)),
-        "boxed"
+        "boxed",
     );
     builder.clear();
-    assert!(rt; holds(texts_of_before_are_there(&mut builder)), "of before");
+    check(
+        &rt,
+        holds(texts_of_before_are_there(&mut builder)),
+        "of before",
+    );
     Ok(())
 }
 
@@ -265,14 +275,30 @@ fn lists_of_bytes_are_prepared(builder: &mut Builder) -> Result<bool, BuildError
 fn lists(rt: HostRuntime) -> Result<(), Fail> {
     let owned: Vec<u16> = Vec::new(rt.alloc());
     let mut builder = without_caches(rt.alloc())?;
-    assert!(rt; empty_lists_are_left_out(&mut builder, &owned), "left out");
-    assert!(rt; empty_lists_are_there(&mut builder, &owned), "empty ones");
+    check(
+        &rt,
+        empty_lists_are_left_out(&mut builder, &owned),
+        "left out",
+    );
+    check(
+        &rt,
+        empty_lists_are_there(&mut builder, &owned),
+        "empty ones",
+    );
     builder.clear();
-    assert!(rt; lists_are_there(&mut builder), "there");
+    check(&rt, lists_are_there(&mut builder), "there");
     builder.clear();
-    assert!(rt; holds(lists_are_prepared(&mut builder, &owned)), "prepared");
+    check(
+        &rt,
+        holds(lists_are_prepared(&mut builder, &owned)),
+        "prepared",
+    );
     builder.clear();
-    assert!(rt; holds(lists_of_bytes_are_prepared(&mut builder)), "bytes");
+    check(
+        &rt,
+        holds(lists_of_bytes_are_prepared(&mut builder)),
+        "bytes",
+    );
     Ok(())
 }
 
@@ -332,15 +358,28 @@ fn written_union_vectors_are_there(builder: &mut Builder) -> Result<bool, BuildE
 #[test]
 fn unions(rt: HostRuntime) -> Result<(), Fail> {
     let mut builder = without_caches(rt.alloc())?;
-    assert!(rt; unions_are_left_out(&mut builder), "left out");
-    assert!(rt; union_vectors_are_left_out(&mut builder), "lists left out");
-    assert!(rt; empty_union_vectors_are_there(&mut builder), "empty lists");
+    check(&rt, unions_are_left_out(&mut builder), "left out");
+    check(
+        &rt,
+        union_vectors_are_left_out(&mut builder),
+        "lists left out",
+    );
+    check(
+        &rt,
+        empty_union_vectors_are_there(&mut builder),
+        "empty lists",
+    );
     builder.clear();
-    assert!(rt; holds(unions_are_there(rt.alloc(), &mut builder)), "there");
+    check(
+        &rt,
+        holds(unions_are_there(rt.alloc(), &mut builder)),
+        "there",
+    );
     builder.clear();
-    assert!(rt;
+    check(
+        &rt,
         holds(written_union_vectors_are_there(&mut builder)),
-        "written lists"
+        "written lists",
     );
     Ok(())
 }

@@ -3,6 +3,7 @@
 ghost use Rattle.planus_write.specs.Preparing.{AllMay};
 
 use super::{finishes, holds, new_builder, prepared};
+use crate::tests::check;
 use planus_write::{
     BuildError, Builder, ByRef, ByteList, List, Offset, Primitive, SignedList, Text, VectorWrite,
 };
@@ -66,12 +67,16 @@ fn lists_of_bytes(builder: &mut Builder) -> Result<bool, BuildError> {
 #[test]
 fn lists(rt: HostRuntime) -> Result<(), Fail> {
     let mut builder = new_builder(rt.alloc())?;
-    assert!(rt; lists_of_numbers(&mut builder), "numbers and texts");
-    assert!(rt; holds(lists_of_wide_numbers(&mut builder)), "wide numbers");
+    check(&rt, lists_of_numbers(&mut builder), "numbers and texts");
+    check(
+        &rt,
+        holds(lists_of_wide_numbers(&mut builder)),
+        "wide numbers",
+    );
     builder.clear();
     let owned = lists_of_owned_texts(rt.alloc(), &mut builder);
-    assert!(rt; matches!(owned, Ok(true)), "owned texts");
-    assert!(rt; holds(lists_of_bytes(&mut builder)), "bytes");
+    check(&rt, matches!(owned, Ok(true)), "owned texts");
+    check(&rt, holds(lists_of_bytes(&mut builder)), "bytes");
     Ok(())
 }
 
@@ -100,6 +105,6 @@ fn a_list_of_100003_numbers(rt: HostRuntime) -> Result<(), Fail> {
     let (items, want) = many_numbers(rt.alloc())?;
     let mut builder = new_builder(rt.alloc())?;
     let found = a_list_of_many_numbers_in(&mut builder, items, want.as_slice());
-    assert!(rt; holds(found));
+    check(&rt, holds(found), "holds");
     Ok(())
 }

@@ -11,9 +11,16 @@ mod writes;
 
 use planus_write::{BuildError, Builder, Caches, Offset, WriteAsOffset};
 use std::alloc::Global;
+use std::process::Abort;
 
 // The tests lend their builders to functions of their own, which compare and return what they
-// found: a function that owns a builder, or that asserts often, is proved slowly.
+// found: a function that owns a builder is proved slowly.
+
+// Fails a test, with these words, where something doesn't hold. An assertion is dear to prove, so
+// this is the one of most tests.
+fn check(rt: &impl Abort, holds: bool, what: &str) {
+    assert!(rt; holds, "{what}");
+}
 
 // Whether the calls were all made, and gave what they should.
 fn holds(found: Result<bool, BuildError>) -> bool {

@@ -2,6 +2,7 @@
 
 ghost use Rattle.std.specs.Prelude.{◌≡◌, ◌≤◌, length};
 
+use crate::tests::check;
 use planus_write::{ByRef, Offset, Primitive, Text, WriteAsPrimitive};
 
 // Writes a value in place at distance 20, of which only the bound is known.
@@ -59,7 +60,7 @@ fn masks_are_one_less_than_alignments() -> bool {
 
 #[test]
 fn primitives(rt: HostRuntime) {
-    assert!(rt; one_byte() && two_bytes(), "narrow numbers");
-    assert!(rt; four_bytes() && eight_bytes(), "wide numbers");
-    assert!(rt; masks_are_one_less_than_alignments(), "masks");
+    check(&rt, one_byte() && two_bytes(), "narrow numbers");
+    check(&rt, four_bytes() && eight_bytes(), "wide numbers");
+    check(&rt, masks_are_one_less_than_alignments(), "masks");
 }

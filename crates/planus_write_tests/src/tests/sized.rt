@@ -1,6 +1,7 @@
 //! Finishes with their size in front.
 
 use super::{finishes, holds, new_builder};
+use crate::tests::check;
 use planus_write::{BuildError, Builder, List, Offset};
 use std::test::Fail;
 
@@ -52,13 +53,14 @@ fn a_list_is_finished(builder: &mut Builder) -> Result<bool, BuildError> {
 #[test]
 fn sizes_in_front(rt: HostRuntime) -> Result<(), Fail> {
     let mut builder = new_builder(rt.alloc())?;
-    assert!(rt; holds(texts_are_finished(&mut builder)), "texts");
+    check(&rt, holds(texts_are_finished(&mut builder)), "texts");
     builder.clear();
-    assert!(rt;
+    check(
+        &rt,
         holds(a_named_text_is_finished(&mut builder)),
-        "a named text"
+        "a named text",
     );
     builder.clear();
-    assert!(rt; holds(a_list_is_finished(&mut builder)), "a list");
+    check(&rt, holds(a_list_is_finished(&mut builder)), "a list");
     Ok(())
 }

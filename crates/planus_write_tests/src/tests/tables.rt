@@ -4,6 +4,7 @@ ghost use Rattle.std.specs.Prelude.{◌-◌, ◌++◌, []};
 ghost use Rattle.std.specs.Int.{w8, w16, w32, w64, to_le_bytes, cast_unsigned};
 
 use super::{holds, new_builder};
+use crate::tests::check;
 use planus_write::{BuildError, Builder, ObjectFill, ObjectWriter, Offset, TableWriter, Text};
 use std::alloc::{AllocError, Global};
 use std::test::Fail;
@@ -136,15 +137,15 @@ fn the_greatest_slot(rt: HostRuntime) -> Result<(), Fail> {
     let want = its_bytes(rt.alloc())?;
     let mut builder = new_builder(rt.alloc())?;
     let found = a_table_with_the_greatest_slot(&mut builder, want.as_slice());
-    assert!(rt; holds(found));
+    check(&rt, holds(found), "holds");
     Ok(())
 }
 
 #[test]
 fn tables(rt: HostRuntime) -> Result<(), Fail> {
     let mut builder = new_builder(rt.alloc())?;
-    assert!(rt; holds(an_empty_table(&mut builder)), "an empty one");
-    assert!(rt; holds(a_table_with_numbers(&mut builder)), "numbers");
-    assert!(rt; holds(a_table_with_a_text(&mut builder)), "a text");
+    check(&rt, holds(an_empty_table(&mut builder)), "an empty one");
+    check(&rt, holds(a_table_with_numbers(&mut builder)), "numbers");
+    check(&rt, holds(a_table_with_a_text(&mut builder)), "a text");
     Ok(())
 }

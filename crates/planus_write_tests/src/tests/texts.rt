@@ -1,6 +1,7 @@
 //! Texts, with and without an identifier, and a long one.
 
 use super::{finishes, holds, new_builder, prepared, without_caches};
+use crate::tests::check;
 use planus_write::{BuildError, Builder, ByRef, Text};
 use std::alloc::{AllocError, Global};
 use std::test::Fail;
@@ -26,11 +27,12 @@ fn a_named_text_is_finished(builder: &mut Builder) -> Result<bool, BuildError> {
 #[test]
 fn texts(rt: HostRuntime) -> Result<(), Fail> {
     let mut builder = new_builder(rt.alloc())?;
-    assert!(rt; holds(texts_are_finished(&mut builder)), "texts");
+    check(&rt, holds(texts_are_finished(&mut builder)), "texts");
     builder.clear();
-    assert!(rt;
+    check(
+        &rt,
         holds(a_named_text_is_finished(&mut builder)),
-        "a named text"
+        "a named text",
     );
     Ok(())
 }
@@ -73,7 +75,11 @@ fn a_text_of_one_mebibyte_in(alloc: Global, builder: &mut Builder) -> Result<boo
 #[test]
 fn a_text_of_one_mebibyte(rt: HostRuntime) -> Result<(), Fail> {
     let mut builder = new_builder(rt.alloc())?;
-    assert!(rt; a_text_of_one_mebibyte_in(rt.alloc(), &mut builder)?);
+    check(
+        &rt,
+        a_text_of_one_mebibyte_in(rt.alloc(), &mut builder)?,
+        "a text of one mebibyte",
+    );
     Ok(())
 }
 
@@ -91,7 +97,7 @@ fn texts_of_more_than_64_mebibytes(rt: HostRuntime) -> Result<(), Fail> {
     let text = letters(rt.alloc(), 32771)?;
     let mut builder = without_caches(rt.alloc())?;
     let found = texts_are_repeated(&mut builder, text.as_str(), 131);
-    assert!(rt; holds(found));
+    check(&rt, holds(found), "holds");
     Ok(())
 }
 
@@ -108,6 +114,10 @@ fn wrapped_texts_in(alloc: Global, builder: &mut Builder) -> Result<bool, BuildE
 #[test]
 fn wrapped_texts(rt: HostRuntime) -> Result<(), Fail> {
     let mut builder = new_builder(rt.alloc())?;
-    assert!(rt; holds(wrapped_texts_in(rt.alloc(), &mut builder)));
+    check(
+        &rt,
+        holds(wrapped_texts_in(rt.alloc(), &mut builder)),
+        "holds",
+    );
     Ok(())
 }

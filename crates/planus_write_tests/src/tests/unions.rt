@@ -5,6 +5,7 @@ ghost use Rattle.planus_write.specs.Preparing.{AllMay};
 ghost use Rattle.planus_write.specs.Unions.{union_reach};
 
 use super::{holds, new_builder};
+use crate::tests::check;
 use planus_write::{BuildError, Builder, ByRef, UnionOffset, WriteAsUnion, WriteAsUnionVector};
 use std::alloc::Global;
 use std::test::Fail;
@@ -98,21 +99,27 @@ fn a_written_list_of_unions(builder: &mut Builder) -> Result<bool, BuildError> {
 #[test]
 fn lists_of_unions(rt: HostRuntime) -> Result<(), Fail> {
     let mut builder = new_builder(rt.alloc())?;
-    assert!(rt; a_list_of_no_unions(&mut builder), "none");
+    check(&rt, a_list_of_no_unions(&mut builder), "none");
     builder.clear();
-    assert!(rt; holds(a_list_of_unions(&mut builder)), "two");
+    check(&rt, holds(a_list_of_unions(&mut builder)), "two");
     builder.clear();
-    assert!(rt;
+    check(
+        &rt,
         holds(a_list_of_unions_by_reference(&mut builder)),
-        "by reference"
+        "by reference",
     );
     builder.clear();
-    assert!(rt;
+    check(
+        &rt,
         holds(an_owned_list_of_unions(rt.alloc(), &mut builder)),
-        "owned"
+        "owned",
     );
     builder.clear();
-    assert!(rt; holds(a_written_list_of_unions(&mut builder)), "written");
+    check(
+        &rt,
+        holds(a_written_list_of_unions(&mut builder)),
+        "written",
+    );
     Ok(())
 }
 
@@ -144,6 +151,10 @@ fn wrapped_unions_in(alloc: Global, builder: &mut Builder) -> Result<bool, Build
 #[test]
 fn wrapped_unions(rt: HostRuntime) -> Result<(), Fail> {
     let mut builder = new_builder(rt.alloc())?;
-    assert!(rt; holds(wrapped_unions_in(rt.alloc(), &mut builder)));
+    check(
+        &rt,
+        holds(wrapped_unions_in(rt.alloc(), &mut builder)),
+        "holds",
+    );
     Ok(())
 }

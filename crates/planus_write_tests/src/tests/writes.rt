@@ -3,6 +3,7 @@
 ghost use Rattle.std.specs.Prelude.{replicate, ⊤};
 
 use super::holds;
+use crate::tests::check;
 use planus_back::{Fill, Overwrite};
 use planus_write::{BuildError, Builder, Text};
 use std::alloc::Global;
@@ -73,11 +74,12 @@ fn what_is_last(alloc: Global, builder: &mut Builder) -> Result<bool, BuildError
 #[test]
 fn writes(rt: HostRuntime) -> Result<(), Fail> {
     let mut builder = Builder::with_capacity(rt.alloc(), 64)?;
-    assert!(rt; holds(lengths(&mut builder)), "lengths");
+    check(&rt, holds(lengths(&mut builder)), "lengths");
     builder.clear();
-    assert!(rt;
+    check(
+        &rt,
         holds(what_is_last(rt.alloc(), &mut builder)),
-        "what is last"
+        "what is last",
     );
     Ok(())
 }
@@ -85,6 +87,6 @@ fn writes(rt: HostRuntime) -> Result<(), Fail> {
 #[test]
 fn more_than_16_mebibytes_of_room(rt: HostRuntime) -> Result<(), Fail> {
     let builder = Builder::with_capacity(rt.alloc(), 16777259)?;
-    assert!(rt; builder.room() >= 16777259);
+    check(&rt, builder.room() >= 16777259, "room");
     Ok(())
 }

@@ -3,6 +3,7 @@
 use super::unions::calls::union_calls_agree;
 use super::vectors::calls::vector_calls_agree;
 use super::vectors::copies::{copies_are_refused, numbers_are_copied};
+use crate::tests::check;
 use planus_exhaust::exhaust;
 use std::alloc::{AllocError, Global};
 use std::test::Fail;
@@ -35,9 +36,9 @@ fn only_copies_ask_for_memory(rt: HostRuntime) -> Result<(), Fail> {
     if !refused.exhausted {
         println!(rt; "memory was left: this test does not apply")?;
     }
-    assert!(rt; refused.vectors, "vectors");
-    assert!(rt; refused.unions, "vectors of unions");
-    assert!(rt; refused.copies || !refused.exhausted, "copies");
-    assert!(rt; numbers_are_copied(rt.alloc()), "copies, made again");
+    check(&rt, refused.vectors, "vectors");
+    check(&rt, refused.unions, "vectors of unions");
+    check(&rt, refused.copies || !refused.exhausted, "copies");
+    check(&rt, numbers_are_copied(rt.alloc()), "copies, made again");
     Ok(())
 }

@@ -7,6 +7,7 @@ ghost use Rattle.planus_back.specs.Caches.{Fits, IsFound};
 
 mod random;
 
+use crate::tests::check;
 use planus_back::{
     BackVec, ByteVec, Cache, Fill, GetCacheKey, Overwrite, Promises, TooLarge, VTable, laws,
 };
@@ -20,8 +21,12 @@ fn is_too_large(size: usize) -> bool {
 
 #[test]
 fn greatest_place_is_the_last(rt: HostRuntime) {
-    assert!(rt; matches!(Promises::new().request(2147483640, 7, 0), Ok((_, 0))));
-    assert!(rt; is_too_large(8) && is_too_large(usize::MAX));
+    check(
+        &rt,
+        matches!(Promises::new().request(2147483640, 7, 0), Ok((_, 0))),
+        "the last place",
+    );
+    check(&rt, is_too_large(8) && is_too_large(usize::MAX), "past it");
 }
 
 // Writes its place, modulo 256, into its one byte.
@@ -74,13 +79,15 @@ fn goes_on_after_clear(bytes: &mut BackVec) -> Result<bool, AllocError> {
 #[test]
 fn grows_at_its_front(rt: HostRuntime) -> Result<(), Fail> {
     let mut bytes = BackVec::with_capacity(rt.alloc(), 0)?;
-    assert!(rt;
+    check(
+        &rt,
         matches!(grows_by_each_call(&mut bytes), Ok(true)),
-        "each call"
+        "each call",
     );
-    assert!(rt;
+    check(
+        &rt,
         matches!(goes_on_after_clear(&mut bytes), Ok(true)),
-        "after a clear"
+        "after a clear",
     );
     Ok(())
 }
@@ -112,7 +119,7 @@ fn puts_each(bytes: &mut BackVec) -> bool {
 #[test]
 fn puts_into_its_room(rt: HostRuntime) -> Result<(), Fail> {
     let mut bytes = BackVec::with_capacity(rt.alloc(), 40)?;
-    assert!(rt; puts_each(&mut bytes));
+    check(&rt, puts_each(&mut bytes), "puts each");
     Ok(())
 }
 
@@ -128,9 +135,17 @@ fn refusals_change_nothing(bytes: &mut BackVec) -> Result<bool, AllocError> {
 
 #[test]
 fn a_refusal_changes_nothing(rt: HostRuntime) -> Result<(), Fail> {
-    assert!(rt; BackVec::with_capacity(rt.alloc(), 1 << 62).is_err());
+    check(
+        &rt,
+        BackVec::with_capacity(rt.alloc(), 1 << 62).is_err(),
+        "too much room",
+    );
     let mut bytes = BackVec::with_capacity(rt.alloc(), 20)?;
-    assert!(rt; matches!(refusals_change_nothing(&mut bytes), Ok(true)));
+    check(
+        &rt,
+        matches!(refusals_change_nothing(&mut bytes), Ok(true)),
+        "refusals change nothing",
+    );
     Ok(())
 }
 

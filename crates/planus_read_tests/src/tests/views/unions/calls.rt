@@ -5,6 +5,7 @@ ghost use Rattle.std.specs.Prelude.{◌≡◌, ⊤, codes};
 use super::super::calls::{item_calls_agree, part_calls_agree};
 use super::super::{push_numbers, shows};
 use super::unions;
+use crate::tests::check;
 use planus_read::errors::ErrorKind;
 use planus_read::{Error, SliceWithStartOffset, TableRead, TableReadUnion, VectorName};
 use planus_unions::UnionVector;
@@ -109,7 +110,11 @@ fn parts_are_shown(alloc: Global, five: UnionVector<'_, Number>) -> bool {
 
 #[test]
 fn five_unions_are_shown(rt: HostRuntime) -> Result<(), Fail> {
-    assert!(rt; parts_are_shown(rt.alloc(), unions(&FIVE, 0, 4)?));
+    check(
+        &rt,
+        parts_are_shown(rt.alloc(), unions(&FIVE, 0, 4)?),
+        "parts are shown",
+    );
     Ok(())
 }
 
@@ -172,12 +177,16 @@ fn many_are_copied(alloc: Global, bytes: &[u8]) -> bool {
 #[test]
 fn copies_of_5003_unions(rt: HostRuntime) -> Result<(), Fail> {
     let bytes = many_unions(rt.alloc())?;
-    assert!(rt; many_are_copied(rt.alloc(), bytes.as_slice()));
+    check(
+        &rt,
+        many_are_copied(rt.alloc(), bytes.as_slice()),
+        "many are copied",
+    );
     Ok(())
 }
 
 #[test]
 fn copies(rt: HostRuntime) {
-    assert!(rt; five_are_copied(rt.alloc()), "five");
-    assert!(rt; damaged_are_refused(rt.alloc()), "damaged");
+    check(&rt, five_are_copied(rt.alloc()), "five");
+    check(&rt, damaged_are_refused(rt.alloc()), "damaged");
 }

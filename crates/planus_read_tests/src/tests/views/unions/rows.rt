@@ -1,6 +1,7 @@
 //! Worked buffers, read item by item.
 
 use super::{Choice, unions};
+use crate::tests::check;
 use planus_read::errors::ErrorKind;
 use planus_read::table_reader::Table;
 use planus_read::{Error, SliceWithStartOffset, TaggedPlace};
@@ -68,7 +69,11 @@ fn fails_with(bytes: &[u8], values: usize, kind: ErrorKind) -> bool {
 #[test]
 fn a_field_of_a_table(rt: HostRuntime) -> Result<(), Fail> {
     let whole = SliceWithStartOffset::new(UNIONS, 0);
-    assert!(rt; loot_is_read(Table::from_buffer(whole, 0)?));
+    check(
+        &rt,
+        loot_is_read(Table::from_buffer(whole, 0)?),
+        "loot is read",
+    );
     Ok(())
 }
 
@@ -131,6 +136,10 @@ fn errors_have_starts<'a>(alloc: Global, choices: UnionVector<'a, Choice<'a>>) -
 #[test]
 fn errors_of_items(rt: HostRuntime) -> Result<(), Fail> {
     let choices = unions::<Choice<'_>>(UNKNOWN, 8, 12)?;
-    assert!(rt; errors_have_starts(rt.alloc(), choices));
+    check(
+        &rt,
+        errors_have_starts(rt.alloc(), choices),
+        "errors have starts",
+    );
     Ok(())
 }

@@ -6,6 +6,7 @@ use super::super::calls::taken;
 use super::super::push_numbers;
 use super::rows::{DAMAGED, TEXTS, texts};
 use super::{five, numbers};
+use crate::tests::check;
 use planus_read::errors::ErrorKind;
 use planus_view::{CopyError, FromItem, Vector};
 use std::alloc::{AllocError, Global};
@@ -86,13 +87,14 @@ fn damaged_texts_are_refused(alloc: Global) -> bool {
 
 #[test]
 fn items_are_copied(rt: HostRuntime) {
-    assert!(rt; small_numbers_are_copied(rt.alloc()), "converted");
-    assert!(rt; texts_are_copied(rt.alloc()), "texts");
-    assert!(rt; damaged_texts_are_refused(rt.alloc()), "damaged texts");
+    check(&rt, small_numbers_are_copied(rt.alloc()), "converted");
+    check(&rt, texts_are_copied(rt.alloc()), "texts");
+    check(&rt, damaged_texts_are_refused(rt.alloc()), "damaged texts");
     let error = ErrorKind::InvalidOffset.with_error_location("T", "get", 0);
-    assert!(rt;
+    check(
+        &rt,
         matches!(CopyError::from(error), CopyError::Read(e) if e.source_location.type_ == "T"),
-        "an error"
+        "an error",
     );
 }
 
@@ -142,11 +144,16 @@ fn a_long_text_is_copied(alloc: Global, bytes: &[u8]) -> bool {
 #[test]
 fn many_and_long_items_are_copied(rt: HostRuntime) -> Result<(), Fail> {
     let list = many_numbers(rt.alloc())?;
-    assert!(rt;
+    check(
+        &rt,
         many_are_copied(rt.alloc(), numbers(list.as_slice())?),
-        "many"
+        "many",
     );
     let text = a_long_text(rt.alloc())?;
-    assert!(rt; a_long_text_is_copied(rt.alloc(), text.as_slice()), "long");
+    check(
+        &rt,
+        a_long_text_is_copied(rt.alloc(), text.as_slice()),
+        "long",
+    );
     Ok(())
 }

@@ -4,6 +4,7 @@ ghost use Rattle.std.specs.Prelude.{◌<◌};
 
 use super::super::shows;
 use super::{five, has, numbers, some_has};
+use crate::tests::check;
 use planus_read::errors::ErrorKind;
 use planus_read::{Error, SliceWithStartOffset, TableRead};
 use planus_view::{Cut, SubViews, Vector};
@@ -25,7 +26,11 @@ const ALL: [u16; 5] = [1, 2, 3, 4, 5];
 #[test]
 fn limits(rt: HostRuntime) {
     let short = [4, 0, 0, 0, 3, 0, 0, 0, 1, 0];
-    assert!(rt; matches!(numbers(&short), Err(ErrorKind::InvalidLength)));
+    check(
+        &rt,
+        matches!(numbers(&short), Err(ErrorKind::InvalidLength)),
+        "numbers",
+    );
 }
 
 // Returns whether the two are the same numbers, or there are none.
@@ -73,9 +78,9 @@ fn items_end(five: Vector<'_, u16>) -> bool {
 
 #[test]
 fn five_u16(rt: HostRuntime) {
-    assert!(rt; five_are_cut(five()), "parts");
-    assert!(rt; items_end(five()), "items");
-    assert!(rt; five().split_at(6).is_none());
+    check(&rt, five_are_cut(five()), "parts");
+    check(&rt, items_end(five()), "items");
+    check(&rt, five().split_at(6).is_none(), "a split past the end");
 }
 
 // Returns whether the sub-vectors are this many, the first is this one, and none is far behind it.
@@ -119,7 +124,7 @@ fn parts_are_shown(alloc: Global, five: Vector<'_, u16>) -> bool {
 
 #[test]
 fn five_u16_are_shown(rt: HostRuntime) {
-    assert!(rt; parts_are_shown(rt.alloc(), five()));
+    check(&rt, parts_are_shown(rt.alloc(), five()), "parts are shown");
 }
 
 #[test]
@@ -127,7 +132,7 @@ fn five_u16_at_the_limits(rt: HostRuntime) {
     for size in [6, usize::MAX] {
         assert!(rt; are_at_the_limits(five(), size), "{size}");
     }
-    assert!(rt; are_of_two(five()));
+    check(&rt, are_of_two(five()), "are of two");
 }
 
 // Returns whether each kind of range gives its numbers, or none.
@@ -149,9 +154,17 @@ fn ranges_agree(five: Vector<'_, u16>, max: usize) -> bool {
 #[test]
 fn five_u16_by_each_index(rt: HostRuntime) {
     let five = five();
-    assert!(rt; ranges_agree(five, usize::MAX));
-    assert!(rt; five.get(2) == Some(3) && five.get(5).is_none());
-    assert!(rt; five.iter().nth(usize::MAX).is_none());
+    check(&rt, ranges_agree(five, usize::MAX), "ranges");
+    check(
+        &rt,
+        five.get(2) == Some(3) && five.get(5).is_none(),
+        "items",
+    );
+    check(
+        &rt,
+        five.iter().nth(usize::MAX).is_none(),
+        "the farthest item",
+    );
 }
 
 pub fn texts<'buf>(bytes: &'buf [u8]) -> Result<Vector<'buf, Result<&'buf str, Error>>, ErrorKind> {
@@ -197,6 +210,6 @@ fn damaged_texts_are_read(alloc: Global) -> bool {
 
 #[test]
 fn list_of_texts(rt: HostRuntime) {
-    assert!(rt; texts_are_read(rt.alloc()), "whole");
-    assert!(rt; damaged_texts_are_read(rt.alloc()), "damaged");
+    check(&rt, texts_are_read(rt.alloc()), "whole");
+    check(&rt, damaged_texts_are_read(rt.alloc()), "damaged");
 }

@@ -1,6 +1,6 @@
 //! Copies and a replay, which ask for memory several times.
 
-use crate::refused_calls::weapon_is_read;
+use super::refused_calls::weapon_is_read;
 use planus::{
     Caches, CopyError, Error, Field, FieldValue, Finished, ReplayError, SliceWithStartOffset, Step,
     TableRead, Vector, replay,
