@@ -1,4 +1,4 @@
-use Rattle.std.proofs.Common.{◌≡◌, ℕ, suc, ◌<◌, List, [], ◌∷◌, Some, ap, map, subst, true, refl, get_or, arith}
+use Rattle.std.proofs.Common.{◌≡◌, ℕ, suc, ◌+◌, ◌<◌, List, [], ◌∷◌, Some, None, ap, map, length, subst, true, refl, get_or, arith}
 use Rattle.std.specs.List.{list_all}
 use Rattle.std.proofs.lemmas.List.{map-id}
 use Rattle.std.proofs.lemmas.Bool.Decides.{nat_tests}
@@ -9,9 +9,15 @@ use Rattle.planus_write.specs.Preparing.{Answers, WritesList}
 use Rattle.planus_write.specs.Items.{plain_item}
 use Rattle.planus_write.specs.declared.offset.List.{List as ListOf}
 use Rattle.planus.specs.Runs.{width_of}
+use Rattle.planus.specs.Replays.{numbers_fault}
 use Rattle.planus_write.specs.declared.offset.Offset.{Offset}
 use Rattle.planus.specs.Names.{offset_named}
-use Rattle.planus.specs.Replaying.{Narrowed, WritesValue}
+use Rattle.planus.specs.Replaying.{Narrowed, WritesValue, Stopped}
+use Rattle.planus.specs.Steps as step
+use Rattle.planus.specs.declared.faults.ReplayError.{ReplayError}
+use Rattle.planus.specs.declared.faults.ReplayError.TheVariants.{BadStep}
+use Rattle.planus.specs.declared.faults.Why.TheVariants.{WidthUnknown}
+use Rattle.planus.specs.declared.progress.Progress.{Progress}
 use Rattle.planus.proofs.Stepping.{numbers_advanced}
 use Rattle.planus.proofs.progress.Progress.numbers.Goals as goal
 
@@ -44,3 +50,16 @@ u64s-requires c = all_fit c.args.items.now (λ k. Fits-lt-pow (c.type_inv.items 
 
 pub returns-in-8 : goal.returns-in-8
 returns-in-8 c = rw c.in-8.is c.u64s.ensures
+
+-- there are numbers of 2, 4 and 8 bytes alone
+no_width : (width : ℕ) → (width ≡ 2 → ⊥) → (width ≡ 4 → ⊥) → (width ≡ 8 → ⊥) → width_of width ≡ None
+no_width width not_2 not_4 not_8 = grind (arith, nat_tests, not_2, not_4, not_8)
+
+-- numbers of another width are refused
+unknown : (old : Progress) (width : ℕ) (items : List ℕ) (error : ReplayError) → width_of width ≡ None → error ≡ BadStep (old.first + length old.offsets.items) WidthUnknown
+    → Stopped old (step.numbers width items) error
+unknown old width items error none is = rw is (refl, ap (λ known. numbers_fault known items) none)
+
+pub returns-in_default : goal.returns-in_default
+returns-in_default c =
+    unknown c.args.self.now c.args.width c.args.items.now c.bad_step-in_default.result (no_width c.args.width (λ e. omega (arith, e)) (λ e. omega (arith, e)) (λ e. omega (arith, e))) c.bad_step-in_default.ensures
