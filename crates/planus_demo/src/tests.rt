@@ -54,6 +54,20 @@ fn prints(alloc: Global, script: &[u8], unread: usize, printed: &[u8], clean: bo
     answer == Ok(clean) && status(&answer) == exit && left == unread && writer.as_slice() == printed
 }
 
+// A builder in a box: what a function owns is written out with its type at each step of its proof,
+// and the type of a builder, with three caches, is long.
+fn with_caches(alloc: Global, caches: Caches) -> Result<Box<Builder>, BuildError> {
+    match Box::new(alloc, Builder::with_caches(alloc, 0, caches)?) {
+        Ok(builder) => Ok(builder),
+        Err(_) => Err(BuildError::OutOfMemory),
+    }
+}
+
+// The same with all caches.
+fn new_builder(alloc: Global) -> Result<Box<Builder>, BuildError> {
+    with_caches(alloc, Caches::all())
+}
+
 // Whether the calls were all made, and gave what they should.
 fn holds(found: Result<bool, BuildError>) -> bool {
     matches!(found, Ok(true))
@@ -65,6 +79,14 @@ fn finish_with<T>(builder: &mut Builder, root: Offset<T>) -> Result<&[u8], Build
         return Err(BuildError::TooLarge);
     }
     builder.finish(root, None)
+}
+
+// Whether a reading gives this value.
+fn gives<T: PartialEq + Drop>(read: planus::Result<T>, want: T) -> bool {
+    match read {
+        Ok(read) => read == want,
+        Err(_) => false,
+    }
 }
 
 // Whether an error prints this text; no where memory for it is refused.

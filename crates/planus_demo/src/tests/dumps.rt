@@ -184,23 +184,33 @@ fn begins(alloc: Global, schema: &Schema, input: &[u8], clean: bool, want: (usiz
     answer == Ok(clean) && is_begun(printed.as_slice(), want)
 }
 
+// What an input is made of, whether it is dumped, and what is printed: so many bytes, of which
+// these are the first.
+type Limit = (Input, bool, (usize, &'static [u8]));
+
+const FIRST: &[u8] = b"root: table Node\nroot.names: list 9998\nroot.names[0] = \"abc\"\n";
+
+const LIMITS: &[Limit] = &[
+    (Input::Chain(64), false, (9, b"too deep\n")),
+    (Input::Names(9998, 3), true, (248879, FIRST)),
+    (Input::Names(9999, 3), false, (15, b"too many lines\n")),
+    (Input::Zeros(1048576), false, (8, b"bad hex\n")),
+    (Input::Zeros(1048577), false, (16, b"script too long\n")),
+];
+
+// Whether the dump of such an input goes as told.
+fn is_limited(alloc: Global, (parts, clean, printed): Limit) -> Result<bool, AllocError> {
+    let schema = nodes(alloc)?;
+    let input = input_of(alloc, parts)?;
+    Ok(begins(alloc, &schema, input.as_slice(), clean, printed))
+}
+
 // The table below 64 others lies too deep. There may be 10000 lines, and 1048576 bytes of input.
 #[test]
-fn limits(rt: HostRuntime) -> Result<(), Fail> {
-    let schema = nodes(rt.alloc())?;
-    let first: &[u8] = b"root: table Node\nroot.names: list 9998\nroot.names[0] = \"abc\"\n";
-    let rows: [(Input, bool, (usize, &[u8])); 5] = [
-        (Input::Chain(64), false, (9, b"too deep\n")),
-        (Input::Names(9998, 3), true, (248879, first)),
-        (Input::Names(9999, 3), false, (15, b"too many lines\n")),
-        (Input::Zeros(1048576), false, (8, b"bad hex\n")),
-        (Input::Zeros(1048577), false, (16, b"script too long\n")),
-    ];
-    for (parts, clean, printed) in rows {
-        let input = input_of(rt.alloc(), parts)?;
-        assert!(rt; begins(rt.alloc(), &schema, input.as_slice(), clean, printed));
+fn limits(rt: HostRuntime) {
+    for limit in LIMITS {
+        assert!(rt; matches!(is_limited(rt.alloc(), *limit), Ok(true)));
     }
-    Ok(())
 }
 
 // Whether without memory nothing is read; where the input, and `out of memory`, fit in 4 MiB, and

@@ -2,15 +2,15 @@
 
 ghost use Rattle.std.specs.Prelude.{◌≤◌, length, IsTrue};
 
-use super::weapon::{is_weapon, item_is, weapon};
-use super::{error_prints, fails_printing, finish_with, holds};
+use super::weapon::{WeaponRow, is_weapon, item_is, weapon};
+use super::{error_prints, fails_printing, finish_with, gives, holds, new_builder, with_caches};
 use crate::equipment::Equipment;
 use crate::equipment_ref::EquipmentRef;
 use crate::monster::{Monster, MonsterRef};
 use planus::errors::ErrorKind;
 use planus::{
     BuildError, Builder, ByteList, Caches, DefaultValue, HasDefaultContent, Offset, ReadAsRoot,
-    TableItem, UnionOffset,
+    TableItem, UnionOffset, UnionVector,
 };
 use std::alloc::Global;
 use std::test::Fail;
@@ -93,7 +93,7 @@ fn orc_is_written(builder: &mut Builder) -> Result<bool, BuildError> {
 #[test]
 fn an_orc_written(rt: HostRuntime) -> Result<(), Fail> {
     for number in 0..8 {
-        let mut builder = Builder::with_caches(rt.alloc(), 0, setting(number))?;
+        let mut builder = with_caches(rt.alloc(), setting(number))?;
         assert!(rt; holds(orc_is_written(&mut builder)), "setting {number}");
     }
     Ok(())
@@ -101,17 +101,14 @@ fn an_orc_written(rt: HostRuntime) -> Result<(), Fail> {
 
 // Whether a monster has these hit points and this name.
 fn is_monster(monster: MonsterRef<'_>, hp: i16, name: &str) -> bool {
-    matches!(monster.hp(), Ok(read) if read == hp)
-        && matches!(monster.name(), Ok(read) if read == name)
+    gives(monster.hp(), hp) && gives(monster.name(), name)
 }
 
 fn orc_is_read() -> bool {
     let Ok(orc) = MonsterRef::read_as_root(&ORC) else {
         return false;
     };
-    is_monster(orc, 80, "Orc")
-        && matches!(orc.inventory(), Ok(None))
-        && matches!(orc.loot(), Ok(None))
+    is_monster(orc, 80, "Orc") && gives(orc.inventory(), None) && matches!(orc.loot(), Ok(None))
 }
 
 #[test]
@@ -120,16 +117,16 @@ fn an_orc_read(rt: HostRuntime) {
 }
 
 // Whether a piece of equipment is a weapon of this name and this damage.
-fn is_held(equipment: EquipmentRef<'_>, name: &str, damage: i16) -> bool {
+pub fn is_held(equipment: EquipmentRef<'_>, (name, damage): WeaponRow) -> bool {
     match equipment {
-        EquipmentRef::Weapon(weapon) => is_weapon(weapon, Some(name), damage),
+        EquipmentRef::Weapon(weapon) => is_weapon(weapon, name, damage),
     }
 }
 
 // Whether the monster has one weapon, the axe.
 fn has_an_axe(monster: MonsterRef<'_>) -> bool {
     match monster.weapons() {
-        Ok(Some(weapons)) => weapons.len() == 1 && item_is(weapons.get(0usize), "Axe", 24),
+        Ok(Some(weapons)) => weapons.len() == 1 && item_is(weapons.get(0usize), (Some("Axe"), 24)),
         _ => false,
     }
 }
@@ -137,7 +134,7 @@ fn has_an_axe(monster: MonsterRef<'_>) -> bool {
 // Whether it has equipped it.
 fn has_equipped_an_axe(monster: MonsterRef<'_>) -> bool {
     match monster.equipped() {
-        Ok(Some(equipped)) => is_held(equipped, "Axe", 24),
+        Ok(Some(equipped)) => is_held(equipped, (Some("Axe"), 24)),
         _ => false,
     }
 }
@@ -156,25 +153,35 @@ fn its_weapons(rt: HostRuntime) {
 
 fn inventory_is_read(elf: MonsterRef<'_>) -> bool {
     is_monster(elf, 7, "Elf")
-        && matches!(elf.inventory(), Ok(Some(read)) if read == [1, 2, 3].as_slice())
+        && gives(elf.inventory(), Some(&[1, 2, 3]))
         && matches!(elf.weapons(), Ok(None))
         && matches!(elf.equipped(), Ok(None))
 }
 
 // Whether an item of the loot is a weapon of this name and this damage.
-fn loot_is(item: Option<planus::Result<EquipmentRef<'_>>>, name: &str, damage: i16) -> bool {
+fn loot_is(item: Option<planus::Result<EquipmentRef<'_>>>, want: WeaponRow) -> bool {
     match item {
-        Some(Ok(equipment)) => is_held(equipment, name, damage),
+        Some(Ok(equipment)) => is_held(equipment, want),
         _ => false,
     }
 }
 
+// Whether loot is these weapons and no others.
+pub fn is_loot<'a>(loot: UnionVector<'a, EquipmentRef<'a>>, want: &[WeaponRow]) -> bool {
+    let mut items = loot.iter();
+    for row in want {
+        if !loot_is(items.next(), *row) {
+            return false;
+        }
+    }
+    items.next().is_none() && loot.len() == want.len()
+}
+
 fn loot_is_read(elf: MonsterRef<'_>) -> bool {
-    let Ok(Some(loot)) = elf.loot() else {
-        return false;
-    };
-    let mut items = loot.into_iter();
-    loot_is(items.next(), "Axe", 24) && loot_is(items.next(), "Bow", 12) && items.next().is_none()
+    match elf.loot() {
+        Ok(Some(loot)) => is_loot(loot, &[(Some("Axe"), 24), (Some("Bow"), 12)]),
+        _ => false,
+    }
 }
 
 fn elf_is_read(builder: &mut Builder) -> Result<bool, BuildError> {
@@ -189,7 +196,7 @@ fn elf_is_read(builder: &mut Builder) -> Result<bool, BuildError> {
 #[test]
 fn inventory_and_loot(rt: HostRuntime) -> Result<(), Fail> {
     for number in 0..8 {
-        let mut builder = Builder::with_caches(rt.alloc(), 0, setting(number))?;
+        let mut builder = with_caches(rt.alloc(), setting(number))?;
         let first = holds(elf_is_read(&mut builder));
         builder.clear();
         let again = holds(elf_is_read(&mut builder));
@@ -230,7 +237,7 @@ fn goblins_are_written(builder: &mut Builder) -> Result<bool, BuildError> {
 
 #[test]
 fn hit_points_left_out(rt: HostRuntime) -> Result<(), Fail> {
-    let mut builder = Builder::new(rt.alloc())?;
+    let mut builder = new_builder(rt.alloc())?;
     assert!(rt; holds(goblins_are_written(&mut builder)));
     Ok(())
 }
@@ -278,7 +285,7 @@ fn an_unknown_tag_in_a_list_in(alloc: Global, builder: &mut Builder) -> Result<b
 
 #[test]
 fn an_unknown_tag_in_a_list(rt: HostRuntime) -> Result<(), Fail> {
-    let mut builder = Builder::new(rt.alloc())?;
+    let mut builder = new_builder(rt.alloc())?;
     assert!(rt; holds(an_unknown_tag_in_a_list_in(rt.alloc(), &mut builder)));
     Ok(())
 }

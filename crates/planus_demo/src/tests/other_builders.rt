@@ -1,14 +1,12 @@
 //! Buffers that other builders wrote, of flatc 2.0.8 from JSON, of C++ by its generated functions,
 //! and of Python by `flatbuffers.Builder`. Their vtables stand in front of their tables.
 
-use super::weapon::is_weapon;
-use crate::equipment_ref::EquipmentRef;
+use super::gives;
+use super::monster::{is_held, is_loot};
+use super::weapon::{WeaponRow, are_weapons, is_weapon};
 use crate::monster::MonsterRef;
 use crate::weapon::WeaponRef;
-use planus::{ReadAsRoot, Result, UnionVector, Vector};
-
-// A weapon: its name and its damage.
-type WeaponRow = (Option<&'static str>, i16);
+use planus::ReadAsRoot;
 
 // By all three: a weapon of each kind.
 const LASH: [u8; 36] = [
@@ -147,63 +145,44 @@ fn weapons_of_other_builders(rt: HostRuntime) {
     }
 }
 
-// Whether the list is that of these weapons, or there is none.
-fn weapons_are<'a>(
-    read: Result<Option<Vector<'a, Result<WeaponRef<'a>>>>>,
-    want: Option<&[WeaponRow]>,
-) -> bool {
-    let (weapons, want) = match (read, want) {
-        (Ok(Some(weapons)), Some(want)) => (weapons, want),
-        (Ok(None), None) => return true,
-        _ => return false,
+// Whether the monster's weapons are these, or it has none.
+fn weapons_are(monster: MonsterRef<'_>, want: Option<&[WeaponRow]>) -> bool {
+    let Ok(weapons) = monster.weapons() else {
+        return false;
     };
-    for (weapon, (name, damage)) in weapons.iter().zip(want) {
-        if !matches!(weapon, Ok(weapon) if is_weapon(weapon, *name, *damage)) {
-            return false;
-        }
-    }
-    weapons.len() == want.len()
-}
-
-fn equipment_is(read: Result<EquipmentRef<'_>>, (name, damage): WeaponRow) -> bool {
-    match read {
-        Ok(EquipmentRef::Weapon(weapon)) => is_weapon(weapon, name, damage),
-        Err(_) => false,
+    match (weapons, want) {
+        (Some(weapons), Some(want)) => are_weapons(weapons, want),
+        (None, None) => true,
+        _ => false,
     }
 }
 
-// Whether the loot is these weapons, or there is none.
-fn loot_is<'a>(
-    read: Result<Option<UnionVector<'a, EquipmentRef<'a>>>>,
-    want: Option<&[WeaponRow]>,
-) -> bool {
-    let (loot, want) = match (read, want) {
-        (Ok(Some(loot)), Some(want)) => (loot, want),
-        (Ok(None), None) => return true,
-        _ => return false,
+// Whether its loot is these weapons, or it has none.
+fn loot_is(monster: MonsterRef<'_>, want: Option<&[WeaponRow]>) -> bool {
+    let Ok(loot) = monster.loot() else {
+        return false;
     };
-    for (equipment, want) in loot.iter().zip(want) {
-        if !equipment_is(equipment, *want) {
-            return false;
-        }
+    match (loot, want) {
+        (Some(loot), Some(want)) => is_loot(loot, want),
+        (None, None) => true,
+        _ => false,
     }
-    loot.len() == want.len()
 }
 
 fn is_equipped(monster: MonsterRef<'_>, want: WeaponRow) -> bool {
     match monster.equipped() {
-        Ok(Some(equipment)) => equipment_is(Ok(equipment), want),
+        Ok(Some(equipment)) => is_held(equipment, want),
         _ => false,
     }
 }
 
 fn is_monster(monster: MonsterRef<'_>, row: MonsterRow) -> bool {
-    matches!(monster.hp(), Ok(hp) if hp == row.hp)
-        && matches!(monster.name(), Ok(name) if name == row.name)
-        && matches!(monster.inventory(), Ok(Some(bytes)) if bytes == row.inventory)
-        && weapons_are(monster.weapons(), row.weapons)
+    gives(monster.hp(), row.hp)
+        && gives(monster.name(), row.name)
+        && gives(monster.inventory(), Some(row.inventory))
+        && weapons_are(monster, row.weapons)
         && is_equipped(monster, row.equipped)
-        && loot_is(monster.loot(), row.loot)
+        && loot_is(monster, row.loot)
 }
 
 fn monster_is_read(bytes: &[u8], row: MonsterRow) -> bool {

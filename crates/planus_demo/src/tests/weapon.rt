@@ -3,7 +3,7 @@ ghost use Rattle.std.specs.Prelude.{List};
 ghost use Rattle.planus_write.specs.Tables.{Declared};
 ghost use Rattle.planus_write.specs.TableWriting.{WasTold};
 
-use super::{fails_printing, finish_with, holds};
+use super::{fails_printing, finish_with, gives, holds, new_builder};
 use crate::weapon::{Weapon, WeaponRef};
 use planus::errors::ErrorKind;
 use planus::{
@@ -12,6 +12,9 @@ use planus::{
 };
 use std::alloc::Global;
 use std::test::Fail;
+
+// A weapon: its name and its damage.
+pub type WeaponRow = (Option<&'static str>, i16);
 
 // A weapon with the name `Axe` and a damage of 24, finished.
 const AXE: &[u8] =
@@ -33,26 +36,31 @@ pub fn weapon(
     Weapon::create(builder, name, damage)
 }
 
-// Whether a weapon has this name.
-fn is_named(weapon: WeaponRef<'_>, name: Option<&str>) -> bool {
-    match weapon.name() {
-        Ok(Some(read)) => matches!(name, Some(name) if name == read),
-        Ok(None) => name.is_none(),
-        Err(_) => false,
-    }
-}
-
-// Whether it has this name and this damage.
+// Whether a weapon has this name and this damage.
 pub fn is_weapon(weapon: WeaponRef<'_>, name: Option<&str>, damage: i16) -> bool {
-    is_named(weapon, name) && matches!(weapon.damage(), Ok(read) if read == damage)
+    gives(weapon.name(), name) && gives(weapon.damage(), damage)
 }
 
 // Whether an item is a weapon of this name and this damage.
-pub fn item_is(item: Option<planus::Result<WeaponRef<'_>>>, name: &str, damage: i16) -> bool {
+pub fn item_is(item: Option<planus::Result<WeaponRef<'_>>>, (name, damage): WeaponRow) -> bool {
     match item {
-        Some(Ok(weapon)) => is_weapon(weapon, Some(name), damage),
+        Some(Ok(weapon)) => is_weapon(weapon, name, damage),
         _ => false,
     }
+}
+
+// Whether a list has these weapons and no others.
+pub fn are_weapons<'a>(
+    weapons: Vector<'a, planus::Result<WeaponRef<'a>>>,
+    want: &[WeaponRow],
+) -> bool {
+    let mut items = weapons.iter();
+    for row in want {
+        if !item_is(items.next(), *row) {
+            return false;
+        }
+    }
+    items.next().is_none() && weapons.len() == want.len()
 }
 
 // Whether a finish with the weapon gives these bytes, which are read as its name and its damage.
@@ -83,7 +91,7 @@ fn an_axe_in(builder: &mut Builder) -> Result<bool, BuildError> {
 
 #[test]
 fn an_axe(rt: HostRuntime) -> Result<(), Fail> {
-    let mut builder = Builder::new(rt.alloc())?;
+    let mut builder = new_builder(rt.alloc())?;
     assert!(rt; holds(an_axe_in(&mut builder)));
     Ok(())
 }
@@ -110,7 +118,7 @@ fn damage_left_out_in(builder: &mut Builder) -> Result<bool, BuildError> {
 
 #[test]
 fn fields_left_out(rt: HostRuntime) -> Result<(), Fail> {
-    let mut builder = Builder::new(rt.alloc())?;
+    let mut builder = new_builder(rt.alloc())?;
     assert!(rt; holds(fields_left_out_in(&mut builder)), "both");
     builder.clear();
     assert!(rt; holds(name_left_out_in(&mut builder)), "the name");
@@ -125,7 +133,7 @@ fn name_fails(alloc: Global, bytes: &[u8]) -> bool {
         return false;
     };
     let text = "In <Weapon@4>::name(): Missing null terminator";
-    fails_printing(alloc, weapon.name(), text) && matches!(weapon.damage(), Ok(24))
+    fails_printing(alloc, weapon.name(), text) && gives(weapon.damage(), 24)
 }
 
 // Whether three bytes are no weapon.
@@ -148,11 +156,10 @@ fn axe_and_bow_are_read(bytes: &[u8]) -> bool {
     let list: Result<Vector<'_, Result<WeaponRef<'_>, Error>>, ErrorKind> = TableRead::from_buffer(
         whole, 0,
     );
-    let Ok(weapons) = list else {
-        return false;
-    };
-    let mut items = weapons.iter();
-    item_is(items.next(), "Axe", 24) && item_is(items.next(), "Bow", 12) && items.next().is_none()
+    match list {
+        Ok(weapons) => are_weapons(weapons, &[(Some("Axe"), 24), (Some("Bow"), 12)]),
+        Err(_) => false,
+    }
 }
 
 fn a_list_of_weapons_in(builder: &mut Builder) -> Result<bool, BuildError> {
@@ -168,7 +175,7 @@ fn a_list_of_weapons_in(builder: &mut Builder) -> Result<bool, BuildError> {
 
 #[test]
 fn a_list_of_weapons(rt: HostRuntime) -> Result<(), Fail> {
-    let mut builder = Builder::new(rt.alloc())?;
+    let mut builder = new_builder(rt.alloc())?;
     assert!(rt; holds(a_list_of_weapons_in(&mut builder)));
     Ok(())
 }

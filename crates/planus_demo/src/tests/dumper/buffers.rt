@@ -1,8 +1,7 @@
 //! The worked buffers, and one with each kind of field.
 
-use super::{FieldParts, MONSTER, WEAPON, dumps_lines, is_refused, schema_of};
+use super::{FieldParts, MONSTER, SchemaParts, WEAPON, dumps_lines, is_refused};
 use planus_dump::{DumpError, Item, Kind};
-use std::test::Fail;
 
 // A weapon with the name `Axe` and a damage of 24; and the same with a last byte of 1.
 const AXE: &[u8] =
@@ -45,6 +44,8 @@ const KINDS: &[FieldParts<'static>] = &[
     (21, "unions", Kind::UnionVector(0)),
     (23, "absent", Kind::One(Item::Text)),
 ];
+
+const PARTS: SchemaParts<'static> = (&[("Empty", &[]), ("Kinds", KINDS)], &[&[(1, 0)]]);
 
 const EVERY_KIND: &[u8] = b"8\0\0\04\0\0\0\x04\0\x05\0\x06\0\x08\0\x0c\0\x14\0\
       \x16\0\x1a\0\"\0#\0'\0+\0/\03\07\0;\0\
@@ -103,38 +104,40 @@ const EVERY_LINE: [&str; 38] = [
     "root.unions[1] ! Unknown union (tag = 9)",
 ];
 
+const WEAPONS: SchemaParts<'static> = (&[("Weapon", WEAPON)], &[]);
+
+const MONSTERS: SchemaParts<'static> = (&[("Weapon", WEAPON), ("Monster", MONSTER)], &[&[(1, 0)]]);
+
+// Bytes, and the lines of a weapon in them.
+const WEAPON_ROWS: &[(&[u8], &[&str])] = &[
+    (
+        AXE,
+        &[
+            "root: table Weapon",
+            "root.name = \"Axe\"",
+            "root.damage = 24",
+        ],
+    ),
+    (
+        UNENDED,
+        &[
+            "root: table Weapon",
+            "root.name ! Missing null terminator",
+            "root.damage = 24",
+        ],
+    ),
+    (&[0, 0, 0], &["root ! Invalid offset"]),
+];
+
 #[test]
-fn weapons(rt: HostRuntime) -> Result<(), Fail> {
-    let schema = schema_of(rt.alloc(), &[("Weapon", WEAPON)], &[])?;
-    let rows: [(&[u8], &[&str]); 3] = [
-        (
-            AXE,
-            &[
-                "root: table Weapon",
-                "root.name = \"Axe\"",
-                "root.damage = 24",
-            ],
-        ),
-        (
-            UNENDED,
-            &[
-                "root: table Weapon",
-                "root.name ! Missing null terminator",
-                "root.damage = 24",
-            ],
-        ),
-        (&[0, 0, 0], &["root ! Invalid offset"]),
-    ];
-    for (bytes, lines) in rows {
-        assert!(rt; dumps_lines(rt.alloc(), &schema, bytes, 3, lines));
+fn weapons(rt: HostRuntime) {
+    for (bytes, lines) in WEAPON_ROWS {
+        assert!(rt; dumps_lines(rt.alloc(), WEAPONS, bytes, 3, lines));
     }
-    Ok(())
 }
 
 #[test]
-fn a_monster(rt: HostRuntime) -> Result<(), Fail> {
-    let tables = [("Weapon", WEAPON), ("Monster", MONSTER)];
-    let schema = schema_of(rt.alloc(), &tables, &[&[(1, 0)]])?;
+fn a_monster(rt: HostRuntime) {
     let lines = [
         "root: table Monster",
         "root.hp = 80",
@@ -148,15 +151,11 @@ fn a_monster(rt: HostRuntime) -> Result<(), Fail> {
         "root.equipped.name = \"Axe\"",
         "root.equipped.damage = 24",
     ];
-    assert!(rt; dumps_lines(rt.alloc(), &schema, ORC, 11, &lines));
-    assert!(rt; is_refused(rt.alloc(), &schema, ORC, 10, DumpError::TooManyLines));
-    Ok(())
+    assert!(rt; dumps_lines(rt.alloc(), MONSTERS, ORC, 11, &lines));
+    assert!(rt; is_refused(rt.alloc(), MONSTERS, ORC, 10, DumpError::TooManyLines));
 }
 
 #[test]
-fn every_kind(rt: HostRuntime) -> Result<(), Fail> {
-    let tables: [(&str, &[FieldParts<'static>]); 2] = [("Empty", &[]), ("Kinds", KINDS)];
-    let schema = schema_of(rt.alloc(), &tables, &[&[(1, 0)]])?;
-    assert!(rt; dumps_lines(rt.alloc(), &schema, EVERY_KIND, usize::MAX, &EVERY_LINE));
-    Ok(())
+fn every_kind(rt: HostRuntime) {
+    assert!(rt; dumps_lines(rt.alloc(), PARTS, EVERY_KIND, usize::MAX, &EVERY_LINE));
 }

@@ -1,6 +1,6 @@
 //! Deep chains, and tables that are named often.
 
-use super::{FieldParts, dumps_lines, is_refused, schema_of};
+use super::{FieldParts, SchemaParts, dumps_lines, is_refused, schema_of};
 use planus_dump::{DumpError, Item, Kind, dump};
 use std::alloc::{AllocError, Global};
 use std::test::Fail;
@@ -13,22 +13,35 @@ const TWIN: &[FieldParts<'static>] = &[
     (1, "right", Kind::One(Item::Table(0))),
 ];
 
+const NODES: SchemaParts<'static> = (&[("Node", NODE)], &[]);
+
+const TWINS: SchemaParts<'static> = (&[("Twin", TWIN)], &[]);
+
 // The end of a buffer: a vtable of 8 bytes for tables of 12 with fields at 4 and at 8, and a vtable
 // without slots, for the last table. A vtable lies behind the table that names its own.
 const VTABLES: &[u8] = b"\x08\0\x0c\0\x04\0\x08\0\x04\0\x04\0";
 
 // A buffer of so many tables and one more: in each but the last, both fields lead to the next one.
 fn chain(alloc: Global, tables: u32) -> Result<Vec<u8>, AllocError> {
-    let mut bytes = Vec::from_slice(alloc, &4u32.to_le_bytes())?;
+    let mut bytes = Vec::new(alloc);
+    push_chain(&mut bytes, tables)?;
+    Ok(bytes)
+}
+
+fn push_word(bytes: &mut Vec<u8>, word: u32) -> Result<(), AllocError> {
+    bytes.extend_from_slice(&word.to_le_bytes())
+}
+
+fn push_chain(bytes: &mut Vec<u8>, tables: u32) -> Result<(), AllocError> {
+    push_word(bytes, 4)?;
     for i in 0..tables {
         let behind = 12u32.wrapping_mul(tables - i).wrapping_add(4);
-        bytes.extend_from_slice(&0u32.wrapping_sub(behind).to_le_bytes())?;
-        bytes.extend_from_slice(&8u32.to_le_bytes())?;
-        bytes.extend_from_slice(&4u32.to_le_bytes())?;
+        push_word(bytes, 0u32.wrapping_sub(behind))?;
+        push_word(bytes, 8)?;
+        push_word(bytes, 4)?;
     }
-    bytes.extend_from_slice(&0u32.wrapping_sub(12).to_le_bytes())?;
-    bytes.extend_from_slice(VTABLES)?;
-    Ok(bytes)
+    push_word(bytes, 0u32.wrapping_sub(12))?;
+    bytes.extend_from_slice(VTABLES)
 }
 
 // Whether a chain of so many tables and one more has so many lines.
@@ -36,7 +49,7 @@ fn has_lines(alloc: Global, tables: u32, expected: usize) -> bool {
     let Ok(bytes) = chain(alloc, tables) else {
         return false;
     };
-    let Ok(schema) = schema_of(alloc, &[("Node", NODE)], &[]) else {
+    let Ok(schema) = schema_of(alloc, NODES) else {
         return false;
     };
     match dump(alloc, &schema, bytes.as_slice(), 10000) {
@@ -55,17 +68,15 @@ fn chains(rt: HostRuntime) {
 #[test]
 fn a_short_chain(rt: HostRuntime) -> Result<(), Fail> {
     let bytes = chain(rt.alloc(), 1)?;
-    let schema = schema_of(rt.alloc(), &[("Node", NODE)], &[])?;
     let lines = ["root: table Node", "root.next: table Node"];
-    assert!(rt; dumps_lines(rt.alloc(), &schema, bytes.as_slice(), 2, &lines));
+    assert!(rt; dumps_lines(rt.alloc(), NODES, bytes.as_slice(), 2, &lines));
     Ok(())
 }
 
 #[test]
 fn a_table_named_twice_by_each_of_40(rt: HostRuntime) -> Result<(), Fail> {
     let bytes = chain(rt.alloc(), 40)?;
-    let schema = schema_of(rt.alloc(), &[("Twin", TWIN)], &[])?;
     let error = DumpError::TooManyLines;
-    assert!(rt; is_refused(rt.alloc(), &schema, bytes.as_slice(), 10000, error));
+    assert!(rt; is_refused(rt.alloc(), TWINS, bytes.as_slice(), 10000, error));
     Ok(())
 }

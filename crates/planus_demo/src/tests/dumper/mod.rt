@@ -14,6 +14,9 @@ pub type FieldParts<'a> = (usize, &'a str, Kind);
 
 pub type TableParts<'a> = (&'a str, &'a [FieldParts<'a>]);
 
+// A schema: its tables, of which the last is the root's, and its unions.
+pub type SchemaParts<'a> = (&'a [TableParts<'a>], &'a [&'a [(u8, usize)]]);
+
 // The weapons and monsters of the worked buffers.
 pub const WEAPON: &[FieldParts<'static>] = &[
     (0, "name", Kind::One(Item::Text)),
@@ -56,12 +59,7 @@ fn unions_of(alloc: Global, parts: &[&[(u8, usize)]]) -> Result<Vec<Vec<(u8, usi
     Ok(unions)
 }
 
-// A schema whose root is the last of these tables.
-pub fn schema_of(
-    alloc: Global,
-    tables: &[TableParts<'_>],
-    unions: &[&[(u8, usize)]],
-) -> Result<Schema, AllocError> {
+pub fn schema_of(alloc: Global, (tables, unions): SchemaParts<'_>) -> Result<Schema, AllocError> {
     Ok(Schema {
         tables: tables_of(alloc, tables)?,
         unions: unions_of(alloc, unions)?,
@@ -70,38 +68,53 @@ pub fn schema_of(
 }
 
 pub fn are_lines(lines: &[String], expected: &[&str]) -> bool {
-    for (line, text) in lines.iter().zip(expected) {
-        if line.as_str() != *text {
+    let mut texts = expected.iter();
+    for line in lines {
+        if !matches!(texts.next(), Some(text) if line.as_str() == *text) {
             return false;
         }
     }
-    lines.len() == expected.len()
+    texts.next().is_none()
 }
 
-// Whether a dump has exactly these lines.
-pub fn dumps_lines(
+// Whether a dump has exactly these lines, or is refused so.
+fn dumps(
     alloc: Global,
     schema: &Schema,
+    bytes: &[u8],
+    budget: usize,
+    expected: Result<&[&str], DumpError>,
+) -> bool {
+    match dump(alloc, schema, bytes, budget) {
+        Ok(lines) => matches!(expected, Ok(texts) if are_lines(lines.as_slice(), texts)),
+        Err(error) => expected == Err(error),
+    }
+}
+
+// Whether a dump by the schema of these parts has exactly these lines.
+pub fn dumps_lines(
+    alloc: Global,
+    parts: SchemaParts<'_>,
     bytes: &[u8],
     budget: usize,
     expected: &[&str],
 ) -> bool {
-    match dump(alloc, schema, bytes, budget) {
-        Ok(lines) => are_lines(lines.as_slice(), expected),
+    match schema_of(alloc, parts) {
+        Ok(schema) => dumps(alloc, &schema, bytes, budget, Ok(expected)),
         Err(_) => false,
     }
 }
 
-// Whether a dump is refused so.
+// Whether it is refused so.
 pub fn is_refused(
     alloc: Global,
-    schema: &Schema,
+    parts: SchemaParts<'_>,
     bytes: &[u8],
     budget: usize,
     expected: DumpError,
 ) -> bool {
-    match dump(alloc, schema, bytes, budget) {
-        Ok(_) => false,
-        Err(error) => error == expected,
+    match schema_of(alloc, parts) {
+        Ok(schema) => dumps(alloc, &schema, bytes, budget, Err(expected)),
+        Err(_) => false,
     }
 }

@@ -1,48 +1,51 @@
 //! A schema with each fault.
 
-use super::{TableParts, is_refused, schema_of};
+use super::{SchemaParts, TableParts, is_refused};
 use planus_dump::{DumpError, Item, Kind};
 use std::alloc::Global;
 
 // Whether a schema of these parts is bad.
-fn is_bad(alloc: Global, tables: &[TableParts<'_>], unions: &[&[(u8, usize)]]) -> bool {
-    match schema_of(alloc, tables, unions) {
-        Ok(schema) => is_refused(alloc, &schema, &[0, 0, 0], 9, DumpError::BadSchema),
-        Err(_) => false,
-    }
+fn is_bad(alloc: Global, parts: SchemaParts<'_>) -> bool {
+    is_refused(alloc, parts, &[0, 0, 0], 9, DumpError::BadSchema)
 }
+
+const BAD_TABLES: &[&[TableParts<'static>]] = &[
+    &[],
+    &[("", &[])],
+    &[("A-B", &[])],
+    &[("\u{c4}", &[])],
+    &[("A", &[(0, "", Kind::U8)])],
+    &[("A", &[(0, "a b", Kind::U8)])],
+    &[("A", &[(0, "a", Kind::One(Item::Table(1)))])],
+    &[("A", &[(0, "a", Kind::List(Item::Table(1)))])],
+];
 
 #[test]
 fn bad_tables(rt: HostRuntime) {
-    let rows: [&[TableParts<'static>]; 8] = [
-        &[],
-        &[("", &[])],
-        &[("A-B", &[])],
-        &[("\u{c4}", &[])],
-        &[("A", &[(0, "", Kind::U8)])],
-        &[("A", &[(0, "a b", Kind::U8)])],
-        &[("A", &[(0, "a", Kind::One(Item::Table(1)))])],
-        &[("A", &[(0, "a", Kind::List(Item::Table(1)))])],
-    ];
-    for tables in rows {
-        assert!(rt; is_bad(rt.alloc(), tables, &[]));
+    for tables in BAD_TABLES {
+        assert!(rt; is_bad(rt.alloc(), (tables, &[])));
     }
 }
 
+const ONE: &[TableParts<'static>] = &[("A", &[(0, "a", Kind::Union(1))])];
+
+const MANY: &[TableParts<'static>] = &[("A", &[(0, "a", Kind::UnionVector(1))])];
+
+const GOOD: &[TableParts<'static>] = &[("A_1z", &[(0, "_", Kind::Union(0))])];
+
+// The tables of a schema, its union, and whether it is bad.
+const UNIONS: &[(&[TableParts<'static>], &[(u8, usize)], bool)] = &[
+    (ONE, &[(1, 0)], true),
+    (MANY, &[(1, 0)], true),
+    (GOOD, &[(0, 0)], true),
+    (GOOD, &[(1, 0), (2, 0), (1, 0)], true),
+    (GOOD, &[(1, 1)], true),
+    (GOOD, &[(1, 0), (2, 0)], false),
+];
+
 #[test]
 fn bad_unions(rt: HostRuntime) {
-    let one: &[TableParts<'static>] = &[("A", &[(0, "a", Kind::Union(1))])];
-    let many: &[TableParts<'static>] = &[("A", &[(0, "a", Kind::UnionVector(1))])];
-    let good: &[TableParts<'static>] = &[("A_1z", &[(0, "_", Kind::Union(0))])];
-    let rows: [(&[TableParts<'static>], &[(u8, usize)], bool); 6] = [
-        (one, &[(1, 0)], true),
-        (many, &[(1, 0)], true),
-        (good, &[(0, 0)], true),
-        (good, &[(1, 0), (2, 0), (1, 0)], true),
-        (good, &[(1, 1)], true),
-        (good, &[(1, 0), (2, 0)], false),
-    ];
-    for (tables, variants, bad) in rows {
-        assert!(rt; is_bad(rt.alloc(), tables, &[variants]) == bad);
+    for (tables, variants, bad) in UNIONS {
+        assert!(rt; is_bad(rt.alloc(), (tables, &[variants])) == *bad);
     }
 }

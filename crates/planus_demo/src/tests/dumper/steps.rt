@@ -2,12 +2,19 @@
 
 use super::{WEAPON, are_lines, schema_of};
 use planus::{Caches, Field, FieldValue, ReplayError, Step, Why};
-use planus_dump::{DumpError, DumpRunError, Schema, dump_run};
+use planus_dump::{DumpError, DumpRunError, dump_run};
 use std::alloc::{AllocError, Global};
-use std::test::Fail;
 
 // The steps of a weapon with the name `Axe` and a damage of 24, and so many finishes of it.
 fn weapon(alloc: Global, finishes: usize) -> Result<Vec<Step>, AllocError> {
+    let mut steps = Vec::new(alloc);
+    steps.push(Step::Text(String::from_str(alloc, "Axe")?))?;
+    steps.push(Step::Table(fields(alloc)?))?;
+    push_finishes(&mut steps, finishes)?;
+    Ok(steps)
+}
+
+fn fields(alloc: Global) -> Result<Vec<Field>, AllocError> {
     let (name, damage) = (
         FieldValue::Ref(0),
         FieldValue::Number {
@@ -19,33 +26,48 @@ fn weapon(alloc: Global, finishes: usize) -> Result<Vec<Step>, AllocError> {
     for (slot, value) in [(0, name), (1, damage)] {
         fields.push(Field { slot, value })?;
     }
-    let mut steps = Vec::new(alloc);
-    steps.push(Step::Text(String::from_str(alloc, "Axe")?))?;
-    steps.push(Step::Table(fields))?;
+    Ok(fields)
+}
+
+fn push_finishes(steps: &mut Vec<Step>, finishes: usize) -> Result<(), AllocError> {
     for _ in 0..finishes {
         steps.push(Step::Finish { root: 1, id: None })?;
     }
-    Ok(steps)
+    Ok(())
 }
 
-// Whether these steps dump these lines; none where they finish nothing.
+// Whether these steps dump these lines by the schema of weapons; none where they finish nothing.
 fn dumps(
     alloc: Global,
-    schema: &Schema,
     steps: &[Step],
     budget: usize,
     want: Result<&[&str], DumpRunError>,
 ) -> bool {
-    match dump_run(alloc, Caches::all(), steps, schema, budget) {
+    let Ok(schema) = schema_of(alloc, (&[("Weapon", WEAPON)], &[])) else {
+        return false;
+    };
+    match dump_run(alloc, Caches::all(), steps, &schema, budget) {
         Ok(Some(lines)) => matches!(want, Ok(texts) if are_lines(lines.as_slice(), texts)),
         Ok(None) => matches!(want, Ok([])),
         Err(error) => want == Err(error),
     }
 }
 
+// Whether a weapon with so many finishes does.
+fn weapon_dumps(
+    alloc: Global,
+    finishes: usize,
+    budget: usize,
+    want: Result<&[&str], DumpRunError>,
+) -> bool {
+    match weapon(alloc, finishes) {
+        Ok(steps) => dumps(alloc, steps.as_slice(), budget, want),
+        Err(_) => false,
+    }
+}
+
 #[test]
-fn weapons_are_dumped(rt: HostRuntime) -> Result<(), Fail> {
-    let schema = schema_of(rt.alloc(), &[("Weapon", WEAPON)], &[])?;
+fn weapons_are_dumped(rt: HostRuntime) {
     let lines: &[&str] = &[
         "root: table Weapon",
         "root.name = \"Axe\"",
@@ -58,11 +80,9 @@ fn weapons_are_dumped(rt: HostRuntime) -> Result<(), Fail> {
         (1, 2, Err(DumpRunError::Dump(DumpError::TooManyLines))),
     ];
     for (finishes, budget, want) in rows {
-        let steps = weapon(rt.alloc(), finishes)?;
-        assert!(rt; dumps(rt.alloc(), &schema, steps.as_slice(), budget, want));
+        assert!(rt; weapon_dumps(rt.alloc(), finishes, budget, want));
     }
     let (bad, why) = ([Step::Finish { root: 0, id: None }], Why::NoSuchStep);
     let want = Err(DumpRunError::Replay(ReplayError::BadStep { step: 0, why }));
-    assert!(rt; dumps(rt.alloc(), &schema, &bad, 3, want));
-    Ok(())
+    assert!(rt; dumps(rt.alloc(), &bad, 3, want));
 }
