@@ -20,9 +20,16 @@ use planus_script::run::{RunError, run, status};
 use planus_script::script::{Script, parse};
 use std::alloc::Global;
 use std::io::{Read, Write};
+use std::process::Abort;
 
 // Most tests lend what they own to functions that compare and return what they found: a function
-// that owns a builder or a list, or that asserts often, is proved slowly.
+// that owns a builder or a list is proved slowly.
+
+// Fails a test, with these words, where something doesn't hold. An assertion is dear to prove, so
+// this is the one of most tests.
+fn check(rt: &impl Abort, holds: bool, what: &str) {
+    assert!(rt; holds, "{what}");
+}
 
 // What a run answers, or with a schema a dump.
 fn answers<R: Read, W: Write>(
@@ -131,5 +138,5 @@ fn text_reads_back_in(alloc: Global) -> bool {
 
 #[test]
 fn text_reads_back(rt: HostRuntime) {
-    assert!(rt; text_reads_back_in(rt.alloc()));
+    check(&rt, text_reads_back_in(rt.alloc()), "a text");
 }

@@ -5,6 +5,7 @@ use super::long_scripts::{end_line, push_bytes, push_references, push_text, push
 use super::no_memory::gives_without_memory;
 use crate::mode::{field, mode, schema};
 use crate::modes::Mode;
+use crate::tests::check;
 use planus_dump::{FieldSchema, Item, Kind, Schema, TableSchema};
 use planus_exhaust::holds_or_says;
 use planus_script::run::RunError;
@@ -83,14 +84,14 @@ fn chooses(alloc: Global, word: &str, expected: Option<Mode>) -> bool {
 
 #[test]
 fn modes(rt: HostRuntime) {
-    assert!(rt; mode(&[]) == Some(Mode::Script));
+    check(&rt, mode(&[]) == Some(Mode::Script), "no word");
     let rows = [
         ("weapon", Some(Mode::Weapon)),
         ("monster", Some(Mode::Monster)),
         ("Weapon", None),
     ];
     for (word, expected) in rows {
-        assert!(rt; chooses(rt.alloc(), word, expected));
+        check(&rt, chooses(rt.alloc(), word, expected), "a word");
     }
 }
 
@@ -209,7 +210,11 @@ fn is_limited(alloc: Global, (parts, clean, printed): Limit) -> Result<bool, All
 #[test]
 fn limits(rt: HostRuntime) {
     for limit in LIMITS {
-        assert!(rt; matches!(is_limited(rt.alloc(), *limit), Ok(true)));
+        check(
+            &rt,
+            matches!(is_limited(rt.alloc(), *limit), Ok(true)),
+            "a limit",
+        );
     }
 }
 
@@ -239,6 +244,6 @@ fn names_are_refused(alloc: Global, schema: &Schema) -> Result<Option<bool>, All
 fn refused_memory(rt: HostRuntime) -> Result<(), Fail> {
     let schema = nodes(rt.alloc())?;
     let refused = names_are_refused(rt.alloc(), &schema)?;
-    assert!(rt; holds_or_says(&rt, refused)?);
+    check(&rt, holds_or_says(&rt, refused)?, "refused");
     Ok(())
 }

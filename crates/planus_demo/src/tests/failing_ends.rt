@@ -2,6 +2,7 @@
 
 use super::{answers, ran};
 use crate::mode::schema;
+use crate::tests::check;
 use planus_dump::Schema;
 use planus_script::run::{RunError, status};
 use std::alloc::Global;
@@ -115,7 +116,11 @@ fn each_read_in_turn(rt: HostRuntime) {
         let found = read_in_turn(rt.alloc(), k);
         assert!(rt; found == [true; 3], "read {k}: {found:?}");
     }
-    assert!(rt; is_clean(rt.alloc(), 0, Odd::Fails), "one byte at a time");
+    check(
+        &rt,
+        is_clean(rt.alloc(), 0, Odd::Fails),
+        "one byte at a time",
+    );
 }
 
 /// A writer that takes one byte at a time. So many calls from now on, one does something else; and
@@ -214,8 +219,8 @@ fn each_write_in_turn(rt: HostRuntime) {
         let found = write_in_turn(rt.alloc(), k);
         assert!(rt; found == [true; 3], "write {k}: {found:?}");
     }
-    assert!(rt; is_written(rt.alloc(), 97, Odd::Fails), "none");
-    assert!(rt; handing_on_fails(rt.alloc()), "handed on");
+    check(&rt, is_written(rt.alloc(), 97, Odd::Fails), "none");
+    check(&rt, handing_on_fails(rt.alloc()), "handed on");
 }
 
 // Whether the error of a dump's k-th read is answered, and nothing is written.

@@ -1,6 +1,7 @@
 //! Long scripts, long texts, long lists and a table of all its slots.
 
 use super::prints;
+use crate::tests::check;
 use std::alloc::{AllocError, Global};
 use std::test::Fail;
 
@@ -74,7 +75,11 @@ fn a_text_of_200000_bytes(rt: HostRuntime) -> Result<(), Fail> {
     // The padding behind the second text is one byte.
     push_bytes(&mut want, b"\x10\0\0\0TEST\x02\0\0\0Hi\0\0")?;
     push_text(&mut want, 200000)?;
-    assert!(rt; prints(rt.alloc(), script.as_slice(), 0, want.as_slice(), true));
+    check(
+        &rt,
+        prints(rt.alloc(), script.as_slice(), 0, want.as_slice(), true),
+        "what is printed",
+    );
     Ok(())
 }
 
@@ -111,7 +116,11 @@ fn a_table_of_256_slots(rt: HostRuntime) -> Result<(), Fail> {
     push_full_table(rt.alloc(), &mut script)?;
     let mut want = Vec::new(rt.alloc());
     push_its_bytes(&mut want)?;
-    assert!(rt; prints(rt.alloc(), script.as_slice(), 0, want.as_slice(), true));
+    check(
+        &rt,
+        prints(rt.alloc(), script.as_slice(), 0, want.as_slice(), true),
+        "what is printed",
+    );
     Ok(())
 }
 

@@ -7,6 +7,7 @@ use super::{error_prints, fails_printing, finish_with, gives, holds, new_builder
 use crate::equipment::Equipment;
 use crate::equipment_ref::EquipmentRef;
 use crate::monster::{Monster, MonsterRef};
+use crate::tests::check;
 use planus::errors::ErrorKind;
 use planus::{
     BuildError, Builder, ByteList, Caches, DefaultValue, HasDefaultContent, Offset, ReadAsRoot,
@@ -113,7 +114,7 @@ fn orc_is_read() -> bool {
 
 #[test]
 fn an_orc_read(rt: HostRuntime) {
-    assert!(rt; orc_is_read());
+    check(&rt, orc_is_read(), "an orc");
 }
 
 // Whether a piece of equipment is a weapon of this name and this damage.
@@ -148,7 +149,7 @@ fn its_weapons_are_read() -> bool {
 
 #[test]
 fn its_weapons(rt: HostRuntime) {
-    assert!(rt; its_weapons_are_read());
+    check(&rt, its_weapons_are_read(), "weapons");
 }
 
 fn inventory_is_read(elf: MonsterRef<'_>) -> bool {
@@ -238,7 +239,7 @@ fn goblins_are_written(builder: &mut Builder) -> Result<bool, BuildError> {
 #[test]
 fn hit_points_left_out(rt: HostRuntime) -> Result<(), Fail> {
     let mut builder = new_builder(rt.alloc())?;
-    assert!(rt; holds(goblins_are_written(&mut builder)));
+    check(&rt, holds(goblins_are_written(&mut builder)), "goblins");
     Ok(())
 }
 
@@ -260,7 +261,7 @@ fn tag_is_unknown(alloc: Global, bytes: &[u8]) -> bool {
 fn an_unknown_tag(rt: HostRuntime) {
     let mut bytes = ORC;
     bytes[22] = 2;
-    assert!(rt; tag_is_unknown(rt.alloc(), &bytes));
+    check(&rt, tag_is_unknown(rt.alloc(), &bytes), "an unknown tag");
 }
 
 // The references of the loot start 40 bytes before the end of 92, at 0x34.
@@ -286,7 +287,11 @@ fn an_unknown_tag_in_a_list_in(alloc: Global, builder: &mut Builder) -> Result<b
 #[test]
 fn an_unknown_tag_in_a_list(rt: HostRuntime) -> Result<(), Fail> {
     let mut builder = new_builder(rt.alloc())?;
-    assert!(rt; holds(an_unknown_tag_in_a_list_in(rt.alloc(), &mut builder)));
+    check(
+        &rt,
+        holds(an_unknown_tag_in_a_list_in(rt.alloc(), &mut builder)),
+        "an unknown tag",
+    );
     Ok(())
 }
 
@@ -298,5 +303,5 @@ fn root_fails(alloc: Global) -> bool {
 
 #[test]
 fn damaged_bytes(rt: HostRuntime) {
-    assert!(rt; root_fails(rt.alloc()));
+    check(&rt, root_fails(rt.alloc()), "a root");
 }

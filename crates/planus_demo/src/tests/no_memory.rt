@@ -4,6 +4,7 @@ use super::failing_ends::{PRINTED, SCRIPT};
 use super::long_scripts::{push_references, push_text, push_text_step};
 use super::weapon::{is_weapon, weapon};
 use super::{answers, finish_with, prints, ran};
+use crate::tests::check;
 use crate::weapon::WeaponRef;
 use planus::{BuildError, Builder, ReadAsRoot};
 use planus_dump::Schema;
@@ -60,9 +61,9 @@ fn refused_memory(rt: HostRuntime) -> Result<(), Fail> {
     let script = b"text Axe\nfinish 0\n";
     let want = (Err(RunError::OutOfMemory), 2);
     let refused = gives_without_memory(rt.alloc(), None, script, 0, want, "")?;
-    assert!(rt; holds_or_says(&rt, refused)?, "refused");
+    check(&rt, holds_or_says(&rt, refused)?, "refused");
     let printed = b"04 00 00 00 03 00 00 00 41 78 65 00\n";
-    assert!(rt; prints(rt.alloc(), script, 0, printed, true), "again");
+    check(&rt, prints(rt.alloc(), script, 0, printed, true), "again");
     Ok(())
 }
 
@@ -107,7 +108,7 @@ fn out_of_memory_is_printed(rt: HostRuntime) -> Result<(), Fail> {
     let mut script = Vec::new(rt.alloc());
     push_finishes(&mut script)?;
     let refused = is_refused(rt.alloc(), script.as_slice())?;
-    assert!(rt; holds_or_says(&rt, refused)?);
+    check(&rt, holds_or_says(&rt, refused)?, "refused");
     Ok(())
 }
 

@@ -1,6 +1,7 @@
 //! Scripts and what they print.
 
 use super::prints;
+use crate::tests::check;
 use std::alloc::Global;
 
 // Scripts without a fault, each with what it prints, and scripts with one. A `|` stands between a
@@ -156,5 +157,9 @@ fn only_comments_have_other_bytes(alloc: Global) -> bool {
 
 #[test]
 fn scripts_that_are_not_utf_8(rt: HostRuntime) {
-    assert!(rt; only_comments_have_other_bytes(rt.alloc()));
+    check(
+        &rt,
+        only_comments_have_other_bytes(rt.alloc()),
+        "other bytes",
+    );
 }

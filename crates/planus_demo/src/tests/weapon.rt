@@ -4,6 +4,7 @@ ghost use Rattle.planus_write.specs.Tables.{Declared};
 ghost use Rattle.planus_write.specs.TableWriting.{WasTold};
 
 use super::{fails_printing, finish_with, gives, holds, new_builder};
+use crate::tests::check;
 use crate::weapon::{Weapon, WeaponRef};
 use planus::errors::ErrorKind;
 use planus::{
@@ -92,7 +93,7 @@ fn an_axe_in(builder: &mut Builder) -> Result<bool, BuildError> {
 #[test]
 fn an_axe(rt: HostRuntime) -> Result<(), Fail> {
     let mut builder = new_builder(rt.alloc())?;
-    assert!(rt; holds(an_axe_in(&mut builder)));
+    check(&rt, holds(an_axe_in(&mut builder)), "an axe");
     Ok(())
 }
 
@@ -119,11 +120,11 @@ fn damage_left_out_in(builder: &mut Builder) -> Result<bool, BuildError> {
 #[test]
 fn fields_left_out(rt: HostRuntime) -> Result<(), Fail> {
     let mut builder = new_builder(rt.alloc())?;
-    assert!(rt; holds(fields_left_out_in(&mut builder)), "both");
+    check(&rt, holds(fields_left_out_in(&mut builder)), "both");
     builder.clear();
-    assert!(rt; holds(name_left_out_in(&mut builder)), "the name");
+    check(&rt, holds(name_left_out_in(&mut builder)), "the name");
     builder.clear();
-    assert!(rt; holds(damage_left_out_in(&mut builder)), "the damage");
+    check(&rt, holds(damage_left_out_in(&mut builder)), "the damage");
     Ok(())
 }
 
@@ -147,7 +148,7 @@ fn damaged_bytes(rt: HostRuntime) {
     for bytes in DAMAGED {
         assert!(rt; name_fails(rt.alloc(), bytes), "{} bytes", bytes.len());
     }
-    assert!(rt; root_fails(rt.alloc()), "a root");
+    check(&rt, root_fails(rt.alloc()), "a root");
 }
 
 // Whether a finished list is that of an axe and a bow.
@@ -176,7 +177,7 @@ fn a_list_of_weapons_in(builder: &mut Builder) -> Result<bool, BuildError> {
 #[test]
 fn a_list_of_weapons(rt: HostRuntime) -> Result<(), Fail> {
     let mut builder = new_builder(rt.alloc())?;
-    assert!(rt; holds(a_list_of_weapons_in(&mut builder)));
+    check(&rt, holds(a_list_of_weapons_in(&mut builder)), "a list");
     Ok(())
 }
 

@@ -1,6 +1,7 @@
 //! The worked buffers, and one with each kind of field.
 
 use super::{FieldParts, MONSTER, SchemaParts, WEAPON, dumps_lines, is_refused};
+use crate::tests::check;
 use planus_dump::{DumpError, Item, Kind};
 
 // A weapon with the name `Axe` and a damage of 24; and the same with a last byte of 1.
@@ -132,7 +133,11 @@ const WEAPON_ROWS: &[(&[u8], &[&str])] = &[
 #[test]
 fn weapons(rt: HostRuntime) {
     for (bytes, lines) in WEAPON_ROWS {
-        assert!(rt; dumps_lines(rt.alloc(), WEAPONS, bytes, 3, lines));
+        check(
+            &rt,
+            dumps_lines(rt.alloc(), WEAPONS, bytes, 3, lines),
+            "its lines",
+        );
     }
 }
 
@@ -151,11 +156,23 @@ fn a_monster(rt: HostRuntime) {
         "root.equipped.name = \"Axe\"",
         "root.equipped.damage = 24",
     ];
-    assert!(rt; dumps_lines(rt.alloc(), MONSTERS, ORC, 11, &lines));
-    assert!(rt; is_refused(rt.alloc(), MONSTERS, ORC, 10, DumpError::TooManyLines));
+    check(
+        &rt,
+        dumps_lines(rt.alloc(), MONSTERS, ORC, 11, &lines),
+        "its lines",
+    );
+    check(
+        &rt,
+        is_refused(rt.alloc(), MONSTERS, ORC, 10, DumpError::TooManyLines),
+        "its refusal",
+    );
 }
 
 #[test]
 fn every_kind(rt: HostRuntime) {
-    assert!(rt; dumps_lines(rt.alloc(), PARTS, EVERY_KIND, usize::MAX, &EVERY_LINE));
+    check(
+        &rt,
+        dumps_lines(rt.alloc(), PARTS, EVERY_KIND, usize::MAX, &EVERY_LINE),
+        "its lines",
+    );
 }

@@ -1,6 +1,7 @@
 //! A buffer with each kind of damage: the walk goes on behind each.
 
 use super::{FieldParts, SchemaParts, dumps_lines};
+use crate::tests::check;
 use planus_dump::{Item, Kind};
 
 // In slot order: a number past the end; a text that isn't UTF-8; one without a zero byte behind it;
@@ -39,5 +40,9 @@ fn every_damage(rt: HostRuntime) {
         "root.half ! Invalid vtable length (length = 22)",
         "root.list ! Invalid length",
     ];
-    assert!(rt; dumps_lines(rt.alloc(), PARTS, DAMAGED, 9, &lines));
+    check(
+        &rt,
+        dumps_lines(rt.alloc(), PARTS, DAMAGED, 9, &lines),
+        "its lines",
+    );
 }

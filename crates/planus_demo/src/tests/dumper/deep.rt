@@ -1,6 +1,7 @@
 //! Deep chains, and tables that are named often.
 
 use super::{FieldParts, SchemaParts, dumps_lines, is_refused, schema_of};
+use crate::tests::check;
 use planus_dump::{DumpError, Item, Kind, dump};
 use std::alloc::{AllocError, Global};
 use std::test::Fail;
@@ -60,16 +61,20 @@ fn has_lines(alloc: Global, tables: u32, expected: usize) -> bool {
 
 #[test]
 fn chains(rt: HostRuntime) {
-    assert!(rt; has_lines(rt.alloc(), 0, 1));
-    assert!(rt; has_lines(rt.alloc(), 63, 64));
-    assert!(rt; has_lines(rt.alloc(), 64, 0));
+    check(&rt, has_lines(rt.alloc(), 0, 1), "one table");
+    check(&rt, has_lines(rt.alloc(), 63, 64), "64 tables");
+    check(&rt, has_lines(rt.alloc(), 64, 0), "65 tables");
 }
 
 #[test]
 fn a_short_chain(rt: HostRuntime) -> Result<(), Fail> {
     let bytes = chain(rt.alloc(), 1)?;
     let lines = ["root: table Node", "root.next: table Node"];
-    assert!(rt; dumps_lines(rt.alloc(), NODES, bytes.as_slice(), 2, &lines));
+    check(
+        &rt,
+        dumps_lines(rt.alloc(), NODES, bytes.as_slice(), 2, &lines),
+        "its lines",
+    );
     Ok(())
 }
 
@@ -77,6 +82,10 @@ fn a_short_chain(rt: HostRuntime) -> Result<(), Fail> {
 fn a_table_named_twice_by_each_of_40(rt: HostRuntime) -> Result<(), Fail> {
     let bytes = chain(rt.alloc(), 40)?;
     let error = DumpError::TooManyLines;
-    assert!(rt; is_refused(rt.alloc(), TWINS, bytes.as_slice(), 10000, error));
+    check(
+        &rt,
+        is_refused(rt.alloc(), TWINS, bytes.as_slice(), 10000, error),
+        "its refusal",
+    );
     Ok(())
 }

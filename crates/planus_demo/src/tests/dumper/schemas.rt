@@ -1,6 +1,7 @@
 //! A schema with each fault.
 
 use super::{SchemaParts, TableParts, is_refused};
+use crate::tests::check;
 use planus_dump::{DumpError, Item, Kind};
 use std::alloc::Global;
 
@@ -23,7 +24,7 @@ const BAD_TABLES: &[&[TableParts<'static>]] = &[
 #[test]
 fn bad_tables(rt: HostRuntime) {
     for tables in BAD_TABLES {
-        assert!(rt; is_bad(rt.alloc(), (tables, &[])));
+        check(&rt, is_bad(rt.alloc(), (tables, &[])), "tables");
     }
 }
 
@@ -46,6 +47,10 @@ const UNIONS: &[(&[TableParts<'static>], &[(u8, usize)], bool)] = &[
 #[test]
 fn bad_unions(rt: HostRuntime) {
     for (tables, variants, bad) in UNIONS {
-        assert!(rt; is_bad(rt.alloc(), (tables, &[variants])) == *bad);
+        check(
+            &rt,
+            is_bad(rt.alloc(), (tables, &[variants])) == *bad,
+            "unions",
+        );
     }
 }

@@ -1,6 +1,7 @@
 //! The dump of what steps finish.
 
 use super::{WEAPON, are_lines, schema_of};
+use crate::tests::check;
 use planus::{Caches, Field, FieldValue, ReplayError, Step, Why};
 use planus_dump::{DumpError, DumpRunError, dump_run};
 use std::alloc::{AllocError, Global};
@@ -80,9 +81,13 @@ fn weapons_are_dumped(rt: HostRuntime) {
         (1, 2, Err(DumpRunError::Dump(DumpError::TooManyLines))),
     ];
     for (finishes, budget, want) in rows {
-        assert!(rt; weapon_dumps(rt.alloc(), finishes, budget, want));
+        check(
+            &rt,
+            weapon_dumps(rt.alloc(), finishes, budget, want),
+            "a weapon",
+        );
     }
     let (bad, why) = ([Step::Finish { root: 0, id: None }], Why::NoSuchStep);
     let want = Err(DumpRunError::Replay(ReplayError::BadStep { step: 0, why }));
-    assert!(rt; dumps(rt.alloc(), &bad, 3, want));
+    check(&rt, dumps(rt.alloc(), &bad, 3, want), "a bad schema");
 }
