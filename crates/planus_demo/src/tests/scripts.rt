@@ -5,8 +5,8 @@ use crate::tests::check;
 use std::alloc::Global;
 
 // Scripts without a fault, each with what it prints, and scripts with one. A `|` stands between a
-// script and what it prints, and a `;` between two of these rows: in a text, and not a list of texts,
-// since what a function has of constants is written out in its proof.
+// script and what it prints, and a `;` between two of these rows. They are in a text, and not in a
+// list, since a list of constants is written out in the proof of the function that has it.
 const CLEAN: &str = "\
     |;\
     text Axe\nfinish 0\n|04 00 00 00 03 00 00 00 41 78 65 00\n;\
