@@ -6,6 +6,7 @@ ghost use Rattle.planus_back.proofs.Multiples.{divides_multiple};
 
 use super::agreement::same_kind;
 use super::kinds::Pair;
+use super::new_builder;
 use super::tables::One;
 use planus::table_reader::Table;
 use planus::{
@@ -86,7 +87,7 @@ fn the_largest_object_is_written(builder: &mut Builder, item: &[u8]) -> bool {
 #[test]
 fn the_largest_object(rt: HostRuntime) -> Result<(), Fail> {
     let item = vec![in rt.alloc(); 0xa5; 65531]?;
-    let mut builder = Builder::new(rt.alloc())?;
+    let mut builder = new_builder(rt.alloc())?;
     assert!(rt; the_largest_object_is_written(&mut builder, item.as_slice()));
     Ok(())
 }
@@ -131,7 +132,7 @@ fn the_greatest_slot_is_written(builder: &mut Builder) -> bool {
 
 #[test]
 fn the_greatest_slot(rt: HostRuntime) -> Result<(), Fail> {
-    let mut builder = Builder::new(rt.alloc())?;
+    let mut builder = new_builder(rt.alloc())?;
     assert!(rt; the_greatest_slot_is_written(&mut builder));
     Ok(())
 }

@@ -1,6 +1,7 @@
 //! Thousands of different contents of each kind that is shared, each of them written twice.
 
 use super::caches::text_at;
+use super::new_builder;
 use super::settings::Kind;
 use planus::{Builder, Caches, Field, FieldValue, Step, StepPlace, replay};
 use std::alloc::{AllocError, Global};
@@ -162,7 +163,7 @@ fn first_count_that_fails(alloc: Global, builder: &mut Builder) -> Option<usize>
 
 #[test]
 fn few_texts_after_many(rt: HostRuntime) -> Result<(), Fail> {
-    let mut builder = Builder::new(rt.alloc())?;
+    let mut builder = new_builder(rt.alloc())?;
     let failed = first_count_that_fails(rt.alloc(), &mut builder);
     assert!(rt; failed.is_none(), "{failed:?} texts");
     Ok(())

@@ -26,10 +26,26 @@ mod tables;
 mod unions;
 mod without_memory;
 
+use planus::{BuildError, Builder, Caches};
+use std::alloc::Global;
 use std::process::Abort;
 
 // Fails a test, with these words, where something doesn't hold. An assertion is dear to prove, so
 // this is the one of many tests.
 fn check(rt: &impl Abort, holds: bool, what: &str) {
     assert!(rt; holds, "{what}");
+}
+
+// A builder in a box: what a function owns is written out with its type at each step of its proof,
+// and the type of a builder, with three caches, is long.
+fn with_caches(alloc: Global, caches: Caches) -> Result<Box<Builder>, BuildError> {
+    match Box::new(alloc, Builder::with_caches(alloc, 0, caches)?) {
+        Ok(builder) => Ok(builder),
+        Err(_) => Err(BuildError::OutOfMemory),
+    }
+}
+
+// The same with all caches.
+fn new_builder(alloc: Global) -> Result<Box<Builder>, BuildError> {
+    with_caches(alloc, Caches::all())
 }

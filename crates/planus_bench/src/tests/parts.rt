@@ -3,6 +3,7 @@ ghost use Rattle.std.specs.Prelude.{◌≡◌, length, replicate, ⊤, ◌%◌};
 ghost use Rattle.std.specs.Int.{w32, to_le_bytes};
 
 use super::alignments::mask_of;
+use super::new_builder;
 use planus::{BuildError, Builder, Fill};
 use planus_back::Promises;
 use std::alloc::{AllocError, Global};
@@ -126,7 +127,7 @@ fn a_filler_is_told_its_place(builder: &mut Builder) -> Result<bool, BuildError>
 
 #[test]
 fn parts(rt: HostRuntime) -> Result<(), Fail> {
-    let mut builder = Builder::new(rt.alloc())?;
+    let mut builder = new_builder(rt.alloc())?;
     assert!(rt;
         matches!(parts_and_clear_agree(&mut builder), Ok(true)),
         "and a clear"

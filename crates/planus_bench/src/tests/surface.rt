@@ -1,5 +1,6 @@
 //! The version, what is exported again, and a step that no script has.
 
+use super::new_builder;
 use planus::{
     Builder, Caches, Field, FieldValue, ReplayError, SliceWithStartOffset, Step, TableRead, Why,
     check_version_compatibility, replay,
@@ -31,7 +32,7 @@ fn a_text_is_read_back(builder: &mut Builder) -> bool {
 
 #[test]
 fn a_text_is_written_and_read_back(rt: HostRuntime) -> Result<(), Fail> {
-    let mut builder = Builder::new(rt.alloc())?;
+    let mut builder = new_builder(rt.alloc())?;
     assert!(rt; a_text_is_read_back(&mut builder));
     Ok(())
 }

@@ -1,6 +1,7 @@
 //! Tables with a field of each type, written and read back.
 ghost use Rattle.std.specs.Prelude.{◌≤◌, length};
 
+use super::{new_builder, with_caches};
 use planus::table_reader::Table;
 use planus::{
     BuildError, Builder, ByteList, Caches, ObjectFill, ObjectWriter, Offset, Primitive,
@@ -47,13 +48,13 @@ pub fn put<P: Primitive, T: WriteAsPrimitive<P> + Drop>(
 fn finished<P: Primitive, T: WriteAsPrimitive<P> + Drop>(
     builder: &mut Builder,
     field: T,
-) -> Result<&[u8], Fail>
+) -> Result<&[u8], BuildError>
     requires small { P.SIZE ≤ 8 }
     requires reach { T.reach field ≤ length builder.old.bytes }
 {
     put::<P, T>(builder, field)?;
     let root = builder.current_offset::<()>();
-    Ok(builder.finish(root, None)?)
+    builder.finish(root, None)
 }
 
 // The field in slot 1 of the root, where slots 0 and 2 hold none.
@@ -69,22 +70,30 @@ fn read<'a, T: TableRead<'a>>(bytes: &'a [u8]) -> Result<T, Fail> {
     Ok(table.access_required::<T>(1, "Table", "field")?)
 }
 
+// Whether it is read as this value, where the table was finished.
+fn gives<'a, T: TableRead<'a> + PartialEq + Drop>(
+    finished: Result<&'a [u8], BuildError>,
+    want: T,
+) -> Result<bool, Fail> {
+    Ok(read::<T>(finished?)? == want)
+}
+
 fn unsigned_numbers_read_back(builder: &mut Builder) -> Result<bool, Fail> {
     Ok(
-        read::<u8>(finished::<u8, u8>(builder, 255)?)? == 255
-            && read::<u16>(finished::<u16, u16>(builder, 513)?)? == 513
-            && read::<u32>(finished::<u32, u32>(builder, u32::MAX)?)? == u32::MAX
-            && read::<u64>(finished::<u64, u64>(builder, 1 << 63)?)? == 1 << 63,
+        gives(finished::<u8, u8>(builder, 255), 255u8)?
+            && gives(finished::<u16, u16>(builder, 513), 513u16)?
+            && gives(finished::<u32, u32>(builder, u32::MAX), u32::MAX)?
+            && gives(finished::<u64, u64>(builder, 1 << 63), 1u64 << 63)?,
     )
 }
 
 fn signed_numbers_read_back(builder: &mut Builder) -> Result<bool, Fail> {
     Ok(
-        read::<i8>(finished::<i8, i8>(builder, -1)?)? == -1
-            && read::<i16>(finished::<i16, i16>(builder, -2)?)? == -2
-            && read::<i32>(finished::<i32, i32>(builder, i32::MIN)?)? == i32::MIN
-            && read::<i64>(finished::<i64, i64>(builder, -3)?)? == -3
-            && read::<bool>(finished::<bool, bool>(builder, true)?)?,
+        gives(finished::<i8, i8>(builder, -1), -1i8)?
+            && gives(finished::<i16, i16>(builder, -2), -2i16)?
+            && gives(finished::<i32, i32>(builder, i32::MIN), i32::MIN)?
+            && gives(finished::<i64, i64>(builder, -3), -3i64)?
+            && gives(finished::<bool, bool>(builder, true), true)?,
     )
 }
 
@@ -121,7 +130,7 @@ fn fields_read_back(builder: &mut Builder) -> Result<[bool; 5], Fail> {
 
 #[test]
 fn a_field_of_each_type(rt: HostRuntime) -> Result<(), Fail> {
-    let mut builder = Builder::new(rt.alloc())?;
+    let mut builder = new_builder(rt.alloc())?;
     let found = fields_read_back(&mut builder)?;
     assert!(rt; found == [true; 5], "{found:?}");
     Ok(())
@@ -175,7 +184,7 @@ fn two_tables(rt: HostRuntime) -> Result<(), Fail> {
             vtables,
             ..Caches::all()
         };
-        let mut builder = Builder::with_caches(rt.alloc(), 0, caches)?;
+        let mut builder = with_caches(rt.alloc(), caches)?;
         assert!(rt; two_tables_are(&mut builder, want), "{caches:?}");
     }
     Ok(())

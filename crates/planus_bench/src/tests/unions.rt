@@ -26,14 +26,20 @@ fn tags_and_values(alloc: Global, unions: usize) -> Result<Step, AllocError> {
     Ok(Step::Table(fields))
 }
 
-pub fn two_texts(alloc: Global) -> Result<Vec<Step>, AllocError> {
-    let mut steps = Vec::new(alloc);
+// Adds the two texts, a vector of unions of them, a table of it, and a finish.
+fn push_steps(alloc: Global, steps: &mut Vec<Step>) -> Result<(), AllocError> {
     for letter in ["A", "B"] {
         steps.push(Step::Text(String::from_str(alloc, letter)?))?;
     }
     steps.push(Step::Unions(Vec::from_slice(alloc, &[(1, 0), (2, 1)])?))?;
     steps.push(tags_and_values(alloc, 2)?)?;
     steps.push(Step::Finish { root: 3, id: None })?;
+    Ok(())
+}
+
+pub fn two_texts(alloc: Global) -> Result<Vec<Step>, AllocError> {
+    let mut steps = Vec::new(alloc);
+    push_steps(alloc, &mut steps)?;
     Ok(steps)
 }
 
