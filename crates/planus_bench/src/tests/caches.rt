@@ -2,6 +2,7 @@
 
 use super::settings::Switches;
 use super::tables::{ONE_VTABLE, TWO_VTABLES, put};
+use crate::tests::check;
 use planus::{BuildError, Builder, ByteList, Caches, Field, FieldValue, Step, replay};
 use planus_exhaust::{exhaust, holds_or_says};
 use std::alloc::{AllocError, Global};
@@ -47,7 +48,7 @@ fn equal_vtables_in(alloc: Global) -> Result<bool, AllocError> {
 
 #[test]
 fn equal_vtables(rt: HostRuntime) -> Result<(), Fail> {
-    assert!(rt; equal_vtables_in(rt.alloc())?);
+    check(&rt, equal_vtables_in(rt.alloc())?, "equal vtables");
     Ok(())
 }
 
@@ -155,6 +156,6 @@ fn entries_in_256_bytes(alloc: Global) -> Result<Option<bool>, BuildError> {
 #[test]
 fn entries_with_refused_memory(rt: HostRuntime) -> Result<(), Fail> {
     let refused = entries_in_256_bytes(rt.alloc())?;
-    assert!(rt; holds_or_says(&rt, refused)?);
+    check(&rt, holds_or_says(&rt, refused)?, "refused entries");
     Ok(())
 }

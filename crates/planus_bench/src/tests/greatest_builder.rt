@@ -1,6 +1,7 @@
 //! A builder with as many bytes as there may be.
 
 use super::parts::Repeated;
+use crate::tests::check;
 use planus::{BuildError, Builder};
 use std::alloc::Global;
 use std::test::Fail;
@@ -58,6 +59,6 @@ fn the_greatest_number_of_bytes(rt: HostRuntime) -> Result<(), Fail> {
     if filled.is_none() {
         println!(rt; "there is no memory for it: this test does not apply")?;
     }
-    assert!(rt; filled != Some(false));
+    check(&rt, filled != Some(false), "a filled builder");
     Ok(())
 }

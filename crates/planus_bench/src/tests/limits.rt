@@ -8,6 +8,7 @@ use super::agreement::same_kind;
 use super::kinds::Pair;
 use super::new_builder;
 use super::tables::One;
+use crate::tests::check;
 use planus::table_reader::Table;
 use planus::{
     BuildError, Builder, Primitive, SliceWithStartOffset, TableWriter, TaggedPlace,
@@ -88,7 +89,11 @@ fn the_largest_object_is_written(builder: &mut Builder, item: &[u8]) -> bool {
 fn the_largest_object(rt: HostRuntime) -> Result<(), Fail> {
     let item = vec![in rt.alloc(); 0xa5; 65531]?;
     let mut builder = new_builder(rt.alloc())?;
-    assert!(rt; the_largest_object_is_written(&mut builder, item.as_slice()));
+    check(
+        &rt,
+        the_largest_object_is_written(&mut builder, item.as_slice()),
+        "the largest object is written",
+    );
     Ok(())
 }
 
@@ -133,7 +138,11 @@ fn the_greatest_slot_is_written(builder: &mut Builder) -> bool {
 #[test]
 fn the_greatest_slot(rt: HostRuntime) -> Result<(), Fail> {
     let mut builder = new_builder(rt.alloc())?;
-    assert!(rt; the_greatest_slot_is_written(&mut builder));
+    check(
+        &rt,
+        the_greatest_slot_is_written(&mut builder),
+        "the greatest slot is written",
+    );
     Ok(())
 }
 
@@ -155,7 +164,11 @@ fn slot_is_none(table: Table<'_>, slot: usize) -> bool {
 #[test]
 fn slots_far_behind_a_vtable(rt: HostRuntime) -> Result<(), Fail> {
     let table = Table::from_buffer(SliceWithStartOffset::new(&NUMBER, 0), 0)?;
-    assert!(rt; matches!(table.access::<u16>(0, "T", "m"), Ok(Some(24))));
+    check(
+        &rt,
+        matches!(table.access::<u16>(0, "T", "m"), Ok(Some(24))),
+        "slot 0",
+    );
     for slot in [usize::MAX, usize::MAX / 2, usize::MAX / 2 + 1] {
         assert!(rt; slot_is_none(table, slot), "{slot}");
     }
@@ -168,8 +181,8 @@ fn promises_at_the_greatest_place(rt: HostRuntime) {
     let promises = Promises::new();
     let none = promises.request(2147483647, 0, 0);
     let one = promises.request(2147483647, 1, 0);
-    assert!(rt; matches!(none, Ok((_, 0))), "no byte");
-    assert!(rt; matches!(one, Err(TooLarge)), "one byte");
+    check(&rt, matches!(none, Ok((_, 0))), "no byte");
+    check(&rt, matches!(one, Err(TooLarge)), "one byte");
 }
 
 // The weapon with the name `Axe` and a damage of 24, of which one byte is another.
@@ -219,5 +232,5 @@ fn has_a_name_alone(bytes: &[u8]) -> bool {
 
 #[test]
 fn a_weapon_with_a_shorter_vtable(rt: HostRuntime) {
-    assert!(rt; has_a_name_alone(&weapon(16, 0x06)));
+    check(&rt, has_a_name_alone(&weapon(16, 0x06)), "has a name alone");
 }

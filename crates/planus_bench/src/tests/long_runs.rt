@@ -3,6 +3,7 @@
 use super::plain_run::plain_run;
 use super::runs::{Named, bytes, counts, list, refs, table, text, two_references, unions};
 use super::settings::Switches;
+use crate::tests::check;
 use planus::{Caches, Field, FieldValue, Finished, ReplayError, Step, Why, replay};
 use std::alloc::{AllocError, Global};
 use std::test::Fail;
@@ -184,6 +185,10 @@ fn long_values(alloc: Global) -> Result<Vec<Step>, AllocError> {
 #[test]
 fn values_of_100003_items(rt: HostRuntime) -> Result<(), Fail> {
     let steps = long_values(rt.alloc())?;
-    assert!(rt; replays_agree(rt.alloc(), steps.as_slice())?);
+    check(
+        &rt,
+        replays_agree(rt.alloc(), steps.as_slice())?,
+        "long values",
+    );
     Ok(())
 }

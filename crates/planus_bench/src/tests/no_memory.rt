@@ -3,6 +3,7 @@
 use super::caches::text_at;
 use super::parts::{FOUR_WRITES, last_is, put_four};
 use super::settings::Switches;
+use crate::tests::check;
 use planus::{BuildError, Builder, Caches, Offset, ReplayError, Step, Text, replay};
 use planus_back::{ByteVec, Cache};
 use planus_exhaust::{exhaust, holds_or_says};
@@ -77,7 +78,7 @@ fn builder_goes_on(alloc: Global) -> Result<Option<bool>, BuildError> {
 #[test]
 fn a_builder_with_refused_memory(rt: HostRuntime) -> Result<(), Fail> {
     let goes_on = builder_goes_on(rt.alloc())?;
-    assert!(rt; holds_or_says(&rt, goes_on)?);
+    check(&rt, holds_or_says(&rt, goes_on)?, "a builder");
     Ok(())
 }
 
@@ -121,7 +122,7 @@ fn replay_goes_on(alloc: Global) -> Result<Option<bool>, AllocError> {
 #[test]
 fn a_replay_with_refused_memory(rt: HostRuntime) -> Result<(), Fail> {
     let refused = replay_goes_on(rt.alloc())?;
-    assert!(rt; holds_or_says(&rt, refused)?);
+    check(&rt, holds_or_says(&rt, refused)?, "a replay");
     Ok(())
 }
 
@@ -149,6 +150,6 @@ fn cache_goes_on(alloc: Global) -> Result<Option<bool>, AllocError> {
 #[test]
 fn an_entry_of_a_cache_with_refused_memory(rt: HostRuntime) -> Result<(), Fail> {
     let refused = cache_goes_on(rt.alloc())?;
-    assert!(rt; holds_or_says(&rt, refused)?);
+    check(&rt, holds_or_says(&rt, refused)?, "a cache");
     Ok(())
 }

@@ -4,6 +4,7 @@ ghost use Rattle.planus_back.specs.Padding.{greatest_place};
 ghost use Rattle.planus_back.specs.Pairs.{period, AlignmentsAboveZero, DistancesWithin};
 
 use super::alignments::mask_of;
+use crate::tests::check;
 use planus_back::Promises;
 use planus_back::plain::least_padding;
 use std::alloc::{AllocError, Global};
@@ -143,7 +144,7 @@ fn values_after_each_part(rt: HostRuntime) {
         [10, 2, 8, 5, 8, 15],
         [17, 4, 16, 4, 0, 15],
     ];
-    assert!(rt; values_are(&rows));
+    check(&rt, values_are(&rows), "values are");
 }
 
 // A part of 0 to 5 bytes with an alignment of 1, 2, 4 or 8.
@@ -167,6 +168,6 @@ fn short_lists_as_the_plain_program_has_them(rt: HostRuntime) -> Result<(), Fail
 
 #[test]
 fn alignments_that_no_padding_meets(rt: HostRuntime) {
-    assert!(rt; plainly(3, &[(1, 6), (2, 4)], 1, 1).is_none());
-    assert!(rt; plainly(3, &[(1, 6)], 1, 4) == Some(1));
+    check(&rt, plainly(3, &[(1, 6), (2, 4)], 1, 1).is_none(), "none");
+    check(&rt, plainly(3, &[(1, 6)], 1, 4) == Some(1), "one");
 }

@@ -4,6 +4,7 @@ ghost use Rattle.std.specs.Int.{w32, to_le_bytes};
 
 use super::alignments::mask_of;
 use super::new_builder;
+use crate::tests::check;
 use planus::{BuildError, Builder, Fill};
 use planus_back::Promises;
 use std::alloc::{AllocError, Global};
@@ -128,14 +129,16 @@ fn a_filler_is_told_its_place(builder: &mut Builder) -> Result<bool, BuildError>
 #[test]
 fn parts(rt: HostRuntime) -> Result<(), Fail> {
     let mut builder = new_builder(rt.alloc())?;
-    assert!(rt;
+    check(
+        &rt,
         matches!(parts_and_clear_agree(&mut builder), Ok(true)),
-        "and a clear"
+        "and a clear",
     );
     builder.clear();
-    assert!(rt;
+    check(
+        &rt,
         matches!(a_filler_is_told_its_place(&mut builder), Ok(true)),
-        "places"
+        "places",
     );
     Ok(())
 }
@@ -154,7 +157,11 @@ fn too_large_is_refused(builder: &mut Builder, size: usize) -> Result<bool, Buil
 #[test]
 fn too_large(rt: HostRuntime) -> Result<(), Fail> {
     let mut builder = Builder::with_capacity(rt.alloc(), 64)?;
-    assert!(rt; matches!(too_large_is_refused(&mut builder, 2147483648), Ok(true)));
+    check(
+        &rt,
+        matches!(too_large_is_refused(&mut builder, 2147483648), Ok(true)),
+        "too large is refused",
+    );
     Ok(())
 }
 
@@ -184,7 +191,7 @@ fn delays_are(rows: &[(usize, usize, usize, usize)]) -> bool {
 #[test]
 fn delays_after_clear(rt: HostRuntime) {
     let rows = [(0, 4, 4, 0), (4, 1, 1, 3), (5, 1, 1, 2), (6, 8, 8, 0)];
-    assert!(rt; delays_are(&rows));
+    check(&rt, delays_are(&rows), "delays are");
 }
 
 // The numbers of the test with random sizes.

@@ -4,6 +4,7 @@ use super::plain_run::plain_run;
 use super::read_back::reads_back;
 use super::settings::Switches;
 use super::unions::two_texts;
+use crate::tests::check;
 use planus::{Caches, Field, FieldValue, Finished, Step, replay};
 use std::alloc::{AllocError, Global};
 use std::process::Abort;
@@ -348,9 +349,10 @@ fn runs_in_every_setting(rt: HostRuntime) -> Result<(), Fail> {
     replays_of(&rt, alloc, two_texts(alloc)?)?;
     replays_of(&rt, alloc, repeated(alloc)?)?;
     let mixed = mixed_steps(alloc, 300)?;
-    assert!(rt;
+    check(
+        &rt,
         mixed.len() == 300 && counts(mixed.as_slice()) == (14, 65, 50, 22),
-        "mixed steps"
+        "mixed steps",
     );
     replays_of(&rt, alloc, mixed)
 }

@@ -1,6 +1,7 @@
 //! The version, what is exported again, and a step that no script has.
 
 use super::new_builder;
+use crate::tests::check;
 use planus::{
     Builder, Caches, Field, FieldValue, ReplayError, SliceWithStartOffset, Step, TableRead, Why,
     check_version_compatibility, replay,
@@ -17,7 +18,7 @@ fn this_version_alone(rt: HostRuntime) {
         ("1.3.0", false),
         ("", false),
     ] {
-        assert!(rt; check_version_compatibility(version) == want, "{version}");
+        check(&rt, check_version_compatibility(version) == want, version);
     }
 }
 
@@ -33,7 +34,11 @@ fn a_text_is_read_back(builder: &mut Builder) -> bool {
 #[test]
 fn a_text_is_written_and_read_back(rt: HostRuntime) -> Result<(), Fail> {
     let mut builder = new_builder(rt.alloc())?;
-    assert!(rt; a_text_is_read_back(&mut builder));
+    check(
+        &rt,
+        a_text_is_read_back(&mut builder),
+        "a text is read back",
+    );
     Ok(())
 }
 
@@ -78,11 +83,12 @@ fn prints_its_words(alloc: Global, why: Why) -> bool {
 fn a_width_that_numbers_cannot_have(rt: HostRuntime) -> Result<(), Fail> {
     for in_table in [false, true] {
         let steps = behind_a_text(rt.alloc(), in_table)?;
-        assert!(rt; is_refused(rt.alloc(), steps.as_slice()), "the fault");
+        check(&rt, is_refused(rt.alloc(), steps.as_slice()), "the fault");
     }
-    assert!(rt;
+    check(
+        &rt,
         prints_its_words(rt.alloc(), Why::WidthUnknown),
-        "its words"
+        "its words",
     );
     Ok(())
 }

@@ -2,6 +2,7 @@
 ghost use Rattle.std.specs.Prelude.{◌≤◌, length};
 
 use super::{new_builder, with_caches};
+use crate::tests::check;
 use planus::table_reader::Table;
 use planus::{
     BuildError, Builder, ByteList, Caches, ObjectFill, ObjectWriter, Offset, Primitive,
@@ -148,7 +149,7 @@ fn a_free_slot_is_none(bytes: &[u8]) -> bool {
 #[test]
 fn a_table_with_a_free_slot_between(rt: HostRuntime) {
     let bytes = b"\x04\0\0\0\xf2\xff\xff\xff\x01\0\0\0\0\0\0\0\x02\0\x0a\0\x0d\0\x04\0\0\0\x0c\0";
-    assert!(rt; a_free_slot_is_none(bytes));
+    check(&rt, a_free_slot_is_none(bytes), "a free slot is none");
 }
 
 // Writes a table with one number in slot 0.

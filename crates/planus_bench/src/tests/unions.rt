@@ -2,6 +2,7 @@
 
 use super::plain_run::plain_run;
 use super::settings::Switches;
+use crate::tests::check;
 use planus::{Caches, Field, FieldValue, Finished, Step, StepPlace, replay};
 use std::alloc::{AllocError, Global};
 use std::test::Fail;
@@ -75,13 +76,15 @@ fn runs_plainly_to_two_texts(alloc: Global, steps: &[Step]) -> Result<bool, Fail
 #[test]
 fn two_texts_as_unions(rt: HostRuntime) -> Result<(), Fail> {
     let steps = two_texts(rt.alloc())?;
-    assert!(rt;
+    check(
+        &rt,
         replays_to_two_texts(rt.alloc(), steps.as_slice()),
-        "a replay"
+        "a replay",
     );
-    assert!(rt;
+    check(
+        &rt,
         runs_plainly_to_two_texts(rt.alloc(), steps.as_slice())?,
-        "a plain run"
+        "a plain run",
     );
     Ok(())
 }

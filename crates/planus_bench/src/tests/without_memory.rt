@@ -7,6 +7,7 @@ use super::alignments::mask_of;
 use super::caches::text_at;
 use super::parts::put;
 use super::tables::put_number;
+use crate::tests::check;
 use planus::{
     BuildError, Builder, ByRef, Caches, CopyError, DefaultValue, FromItem, List, Offset, Text,
     UnionOffset, UnionVectorOffset, VectorWrite, WriteAs, WriteAsDefault, WriteAsOffset,
@@ -284,6 +285,6 @@ fn no_call_asks_for_memory(rt: HostRuntime) -> Result<(), Fail> {
         Some(_) => Some(false),
     };
     let wrong = wrong.unwrap_or("");
-    assert!(rt; holds_or_says(&rt, holds)?, "{wrong}");
+    check(&rt, holds_or_says(&rt, holds)?, wrong);
     Ok(())
 }
