@@ -96,8 +96,9 @@ impl Written {
 
     // Puts bytes in front.
     fn put(&mut self, bytes: &[u8]) -> Result<(), AllocError> {
-        for byte in bytes.iter().rev() {
-            self.reversed.push(*byte)?;
+        let len = bytes.len();
+        for i in 0..len {
+            self.reversed.push(bytes[len - 1 - i])?;
         }
         Ok(())
     }
@@ -170,8 +171,9 @@ impl Written {
     fn numbers(&mut self, step: usize, width: u8, items: &[u64]) -> Result<(), Fail> {
         let alignment = if width == 8 { 8 } else { 4 };
         self.pad(items.len().wrapping_mul(width as usize), alignment)?;
-        for item in items.iter().rev() {
-            self.put_number(width, *item)?;
+        let len = items.len();
+        for i in 0..len {
+            self.put_number(width, items[len - 1 - i])?;
         }
         self.put_word(items.len())?;
         self.add(step)
@@ -179,8 +181,9 @@ impl Written {
 
     fn refs(&mut self, step: usize, steps: &[usize]) -> Result<(), Fail> {
         self.pad(steps.len().wrapping_mul(4), 4)?;
-        for named in steps.iter().rev() {
-            self.put_reference(*named)?;
+        let len = steps.len();
+        for i in 0..len {
+            self.put_reference(steps[len - 1 - i])?;
         }
         self.put_word(steps.len())?;
         self.add(step)
@@ -189,8 +192,9 @@ impl Written {
     // The references of unions and their count, of which the distance is answered.
     fn union_references(&mut self, items: &[(u8, usize)]) -> Result<u32, Fail> {
         self.pad(items.len().wrapping_mul(4), 4)?;
-        for (_, named) in items.iter().rev() {
-            self.put_reference(*named)?;
+        let len = items.len();
+        for i in 0..len {
+            self.put_reference(items[len - 1 - i].1)?;
         }
         self.put_word(items.len())?;
         Ok(u32::try_from(self.reversed.len())?)
@@ -199,8 +203,9 @@ impl Written {
     // The same of their tags.
     fn union_tags(&mut self, items: &[(u8, usize)]) -> Result<u32, Fail> {
         self.pad(items.len(), 4)?;
-        for (tag, _) in items.iter().rev() {
-            self.reversed.push(*tag)?;
+        let len = items.len();
+        for i in 0..len {
+            self.reversed.push(items[len - 1 - i].0)?;
         }
         self.put_word(items.len())?;
         Ok(u32::try_from(self.reversed.len())?)
@@ -288,8 +293,9 @@ impl Written {
             alignment = alignment.max(size_of(field));
         }
         self.pad(size, alignment)?;
-        for field in fields.iter().rev() {
-            self.field(&field.value)?;
+        let len = fields.len();
+        for i in 0..len {
+            self.field(&fields[len - 1 - i].value)?;
         }
         let place = self.reversed.len().wrapping_add(4);
         self.put_word(vtable.wrapping_sub(place))?;
@@ -351,8 +357,9 @@ impl Written {
 
     fn given(&self) -> Result<Finished, AllocError> {
         let mut bytes = Vec::new(self.alloc);
-        for byte in self.reversed.iter().rev() {
-            bytes.push(*byte)?;
+        let len = self.reversed.len();
+        for i in 0..len {
+            bytes.push(self.reversed[len - 1 - i])?;
         }
         let places = Vec::from_slice(self.alloc, self.values.as_slice())?;
         Ok(Finished { bytes, places })
@@ -418,8 +425,8 @@ fn take_steps(
     finished: &mut Vec<Finished>,
 ) -> Result<(), Fail> {
     let mut written = Written::nothing(alloc, switches);
-    for (number, step) in steps.iter().enumerate() {
-        written.step(number, step, finished)?;
+    for number in 0..steps.len() {
+        written.step(number, &steps[number], finished)?;
     }
     Ok(())
 }

@@ -100,8 +100,8 @@ impl<'a> Reading<'a> {
     // Whether a list of references stands there, of which each leads to a value that is read later.
     fn has_references(&mut self, place: Place<'a>, steps: &[usize]) -> Result<bool, Fail> {
         let list = place.read::<Vector<'a, Place<'a>>>()?;
-        for (i, step) in steps.iter().enumerate() {
-            if !self.reads_later(list.get(i), *step)? {
+        for i in 0..steps.len() {
+            if !self.reads_later(list.get(i), steps[i])? {
                 return Ok(false);
             }
         }
@@ -111,8 +111,8 @@ impl<'a> Reading<'a> {
     // The same of the references of unions.
     fn has_unions(&mut self, place: Place<'a>, unions: &[(u8, usize)]) -> Result<bool, Fail> {
         let list = place.read::<Vector<'a, Place<'a>>>()?;
-        for (i, (_, step)) in unions.iter().enumerate() {
-            if !self.reads_later(list.get(i), *step)? {
+        for i in 0..unions.len() {
+            if !self.reads_later(list.get(i), unions[i].1)? {
                 return Ok(false);
             }
         }

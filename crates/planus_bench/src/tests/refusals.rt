@@ -59,8 +59,8 @@ type Lengths = (usize, usize);
 
 // Notes that a call was refused at these lengths. Tells whether they are among these.
 fn note(met: &mut [bool; 3], all: &[Lengths], lengths: Lengths) -> bool {
-    for (at, known) in all.iter().enumerate() {
-        if *known == lengths && at < 3 {
+    for at in 0..all.len() {
+        if all[at] == lengths && at < 3 {
             met[at] = true;
             return true;
         }
