@@ -23,7 +23,7 @@ use std::io::{Read, Write};
 use std::process::Abort;
 
 // Most tests lend what they own to functions that compare and return what they found: a function
-// that owns a builder or a list is proved slowly.
+// that owns a builder or a list is proved slowly. So `in_builder` is the one that owns a builder.
 
 // Fails a test, with these words, where something doesn't hold. An assertion is dear to prove, so
 // this is the one of most tests.
@@ -61,18 +61,18 @@ fn prints(alloc: Global, script: &[u8], unread: usize, printed: &[u8], clean: bo
     answer == Ok(clean) && status(&answer) == exit && left == unread && writer.as_slice() == printed
 }
 
-// A builder in a box: what a function owns is written out with its type at each step of its proof,
-// and the type of a builder, with three caches, is long.
-fn with_caches(alloc: Global, caches: Caches) -> Result<Box<Builder>, BuildError> {
-    match Box::new(alloc, Builder::with_caches(alloc, 0, caches)?) {
-        Ok(builder) => Ok(builder),
-        Err(_) => Err(BuildError::OutOfMemory),
+// Whether these calls are all made of a new builder, and give what they should.
+fn in_builder<F: FnOnce(&mut Builder) -> Result<bool, BuildError>>(
+    alloc: Global,
+    caches: Caches,
+    calls: F,
+) -> bool
+    requires { F.IsAlwaysCallable calls }
+{
+    match Builder::with_caches(alloc, 0, caches) {
+        Ok(mut builder) => holds(calls(&mut builder)),
+        Err(_) => false,
     }
-}
-
-// The same with all caches.
-fn new_builder(alloc: Global) -> Result<Box<Builder>, BuildError> {
-    with_caches(alloc, Caches::all())
 }
 
 // Whether the calls were all made, and gave what they should.

@@ -3,7 +3,7 @@
 ghost use Rattle.std.specs.Prelude.{◌≤◌, length, IsTrue};
 
 use super::weapon::{WeaponRow, is_weapon, item_is, weapon};
-use super::{error_prints, fails_printing, finish_with, gives, holds, new_builder, with_caches};
+use super::{error_prints, fails_printing, finish_with, gives, in_builder};
 use crate::equipment::Equipment;
 use crate::equipment_ref::EquipmentRef;
 use crate::monster::{Monster, MonsterRef};
@@ -14,7 +14,6 @@ use planus::{
     TableItem, UnionOffset, UnionVector,
 };
 use std::alloc::Global;
-use std::test::Fail;
 
 // An orc with 80 hit points and one weapon, an axe with a damage of 24, which it has equipped.
 const ORC: [u8; 84] = [
@@ -92,12 +91,11 @@ fn orc_is_written(builder: &mut Builder) -> Result<bool, BuildError> {
 
 // No two texts and no two vtables of an orc are equal.
 #[test]
-fn an_orc_written(rt: HostRuntime) -> Result<(), Fail> {
+fn an_orc_written(rt: HostRuntime) {
     for number in 0..8 {
-        let mut builder = with_caches(rt.alloc(), setting(number))?;
-        assert!(rt; holds(orc_is_written(&mut builder)), "setting {number}");
+        let written = in_builder(rt.alloc(), setting(number), orc_is_written);
+        assert!(rt; written, "setting {number}");
     }
-    Ok(())
 }
 
 // Whether a monster has these hit points and this name.
@@ -193,17 +191,20 @@ fn elf_is_read(builder: &mut Builder) -> Result<bool, BuildError> {
     }
 }
 
+// Whether it is, and again in the same builder.
+fn elf_is_read_twice(builder: &mut Builder) -> Result<bool, BuildError> {
+    let first = elf_is_read(builder)?;
+    builder.clear();
+    Ok(first && elf_is_read(builder)?)
+}
+
 // The weapons of the loot have equal vtables.
 #[test]
-fn inventory_and_loot(rt: HostRuntime) -> Result<(), Fail> {
+fn inventory_and_loot(rt: HostRuntime) {
     for number in 0..8 {
-        let mut builder = with_caches(rt.alloc(), setting(number))?;
-        let first = holds(elf_is_read(&mut builder));
-        builder.clear();
-        let again = holds(elf_is_read(&mut builder));
-        assert!(rt; first && again, "setting {number}");
+        let read = in_builder(rt.alloc(), setting(number), elf_is_read_twice);
+        assert!(rt; read, "setting {number}");
     }
-    Ok(())
 }
 
 // Whether a monster of these bytes has 100 hit points.
@@ -237,10 +238,12 @@ fn goblins_are_written(builder: &mut Builder) -> Result<bool, BuildError> {
 }
 
 #[test]
-fn hit_points_left_out(rt: HostRuntime) -> Result<(), Fail> {
-    let mut builder = new_builder(rt.alloc())?;
-    check(&rt, holds(goblins_are_written(&mut builder)), "goblins");
-    Ok(())
+fn hit_points_left_out(rt: HostRuntime) {
+    check(
+        &rt,
+        in_builder(rt.alloc(), Caches::all(), goblins_are_written),
+        "goblins",
+    );
 }
 
 fn tag_is_unknown(alloc: Global, bytes: &[u8]) -> bool {
@@ -285,14 +288,12 @@ fn an_unknown_tag_in_a_list_in(alloc: Global, builder: &mut Builder) -> Result<b
 }
 
 #[test]
-fn an_unknown_tag_in_a_list(rt: HostRuntime) -> Result<(), Fail> {
-    let mut builder = new_builder(rt.alloc())?;
-    check(
-        &rt,
-        holds(an_unknown_tag_in_a_list_in(rt.alloc(), &mut builder)),
-        "an unknown tag",
-    );
-    Ok(())
+fn an_unknown_tag_in_a_list(rt: HostRuntime) {
+    let alloc = rt.alloc();
+    let unknown = in_builder(alloc, Caches::all(), |builder| {
+        an_unknown_tag_in_a_list_in(alloc, builder)
+    });
+    check(&rt, unknown, "an unknown tag");
 }
 
 // Whether three bytes are no monster.

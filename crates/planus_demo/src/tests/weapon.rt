@@ -3,16 +3,15 @@ ghost use Rattle.std.specs.Prelude.{List};
 ghost use Rattle.planus_write.specs.Tables.{Declared};
 ghost use Rattle.planus_write.specs.TableWriting.{WasTold};
 
-use super::{fails_printing, finish_with, gives, holds, new_builder};
+use super::{fails_printing, finish_with, gives, in_builder};
 use crate::tests::check;
 use crate::weapon::{Weapon, WeaponRef};
 use planus::errors::ErrorKind;
 use planus::{
-    BuildError, Builder, DefaultValue, Error, Offset, ReadAsRoot, SliceWithStartOffset, TableRead,
-    TableWriter, Vector,
+    BuildError, Builder, Caches, DefaultValue, Error, Offset, ReadAsRoot, SliceWithStartOffset,
+    TableRead, TableWriter, Vector,
 };
 use std::alloc::Global;
-use std::test::Fail;
 
 // A weapon: its name and its damage.
 pub type WeaponRow = (Option<&'static str>, i16);
@@ -91,10 +90,12 @@ fn an_axe_in(builder: &mut Builder) -> Result<bool, BuildError> {
 }
 
 #[test]
-fn an_axe(rt: HostRuntime) -> Result<(), Fail> {
-    let mut builder = new_builder(rt.alloc())?;
-    check(&rt, holds(an_axe_in(&mut builder)), "an axe");
-    Ok(())
+fn an_axe(rt: HostRuntime) {
+    check(
+        &rt,
+        in_builder(rt.alloc(), Caches::all(), an_axe_in),
+        "an axe",
+    );
 }
 
 // The word leads to the vtable behind it, which has no slots.
@@ -118,14 +119,15 @@ fn damage_left_out_in(builder: &mut Builder) -> Result<bool, BuildError> {
 }
 
 #[test]
-fn fields_left_out(rt: HostRuntime) -> Result<(), Fail> {
-    let mut builder = new_builder(rt.alloc())?;
-    check(&rt, holds(fields_left_out_in(&mut builder)), "both");
-    builder.clear();
-    check(&rt, holds(name_left_out_in(&mut builder)), "the name");
-    builder.clear();
-    check(&rt, holds(damage_left_out_in(&mut builder)), "the damage");
-    Ok(())
+fn fields_left_out(rt: HostRuntime) {
+    let (alloc, caches) = (rt.alloc(), Caches::all());
+    check(&rt, in_builder(alloc, caches, fields_left_out_in), "both");
+    check(&rt, in_builder(alloc, caches, name_left_out_in), "the name");
+    check(
+        &rt,
+        in_builder(alloc, caches, damage_left_out_in),
+        "the damage",
+    );
 }
 
 // Whether the name isn't read, and the damage is.
@@ -175,10 +177,12 @@ fn a_list_of_weapons_in(builder: &mut Builder) -> Result<bool, BuildError> {
 }
 
 #[test]
-fn a_list_of_weapons(rt: HostRuntime) -> Result<(), Fail> {
-    let mut builder = new_builder(rt.alloc())?;
-    check(&rt, holds(a_list_of_weapons_in(&mut builder)), "a list");
-    Ok(())
+fn a_list_of_weapons(rt: HostRuntime) {
+    check(
+        &rt,
+        in_builder(rt.alloc(), Caches::all(), a_list_of_weapons_in),
+        "a list",
+    );
 }
 
 // Knows of a writer that it was handed that it was told some list of entries.

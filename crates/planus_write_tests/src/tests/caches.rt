@@ -1,9 +1,8 @@
 //! Equal contents, with and without a cache for them.
 
-use super::{holds, new_builder, prepared, stands_at, with_caches};
+use super::{calls_in_builder, holds, in_builder, prepared, stands_at};
 use crate::tests::check;
 use planus_write::{BuildError, Builder, ByteList, Caches, SignedList, Text};
-use std::test::Fail;
 
 // Writes a text twice, where texts are written once or each time.
 fn a_text_twice_in(builder: &mut Builder, on: bool) -> Result<bool, BuildError> {
@@ -24,21 +23,28 @@ fn a_text_after_another(builder: &mut Builder, on: bool) -> Result<bool, BuildEr
     Ok(after_other && stands_at(builder, third, distance, len))
 }
 
+// Both, in one builder.
+fn texts_are_found(builder: &mut Builder, on: bool) -> bool {
+    let twice = holds(a_text_twice_in(builder, on));
+    builder.clear();
+    twice && holds(a_text_after_another(builder, on))
+}
+
 #[test]
-fn a_text_twice(rt: HostRuntime) -> Result<(), Fail> {
+fn a_text_twice(rt: HostRuntime) {
     for (texts, hash_mask) in [(true, u64::MAX), (true, 0), (false, u64::MAX)] {
         let caches = Caches {
             texts,
             hash_mask,
             ..Caches::all()
         };
-        let mut builder = with_caches(rt.alloc(), caches)?;
-        let twice = holds(a_text_twice_in(&mut builder, texts));
-        builder.clear();
-        let after = holds(a_text_after_another(&mut builder, texts));
-        assert!(rt; twice && after, "{caches:?}");
+        let found = in_builder(
+            rt.alloc(),
+            caches,
+            |builder| texts_are_found(builder, texts),
+        );
+        assert!(rt; found, "{caches:?}");
     }
-    Ok(())
 }
 
 fn byte_lists_and_texts_are_apart(builder: &mut Builder) -> Result<bool, BuildError> {
@@ -55,18 +61,9 @@ fn equal_byte_lists_are_one(builder: &mut Builder) -> Result<bool, BuildError> {
 }
 
 #[test]
-fn byte_lists(rt: HostRuntime) -> Result<(), Fail> {
-    let mut builder = new_builder(rt.alloc())?;
-    check(
-        &rt,
-        holds(byte_lists_and_texts_are_apart(&mut builder)),
-        "and texts",
-    );
-    builder.clear();
-    check(
-        &rt,
-        holds(equal_byte_lists_are_one(&mut builder)),
-        "equal ones",
-    );
-    Ok(())
+fn byte_lists(rt: HostRuntime) {
+    let apart = calls_in_builder(rt.alloc(), Caches::all(), byte_lists_and_texts_are_apart);
+    check(&rt, apart, "and texts");
+    let one = calls_in_builder(rt.alloc(), Caches::all(), equal_byte_lists_are_one);
+    check(&rt, one, "equal ones");
 }

@@ -3,7 +3,7 @@
 ghost use Rattle.std.specs.Prelude.{◌≤◌, length};
 ghost use Rattle.planus_write.specs.Unions.{union_reach};
 
-use super::{holds, without_caches};
+use super::{NO_CACHES, calls_in_builder, in_builder};
 use crate::tests::check;
 use planus_fields::{
     DefaultValue, WriteAs, WriteAsDefault, WriteAsDefaultUnionVector, WriteAsOptional,
@@ -13,20 +13,30 @@ use planus_write::{
     BuildError, Builder, ByRef, ByteList, List, Offset, Primitive, SignedList, Text, UnionOffset,
     UnionVectorOffset,
 };
-use std::alloc::Global;
-use std::test::Fail;
+use std::alloc::{AllocError, Global};
 
 // A kind of unions.
 struct Drinks;
 
-// Prepares a field that is always there, of which only the bound is known.
-fn always<P: Primitive, T: WriteAs<P>>(
-    builder: &mut Builder,
-    field: &T,
-) -> Result<T::Prepared, BuildError>
+// Prepares a field that is always there, of which only the bound is known; tells whether it is
+// prepared as this.
+fn always<P: Primitive, T: WriteAs<P>>(builder: &mut Builder, field: &T, want: T::Prepared) -> bool
+where
+    T::Prepared: PartialEq,
     requires { T.may field.now builder.old }
 {
-    field.prepare(builder)
+    matches!(field.prepare(builder), Ok(prepared) if prepared == want)
+}
+
+// The same of one that is written; tells whether it is at this distance.
+fn written<K, T: WriteAs<Offset<K>, Prepared = Offset<K>>>(
+    builder: &mut Builder,
+    field: &T,
+    distance: u32,
+) -> bool
+    requires { T.may field.now builder.old }
+{
+    matches!(field.prepare(builder), Ok(offset) if offset.distance() == distance)
 }
 
 // What a field that may be left out can be.
@@ -126,19 +136,17 @@ fn optional_order_is<X: WriteAsOptionalUnionVector<Drinks>>(
     }
 }
 
-fn numbers_are_prepared(builder: &mut Builder) -> Result<bool, BuildError> {
-    Ok(
-        always::<u8, u8>(builder, &7)? == 7
-            && always::<u16, u16>(builder, &7)? == 7
-            && always::<u32, u32>(builder, &7)? == 7
-            && always::<u64, u64>(builder, &7)? == 7
-            && always::<i8, i8>(builder, &-7)? == -7
-            && always::<i16, i16>(builder, &-7)? == -7
-            && always::<i32, i32>(builder, &-7)? == -7
-            && always::<i64, i64>(builder, &-7)? == -7
-            && always::<bool, bool>(builder, &true)?
-            && builder.is_empty(),
-    )
+fn numbers_are_prepared(builder: &mut Builder) -> bool {
+    always::<u8, u8>(builder, &7, 7)
+        && always::<u16, u16>(builder, &7, 7)
+        && always::<u32, u32>(builder, &7, 7)
+        && always::<u64, u64>(builder, &7, 7)
+        && always::<i8, i8>(builder, &-7, -7)
+        && always::<i16, i16>(builder, &-7, -7)
+        && always::<i32, i32>(builder, &-7, -7)
+        && always::<i64, i64>(builder, &-7, -7)
+        && always::<bool, bool>(builder, &true, true)
+        && builder.is_empty()
 }
 
 fn numbers_are_left_out(builder: &mut Builder) -> bool {
@@ -154,15 +162,11 @@ fn numbers_are_left_out(builder: &mut Builder) -> bool {
 }
 
 #[test]
-fn numbers(rt: HostRuntime) -> Result<(), Fail> {
-    let mut builder = without_caches(rt.alloc())?;
-    check(
-        &rt,
-        holds(numbers_are_prepared(&mut builder)),
-        "always there",
-    );
-    check(&rt, numbers_are_left_out(&mut builder), "left out");
-    Ok(())
+fn numbers(rt: HostRuntime) {
+    let prepared = in_builder(rt.alloc(), NO_CACHES, numbers_are_prepared);
+    check(&rt, prepared, "always there");
+    let left_out = in_builder(rt.alloc(), NO_CACHES, numbers_are_left_out);
+    check(&rt, left_out, "left out");
 }
 
 fn texts_are_left_out(builder: &mut Builder, owned: &String) -> bool {
@@ -172,58 +176,56 @@ fn texts_are_left_out(builder: &mut Builder, owned: &String) -> bool {
         && builder.is_empty()
 }
 
-fn texts_are_there(builder: &mut Builder, owned: &String) -> Result<bool, BuildError> {
-    let text = is_there(defaulted::<Offset<Text>, &str, &str>(builder, &"Axe", &""));
-    let after_text = builder.len() == 8;
-    let second = always::<Offset<Text>, String>(builder, owned)?.distance();
+fn texts_are_there(builder: &mut Builder, owned: &String) -> bool {
     let by_ref = ByRef(owned);
-    Ok(
-        text && after_text
-            && second == 16
-            && is_there(optional::<Offset<Text>, ByRef<'_, String>>(builder, &by_ref))
-            && is_there(defaulted::<Offset<Text>, &str, ByRef<'_, String>>(builder, &by_ref, &""))
-            && builder.len() == 32,
-    )
+    is_there(defaulted::<Offset<Text>, &str, &str>(builder, &"Axe", &""))
+        && builder.len() == 8
+        && written::<Text, String>(builder, owned, 16)
+        && is_there(optional::<Offset<Text>, ByRef<'_, String>>(builder, &by_ref))
+        && is_there(defaulted::<Offset<Text>, &str, ByRef<'_, String>>(builder, &by_ref, &""))
+        && builder.len() == 32
 }
 
-fn boxed_texts_are_there(alloc: Global, builder: &mut Builder) -> Result<bool, BuildError> {
-    let Ok(boxed) = Box::new(alloc, "Axe") else {
-        return Ok(false);
-    };
-    let distance = always::<Offset<Text>, Box<&str>>(builder, &boxed)?.distance();
-    Ok(distance == 8)
+fn texts_are_left_out_or_there(alloc: Global, builder: &mut Builder) -> Result<bool, AllocError> {
+    let owned = String::from_str(alloc, "Axe")?;
+    Ok(texts_are_left_out(builder, &owned) && texts_are_there(builder, &owned))
+}
+
+fn boxed_texts_are_there(alloc: Global, builder: &mut Builder) -> bool {
+    match Box::new(alloc, "Axe") {
+        Ok(boxed) => written::<Text, Box<&str>>(builder, &boxed, 8),
+        Err(_) => false,
+    }
 }
 
 fn texts_of_before_are_there(builder: &mut Builder) -> Result<bool, BuildError> {
     builder.create_string("Axe")?;
     let last = builder.current_offset::<Text>();
-    let same = always::<Offset<Text>, Offset<Text>>(builder, &last)?.distance() == 8;
+    let same = written::<Text, Offset<Text>>(builder, &last, 8);
     let last = builder.current_offset::<Text>();
     let there = is_there(optional::<Offset<Text>, Offset<Text>>(builder, &last));
     let last = builder.current_offset::<Text>();
-    let written = is_there(defaulted::<Offset<Text>, &str, Offset<Text>>(builder, &last, &"Axe"));
-    Ok(same && there && written && builder.len() == 8)
+    let by_default = is_there(defaulted::<Offset<Text>, &str, Offset<Text>>(
+        builder, &last, &"Axe",
+    ));
+    Ok(same && there && by_default && builder.len() == 8)
 }
 
 #[test]
-fn texts(rt: HostRuntime) -> Result<(), Fail> {
-    let owned = String::from_str(rt.alloc(), "Axe")?;
-    let mut builder = without_caches(rt.alloc())?;
-    check(&rt, texts_are_left_out(&mut builder, &owned), "left out");
-    check(&rt, holds(texts_are_there(&mut builder, &owned)), "there");
-    builder.clear();
-    check(
-        &rt,
-        holds(boxed_texts_are_there(rt.alloc(), &mut builder)),
-        "boxed",
+fn texts(rt: HostRuntime) {
+    let alloc = rt.alloc();
+    let owned = calls_in_builder(alloc, NO_CACHES, |builder| {
+        texts_are_left_out_or_there(alloc, builder)
+    });
+    check(&rt, owned, "left out or there");
+    let boxed = in_builder(
+        alloc,
+        NO_CACHES,
+        |builder| boxed_texts_are_there(alloc, builder),
     );
-    builder.clear();
-    check(
-        &rt,
-        holds(texts_of_before_are_there(&mut builder)),
-        "of before",
-    );
-    Ok(())
+    check(&rt, boxed, "boxed");
+    let before = calls_in_builder(alloc, NO_CACHES, texts_of_before_are_there);
+    check(&rt, before, "of before");
 }
 
 fn empty_lists_are_left_out(builder: &mut Builder, owned: &Vec<u16>) -> bool {
@@ -257,49 +259,45 @@ fn lists_are_there(builder: &mut Builder) -> bool {
         && builder.len() == 10
 }
 
-fn lists_are_prepared(builder: &mut Builder, owned: &Vec<u16>) -> Result<bool, BuildError> {
+fn lists_are_prepared(builder: &mut Builder, owned: &Vec<u16>) -> bool {
     let one: &[u16] = &[1];
-    let array = always::<Offset<List<u16>>, [u16; 1]>(builder, &[1])?.distance();
-    let list = always::<Offset<List<u16>>, Vec<u16>>(builder, owned)?.distance();
-    let slice = always::<Offset<List<u16>>, &[u16]>(builder, &one)?.distance();
-    Ok(array == 6 && list == 10 && slice == 18)
+    written::<List<u16>, [u16; 1]>(builder, &[1], 6)
+        && written::<List<u16>, Vec<u16>>(builder, owned, 10)
+        && written::<List<u16>, &[u16]>(builder, &one, 18)
 }
 
-fn lists_of_bytes_are_prepared(builder: &mut Builder) -> Result<bool, BuildError> {
-    let bytes = always::<Offset<List<u8>>, ByteList<'_>>(builder, &ByteList(&[1]))?.distance();
-    let signed = always::<Offset<List<i8>>, SignedList<'_>>(builder, &SignedList(&[1]))?.distance();
-    Ok(bytes == 5 && signed == 13)
+fn lists_of_bytes_are_prepared(builder: &mut Builder) -> bool {
+    written::<List<u8>, ByteList<'_>>(builder, &ByteList(&[1]), 5)
+        && written::<List<i8>, SignedList<'_>>(builder, &SignedList(&[1]), 13)
 }
 
 #[test]
-fn lists(rt: HostRuntime) -> Result<(), Fail> {
-    let owned: Vec<u16> = Vec::new(rt.alloc());
-    let mut builder = without_caches(rt.alloc())?;
-    check(
-        &rt,
-        empty_lists_are_left_out(&mut builder, &owned),
-        "left out",
+fn lists(rt: HostRuntime) {
+    let (alloc, owned) = (rt.alloc(), Vec::new(rt.alloc()));
+    let left_out = in_builder(
+        alloc,
+        NO_CACHES,
+        |builder| empty_lists_are_left_out(builder, &owned),
     );
-    check(
-        &rt,
-        empty_lists_are_there(&mut builder, &owned),
-        "empty ones",
+    check(&rt, left_out, "left out");
+    let empty = in_builder(
+        alloc,
+        NO_CACHES,
+        |builder| empty_lists_are_there(builder, &owned),
     );
-    builder.clear();
-    check(&rt, lists_are_there(&mut builder), "there");
-    builder.clear();
-    check(
-        &rt,
-        holds(lists_are_prepared(&mut builder, &owned)),
-        "prepared",
+    check(&rt, empty, "empty ones");
+    check(&rt, in_builder(alloc, NO_CACHES, lists_are_there), "there");
+    let prepared = in_builder(
+        alloc,
+        NO_CACHES,
+        |builder| lists_are_prepared(builder, &owned),
     );
-    builder.clear();
+    check(&rt, prepared, "prepared");
     check(
         &rt,
-        holds(lists_of_bytes_are_prepared(&mut builder)),
+        in_builder(alloc, NO_CACHES, lists_of_bytes_are_prepared),
         "bytes",
     );
-    Ok(())
 }
 
 fn unions_are_left_out(builder: &mut Builder) -> bool {
@@ -356,30 +354,25 @@ fn written_union_vectors_are_there(builder: &mut Builder) -> Result<bool, BuildE
 }
 
 #[test]
-fn unions(rt: HostRuntime) -> Result<(), Fail> {
-    let mut builder = without_caches(rt.alloc())?;
-    check(&rt, unions_are_left_out(&mut builder), "left out");
+fn unions(rt: HostRuntime) {
+    let alloc = rt.alloc();
     check(
         &rt,
-        union_vectors_are_left_out(&mut builder),
+        in_builder(alloc, NO_CACHES, unions_are_left_out),
+        "left out",
+    );
+    check(
+        &rt,
+        in_builder(alloc, NO_CACHES, union_vectors_are_left_out),
         "lists left out",
     );
     check(
         &rt,
-        empty_union_vectors_are_there(&mut builder),
+        in_builder(alloc, NO_CACHES, empty_union_vectors_are_there),
         "empty lists",
     );
-    builder.clear();
-    check(
-        &rt,
-        holds(unions_are_there(rt.alloc(), &mut builder)),
-        "there",
-    );
-    builder.clear();
-    check(
-        &rt,
-        holds(written_union_vectors_are_there(&mut builder)),
-        "written lists",
-    );
-    Ok(())
+    let there = calls_in_builder(alloc, NO_CACHES, |builder| unions_are_there(alloc, builder));
+    check(&rt, there, "there");
+    let written = calls_in_builder(alloc, NO_CACHES, written_union_vectors_are_there);
+    check(&rt, written, "written lists");
 }

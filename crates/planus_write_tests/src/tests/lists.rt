@@ -2,10 +2,11 @@
 
 ghost use Rattle.planus_write.specs.Preparing.{AllMay};
 
-use super::{finishes, holds, new_builder, prepared};
+use super::{calls_in_builder, finishes, in_builder, prepared};
 use crate::tests::check;
 use planus_write::{
-    BuildError, Builder, ByRef, ByteList, List, Offset, Primitive, SignedList, Text, VectorWrite,
+    BuildError, Builder, ByRef, ByteList, Caches, List, Offset, Primitive, SignedList, Text,
+    VectorWrite,
 };
 use std::alloc::{AllocError, Global};
 use std::test::Fail;
@@ -65,19 +66,23 @@ fn lists_of_bytes(builder: &mut Builder) -> Result<bool, BuildError> {
 }
 
 #[test]
-fn lists(rt: HostRuntime) -> Result<(), Fail> {
-    let mut builder = new_builder(rt.alloc())?;
-    check(&rt, lists_of_numbers(&mut builder), "numbers and texts");
+fn lists(rt: HostRuntime) {
+    let (alloc, caches) = (rt.alloc(), Caches::all());
+    let numbers = in_builder(alloc, caches, lists_of_numbers);
+    check(&rt, numbers, "numbers and texts");
+    let wide = calls_in_builder(alloc, caches, lists_of_wide_numbers);
+    check(&rt, wide, "wide numbers");
+    let owned = calls_in_builder(
+        alloc,
+        caches,
+        |builder| lists_of_owned_texts(alloc, builder),
+    );
+    check(&rt, owned, "owned texts");
     check(
         &rt,
-        holds(lists_of_wide_numbers(&mut builder)),
-        "wide numbers",
+        calls_in_builder(alloc, caches, lists_of_bytes),
+        "bytes",
     );
-    builder.clear();
-    let owned = lists_of_owned_texts(rt.alloc(), &mut builder);
-    check(&rt, matches!(owned, Ok(true)), "owned texts");
-    check(&rt, holds(lists_of_bytes(&mut builder)), "bytes");
-    Ok(())
 }
 
 // The numbers below 100003, and the finished bytes of their list.
@@ -103,8 +108,9 @@ fn a_list_of_many_numbers_in(
 #[test]
 fn a_list_of_100003_numbers(rt: HostRuntime) -> Result<(), Fail> {
     let (items, want) = many_numbers(rt.alloc())?;
-    let mut builder = new_builder(rt.alloc())?;
-    let found = a_list_of_many_numbers_in(&mut builder, items, want.as_slice());
-    check(&rt, holds(found), "holds");
+    let found = calls_in_builder(rt.alloc(), Caches::all(), |builder| {
+        a_list_of_many_numbers_in(builder, items, want.as_slice())
+    });
+    check(&rt, found, "holds");
     Ok(())
 }

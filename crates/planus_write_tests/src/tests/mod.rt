@@ -13,8 +13,8 @@ use planus_write::{BuildError, Builder, Caches, Offset, WriteAsOffset};
 use std::alloc::Global;
 use std::process::Abort;
 
-// The tests lend their builders to functions of their own, which compare and return what they
-// found: a function that owns a builder is proved slowly.
+// The tests hand functions of their own to `in_builder` and `calls_in_builder`, which lend them a
+// builder: a function that owns one is proved slowly, and those two are proved once.
 
 // Fails a test, with these words, where something doesn't hold. An assertion is dear to prove, so
 // this is the one of most tests.
@@ -58,27 +58,34 @@ fn prepared<T, X: WriteAsOffset<T>>(
     value.prepare(builder)
 }
 
-// A builder in a box: what a function owns is written out with its type at each step of its proof,
-// and the type of a builder, with three caches, is long.
-fn with_caches(alloc: Global, caches: Caches) -> Result<Box<Builder>, BuildError> {
-    match Box::new(alloc, Builder::with_caches(alloc, 0, caches)?) {
-        Ok(builder) => Ok(builder),
-        Err(_) => Err(BuildError::OutOfMemory),
+// The switches of a builder that writes equal contents each time.
+const NO_CACHES: Caches = Caches {
+    vtables: false,
+    texts: false,
+    bytes: false,
+    hash_mask: 0,
+};
+
+// Whether this holds of a new builder.
+fn in_builder<F: FnOnce(&mut Builder) -> bool>(alloc: Global, caches: Caches, of_it: F) -> bool
+    requires { F.IsAlwaysCallable of_it }
+{
+    match Builder::with_caches(alloc, 0, caches) {
+        Ok(mut builder) => of_it(&mut builder),
+        Err(_) => false,
     }
 }
 
-// A builder that writes equal contents once.
-fn new_builder(alloc: Global) -> Result<Box<Builder>, BuildError> {
-    with_caches(alloc, Caches::all())
-}
-
-// A builder that writes equal contents each time.
-fn without_caches(alloc: Global) -> Result<Box<Builder>, BuildError> {
-    let caches = Caches {
-        vtables: false,
-        texts: false,
-        bytes: false,
-        hash_mask: 0,
-    };
-    with_caches(alloc, caches)
+// Whether these calls are all made of a new builder, and give what they should.
+fn calls_in_builder<E: Drop, F: FnOnce(&mut Builder) -> Result<bool, E>>(
+    alloc: Global,
+    caches: Caches,
+    calls: F,
+) -> bool
+    requires { F.IsAlwaysCallable calls }
+{
+    match Builder::with_caches(alloc, 0, caches) {
+        Ok(mut builder) => matches!(calls(&mut builder), Ok(true)),
+        Err(_) => false,
+    }
 }

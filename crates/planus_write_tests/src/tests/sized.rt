@@ -1,9 +1,8 @@
 //! Finishes with their size in front.
 
-use super::{finishes, holds, new_builder};
+use super::{calls_in_builder, finishes};
 use crate::tests::check;
-use planus_write::{BuildError, Builder, List, Offset};
-use std::test::Fail;
+use planus_write::{BuildError, Builder, Caches, List, Offset};
 
 const AXE: &[u8] = b"\x0c\0\0\0\x04\0\0\0\x03\0\0\0Axe\0";
 
@@ -51,16 +50,21 @@ fn a_list_is_finished(builder: &mut Builder) -> Result<bool, BuildError> {
 }
 
 #[test]
-fn sizes_in_front(rt: HostRuntime) -> Result<(), Fail> {
-    let mut builder = new_builder(rt.alloc())?;
-    check(&rt, holds(texts_are_finished(&mut builder)), "texts");
-    builder.clear();
+fn sizes_in_front(rt: HostRuntime) {
+    let (alloc, caches) = (rt.alloc(), Caches::all());
     check(
         &rt,
-        holds(a_named_text_is_finished(&mut builder)),
+        calls_in_builder(alloc, caches, texts_are_finished),
+        "texts",
+    );
+    check(
+        &rt,
+        calls_in_builder(alloc, caches, a_named_text_is_finished),
         "a named text",
     );
-    builder.clear();
-    check(&rt, holds(a_list_is_finished(&mut builder)), "a list");
-    Ok(())
+    check(
+        &rt,
+        calls_in_builder(alloc, caches, a_list_is_finished),
+        "a list",
+    );
 }

@@ -3,9 +3,11 @@
 ghost use Rattle.std.specs.Prelude.{◌-◌, ◌++◌, []};
 ghost use Rattle.std.specs.Int.{w8, w16, w32, w64, to_le_bytes, cast_unsigned};
 
-use super::{holds, new_builder};
+use super::calls_in_builder;
 use crate::tests::check;
-use planus_write::{BuildError, Builder, ObjectFill, ObjectWriter, Offset, TableWriter, Text};
+use planus_write::{
+    BuildError, Builder, Caches, ObjectFill, ObjectWriter, Offset, TableWriter, Text,
+};
 use std::alloc::{AllocError, Global};
 use std::test::Fail;
 
@@ -135,17 +137,29 @@ fn its_bytes(alloc: Global) -> Result<Vec<u8>, AllocError> {
 #[test]
 fn the_greatest_slot(rt: HostRuntime) -> Result<(), Fail> {
     let want = its_bytes(rt.alloc())?;
-    let mut builder = new_builder(rt.alloc())?;
-    let found = a_table_with_the_greatest_slot(&mut builder, want.as_slice());
-    check(&rt, holds(found), "holds");
+    let found = calls_in_builder(rt.alloc(), Caches::all(), |builder| {
+        a_table_with_the_greatest_slot(builder, want.as_slice())
+    });
+    check(&rt, found, "holds");
     Ok(())
 }
 
 #[test]
-fn tables(rt: HostRuntime) -> Result<(), Fail> {
-    let mut builder = new_builder(rt.alloc())?;
-    check(&rt, holds(an_empty_table(&mut builder)), "an empty one");
-    check(&rt, holds(a_table_with_numbers(&mut builder)), "numbers");
-    check(&rt, holds(a_table_with_a_text(&mut builder)), "a text");
-    Ok(())
+fn tables(rt: HostRuntime) {
+    let (alloc, caches) = (rt.alloc(), Caches::all());
+    check(
+        &rt,
+        calls_in_builder(alloc, caches, an_empty_table),
+        "an empty one",
+    );
+    check(
+        &rt,
+        calls_in_builder(alloc, caches, a_table_with_numbers),
+        "numbers",
+    );
+    check(
+        &rt,
+        calls_in_builder(alloc, caches, a_table_with_a_text),
+        "a text",
+    );
 }

@@ -1,8 +1,8 @@
 //! Texts, with and without an identifier, and a long one.
 
-use super::{finishes, holds, new_builder, prepared, without_caches};
+use super::{NO_CACHES, calls_in_builder, finishes, holds, prepared};
 use crate::tests::check;
-use planus_write::{BuildError, Builder, ByRef, Text};
+use planus_write::{BuildError, Builder, ByRef, Caches, Text};
 use std::alloc::{AllocError, Global};
 use std::test::Fail;
 
@@ -25,16 +25,18 @@ fn a_named_text_is_finished(builder: &mut Builder) -> Result<bool, BuildError> {
 }
 
 #[test]
-fn texts(rt: HostRuntime) -> Result<(), Fail> {
-    let mut builder = new_builder(rt.alloc())?;
-    check(&rt, holds(texts_are_finished(&mut builder)), "texts");
-    builder.clear();
+fn texts(rt: HostRuntime) {
+    let (alloc, caches) = (rt.alloc(), Caches::all());
     check(
         &rt,
-        holds(a_named_text_is_finished(&mut builder)),
+        calls_in_builder(alloc, caches, texts_are_finished),
+        "texts",
+    );
+    check(
+        &rt,
+        calls_in_builder(alloc, caches, a_named_text_is_finished),
         "a named text",
     );
-    Ok(())
 }
 
 // The letters up to `p`, over and over.
@@ -65,7 +67,7 @@ fn a_long_text_is_finished(
     Ok(finishes(builder, root, None, want))
 }
 
-fn a_text_of_one_mebibyte_in(alloc: Global, builder: &mut Builder) -> Result<bool, Fail> {
+fn a_text_of_one_mebibyte_in(alloc: Global, builder: &mut Builder) -> Result<bool, AllocError> {
     let text = letters(alloc, 65536)?;
     let want = one_mebibyte(alloc, text.as_str())?;
     let same = holds(a_long_text_is_finished(builder, text.as_str(), want.as_slice()));
@@ -73,14 +75,12 @@ fn a_text_of_one_mebibyte_in(alloc: Global, builder: &mut Builder) -> Result<boo
 }
 
 #[test]
-fn a_text_of_one_mebibyte(rt: HostRuntime) -> Result<(), Fail> {
-    let mut builder = new_builder(rt.alloc())?;
-    check(
-        &rt,
-        a_text_of_one_mebibyte_in(rt.alloc(), &mut builder)?,
-        "a text of one mebibyte",
-    );
-    Ok(())
+fn a_text_of_one_mebibyte(rt: HostRuntime) {
+    let alloc = rt.alloc();
+    let found = calls_in_builder(alloc, Caches::all(), |builder| {
+        a_text_of_one_mebibyte_in(alloc, builder)
+    });
+    check(&rt, found, "a text of one mebibyte");
 }
 
 // Whether a text of 524336 bytes is written so often. It takes 524341 bytes, and each one behind
@@ -95,9 +95,10 @@ fn texts_are_repeated(builder: &mut Builder, text: &str, count: usize) -> Result
 #[test]
 fn texts_of_more_than_64_mebibytes(rt: HostRuntime) -> Result<(), Fail> {
     let text = letters(rt.alloc(), 32771)?;
-    let mut builder = without_caches(rt.alloc())?;
-    let found = texts_are_repeated(&mut builder, text.as_str(), 131);
-    check(&rt, holds(found), "holds");
+    let found = calls_in_builder(rt.alloc(), NO_CACHES, |builder| {
+        texts_are_repeated(builder, text.as_str(), 131)
+    });
+    check(&rt, found, "holds");
     Ok(())
 }
 
@@ -112,12 +113,12 @@ fn wrapped_texts_in(alloc: Global, builder: &mut Builder) -> Result<bool, BuildE
 }
 
 #[test]
-fn wrapped_texts(rt: HostRuntime) -> Result<(), Fail> {
-    let mut builder = new_builder(rt.alloc())?;
-    check(
-        &rt,
-        holds(wrapped_texts_in(rt.alloc(), &mut builder)),
-        "holds",
+fn wrapped_texts(rt: HostRuntime) {
+    let alloc = rt.alloc();
+    let found = calls_in_builder(
+        alloc,
+        Caches::all(),
+        |builder| wrapped_texts_in(alloc, builder),
     );
-    Ok(())
+    check(&rt, found, "holds");
 }

@@ -4,11 +4,12 @@ ghost use Rattle.std.specs.Prelude.{◌≤◌, length, IsTrue, IfOk};
 ghost use Rattle.planus_write.specs.Preparing.{AllMay};
 ghost use Rattle.planus_write.specs.Unions.{union_reach};
 
-use super::{holds, new_builder};
+use super::{calls_in_builder, in_builder};
 use crate::tests::check;
-use planus_write::{BuildError, Builder, ByRef, UnionOffset, WriteAsUnion, WriteAsUnionVector};
+use planus_write::{
+    BuildError, Builder, ByRef, Caches, UnionOffset, WriteAsUnion, WriteAsUnionVector,
+};
 use std::alloc::Global;
-use std::test::Fail;
 
 // The union of a tag and a text.
 fn tagged(builder: &mut Builder, tag: u8, text: &str) -> Result<UnionOffset<()>, BuildError> {
@@ -97,30 +98,27 @@ fn a_written_list_of_unions(builder: &mut Builder) -> Result<bool, BuildError> {
 }
 
 #[test]
-fn lists_of_unions(rt: HostRuntime) -> Result<(), Fail> {
-    let mut builder = new_builder(rt.alloc())?;
-    check(&rt, a_list_of_no_unions(&mut builder), "none");
-    builder.clear();
-    check(&rt, holds(a_list_of_unions(&mut builder)), "two");
-    builder.clear();
+fn lists_of_unions(rt: HostRuntime) {
+    let (alloc, caches) = (rt.alloc(), Caches::all());
+    check(&rt, in_builder(alloc, caches, a_list_of_no_unions), "none");
     check(
         &rt,
-        holds(a_list_of_unions_by_reference(&mut builder)),
-        "by reference",
+        calls_in_builder(alloc, caches, a_list_of_unions),
+        "two",
     );
-    builder.clear();
-    check(
-        &rt,
-        holds(an_owned_list_of_unions(rt.alloc(), &mut builder)),
-        "owned",
+    let by_reference = calls_in_builder(alloc, caches, a_list_of_unions_by_reference);
+    check(&rt, by_reference, "by reference");
+    let owned = calls_in_builder(
+        alloc,
+        caches,
+        |builder| an_owned_list_of_unions(alloc, builder),
     );
-    builder.clear();
+    check(&rt, owned, "owned");
     check(
         &rt,
-        holds(a_written_list_of_unions(&mut builder)),
+        calls_in_builder(alloc, caches, a_written_list_of_unions),
         "written",
     );
-    Ok(())
 }
 
 // Whether a union, of which only the bound is known, is of tag 7 and at distance 6.
@@ -149,12 +147,12 @@ fn wrapped_unions_in(alloc: Global, builder: &mut Builder) -> Result<bool, Build
 }
 
 #[test]
-fn wrapped_unions(rt: HostRuntime) -> Result<(), Fail> {
-    let mut builder = new_builder(rt.alloc())?;
-    check(
-        &rt,
-        holds(wrapped_unions_in(rt.alloc(), &mut builder)),
-        "holds",
+fn wrapped_unions(rt: HostRuntime) {
+    let alloc = rt.alloc();
+    let found = calls_in_builder(
+        alloc,
+        Caches::all(),
+        |builder| wrapped_unions_in(alloc, builder),
     );
-    Ok(())
+    check(&rt, found, "holds");
 }

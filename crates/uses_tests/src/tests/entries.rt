@@ -4,8 +4,8 @@ ghost use Rattle.std.specs.Prelude.{IfOk};
 ghost use Rattle.planus_write.specs.InBuilder.{IsIn};
 ghost use Rattle.planus_write.specs.State.{Grows};
 
+use super::in_builder;
 use planus::{BuildError, Builder, Offset, ReadAsRoot, UnionOffset, has_identifier};
-use std::test::Fail;
 use uses_log::{
     Cause, CauseRef, Entry, EntryFields, EntryRef, Level, Origin, OriginRef, text_read_back,
 };
@@ -101,7 +101,7 @@ fn a_marked_buffer(builder: &mut Builder) -> Result<bool, BuildError> {
     Ok(has_identifier(bytes, *b"LOGS") && !has_identifier(bytes, *b"SHIP"))
 }
 
-fn a_text_is_read(builder: &mut Builder) -> bool {
+fn a_text_is_read(builder: &mut Builder) -> Result<bool, BuildError> {
     let entry = EntryFields {
         at: 1,
         retries: 0,
@@ -112,19 +112,12 @@ fn a_text_is_read(builder: &mut Builder) -> bool {
         parents: &[],
         level: Level::WARNING,
     };
-    matches!(text_read_back(builder, entry), Ok("hello"))
+    Ok(matches!(text_read_back(builder, entry), Ok("hello")))
 }
 
 #[test]
-fn entries_are_read_back(rt: HostRuntime) -> Result<(), Fail> {
-    let mut builder = Builder::new(rt.alloc())?;
-    assert!(rt;
-        matches!(a_full_entry_is_read(&mut builder), Ok(true)),
-        "full"
-    );
-    builder.clear();
-    assert!(rt; a_text_is_read(&mut builder), "text");
-    builder.clear();
-    assert!(rt; matches!(a_marked_buffer(&mut builder), Ok(true)), "marked");
-    Ok(())
+fn entries_are_read_back(rt: HostRuntime) {
+    assert!(rt; in_builder(rt.alloc(), a_full_entry_is_read), "full");
+    assert!(rt; in_builder(rt.alloc(), a_text_is_read), "text");
+    assert!(rt; in_builder(rt.alloc(), a_marked_buffer), "marked");
 }

@@ -1,7 +1,7 @@
 //! A list of numbers that is written, with ample memory.
 
+use super::in_builder;
 use planus::{BuildError, Builder};
-use std::test::Fail;
 use uses_laws::create_numbers;
 
 fn a_list_of_two_is_written(builder: &mut Builder) -> Result<bool, BuildError> {
@@ -11,8 +11,6 @@ fn a_list_of_two_is_written(builder: &mut Builder) -> Result<bool, BuildError> {
 }
 
 #[test]
-fn a_list_of_two(rt: HostRuntime) -> Result<(), Fail> {
-    let mut builder = Builder::new(rt.alloc())?;
-    assert!(rt; matches!(a_list_of_two_is_written(&mut builder), Ok(true)));
-    Ok(())
+fn a_list_of_two(rt: HostRuntime) {
+    assert!(rt; in_builder(rt.alloc(), a_list_of_two_is_written));
 }

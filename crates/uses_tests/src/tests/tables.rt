@@ -1,10 +1,10 @@
 //! Ships, ports and fleets that are written are read back.
 ghost use Rattle.std.specs.Prelude.{◌≤◌};
 
+use super::in_builder;
 use planus_read::ReadAsRoot;
 use planus_tables::{TableRef, variant};
 use planus_write::{BuildError, Builder, Text, UnionOffset};
-use std::test::Fail;
 use uses_table::{Fleet, Named, Owner, OwnerRef, Port, PortFields, Ship};
 
 // Whether the root is a ship with this name and this hull, and this number of items as its cargo.
@@ -104,17 +104,11 @@ fn fleets_are_read(builder: &mut Builder) -> Result<bool, BuildError> {
 }
 
 #[test]
-fn tables_are_read_back(rt: HostRuntime) -> Result<(), Fail> {
-    let mut builder = Builder::new(rt.alloc())?;
-    assert!(rt; matches!(ships_are_read(&mut builder), Ok(true)), "ships");
-    builder.clear();
-    assert!(rt; matches!(fleets_are_read(&mut builder), Ok(true)), "fleets");
+fn tables_are_read_back(rt: HostRuntime) {
+    assert!(rt; in_builder(rt.alloc(), ships_are_read), "ships");
+    assert!(rt; in_builder(rt.alloc(), fleets_are_read), "fleets");
     for (depth, shares) in [(-5, 2), (7, 0)] {
-        builder.clear();
-        assert!(rt;
-            matches!(ports_are_read(&mut builder, depth, shares), Ok(true)),
-            "ports"
-        );
+        let read = in_builder(rt.alloc(), |builder| ports_are_read(builder, depth, shares));
+        assert!(rt; read, "ports");
     }
-    Ok(())
 }

@@ -67,28 +67,29 @@ fn grows_by_each_call(bytes: &mut BackVec) -> Result<bool, AllocError> {
     Ok(empty && fits && holds(bytes, b"0123456789x\x06\0\0end", 15))
 }
 
+fn shows_as(bytes: &BackVec, want: &str) -> bool {
+    match format!(in bytes.alloc(); "{bytes:?}") {
+        Ok(text) => text.as_str() == want,
+        Err(_) => false,
+    }
+}
+
 fn goes_on_after_clear(bytes: &mut BackVec) -> Result<bool, AllocError> {
     bytes.clear();
     let cleared = holds(bytes, b"", 32);
     bytes.extend_with_zeros(2)?;
-    let text = format!(in bytes.alloc(); "{bytes:?}")?;
+    let shown = shows_as(bytes, "[0, 0]");
     bytes.reserve(100)?;
-    Ok(cleared && text.as_str() == "[0, 0]" && holds(bytes, b"\0\0", 100))
+    Ok(cleared && shown && holds(bytes, b"\0\0", 100))
 }
 
 #[test]
 fn grows_at_its_front(rt: HostRuntime) -> Result<(), Fail> {
     let mut bytes = BackVec::with_capacity(rt.alloc(), 0)?;
-    check(
-        &rt,
-        matches!(grows_by_each_call(&mut bytes), Ok(true)),
-        "each call",
-    );
-    check(
-        &rt,
-        matches!(goes_on_after_clear(&mut bytes), Ok(true)),
-        "after a clear",
-    );
+    let each_call = matches!(grows_by_each_call(&mut bytes), Ok(true));
+    check(&rt, each_call, "each call");
+    let after_a_clear = matches!(goes_on_after_clear(&mut bytes), Ok(true));
+    check(&rt, after_a_clear, "after a clear");
     Ok(())
 }
 
@@ -158,6 +159,16 @@ fn has_key<K: GetCacheKey>(bytes: &[u8], distance: u32, want: Option<&[u8]>) -> 
     }
 }
 
+// Whether the keys at these distances are these, or there is none.
+fn has_keys<K: GetCacheKey>(rows: &[(&[u8], u32, Option<&[u8]>)]) -> bool {
+    for (bytes, distance, want) in rows {
+        if !has_key::<K>(bytes, *distance, *want) {
+            return false;
+        }
+    }
+    true
+}
+
 const KEYS: &[u8] = b"\x09\0\x02\0\0\0Hi\x06\0\x04\0\x01\0";
 
 const VTABLE: &[u8] = b"\x06\0\x04\0\x01\0";
@@ -172,9 +183,7 @@ fn keys_lie_wholly_in_the_bytes(rt: HostRuntime) {
         (KEYS, 0, None),
         (b"\0\0\0\0", 4, Some(b"")),
     ];
-    for (bytes, distance, want) in lists {
-        assert!(rt; has_key::<ByteVec>(bytes, distance, want), "at {distance}");
-    }
+    check(&rt, has_keys::<ByteVec>(&lists), "byte lists");
     let vtables: [(&[u8], u32, Option<&[u8]>); 5] = [
         (KEYS, 6, Some(VTABLE)),
         (VTABLE, 4, Some(b"\x04\0\x01\0")),
@@ -182,9 +191,7 @@ fn keys_lie_wholly_in_the_bytes(rt: HostRuntime) {
         (KEYS, 1, None),
         (KEYS, 15, None),
     ];
-    for (bytes, distance, want) in vtables {
-        assert!(rt; has_key::<VTable>(bytes, distance, want), "at {distance}");
-    }
+    check(&rt, has_keys::<VTable>(&vtables), "vtables");
 }
 
 // Adds a distance at which the key stands in the bytes.
@@ -226,22 +233,36 @@ fn get_signed(cache: &Cache<ByteVec>, bytes: &[u8], key: &[i8]) -> Option<u32>
     cache.get_signed_in(cache.bucket_of_signed(key), bytes, key)
 }
 
+// Whether this is found for a key.
+fn finds(cache: &Cache<ByteVec>, bytes: &[u8], key: &[u8], want: Option<u32>) -> bool
+    requires { Fits bytes_in cache.now bytes.now }
+{
+    cache.get(bytes, key) == want
+}
+
+// Whether this is found for a key of signed numbers.
+fn finds_signed(cache: &Cache<ByteVec>, bytes: &[u8], key: &[i8], want: Option<u32>) -> bool
+    requires { Fits bytes_in cache.now bytes.now }
+{
+    get_signed(cache, bytes, key) == want
+}
+
 const TWO_KEYS: &[u8] = b"\x02\0\0\0H\xfe\x02\0\0\0Hi";
 
 // Adds the two keys, and tells what is found before and behind each.
 fn keys_are_found(cache: &mut Cache<ByteVec>, bytes: &[u8]) -> Result<bool, Fail>
     requires { Fits bytes_in cache.old bytes.now }
 {
-    let none = cache.get(bytes, b"Hi").is_none();
+    let none = finds(cache, bytes, b"Hi", None);
     add(cache, bytes, b"Hi", 6)?;
-    let first = cache.get(bytes, b"Hi") == Some(6)
-        && get_signed(cache, bytes, &[72, 105]) == Some(6)
-        && get_signed(cache, bytes, &SIGNED).is_none();
+    let first = finds(cache, bytes, b"Hi", Some(6))
+        && finds_signed(cache, bytes, &[72, 105], Some(6))
+        && finds_signed(cache, bytes, &SIGNED, None);
     add_signed(cache, bytes, 12)?;
-    let second = cache.get(bytes, b"Hi") == Some(6)
-        && cache.get(bytes, b"H\xfe") == Some(12)
-        && get_signed(cache, bytes, &SIGNED) == Some(12)
-        && cache.get(bytes, b"H").is_none();
+    let second = finds(cache, bytes, b"Hi", Some(6))
+        && finds(cache, bytes, b"H\xfe", Some(12))
+        && finds_signed(cache, bytes, &SIGNED, Some(12))
+        && finds(cache, bytes, b"H", None);
     Ok(none && first && second)
 }
 
