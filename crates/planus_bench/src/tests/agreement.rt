@@ -3,7 +3,7 @@
 use super::found::Found;
 use super::kinds::{Held, Pair, Row, position};
 use super::plain_reader::{
-    Answer, PlainList, byte_list, number, signed, table, text, union_vector, vector,
+    Answer, PlainList, byte_list, number, signed, table, text, union_vector, unsigned, vector,
 };
 use planus::located::Error as Located;
 use planus::table_reader::Table;
@@ -11,6 +11,7 @@ use planus::{
     Error, Place, SignedBytes, TaggedPlace, UnionVector, Vector, VectorRead, VectorReadUnion,
 };
 use planus_read::errors::ErrorKind;
+use planus_view::{Items, ReadView, VectorOf};
 
 // A position in bytes. The piece that is read begins at another one, and the bytes themselves begin
 // at some offset in their buffer.
@@ -85,6 +86,14 @@ pub fn same<T: PartialEq + Copy>(read: Answer<T>, plain: Answer<T>) -> bool {
     }
 }
 
+// Whether a reader of a number answers as the plain reader does.
+pub fn same_number<T: Into<i128>>(read: Answer<T>, plain: Option<i128>) -> bool {
+    match read {
+        Ok(value) => plain == Some(value.into()),
+        Err(kind) => plain.is_none() && matches!(kind, ErrorKind::InvalidOffset),
+    }
+}
+
 // What is read as a field of a table.
 pub trait Field: Copy {
     // Whether an answer is that of the plain reader.
@@ -93,16 +102,13 @@ pub trait Field: Copy {
 
 impl Field for u8 {
     fn agrees(read: Answer<u8>, spot: Spot<'_>) -> bool {
-        same(read.map(|read| read as u64), number(spot.bytes, spot.at, 1))
+        same_number(read, unsigned(spot.bytes, spot.at, 1))
     }
 }
 
 impl Field for i16 {
     fn agrees(read: Answer<i16>, spot: Spot<'_>) -> bool {
-        same(
-            read.map(|read| read as i128),
-            signed(spot.bytes, spot.at, 2),
-        )
+        same_number(read, signed(spot.bytes, spot.at, 2))
     }
 }
 
@@ -161,7 +167,15 @@ impl<'a> Field for Table<'a> {
 impl<'a, T: VectorRead<'a> + Item> Field for Vector<'a, T> {
     fn agrees(read: Answer<Vector<'a, T>>, spot: Spot<'_>) -> bool {
         match (read, vector(spot.bytes, spot.at, T::stride() as i128)) {
-            (Ok(vector), Ok(plain)) => items_agree(vector, plain, spot),
+            (Ok(vector), Ok(list)) => items_agree(
+                vector,
+                PlainItems {
+                    tags: 0,
+                    list,
+                    stride: T::stride() as i128,
+                    spot,
+                },
+            ),
             (Err(kind), Err(plain)) => same_kind(kind, plain),
             _ => false,
         }
@@ -170,37 +184,39 @@ impl<'a, T: VectorRead<'a> + Item> Field for Vector<'a, T> {
 
 // What is read as an item of a vector.
 pub trait Item: Copy {
-    // Whether it is what the plain reader reads.
-    fn is_at(&self, spot: Spot<'_>) -> bool;
+    // Whether it is what the plain reader reads, where the tag of a union is at the first position.
+    fn is_at(&self, tag: i128, spot: Spot<'_>) -> bool;
 }
 
 impl Item for u16 {
-    fn is_at(&self, spot: Spot<'_>) -> bool {
-        same(Ok(*self as u64), number(spot.bytes, spot.at, 2))
+    fn is_at(&self, _tag: i128, spot: Spot<'_>) -> bool {
+        unsigned(spot.bytes, spot.at, 2) == Some(*self as i128)
     }
 }
 
 impl Item for i64 {
-    fn is_at(&self, spot: Spot<'_>) -> bool {
-        same(Ok(*self as i128), signed(spot.bytes, spot.at, 8))
+    fn is_at(&self, _tag: i128, spot: Spot<'_>) -> bool {
+        signed(spot.bytes, spot.at, 8) == Some(*self as i128)
     }
 }
 
 impl Item for bool {
-    fn is_at(&self, spot: Spot<'_>) -> bool {
-        let plain = number(spot.bytes, spot.at, 1);
-        same(Ok(*self), plain.map(|number| number != 0))
+    fn is_at(&self, _tag: i128, spot: Spot<'_>) -> bool {
+        match number(spot.bytes, spot.at, 1) {
+            Some(number) => *self == (number != 0),
+            None => false,
+        }
     }
 }
 
 impl<'a> Item for Place<'a> {
-    fn is_at(&self, spot: Spot<'_>) -> bool {
+    fn is_at(&self, _tag: i128, spot: Spot<'_>) -> bool {
         Place::agrees(Ok(*self), spot)
     }
 }
 
 impl<'a> Item for Result<&'a str, Error> {
-    fn is_at(&self, spot: Spot<'_>) -> bool {
+    fn is_at(&self, _tag: i128, spot: Spot<'_>) -> bool {
         match (*self, text(spot.bytes, spot.at)) {
             (Ok(text), Ok(plain)) => text == plain,
             (Err(error), Err(plain)) => spot.is_error(error, plain, ("[str]", "get")),
@@ -210,7 +226,7 @@ impl<'a> Item for Result<&'a str, Error> {
 }
 
 impl<'a> Item for Result<Row<'a>, Error> {
-    fn is_at(&self, spot: Spot<'_>) -> bool {
+    fn is_at(&self, _tag: i128, spot: Spot<'_>) -> bool {
         match (*self, table(spot.bytes, spot.from, spot.at)) {
             (Ok(row), Ok(_)) => Table::agrees(Ok(row.0), spot),
             (Err(error), Err(plain)) => spot.is_error(error, plain, ("[Row]", "get")),
@@ -219,39 +235,90 @@ impl<'a> Item for Result<Row<'a>, Error> {
     }
 }
 
-// Whether there is an item, and it is what the plain reader reads.
-fn item_is<T: Item>(item: Option<T>, spot: Spot<'_>) -> bool {
-    match item {
-        Some(item) => item.is_at(spot),
-        None => false,
+impl<'a> Item for Result<TaggedPlace<'a>, Error> {
+    fn is_at(&self, tag: i128, spot: Spot<'_>) -> bool {
+        union_is(*self, tag, spot)
     }
 }
 
-// Whether the items of a vector are those of the plain one by each way to come to them: by their
-// position, from the front, and from the back. One that is taken from the front is read in the
-// piece that begins with it.
-fn items_agree<'a, T: VectorRead<'a> + Item>(
-    vector: Vector<'a, T>,
-    plain: PlainList,
-    spot: Spot<'_>,
-) -> bool {
+impl<'a> Item for Result<Held<'a>, Error> {
+    fn is_at(&self, tag: i128, spot: Spot<'_>) -> bool {
+        union_is(*self, tag, spot)
+    }
+}
+
+// A vector as the plain reader finds it in the piece of a spot. The tags of unions lie elsewhere.
+#[derive(Clone, Copy)]
+struct PlainItems<'a> {
+    tags: i128,
+    list: PlainList,
+    stride: i128,
+    spot: Spot<'a>,
+}
+
+impl<'a> PlainItems<'a> {
+    // The position of an item.
+    fn position(&self, i: usize) -> i128 {
+        let before = (i as i128).wrapping_mul(self.stride);
+        self.list.items.wrapping_add(before)
+    }
+
+    // Whether there is an item, and it is what the plain reader reads in the piece that begins at
+    // a position.
+    fn has<T: Item>(&self, item: Option<T>, i: usize, from: i128) -> bool {
+        let tag = self.tags.wrapping_add(i as i128);
+        match item {
+            Some(item) => item.is_at(tag, self.spot.of(from, self.position(i))),
+            None => false,
+        }
+    }
+}
+
+// Whether an item is that of the plain vector by its position and from the front, and another one
+// from the back. One that is taken from the front is read in the piece that begins with it.
+fn three_agree<V: ReadView>(
+    vector: VectorOf<V>,
+    front: &mut Items<VectorOf<V>>,
+    back: &mut Items<VectorOf<V>>,
+    plain: PlainItems<'_>,
+    (i, behind): (usize, usize),
+) -> bool
+where
+    V::Item: Item,
+{
+    plain.has(vector.get(i), i, plain.list.items)
+        && plain.has(front.next(), i, plain.position(i))
+        && plain.has(back.next_back(), behind, plain.list.items)
+}
+
+// The same of all items.
+fn all_agree<V: ReadView>(
+    vector: VectorOf<V>,
+    front: &mut Items<VectorOf<V>>,
+    back: &mut Items<VectorOf<V>>,
+    plain: PlainItems<'_>,
+) -> bool
+where
+    V::Item: Item,
+{
     let len = vector.len();
-    let stride = T::stride() as i128;
-    let mut front = vector.iter();
-    let mut back = vector.iter();
     for i in 0..len {
-        let here = plain.items.wrapping_add((i as i128).wrapping_mul(stride));
-        let behind = (len - i - 1) as i128;
-        let there = plain.items.wrapping_add(behind.wrapping_mul(stride));
-        let agree = item_is(vector.get(i), spot.of(plain.items, here))
-            && item_is(front.next(), spot.of(here, here))
-            && item_is(back.next_back(), spot.of(plain.items, there));
-        if !agree {
+        if !three_agree(vector, front, back, plain, (i, len - i - 1)) {
             return false;
         }
     }
-    len as u64 == plain.count
-        && vector.get(len).is_none()
+    len as u64 == plain.list.count && vector.get(len).is_none()
+}
+
+// Whether the items of a vector are those of the plain one by each way to come to them: by their
+// position, from the front, and from the back.
+fn items_agree<V: ReadView>(vector: VectorOf<V>, plain: PlainItems<'_>) -> bool
+where
+    V::Item: Item,
+{
+    let mut front = vector.iter();
+    let mut back = vector.iter();
+    all_agree(vector, &mut front, &mut back, plain)
         && front.next().is_none()
         && back.next_back().is_none()
 }
@@ -295,49 +362,16 @@ impl<'a> Union for Held<'a> {
     }
 }
 
-// Whether there is an item, and it is what the plain reader reads. The tags lie elsewhere.
-fn union_is<T: Union>(item: Option<Result<T, Error>>, tags: i128, spot: Spot<'_>) -> bool {
-    let tag = (number(spot.bytes, tags, 1).unwrap_or(0) % 256) as u8;
+// Whether an item is what the plain reader reads, where its tag is at the first position.
+fn union_is<T: Union>(item: Result<T, Error>, tag: i128, spot: Spot<'_>) -> bool {
+    let tag = (number(spot.bytes, tag, 1).unwrap_or(0) % 256) as u8;
     match item {
-        Some(Ok(union)) => T::agrees(Ok(union), tag, spot),
-        Some(Err(error)) => {
+        Ok(union) => T::agrees(Ok(union), tag, spot),
+        Err(error) => {
             spot.is_error(error, error.error_kind, (T::vector(), "get"))
                 && T::agrees(Err(error.error_kind), tag, spot)
         }
-        None => false,
     }
-}
-
-// The same of a vector of unions as of a vector. The piece is that of the references.
-fn unions_agree<'a, T: VectorReadUnion<'a> + Union>(
-    vector: UnionVector<'a, T>,
-    plain: (PlainList, PlainList),
-    spot: Spot<'_>,
-) -> bool {
-    let (tags, values) = plain;
-    let len = vector.len();
-    let mut front = vector.iter();
-    let mut back = vector.iter();
-    for i in 0..len {
-        let (first, last) = (i as i128, (len - i - 1) as i128);
-        let here = values.items.wrapping_add(first.wrapping_mul(4));
-        let there = values.items.wrapping_add(last.wrapping_mul(4));
-        let tag = tags.items.wrapping_add(first);
-        let agree = union_is(vector.get(i), tag, spot.of(values.items, here))
-            && union_is(front.next(), tag, spot.of(here, here))
-            && union_is(
-                back.next_back(),
-                tags.items.wrapping_add(last),
-                spot.of(values.items, there),
-            );
-        if !agree {
-            return false;
-        }
-    }
-    len as u64 == values.count
-        && vector.get(len).is_none()
-        && front.next().is_none()
-        && back.next_back().is_none()
 }
 
 // What is read as a field of two slots.
@@ -358,10 +392,21 @@ impl<'a> UnionField for Pair<'a> {
     }
 }
 
-impl<'a, T: VectorReadUnion<'a> + Union> UnionField for UnionVector<'a, T> {
+impl<'a, T: VectorReadUnion<'a> + Union> UnionField for UnionVector<'a, T>
+where
+    Result<T, Error>: Item,
+{
     fn agrees(read: Answer<UnionVector<'a, T>>, tags: i128, spot: Spot<'_>) -> bool {
         match (read, union_vector(spot.bytes, tags, spot.at)) {
-            (Ok(vector), Ok(plain)) => unions_agree(vector, plain, spot),
+            (Ok(vector), Ok((tags, list))) => items_agree(
+                vector,
+                PlainItems {
+                    tags: tags.items,
+                    list,
+                    stride: 4,
+                    spot,
+                },
+            ),
             (Err(kind), Err(plain)) => same_kind(kind, plain),
             _ => false,
         }

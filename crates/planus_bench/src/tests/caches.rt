@@ -1,9 +1,10 @@
 //! Equal contents, which a builder writes once, and its caches while memory is refused.
 
+use super::runs::{add, add_field, add_finish};
 use super::settings::Switches;
 use super::tables::{ONE_VTABLE, TWO_VTABLES, put};
 use crate::tests::check;
-use planus::{BuildError, Builder, ByteList, Caches, Field, FieldValue, Step, replay};
+use planus::{BuildError, Builder, ByteList, Caches, FieldValue, Step, replay};
 use planus_exhaust::{exhaust, holds_or_says};
 use std::alloc::{AllocError, Global};
 use std::test::Fail;
@@ -11,8 +12,7 @@ use std::test::Fail;
 // A table with one number of two bytes in slot 0.
 fn one_number(alloc: Global, value: u64) -> Result<Step, AllocError> {
     let mut fields = Vec::new(alloc);
-    let value = FieldValue::Number { width: 2, value };
-    fields.push(Field { slot: 0, value })?;
+    add_field(&mut fields, 0, FieldValue::Number { width: 2, value })?;
     Ok(Step::Table(fields))
 }
 
@@ -24,14 +24,11 @@ fn replays_to(alloc: Global, caches: Caches, steps: &[Step], want: &[u8]) -> boo
     }
 }
 
-// Two tables with equal vtables, of which the second is the root.
-fn equal_tables(alloc: Global) -> Result<Vec<Step>, AllocError> {
-    let mut steps = Vec::new(alloc);
-    for number in [24, 7] {
-        steps.push(one_number(alloc, number)?)?;
-    }
-    steps.push(Step::Finish { root: 1, id: None })?;
-    Ok(steps)
+// Adds two tables with equal vtables, of which the second is the root.
+fn push_equal_tables(alloc: Global, steps: &mut Vec<Step>) -> Result<(), AllocError> {
+    add(steps, one_number(alloc, 24))?;
+    add(steps, one_number(alloc, 7))?;
+    add_finish(steps, 1)
 }
 
 // Whether their vtable is written once where equal vtables are, and else twice.
@@ -42,7 +39,8 @@ fn vtables_are_shared(alloc: Global, steps: &[Step]) -> bool {
 
 // The same of the steps of two tables.
 fn equal_vtables_in(alloc: Global) -> Result<bool, AllocError> {
-    let steps = equal_tables(alloc)?;
+    let mut steps = Vec::new(alloc);
+    push_equal_tables(alloc, &mut steps)?;
     Ok(vtables_are_shared(alloc, steps.as_slice()))
 }
 
@@ -148,14 +146,16 @@ fn entries_are_refused(alloc: Global, builder: &mut Builder) -> Result<Option<bo
 }
 
 // The same of a new builder with room for 256 bytes.
-fn entries_in_256_bytes(alloc: Global) -> Result<Option<bool>, BuildError> {
-    let mut builder = Builder::with_caches(alloc, 256, Switches::of(7).caches(0))?;
-    Ok(entries_are_refused(alloc, &mut builder)?)
+fn entries_in_256_bytes(alloc: Global, caches: Caches) -> Result<Option<bool>, AllocError> {
+    match Builder::with_caches(alloc, 256, caches) {
+        Ok(mut builder) => entries_are_refused(alloc, &mut builder),
+        Err(_) => Err(AllocError),
+    }
 }
 
 #[test]
 fn entries_with_refused_memory(rt: HostRuntime) -> Result<(), Fail> {
-    let refused = entries_in_256_bytes(rt.alloc())?;
+    let refused = entries_in_256_bytes(rt.alloc(), Switches::of(7).caches(0))?;
     check(&rt, holds_or_says(&rt, refused)?, "refused entries");
     Ok(())
 }

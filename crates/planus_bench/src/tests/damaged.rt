@@ -1,12 +1,13 @@
 //! Every prefix and every one-byte change of a few buffers, read by every accessor with all memory
 //! taken, beside the plain reader.
 
-use super::agreement::same;
+use super::agreement::same_number;
 use super::found::{lists_agree, tables_agree};
-use super::plain_reader::{Answer, head, number, signed};
+use super::plain_reader::{head, number, signed, unsigned};
 use planus::{SliceWithStartOffset, TableRead};
 use planus_exhaust::exhaust;
 use planus_read::array_from_buffer;
+use planus_read::errors::ErrorKind;
 use std::alloc::{AllocError, Global};
 use std::test::Fail;
 
@@ -68,42 +69,53 @@ const FAR_SLOTS: [usize; 7] = [
 fn number_agrees<'buf, T: TableRead<'buf> + Into<i128>>(
     piece: SliceWithStartOffset<'buf>,
     f: usize,
-    plain: Answer<i128>,
+    plain: Option<i128>,
 ) -> bool {
-    match T::from_buffer(piece, f) {
-        Ok(number) => same(Ok(number.into()), plain),
-        Err(kind) => same(Err(kind), plain),
+    same_number(T::from_buffer(piece, f), plain)
+}
+
+fn unsigned_agree(piece: SliceWithStartOffset<'_>, f: usize) -> bool {
+    let (bytes, at) = (piece.as_slice(), f as i128);
+    number_agrees::<u8>(piece, f, unsigned(bytes, at, 1))
+        && number_agrees::<u16>(piece, f, unsigned(bytes, at, 2))
+        && number_agrees::<u32>(piece, f, unsigned(bytes, at, 4))
+        && number_agrees::<u64>(piece, f, unsigned(bytes, at, 8))
+}
+
+fn signed_agree(piece: SliceWithStartOffset<'_>, f: usize) -> bool {
+    let (bytes, at) = (piece.as_slice(), f as i128);
+    number_agrees::<i8>(piece, f, signed(bytes, at, 1))
+        && number_agrees::<i16>(piece, f, signed(bytes, at, 2))
+        && number_agrees::<i32>(piece, f, signed(bytes, at, 4))
+        && number_agrees::<i64>(piece, f, signed(bytes, at, 8))
+}
+
+fn truths_agree(piece: SliceWithStartOffset<'_>, f: usize) -> bool {
+    let plain = number(piece.as_slice(), f as i128, 1);
+    match <bool as TableRead<'_>>::from_buffer(piece, f) {
+        Ok(truth) => matches!(plain, Some(number) if truth == (number != 0)),
+        Err(kind) => plain.is_none() && matches!(kind, ErrorKind::InvalidOffset),
     }
 }
 
 // Whether the readers of numbers and truth values and the plain reader agree at an offset.
 fn numbers_agree(piece: SliceWithStartOffset<'_>, f: usize) -> bool {
-    let bytes = piece.as_slice();
-    let at = f as i128;
-    let unsigned = |width: u8| number(bytes, at, width).map(|number| number as i128);
-    number_agrees::<u8>(piece, f, unsigned(1))
-        && number_agrees::<u16>(piece, f, unsigned(2))
-        && number_agrees::<u32>(piece, f, unsigned(4))
-        && number_agrees::<u64>(piece, f, unsigned(8))
-        && number_agrees::<i8>(piece, f, signed(bytes, at, 1))
-        && number_agrees::<i16>(piece, f, signed(bytes, at, 2))
-        && number_agrees::<i32>(piece, f, signed(bytes, at, 4))
-        && number_agrees::<i64>(piece, f, signed(bytes, at, 8))
-        && same(
-            <bool as TableRead<'_>>::from_buffer(piece, f),
-            number(bytes, at, 1).map(|number| number != 0),
-        )
+    unsigned_agree(piece, f) && signed_agree(piece, f) && truths_agree(piece, f)
 }
 
 fn heads_agree(piece: SliceWithStartOffset<'_>, f: usize) -> bool {
-    let head_read = array_from_buffer(piece, f);
-    let read = head_read.map(|(items, count)| (items.offset_from_start() as i128, count as u64));
     let start = piece.offset_from_start() as i128;
-    let plain = head(piece.as_slice(), f as i128);
-    same(
-        read,
-        plain.map(|list| (start.wrapping_add(list.items), list.count)),
-    )
+    match (
+        array_from_buffer(piece, f),
+        head(piece.as_slice(), f as i128),
+    ) {
+        (Ok((items, count)), Some(plain)) => {
+            items.offset_from_start() as i128 == start.wrapping_add(plain.items)
+                && count as u64 == plain.count
+        }
+        (Err(ErrorKind::InvalidOffset), None) => true,
+        _ => false,
+    }
 }
 
 // Whether all readers agree at this offset of these bytes, which start here, and at these slots of

@@ -1,6 +1,7 @@
 //! A builder with as many bytes as there may be.
 
-use super::parts::Repeated;
+use super::caches::text_at;
+use super::parts::{Repeated, finish_last};
 use crate::tests::check;
 use planus::{BuildError, Builder};
 use std::alloc::Global;
@@ -10,11 +11,11 @@ use std::test::Fail;
 const GREATEST: usize = 2147483647;
 
 // Writes all of them but those of a finish, and finishes.
-fn fill(builder: &mut Builder) -> Result<(), BuildError> {
-    builder.write_with(GREATEST - 4, 0, &Repeated { byte: 7 })?;
-    let root = builder.current_offset::<()>();
-    builder.finish(root, None)?;
-    Ok(())
+fn fills(builder: &mut Builder) -> bool {
+    builder
+        .write_with(GREATEST - 4, 0, &Repeated { byte: 7 })
+        .is_ok()
+        && finish_last(builder).is_ok()
 }
 
 // Whether they are all there.
@@ -36,26 +37,24 @@ fn no_more_is_written(builder: &mut Builder) -> bool {
         && is_full(builder)
 }
 
-// Both, and that it can be used again.
-fn is_filled(builder: &mut Builder) -> Result<bool, BuildError> {
-    fill(builder)?;
-    let full = is_full(builder) && no_more_is_written(builder);
+// All of this, and that it can be used again.
+fn is_filled(builder: &mut Builder) -> bool {
+    let full = fills(builder) && is_full(builder) && no_more_is_written(builder);
     builder.clear();
-    let text = builder.create_string("Axe")?;
-    Ok(full && text.distance() == 8 && builder.room() == GREATEST - 8)
+    full && text_at(builder, "Axe") == Ok(8) && builder.room() == GREATEST - 8
 }
 
 // The same of a new builder; nothing where there is no memory for it.
-fn new_is_filled(alloc: Global) -> Result<Option<bool>, BuildError> {
+fn new_is_filled(alloc: Global) -> Option<bool> {
     match Builder::with_capacity(alloc, GREATEST) {
-        Ok(mut builder) => Ok(Some(is_filled(&mut builder)?)),
-        Err(_) => Ok(None),
+        Ok(mut builder) => Some(is_filled(&mut builder)),
+        Err(_) => None,
     }
 }
 
 #[test]
 fn the_greatest_number_of_bytes(rt: HostRuntime) -> Result<(), Fail> {
-    let filled = new_is_filled(rt.alloc())?;
+    let filled = new_is_filled(rt.alloc());
     if filled.is_none() {
         println!(rt; "there is no memory for it: this test does not apply")?;
     }

@@ -32,6 +32,18 @@ pub fn position(place: Place<'_>) -> usize {
     }
 }
 
+// Whether a slot of a table holds this value, or none.
+pub fn slot_has<'a, T: TableRead<'a> + PartialEq + Drop>(
+    table: Table<'a>,
+    slot: usize,
+    want: Option<T>,
+) -> bool {
+    match table.access::<T>(slot, "Table", "field") {
+        Ok(found) => found == want,
+        Err(_) => false,
+    }
+}
+
 // The two places of a vector of unions.
 #[derive(Clone, Copy)]
 pub struct Pair<'buf> {

@@ -5,7 +5,7 @@ ghost use Rattle.std.specs.Prelude.{◌≡◌, length, refl};
 ghost use Rattle.planus_back.proofs.Multiples.{divides_multiple};
 
 use super::agreement::same_kind;
-use super::kinds::Pair;
+use super::kinds::{Pair, slot_has};
 use super::new_builder;
 use super::tables::One;
 use crate::tests::check;
@@ -16,6 +16,7 @@ use planus::{
 };
 use planus_back::{Promises, TooLarge};
 use planus_read::errors::ErrorKind;
+use std::alloc::Global;
 use std::marker::PhantomData;
 use std::test::Fail;
 
@@ -85,15 +86,19 @@ fn the_largest_object_is_written(builder: &mut Builder, item: &[u8]) -> bool {
     }
 }
 
+// The same in a new builder.
+fn the_largest_object_is_written_in(alloc: Global, item: &[u8]) -> bool {
+    match new_builder(alloc) {
+        Ok(mut builder) => the_largest_object_is_written(&mut builder, item),
+        Err(_) => false,
+    }
+}
+
 #[test]
 fn the_largest_object(rt: HostRuntime) -> Result<(), Fail> {
     let item = vec![in rt.alloc(); 0xa5; 65531]?;
-    let mut builder = new_builder(rt.alloc())?;
-    check(
-        &rt,
-        the_largest_object_is_written(&mut builder, item.as_slice()),
-        "the largest object is written",
-    );
+    let written = the_largest_object_is_written_in(rt.alloc(), item.as_slice());
+    check(&rt, written, "the largest object is written");
     Ok(())
 }
 
@@ -116,10 +121,7 @@ fn put_greatest_slot(builder: &mut Builder) -> Result<&[u8], BuildError> {
 // Whether the number is read in its slot, and none behind it.
 fn reads_greatest_slot(bytes: &[u8]) -> bool {
     match Table::from_buffer(SliceWithStartOffset::new(bytes, 0), 0) {
-        Ok(table) => {
-            matches!(table.access::<u8>(32764, "T", "m"), Ok(Some(5)))
-                && matches!(table.access::<u8>(32765, "T", "m"), Ok(None))
-        }
+        Ok(table) => { slot_has(table, 32764, Some(5u8)) && slot_has::<u8>(table, 32765, None) }
         Err(_) => false,
     }
 }
@@ -135,22 +137,25 @@ fn the_greatest_slot_is_written(builder: &mut Builder) -> bool {
     }
 }
 
+// The same in a new builder.
+fn the_greatest_slot_is_written_in(alloc: Global) -> bool {
+    match new_builder(alloc) {
+        Ok(mut builder) => the_greatest_slot_is_written(&mut builder),
+        Err(_) => false,
+    }
+}
+
 #[test]
-fn the_greatest_slot(rt: HostRuntime) -> Result<(), Fail> {
-    let mut builder = new_builder(rt.alloc())?;
-    check(
-        &rt,
-        the_greatest_slot_is_written(&mut builder),
-        "the greatest slot is written",
-    );
-    Ok(())
+fn the_greatest_slot(rt: HostRuntime) {
+    let written = the_greatest_slot_is_written_in(rt.alloc());
+    check(&rt, written, "the greatest slot is written");
 }
 
 // A table with the number 24 of two bytes in slot 0.
 const NUMBER: [u8; 16] = [4, 0, 0, 0, 0xfa, 0xff, 0xff, 0xff, 24, 0, 6, 0, 6, 0, 4, 0];
 
 fn slot_is_none(table: Table<'_>, slot: usize) -> bool {
-    matches!(table.access::<u16>(slot, "T", "m"), Ok(None))
+    slot_has::<u16>(table, slot, None)
         && matches!(
             table.access_union::<TaggedPlace<'_>>(slot, "T", "m"),
             Ok(None)
@@ -161,18 +166,20 @@ fn slot_is_none(table: Table<'_>, slot: usize) -> bool {
         )
 }
 
-#[test]
-fn slots_far_behind_a_vtable(rt: HostRuntime) -> Result<(), Fail> {
-    let table = Table::from_buffer(SliceWithStartOffset::new(&NUMBER, 0), 0)?;
-    check(
-        &rt,
-        matches!(table.access::<u16>(0, "T", "m"), Ok(Some(24))),
-        "slot 0",
-    );
-    for slot in [usize::MAX, usize::MAX / 2, usize::MAX / 2 + 1] {
-        assert!(rt; slot_is_none(table, slot), "{slot}");
+// Whether slot 0 has its number, and a slot far behind it none.
+fn far_slot_is_none(slot: usize) -> bool {
+    match Table::from_buffer(SliceWithStartOffset::new(&NUMBER, 0), 0) {
+        Ok(table) => slot_has(table, 0, Some(24u16)) && slot_is_none(table, slot),
+        Err(_) => false,
     }
-    Ok(())
+}
+
+#[test]
+fn slots_far_behind_a_vtable(rt: HostRuntime) {
+    let half = usize::MAX / 2;
+    check(&rt, far_slot_is_none(usize::MAX), "the last slot");
+    check(&rt, far_slot_is_none(half), "half of it");
+    check(&rt, far_slot_is_none(half + 1), "half of it and one");
 }
 
 // At the greatest place there is room for no byte more.
@@ -222,10 +229,7 @@ fn damaged_roots_of_a_weapon(rt: HostRuntime) {
 // Whether the vtable's second slot is no longer there.
 fn has_a_name_alone(bytes: &[u8]) -> bool {
     match Table::from_buffer(SliceWithStartOffset::new(bytes, 0), 0) {
-        Ok(weapon) => {
-            matches!(weapon.access::<&str>(0, "Weapon", "name"), Ok(Some("Axe")))
-                && matches!(weapon.access::<i16>(1, "Weapon", "damage"), Ok(None))
-        }
+        Ok(weapon) => { slot_has(weapon, 0, Some("Axe")) && slot_has::<i16>(weapon, 1, None) }
         Err(_) => false,
     }
 }

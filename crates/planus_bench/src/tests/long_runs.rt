@@ -1,7 +1,10 @@
 //! Runs of far more steps, values, items and slots than all others have.
 
 use super::plain_run::plain_run;
-use super::runs::{Named, bytes, counts, list, refs, table, text, two_references, unions};
+use super::runs::{
+    Named, add, add_field, add_finish, are_same, bytes, counts, list, refs, table, text,
+    two_references, unions,
+};
 use super::settings::Switches;
 use crate::tests::check;
 use planus::{Caches, Field, FieldValue, Finished, ReplayError, Step, Why, replay};
@@ -27,34 +30,38 @@ fn value(alloc: Global, number: usize) -> Result<Step, AllocError> {
 // Adds so many values.
 fn push_values(alloc: Global, steps: &mut Vec<Step>, count: usize) -> Result<(), AllocError> {
     for _ in 0..count {
-        steps.push(value(alloc, steps.len())?)?;
+        let number = steps.len();
+        add(steps, value(alloc, number))?;
     }
     Ok(())
 }
 
-// A table with a field in each of the 256 slots.
-fn full_table(alloc: Global, named: Named) -> Result<Step, AllocError> {
-    let [first, second] = two_references(named);
-    let mut fields = Vec::new(alloc);
-    fields.push(Field {
-        slot: 255,
-        value: FieldValue::Ref(named.root),
-    })?;
-    fields.push(Field {
-        slot: 3,
-        value: first,
-    })?;
-    fields.push(Field {
-        slot: 254,
-        value: second,
-    })?;
-    for slot in (0..3).chain(4..254) {
+// Adds a number of one byte for each of these slots, which is the slot.
+fn add_numbers(fields: &mut Vec<Field>, first: u16, end: u16) -> Result<(), AllocError> {
+    for slot in first..end {
         let value = FieldValue::Number {
             width: 1,
             value: u64::from(slot),
         };
-        fields.push(Field { slot, value })?;
+        add_field(fields, slot, value)?;
     }
+    Ok(())
+}
+
+// Adds a field for each of the 256 slots.
+fn add_all_slots(fields: &mut Vec<Field>, named: Named) -> Result<(), AllocError> {
+    let [first, second] = two_references(named);
+    add_field(fields, 255, FieldValue::Ref(named.root))?;
+    add_field(fields, 3, first)?;
+    add_field(fields, 254, second)?;
+    add_numbers(fields, 0, 3)?;
+    add_numbers(fields, 4, 254)
+}
+
+// A table with a field in each of them.
+fn full_table(alloc: Global, named: Named) -> Result<Step, AllocError> {
+    let mut fields = Vec::new(alloc);
+    add_all_slots(&mut fields, named)?;
     Ok(Step::Table(fields))
 }
 
@@ -63,62 +70,60 @@ fn full_table(alloc: Global, named: Named) -> Result<Step, AllocError> {
 fn push_lists(
     alloc: Global,
     steps: &mut Vec<Step>,
-    numbers: Step,
+    numbers: Result<Step, AllocError>,
     count: usize,
 ) -> Result<(), AllocError> {
-    let root = steps.len();
-    steps.push(numbers)?;
-    steps.push(refs(alloc, root, count)?)?;
-    let items = steps.len();
-    steps.push(unions(alloc, root, count)?)?;
+    let first = steps.len();
+    add(steps, numbers)?;
+    add(steps, refs(alloc, first, count))?;
+    add(steps, unions(alloc, first, count))?;
     let named = Named {
-        root: items.saturating_sub(1),
-        unions: Some(items),
+        root: first.saturating_add(1),
+        unions: Some(first.saturating_add(2)),
     };
-    steps.push(full_table(alloc, named)?)?;
-    Ok(())
+    add(steps, full_table(alloc, named))
 }
 
 // Adds finishes with the value that was written last.
-fn push_finishes(
-    steps: &mut Vec<Step>,
-    count: usize,
-    id: Option<[u8; 4]>,
-) -> Result<(), AllocError> {
-    let root = steps.len().saturating_sub(1);
+fn push_finishes(steps: &mut Vec<Step>, count: usize, id: [u8; 4]) -> Result<(), AllocError> {
+    let (root, id) = (steps.len().saturating_sub(1), Some(id));
     for _ in 0..count {
-        steps.push(Step::Finish { root, id })?;
+        add(steps, Ok(Step::Finish { root, id }))?;
     }
     Ok(())
 }
 
-// Runs of 48 values, each with a finish and a clear, and one of 5003, with seven finishes.
+// Adds runs of 48 values, each with a finish and a clear.
+fn push_short_runs(alloc: Global, steps: &mut Vec<Step>) -> Result<(), AllocError> {
+    for _ in 0..300usize {
+        push_values(alloc, steps, 48)?;
+        let last = steps.len().saturating_sub(1);
+        add_finish(steps, last)?;
+        add(steps, Ok(Step::Clear))?;
+    }
+    Ok(())
+}
+
+// Adds these, and a run of 5003 values with seven finishes.
+fn push_long_steps(alloc: Global, steps: &mut Vec<Step>) -> Result<(), AllocError> {
+    push_short_runs(alloc, steps)?;
+    push_values(alloc, steps, 4999)?;
+    push_lists(alloc, steps, list(alloc, 2, 5003), 2003)?;
+    push_finishes(steps, 7, *b"LONG")
+}
+
 fn long_steps(alloc: Global) -> Result<Vec<Step>, AllocError> {
     let mut steps = Vec::new(alloc);
-    for _ in 0..300usize {
-        push_values(alloc, &mut steps, 48)?;
-        push_finishes(&mut steps, 1, None)?;
-        steps.push(Step::Clear)?;
-    }
-    push_values(alloc, &mut steps, 4999)?;
-    push_lists(alloc, &mut steps, list(alloc, 2, 5003)?, 2003)?;
-    push_finishes(&mut steps, 7, Some(*b"LONG"))?;
+    push_long_steps(alloc, &mut steps)?;
     Ok(steps)
 }
 
 // Whether a replay gives the same bytes and places.
 fn gives(alloc: Global, caches: Caches, steps: &[Step], want: &[Finished]) -> bool {
-    let Ok(got) = replay(alloc, caches, steps) else {
-        return false;
-    };
-    for (got, want) in got.iter().zip(want.iter()) {
-        let same = got.bytes.as_slice() == want.bytes.as_slice()
-            && got.places.as_slice() == want.places.as_slice();
-        if !same {
-            return false;
-        }
+    match replay(alloc, caches, steps) {
+        Ok(got) => are_same(got.as_slice(), want),
+        Err(_) => false,
     }
-    got.len() == want.len()
 }
 
 // Whether replays, with none, some or all of the bits of a hash, give what a plain run gives.
@@ -149,9 +154,7 @@ fn stops_at_the_last(alloc: Global, steps: &[Step], last: usize) -> bool {
 
 // Adds a finish with a value that no step wrote.
 fn push_bad_finish(steps: &mut Vec<Step>) -> Result<(), AllocError> {
-    let root = usize::MAX;
-    steps.push(Step::Finish { root, id: None })?;
-    Ok(())
+    add_finish(steps, usize::MAX)
 }
 
 // Whether the steps are as many as they should be of each kind, whether replays of them agree, and
@@ -172,13 +175,17 @@ fn a_run_of_20010_steps(rt: HostRuntime) -> Result<(), Fail> {
     Ok(())
 }
 
-// A text, a byte list and lists of more than 100000 bytes or items.
+// Adds a text, a byte list and lists of more than 100000 bytes or items, and a finish.
+fn push_long_values(alloc: Global, steps: &mut Vec<Step>) -> Result<(), AllocError> {
+    add(steps, text(alloc, 100003))?;
+    add(steps, bytes(alloc, 100003))?;
+    push_lists(alloc, steps, list(alloc, 4, 100003), 100003)?;
+    add_finish(steps, 5)
+}
+
 fn long_values(alloc: Global) -> Result<Vec<Step>, AllocError> {
     let mut steps = Vec::new(alloc);
-    steps.push(text(alloc, 100003)?)?;
-    steps.push(bytes(alloc, 100003)?)?;
-    push_lists(alloc, &mut steps, list(alloc, 4, 100003)?, 100003)?;
-    push_finishes(&mut steps, 1, None)?;
+    push_long_values(alloc, &mut steps)?;
     Ok(steps)
 }
 

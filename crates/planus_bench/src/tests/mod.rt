@@ -38,10 +38,18 @@ fn check(rt: &impl Abort, holds: bool, what: &str) {
 
 // A builder in a box: what a function owns is written out with its type at each step of its proof,
 // and the type of a builder, with three caches, is long.
-fn with_caches(alloc: Global, caches: Caches) -> Result<Box<Builder>, BuildError> {
-    match Box::new(alloc, Builder::with_caches(alloc, 0, caches)?) {
+fn boxed(alloc: Global, builder: Builder) -> Result<Box<Builder>, BuildError> {
+    match Box::new(alloc, builder) {
         Ok(builder) => Ok(builder),
         Err(_) => Err(BuildError::OutOfMemory),
+    }
+}
+
+// A new builder with these caches.
+fn with_caches(alloc: Global, caches: Caches) -> Result<Box<Builder>, BuildError> {
+    match Builder::with_caches(alloc, 0, caches) {
+        Ok(builder) => boxed(alloc, builder),
+        Err(error) => Err(error),
     }
 }
 

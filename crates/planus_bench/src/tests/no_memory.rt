@@ -1,7 +1,8 @@
 //! A builder, a replay and a cache while memory is refused.
 
 use super::caches::text_at;
-use super::parts::{FOUR_WRITES, last_is, put_four};
+use super::parts::{FOUR_WRITES, last_is, puts_four};
+use super::runs::{add, add_finish, word};
 use super::settings::Switches;
 use crate::tests::check;
 use planus::{BuildError, Builder, Caches, Offset, ReplayError, Step, Text, replay};
@@ -28,7 +29,7 @@ fn list_is_at(builder: &mut Builder) -> Result<u32, BuildError> {
 
 // Whether the four writes and their finish take no more than their bytes.
 fn writes_in_its_room(builder: &mut Builder) -> bool {
-    put_four(builder).is_ok() && last_is(builder, FOUR_WRITES) && builder.room() == 37
+    puts_four(builder) && last_is(builder, FOUR_WRITES) && builder.room() == 37
 }
 
 // Whether a builder writes and finishes in its room, and refuses a text that doesn't fit, and a
@@ -62,7 +63,7 @@ fn writes_again(builder: &mut Builder) -> bool {
 }
 
 // Both; nothing where memory was left.
-fn goes_on_and_writes(alloc: Global, builder: &mut Builder) -> Result<Option<bool>, BuildError> {
+fn goes_on_and_writes(alloc: Global, builder: &mut Builder) -> Result<Option<bool>, AllocError> {
     match builder_without_memory(alloc, builder)? {
         Some(goes_on) => Ok(Some(goes_on && writes_again(builder))),
         None => Ok(None),
@@ -70,24 +71,24 @@ fn goes_on_and_writes(alloc: Global, builder: &mut Builder) -> Result<Option<boo
 }
 
 // The same of a new builder with room for 64 bytes.
-fn builder_goes_on(alloc: Global) -> Result<Option<bool>, BuildError> {
-    let mut builder = Builder::with_caches(alloc, 64, Switches::of(0).caches(0))?;
-    goes_on_and_writes(alloc, &mut builder)
+fn builder_goes_on(alloc: Global, caches: Caches) -> Result<Option<bool>, AllocError> {
+    match Builder::with_caches(alloc, 64, caches) {
+        Ok(mut builder) => goes_on_and_writes(alloc, &mut builder),
+        Err(_) => Err(AllocError),
+    }
 }
 
 #[test]
 fn a_builder_with_refused_memory(rt: HostRuntime) -> Result<(), Fail> {
-    let goes_on = builder_goes_on(rt.alloc())?;
+    let goes_on = builder_goes_on(rt.alloc(), Switches::of(0).caches(0))?;
     check(&rt, holds_or_says(&rt, goes_on)?, "a builder");
     Ok(())
 }
 
-// A text and its finish.
-fn one_text(alloc: Global) -> Result<Vec<Step>, AllocError> {
-    let mut steps = Vec::new(alloc);
-    steps.push(Step::Text(String::from_str(alloc, "Axe")?))?;
-    steps.push(Step::Finish { root: 0, id: None })?;
-    Ok(steps)
+// Adds a text and its finish.
+fn push_text(alloc: Global, steps: &mut Vec<Step>) -> Result<(), AllocError> {
+    add(steps, word(alloc, "Axe"))?;
+    add_finish(steps, 0)
 }
 
 // Whether a replay is refused for memory.
@@ -108,20 +109,26 @@ fn replay_without_memory(alloc: Global, steps: &[Step]) -> Result<Option<bool>, 
 }
 
 // Whether a replay is refused, and isn't once memory is there again; nothing where memory was left.
-fn replay_goes_on(alloc: Global) -> Result<Option<bool>, AllocError> {
-    let steps = one_text(alloc)?;
-    match replay_without_memory(alloc, steps.as_slice())? {
+fn replay_goes_on(alloc: Global, steps: &[Step]) -> Result<Option<bool>, AllocError> {
+    match replay_without_memory(alloc, steps)? {
         Some(refused) => {
-            let again = replay(alloc, Caches::all(), steps.as_slice()).is_ok();
+            let again = replay(alloc, Caches::all(), steps).is_ok();
             Ok(Some(refused && again))
         }
         None => Ok(None),
     }
 }
 
+// The same of the steps of a text.
+fn replay_of_a_text_goes_on(alloc: Global) -> Result<Option<bool>, AllocError> {
+    let mut steps = Vec::new(alloc);
+    push_text(alloc, &mut steps)?;
+    replay_goes_on(alloc, steps.as_slice())
+}
+
 #[test]
 fn a_replay_with_refused_memory(rt: HostRuntime) -> Result<(), Fail> {
-    let refused = replay_goes_on(rt.alloc())?;
+    let refused = replay_of_a_text_goes_on(rt.alloc())?;
     check(&rt, holds_or_says(&rt, refused)?, "a replay");
     Ok(())
 }

@@ -77,15 +77,16 @@ pub fn put(builder: &mut Builder, bytes: &[u8], alignment: usize) -> Result<(), 
     builder.write_with(bytes.len(), mask_of(alignment), &Same { bytes })
 }
 
-pub fn put_four(builder: &mut Builder) -> Result<(), BuildError> {
-    put(builder, b"MNO", 1)?;
-    put(builder, b"IJKL", 2)?;
-    put(builder, b"ABCDEFGH", 4)?;
-    put(builder, b"0123456", 1)
+// Whether the four writes are made.
+pub fn puts_four(builder: &mut Builder) -> bool {
+    put(builder, b"MNO", 1).is_ok()
+        && put(builder, b"IJKL", 2).is_ok()
+        && put(builder, b"ABCDEFGH", 4).is_ok()
+        && put(builder, b"0123456", 1).is_ok()
 }
 
 // Finishes with the part that was written last as the root.
-fn finish_last(builder: &mut Builder) -> Result<&[u8], BuildError> {
+pub fn finish_last(builder: &mut Builder) -> Result<&[u8], BuildError> {
     let root = builder.current_offset::<()>();
     builder.finish(root, None)
 }
@@ -98,71 +99,78 @@ pub fn last_is(builder: &mut Builder, want: &[u8]) -> bool {
     }
 }
 
-fn put_after_clear(builder: &mut Builder) -> Result<(), BuildError> {
-    put(builder, b"IJKL", 4)?;
-    put(builder, b"X", 1)?;
-    put(builder, b"Y", 1)?;
-    put(builder, b"ABCDEFGH", 8)
+fn puts_after_clear(builder: &mut Builder) -> bool {
+    put(builder, b"IJKL", 4).is_ok()
+        && put(builder, b"X", 1).is_ok()
+        && put(builder, b"Y", 1).is_ok()
+        && put(builder, b"ABCDEFGH", 8).is_ok()
 }
 
-fn parts_and_clear_agree(builder: &mut Builder) -> Result<bool, BuildError> {
+fn parts_and_clear_agree(builder: &mut Builder) -> bool {
     let nothing = last_is(builder, b"\x04\0\0\0");
     builder.clear();
-    put_four(builder)?;
-    let four = last_is(builder, FOUR_WRITES);
+    let four = puts_four(builder) && last_is(builder, FOUR_WRITES);
     builder.clear();
-    put_after_clear(builder)?;
     let after_clear = b"\x08\0\0\0\0\0\0\0ABCDEFGH\0\0YXIJKL";
-    Ok(nothing && four && last_is(builder, after_clear))
+    nothing && four && puts_after_clear(builder) && last_is(builder, after_clear)
 }
 
-fn a_filler_is_told_its_place(builder: &mut Builder) -> Result<bool, BuildError> {
-    put(builder, b"MNO", 1)?;
-    builder.write_with(4, mask_of(16), &OwnPlace)?;
-    let first = builder.as_slice() == b"\x07\0\0\0MNO".as_slice();
-    put(builder, b"X", 8)?;
-    builder.write_with(4, mask_of(16), &OwnPlace)?;
+fn puts_own_place(builder: &mut Builder) -> bool {
+    builder.write_with(4, mask_of(16), &OwnPlace).is_ok()
+}
+
+fn a_filler_is_told_its_place(builder: &mut Builder) -> bool {
     let bytes = b"\x17\0\0\0\0\0\0\0X\0\0\0\0\0\0\0\x07\0\0\0MNO".as_slice();
-    Ok(first && builder.as_slice() == bytes)
+    put(builder, b"MNO", 1).is_ok()
+        && puts_own_place(builder)
+        && builder.as_slice() == b"\x07\0\0\0MNO".as_slice()
+        && put(builder, b"X", 8).is_ok()
+        && puts_own_place(builder)
+        && builder.as_slice() == bytes
 }
 
-#[test]
-fn parts(rt: HostRuntime) -> Result<(), Fail> {
-    let mut builder = new_builder(rt.alloc())?;
-    check(
-        &rt,
-        matches!(parts_and_clear_agree(&mut builder), Ok(true)),
-        "and a clear",
-    );
+// Whether both hold of a builder.
+fn both_hold_of(builder: &mut Builder) -> [bool; 2] {
+    let clear = parts_and_clear_agree(builder);
     builder.clear();
-    check(
-        &rt,
-        matches!(a_filler_is_told_its_place(&mut builder), Ok(true)),
-        "places",
-    );
-    Ok(())
+    [clear, a_filler_is_told_its_place(builder)]
 }
 
-fn too_large_is_refused(builder: &mut Builder, size: usize) -> Result<bool, BuildError> {
-    put_four(builder)?;
-    let refused = builder.write_with(size, mask_of(1), &Repeated { byte: 7 });
-    Ok(
-        refused == Err(BuildError::TooLarge)
-            && builder.len() == 22
-            && builder.room() == 42
-            && last_is(builder, FOUR_WRITES),
-    )
+// The same of a new one.
+fn both_hold(alloc: Global) -> [bool; 2] {
+    match new_builder(alloc) {
+        Ok(mut builder) => both_hold_of(&mut builder),
+        Err(_) => [false; 2],
+    }
 }
 
 #[test]
-fn too_large(rt: HostRuntime) -> Result<(), Fail> {
-    let mut builder = Builder::with_capacity(rt.alloc(), 64)?;
-    check(
-        &rt,
-        matches!(too_large_is_refused(&mut builder, 2147483648), Ok(true)),
-        "too large is refused",
-    );
-    Ok(())
+fn parts(rt: HostRuntime) {
+    let [clear, places] = both_hold(rt.alloc());
+    check(&rt, clear, "and a clear");
+    check(&rt, places, "places");
+}
+
+fn too_large_is_refused(builder: &mut Builder, size: usize) -> bool {
+    puts_four(builder)
+        && builder.write_with(size, mask_of(1), &Repeated { byte: 7 }) == Err(BuildError::TooLarge)
+        && builder.len() == 22
+        && builder.room() == 42
+        && last_is(builder, FOUR_WRITES)
+}
+
+// The same in a new builder with room for 64 bytes.
+fn too_large_in_64_bytes(alloc: Global, size: usize) -> bool {
+    match Builder::with_capacity(alloc, 64) {
+        Ok(mut builder) => too_large_is_refused(&mut builder, size),
+        Err(_) => false,
+    }
+}
+
+#[test]
+fn too_large(rt: HostRuntime) {
+    let refused = too_large_in_64_bytes(rt.alloc(), 2147483648);
+    check(&rt, refused, "too large is refused");
 }
 
 // None where the part is too large.
@@ -216,6 +224,10 @@ struct Written {
     distance: usize,
 }
 
+fn are_all(bytes: &[u8], byte: u8) -> bool {
+    bytes.iter().all(|b| *b == byte)
+}
+
 // Tells whether the part stands aligned in the finished bytes.
 fn stands(bytes: &[u8], part: Written) -> bool {
     let Some(start) = bytes.len().checked_sub(part.distance) else {
@@ -223,50 +235,63 @@ fn stands(bytes: &[u8], part: Written) -> bool {
     };
     let (_before, rest) = bytes.split_at(start);
     match rest.get(..part.size) {
-        Some(found) => start & part.mask == 0 && found.iter().all(|b| *b == part.byte),
+        Some(found) => start & part.mask == 0 && are_all(found, part.byte),
         None => false,
     }
 }
 
-// Writes 49 parts of random sizes and alignments.
-fn write_parts(
-    alloc: Global,
-    builder: &mut Builder,
-    numbers: &mut Numbers,
-) -> Result<Vec<Written>, Fail> {
-    let mut parts = Vec::new(alloc);
-    for byte in 1..50 {
-        let size = (numbers.draw() % 128) as usize;
-        let mask = mask_of(1 << (numbers.draw() % 5));
-        let before = builder.len();
-        builder.write_with(size, mask, &Repeated { byte })?;
-        if builder.len().wrapping_sub(before) > size + mask {
-            return Err(Fail::new("a padding of an alignment or more"));
-        }
-        parts.push(Written {
-            byte,
-            size,
-            mask,
-            distance: builder.len(),
-        })?;
+// Writes a part of a random size and alignment.
+fn write_part(builder: &mut Builder, numbers: &mut Numbers, byte: u8) -> Result<Written, Fail> {
+    let size = (numbers.draw() % 128) as usize;
+    let mask = mask_of(1 << (numbers.draw() % 5));
+    let before = builder.len();
+    builder.write_with(size, mask, &Repeated { byte })?;
+    let distance = builder.len();
+    if distance.wrapping_sub(before) > size + mask {
+        return Err(Fail::new("a padding of an alignment or more"));
     }
-    Ok(parts)
+    Ok(Written {
+        byte,
+        size,
+        mask,
+        distance,
+    })
 }
 
-// Writes parts of the same sizes and alignments. Tells whether each filler was called at the length
-// with its part.
-fn fillers_know_their_places(builder: &mut Builder, numbers: &mut Numbers) -> Result<bool, Fail> {
+// Writes 49 such parts, and adds them.
+fn write_parts(
+    builder: &mut Builder,
+    numbers: &mut Numbers,
+    parts: &mut Vec<Written>,
+) -> Result<(), Fail> {
+    for byte in 1..50 {
+        parts.push(write_part(builder, numbers, byte)?)?;
+    }
+    Ok(())
+}
+
+// Writes a part of a random size and alignment. Tells whether its filler was called at the length
+// with it.
+fn a_filler_knows_its_place(builder: &mut Builder, numbers: &mut Numbers) -> bool {
+    let size = (numbers.draw() % 128) as usize;
+    let mask = mask_of(1 << (numbers.draw() % 5));
+    if builder.write_with(size, mask, &PlaceByte).is_err() {
+        return false;
+    }
+    match builder.as_slice().get(..size) {
+        Some(part) => are_all(part, (builder.len() % 256) as u8),
+        None => false,
+    }
+}
+
+// The same of parts of the sizes and alignments of the others.
+fn fillers_know_their_places(builder: &mut Builder, numbers: &mut Numbers) -> bool {
     for _ in 1..50 {
-        let size = (numbers.draw() % 128) as usize;
-        let mask = mask_of(1 << (numbers.draw() % 5));
-        builder.write_with(size, mask, &PlaceByte)?;
-        let last = (builder.len() % 256) as u8;
-        match builder.as_slice().get(..size) {
-            Some(part) if part.iter().all(|b| *b == last) => {}
-            _ => return Ok(false),
+        if !a_filler_knows_its_place(builder, numbers) {
+            return false;
         }
     }
-    Ok(true)
+    true
 }
 
 fn random_bytes(alloc: Global, numbers: &mut Numbers) -> Result<Vec<u8>, AllocError> {
@@ -294,20 +319,38 @@ fn all_stand(bytes: &[u8], parts: &[Written], root: &[u8], distance: usize) -> b
         && front.starts_with(&(start as u64).to_le_bytes()[..4])
 }
 
-// Writes random parts and a root, and tells whether they stand in the finished bytes.
+// Writes a root, and tells whether it and the parts before it stand in the finished bytes.
+fn root_stands(builder: &mut Builder, parts: &[Written], root: &[u8]) -> bool {
+    if put(builder, root, 2).is_err() {
+        return false;
+    }
+    let distance = builder.len();
+    match finish_last(builder) {
+        Ok(bytes) => all_stand(bytes, parts, root, distance),
+        Err(_) => false,
+    }
+}
+
+// The same of a random root.
+fn random_root_stands(
+    alloc: Global,
+    builder: &mut Builder,
+    numbers: &mut Numbers,
+    parts: &[Written],
+) -> Result<bool, AllocError> {
+    let root = random_bytes(alloc, numbers)?;
+    Ok(root_stands(builder, parts, root.as_slice()))
+}
+
+// The same behind random parts.
 fn random_parts_stand(
     alloc: Global,
     builder: &mut Builder,
     numbers: &mut Numbers,
 ) -> Result<bool, Fail> {
-    let parts = write_parts(alloc, builder, numbers)?;
-    let root = random_bytes(alloc, numbers)?;
-    put(builder, root.as_slice(), 2)?;
-    let distance = builder.len();
-    match finish_last(builder) {
-        Ok(bytes) => Ok(all_stand(bytes, parts.as_slice(), root.as_slice(), distance)),
-        Err(_) => Ok(false),
-    }
+    let mut parts = Vec::new(alloc);
+    write_parts(builder, numbers, &mut parts)?;
+    Ok(random_root_stands(alloc, builder, numbers, parts.as_slice())?)
 }
 
 // A round of random parts, whose fillers then tell where they were called.
@@ -315,13 +358,12 @@ fn a_round(alloc: Global, builder: &mut Builder, numbers: &mut Numbers) -> Resul
     let mut again = Numbers { last: numbers.last };
     let stand = random_parts_stand(alloc, builder, numbers)?;
     builder.clear();
-    let told = fillers_know_their_places(builder, &mut again)?;
-    Ok(stand && told)
+    Ok(stand && fillers_know_their_places(builder, &mut again))
 }
 
 // The same in a new builder.
 fn a_round_in_a_new_one(alloc: Global, numbers: &mut Numbers) -> Result<bool, Fail> {
-    let mut builder = Builder::new(alloc)?;
+    let mut builder = new_builder(alloc)?;
     a_round(alloc, &mut builder, numbers)
 }
 

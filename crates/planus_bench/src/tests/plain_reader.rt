@@ -21,22 +21,29 @@ fn part(bytes: &[u8], at: i128, count: i128) -> Option<&[u8]> {
     }
 }
 
-// The little-endian number of the bytes at a position, if they are all there.
-pub fn number(bytes: &[u8], at: i128, width: u8) -> Answer<u64> {
+// The little-endian number of the bytes at a position, if they are all there. Where a number, a
+// reference or a count isn't, its reader's error is that of an invalid offset.
+pub fn number(bytes: &[u8], at: i128, width: u8) -> Option<u64> {
     let mut value: u64 = 0;
     let mut worth: u64 = 1;
     for i in 0..width {
-        let Some(byte) = byte(bytes, at.wrapping_add(i as i128)) else {
-            return Err(ErrorKind::InvalidOffset);
-        };
+        let byte = byte(bytes, at.wrapping_add(i as i128))?;
         value = value.wrapping_add(worth.wrapping_mul(byte as u64));
         worth = worth.wrapping_mul(256);
     }
-    Ok(value)
+    Some(value)
+}
+
+// The same as a wider number.
+pub fn unsigned(bytes: &[u8], at: i128, width: u8) -> Option<i128> {
+    match number(bytes, at, width) {
+        Some(value) => Some(value as i128),
+        None => None,
+    }
 }
 
 // The same bytes as a number of two's complement.
-pub fn signed(bytes: &[u8], at: i128, width: u8) -> Answer<i128> {
+pub fn signed(bytes: &[u8], at: i128, width: u8) -> Option<i128> {
     let value = number(bytes, at, width)? as i128;
     let all: i128 = match width {
         1 => 0x100,
@@ -44,16 +51,17 @@ pub fn signed(bytes: &[u8], at: i128, width: u8) -> Answer<i128> {
         4 => 0x1_0000_0000,
         _ => 0x1_0000_0000_0000_0000,
     };
-    Ok(if value < all / 2 { value } else { value - all })
+    Some(if value < all / 2 { value } else { value - all })
 }
 
-// Where a reference leads.
-fn target(bytes: &[u8], f: i128) -> Answer<i128> {
+// Where a reference leads, if that is in the bytes or at their end.
+fn target(bytes: &[u8], f: i128) -> Option<i128> {
     let target = f.wrapping_add(number(bytes, f, 4)? as i128);
-    if target > bytes.len() as i128 {
-        return Err(ErrorKind::InvalidOffset);
+    if target <= bytes.len() as i128 {
+        Some(target)
+    } else {
+        None
     }
-    Ok(target)
 }
 
 // The items behind a count: where they begin, and how many there are.
@@ -71,46 +79,58 @@ impl PlainList {
     }
 }
 
-pub fn head(bytes: &[u8], f: i128) -> Answer<PlainList> {
+pub fn head(bytes: &[u8], f: i128) -> Option<PlainList> {
     let target = target(bytes, f)?;
     let count = number(bytes, target, 4)?;
-    Ok(PlainList {
+    Some(PlainList {
         items: target.wrapping_add(4),
         count,
     })
 }
 
 pub fn byte_list(bytes: &[u8], f: i128) -> Answer<&[u8]> {
-    let list = head(bytes, f)?;
+    let Some(list) = head(bytes, f) else {
+        return Err(ErrorKind::InvalidOffset);
+    };
     match part(bytes, list.items, list.count as i128) {
         Some(list) => Ok(list),
         None => Err(ErrorKind::InvalidLength),
     }
 }
 
-pub fn text(bytes: &[u8], f: i128) -> Answer<&str> {
-    let list = head(bytes, f)?;
+// The letters of a list, if they and a zero behind them are there.
+fn letters(bytes: &[u8], list: PlainList) -> Option<&[u8]> {
     let count = list.count as i128;
-    let zero = byte(bytes, list.items.wrapping_add(count));
-    match (zero, part(bytes, list.items, count)) {
-        (Some(0), Some(letters)) => Ok(std::str::from_utf8(letters)?),
-        _ => Err(ErrorKind::MissingNullTerminator),
+    match byte(bytes, list.items.wrapping_add(count)) {
+        Some(0) => part(bytes, list.items, count),
+        _ => None,
+    }
+}
+
+pub fn text(bytes: &[u8], f: i128) -> Answer<&str> {
+    let Some(list) = head(bytes, f) else {
+        return Err(ErrorKind::InvalidOffset);
+    };
+    match letters(bytes, list) {
+        Some(letters) => Ok(std::str::from_utf8(letters)?),
+        None => Err(ErrorKind::MissingNullTerminator),
     }
 }
 
 // A vector of items of this size.
 pub fn vector(bytes: &[u8], f: i128, stride: i128) -> Answer<PlainList> {
-    let list = head(bytes, f)?;
-    if !list.fits(bytes, stride) {
-        return Err(ErrorKind::InvalidLength);
+    match head(bytes, f) {
+        Some(list) if list.fits(bytes, stride) => Ok(list),
+        Some(_) => Err(ErrorKind::InvalidLength),
+        None => Err(ErrorKind::InvalidOffset),
     }
-    Ok(list)
 }
 
 // The tags of a vector of unions, and its references.
 pub fn union_vector(bytes: &[u8], f: i128, g: i128) -> Answer<(PlainList, PlainList)> {
-    let tags = head(bytes, f)?;
-    let values = head(bytes, g)?;
+    let (Some(tags), Some(values)) = (head(bytes, f), head(bytes, g)) else {
+        return Err(ErrorKind::InvalidOffset);
+    };
     if !tags.fits(bytes, 1) || !values.fits(bytes, 4) {
         return Err(ErrorKind::InvalidLength);
     }
@@ -132,26 +152,34 @@ pub struct PlainTable<'a> {
     size: u16,
 }
 
-// A table, of which no part may stand in front of a position.
-pub fn table(bytes: &[u8], from: i128, f: i128) -> Answer<PlainTable<'_>> {
+// A table, of which no part may stand in front of a position, if its words are there.
+fn words(bytes: &[u8], from: i128, f: i128) -> Option<PlainTable<'_>> {
     let object = target(bytes, f)?;
     let vtable = object.wrapping_sub(signed(bytes, object, 4)?);
     if vtable < from {
-        return Err(ErrorKind::InvalidOffset);
+        return None;
     }
     let size = (number(bytes, vtable, 2)? % 65536) as u16;
-    if size < 4 || size % 2 != 0 {
-        return Err(ErrorKind::InvalidVtableLength { length: size });
-    }
-    if vtable.wrapping_add(size as i128) > bytes.len() as i128 {
-        return Err(ErrorKind::InvalidLength);
-    }
-    Ok(PlainTable {
+    Some(PlainTable {
         bytes,
         object,
         vtable,
         size,
     })
+}
+
+pub fn table(bytes: &[u8], from: i128, f: i128) -> Answer<PlainTable<'_>> {
+    let Some(table) = words(bytes, from, f) else {
+        return Err(ErrorKind::InvalidOffset);
+    };
+    let length = table.size;
+    if length < 4 || length % 2 != 0 {
+        return Err(ErrorKind::InvalidVtableLength { length });
+    }
+    if table.vtable.wrapping_add(length as i128) > bytes.len() as i128 {
+        return Err(ErrorKind::InvalidLength);
+    }
+    Ok(table)
 }
 
 impl<'a> PlainTable<'a> {
@@ -177,6 +205,12 @@ impl<'a> PlainTable<'a> {
         }
     }
 
+    // The tag of the union of a slot, if its byte is there.
+    fn tag(&self, slot: usize) -> Option<u8> {
+        let at = self.object.wrapping_add(self.slot(slot));
+        Some((number(self.bytes, at, 1)? % 256) as u8)
+    }
+
     // The tag of the union of a slot and the next, and the position of its reference.
     pub fn union(&self, slot: usize) -> Answer<Option<(u8, i128)>> {
         if !self.has_slots(slot, 2) {
@@ -186,12 +220,11 @@ impl<'a> PlainTable<'a> {
                 Err(ErrorKind::InvalidVtableLength { length: self.size })
             };
         }
-        let tag_at = self.object.wrapping_add(self.slot(slot));
-        let tag = (number(self.bytes, tag_at, 1)? % 256) as u8;
-        let next = slot.wrapping_add(1);
-        match (tag, self.field(slot), self.field(next)) {
-            (0, _, _) => Ok(None),
-            (_, Some(_), Some(value)) => Ok(Some((tag, value))),
+        let Some(tag) = self.tag(slot) else {
+            return Err(ErrorKind::InvalidOffset);
+        };
+        match (self.field(slot), self.field(slot.wrapping_add(1))) {
+            (Some(_), Some(value)) if tag != 0 => Ok(Some((tag, value))),
             _ => Ok(None),
         }
     }

@@ -36,6 +36,62 @@ fn size_of(field: &Field) -> usize {
     }
 }
 
+// The size of all of these fields.
+fn size_of_all(fields: &[Field]) -> usize {
+    let mut size: usize = 0;
+    for field in fields {
+        size = size.wrapping_add(size_of(field));
+    }
+    size
+}
+
+// The greatest alignment of these fields, at least 4.
+fn alignment_of(fields: &[Field]) -> usize {
+    let mut alignment = 4;
+    for field in fields {
+        alignment = alignment.max(size_of(field));
+    }
+    alignment
+}
+
+// How many slots a vtable has: up to the greatest of these fields.
+fn slots_of(fields: &[Field]) -> usize {
+    let mut slots: usize = 0;
+    for field in fields {
+        slots = slots.max(field.slot as usize + 1);
+    }
+    slots
+}
+
+// Where the field of a slot stands behind the object's word, 0 where there is none.
+fn place_of(fields: &[Field], slot: usize) -> usize {
+    let mut place: usize = 4;
+    for field in fields {
+        if field.slot as usize == slot {
+            return place;
+        }
+        place = place.wrapping_add(size_of(field));
+    }
+    0
+}
+
+// Adds a number of two bytes.
+fn push_number(bytes: &mut Vec<u8>, number: usize) -> Result<(), AllocError> {
+    bytes.extend_from_slice(&(number as u64).to_le_bytes()[..2])
+}
+
+// Adds the bytes of a vtable: its size, the object's, and where the field of each slot stands
+// behind the object's word.
+fn push_vtable(bytes: &mut Vec<u8>, fields: &[Field]) -> Result<(), AllocError> {
+    let slots = slots_of(fields);
+    push_number(bytes, slots.wrapping_mul(2).wrapping_add(4))?;
+    push_number(bytes, size_of_all(fields).wrapping_add(4))?;
+    for slot in 0..slots {
+        push_number(bytes, place_of(fields, slot))?;
+    }
+    Ok(())
+}
+
 impl Written {
     fn nothing(alloc: Global, switches: Switches) -> Written {
         Written {
@@ -145,27 +201,29 @@ impl Written {
         Ok(())
     }
 
-    fn text(&mut self, step: usize, text: &[u8]) -> Result<(), Fail> {
-        if let Some(distance) = self.shared_at(Kind::Text, text) {
-            return self.add_at(step, distance);
+    // Contents of this kind, with their count in front and these bytes behind them, of which the
+    // distance is answered.
+    fn counted(&mut self, kind: Kind, contents: &[u8], behind: &[u8]) -> Result<usize, AllocError> {
+        if let Some(distance) = self.shared_at(kind, contents) {
+            return Ok(distance);
         }
-        self.pad(text.len().wrapping_add(5), 4)?;
-        self.put(&[0])?;
-        self.put(text)?;
-        self.put_word(text.len())?;
-        self.share(Kind::Text, text)?;
-        self.add(step)
+        let size = contents.len().wrapping_add(behind.len());
+        self.pad(size.wrapping_add(4), 4)?;
+        self.put(behind)?;
+        self.put(contents)?;
+        self.put_word(contents.len())?;
+        self.share(kind, contents)?;
+        Ok(self.reversed.len())
+    }
+
+    fn text(&mut self, step: usize, text: &[u8]) -> Result<(), Fail> {
+        let distance = self.counted(Kind::Text, text, &[0])?;
+        self.add_at(step, distance)
     }
 
     fn bytes(&mut self, step: usize, bytes: &[u8]) -> Result<(), Fail> {
-        if let Some(distance) = self.shared_at(Kind::Bytes, bytes) {
-            return self.add_at(step, distance);
-        }
-        self.pad(bytes.len().wrapping_add(4), 4)?;
-        self.put(bytes)?;
-        self.put_word(bytes.len())?;
-        self.share(Kind::Bytes, bytes)?;
-        self.add(step)
+        let distance = self.counted(Kind::Bytes, bytes, &[])?;
+        self.add_at(step, distance)
     }
 
     fn numbers(&mut self, step: usize, width: u8, items: &[u64]) -> Result<(), Fail> {
@@ -223,44 +281,21 @@ impl Written {
         Ok(())
     }
 
-    // The bytes of a vtable: its size, the object's, and where the field of each slot stands behind
-    // the object's word.
-    fn vtable_bytes(&self, fields: &[Field]) -> Result<Vec<u8>, AllocError> {
-        let mut slots: usize = 0;
-        for field in fields {
-            slots = slots.max(field.slot as usize + 1);
-        }
-        let mut numbers: Vec<usize> = Vec::new(self.alloc);
-        numbers.push(slots.wrapping_mul(2).wrapping_add(4))?;
-        for _ in 0..=slots {
-            numbers.push(0)?;
-        }
-        let mut object: usize = 4;
-        for field in fields {
-            if let Some(offset) = numbers.get_mut(field.slot as usize + 2) {
-                *offset = object;
-            }
-            object = object.wrapping_add(size_of(field));
-        }
-        if let Some(size) = numbers.get_mut(1) {
-            *size = object;
-        }
-        let mut bytes = Vec::new(self.alloc);
-        for number in &numbers {
-            bytes.extend_from_slice(&(*number as u64).to_le_bytes()[..2])?;
-        }
-        Ok(bytes)
-    }
-
     // A vtable, of which the distance is answered.
     fn vtable(&mut self, fields: &[Field]) -> Result<usize, AllocError> {
-        let vtable = self.vtable_bytes(fields)?;
-        if let Some(distance) = self.shared_at(Kind::Vtable, vtable.as_slice()) {
+        let mut vtable = Vec::new(self.alloc);
+        push_vtable(&mut vtable, fields)?;
+        self.vtable_of(vtable.as_slice())
+    }
+
+    // The same by its bytes.
+    fn vtable_of(&mut self, vtable: &[u8]) -> Result<usize, AllocError> {
+        if let Some(distance) = self.shared_at(Kind::Vtable, vtable) {
             return Ok(distance);
         }
         self.pad(vtable.len(), 2)?;
-        self.put(vtable.as_slice())?;
-        self.share(Kind::Vtable, vtable.as_slice())?;
+        self.put(vtable)?;
+        self.share(Kind::Vtable, vtable)?;
         Ok(self.reversed.len())
     }
 
@@ -286,13 +321,7 @@ impl Written {
 
     fn table(&mut self, step: usize, fields: &[Field]) -> Result<(), Fail> {
         let vtable = self.vtable(fields)?;
-        let mut size: usize = 0;
-        let mut alignment = 4;
-        for field in fields {
-            size = size.wrapping_add(size_of(field));
-            alignment = alignment.max(size_of(field));
-        }
-        self.pad(size, alignment)?;
+        self.pad(size_of_all(fields), alignment_of(fields))?;
         let len = fields.len();
         for i in 0..len {
             self.field(&fields[len - 1 - i].value)?;

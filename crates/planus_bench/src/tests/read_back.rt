@@ -31,6 +31,14 @@ fn numbers_are<'a, T: VectorRead<'a> + Into<u64> + Drop>(
     list.len() == numbers.len()
 }
 
+fn has_text(place: Place<'_>, text: &str) -> Result<bool, Fail> {
+    Ok(place.read::<&str>()? == text)
+}
+
+fn has_bytes(place: Place<'_>, bytes: &[u8]) -> Result<bool, Fail> {
+    Ok(place.read::<&[u8]>()? == bytes)
+}
+
 // Whether a list of these numbers, each of 2, 4 or 8 bytes, stands there.
 fn has_numbers(place: Place<'_>, width: u8, numbers: &[u64]) -> Result<bool, Fail> {
     match width {
@@ -145,8 +153,8 @@ impl<'a> Reading<'a> {
     // Whether the value stands there that the step wrote.
     fn has_value(&mut self, place: Place<'a>, step: usize) -> Result<bool, Fail> {
         match self.steps.get(step) {
-            Some(Step::Text(text)) => Ok(place.read::<&str>()? == text.as_str()),
-            Some(Step::Bytes(bytes)) => Ok(place.read::<&[u8]>()? == bytes.as_slice()),
+            Some(Step::Text(text)) => has_text(place, text.as_str()),
+            Some(Step::Bytes(bytes)) => has_bytes(place, bytes.as_slice()),
             Some(Step::Numbers { width, items }) => has_numbers(place, *width, items.as_slice()),
             Some(Step::Refs(steps)) => self.has_references(place, steps.as_slice()),
             Some(Step::Table(fields)) => self.has_fields(place, fields.as_slice()),

@@ -2,12 +2,13 @@
 //! taken but a few bytes, and at each turn with a few bytes more; and once as they are, for a script
 //! that refuses each request in turn.
 
-use super::check;
 use super::refused_calls::{Call, Outcome, make, make_again, outcome_of, prepare};
 use super::refused_copies::{
     Copied, copy_numbers, copy_texts, numbers_are_copied, replay_weapon, texts_are_copied,
-    weapon_is_replayed, weapon_steps,
+    weapon_is_replayed,
 };
+use super::runs::weapon;
+use super::{check, new_builder};
 use planus::{BuildError, Builder, Step};
 use planus_exhaust::{exhaust_all_but, holds_or_says};
 use std::alloc::{AllocError, Global};
@@ -50,7 +51,7 @@ fn outcome_in(
 
 // The same in a new builder.
 fn outcome_with(alloc: Global, call: Call, spare: usize) -> Result<Option<Outcome>, BuildError> {
-    let mut builder = Builder::new(alloc)?;
+    let mut builder = new_builder(alloc)?;
     outcome_in(alloc, &mut builder, call, spare)
 }
 
@@ -177,7 +178,7 @@ const OTHERS: &[(&str, Other, usize, usize)] = &[
 
 #[test]
 fn calls_on_no_builder(rt: HostRuntime) -> Result<(), Fail> {
-    let steps = weapon_steps(rt.alloc())?;
+    let steps = weapon(rt.alloc())?;
     for (name, other, more, least) in OTHERS {
         let refusals = refusals_of(rt.alloc(), *other, *more, steps.as_slice())?;
         let enough = refusals.map(|turns| turns >= *least);

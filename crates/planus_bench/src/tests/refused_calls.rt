@@ -2,6 +2,7 @@
 
 ghost use Rattle.std.specs.Prelude.{◌≡◌, ◌≤◌, length, IsTrue, codes};
 
+use super::kinds::slot_has;
 use planus::table_reader::Table;
 use planus::{
     BuildError, Builder, Error, Offset, SliceWithStartOffset, TableKind, TableRead, Text,
@@ -84,19 +85,29 @@ fn write_list(builder: &mut Builder) -> Result<Written, BuildError> {
     })
 }
 
-/// Writes the vector of unions of two texts, which are found.
-fn write_unions(builder: &mut Builder) -> Result<Written, BuildError> {
-    let [a, b] = write_texts(builder)?;
-    let first: UnionOffset<()> = UnionOffset::new(1, a.downcast());
-    let second: UnionOffset<()> = UnionOffset::new(2, b.downcast());
+/// Writes a vector of these unions.
+fn write_unions_of(
+    builder: &mut Builder,
+    first: UnionOffset<()>,
+    second: UnionOffset<()>,
+) -> Result<Written, BuildError> {
     if !has(builder, first.offset().distance()) || !has(builder, second.offset().distance()) {
         return Err(BuildError::TooLarge);
     }
-    let unions = builder.create_union_vector([first, second])?;
-    Ok(Written {
-        value: unions.values_offset().downcast(),
-        tags: Some(unions.tags_offset().downcast()),
-    })
+    match builder.create_union_vector([first, second]) {
+        Ok(unions) => Ok(Written {
+            value: unions.values_offset().downcast(),
+            tags: Some(unions.tags_offset().downcast()),
+        }),
+        Err(error) => Err(error),
+    }
+}
+
+/// Writes the vector of unions of two texts, which are found.
+fn write_unions(builder: &mut Builder) -> Result<Written, BuildError> {
+    let [a, b] = write_texts(builder)?;
+    let first = UnionOffset::new(1, a.downcast());
+    write_unions_of(builder, first, UnionOffset::new(2, b.downcast()))
 }
 
 fn write_weapon(builder: &mut Builder) -> Result<Written, BuildError> {
@@ -147,10 +158,7 @@ fn tags_are_read(bytes: &[u8]) -> bool {
 
 pub fn weapon_is_read(bytes: &[u8]) -> bool {
     match Table::from_buffer(SliceWithStartOffset::new(bytes, 0), 0) {
-        Ok(weapon) => {
-            matches!(weapon.access::<&str>(0, "Weapon", "name"), Ok(Some("Axe")))
-                && matches!(weapon.access::<i16>(1, "Weapon", "damage"), Ok(Some(24)))
-        }
+        Ok(weapon) => { slot_has(weapon, 0, Some("Axe")) && slot_has(weapon, 1, Some(24i16)) }
         Err(_) => false,
     }
 }

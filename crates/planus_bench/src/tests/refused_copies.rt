@@ -1,11 +1,12 @@
 //! Copies and a replay, which ask for memory several times.
 
 use super::refused_calls::weapon_is_read;
+use super::runs::weapon;
 use planus::{
-    Caches, CopyError, Error, Field, FieldValue, Finished, ReplayError, SliceWithStartOffset, Step,
-    TableRead, Vector, replay,
+    Caches, CopyError, Error, Finished, ReplayError, SliceWithStartOffset, Step, TableRead, Vector,
+    replay,
 };
-use std::alloc::{AllocError, Global};
+use std::alloc::Global;
 
 /// What a call came to.
 #[derive(Clone, Copy)]
@@ -114,28 +115,6 @@ pub fn copy_texts(alloc: Global) -> Copied {
     }
 }
 
-/// The steps `text Axe`, `table 0=ref:0 1=u16:24`, `finish 1`.
-pub fn weapon_steps(alloc: Global) -> Result<Vec<Step>, AllocError> {
-    let mut fields = Vec::new(alloc);
-    for (slot, value) in [
-        (0, FieldValue::Ref(0)),
-        (
-            1,
-            FieldValue::Number {
-                width: 2,
-                value: 24,
-            },
-        ),
-    ] {
-        fields.push(Field { slot, value })?;
-    }
-    let mut steps = Vec::new(alloc);
-    steps.push(Step::Text(String::from_str(alloc, "Axe")?))?;
-    steps.push(Step::Table(fields))?;
-    steps.push(Step::Finish { root: 1, id: None })?;
-    Ok(steps)
-}
-
 fn is_weapon(finished: &[Finished]) -> bool {
     match finished {
         [one] => weapon_is_read(one.bytes.as_slice()) && one.bytes.len() == 32,
@@ -163,7 +142,7 @@ fn replay_twice(alloc: Global, steps: &[Step]) -> Copied {
 
 /// Replays the steps of the weapon.
 pub fn replay_weapon(alloc: Global) -> Copied {
-    match weapon_steps(alloc) {
+    match weapon(alloc) {
         Ok(steps) => replay_twice(alloc, steps.as_slice()),
         Err(_) => Copied::NotBegun,
     }

@@ -23,6 +23,22 @@ impl Numbers {
     }
 }
 
+// Adds a step, where there was memory for it.
+pub fn add(steps: &mut Vec<Step>, step: Result<Step, AllocError>) -> Result<(), AllocError> {
+    steps.push(step?)?;
+    Ok(())
+}
+
+// Adds a finish with the value of this step.
+pub fn add_finish(steps: &mut Vec<Step>, root: usize) -> Result<(), AllocError> {
+    add(steps, Ok(Step::Finish { root, id: None }))
+}
+
+// A text of these letters.
+pub fn word(alloc: Global, letters: &str) -> Result<Step, AllocError> {
+    Ok(Step::Text(String::from_str(alloc, letters)?))
+}
+
 // A text of `count` letters.
 pub fn text(alloc: Global, count: usize) -> Result<Step, AllocError> {
     let mut text = String::new(alloc);
@@ -228,26 +244,40 @@ pub fn counts(steps: &[Step]) -> (usize, usize, usize, usize) {
     counts
 }
 
-// A text `Axe`, a table with its reference and the number 24, and a finish.
-fn weapon(alloc: Global) -> Result<Vec<Step>, AllocError> {
+// Adds a text `Axe`, a table with its reference and the number 24, and a finish.
+fn push_weapon(alloc: Global, steps: &mut Vec<Step>) -> Result<(), AllocError> {
+    add(steps, word(alloc, "Axe"))?;
+    add(steps, with_name(alloc, 0))?;
+    add_finish(steps, 1)
+}
+
+pub fn weapon(alloc: Global) -> Result<Vec<Step>, AllocError> {
     let mut steps = Vec::new(alloc);
-    steps.push(Step::Text(String::from_str(alloc, "Axe")?))?;
-    steps.push(with_name(alloc, 0, 24)?)?;
-    steps.push(Step::Finish { root: 1, id: None })?;
+    push_weapon(alloc, &mut steps)?;
     Ok(steps)
 }
 
-// A table with a reference in slot 0 and a number of two bytes in slot 1.
-fn with_name(alloc: Global, name: usize, value: u64) -> Result<Step, AllocError> {
+// Adds a field.
+pub fn add_field(fields: &mut Vec<Field>, slot: u16, value: FieldValue) -> Result<(), AllocError> {
+    fields.push(Field { slot, value })?;
+    Ok(())
+}
+
+// A table with a reference in slot 0 and the number 24 of two bytes in slot 1.
+fn with_name(alloc: Global, name: usize) -> Result<Step, AllocError> {
     let mut fields = Vec::new(alloc);
-    let name = FieldValue::Ref(name);
-    fields.push(Field {
-        slot: 0,
-        value: name,
-    })?;
-    let value = FieldValue::Number { width: 2, value };
-    fields.push(Field { slot: 1, value })?;
+    let number = FieldValue::Number {
+        width: 2,
+        value: 24,
+    };
+    add_field(&mut fields, 0, FieldValue::Ref(name))?;
+    add_field(&mut fields, 1, number)?;
     Ok(Step::Table(fields))
+}
+
+// A byte list of these letters.
+fn word_bytes(alloc: Global, letters: &str) -> Result<Step, AllocError> {
+    Ok(Step::Bytes(Vec::from_slice(alloc, letters.as_bytes())?))
 }
 
 // Adds a text and a byte list of this word, a table that refers to the step `first`, and a list.
@@ -255,13 +285,12 @@ fn push_values(
     alloc: Global,
     steps: &mut Vec<Step>,
     first: usize,
-    word: &str,
+    letters: &str,
 ) -> Result<(), AllocError> {
-    steps.push(Step::Text(String::from_str(alloc, word)?))?;
-    steps.push(Step::Bytes(Vec::from_slice(alloc, word.as_bytes())?))?;
-    steps.push(with_name(alloc, first, 24)?)?;
-    steps.push(list(alloc, 2, word.len())?)?;
-    Ok(())
+    add(steps, word(alloc, letters))?;
+    add(steps, word_bytes(alloc, letters))?;
+    add(steps, with_name(alloc, first))?;
+    add(steps, list(alloc, 2, letters.len()))
 }
 
 // References to all steps from this one on.
@@ -277,21 +306,24 @@ fn refs_from(alloc: Global, first: usize, end: usize) -> Result<Step, AllocError
 // and a clear.
 fn push_repeated(alloc: Global, steps: &mut Vec<Step>) -> Result<(), AllocError> {
     let first = steps.len();
-    for word in ["Hi", "Ho", "Hi"] {
-        push_values(alloc, steps, first, word)?;
-    }
+    push_values(alloc, steps, first, "Hi")?;
+    push_values(alloc, steps, first, "Ho")?;
+    push_values(alloc, steps, first, "Hi")?;
     let root = steps.len();
-    steps.push(refs_from(alloc, first, root)?)?;
-    steps.push(Step::Finish { root, id: None })?;
-    steps.push(Step::Clear)?;
-    Ok(())
+    add(steps, refs_from(alloc, first, root))?;
+    add_finish(steps, root)?;
+    add(steps, Ok(Step::Clear))
 }
 
 // These, written, finished, cleared, and written again.
+fn push_repeated_twice(alloc: Global, steps: &mut Vec<Step>) -> Result<(), AllocError> {
+    push_repeated(alloc, steps)?;
+    push_repeated(alloc, steps)
+}
+
 fn repeated(alloc: Global) -> Result<Vec<Step>, AllocError> {
     let mut steps = Vec::new(alloc);
-    push_repeated(alloc, &mut steps)?;
-    push_repeated(alloc, &mut steps)?;
+    push_repeated_twice(alloc, &mut steps)?;
     Ok(steps)
 }
 
@@ -304,55 +336,93 @@ fn root_of(step: &Step) -> Option<(usize, bool)> {
     }
 }
 
-// Whether a replay with these caches gives the same bytes and places, of which each root is read
-// back as the steps say it.
-fn gives(alloc: Global, caches: Caches, steps: &[Step], want: &[Finished]) -> Result<bool, Fail> {
-    let got = replay(alloc, caches, steps)?;
-    let mut finishes = got.iter().zip(want.iter());
-    for step in steps {
-        if let Some((root, sized)) = root_of(step) {
-            match finishes.next() {
-                Some((got, want))
-                    if got.bytes.as_slice() == want.bytes.as_slice()
-                        && got.places.as_slice() == want.places.as_slice()
-                        && reads_back(alloc, steps, root, sized, got)? => {}
-                _ => return Ok(false),
-            }
-        }
-    }
-    Ok(got.len() == want.len())
+fn is_same(got: &Finished, want: &Finished) -> bool {
+    got.bytes.as_slice() == want.bytes.as_slice() && got.places.as_slice() == want.places.as_slice()
 }
 
-// Compares replays in every setting, with none, some or all of the bits of a hash, with plain runs.
-fn replays_agree(rt: &impl Abort, alloc: Global, steps: &[Step]) -> Result<(), Fail> {
-    for number in 0..8 {
-        let switches = Switches::of(number);
-        let want = plain_run(alloc, switches, steps)?;
-        for mask in [0, 1, 2, 0xff, 1 << 63, u64::MAX] {
-            let caches = switches.caches(mask);
-            let agrees = gives(alloc, caches, steps, want.as_slice())?;
-            assert!(rt; agrees, "{} steps, {caches:?}", steps.len());
+// Whether two runs give the same bytes and places.
+pub fn are_same(got: &[Finished], want: &[Finished]) -> bool {
+    for i in 0..got.len() {
+        match want.get(i) {
+            Some(want) if is_same(&got[i], want) => {}
+            _ => return false,
         }
+    }
+    got.len() == want.len()
+}
+
+// Whether there is one for each finish of the steps, and its root is read back as the steps say it.
+fn are_read_back(alloc: Global, steps: &[Step], finished: &[Finished]) -> Result<bool, Fail> {
+    let mut count: usize = 0;
+    for step in steps {
+        if let Some((root, sized)) = root_of(step) {
+            match finished.get(count) {
+                Some(one) if reads_back(alloc, steps, root, sized, one)? => {}
+                _ => return Ok(false),
+            }
+            count = count.wrapping_add(1);
+        }
+    }
+    Ok(count == finished.len())
+}
+
+// Whether a replay with these caches gives the same bytes and places, of which each root is read
+// back.
+fn gives(alloc: Global, caches: Caches, steps: &[Step], want: &[Finished]) -> Result<bool, Fail> {
+    let got = replay(alloc, caches, steps)?;
+    Ok(are_same(got.as_slice(), want) && are_read_back(alloc, steps, got.as_slice())?)
+}
+
+// Compares replays in a setting, with none, some or all of the bits of a hash, with a plain run.
+fn replays_agree_in(
+    rt: &impl Abort,
+    alloc: Global,
+    switches: Switches,
+    steps: &[Step],
+) -> Result<(), Fail> {
+    let want = plain_run(alloc, switches, steps)?;
+    for mask in [0, 1, 2, 0xff, 1 << 63, u64::MAX] {
+        let caches = switches.caches(mask);
+        let agrees = gives(alloc, caches, steps, want.as_slice())?;
+        assert!(rt; agrees, "{} steps, {caches:?}", steps.len());
     }
     Ok(())
 }
 
-// The same of steps that are handed over.
-fn replays_of(rt: &impl Abort, alloc: Global, steps: Vec<Step>) -> Result<(), Fail> {
+// The same in every setting.
+fn replays_agree(rt: &impl Abort, alloc: Global, steps: &[Step]) -> Result<(), Fail> {
+    for number in 0..8 {
+        replays_agree_in(rt, alloc, Switches::of(number), steps)?;
+    }
+    Ok(())
+}
+
+// The same of steps that are handed over, where there was memory for them.
+fn replays_of(
+    rt: &impl Abort,
+    alloc: Global,
+    steps: Result<Vec<Step>, AllocError>,
+) -> Result<(), Fail> {
+    let steps = steps?;
     replays_agree(rt, alloc, steps.as_slice())
+}
+
+fn are_mixed(steps: &[Step]) -> bool {
+    steps.len() == 300 && counts(steps) == (14, 65, 50, 22)
+}
+
+// The same of mixed steps, of which there are as many as there should be.
+fn mixed_replays(rt: &impl Abort, alloc: Global) -> Result<(), Fail> {
+    let mixed = mixed_steps(alloc, 300)?;
+    check(rt, are_mixed(mixed.as_slice()), "mixed steps");
+    replays_agree(rt, alloc, mixed.as_slice())
 }
 
 #[test]
 fn runs_in_every_setting(rt: HostRuntime) -> Result<(), Fail> {
     let alloc = rt.alloc();
-    replays_of(&rt, alloc, weapon(alloc)?)?;
-    replays_of(&rt, alloc, two_texts(alloc)?)?;
-    replays_of(&rt, alloc, repeated(alloc)?)?;
-    let mixed = mixed_steps(alloc, 300)?;
-    check(
-        &rt,
-        mixed.len() == 300 && counts(mixed.as_slice()) == (14, 65, 50, 22),
-        "mixed steps",
-    );
-    replays_of(&rt, alloc, mixed)
+    replays_of(&rt, alloc, weapon(alloc))?;
+    replays_of(&rt, alloc, two_texts(alloc))?;
+    replays_of(&rt, alloc, repeated(alloc))?;
+    mixed_replays(&rt, alloc)
 }

@@ -1,13 +1,13 @@
 //! The version, what is exported again, and a step that no script has.
 
 use super::new_builder;
+use super::runs::{add, add_field, word};
 use crate::tests::check;
 use planus::{
-    Builder, Caches, Field, FieldValue, ReplayError, SliceWithStartOffset, Step, TableRead, Why,
+    Builder, Caches, FieldValue, ReplayError, SliceWithStartOffset, Step, TableRead, Why,
     check_version_compatibility, replay,
 };
 use std::alloc::{AllocError, Global};
-use std::test::Fail;
 
 #[test]
 fn this_version_alone(rt: HostRuntime) {
@@ -31,36 +31,39 @@ fn a_text_is_read_back(builder: &mut Builder) -> bool {
     bytes == b"\x08\0\0\0TEST\x03\0\0\0Axe\0".as_slice() && matches!(text, Ok("Axe"))
 }
 
+// The same in a new builder.
+fn a_text_is_read_back_in(alloc: Global) -> bool {
+    match new_builder(alloc) {
+        Ok(mut builder) => a_text_is_read_back(&mut builder),
+        Err(_) => false,
+    }
+}
+
 #[test]
-fn a_text_is_written_and_read_back(rt: HostRuntime) -> Result<(), Fail> {
-    let mut builder = new_builder(rt.alloc())?;
-    check(
-        &rt,
-        a_text_is_read_back(&mut builder),
-        "a text is read back",
-    );
-    Ok(())
+fn a_text_is_written_and_read_back(rt: HostRuntime) {
+    let read = a_text_is_read_back_in(rt.alloc());
+    check(&rt, read, "a text is read back");
 }
 
 // A list, or a table, of a number of 3 bytes.
 fn odd_width(alloc: Global, in_table: bool) -> Result<Step, AllocError> {
     if in_table {
         let mut fields = Vec::new(alloc);
-        let value = FieldValue::Number { width: 3, value: 1 };
-        fields.push(Field { slot: 0, value })?;
+        add_field(&mut fields, 0, FieldValue::Number { width: 3, value: 1 })?;
         return Ok(Step::Table(fields));
     }
-    let mut items = Vec::new(alloc);
-    items.push(1)?;
+    let items = Vec::from_slice(alloc, &[1])?;
     Ok(Step::Numbers { width: 3, items })
 }
 
-// A text, and behind it such a step.
-fn behind_a_text(alloc: Global, in_table: bool) -> Result<Vec<Step>, AllocError> {
-    let mut steps = Vec::new(alloc);
-    steps.push(Step::Text(String::from_str(alloc, "Axe")?))?;
-    steps.push(odd_width(alloc, in_table)?)?;
-    Ok(steps)
+// Adds a text, and behind it such a step.
+fn push_behind_a_text(
+    alloc: Global,
+    steps: &mut Vec<Step>,
+    in_table: bool,
+) -> Result<(), AllocError> {
+    add(steps, word(alloc, "Axe"))?;
+    add(steps, odd_width(alloc, in_table))
 }
 
 // Whether a replay is refused for the width in its second step.
@@ -72,6 +75,12 @@ fn is_refused(alloc: Global, steps: &[Step]) -> bool {
     }
 }
 
+// The same of a replay of such steps.
+fn width_is_refused(alloc: Global, in_table: bool) -> bool {
+    let mut steps = Vec::new(alloc);
+    push_behind_a_text(alloc, &mut steps, in_table).is_ok() && is_refused(alloc, steps.as_slice())
+}
+
 fn prints_its_words(alloc: Global, why: Why) -> bool {
     match format!(in alloc; "{why}") {
         Ok(text) => text.as_str() == "width unknown",
@@ -80,15 +89,9 @@ fn prints_its_words(alloc: Global, why: Why) -> bool {
 }
 
 #[test]
-fn a_width_that_numbers_cannot_have(rt: HostRuntime) -> Result<(), Fail> {
-    for in_table in [false, true] {
-        let steps = behind_a_text(rt.alloc(), in_table)?;
-        check(&rt, is_refused(rt.alloc(), steps.as_slice()), "the fault");
-    }
-    check(
-        &rt,
-        prints_its_words(rt.alloc(), Why::WidthUnknown),
-        "its words",
-    );
-    Ok(())
+fn a_width_that_numbers_cannot_have(rt: HostRuntime) {
+    let alloc = rt.alloc();
+    check(&rt, width_is_refused(alloc, false), "the fault in a list");
+    check(&rt, width_is_refused(alloc, true), "the fault in a table");
+    check(&rt, prints_its_words(alloc, Why::WidthUnknown), "its words");
 }

@@ -1,6 +1,7 @@
 //! Tables with a field of each type, written and read back.
 ghost use Rattle.std.specs.Prelude.{◌≤◌, length};
 
+use super::kinds::slot_has;
 use super::{new_builder, with_caches};
 use crate::tests::check;
 use planus::table_reader::Table;
@@ -9,8 +10,8 @@ use planus::{
     SignedBytes, SignedList, SliceWithStartOffset, TableRead, TableWriter, Vector,
     WriteAsPrimitive,
 };
+use std::alloc::Global;
 use std::marker::PhantomData;
-use std::test::Fail;
 
 // One field.
 #[derive(Drop)]
@@ -58,92 +59,132 @@ fn finished<P: Primitive, T: WriteAsPrimitive<P> + Drop>(
     builder.finish(root, None)
 }
 
+fn others_are_free(table: Table<'_>) -> bool {
+    slot_has::<u8>(table, 0, None) && slot_has::<u8>(table, 2, None)
+}
+
 // The field in slot 1 of the root, where slots 0 and 2 hold none.
-fn read<'a, T: TableRead<'a>>(bytes: &'a [u8]) -> Result<T, Fail> {
-    let whole = SliceWithStartOffset::new(bytes, 0);
-    let table = Table::from_buffer(whole, 0)?;
-    if table.access::<u8>(0, "Table", "before")?.is_some() {
-        return Err(Fail::new("a field in slot 0"));
+fn read<'a, T: TableRead<'a>>(bytes: &'a [u8]) -> Option<T> {
+    match Table::from_buffer(SliceWithStartOffset::new(bytes, 0), 0) {
+        Ok(table) if others_are_free(table) => {
+            match table.access_required::<T>(1, "Table", "field") {
+                Ok(field) => Some(field),
+                Err(_) => None,
+            }
+        }
+        _ => None,
     }
-    if table.access::<u8>(2, "Table", "behind")?.is_some() {
-        return Err(Fail::new("a field in slot 2"));
-    }
-    Ok(table.access_required::<T>(1, "Table", "field")?)
 }
 
 // Whether it is read as this value, where the table was finished.
 fn gives<'a, T: TableRead<'a> + PartialEq + Drop>(
     finished: Result<&'a [u8], BuildError>,
     want: T,
-) -> Result<bool, Fail> {
-    Ok(read::<T>(finished?)? == want)
+) -> bool {
+    match finished {
+        Ok(bytes) => read::<T>(bytes) == Some(want),
+        Err(_) => false,
+    }
 }
 
-fn unsigned_numbers_read_back(builder: &mut Builder) -> Result<bool, Fail> {
-    Ok(
-        gives(finished::<u8, u8>(builder, 255), 255u8)?
-            && gives(finished::<u16, u16>(builder, 513), 513u16)?
-            && gives(finished::<u32, u32>(builder, u32::MAX), u32::MAX)?
-            && gives(finished::<u64, u64>(builder, 1 << 63), 1u64 << 63)?,
-    )
+fn unsigned_numbers_read_back(builder: &mut Builder) -> bool {
+    gives(finished::<u8, u8>(builder, 255), 255u8)
+        && gives(finished::<u16, u16>(builder, 513), 513u16)
+        && gives(finished::<u32, u32>(builder, u32::MAX), u32::MAX)
+        && gives(finished::<u64, u64>(builder, 1 << 63), 1u64 << 63)
 }
 
-fn signed_numbers_read_back(builder: &mut Builder) -> Result<bool, Fail> {
-    Ok(
-        gives(finished::<i8, i8>(builder, -1), -1i8)?
-            && gives(finished::<i16, i16>(builder, -2), -2i16)?
-            && gives(finished::<i32, i32>(builder, i32::MIN), i32::MIN)?
-            && gives(finished::<i64, i64>(builder, -3), -3i64)?
-            && gives(finished::<bool, bool>(builder, true), true)?,
-    )
+fn signed_numbers_read_back(builder: &mut Builder) -> bool {
+    gives(finished::<i8, i8>(builder, -1), -1i8)
+        && gives(finished::<i16, i16>(builder, -2), -2i16)
+        && gives(finished::<i32, i32>(builder, i32::MIN), i32::MIN)
+        && gives(finished::<i64, i64>(builder, -3), -3i64)
+        && gives(finished::<bool, bool>(builder, true), true)
 }
 
-fn texts_and_bytes_read_back(builder: &mut Builder) -> Result<bool, Fail> {
-    let text = builder.create_string("Axe")?;
-    let same_text = read::<&str>(finished::<Offset<_>, _>(builder, text)?)? == "Axe";
-    let bytes = builder.create_vector(ByteList(b"\x01\x02"))?;
-    let same_bytes = read::<&[u8]>(finished::<Offset<_>, _>(builder, bytes)?)? == [1, 2].as_slice();
-    Ok(same_text && same_bytes)
+fn a_text_reads_back(builder: &mut Builder) -> bool {
+    match builder.create_string("Axe") {
+        Ok(text) => gives(finished::<Offset<_>, _>(builder, text), "Axe"),
+        Err(_) => false,
+    }
 }
 
-fn signed_bytes_read_back(builder: &mut Builder) -> Result<bool, Fail> {
-    let signed = builder.create_vector(SignedList(&[-1, 2]))?;
-    let list = read::<SignedBytes>(finished::<Offset<_>, _>(builder, signed)?)?;
-    Ok(list.get(0) == Some(-1) && list.get(1) == Some(2))
+fn bytes_read_back(builder: &mut Builder) -> bool {
+    let want = b"\x01\x02".as_slice();
+    match builder.create_vector(ByteList(want)) {
+        Ok(bytes) => gives(finished::<Offset<_>, _>(builder, bytes), want),
+        Err(_) => false,
+    }
 }
 
-fn lists_read_back(builder: &mut Builder) -> Result<bool, Fail> {
-    let numbers = builder.create_vector([7u16, 8])?;
-    let list = read::<Vector<u16>>(finished::<Offset<_>, _>(builder, numbers)?)?;
-    Ok(list.get(0) == Some(7) && list.get(1) == Some(8))
+fn is_signed_list(bytes: &[u8]) -> bool {
+    match read::<SignedBytes>(bytes) {
+        Some(list) => list.get(0) == Some(-1) && list.get(1) == Some(2),
+        None => false,
+    }
+}
+
+fn signed_bytes_read_back(builder: &mut Builder) -> bool {
+    match builder.create_vector(SignedList(&[-1, 2])) {
+        Ok(signed) => match finished::<Offset<_>, _>(builder, signed) {
+            Ok(bytes) => is_signed_list(bytes),
+            Err(_) => false,
+        },
+        Err(_) => false,
+    }
+}
+
+fn is_list(bytes: &[u8]) -> bool {
+    match read::<Vector<u16>>(bytes) {
+        Some(list) => list.get(0) == Some(7) && list.get(1) == Some(8),
+        None => false,
+    }
+}
+
+fn lists_read_back(builder: &mut Builder) -> bool {
+    match builder.create_vector([7u16, 8]) {
+        Ok(numbers) => match finished::<Offset<_>, _>(builder, numbers) {
+            Ok(bytes) => is_list(bytes),
+            Err(_) => false,
+        },
+        Err(_) => false,
+    }
 }
 
 // Whether fields read back: unsigned and signed numbers, texts and bytes, signed bytes, and lists.
-fn fields_read_back(builder: &mut Builder) -> Result<[bool; 5], Fail> {
-    Ok([
-        unsigned_numbers_read_back(builder)?,
-        signed_numbers_read_back(builder)?,
-        texts_and_bytes_read_back(builder)?,
-        signed_bytes_read_back(builder)?,
-        lists_read_back(builder)?,
-    ])
+fn fields_read_back(builder: &mut Builder) -> [bool; 5] {
+    [
+        unsigned_numbers_read_back(builder),
+        signed_numbers_read_back(builder),
+        a_text_reads_back(builder) && bytes_read_back(builder),
+        signed_bytes_read_back(builder),
+        lists_read_back(builder),
+    ]
+}
+
+// The same in a new builder.
+fn fields_read_back_in(alloc: Global) -> [bool; 5] {
+    match new_builder(alloc) {
+        Ok(mut builder) => fields_read_back(&mut builder),
+        Err(_) => [false; 5],
+    }
 }
 
 #[test]
-fn a_field_of_each_type(rt: HostRuntime) -> Result<(), Fail> {
-    let mut builder = new_builder(rt.alloc())?;
-    let found = fields_read_back(&mut builder)?;
+fn a_field_of_each_type(rt: HostRuntime) {
+    let found = fields_read_back_in(rt.alloc());
     assert!(rt; found == [true; 5], "{found:?}");
-    Ok(())
 }
 
 fn a_free_slot_is_none(bytes: &[u8]) -> bool {
-    let Ok(table) = Table::from_buffer(SliceWithStartOffset::new(bytes, 0), 0) else {
-        return false;
-    };
-    matches!(table.access::<u64>(0, "Table", "first"), Ok(Some(1)))
-        && matches!(table.access::<u8>(1, "Table", "between"), Ok(None))
-        && matches!(table.access::<u8>(2, "Table", "last"), Ok(Some(2)))
+    match Table::from_buffer(SliceWithStartOffset::new(bytes, 0), 0) {
+        Ok(table) => {
+            slot_has::<u64>(table, 0, Some(1))
+                && slot_has::<u8>(table, 1, None)
+                && slot_has::<u8>(table, 2, Some(2))
+        }
+        Err(_) => false,
+    }
 }
 
 #[test]
@@ -178,15 +219,26 @@ pub const ONE_VTABLE: &[u8] =
 pub const TWO_VTABLES: &[u8] = b"\x04\0\0\0\xfa\xff\xff\xff\x07\0\x06\0\x06\0\x04\0\
     \xfa\xff\xff\xff\x18\0\x06\0\x06\0\x04\0";
 
-#[test]
-fn two_tables(rt: HostRuntime) -> Result<(), Fail> {
-    for (vtables, want) in [(true, ONE_VTABLE), (false, TWO_VTABLES)] {
-        let caches = Caches {
-            vtables,
-            ..Caches::all()
-        };
-        let mut builder = with_caches(rt.alloc(), caches)?;
-        assert!(rt; two_tables_are(&mut builder, want), "{caches:?}");
+// The same in a new builder with these caches.
+fn two_tables_with(alloc: Global, caches: Caches, want: &[u8]) -> bool {
+    match with_caches(alloc, caches) {
+        Ok(mut builder) => two_tables_are(&mut builder, want),
+        Err(_) => false,
     }
-    Ok(())
+}
+
+#[test]
+fn two_tables(rt: HostRuntime) {
+    let all = Caches::all();
+    let others = Caches {
+        vtables: false,
+        ..all
+    };
+    let alloc = rt.alloc();
+    check(&rt, two_tables_with(alloc, all, ONE_VTABLE), "one vtable");
+    check(
+        &rt,
+        two_tables_with(alloc, others, TWO_VTABLES),
+        "two vtables",
+    );
 }

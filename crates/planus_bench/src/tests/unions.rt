@@ -1,9 +1,10 @@
 //! Vectors of unions, by a replay.
 
 use super::plain_run::plain_run;
+use super::runs::{add, add_field, add_finish, word};
 use super::settings::Switches;
 use crate::tests::check;
-use planus::{Caches, Field, FieldValue, Finished, Step, StepPlace, replay};
+use planus::{Caches, FieldValue, Finished, Step, StepPlace, replay};
 use std::alloc::{AllocError, Global};
 use std::test::Fail;
 
@@ -18,24 +19,23 @@ const TWO_TEXTS: [u8; 58] = [
 // A table of the tags and the references of the vector of unions of a step.
 fn tags_and_values(alloc: Global, unions: usize) -> Result<Step, AllocError> {
     let mut fields = Vec::new(alloc);
-    for (slot, value) in [
-        (0, FieldValue::Tags(unions)),
-        (1, FieldValue::Values(unions)),
-    ] {
-        fields.push(Field { slot, value })?;
-    }
+    add_field(&mut fields, 0, FieldValue::Tags(unions))?;
+    add_field(&mut fields, 1, FieldValue::Values(unions))?;
     Ok(Step::Table(fields))
+}
+
+// The vector of unions of the first two steps, of tags 1 and 2.
+fn two_unions(alloc: Global) -> Result<Step, AllocError> {
+    Ok(Step::Unions(Vec::from_slice(alloc, &[(1, 0), (2, 1)])?))
 }
 
 // Adds the two texts, a vector of unions of them, a table of it, and a finish.
 fn push_steps(alloc: Global, steps: &mut Vec<Step>) -> Result<(), AllocError> {
-    for letter in ["A", "B"] {
-        steps.push(Step::Text(String::from_str(alloc, letter)?))?;
-    }
-    steps.push(Step::Unions(Vec::from_slice(alloc, &[(1, 0), (2, 1)])?))?;
-    steps.push(tags_and_values(alloc, 2)?)?;
-    steps.push(Step::Finish { root: 3, id: None })?;
-    Ok(())
+    add(steps, word(alloc, "A"))?;
+    add(steps, word(alloc, "B"))?;
+    add(steps, two_unions(alloc))?;
+    add(steps, tags_and_values(alloc, 2))?;
+    add_finish(steps, 3)
 }
 
 pub fn two_texts(alloc: Global) -> Result<Vec<Step>, AllocError> {
@@ -72,19 +72,20 @@ fn runs_plainly_to_two_texts(alloc: Global, steps: &[Step]) -> Result<bool, Fail
     Ok(is_two_texts(run.as_slice()))
 }
 
+// Whether a replay of the steps and a plain run of them give the bytes.
+fn both_run_to_two_texts(alloc: Global) -> Result<[bool; 2], Fail> {
+    let steps = two_texts(alloc)?;
+    Ok([
+        replays_to_two_texts(alloc, steps.as_slice()),
+        runs_plainly_to_two_texts(alloc, steps.as_slice())?,
+    ])
+}
+
 // That the two give the same places too, the runs in every setting show.
 #[test]
 fn two_texts_as_unions(rt: HostRuntime) -> Result<(), Fail> {
-    let steps = two_texts(rt.alloc())?;
-    check(
-        &rt,
-        replays_to_two_texts(rt.alloc(), steps.as_slice()),
-        "a replay",
-    );
-    check(
-        &rt,
-        runs_plainly_to_two_texts(rt.alloc(), steps.as_slice())?,
-        "a plain run",
-    );
+    let [replayed, plain] = both_run_to_two_texts(rt.alloc())?;
+    check(&rt, replayed, "a replay");
+    check(&rt, plain, "a plain run");
     Ok(())
 }

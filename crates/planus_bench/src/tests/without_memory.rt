@@ -20,49 +20,31 @@ use planus_read::errors::ErrorKind;
 use std::alloc::{AllocError, Global};
 use std::test::Fail;
 
-// A call, and whether it answered as it should.
-type Row = (&'static str, bool);
-
-// The first call that didn't.
-fn first_wrong(rows: &[Row]) -> Option<&'static str> {
-    for (name, holds) in rows {
-        if !*holds {
-            return Some(*name);
-        }
-    }
-    None
-}
-
 // A text of 8 bytes, and a table of one number, with 20 bytes in all of 64.
 fn prepare(builder: &mut Builder) -> Result<(), BuildError> {
     builder.create_string("Axe")?;
     put_number(builder, 24)
 }
 
-// Calls that tell of a builder, or are answered by a cache, or fit its room. A table of two bytes
-// whose vtable is found takes 8 with its padding.
-fn calls_on_builders(builder: &mut Builder) -> Option<&'static str> {
+// Calls that tell of a builder.
+fn a_builder_tells(builder: &Builder) -> bool {
     let last = builder.current_offset::<Text>();
-    first_wrong(&[
-        ("Builder::len", builder.len() == 20),
-        ("Builder::is_empty", !builder.is_empty()),
-        ("Builder::room", builder.room() == 44),
-        (
-            "Builder::as_slice",
-            builder.as_slice().ends_with(b"\x03\0\0\0Axe\0"),
-        ),
-        ("Builder::current_offset", last.distance() == 20),
-        ("Offset::downcast", last.downcast().distance() == 20),
-        ("Builder::create_string", text_at(builder, "Axe") == Ok(8)),
-        (
-            "TableWriter::finish",
-            put_number(builder, 7).is_ok() && builder.len() == 28,
-        ),
-        (
-            "Builder::write_with",
-            put(builder, b"MNO", 1).is_ok() && builder.room() == 33,
-        ),
-    ])
+    builder.len() == 20
+        && !builder.is_empty()
+        && builder.room() == 44
+        && builder.as_slice().ends_with(b"\x03\0\0\0Axe\0")
+        && last.distance() == 20
+        && last.downcast().distance() == 20
+}
+
+// Calls that are answered by a cache, or fit a builder's room. A table of two bytes whose vtable is
+// found takes 8 with its padding.
+fn a_builder_writes(builder: &mut Builder) -> bool {
+    text_at(builder, "Axe") == Ok(8)
+        && put_number(builder, 7).is_ok()
+        && builder.len() == 28
+        && put(builder, b"MNO", 1).is_ok()
+        && builder.room() == 33
 }
 
 // The builder has what is at this distance.
@@ -72,160 +54,198 @@ fn has(builder: &Builder, distance: u32) -> bool
     distance as usize <= builder.len()
 }
 
-fn offsets_are_prepared(builder: &mut Builder) -> Option<&'static str> {
-    let last = builder.current_offset::<Text>();
+fn an_offset_is_prepared(builder: &mut Builder, last: Offset<Text>) -> bool {
     if !has(builder, last.distance()) {
-        return Some("Builder::len");
+        return false;
     }
-    let union: UnionOffset<()> = UnionOffset::new(1, last.downcast());
+    match WriteAsOffset::<Text>::prepare(&last, builder) {
+        Ok(offset) => offset.distance() == 31,
+        Err(_) => false,
+    }
+}
+
+fn a_union_is_prepared(builder: &mut Builder, union: UnionOffset<()>) -> bool {
+    if !has(builder, union.offset().distance()) {
+        return false;
+    }
+    match WriteAsUnion::<()>::prepare(&union, builder) {
+        Ok(union) => union.tag() == 1,
+        Err(_) => false,
+    }
+}
+
+fn unions_are_prepared(builder: &mut Builder) -> bool {
     let (tags, values) = (builder.current_offset(), builder.current_offset());
     let unions: UnionVectorOffset<()> = UnionVectorOffset::new(tags, values);
-    first_wrong(&[
-        (
-            "Offset::prepare",
-            matches!(WriteAsOffset::<Text>::prepare(&last, builder), Ok(offset) if offset.distance() == 31),
-        ),
-        (
-            "UnionOffset::prepare",
-            matches!(WriteAsUnion::<()>::prepare(&union, builder), Ok(union) if union.tag() == 1),
-        ),
-        (
-            "UnionVectorOffset::prepare",
-            matches!(WriteAsUnionVector::<()>::prepare(&unions, builder), Ok(unions) if unions.tags_offset().distance() == 31),
-        ),
-    ])
+    match WriteAsUnionVector::<()>::prepare(&unions, builder) {
+        Ok(unions) => unions.tags_offset().distance() == 31,
+        Err(_) => false,
+    }
 }
 
-fn numbers_are_prepared(builder: &mut Builder) -> Option<&'static str> {
+fn offsets_are_prepared(builder: &mut Builder) -> bool {
+    let last = builder.current_offset::<Text>();
+    an_offset_is_prepared(builder, last)
+        && a_union_is_prepared(builder, UnionOffset::new(1, last.downcast()))
+        && unions_are_prepared(builder)
+}
+
+fn numbers_are_prepared(builder: &mut Builder) -> bool {
+    WriteAs::<u16>::prepare(&7u16, builder) == Ok(7)
+        && WriteAs::<bool>::prepare(&true, builder) == Ok(true)
+        && WriteAs::<u16>::prepare(&ByRef(&7u16), builder) == Ok(7)
+}
+
+fn options_are_prepared(builder: &mut Builder) -> bool {
     let none: Option<u16> = None;
-    first_wrong(&[
-        (
-            "u16::prepare",
-            WriteAs::<u16>::prepare(&7u16, builder) == Ok(7),
-        ),
-        (
-            "bool::prepare",
-            WriteAs::<bool>::prepare(&true, builder) == Ok(true),
-        ),
-        (
-            "ByRef::prepare",
-            matches!(WriteAs::<u16>::prepare(&ByRef(&7u16), builder), Ok(7)),
-        ),
-        (
-            "Option::prepare",
-            WriteAsOptional::<u16>::prepare(&Some(7u16), builder) == Ok(Some(7)),
-        ),
-        (
-            "None::prepare",
-            WriteAsOptional::<u16>::prepare(&none, builder) == Ok(None),
-        ),
-        (
-            "u16::prepare, the default",
-            WriteAsDefault::<u16, u16>::prepare(&7u16, builder, &7) == Ok(None),
-        ),
-        (
-            "DefaultValue::prepare",
-            matches!(
-                WriteAsDefault::<u16, u16>::prepare(&DefaultValue, builder, &7),
-                Ok(None)
-            ),
-        ),
-        (
-            "()::prepare",
-            matches!(WriteAsOptional::<u16>::prepare(&(), builder), Ok(None)),
-        ),
-        (
-            "()::prepare, a union",
-            matches!(WriteAsOptionalUnion::<()>::prepare(&(), builder), Ok(None)),
-        ),
-    ])
+    WriteAsOptional::<u16>::prepare(&Some(7u16), builder) == Ok(Some(7))
+        && WriteAsOptional::<u16>::prepare(&none, builder) == Ok(None)
+        && matches!(WriteAsOptional::<u16>::prepare(&(), builder), Ok(None))
+        && matches!(WriteAsOptionalUnion::<()>::prepare(&(), builder), Ok(None))
 }
 
-// What is written in place, and copied by value.
-fn calls_on_values(alloc: Global) -> Option<&'static str> {
+fn defaults_are_prepared(builder: &mut Builder) -> bool {
+    WriteAsDefault::<u16, u16>::prepare(&7u16, builder, &7) == Ok(None)
+        && matches!(
+            WriteAsDefault::<u16, u16>::prepare(&DefaultValue, builder, &7),
+            Ok(None)
+        )
+}
+
+// What is written in place.
+fn numbers_are_written() -> bool {
     let (mut one, mut two) = ([0u8; 2], [0u8; 4]);
     WriteAsPrimitive::<u16>::write(&0x102u16, &mut one, 2);
     <u16 as VectorWrite<u16>>::write_values(&[1, 2], &mut two, 4);
+    one == [2, 1] && two == [1, 0, 2, 0]
+}
+
+// What is copied by value.
+fn values_are_copied(alloc: Global) -> bool {
+    matches!(u16::from_item(alloc, 7), Ok(7)) && matches!(bool::from_item(alloc, true), Ok(true))
+}
+
+fn errors_are_converted() -> bool {
     let error = ErrorKind::InvalidLength.with_error_location("T", "m", 5);
+    matches!(CopyError::from(error), CopyError::Read(_))
+        && BuildError::from(TooLarge) == BuildError::TooLarge
+}
+
+fn a_request_is_met() -> bool {
+    match Promises::new().request(0, 4, mask_of(4)) {
+        Ok((next, padding)) => padding == 0 && next.mask() == 3,
+        Err(_) => false,
+    }
+}
+
+fn settings_are_told() -> bool {
+    Caches::all().hash_mask == u64::MAX && check_version_compatibility("planus-1.3.0")
+}
+
+fn keys_are_found() -> bool {
+    VTable::key_at(b"\x04\0\x04\0", 4) == Some(b"\x04\0\x04\0".as_slice())
+        && ByteVec::key_at(b"\x02\0\0\0Hi", 6) == Some(b"Hi".as_slice())
+}
+
+// Calls on an empty cache.
+fn a_cache_has_nothing(cache: &mut Cache<ByteVec>) -> bool {
+    laws::empty_caches_fit::<ByteVec>();
+    cache.clear();
+    cache.get(b"\x02\0\0\0Hi", b"Hi").is_none()
+}
+
+// Calls on a back vector of 3 bytes with room for 61 more.
+fn a_back_vector_tells(back: &BackVec) -> bool {
+    back.len() == 3 && back.room() == 61 && back.as_slice() == b"Axe".as_slice()
+}
+
+fn a_back_vector_is_filled(back: &mut BackVec) -> bool {
+    back.reserve(61).is_ok()
+        && back.extend_from_slice(b"A").is_ok()
+        && back.extend_with_zeros(60).is_ok()
+}
+
+// Whether all of its room is there again after a clear.
+fn a_back_vector_is_cleared(back: &mut BackVec) -> bool {
+    back.clear();
+    back.room() == 64
+}
+
+fn a_builder_is_cleared(builder: &mut Builder) -> bool {
+    builder.clear();
+    builder.room() == 64
+}
+
+// A call, or some of them, and whether they answered as they should.
+type Row = (&'static str, bool);
+
+// The first that didn't.
+fn first_wrong(rows: &[Row]) -> Option<&'static str> {
+    for (name, holds) in rows {
+        if !*holds {
+            return Some(*name);
+        }
+    }
+    None
+}
+
+// The same of the calls of a builder.
+fn first_wrong_of_a_builder(builder: &mut Builder) -> Option<&'static str> {
     first_wrong(&[
-        ("write", one == [2, 1]),
-        ("write_values", two == [1, 0, 2, 0]),
-        ("u16::from_item", matches!(u16::from_item(alloc, 7), Ok(7))),
         (
-            "bool::from_item",
-            matches!(bool::from_item(alloc, true), Ok(true)),
+            "Builder: len, is_empty, room, as_slice, current_offset; Offset::downcast",
+            a_builder_tells(builder),
         ),
         (
-            "CopyError::from",
-            matches!(CopyError::from(error), CopyError::Read(_)),
+            "Builder: create_string, write_with; TableWriter::finish",
+            a_builder_writes(builder),
         ),
+        ("prepare of offsets", offsets_are_prepared(builder)),
+        ("prepare of numbers", numbers_are_prepared(builder)),
+        ("prepare of options", options_are_prepared(builder)),
+        ("prepare of defaults", defaults_are_prepared(builder)),
+        ("Builder::clear", a_builder_is_cleared(builder)),
+    ])
+}
+
+// The same of the parts of a builder.
+fn first_wrong_of_parts(back: &mut BackVec, cache: &mut Cache<ByteVec>) -> Option<&'static str> {
+    first_wrong(&[
+        ("Cache: clear, get", a_cache_has_nothing(cache)),
+        ("BackVec: len, room, as_slice", a_back_vector_tells(back)),
         (
-            "BuildError::from",
-            BuildError::from(TooLarge) == BuildError::TooLarge,
+            "BackVec: reserve, extend_from_slice, extend_with_zeros",
+            a_back_vector_is_filled(back),
         ),
-        ("Caches::all", Caches::all().hash_mask == u64::MAX),
+        ("BackVec::clear", a_back_vector_is_cleared(back)),
+        ("VTable::key_at, ByteVec::key_at", keys_are_found()),
+        ("Promises::request", a_request_is_met()),
+    ])
+}
+
+// The same of what is written, copied or converted.
+fn first_wrong_of_values(alloc: Global) -> Option<&'static str> {
+    first_wrong(&[
+        ("write, write_values", numbers_are_written()),
+        ("from_item of u16 and bool", values_are_copied(alloc)),
+        ("from of CopyError and BuildError", errors_are_converted()),
         (
-            "check_version_compatibility",
-            check_version_compatibility("planus-1.3.0"),
-        ),
-        (
-            "Promises::request",
-            matches!(Promises::new().request(0, 4, mask_of(4)), Ok((next, 0)) if next.mask() == 3),
-        ),
-        (
-            "VTable::key_at",
-            VTable::key_at(b"\x04\0\x04\0", 4) == Some(b"\x04\0\x04\0".as_slice()),
-        ),
-        (
-            "ByteVec::key_at",
-            ByteVec::key_at(b"\x02\0\0\0Hi", 6) == Some(b"Hi".as_slice()),
+            "Caches::all, check_version_compatibility",
+            settings_are_told(),
         ),
     ])
 }
 
-// Calls on a back vector of 3 bytes with room for 61 more, and on an empty cache.
-fn calls_on_parts(back: &mut BackVec, cache: &mut Cache<ByteVec>) -> Option<&'static str> {
-    laws::empty_caches_fit::<ByteVec>();
-    cache.clear();
-    let found = first_wrong(&[
-        ("Cache::get", cache.get(b"\x02\0\0\0Hi", b"Hi").is_none()),
-        ("BackVec::len", back.len() == 3),
-        ("BackVec::room", back.room() == 61),
-        ("BackVec::as_slice", back.as_slice() == b"Axe".as_slice()),
-        ("BackVec::reserve", back.reserve(61).is_ok()),
-        (
-            "BackVec::extend_from_slice",
-            back.extend_from_slice(b"A").is_ok(),
-        ),
-        (
-            "BackVec::extend_with_zeros",
-            back.extend_with_zeros(60).is_ok(),
-        ),
-    ]);
-    back.clear();
-    if back.room() != 64 {
-        return Some("BackVec::clear");
-    }
-    found
-}
-
-// The first call that didn't answer as it should.
+// The same of all of them.
 fn first_wrong_call(
     alloc: Global,
     builder: &mut Builder,
     back: &mut BackVec,
     cache: &mut Cache<ByteVec>,
 ) -> Option<&'static str> {
-    let found = calls_on_builders(builder)
-        .or(offsets_are_prepared(builder))
-        .or(numbers_are_prepared(builder))
-        .or(calls_on_values(alloc))
-        .or(calls_on_parts(back, cache));
-    builder.clear();
-    if builder.room() != 64 {
-        return Some("Builder::clear");
-    }
-    found
+    first_wrong_of_a_builder(builder)
+        .or(first_wrong_of_parts(back, cache))
+        .or(first_wrong_of_values(alloc))
 }
 
 // The same with all memory held. Tells whether it was taken.
@@ -265,15 +285,21 @@ fn first_wrong_with(
 fn first_wrong_in(
     alloc: Global,
     builder: &mut Builder,
-) -> Result<(bool, Option<&'static str>), BuildError> {
-    prepare(builder)?;
-    let mut back = BackVec::with_capacity(alloc, 64)?;
-    Ok(first_wrong_with(alloc, builder, &mut back)?)
+) -> Result<(bool, Option<&'static str>), AllocError> {
+    if prepare(builder).is_err() {
+        return Err(AllocError);
+    }
+    match BackVec::with_capacity(alloc, 64) {
+        Ok(mut back) => first_wrong_with(alloc, builder, &mut back),
+        Err(_) => Err(AllocError),
+    }
 }
 
-fn first_wrong_in_64_bytes(alloc: Global) -> Result<(bool, Option<&'static str>), BuildError> {
-    let mut builder = Builder::with_capacity(alloc, 64)?;
-    first_wrong_in(alloc, &mut builder)
+fn first_wrong_in_64_bytes(alloc: Global) -> Result<(bool, Option<&'static str>), AllocError> {
+    match Builder::with_capacity(alloc, 64) {
+        Ok(mut builder) => first_wrong_in(alloc, &mut builder),
+        Err(_) => Err(AllocError),
+    }
 }
 
 #[test]
