@@ -17,7 +17,7 @@ use Rattle.planus_write.specs.Shared.{Contents, Switches, shared_as, and_seen}
 use Rattle.planus_write.specs.Past.{Past, Entry, PutsAfter, PutsAll, part_after, found_before}
 use Rattle.planus_write.specs.Past.{ComesToTooLarge as ComesToTooLargeEntry}
 use Rattle.planus_write.specs.Parts.{Named, entries_of}
-use Rattle.planus_write.proofs.PartBytes.{finish_size, sized_finish_size}
+use Rattle.planus_write.specs.lemmas.PartBytes.{finish_size, sized_finish_size}
 use Rattle.planus.specs.Steps.{Step, text, bytes, numbers, refs, unions, table, finish, clear}
 use Rattle.planus.specs.Steps.{root_first, size_first}
 use Rattle.planus.specs.Slots.{greatest_field}

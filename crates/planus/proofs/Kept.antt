@@ -30,12 +30,12 @@ use Rattle.planus_write.specs.Parts.{finish_part, sized_finish_part, front_part,
 use Rattle.planus_write.specs.Parts.{sized_words, identifier_bytes, entries_of, IsWritten}
 use Rattle.planus_write.specs.Parts.{named_by, Named, position_in}
 use Rattle.planus_write.specs.Kept.{IsKept, AllSeenKept}
-use Rattle.planus_write.specs.Laws.{added_extends}
+use Rattle.planus_write.specs.lemmas.Laws.{added_extends}
 use Rattle.planus_write.specs.Standing.{SizedFinishStands}
-use Rattle.planus_write.proofs.PartBytes.{length_after, finish_size, sized_finish_size}
-use Rattle.planus_write.proofs.Staying.{kept_stays, seen_stays}
-use Rattle.planus_write.proofs.Standing.{values_are_kept, finishes_lead}
-use Rattle.planus_write.proofs.Standing.{finishes_are_identified, sized_finishes_stand}
+use Rattle.planus_write.specs.lemmas.PartBytes.{length_after, finish_size, sized_finish_size}
+use Rattle.planus_write.specs.lemmas.Staying.{kept_stays, seen_stays}
+use Rattle.planus_write.specs.lemmas.StandingLaws.{values_are_kept, finishes_lead}
+use Rattle.planus_write.specs.lemmas.StandingLaws.{finishes_are_identified, sized_finishes_stand}
 use Rattle.planus.specs.Steps.{Step, text, bytes, numbers, refs, unions, table, finish, clear}
 use Rattle.planus.specs.Steps.{Front, root_first, size_first}
 use Rattle.planus.specs.Kinds.{Kind, kind_of, kind_named}

@@ -18,9 +18,9 @@ use Rattle.planus_write.specs.Shared.{Contents, Switches, shared_as}
 use Rattle.planus_write.specs.Past.{Past, Entry, Adds, PutsAfter, PutsAll, part_after, found_before}
 use Rattle.planus_write.specs.Parts.{entries_of, IsWritten, list_entries, distances_in}
 use Rattle.planus_write.specs.Items.{Item, plain_item, reference_item}
-use Rattle.planus_write.proofs.PartBytes.{length_after, text_size, byte_list_size}
-use Rattle.planus_write.proofs.TableBytes.{body_length, body_power}
-use Rattle.planus_write.proofs.KeptLists.{IsListOf, plain_items, reference_items}
+use Rattle.planus_write.specs.lemmas.PartBytes.{length_after, text_size, byte_list_size}
+use Rattle.planus_write.specs.lemmas.TableBytes.{body_length, body_power}
+use Rattle.planus_write.specs.lemmas.KeptLists.{IsListOf, plain_items, reference_items}
 use Rattle.planus.specs.Runs.{nothing_written}
 use Rattle.planus.proofs.Turns.{InTurn, turn_taken}
 use Rattle.planus.proofs.Lists.{all_weaker}

@@ -14,7 +14,7 @@ use Rattle.planus_read.specs.Stands.{ReferenceStands}
 use Rattle.planus_write.specs.Shared.{Switches}
 use Rattle.planus_write.specs.Past.{Past, Adds, PutsAll}
 use Rattle.planus_write.specs.Parts.{Named, named_by, entries_of, finish_part, sized_finish_part}
-use Rattle.planus_write.proofs.Standing.{finishes_lead, sized_finishes_stand}
+use Rattle.planus_write.specs.lemmas.StandingLaws.{finishes_lead, sized_finishes_stand}
 use Rattle.planus.specs.Steps.{Step, text, bytes, numbers, refs, unions, table, finish, clear}
 use Rattle.planus.specs.Steps.{Front, root_first, size_first}
 use Rattle.planus.specs.Headline.{root_at}

@@ -14,9 +14,11 @@ use Rattle.planus_write.specs.State.{IsPast}
 use Rattle.planus_write.specs.Placing.{Outcome, PutsDown, Refuses, then_does}
 use Rattle.planus_write.specs.Finishing.{PutsInFront, WritesFront, LendsAll}
 use Rattle.planus_write.specs.Preparing.{IsPrepared, Answers, WritesText, WritesByteList, WritesList, WritesEntries}
-use Rattle.planus_write.specs.ListLaws.{entries_grow, ready_list_is_put, ready_list_is_refused, plain_items_are, reference_items_are}
+use Rattle.planus_write.specs.lemmas.ListLaws.{entries_grow, ready_list_is_put}
+use Rattle.planus_write.specs.lemmas.ListLaws.{ready_list_is_refused, plain_items_are}
+use Rattle.planus_write.specs.lemmas.ListLaws.{reference_items_are}
 use Rattle.planus_write.specs.Items.{Item, plain_item, reference_item}
-use Rattle.planus_write.proofs.PutEntries.{entries_put as puts_entries, entries_too_large}
+use Rattle.planus_write.specs.lemmas.PutEntries.{entries_put as puts_entries, entries_too_large}
 use Rattle.planus_write.specs.Parts.{text_entry, byte_list_entry, list_entries, entries_of, Named, named_by, last_of}
 use Rattle.planus_write.specs.declared.errors.BuildError.{BuildError}
 use Rattle.planus_write.specs.declared.errors.BuildError.TheVariants.{OutOfMemory, TooLarge}
@@ -25,7 +27,8 @@ use Rattle.planus_write.specs.declared.offset.Text.{Text}
 use Rattle.planus_write.specs.declared.offset.List.{List as ListOf}
 use Rattle.planus.specs.Steps.{Step, Front, text, bytes, numbers, refs, unions, finish, clear}
 use Rattle.planus_write.specs.Unions.{item_of, union_reach, WritesUnionVector}
-use Rattle.planus_write.specs.UnionLaws.{ready_union_vector_is_put, ready_union_vector_is_refused}
+use Rattle.planus_write.specs.lemmas.UnionLaws.{ready_union_vector_is_put}
+use Rattle.planus_write.specs.lemmas.UnionLaws.{ready_union_vector_is_refused}
 use Rattle.planus_write.specs.declared.union_offset.UnionOffset.{UnionOffset}
 use Rattle.planus_write.specs.declared.union_vector_offset.UnionVectorOffset.{UnionVectorOffset}
 use Rattle.std.specs.Int.{Width, byte_len, to_le_bytes}
@@ -151,10 +154,9 @@ module _ {A : Type 0} (leaves : A → Item) (size alignment : ℕ) (xs : List A)
 
   list_refused : (T : Type 0) (after : builder.State) → WritesList {T = T} Answers leaves size alignment xs old.builder (Err TooLarge) after
       → WritesEntries (entries_of value) [] old.builder (Err TooLarge) after
-  list_refused T after refused = elim (ready_list_is_refused T leaves size alignment xs old.builder TooLarge after refused) as (λ _. WritesEntries (entries_of value) [] old.builder (Err TooLarge) after) [
-    | inl e ↦ (cc)
-    | inr put ↦ subst (λ (es : List Entry). WritesEntries es [] old.builder (Err TooLarge) after) entries put
-  ]
+  list_refused T after refused =
+      subst (λ (es : List Entry). WritesEntries es [] old.builder (Err TooLarge) after) entries
+      (ready_list_is_refused T leaves size alignment xs old.builder TooLarge after refused)
 
 -- numbers that fit a known width
 module _ (width : ℕ) (w : Width) (items : List ℕ) (known : width_of width ≡ Some w) (fit : list_all (fits_width w) items ≡ true) (old : Progress) where

@@ -25,17 +25,13 @@ pub use planus_fields::{
 pub use planus_read::{
     ArrayWithStartOffset, Error, Place, ReadAsRoot, ReadError, Result, SignedBytes,
     SliceWithStartOffset, Stride, TableRead, TableReadUnion, TableReadUnionVector, TaggedPlace,
-    VectorName, VectorRead, VectorReadInner, VectorReadUnion, Void, errors, has_identifier,
-    located, read_size_prefixed, table_reader,
+    VectorRead, VectorReadInner, VectorReadUnion, Void, errors, has_identifier, located,
+    read_size_prefixed, table_reader,
 };
 pub use planus_tables::{
-    Behind, FieldAt, Fields, HasContent, HasDefaultContent, HasDefaultUnionVectorContent,
-    HasListContent, HasRequiredContent, HasUnionContent, HasUnionItemContent,
-    HasUnionVectorContent, LastAt, OrDefault, PreparedFields, Required, TableItem, TableKind,
-    TableRef, TableScalar, TagsField, UnionAt, UnionVectorAt, ValuesField, Variant, create_table,
-    fields, variant,
+    OrDefault, Required, TableKind, TableRef, Variant, create_table, fields, variant,
 };
-pub use planus_unions::{AsRead, ItemError, UnionVector, union_vectors};
+pub use planus_unions::{UnionVector, union_vectors};
 pub use planus_view::{CopyError, FromItem, Vector, vectors};
 pub use planus_write::{
     BuildError, Builder, ByRef, ByteList, Caches, Initialized, List, ObjectFill, ObjectWriter,

@@ -7,7 +7,8 @@ use Rattle.planus_write.specs.Preparing.{Answers}
 use Rattle.planus_write.specs.declared.offset.Offset.{Offset}
 use Rattle.planus_write.specs.declared.union_offset.UnionOffset.{UnionOffset}
 use Rattle.planus_write.specs.declared.union_vector_offset.UnionVectorOffset.{UnionVectorOffset}
-use Rattle.planus_tables.specs.Contents.{Content, tag_content, tags_content, value_content, values_content}
+use Rattle.planus_write.specs.Contents.{Content}
+use Rattle.planus_tables.specs.Contents.{tag_content, tags_content, value_content, values_content}
 use Rattle.planus_tables.specs.Preparing.{WritesFields}
 use Rattle.planus_tables.specs.TableFields.{field_in, list_tags_in, list_values_in, union_tag_in, union_value_in}
 

@@ -4,7 +4,7 @@ ghost use Rattle.std.specs.Prelude.{◌≡◌, codes};
 
 use crate::weapon::WeaponRef;
 use planus::errors::ErrorKind;
-use planus::{SliceWithStartOffset, TableRead, TableReadUnion, VectorName};
+use planus::{SliceWithStartOffset, TableRead, TableReadUnion, VectorReadUnion};
 
 /// A piece of equipment in a buffer: a weapon.
 #[derive(Clone, Copy)]
@@ -30,7 +30,7 @@ impl<'a> TableReadUnion<'a> for EquipmentRef<'a> {
     }
 }
 
-impl<'a> VectorName for EquipmentRef<'a> {
+impl<'a> VectorReadUnion<'a> for EquipmentRef<'a> {
     ghost name = { codes "[Equipment]" };
 
     fn vector_name() -> &'static str

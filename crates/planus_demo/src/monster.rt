@@ -8,7 +8,7 @@
 //! }
 //! ```
 
-ghost use Rattle.std.specs.Prelude.{◌≤◌, length, pos, codes, IfOk};
+ghost use Rattle.std.specs.Prelude.{◌≡◌, ◌≤◌, length, pos, codes, IfOk};
 ghost use Rattle.std.specs.Int.{w16};
 ghost use Rattle.planus_read.specs.Clauses.{Answer, shown};
 ghost use Rattle.planus_read.specs.Located.{Located, Required as IsThere, OrDefault as OrElse};
@@ -31,9 +31,10 @@ use crate::weapon::{Weapon, WeaponRef};
 use planus::errors::ErrorKind;
 use planus::table_reader::Table;
 use planus::{
-    BuildError, Builder, ByRef, HasContent, HasDefaultContent, HasRequiredContent, HasUnionContent,
-    HasUnionVectorContent, List, Offset, OrDefault, ReadAsRoot, Required, Result,
-    SliceWithStartOffset, TableItem, TableRead, Text, UnionVector, Vector, create_table, fields,
+    BuildError, Builder, ByRef, List, Offset, OrDefault, ReadAsRoot, Required, Result,
+    SliceWithStartOffset, TableKind, TableRead, TableWriter, Text, UnionVector, Vector, WriteAs,
+    WriteAsDefault, WriteAsOptional, WriteAsOptionalUnion, WriteAsOptionalUnionVector,
+    create_table, fields,
 };
 
 /// The kind of an offset to a monster.
@@ -58,16 +59,12 @@ impl Monster {
         loot: L,
     ) -> std::result::Result<Offset<Monster>, BuildError>
     where
-        H: HasDefaultContent<i16, i16> + Drop,
-        N: HasRequiredContent<Offset<Text>> + Drop,
-        I: HasContent<Offset<List<u8>>> + Drop,
-        W: HasContent<Offset<List<Offset<Weapon>>>> + Drop,
-        E: HasUnionContent<Equipment> + Drop,
-        L: HasUnionVectorContent<Equipment> + Drop,
-        H::Prepared: TableItem<i16>,
-        N::Prepared: TableItem<Offset<Text>>,
-        I::Prepared: TableItem<Offset<List<u8>>>,
-        W::Prepared: TableItem<Offset<List<Offset<Weapon>>>>,
+        H: WriteAsDefault<i16, i16> + Drop,
+        N: WriteAs<Offset<Text>> + Drop,
+        I: WriteAsOptional<Offset<List<u8>>> + Drop,
+        W: WriteAsOptional<Offset<List<Offset<Weapon>>>> + Drop,
+        E: WriteAsOptionalUnion<Equipment> + Drop,
+        L: WriteAsOptionalUnionVector<Equipment> + Drop,
         requires hp { H.may hp builder.old }
         requires name { N.may name builder.old }
         requires inventory { I.may inventory builder.old }
@@ -97,7 +94,19 @@ impl Monster {
             (4, 5): union Equipment = ByRef(&equipped),
             (6, 7): unions Equipment = ByRef(&loot),
         ];
-        create_table::<Monster, 20, _>(builder, fields)
+        create_table::<Monster, _>(builder, fields)
+    }
+}
+
+impl TableKind for Monster {
+    type Writer = TableWriter<20>;
+
+    ghost name = { codes "[MonsterRef]" };
+
+    fn name() -> &'static str
+        ensures { result.now ≡ codes "[MonsterRef]" }
+    {
+        "[MonsterRef]"
     }
 }
 
@@ -195,7 +204,7 @@ impl<'a> ReadAsRoot<'a> for MonsterRef<'a> {
     fn read_as_root(slice: &'a [u8]) -> Result<MonsterRef<'a>> {
         match TableRead::from_buffer(SliceWithStartOffset::new(slice, 0), 0) {
             Ok(monster) => Ok(monster),
-            Err(kind) => Err(kind.with_error_location("[MonsterRef]", "read_as_root", 0)),
+            Err(kind) => Err(kind.with_error_location(Monster::name(), "read_as_root", 0)),
         }
     }
 }

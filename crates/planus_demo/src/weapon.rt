@@ -20,9 +20,9 @@ ghost use Rattle.planus_demo.specs.WeaponViews.{weapon_table, ShowsWeapon};
 use planus::errors::ErrorKind;
 use planus::table_reader::Table;
 use planus::{
-    BuildError, Builder, ByRef, Error, HasContent, HasDefaultContent, Offset, OrDefault,
-    ReadAsRoot, ReadError, Result, SliceWithStartOffset, Stride, TableItem, TableRead, Text,
-    VectorReadInner, create_table, fields,
+    BuildError, Builder, ByRef, Error, Offset, OrDefault, ReadAsRoot, ReadError, Result,
+    SliceWithStartOffset, Stride, TableKind, TableRead, TableWriter, Text, VectorReadInner,
+    WriteAsDefault, WriteAsOptional, create_table, fields,
 };
 
 /// The kind of an offset to a weapon.
@@ -43,10 +43,8 @@ impl Weapon {
         damage: D,
     ) -> std::result::Result<Offset<Weapon>, BuildError>
     where
-        N: HasContent<Offset<Text>> + Drop,
-        D: HasDefaultContent<i16, i16> + Drop,
-        N::Prepared: TableItem<Offset<Text>>,
-        D::Prepared: TableItem<i16>,
+        N: WriteAsOptional<Offset<Text>> + Drop,
+        D: WriteAsDefault<i16, i16> + Drop,
         requires name { N.may name builder.old }
         requires damage { D.may damage builder.old }
         ensures written { WritesWeapon (N.outcome name) N.Prepared.field
@@ -62,7 +60,19 @@ impl Weapon {
             default: 0,
         };
         let fields = fields![0: Offset<Text> = ByRef(&name), 1: i16 = damage];
-        create_table::<Weapon, 8, _>(builder, fields)
+        create_table::<Weapon, _>(builder, fields)
+    }
+}
+
+impl TableKind for Weapon {
+    type Writer = TableWriter<8>;
+
+    ghost name = { codes "[WeaponRef]" };
+
+    fn name() -> &'static str
+        ensures { result.now ≡ codes "[WeaponRef]" }
+    {
+        "[WeaponRef]"
     }
 }
 
@@ -117,7 +127,7 @@ impl<'a> ReadAsRoot<'a> for WeaponRef<'a> {
     fn read_as_root(slice: &'a [u8]) -> Result<WeaponRef<'a>> {
         match TableRead::from_buffer(SliceWithStartOffset::new(slice, 0), 0) {
             Ok(weapon) => Ok(weapon),
-            Err(kind) => Err(kind.with_error_location("[WeaponRef]", "read_as_root", 0)),
+            Err(kind) => Err(kind.with_error_location(Weapon::name(), "read_as_root", 0)),
         }
     }
 }

@@ -1,1 +1,3 @@
 pub mod Fields
+pub mod Contents
+pub mod lemmas

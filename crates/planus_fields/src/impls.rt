@@ -16,5 +16,3 @@ mod union_offset;
 mod union_vector_offset;
 mod unit;
 mod vec;
-
-pub use scalar::ScalarField;

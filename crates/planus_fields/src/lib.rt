@@ -7,7 +7,6 @@ mod left_out;
 pub mod traits;
 
 pub use default_value::DefaultValue;
-pub use impls::ScalarField;
 pub use left_out::LeftOut;
 pub use traits::{
     WriteAs, WriteAsDefault, WriteAsDefaultUnionVector, WriteAsOptional, WriteAsOptionalUnion,

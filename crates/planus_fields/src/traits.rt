@@ -3,7 +3,10 @@
 //! The ghost members `may` and `outcome` of each trait are as those of
 //! [`planus_write::WriteAsOffset`], and so is their law: the bytes before are the end of the bytes
 //! after, every promise stays, and what is answered refers to what lies in the bytes.
-ghost use Rattle.std.specs.Prelude.{Option as option, Result};
+ghost use Rattle.std.specs.Prelude.{ℕ, Option as option, Result};
+ghost use Rattle.planus_write.specs.Contents.{Content, PreparesContent};
+ghost use Rattle.planus_fields.specs.Contents.{PreparesOptional};
+ghost use Rattle.planus_fields.specs.Contents.{PreparesUnion, PreparesUnionVector};
 ghost use Rattle.planus_write.specs.State.{State};
 ghost use Rattle.planus_write.specs.Preparing.{IsLawful};
 ghost use Rattle.planus_write.specs.Unions.{union_reach, union_vector_reach};
@@ -26,6 +29,9 @@ pub trait WriteAs<P: Primitive> {
 
     ghost outcome: { Self → State → Result Self.Prepared BuildError → State → Type 0 };
 
+    /// What the field holds.
+    ghost content: { Self → Content };
+
     /// Writes what the field refers to, if it does and that isn't written already.
     ///
     /// [`BuildError::TooLarge`] and [`BuildError::OutOfMemory`] as of
@@ -35,6 +41,9 @@ pub trait WriteAs<P: Primitive> {
         ensures { outcome self.now builder.old result builder.new };
 
     ghost is_lawful: { IsLawful may outcome Self.Prepared.reach };
+
+    /// Once the value is prepared, the field holds this.
+    ghost has_content: { PreparesContent may outcome content Self.Prepared.field };
 }
 
 /// What can be written as a field that may be absent.
@@ -46,6 +55,9 @@ pub trait WriteAsOptional<P: Primitive> {
 
     ghost outcome: { Self → State → Result (option Self.Prepared) BuildError → State → Type 0 };
 
+    /// What the field holds, or nothing where it is left out.
+    ghost content: { Self → option Content };
+
     /// Writes what the field refers to, as [`WriteAs::prepare`] does. With `None` the field is left
     /// out, and nothing was written.
     fn prepare(
@@ -56,6 +68,9 @@ pub trait WriteAsOptional<P: Primitive> {
         ensures { outcome self.now builder.old result builder.new };
 
     ghost is_lawful: { IsLawful may outcome (reach_if Self.Prepared.reach) };
+
+    /// Once the value is prepared, the field holds this.
+    ghost has_content: { PreparesOptional may outcome content Self.Prepared.field };
 }
 
 /// What can be written as a field that is left out where it has its default.
@@ -66,6 +81,9 @@ pub trait WriteAsDefault<P: Primitive, D> {
     ghost may: { Self → State → Type 0 };
 
     ghost outcome: { Self → D → State → Result (option Self.Prepared) BuildError → State → Type 0 };
+
+    /// What the field holds, by its default, or nothing where it is left out.
+    ghost content: { Self → D → option Content };
 
     /// Writes what the field refers to, as [`WriteAs::prepare`] does. With `None` the field is left
     /// out, and nothing was written.
@@ -79,6 +97,11 @@ pub trait WriteAsDefault<P: Primitive, D> {
 
     ghost is_lawful: { (default : D)
         → IsLawful may (λ x. outcome x default) (reach_if Self.Prepared.reach) };
+
+    /// Once the value is prepared, the field holds this.
+    ghost has_content: { (default : D) → PreparesOptional may
+        (λ value old answer new. outcome value default old answer new)
+        (λ value. content value default) Self.Prepared.field };
 }
 
 /// What can be written as a field of a union that may be absent.
@@ -86,6 +109,9 @@ pub trait WriteAsOptionalUnion<T> {
     ghost may: { Self → State → Type 0 };
 
     ghost outcome: { Self → State → Result (option (UnionOffset T)) BuildError → State → Type 0 };
+
+    /// The tag, and what the reference to the value holds, or nothing where the union is left out.
+    ghost content: { Self → option (ℕ × Content) };
 
     /// Writes the union's value, as [`planus_write::WriteAsUnion::prepare`] does. With `None` the
     /// tag and the value are left out, and nothing was written.
@@ -97,6 +123,9 @@ pub trait WriteAsOptionalUnion<T> {
         ensures { outcome self.now builder.old result builder.new };
 
     ghost is_lawful: { IsLawful may outcome (reach_if union_reach) };
+
+    /// Once the union is prepared, it has this tag and holds this.
+    ghost has_content: { PreparesUnion may outcome content };
 }
 
 /// What can be written as a field of a vector of unions that is left out where the list is empty.
@@ -106,6 +135,10 @@ pub trait WriteAsDefaultUnionVector<T> {
     ghost outcome: { Self → State → Result (option (UnionVectorOffset T)) BuildError → State → Type
         0 };
 
+    /// What the field of the tags and that of the values hold, or nothing where the vector is left
+    /// out.
+    ghost contents: { Self → option (Content × Content) };
+
     /// Writes the list, as [`planus_write::WriteAsUnionVector::prepare`] does. With `None` the tags
     /// and the values are left out, and nothing was written.
     fn prepare(
@@ -116,6 +149,9 @@ pub trait WriteAsDefaultUnionVector<T> {
         ensures { outcome self.now builder.old result builder.new };
 
     ghost is_lawful: { IsLawful may outcome (reach_if union_vector_reach) };
+
+    /// Once the vector is prepared, its fields hold these.
+    ghost has_contents: { PreparesUnionVector may outcome contents };
 }
 
 /// What can be written as a field of a vector of unions that may be absent.
@@ -125,6 +161,10 @@ pub trait WriteAsOptionalUnionVector<T> {
     ghost outcome: { Self → State → Result (option (UnionVectorOffset T)) BuildError → State → Type
         0 };
 
+    /// What the field of the tags and that of the values hold, or nothing where the vector is left
+    /// out.
+    ghost contents: { Self → option (Content × Content) };
+
     /// Writes the list, as [`planus_write::WriteAsUnionVector::prepare`] does. With `None` the tags
     /// and the values are left out, and nothing was written.
     fn prepare(
@@ -135,4 +175,7 @@ pub trait WriteAsOptionalUnionVector<T> {
         ensures { outcome self.now builder.old result builder.new };
 
     ghost is_lawful: { IsLawful may outcome (reach_if union_vector_reach) };
+
+    /// Once the vector is prepared, its fields hold these.
+    ghost has_contents: { PreparesUnionVector may outcome contents };
 }

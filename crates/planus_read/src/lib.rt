@@ -21,8 +21,8 @@ pub use signed_bytes::SignedBytes;
 pub use size_prefixed::{has_identifier, read_size_prefixed};
 pub use slice_helpers::{ArrayWithStartOffset, SliceWithStartOffset};
 pub use traits::{
-    ReadAsRoot, ReadError, Stride, TableRead, TableReadUnion, TableReadUnionVector, VectorName,
-    VectorRead, VectorReadInner, VectorReadUnion,
+    ReadAsRoot, ReadError, Stride, TableRead, TableReadUnion, TableReadUnionVector, VectorRead,
+    VectorReadInner, VectorReadUnion,
 };
 
 /// The result of a read that names its location.

@@ -7,7 +7,7 @@ ghost use Rattle.planus_read.specs.Clauses.{Answer};
 use crate::errors::ErrorKind;
 use crate::heads::REFERENCE_SIZE;
 use crate::slice_helpers::SliceWithStartOffset;
-use crate::traits::{Stride, TableRead, TableReadUnion, VectorName, VectorRead};
+use crate::traits::{Stride, TableRead, TableReadUnion, VectorRead, VectorReadUnion};
 
 // The name of a vector of such unions.
 const VECTOR_NAME: &str = "[union]";
@@ -118,7 +118,7 @@ impl<'buf> TableReadUnion<'buf> for TaggedPlace<'buf> {
     }
 }
 
-impl<'buf> VectorName for TaggedPlace<'buf> {
+impl<'buf> VectorReadUnion<'buf> for TaggedPlace<'buf> {
     ghost use Rattle.planus_read.specs.Items.{unions_name};
 
     ghost name = { unions_name };

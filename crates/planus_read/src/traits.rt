@@ -135,40 +135,30 @@ pub trait VectorReadInner<'buf>: Stride + ReadError {
         ensures { gives (slice_bytes buffer.entry) (slice_start buffer.entry) offset result };
 }
 
-/// The name of the vector type of a union, for the location of an item's error.
-pub trait VectorName {
-    /// The name, in bytes.
+/// What can be read as an item of a vector of unions.
+pub trait VectorReadUnion<'buf>: TableReadUnion<'buf> {
+    /// The name of the vector type, for the location of an item's error, in bytes.
     ghost name: { List ℕ };
 
     /// Returns the name.
     fn vector_name() -> &'static str
         ensures { result.now ≡ name };
-}
 
-/// What can be read as an item of a vector of unions: each union field with a [`VectorName`].
-pub trait VectorReadUnion<'buf>: TableReadUnion<'buf> + VectorName {
     /// Returns the union with this tag whose reference is encoded at the offset, in bytes from the
     /// start of the piece. Its errors are those of the [`TableReadUnion`], at the start of the
     /// piece under the vector's name and the method `get`.
-    fn from_buffer<'n>(
+    final fn from_buffer<'n>(
         buffer: SliceWithStartOffset<'buf>,
         tag: u8,
         offset: usize,
     ) -> std::result::Result<Self, located::Error<'n>>
         ensures { let S = slice_bytes buffer.entry in let start = slice_start buffer.entry in
-            Located (Self.reads S start tag offset) Self.name item_method start result };
-}
-
-impl<'buf, T: TableReadUnion<'buf> + VectorName> VectorReadUnion<'buf> for T {
-    fn from_buffer<'n>(
-        buffer: SliceWithStartOffset<'buf>,
-        tag: u8,
-        offset: usize,
-    ) -> std::result::Result<T, located::Error<'n>> {
-        match <T as TableReadUnion<'buf>>::from_buffer(buffer, tag, offset) {
+            Located (Self.reads S start tag offset) name item_method start result }
+    {
+        match <Self as TableReadUnion<'buf>>::from_buffer(buffer, tag, offset) {
             Ok(value) => Ok(value),
             Err(kind) => Err(kind.with_error_location(
-                T::vector_name(),
+                Self::vector_name(),
                 ITEM_METHOD,
                 buffer.offset_from_start(),
             )),

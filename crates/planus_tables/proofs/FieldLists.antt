@@ -15,8 +15,9 @@ use Rattle.planus_write.specs.TableWriting.{Writer, WasTold, slot_position, blan
 use Rattle.planus_write.specs.ObjectWriting.{ObjectBody, wrote}
 use Rattle.planus_write.proofs.ToldTables.{pair_elsewhere}
 use Rattle.planus_write.proofs.WrittenBodies.{wrote_both}
-use Rattle.planus_tables.specs.PreparingLaws.{entries_append}
-use Rattle.planus_tables.specs.TableFields.{field_in, size_if, item_if, IsUnused, IsItem}
+use Rattle.planus_tables.specs.lemmas.PreparingLaws.{entries_append}
+use Rattle.planus_tables.specs.TableFields.{field_in, size_if, item_if, IsUnused}
+use Rattle.planus_write.specs.FieldItems.{IsItem}
 
 -- their sizes
 pub total_append : (all others : List Declared)

@@ -2,16 +2,17 @@
 use Rattle.std.proofs.Common.{◌≡◌, ℕ, ◌≤◌, List, [], length, true, Option, None, sym, subst, ap, ◌∙◌}
 use Rattle.planus_read.specs.Stands.{ReferenceStands}
 use Rattle.planus_write.specs.Finishing.{FinishGives}
-use Rattle.planus_write.specs.Laws.{put_extends}
+use Rattle.planus_write.specs.lemmas.Laws.{put_extends}
 use Rattle.planus_write.specs.Past.{Past, Adds}
 use Rattle.planus_write.specs.Parts.{finish_entry, finish_part}
 use Rattle.planus_write.specs.Preparing.{IsPrepared}
 use Rattle.planus_write.specs.State.{State, IsPast, Extends}
 use Rattle.planus_write.specs.declared.offset.Offset.{Offset}
-use Rattle.planus_write.proofs.Standing.{finishes_lead}
-use Rattle.planus_write.proofs.Staying.{kept_stays}
-use Rattle.planus_tables.specs.Contents.{Content, TableIsKept, there_of, named_at}
-use Rattle.planus_tables.specs.ContentLaws.{fields_stay}
+use Rattle.planus_write.specs.lemmas.StandingLaws.{finishes_lead}
+use Rattle.planus_write.specs.lemmas.Staying.{kept_stays}
+use Rattle.planus_write.specs.Contents.{Content, named_at}
+use Rattle.planus_tables.specs.Contents.{TableIsKept, there_of}
+use Rattle.planus_tables.specs.lemmas.ContentLaws.{fields_stay}
 use Rattle.planus_tables.specs.ReadBack.{TableStands, are_apart}
 use Rattle.planus_tables.proofs.ReadBack.{kept_tables_stand}
 

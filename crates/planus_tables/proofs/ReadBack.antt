@@ -17,9 +17,12 @@ use Rattle.planus_read.proofs.PieceLaws.{references_lead}
 use Rattle.planus_read.proofs.ReadsBack.{what_stands_reads_back}
 use Rattle.planus_read.proofs.TableReading.{fields_read}
 use Rattle.planus_write.specs.Past.{Past}
-use Rattle.planus_tables.specs.Contents.{Content, item, value, values, written, union_tags, union_values}
-use Rattle.planus_tables.specs.Contents.{written_tags, written_values, AllKept, FieldIs, FieldsAre}
-use Rattle.planus_tables.specs.Contents.{there_of, TableIsKept, Unions, no_unions, union_and, UnionsAre}
+use Rattle.planus_write.specs.Contents.{Content, item, value, values, written, union_tags}
+use Rattle.planus_write.specs.Contents.{union_values}
+use Rattle.planus_write.specs.Contents.{written_tags, written_values, AllKept, FieldIs}
+use Rattle.planus_tables.specs.Contents.{FieldsAre}
+use Rattle.planus_tables.specs.Contents.{there_of, TableIsKept}
+use Rattle.planus_write.specs.Contents.{Unions, no_unions, union_and, UnionsAre}
 use Rattle.planus_tables.specs.ReadBack.{AllStand, UnionsHold, FieldHolds, FieldHoldsIf}
 use Rattle.planus_tables.specs.ReadBack.{FieldsHold, is_other}
 use Rattle.planus_tables.specs.ReadBack.{are_apart, content_at, TableStands, SlotHolds, TableHolds}

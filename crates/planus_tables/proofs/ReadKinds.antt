@@ -16,10 +16,11 @@ use Rattle.planus_read.specs.Values.{Field, plain, text, byte_list}
 use Rattle.planus_read.proofs.PieceLaws.{references_lead}
 use Rattle.planus_read.proofs.ReadingLaws.{is_shown, lawful_text, lawful_byte_list}
 use Rattle.planus_read.proofs.ReadsBack.{fields_read_back, what_stands_reads_back}
-use Rattle.planus_tables.specs.Contents.{Content, value, written}
+use Rattle.planus_write.specs.Contents.{Content, value, written}
 use Rattle.planus_tables.specs.ReadBack.{FieldHolds, TableStands, TableHolds}
 use Rattle.planus_tables.specs.ReadKinds.{TextsReadBack, ByteListsReadBack, NumbersReadBack}
 use Rattle.planus_tables.specs.ReadKinds.{SignedReadBack, TruthsReadBack, TablesReadBack}
+use Rattle.planus_tables.specs.Holds.{as_signed}
 use Rattle.planus_tables.specs.ReadKinds.{unsigned_content, signed_content, truth_content}
 use Rattle.planus_tables.specs.ReadKinds.{reads_text, reads_bytes, reads_unsigned, reads_signed}
 use Rattle.planus_tables.specs.ReadKinds.{reads_truth, reads_view, NumberFits}
@@ -120,12 +121,14 @@ signed_read_back width are = contents_read_back (reads_signed width) (λ B z. Fi
         → reads_signed width (drop start B) start f r → IsOkAnd r (λ found. found ≡ z)
     answered B z field may holds start f stands r h =
         let stands_so = subst (λ (field : Field). FieldStands B (start + f) field) holds stands in
-        let bytes = to_le_bytes width (cast_unsigned width z) in
+        let same : as_signed width z ≡ z = to_z-of_z may in
+        let number = cast_unsigned width (as_signed width z) in
+        let bytes = to_le_bytes width number in
         let read = fields_read_back B start f (plain (record { bytes = bytes; alignment = byte_len width }))
         stands_so in
-        let number = cast_unsigned width z in
+        let fits = subst (λ (z : ℤ). NumberFits width (cast_unsigned width z)) (sym same) (are.unsigned z may) in
         only_one z (cast_signed width (from_le_bytes width bytes)) r
-        (ap (cast_signed width) (are.again number (are.unsigned z may)) ∙ to_z-of_z may)
+        (ap (cast_signed width) (are.again number fits) ∙ ap (as_signed width) same ∙ same)
         ((read.signed width (are.sized number)).only r h)
 
 pub truths_read_back : TruthsReadBack

@@ -21,10 +21,12 @@ use Rattle.planus_view.specs.declared.union_vector.UnionSliceView.{UnionSliceVie
 use Rattle.planus_view.specs.declared.vector_of.VectorOf.{VectorOf}
 use Rattle.planus_write.specs.Unions.{item_of, union_reach}
 use Rattle.planus_write.specs.declared.union_offset.UnionOffset.{UnionOffset}
-use Rattle.planus_tables.specs.Contents.{Content, Unions, item, value, values, written}
-use Rattle.planus_tables.specs.Contents.{no_unions, union_and, union_tags, union_values, written_tags}
-use Rattle.planus_tables.specs.Contents.{as_unions, written_union}
-use Rattle.planus_tables.specs.Contents.{written_values, tag_content, value_content}
+use Rattle.planus_write.specs.Contents.{Content, Unions, item, value, values, written}
+use Rattle.planus_write.specs.Contents.{no_unions, union_and, union_tags, union_values}
+use Rattle.planus_write.specs.Contents.{written_tags}
+use Rattle.planus_write.specs.Contents.{as_unions, written_union}
+use Rattle.planus_write.specs.Contents.{written_values}
+use Rattle.planus_tables.specs.Contents.{tag_content, value_content}
 use Rattle.planus_tables.specs.ReadBack.{FieldHolds, FieldHoldsIf, SlotHolds, UnionsHold}
 use Rattle.planus_tables.specs.ReadUnions.{IsReference, ReadsUnion, UnionsReadBack, reads_unions, AreUnions}
 use Rattle.planus_tables.specs.ReadUnions.{AreNewUnions, OffsetUnionVectorsReadBack}

@@ -10,7 +10,7 @@ use Rattle.planus_read.proofs.PieceLaws.{references_lead}
 use Rattle.planus_view.specs.declared.vector.SliceView.{SliceView}
 use Rattle.planus_view.specs.declared.vector_of.VectorOf.{VectorOf}
 use Rattle.planus_view.proofs.ReadBack.{plain_lists, reference_lists}
-use Rattle.planus_tables.specs.Contents.{value, values}
+use Rattle.planus_write.specs.Contents.{value, values}
 use Rattle.planus_tables.specs.ReadBack.{AllStand, FieldHolds}
 use Rattle.planus_tables.specs.ReadVectors.{reads_vector, ArePlainItems, AreReferences}
 use Rattle.planus_tables.specs.ReadVectors.{PlainVectorsReadBack, ReferenceVectorsReadBack}

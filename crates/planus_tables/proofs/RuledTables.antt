@@ -13,16 +13,17 @@ use Rattle.planus_write.specs.State.{State}
 use Rattle.planus_write.specs.Tables.{Declared, declared_of, total_size, body_bytes, slots_used, object_entries, IsField, IsTable, Falling, SlotsOnce}
 use Rattle.planus_write.specs.TableWriting.{Writer, WritesTable, slot_position, blank}
 use Rattle.planus_write.specs.declared.offset.Offset.{Offset}
-use Rattle.planus_write.proofs.PutEntries.{entries_put}
-use Rattle.planus_write.proofs.Standing.{values_are_kept}
-use Rattle.planus_write.proofs.Staying.{kept_stays}
+use Rattle.planus_write.specs.lemmas.PutEntries.{entries_put}
+use Rattle.planus_write.specs.lemmas.StandingLaws.{values_are_kept}
+use Rattle.planus_write.specs.lemmas.Staying.{kept_stays}
 use Rattle.planus_tables.specs.TableFields.{IsUnused}
 use Rattle.planus_tables.specs.TableRules.{is_apart, has_slots, is_falling, can_hold, Among}
-use Rattle.planus_write.specs.Laws.{extends_on, extends_itself}
+use Rattle.planus_write.specs.lemmas.Laws.{extends_on, extends_itself}
 use Rattle.std.proofs.lemmas.List.{append-nil}
-use Rattle.planus_tables.specs.Contents.{Content, FieldsAre, there_of, Comes, StillKept, TableIsKept, named_at, WritesBehind}
-use Rattle.planus_tables.specs.ContentLaws.{fields_stay}
-use Rattle.planus_tables.specs.PreparingLaws.{among_both, stand_both, entries_append}
+use Rattle.planus_write.specs.Contents.{Content, Comes, named_at}
+use Rattle.planus_tables.specs.Contents.{FieldsAre, there_of, StillKept, TableIsKept, WritesRest}
+use Rattle.planus_tables.specs.lemmas.ContentLaws.{fields_stay}
+use Rattle.planus_tables.specs.lemmas.PreparingLaws.{among_both, stand_both, entries_append}
 use Rattle.planus_tables.proofs.FieldLists.{blank_unused}
 
 -- What the test says.
@@ -327,7 +328,7 @@ pub fields_kept : {T : Type 0} (n : ℕ) (all others : List Declared) (fields la
     → WritesTable (declared_of (fields ++ last)) (λ place. body_bytes place (fields ++ last)) between
     (Ok unit) new
     → offset.distance ≡ length new.bytes
-    → WritesBehind fields last [] [] between offset.distance new
+    → WritesRest fields last [] [] between offset.distance new
 fields_kept n all others fields last between rules among last_among stand last_stand unit offset new
     written at =
     λ past before last_before is_past are last_are.

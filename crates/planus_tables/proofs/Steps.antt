@@ -4,16 +4,17 @@ use Rattle.std.specs.Prelude.{IfOk}
 use Rattle.std.specs.Option.{option_map}
 use Rattle.std.proofs.lemmas.List.{append-nil}
 use Rattle.planus_read.specs.Values.{Field}
-use Rattle.planus_write.specs.Laws.{extends_on}
+use Rattle.planus_write.specs.lemmas.Laws.{extends_on}
 use Rattle.planus_write.specs.Past.{Past}
 use Rattle.planus_write.specs.Placing.{Outcome, then_does}
 use Rattle.planus_write.specs.Preparing.{Answers}
 use Rattle.planus_write.specs.State.{State, IsPast}
 use Rattle.planus_write.specs.declared.errors.BuildError.{BuildError}
 use Rattle.planus_write.specs.declared.offset.Offset.{Offset}
-use Rattle.planus_write.proofs.Staying.{kept_stays}
-use Rattle.planus_tables.specs.Contents.{Content, FieldsAre, there_of, Comes, TableIsKept, WritesBehind}
-use Rattle.planus_tables.specs.ContentLaws.{fields_stay}
+use Rattle.planus_write.specs.lemmas.Staying.{kept_stays}
+use Rattle.planus_write.specs.Contents.{Content, Comes}
+use Rattle.planus_tables.specs.Contents.{FieldsAre, there_of, TableIsKept, WritesRest}
+use Rattle.planus_tables.specs.lemmas.ContentLaws.{fields_stay}
 use Rattle.planus_tables.specs.Preparing.{WritesFields}
 use Rattle.planus_tables.specs.TableFields.{all_of, field_in}
 use Rattle.planus_tables.proofs.RuledTables.{contents_both}
@@ -79,8 +80,8 @@ pub more_kept : (there last fields lasts there_after last_after : List (ℕ × F
     (distance : ℕ) → there_after ≡ there ++ fields → last_after ≡ last ++ lasts
     → ((past : Past) → IsPast old past
     → Comes past between (λ after. FieldsAre after (there_of contents) fields × FieldsAre after (there_of last_contents) lasts))
-    → WritesBehind there_after last_after rest rest_last between distance new
-    → WritesBehind there last (contents ++ rest) (last_contents ++ rest_last) old distance new
+    → WritesRest there_after last_after rest rest_last between distance new
+    → WritesRest there last (contents ++ rest) (last_contents ++ rest_last) old distance new
 more_kept there last fields lasts there_after last_after contents last_contents rest rest_last old between
     new distance same same_last near far =
     λ past before last_before is_past are last_are.

@@ -1,12 +1,16 @@
 -- What a field of each kind holds, for contracts of callers.
 use Rattle.std.specs.Prelude.{ℕ, List, [], ◌∷◌, map, Bool, Option, Some, ℤ}
-use Rattle.std.specs.Int.{w8, w16, w32, w64, to_le_bytes, cast_unsigned, from_bool}
+use Rattle.std.specs.Int.{Width, w8, w16, w32, w64, to_le_bytes, cast_unsigned, cast_signed, from_bool}
+use Rattle.std.specs.Ordering.{int_eq}
 use Rattle.planus_read.specs.Values.{Value, text, byte_list, plain_list, reference_list}
 use Rattle.planus_write.specs.declared.offset.Offset.{Offset}
 use Rattle.planus_write.specs.declared.union_offset.UnionOffset.{UnionOffset}
-use Rattle.planus_tables.specs.Contents.{Content, item, value, values, written}
-use Rattle.planus_tables.specs.Contents.{value_content, tag_content, union_if}
-use Rattle.planus_tables.specs.Contents.{unions_hold, any_unions_hold, written_union, tags_content}
+use Rattle.planus_write.specs.Contents.{Content, item, value, values, written}
+use Rattle.planus_tables.specs.Contents.{value_content, tag_content}
+use Rattle.planus_fields.specs.Contents.{union_if}
+use Rattle.planus_write.specs.Contents.{unions_hold, written_union}
+use Rattle.planus_fields.specs.Contents.{any_unions_hold}
+use Rattle.planus_tables.specs.Contents.{tags_content}
 use Rattle.planus_tables.specs.Contents.{values_content}
 
 -- a number without a sign
@@ -22,21 +26,43 @@ holds_u32 number = Some (item (record { bytes = to_le_bytes w32 number; alignmen
 abbrev pub holds_u64 : ℕ → Option Content
 holds_u64 number = Some (item (record { bytes = to_le_bytes w64 number; alignment = 8 }))
 
+-- A number with a sign as code of this width has it: itself, where it fits. In this form what is said of
+-- a number that is handed over by value is what the call says of it.
+abbrev pub as_signed : Width → ℤ → ℤ
+as_signed w number = cast_signed w (cast_unsigned w number)
+
 -- a number with a sign
 abbrev pub holds_i8 : ℤ → Option Content
-holds_i8 number = Some (item (record { bytes = cast_unsigned w8 number ∷ []; alignment = 1 }))
+holds_i8 number =
+    Some (item (record { bytes = cast_unsigned w8 (as_signed w8 number) ∷ []; alignment = 1 }))
 
 abbrev pub holds_i16 : ℤ → Option Content
 holds_i16 number =
-    Some (item (record { bytes = to_le_bytes w16 (cast_unsigned w16 number); alignment = 2 }))
+    Some
+    (item (record { bytes = to_le_bytes w16 (cast_unsigned w16 (as_signed w16 number)); alignment = 2 }))
 
 abbrev pub holds_i32 : ℤ → Option Content
 holds_i32 number =
-    Some (item (record { bytes = to_le_bytes w32 (cast_unsigned w32 number); alignment = 4 }))
+    Some
+    (item (record { bytes = to_le_bytes w32 (cast_unsigned w32 (as_signed w32 number)); alignment = 4 }))
 
 abbrev pub holds_i64 : ℤ → Option Content
 holds_i64 number =
-    Some (item (record { bytes = to_le_bytes w64 (cast_unsigned w64 number); alignment = 8 }))
+    Some
+    (item (record { bytes = to_le_bytes w64 (cast_unsigned w64 (as_signed w64 number)); alignment = 8 }))
+
+-- a number with a sign is this one, such as its default
+abbrev pub equals_i8 : ℤ → ℤ → Bool
+equals_i8 number default = int_eq (as_signed w8 number) default
+
+abbrev pub equals_i16 : ℤ → ℤ → Bool
+equals_i16 number default = int_eq (as_signed w16 number) default
+
+abbrev pub equals_i32 : ℤ → ℤ → Bool
+equals_i32 number default = int_eq (as_signed w32 number) default
+
+abbrev pub equals_i64 : ℤ → ℤ → Bool
+equals_i64 number default = int_eq (as_signed w64 number) default
 
 -- a truth value
 abbrev pub holds_bool : Bool → Option Content

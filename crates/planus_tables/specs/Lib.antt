@@ -1,11 +1,7 @@
+pub mod Contents
 pub mod TableFields
 pub mod TableRules
 pub mod Preparing
-pub mod PreparingLaws
-pub mod Contents
-pub mod ContentLaws
-pub mod ListContents
-pub mod UnionContents
 pub mod Holds
 pub mod Views
 pub mod ReadBack
@@ -13,3 +9,4 @@ pub mod ReadKinds
 pub mod ReadVectors
 pub mod ReadUnions
 pub mod Variants
+pub mod lemmas

@@ -18,9 +18,11 @@ use Rattle.planus_write.specs.Past.{Past}
 use Rattle.planus_write.specs.Preparing.{IsPrepared}
 use Rattle.planus_write.specs.State.{State, IsPast}
 use Rattle.planus_write.specs.declared.offset.Offset.{Offset}
-use Rattle.planus_tables.specs.Contents.{Content, item, value, values, written, union_tags}
-use Rattle.planus_tables.specs.Contents.{union_values, written_tags, written_values, there_of}
-use Rattle.planus_tables.specs.Contents.{Unions, no_unions, union_and, TableIsKept}
+use Rattle.planus_write.specs.Contents.{Content, item, value, values, written, union_tags}
+use Rattle.planus_write.specs.Contents.{union_values, written_tags, written_values}
+use Rattle.planus_tables.specs.Contents.{there_of}
+use Rattle.planus_write.specs.Contents.{Unions, no_unions, union_and}
+use Rattle.planus_tables.specs.Contents.{TableIsKept}
 use Rattle.planus_tables.specs.Views.{ShowsView}
 use Rattle.planus_tables.specs.declared.table_ref.TableRef.{TableRef}
 

@@ -9,8 +9,9 @@ use Rattle.planus_read.specs.Reading.{number_reading, signed_reading, truth_read
 use Rattle.planus_read.specs.Reading.{text_reading, byte_list_reading, table_reading}
 use Rattle.planus_read.specs.Tables.{Reads}
 use Rattle.planus_read.specs.Values.{text, byte_list}
-use Rattle.planus_tables.specs.Contents.{Content, item, value, written}
+use Rattle.planus_write.specs.Contents.{Content, item, value, written}
 use Rattle.planus_tables.specs.ReadBack.{ContentsReadBack, TableStands, TableHolds}
+use Rattle.planus_tables.specs.Holds.{as_signed}
 use Rattle.planus_tables.specs.Views.{ShowsView}
 use Rattle.planus_tables.specs.declared.table_ref.TableRef.{TableRef}
 
@@ -39,7 +40,11 @@ unsigned_content width n = item (record { bytes = to_le_bytes width n; alignment
 
 abbrev pub signed_content : Width → ℤ → Content
 signed_content width z =
-    item (record { bytes = to_le_bytes width (cast_unsigned width z); alignment = byte_len width })
+    item
+    (record {
+      bytes = to_le_bytes width (cast_unsigned width (as_signed width z));
+      alignment = byte_len width;
+    })
 
 abbrev pub truth_content : Bool → Content
 truth_content truth = item (record { bytes = from_bool truth ∷ []; alignment = 1 })

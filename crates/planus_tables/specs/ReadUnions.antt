@@ -19,10 +19,11 @@ use Rattle.planus_view.specs.declared.union_vector.UnionSliceView.{UnionSliceVie
 use Rattle.planus_view.specs.declared.vector_of.VectorOf.{VectorOf}
 use Rattle.planus_write.specs.Unions.{item_of}
 use Rattle.planus_write.specs.declared.union_offset.UnionOffset.{UnionOffset}
-use Rattle.planus_tables.specs.Contents.{Content, Unions, value, values, written}
-use Rattle.planus_tables.specs.Contents.{union_tags, union_values, written_tags}
-use Rattle.planus_tables.specs.Contents.{written_values, tag_content, value_content}
-use Rattle.planus_tables.specs.Contents.{as_unions, written_union}
+use Rattle.planus_write.specs.Contents.{Content, Unions, value, values, written}
+use Rattle.planus_write.specs.Contents.{union_tags, union_values, written_tags}
+use Rattle.planus_write.specs.Contents.{written_values}
+use Rattle.planus_tables.specs.Contents.{tag_content, value_content}
+use Rattle.planus_write.specs.Contents.{as_unions, written_union}
 use Rattle.planus_tables.specs.ReadBack.{FieldHolds, SlotHolds, UnionsHold}
 
 -- the field that holds this is a reference

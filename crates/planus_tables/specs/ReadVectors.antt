@@ -10,7 +10,7 @@ use Rattle.planus_view.specs.ReadBack.{IsVectorOf}
 use Rattle.planus_view.specs.VectorView.{ShowsVector}
 use Rattle.planus_view.specs.declared.vector.SliceView.{SliceView}
 use Rattle.planus_view.specs.declared.vector_of.VectorOf.{VectorOf}
-use Rattle.planus_tables.specs.Contents.{value, values}
+use Rattle.planus_write.specs.Contents.{value, values}
 use Rattle.planus_tables.specs.ReadBack.{AllStand, ContentsReadBack}
 
 module _ {T : Type 0} (stride : StrideGhosts T) where

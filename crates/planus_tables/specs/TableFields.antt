@@ -1,22 +1,13 @@
 -- The fields of a table that are there, in the order in which they are declared and written.
-use Rattle.std.specs.Prelude.{◌≡◌, ℕ, ◌≤◌, List, [], ◌∷◌, ◌++◌, Option, Some, None}
+use Rattle.std.specs.Prelude.{ℕ, List, [], ◌∷◌, ◌++◌, Option, Some, None}
 use Rattle.planus_read.specs.Bytes.{BytesStand}
 use Rattle.planus_read.specs.Values.{Field, plain, reference, tags, values}
 use Rattle.std.specs.Int.{w8, to_le_bytes}
-use Rattle.planus_read.specs.Aligned.{field_alignment}
 use Rattle.planus_write.specs.Items.{Item}
-use Rattle.planus_write.specs.Tables.{IsField, field_item, field_size}
 use Rattle.planus_write.specs.TableWriting.{Writer, slot_position}
 use Rattle.planus_write.specs.Unions.{union_reach}
 use Rattle.planus_write.specs.declared.union_offset.UnionOffset.{UnionOffset}
 use Rattle.planus_write.specs.declared.union_vector_offset.UnionVectorOffset.{UnionVectorOffset}
-
--- What is written in a table with this size, alignment, bytes and reach is this field of the format.
-pub record IsItem (size alignment : ℕ) (leaves : Item) (reach : ℕ) (field : Field) : Type 0 where
-  pub size_is : field_size field ≡ size
-  pub alignment_is : field_alignment field ≡ alignment
-  pub leaves_is : field_item field ≡ leaves
-  pub stands : (before : ℕ) → reach ≤ before → IsField before field
 
 -- the field of a slot, if it is there
 abbrev pub field_in : {A : Type 0} → ℕ → (A → Field) → Option A → List (ℕ × Field)

@@ -5,21 +5,23 @@ ghost use Rattle.planus_write.specs.Tables.{body_size, body_bytes};
 ghost use Rattle.planus_tables.specs.TableRules.{can_hold};
 ghost use Rattle.planus_tables.specs.Preparing.{AnswersFields, WritesFields};
 ghost use Rattle.planus_write.specs.Placing.{then_does};
-ghost use Rattle.planus_tables.specs.Contents.{WritesContents, WritesBehind};
+ghost use Rattle.planus_write.specs.Preparing.{Answers};
+ghost use Rattle.planus_tables.specs.Contents.{WritesContents, WritesRest};
 
 use crate::fields::Fields;
 use crate::prepared_fields::PreparedFields;
-use planus_write::{BuildError, Builder, ObjectFill, ObjectWriter, Offset, TableWriter};
+use crate::table_kind::TableKind;
+use crate::table_write::TableWrite;
+use planus_write::{BuildError, Builder, ObjectFill, ObjectWriter, Offset};
 
 /// What writes the body of a table.
 #[derive(Drop)]
-struct Body<'a, const N: usize, F: PreparedFields<N>, L: PreparedFields<N>> {
+struct Body<'a, F: PreparedFields, L: PreparedFields> {
     fields: &'a F,
     last: &'a L,
 }
 
-impl<'a, const N: usize, F: PreparedFields<N>, L: PreparedFields<N>> ObjectFill
-    for Body<'a, N, F, L> {
+impl<'a, F: PreparedFields, L: PreparedFields> ObjectFill for Body<'a, F, L> {
     ghost size = { λ body. body_size (F.there body.fields.now ++ L.there body.last.now) };
 
     ghost reach = { λ body. max (F.reach body.fields.now) (L.reach body.last.now) };
@@ -34,27 +36,27 @@ impl<'a, const N: usize, F: PreparedFields<N>, L: PreparedFields<N>> ObjectFill
     }
 }
 
-/// Writes the table of prepared fields, and behind them those that come last.
+/// Writes the table of prepared fields, and after them those that come last.
 #[inline(always)]
-pub(crate) fn write_table<T, const N: usize, F: PreparedFields<N>, L: PreparedFields<N>>(
+pub(crate) fn write_table<T, W: TableWrite, F: PreparedFields, L: PreparedFields>(
     builder: &mut Builder,
     fields: &F,
     last: &L,
 ) -> Result<Offset<T>, BuildError>
-    requires rules { IsTrue (can_hold N (F.all ++ L.all)) }
+    requires rules { IsTrue (can_hold W.room (F.all ++ L.all)) }
     requires fields { F.reach fields.now ≤ length builder.old.bytes }
     requires last { L.reach last.now ≤ length builder.old.bytes }
     ensures written { AnswersFields (F.there fields.now ++ L.there last.now)
         builder.old result builder.new }
-    ensures kept { IfOk result (λ offset. WritesBehind (F.there fields.now) (L.there last.now)
+    ensures kept { IfOk result (λ offset. WritesRest (F.there fields.now) (L.there last.now)
         [] [] builder.old offset.distance builder.new) }
     ensures reached { IfOk result (λ offset. offset.distance ≤ length builder.new.bytes) }
     ensures grows { Grows builder.old builder.new }
 {
-    let mut writer: TableWriter<N> = TableWriter::default();
-    fields.declare(&mut writer);
-    last.declare(&mut writer);
-    writer.finish(builder, &Body { fields, last })?;
+    let mut writer = W::start();
+    fields.declare::<W>(&mut writer);
+    last.declare::<W>(&mut writer);
+    writer.close(builder, &Body { fields, last })?;
     Ok(builder.current_offset())
 }
 
@@ -62,23 +64,24 @@ pub(crate) fn write_table<T, const N: usize, F: PreparedFields<N>, L: PreparedFi
 /// with exactly these fields. Returns its offset. With `Ok`, whatever was written before, the table
 /// is kept and the values to which it refers, and all that was kept before still is.
 ///
-/// `N` is 4, and 2 for each slot up to the greatest. The fields come by falling alignment: numbers
-/// of eight bytes first, then references, unions and numbers of four bytes, those of two, and those
-/// of one. They are prepared in the same order; one that is marked `last` is written behind all
-/// that aren't, as the tags of unions are. No slot is used twice, and with all fields the table is
-/// at most 65535 bytes without its vtable. All this is computed of the types of the fields.
+/// The kind says how many bytes its vtable may have ([`TableKind::Writer`]). The fields come by
+/// falling alignment: numbers of eight bytes first, then references, unions and numbers of four
+/// bytes, those of two, and those of one. They are prepared in the same order; one that is marked
+/// `last` is written after all that aren't, as the tags of unions are. No slot is used twice or lies
+/// outside the vtable, and with all fields the table is at most 65535 bytes without its vtable. All
+/// this is computed of the types of the fields.
 ///
 /// A refusal is that of the first field that is refused, or else that of the table:
 /// [`BuildError::TooLarge`] where a part's place would be above 2147483647 bytes from the end, and
 /// [`BuildError::OutOfMemory`] where memory is refused. What was written before it stays.
 #[inline]
-pub fn create_table<T, const N: usize, F: Fields<N> + Drop>(
+pub fn create_table<K: TableKind, F: Fields + Drop>(
     builder: &mut Builder,
     fields: F,
-) -> Result<Offset<T>, BuildError>
+) -> Result<Offset<K>, BuildError>
     requires may { F.may fields builder.old }
-    requires rules { IsTrue (can_hold N (F.all ++ F.all_last)) }
-    ensures written { then_does (F.in_turn fields [] []) WritesFields
+    requires rules { IsTrue (can_hold K.Writer.room (F.all ++ F.all_last)) }
+    ensures written { then_does (F.in_turn fields (λ ts ls. Answers (ts ++ ls)) [] []) WritesFields
         builder.old result builder.new }
     ensures kept { IfOk result (λ offset. WritesContents
         (F.contents fields ++ F.last_contents fields)
@@ -86,5 +89,5 @@ pub fn create_table<T, const N: usize, F: Fields<N> + Drop>(
     ensures reached { IfOk result (λ offset. offset.distance ≤ length builder.new.bytes) }
     ensures grows { Grows builder.old builder.new }
 {
-    fields.write::<T, (), ()>(builder, &(), &())
+    fields.write::<K, K::Writer, (), (), ()>(&(), builder, &(), &())
 }

@@ -12,47 +12,77 @@ pub struct FieldAt<const SLOT: usize, P, V> {
     pub _marker: PhantomData<P>,
 }
 
-/// Writes a list of fields, each as `SLOT: KIND = VALUE`: its slot, the type as which it is
-/// encoded, and its value; `SLOT: last KIND = VALUE` is a [`LastAt`](crate::LastAt). A union is
-/// written as `(TAG, VALUE): union KIND = VALUE`, and a vector of unions as
-/// `(TAGS, VALUES): unions KIND = VALUE`, with their two slots.
+/// Writes the fields of a table, each as `SLOT: KIND = VALUE`: its slot, the type as which it is
+/// encoded, and its value; `SLOT: last KIND = VALUE` is a [`TrailingField`](crate::TrailingField). A
+/// union is written as `(TAG, VALUE): union KIND = VALUE`, and a vector of unions as
+/// `(TAGS, VALUES): unions KIND = VALUE`, with their two slots. The result is `()`, one line, or
+/// pairs of pairs of lines.
 #[macro_export]
 macro_rules! fields {
-    () => { () };
-    (($tag:literal, $slot:literal): union $kind:ty = $value:expr $(, $($rest:tt)*)?) => {
-        (
+    // A field, as its type says.
+    (@at $slot:literal, $kind:ty, $value:expr) => {
+        $crate::FieldAt::<$slot, $kind, _> {
+            value: $value,
+            _marker: std::marker::PhantomData,
+        }
+    };
+    // The lines so far, each in parentheses, and those that follow: four fields at once, where there
+    // are so many, since a macro may take some 100 steps.
+    (@lines [$($lines:tt)*]) => { $crate::fields!(@pairs [] $($lines)*) };
+    (@lines [$($lines:tt)*]
+        $slot:literal: $kind:ty = $value:expr,
+        $slot2:literal: $kind2:ty = $value2:expr,
+        $slot3:literal: $kind3:ty = $value3:expr,
+        $slot4:literal: $kind4:ty = $value4:expr $(, $($rest:tt)*)?) => {
+        $crate::fields!(@lines [$($lines)*
+            ($crate::fields!(@at $slot, $kind, $value))
+            ($crate::fields!(@at $slot2, $kind2, $value2))
+            ($crate::fields!(@at $slot3, $kind3, $value3))
+            ($crate::fields!(@at $slot4, $kind4, $value4))
+        ] $($($rest)*)?)
+    };
+    (@lines [$($lines:tt)*] $slot:literal: $kind:ty = $value:expr $(, $($rest:tt)*)?) => {
+        $crate::fields!(@lines [$($lines)*
+            ($crate::fields!(@at $slot, $kind, $value))
+        ] $($($rest)*)?)
+    };
+    (@lines [$($lines:tt)*] $slot:literal: last $kind:ty = $value:expr $(, $($rest:tt)*)?) => {
+        $crate::fields!(@lines [$($lines)* (
+            $crate::TrailingField::<$slot, $kind, _> {
+                value: $value,
+                _marker: std::marker::PhantomData,
+            }
+        )] $($($rest)*)?)
+    };
+    (@lines [$($lines:tt)*]
+        ($tag:literal, $slot:literal): union $kind:ty = $value:expr $(, $($rest:tt)*)?) => {
+        $crate::fields!(@lines [$($lines)* (
             $crate::UnionAt::<$tag, $slot, $kind, _> {
                 value: $value,
                 _marker: std::marker::PhantomData,
-            },
-            $crate::fields!($($($rest)*)?),
-        )
+            }
+        )] $($($rest)*)?)
     };
-    (($tags:literal, $slot:literal): unions $kind:ty = $value:expr $(, $($rest:tt)*)?) => {
-        (
+    (@lines [$($lines:tt)*]
+        ($tags:literal, $slot:literal): unions $kind:ty = $value:expr $(, $($rest:tt)*)?) => {
+        $crate::fields!(@lines [$($lines)* (
             $crate::UnionVectorAt::<$tags, $slot, $kind, _> {
                 value: $value,
                 _marker: std::marker::PhantomData,
-            },
-            $crate::fields!($($($rest)*)?),
-        )
+            }
+        )] $($($rest)*)?)
     };
-    ($slot:literal: last $kind:ty = $value:expr $(, $($rest:tt)*)?) => {
-        (
-            $crate::LastAt::<$slot, $kind, _> {
-                value: $value,
-                _marker: std::marker::PhantomData,
-            },
-            $crate::fields!($($($rest)*)?),
-        )
+    // The pairs of neighbours so far, and what is still to be paired; and so on with the pairs.
+    (@pairs []) => { () };
+    (@pairs [] $only:tt) => { $only };
+    (@pairs [$($pairs:tt)*]) => { $crate::fields!(@pairs [] $($pairs)*) };
+    (@pairs [$($pairs:tt)*] $last:tt) => { $crate::fields!(@pairs [] $($pairs)* $last) };
+    (@pairs [$($pairs:tt)*]
+        $a:tt $b:tt $c:tt $d:tt $e:tt $f:tt $g:tt $h:tt $($rest:tt)*) => {
+        $crate::fields!(@pairs [$($pairs)* ($a, $b) ($c, $d) ($e, $f) ($g, $h)] $($rest)*)
     };
-    ($slot:literal: $kind:ty = $value:expr $(, $($rest:tt)*)?) => {
-        (
-            $crate::FieldAt::<$slot, $kind, _> {
-                value: $value,
-                _marker: std::marker::PhantomData,
-            },
-            $crate::fields!($($($rest)*)?),
-        )
+    (@pairs [$($pairs:tt)*] $a:tt $b:tt $($rest:tt)*) => {
+        $crate::fields!(@pairs [$($pairs)* ($a, $b)] $($rest)*)
     };
+    ($($lines:tt)*) => { $crate::fields!(@lines [] $($lines)*) };
 }

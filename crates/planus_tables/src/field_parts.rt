@@ -7,49 +7,49 @@ ghost use Rattle.planus_write.specs.TableWriting.{WasTold, slot_position};
 ghost use Rattle.planus_write.specs.ObjectWriting.{body_of, wrote};
 ghost use Rattle.planus_tables.specs.TableFields.{field_in, size_if, item_if, IsUnused};
 
-use crate::table_item::TableItem;
-use planus_write::{ObjectWriter, Primitive, TableWriter, WriteAsPrimitive};
+use crate::table_write::TableWrite;
+use planus_write::{ObjectWriter, Primitive, WriteAsPrimitive};
 
 /// Declares a field for a slot.
 #[inline(always)]
-fn declare<P: Primitive, A: TableItem<P>, const N: usize>(
-    writer: &mut TableWriter<N>,
+fn declare<P: Primitive, A: WriteAsPrimitive<P>, W: TableWrite>(
+    writer: &mut W,
     slot: usize,
     _field: &A,
 )
-    requires inside { slot_position slot + 2 ≤ N }
-    requires small { N ≤ 65534 }
-    requires unused { IsUnused writer.old slot }
-    requires fits { writer.old.object_size + P.SIZE ≤ 65535 }
-    ensures told { (fields : List (ℕ × Field)) → WasTold writer.old (declared_of fields)
-        → WasTold writer.new (declared_of (fields ++ (slot, A.field _field.now) ∷ [])) }
-    ensures others { (other : ℕ) → (other ≡ slot → ⊥) → IsUnused writer.old other
-        → IsUnused writer.new other }
-    ensures size { writer.new.object_size ≡ writer.old.object_size + P.SIZE }
+    requires inside { slot_position slot + 2 ≤ W.room }
+    requires small { W.room ≤ 65534 }
+    requires unused { IsUnused (W.at writer.old) slot }
+    requires fits { (W.at writer.old).object_size + P.SIZE ≤ 65535 }
+    ensures told { (fields : List (ℕ × Field)) → WasTold (W.at writer.old) (declared_of fields)
+        → WasTold (W.at writer.new) (declared_of (fields ++ (slot, A.field _field.now) ∷ [])) }
+    ensures others { (other : ℕ) → (other ≡ slot → ⊥) → IsUnused (W.at writer.old) other
+        → IsUnused (W.at writer.new) other }
+    ensures size { (W.at writer.new).object_size ≡ (W.at writer.old).object_size + P.SIZE }
 {
-    writer.write_entry::<P>(slot);
+    writer.enter::<P>(slot);
 }
 
 /// Declares a field for a slot, if it is there.
 #[inline(always)]
-pub(crate) fn declare_if<P: Primitive, A: TableItem<P>, const N: usize>(
-    writer: &mut TableWriter<N>,
+pub(crate) fn declare_if<P: Primitive, A: WriteAsPrimitive<P>, W: TableWrite>(
+    writer: &mut W,
     slot: usize,
     field: &Option<A>,
 )
-    requires inside { slot_position slot + 2 ≤ N }
-    requires small { N ≤ 65534 }
-    requires unused { IsUnused writer.old slot }
-    requires fits { writer.old.object_size + P.SIZE ≤ 65535 }
-    ensures told { (fields : List (ℕ × Field)) → WasTold writer.old (declared_of fields)
-        → WasTold writer.new (declared_of (fields ++ field_in slot A.field field.now)) }
-    ensures others { (other : ℕ) → (other ≡ slot → ⊥) → IsUnused writer.old other
-        → IsUnused writer.new other }
-    ensures size { writer.new.object_size ≤ writer.old.object_size + P.SIZE }
+    requires inside { slot_position slot + 2 ≤ W.room }
+    requires small { W.room ≤ 65534 }
+    requires unused { IsUnused (W.at writer.old) slot }
+    requires fits { (W.at writer.old).object_size + P.SIZE ≤ 65535 }
+    ensures told { (fields : List (ℕ × Field)) → WasTold (W.at writer.old) (declared_of fields)
+        → WasTold (W.at writer.new) (declared_of (fields ++ field_in slot A.field field.now)) }
+    ensures others { (other : ℕ) → (other ≡ slot → ⊥) → IsUnused (W.at writer.old) other
+        → IsUnused (W.at writer.new) other }
+    ensures size { (W.at writer.new).object_size ≤ (W.at writer.old).object_size + P.SIZE }
 {
     match field {
         None => {}
-        Some(field) => declare::<P, A, N>(writer, slot, field),
+        Some(field) => declare::<P, A, W>(writer, slot, field),
     }
 }
 

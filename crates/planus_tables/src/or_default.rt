@@ -1,11 +1,7 @@
 //! A field with a default.
-ghost use Rattle.planus_write.specs.Laws.{lawful_of};
-ghost use Rattle.planus_tables.specs.UnionContents.{union_vector_prepared_as};
+ghost use Rattle.planus_write.specs.lemmas.Laws.{lawful_of};
+ghost use Rattle.planus_fields.specs.lemmas.UnionContentLaws.{union_vector_prepared_as};
 
-use crate::contents::{
-    HasContent, HasDefaultContent, HasDefaultUnionVectorContent, HasUnionVectorContent,
-};
-use crate::table_item::TableItem;
 use planus_fields::{
     WriteAsDefault, WriteAsDefaultUnionVector, WriteAsOptional, WriteAsOptionalUnionVector,
 };
@@ -28,6 +24,8 @@ impl<P: Primitive, D, V: WriteAsDefault<P, D>> WriteAsOptional<P> for OrDefault<
 
     ghost outcome = { λ field old answer new. V.outcome field.value field.default old answer new };
 
+    ghost content = { λ field. V.content field.value field.default };
+
     #[inline]
     fn prepare(&self, builder: &mut Builder) -> Result<Option<V::Prepared>, BuildError> {
         self.value.prepare(builder, &self.default)
@@ -38,13 +36,6 @@ impl<P: Primitive, D, V: WriteAsDefault<P, D>> WriteAsOptional<P> for OrDefault<
       reaches = λ field. (V.is_lawful field.default).reaches field.value;
       stays = λ field. (V.is_lawful field.default).stays field.value;
     } };
-}
-
-impl<P: Primitive, D, V: HasDefaultContent<P, D>> HasContent<P> for OrDefault<V, D>
-where
-    V::Prepared: TableItem<P>,
-{
-    ghost content = { λ field. V.content field.value field.default };
 
     ghost has_content = { record {
       comes = λ field. (V.has_content field.default).comes field.value;
@@ -56,16 +47,14 @@ impl<T, V: WriteAsDefaultUnionVector<T>> WriteAsOptionalUnionVector<T> for OrDef
 
     ghost outcome = { λ field old answer new. V.outcome field.value old answer new };
 
+    ghost contents = { λ field. V.contents field.value };
+
     #[inline]
     fn prepare(&self, builder: &mut Builder) -> Result<Option<UnionVectorOffset<T>>, BuildError> {
         self.value.prepare(builder)
     }
 
     ghost is_lawful = { lawful_of (λ field. field.value) V.is_lawful };
-}
-
-impl<T, V: HasDefaultUnionVectorContent<T>> HasUnionVectorContent<T> for OrDefault<V, ()> {
-    ghost contents = { λ field. V.contents field.value };
 
     ghost has_contents = { union_vector_prepared_as (λ field. field.value) V.has_contents };
 }

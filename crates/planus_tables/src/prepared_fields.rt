@@ -9,15 +9,16 @@ ghost use Rattle.planus_write.specs.TableWriting.{WasTold};
 ghost use Rattle.planus_tables.specs.TableFields.{IsUnused};
 ghost use Rattle.planus_tables.specs.TableRules.{Among, has_slots, is_apart};
 
-use planus_write::{ObjectWriter, TableWriter};
+use crate::table_write::TableWrite;
+use planus_write::ObjectWriter;
 
-/// The fields of a table with `N` bytes for its vtable, prepared: `()`, or a
-/// [`Behind`](crate::Behind), one field behind the others.
+/// The fields of a table, prepared: `()`, or a
+/// [`FieldChain`](crate::FieldChain), one field behind the others.
 ///
 /// The ghost member `all` has the entries of all fields that may be there, and `there` the fields
 /// that are, in order, each with its slot. `reach` is how far from the end of the buffer they
 /// refer, in bytes.
-pub trait PreparedFields<const N: usize> {
+pub trait PreparedFields {
     ghost all: { List Declared };
 
     ghost there: { Self → List (ℕ × Field) };
@@ -27,16 +28,16 @@ pub trait PreparedFields<const N: usize> {
     /// Declares the fields that are there. The slots of all that may be there lie in the vtable,
     /// are apart, and nothing is declared for them yet; with all of them the object is at most
     /// 65535 bytes. For any other slot nothing is declared.
-    fn declare(&self, writer: &mut TableWriter<N>)
-        requires small { N ≤ 65534 }
-        requires slots { IsTrue (has_slots N all) }
-        requires unused { AllByRecursion (λ one. IsUnused writer.old one.slot) all }
-        requires fits { writer.old.object_size + total_size all ≤ 65535 }
-        ensures told { (fields : List (ℕ × Field)) → WasTold writer.old (declared_of fields)
-            → WasTold writer.new (declared_of (fields ++ there self.now)) }
-        ensures others { (other : ℕ) → IsTrue (is_apart other all) → IsUnused writer.old other
-            → IsUnused writer.new other }
-        ensures size { writer.new.object_size ≤ writer.old.object_size + total_size all };
+    fn declare<W: TableWrite>(&self, writer: &mut W)
+        requires small { W.room ≤ 65534 }
+        requires slots { IsTrue (has_slots W.room all) }
+        requires unused { AllByRecursion (λ one. IsUnused (W.at writer.old) one.slot) all }
+        requires fits { (W.at writer.old).object_size + total_size all ≤ 65535 }
+        ensures told { (fields : List (ℕ × Field)) → WasTold (W.at writer.old) (declared_of fields)
+            → WasTold (W.at writer.new) (declared_of (fields ++ there self.now)) }
+        ensures others { (other : ℕ) → IsTrue (is_apart other all) → IsUnused (W.at writer.old) other
+            → IsUnused (W.at writer.new) other }
+        ensures size { (W.at writer.new).object_size ≤ (W.at writer.old).object_size + total_size all };
 
     /// Writes the fields that are there, behind what is written. So many bytes remain, and what the
     /// fields refer to lies behind them.
@@ -55,7 +56,7 @@ pub trait PreparedFields<const N: usize> {
     ghost among: { (fields : Self) → Among (declared_of (there fields)) all };
 }
 
-impl<const N: usize> PreparedFields<N> for () {
+impl PreparedFields for () {
     ghost all = { [] };
 
     ghost there = { λ fields. [] };
@@ -63,7 +64,7 @@ impl<const N: usize> PreparedFields<N> for () {
     ghost reach = { λ fields. 0 };
 
     #[inline(always)]
-    fn declare(&self, _writer: &mut TableWriter<N>) {}
+    fn declare<W: TableWrite>(&self, _writer: &mut W) {}
 
     #[inline(always)]
     fn write(&self, _writer: &mut ObjectWriter<'_>) {}

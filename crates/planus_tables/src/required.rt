@@ -1,11 +1,11 @@
 //! A required field.
 ghost use Rattle.std.specs.Prelude.{Some};
-ghost use Rattle.planus_fields.specs.Fields.{AlwaysWritten, left_out_is_lawful};
-ghost use Rattle.planus_write.specs.Laws.{lawful_of};
-ghost use Rattle.planus_tables.specs.ContentLaws.{always_prepared, content_prepared_as};
+ghost use Rattle.planus_fields.specs.Fields.{AlwaysWritten};
+ghost use Rattle.planus_fields.specs.lemmas.FieldLaws.{left_out_is_lawful};
+ghost use Rattle.planus_write.specs.lemmas.Laws.{lawful_of};
+ghost use Rattle.planus_fields.specs.lemmas.ContentLaws.{always_prepared};
+ghost use Rattle.planus_write.specs.lemmas.ContentLaws.{content_prepared_as};
 
-use crate::contents::{HasContent, HasRequiredContent};
-use crate::table_item::TableItem;
 use planus_fields::{WriteAs, WriteAsOptional};
 use planus_write::{BuildError, Builder, Primitive};
 
@@ -21,6 +21,8 @@ impl<P: Primitive, V: WriteAs<P>> WriteAsOptional<P> for Required<V> {
     ghost outcome = { λ required old answer new.
         AlwaysWritten (V.outcome required.0) old answer new };
 
+    ghost content = { λ required. Some (V.content required.0) };
+
     #[inline]
     fn prepare(&self, builder: &mut Builder) -> Result<Option<V::Prepared>, BuildError> {
         Ok(Some(self.0.prepare(builder)?))
@@ -28,13 +30,6 @@ impl<P: Primitive, V: WriteAs<P>> WriteAsOptional<P> for Required<V> {
 
     ghost is_lawful = { left_out_is_lawful (λ required. ⊥)
         (lawful_of (λ required. required.0) V.is_lawful) };
-}
-
-impl<P: Primitive, V: HasRequiredContent<P>> HasContent<P> for Required<V>
-where
-    V::Prepared: TableItem<P>,
-{
-    ghost content = { λ required. Some (V.content required.0) };
 
     ghost has_content = { always_prepared (content_prepared_as (λ required. required.0)
         V.has_content) };

@@ -3,9 +3,8 @@ ghost use Rattle.std.specs.Prelude.{◌≡◌};
 ghost use Rattle.std.specs.Option.{option_map};
 ghost use Rattle.planus_read.specs.Values.{tags, values};
 ghost use Rattle.planus_write.specs.Items.{reference_item};
-ghost use Rattle.planus_tables.specs.PreparingLaws.{tags_are_item, values_are_item};
+ghost use Rattle.planus_write.specs.lemmas.FieldItemLaws.{tags_are_item, values_are_item};
 
-use crate::table_item::TableItem;
 use planus_write::{List, Offset, UnionVectorOffset, WriteAsPrimitive};
 
 /// A reference to the tags of a vector of unions, as a field of a table.
@@ -17,14 +16,12 @@ impl WriteAsPrimitive<Offset<List<u8>>> for TagsField {
 
     ghost leaves = { λ field. reference_item field.0.distance };
 
+    ghost field = { λ field. tags field.0.distance };
+
     #[inline(always)]
     fn write(&self, bytes: &mut [u8], place: u32) {
         self.0.write(bytes, place);
     }
-}
-
-impl TableItem<Offset<List<u8>>> for TagsField {
-    ghost field = { λ field. tags field.0.distance };
 
     ghost is_item = { λ field. tags_are_item field.0.distance };
 }
@@ -38,14 +35,12 @@ impl WriteAsPrimitive<Offset<List<Offset<()>>>> for ValuesField {
 
     ghost leaves = { λ field. reference_item field.0.distance };
 
+    ghost field = { λ field. values field.0.distance };
+
     #[inline(always)]
     fn write(&self, bytes: &mut [u8], place: u32) {
         self.0.write(bytes, place);
     }
-}
-
-impl TableItem<Offset<List<Offset<()>>>> for ValuesField {
-    ghost field = { λ field. values field.0.distance };
 
     ghost is_item = { λ field. values_are_item field.0.distance };
 }

@@ -1,10 +1,11 @@
 //! A union whose value is written with it.
 ghost use Rattle.std.specs.Prelude.{Some};
-ghost use Rattle.planus_fields.specs.Fields.{AlwaysWritten, left_out_is_lawful};
-ghost use Rattle.planus_tables.specs.UnionContents.{always_union_prepared};
-ghost use Rattle.planus_tables.specs.Variants.{WritesVariant, variant_is_lawful, variant_prepared};
+ghost use Rattle.planus_fields.specs.Fields.{AlwaysWritten};
+ghost use Rattle.planus_fields.specs.lemmas.FieldLaws.{left_out_is_lawful};
+ghost use Rattle.planus_fields.specs.lemmas.UnionContentLaws.{always_union_prepared};
+ghost use Rattle.planus_tables.specs.Variants.{WritesVariant};
+ghost use Rattle.planus_tables.specs.lemmas.VariantLaws.{variant_is_lawful, variant_prepared};
 
-use crate::contents::{HasRequiredContent, HasUnionContent, HasUnionItemContent};
 use planus_fields::{WriteAs, WriteAsOptionalUnion};
 use planus_write::{BuildError, Builder, Offset, UnionOffset, WriteAsUnion};
 use std::marker::PhantomData;
@@ -38,6 +39,8 @@ impl<T, const TAG: u8, K, V: WriteAs<Offset<K>, Prepared = Offset<K>>> WriteAsUn
     ghost outcome = { λ variant old answer new.
         WritesVariant TAG (V.outcome variant.value) old answer new };
 
+    ghost content = { λ variant. (TAG, V.content variant.value) };
+
     #[inline]
     fn prepare(&self, builder: &mut Builder) -> Result<UnionOffset<T>, BuildError> {
         let offset = self.value.prepare(builder)?;
@@ -45,6 +48,8 @@ impl<T, const TAG: u8, K, V: WriteAs<Offset<K>, Prepared = Offset<K>>> WriteAsUn
     }
 
     ghost is_lawful = { variant_is_lawful TAG (λ variant. variant.value) V.is_lawful };
+
+    ghost has_content = { variant_prepared TAG (λ variant. variant.value) V.has_content };
 }
 
 impl<T, const TAG: u8, K, V: WriteAs<Offset<K>, Prepared = Offset<K>>> WriteAsOptionalUnion<T>
@@ -53,6 +58,8 @@ impl<T, const TAG: u8, K, V: WriteAs<Offset<K>, Prepared = Offset<K>>> WriteAsOp
 
     ghost outcome = { λ variant old answer new.
         AlwaysWritten (WritesVariant TAG (V.outcome variant.value)) old answer new };
+
+    ghost content = { λ variant. Some (TAG, V.content variant.value) };
 
     #[inline]
     fn prepare(&self, builder: &mut Builder) -> Result<Option<UnionOffset<T>>, BuildError> {
@@ -64,22 +71,6 @@ impl<T, const TAG: u8, K, V: WriteAs<Offset<K>, Prepared = Offset<K>>> WriteAsOp
 
     ghost is_lawful = { left_out_is_lawful (λ variant. ⊥)
         (variant_is_lawful TAG (λ variant. variant.value) V.is_lawful) };
-}
-
-impl<
-    T,
-    const TAG: u8,
-    K,
-    V: HasRequiredContent<Offset<K>, Prepared = Offset<K>>,
-> HasUnionItemContent<T> for Variant<TAG, K, V> {
-    ghost content = { λ variant. (TAG, V.content variant.value) };
-
-    ghost has_content = { variant_prepared TAG (λ variant. variant.value) V.has_content };
-}
-
-impl<T, const TAG: u8, K, V: HasRequiredContent<Offset<K>, Prepared = Offset<K>>> HasUnionContent<T>
-    for Variant<TAG, K, V> {
-    ghost content = { λ variant. Some (TAG, V.content variant.value) };
 
     ghost has_content = { always_union_prepared
         (variant_prepared TAG (λ variant. variant.value) V.has_content) };

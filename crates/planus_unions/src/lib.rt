@@ -3,6 +3,4 @@
 
 pub mod laws;
 
-pub use planus_view::{
-    AsRead, ItemError, UnionVector, ViewIndex as UnionVectorIndex, union_vectors,
-};
+pub use planus_view::{UnionVector, ViewIndex as UnionVectorIndex, union_vectors};

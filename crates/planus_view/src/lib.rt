@@ -2,7 +2,7 @@
 //! from both ends.
 #![tactic(auto)]
 
-pub mod copies;
+mod copies;
 mod cuts;
 mod index;
 mod item_errors;
@@ -19,13 +19,12 @@ mod view;
 pub use copies::FromItem;
 pub use cuts::{ByChunks, ByChunksExact, ByRChunks, ByRChunksExact, ByWindows, Cut};
 pub use index::{ViewIndex, ViewIndex as VectorIndex};
-pub use item_errors::{AsRead, ItemError};
 pub use items::Items;
 pub use sub_views::SubViews;
 pub use union_vector::{UnionSliceView, UnionVector};
 pub use vector::{SliceView, Vector};
 pub use vector_of::VectorOf;
-pub use view::{ReadView, View};
+pub use view::View;
 
 /// Why items can't be copied.
 pub type CopyError = copies::CopyError<'static>;

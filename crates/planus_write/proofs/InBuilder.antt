@@ -1,7 +1,7 @@
 -- What is in a builder stays there.
 use Rattle.std.proofs.Common.{List, [], ◌∷◌}
 use Rattle.planus_write.specs.InBuilder.{IsIn, AllIn, AllUnionsIn}
-use Rattle.planus_write.specs.Laws.{reached_still}
+use Rattle.planus_write.specs.lemmas.Laws.{reached_still}
 use Rattle.planus_write.specs.State.{State, Grows}
 use Rattle.planus_write.specs.declared.offset.Offset.{Offset}
 use Rattle.planus_write.specs.declared.union_offset.UnionOffset.{UnionOffset}

@@ -23,14 +23,15 @@ use Rattle.planus_write.specs.Kept.{AllSeenKept}
 use Rattle.planus_write.specs.State.{State, IsPast, FindsSeen, Holdings, holding_of, contents_in}
 use Rattle.planus_write.specs.Placing.{PutsDown, MayLackMemory}
 use Rattle.planus_write.specs.Placing.{RefusedFor, Refuses, LeftAsItWas}
-use Rattle.planus_write.specs.Laws.{left_grows}
+use Rattle.planus_write.specs.lemmas.Laws.{left_grows}
 use Rattle.planus_write.specs.Finishing.{Finishes, PutsInFront}
 use Rattle.planus_write.specs.View.{state_from, state_of}
 use Rattle.planus_write.specs.declared.sharing.Lookup.TheVariants.{Found, Reserved}
 use Rattle.planus_write.specs.declared.builder.Builder.TheInside.{Inside}
 use Rattle.planus_write.specs.declared.errors.BuildError.{BuildError}
 use Rattle.planus_write.specs.declared.errors.BuildError.TheVariants.{OutOfMemory, TooLarge}
-use Rattle.planus_write.proofs.KeptContents.{AreKept, same_of, shared_or_not, added_kept, alone_kept}
+use Rattle.planus_write.specs.lemmas.KeptContents.{AreKept, same_of, shared_or_not, added_kept}
+use Rattle.planus_write.specs.lemmas.KeptContents.{alone_kept}
 use Rattle.std.proofs.lemmas.Bool.Decides.{leb_tells}
 use Rattle.planus_write.proofs.SharedContents.{none_is_not_some, finds_still, finds_added, other_finds, finds_nothing}
 

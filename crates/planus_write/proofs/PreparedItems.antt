@@ -5,9 +5,8 @@ use Rattle.std.specs.Prelude.{Ok, Err, slice_get}
 use Rattle.std.specs.List.{AllByRecursion}
 use Rattle.planus_write.specs.State.{State, Grows}
 use Rattle.planus_write.specs.Placing.{Outcome}
-use Rattle.planus_write.specs.Preparing.{Answers, AllMay, IsLawful, PreparesAll}
-use Rattle.planus_write.specs.Laws.{reached_still}
-use Rattle.planus_write.specs.ListLaws.{may_still, all_grow}
+use Rattle.planus_write.specs.Preparing.{PreparesAll}
+use Rattle.planus_write.specs.lemmas.Laws.{reached_still}
 use Rattle.planus_write.specs.declared.errors.BuildError.{BuildError}
 
 module _ {X A : Type 0} (prepare : X → Outcome A) where
@@ -52,25 +51,3 @@ reached_further reach (a ∷ all) old new grows h = (reached_still (reach a) old
 pub all_more : {A : Type 0} (P : A → Type 0) (all : List A) (a : A) → AllByRecursion P all → P a → AllByRecursion P (all ++ a ∷ [])
 all_more P [] a h last = (last, tt)
 all_more P (first ∷ all) a h last = (h.0, all_more P all a h.1 last)
-
--- what is answered for items that are prepared lies in the bytes
-pub all_reach : {X A : Type 0} {may : X → State → Type 0} {prepare : X → Outcome A} {reach : A → ℕ} (lawful : IsLawful may prepare reach)
-    (xs : List X) (old : State) (all : List A) (new : State) → AllMay may xs old
-    → PreparesAll prepare xs old (Ok all) new → AllByRecursion (λ a. reach a ≤ length new.bytes) all
-all_reach {A = A} {reach = reach} lawful [] old all new may h =
-    let none : all ≡ [] = cc in
-    subst (λ (items : List A). AllByRecursion (λ a. reach a ≤ length new.bytes) items) (sym none) tt
-all_reach {A = A} {may = may} {prepare = prepare} {reach = reach} lawful (x ∷ xs) old all new h done =
-    let still = may_still may prepare reach lawful xs old done.1 (lawful.grows x old (Ok done.0) done.1 h.0 done.2) h.1 in
-    let others : List A = done.3.0 in
-    let grown : Grows done.1 done.3.1 = all_grow may prepare reach lawful xs done.1 still (Ok others) done.3.1 done.3.2 in
-    let first : reach done.0 ≤ length done.3.1.bytes = reached_still (reach done.0) done.1 done.3.1 grown (lawful.reaches x old done.0 done.1 h.0 done.2) in
-    let same : all ≡ done.0 ∷ others = cc in
-    subst (λ (items : List A). AllByRecursion (λ a. reach a ≤ length new.bytes) items) (sym same)
-    (subst (λ (state : State). AllByRecursion (λ a. reach a ≤ length state.bytes) (done.0 ∷ others)) (sym done.3.3.1)
-    (first, all_reach lawful xs done.1 others done.3.1 still done.3.2))
-
--- items that are answered as they are need no preparing
-pub all_ready : {A : Type 0} (xs : List A) (old : State) → PreparesAll Answers xs old (Ok xs) old
-all_ready [] old = (refl, refl)
-all_ready (x ∷ xs) old = (x, old, (refl, refl), (xs, old, all_ready xs old, (refl, refl)))

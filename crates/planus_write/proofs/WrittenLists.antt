@@ -16,7 +16,7 @@ use Rattle.planus_write.specs.Parts.{items_bytes, items_part, count_part, filled
 use Rattle.planus_write.specs.Items.{Item}
 use Rattle.planus_write.specs.State.{State}
 use Rattle.planus_write.specs.Placing.{Outcome, WritesEntry, Refuses}
-use Rattle.planus_write.specs.Preparing.{IsLayout, AsOffset, AnswersLast, PreparesItems}
+use Rattle.planus_write.specs.Preparing.{IsLayout, AsOffset, AnswersLast}
 use Rattle.planus_write.specs.Preparing.{WritesEntries, WritesPrepared, WritesList, MayStand}
 use Rattle.planus_write.specs.declared.errors.BuildError.{BuildError}
 use Rattle.planus_write.specs.declared.errors.BuildError.TheVariants.{OutOfMemory, TooLarge}
@@ -107,9 +107,9 @@ module _ (part : Part) (count : ℕ) (old : State) where
         (first ∷ offset.distance ∷ [], new, (first, between, put, (offset.distance, new, put_behind (count_part count) [] (first ∷ []) between offset.distance new put_count, (refl, refl))), (refl, refl))
 
 -- a list is its items, prepared, and then these, written
-module _ {X A T : Type 0} (prepare : X → Outcome A) (leaves : A → Item) (size alignment : ℕ) (xs : List X) (values : List A) (old mid : State)
-    (prepared : PreparesItems prepare xs old (Ok values) mid) where
+module _ {X A T : Type 0} (prepares : List X → Outcome (List A)) (leaves : A → Item) (size alignment : ℕ) (xs : List X) (values : List A) (old mid : State)
+    (prepared : prepares xs old (Ok values) mid) where
   pub list_is : (answer : Result (Offset T) BuildError) (new : State) → WritesPrepared size alignment (map leaves values) mid answer new
-      → WritesList prepare leaves size alignment xs old answer new
+      → WritesList prepares leaves size alignment xs old answer new
   list_is (Ok offset) new h = (values, mid, prepared, h)
   list_is (Err error) new h = inr (values, mid, prepared, h)

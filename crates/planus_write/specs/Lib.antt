@@ -15,9 +15,9 @@ pub mod View
 pub mod Preparing
 pub mod Unions
 pub mod TableWriting
-pub mod Laws
 pub mod Finishing
 pub mod Standing
-pub mod ListLaws
-pub mod UnionLaws
-pub mod TableLaws
+pub mod Contents
+pub mod FieldItems
+pub mod ListContents
+pub mod lemmas

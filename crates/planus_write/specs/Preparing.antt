@@ -83,13 +83,37 @@ AnswersLast writes = then_does writes (λ got. Answers (last_of got))
 abbrev pub PreparesItems : {X A : Type 0} → (X → Outcome A) → List X → Outcome (List A)
 PreparesItems {X} {A} prepare xs = then_does TakesMemory (λ had. PreparesAll prepare xs)
 
+-- each of the values may be prepared
+abbrev pub AllMay : {X : Type 0} → (X → State → Type 0) → List X → State → Type 0
+AllMay {X} may xs state = AllByRecursion (λ x. may x state) xs
+
+-- What is asked of items of which there are lists: by when the items of a list may be prepared, what
+-- that does, and how far from the end of the bytes each that is prepared refers.
+pub record AreLawful {X A : Type 0} (may : X → State → Type 0) (outcome : X → Outcome A)
+    (all_may : List X → State → Type 0) (prepares : List X → Outcome (List A))
+    (reach : A → ℕ) : Type 0 where
+  -- the items of a list may be prepared where each of them may
+  pub each_may : (xs : List X) (old : State) → all_may xs old → AllMay may xs old
+  -- the bytes before are the end of the bytes after, and every promise stays
+  pub grow : (xs : List X) (old : State) (answer : Result (List A) BuildError) (new : State)
+      → all_may xs old → prepares xs old answer new → Grows old new
+  -- what is answered refers to what lies in the bytes
+  pub reach_all : (xs : List X) (old : State) (values : List A) (new : State) → all_may xs old
+      → prepares xs old (Ok values) new
+      → AllByRecursion (λ value. reach value ≤ length new.bytes) values
+  -- what may be prepared may also be prepared later
+  pub stay : (xs : List X) (old new : State) → Grows old new → all_may xs old → all_may xs new
+  -- items that are prepared one after another are prepared
+  pub one_by_one : (xs : List X) (old : State) (values : List A) (new : State) → all_may xs old
+      → PreparesAll outcome xs old (Ok values) new → prepares xs old (Ok values) new
+
 -- A list was written, or refused: its items are prepared, and then its entries are put down, whose
 -- items leave these bytes.
-abbrev pub WritesList : {X A T : Type 0} → (X → Outcome A) → (A → Item) → (size alignment : ℕ)
-    → List X → Outcome (Offset T)
-WritesList {X} {A} {T} prepare leaves size alignment xs old answer new =
+abbrev pub WritesList : {X A T : Type 0} → (List X → Outcome (List A)) → (A → Item)
+    → (size alignment : ℕ) → List X → Outcome (Offset T)
+WritesList {X} {A} {T} prepares leaves size alignment xs old answer new =
     AsOffset
-    (then_does (PreparesItems prepare xs)
+    (then_does (prepares xs)
     (λ items. AnswersLast (WritesEntries (list_entries size alignment (map leaves items)) [])))
     old answer new
 
@@ -102,10 +126,6 @@ WritesPrepared {T} size alignment items old answer new =
 abbrev pub prepared_list : {A : Type 0} → Result (Vec A Global) BuildError → Result (List A) BuildError
 prepared_list {A} (Ok items) = Ok items.items
 prepared_list {A} (Err error) = Err error
-
--- each of the values may be prepared
-abbrev pub AllMay : {X : Type 0} → (X → State → Type 0) → List X → State → Type 0
-AllMay {X} may xs state = AllByRecursion (λ x. may x state) xs
 
 -- Items of this size may stand one after another from the place on: what each refers to lies
 -- behind it.

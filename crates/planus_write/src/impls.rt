@@ -15,4 +15,4 @@ mod union_offset;
 mod union_vector_offset;
 mod vec;
 
-pub use scalar::{Scalar, ScalarItem};
+pub use scalar::Scalar;

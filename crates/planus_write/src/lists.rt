@@ -115,8 +115,8 @@ pub(crate) fn write_list<P: Primitive, T: VectorWrite<P>>(
     builder: &mut Builder,
     items: &[T],
 ) -> Result<Offset<List<P>>, BuildError>
-    requires { AllMay T.may items.now builder.old }
-    ensures { WritesList T.outcome T.Value.leaves P.SIZE P.ALIGNMENT items.now
+    requires { T.all_may items.now builder.old }
+    ensures { WritesList T.prepares T.Value.leaves P.SIZE P.ALIGNMENT items.now
         builder.old result builder.new }
 {
     if let Some(values) = T::as_prepared(items) {

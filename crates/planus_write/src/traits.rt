@@ -1,8 +1,14 @@
 //! What can be written.
-ghost use Rattle.std.specs.Prelude.{◌≡◌, ◌≤◌, ◌*◌, ℕ, length, map, Result, Ok, IfSome};
+ghost use Rattle.std.specs.Prelude.{◌≡◌, ◌≤◌, ◌*◌, ℕ, List, length, map, Result, Ok, MatchOption};
+ghost use Rattle.planus_read.specs.Values.{Field};
+ghost use Rattle.planus_write.specs.Contents.{Content, PreparesUnionItem};
+ghost use Rattle.planus_write.specs.FieldItems.{IsItem};
+ghost use Rattle.planus_write.specs.ListContents.{ListHasContent};
 ghost use Rattle.planus_write.specs.Parts.{items_bytes};
 ghost use Rattle.planus_write.specs.Items.{Item};
-ghost use Rattle.planus_write.specs.Preparing.{IsLayout, IsLawful, MayStand, AllMay, PreparesAll};
+ghost use Rattle.planus_write.specs.Placing.{Outcome};
+ghost use Rattle.planus_write.specs.Preparing.{IsLayout, IsLawful, AreLawful, MayStand};
+ghost use Rattle.planus_write.specs.Preparing.{PreparesItems};
 ghost use Rattle.planus_write.specs.State.{State};
 ghost use Rattle.planus_write.specs.declared.errors.BuildError.{BuildError};
 ghost use Rattle.planus_write.specs.declared.offset.Offset.{Offset};
@@ -49,12 +55,19 @@ pub trait WriteAsPrimitive<P: Primitive> {
 
     ghost leaves: { Self → Item };
 
+    /// The field of a table that it is.
+    ghost field: { Self → Field };
+
     /// Writes all of `bytes`, of which there are exactly `P::SIZE`. `place` is the distance in
     /// bytes from the end of the buffer to the first of them; what is referred to lies behind it.
     fn write(&self, bytes: &mut [u8], place: u32)
         requires size { length bytes.old ≡ P.SIZE }
         requires reach { reach self.now ≤ place }
         ensures { bytes.new ≡ leaves self.now place };
+
+    /// The field has the size and the alignment of a `P`, and the bytes that are written.
+    ghost is_item: { (value : Self)
+        → IsItem P.SIZE P.ALIGNMENT (leaves value) (reach value) (field value) };
 }
 
 /// What a builder can write as a value of kind `T`.
@@ -91,6 +104,9 @@ pub trait WriteAsUnion<T> {
 
     ghost outcome: { Self → State → Result (UnionOffset T) BuildError → State → Type 0 };
 
+    /// The tag, and what the reference to the value holds.
+    ghost content: { Self → ℕ × Content };
+
     /// Writes the variant's value, if that isn't written already, and returns its tag and its
     /// offset. A refusal is that of [`WriteAsOffset::prepare`].
     fn prepare(&self, builder: &mut Builder) -> std::result::Result<UnionOffset<T>, BuildError>
@@ -99,6 +115,9 @@ pub trait WriteAsUnion<T> {
 
     /// As [`WriteAsOffset`]'s.
     ghost is_lawful: { IsLawful may outcome union_reach };
+
+    /// Once the union is prepared, it has this tag and holds this.
+    ghost has_content: { PreparesUnionItem may outcome content };
 }
 
 /// What a builder can write as a vector of unions of kind `T`.
@@ -125,7 +144,9 @@ pub trait WriteAsUnionVector<T> {
 
 /// What a builder can write as an item of a list of `P`.
 ///
-/// The ghost members `may` and `outcome` are as those of [`WriteAsOffset`].
+/// The ghost members `may` and `outcome` are as those of [`WriteAsOffset`]; `all_may` and `prepares`
+/// are those of the items of a list, all of them: as a rule each item may be prepared, and memory is
+/// taken for the prepared ones, which are then prepared in order.
 pub trait VectorWrite<P: Primitive>: Sized {
     /// What stands in the list: the item, prepared.
     type Value: WriteAsPrimitive<P> + Drop;
@@ -135,6 +156,13 @@ pub trait VectorWrite<P: Primitive>: Sized {
     ghost may: { Self → State → Type 0 };
 
     ghost outcome: { Self → State → Result Self.Value BuildError → State → Type 0 };
+
+    ghost all_may: { List Self → State → Type 0 };
+
+    ghost prepares: { List Self → Outcome (List Self.Value) };
+
+    /// What a field holds that refers to the list of these items.
+    ghost list: { List Self → Content };
 
     /// Returns the number of bytes from one item to the next.
     fn stride() -> usize
@@ -148,14 +176,13 @@ pub trait VectorWrite<P: Primitive>: Sized {
 
     /// Returns the items themselves where each of them is what stands in the list, as a number, a
     /// truth value and an offset are: preparing them does nothing, and a list asks for no memory
-    /// for prepared ones. `None` where items are to be prepared.
-    #[inline]
+    /// for prepared ones. `None` where items are to be prepared, one after another.
     fn as_prepared(items: &[Self]) -> Option<&[Self::Value]>
-        ensures { IfSome result (λ values. (old : State) → AllMay may items.now old
-            → PreparesAll outcome items.now old (Ok values.now) old) }
-    {
-        None
-    }
+        ensures { MatchOption result
+            ((old new : State) (answer : Result (List Self.Value) BuildError)
+            → PreparesItems outcome items.now old answer new
+            → prepares items.now old answer new)
+            (λ values. (old : State) → prepares items.now old (Ok values.now) old) };
 
     /// Writes all of `bytes`: the items one after another, each [`VectorWrite::stride`] bytes
     /// behind the one before. `place` is the distance in bytes from the end of the buffer to the
@@ -170,4 +197,10 @@ pub trait VectorWrite<P: Primitive>: Sized {
 
     /// As [`WriteAsOffset`]'s, with the reach of the prepared item as the distance.
     ghost is_lawful: { IsLawful may outcome Self.Value.reach };
+
+    /// The same of the items of a list.
+    ghost are_lawful: { AreLawful may outcome all_may prepares Self.Value.reach };
+
+    /// Once the list is written, the field holds this.
+    ghost has_list: { ListHasContent all_may prepares Self.Value.leaves P.SIZE P.ALIGNMENT list };
 }

@@ -6,7 +6,7 @@ use Rattle.std.specs.List.{AllByRecursion}
 use Rattle.std.proofs.lemmas.Nat.Gcd.{dvd_refl}
 use Rattle.planus_read.specs.Values.{Value, plain_list}
 use Rattle.planus_write.specs.Items.{Item, plain_item}
-use Rattle.planus_write.specs.ListLaws.{ready_list_is_put, plain_items_are}
+use Rattle.planus_write.specs.lemmas.ListLaws.{ready_list_is_put, plain_items_are}
 use Rattle.planus_write.specs.Parts.{IsPlainList, entries_of, list_entries}
 use Rattle.planus_write.specs.Past.{Past, Entry}
 use Rattle.planus_write.specs.Preparing.{Answers, WritesEntries, WritesList}

@@ -7,7 +7,7 @@ use Rattle.planus_read.specs.Located.{Located}
 use Rattle.planus_read.specs.Stands.{ReferenceStands}
 use Rattle.planus_read.specs.TableReading.{SomeOf}
 use Rattle.planus_read.specs.Values.{Field, reference}
-use Rattle.planus_tables.specs.Contents.{Content, written}
+use Rattle.planus_write.specs.Contents.{Content, written}
 use Rattle.planus_tables.specs.ReadBack.{TableStands, ReferencesReadBack}
 use Rattle.planus_tables.specs.ReadUnions.{ReadsUnion}
 use Rattle.uses_log.specs.Causes.{ReadsCause, IsOrigin}

@@ -2,7 +2,7 @@
 use Rattle.std.specs.Prelude.{◌≡◌, ◌≢◌, ℕ, List, Option, Result, Ok, Err, ◌⊎◌}
 use Rattle.planus_read.specs.declared.errors.ErrorKind.{ErrorKind}
 use Rattle.planus_read.specs.declared.errors.ErrorKind.TheVariants.{UnknownUnionTag}
-use Rattle.planus_tables.specs.Contents.{Content}
+use Rattle.planus_write.specs.Contents.{Content}
 use Rattle.planus_tables.specs.ReadBack.{TableHolds}
 use Rattle.planus_tables.specs.ReadKinds.{reads_view}
 use Rattle.uses_log.specs.declared.cause.CauseRef.{CauseRef}

@@ -13,7 +13,8 @@ ghost use Rattle.std.specs.Result.{IsOkAnd};
 ghost use Rattle.std.specs.Str.{IsUtf8};
 ghost use Rattle.planus_write.specs.InBuilder.{IsIn, AllIn};
 ghost use Rattle.planus_write.specs.State.{Grows};
-ghost use Rattle.planus_tables.specs.Contents.{Content, WritesContents};
+ghost use Rattle.planus_write.specs.Contents.{Content};
+ghost use Rattle.planus_tables.specs.Contents.{WritesContents};
 ghost use Rattle.planus_tables.specs.Holds.{holds_text, holds_union_tag, holds_union_value};
 ghost use Rattle.planus_tables.specs.ReadBack.{SlotHolds, TableStands};
 ghost use Rattle.planus_write.specs.declared.union_offset.UnionOffset.{UnionOffset};
@@ -25,8 +26,8 @@ use crate::cause::{Cause, CauseRef};
 use crate::level::Level;
 use crate::origin::{Origin, OriginRef};
 use planus::{
-    BuildError, Builder, List, Offset, OrDefault, Result, TableKind, TableRef, Text, UnionOffset,
-    Vector, create_table, fields,
+    BuildError, Builder, List, Offset, OrDefault, Result, TableKind, TableRef, TableWriter, Text,
+    UnionOffset, Vector, create_table, fields,
 };
 use planus_tables::laws;
 
@@ -79,7 +80,7 @@ impl Entry {
             7: Offset<List<Offset<Entry>>> = entry.parents,
             8: last u8 = entry.level.0,
         ];
-        create_table::<Entry, 22, _>(builder, fields)
+        create_table::<Entry, _>(builder, fields)
     }
 
     /// Returns when it was, 0 where nothing is said of it.
@@ -149,6 +150,8 @@ impl Entry {
 }
 
 impl TableKind for Entry {
+    type Writer = TableWriter<22>;
+
     ghost name = { codes "[EntryRef]" };
 
     fn name() -> &'static str

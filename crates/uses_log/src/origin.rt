@@ -3,7 +3,8 @@ ghost use Rattle.std.specs.Prelude.{◌≡◌, ◌≤◌, length, codes, IfOk};
 ghost use Rattle.planus_write.specs.State.{Grows};
 
 use planus::{
-    BuildError, Builder, Offset, Result, TableKind, TableRef, Text, create_table, fields,
+    BuildError, Builder, Offset, Result, TableKind, TableRef, TableWriter, Text, create_table,
+    fields,
 };
 
 /// The kind of an origin, and of an offset to one.
@@ -26,7 +27,7 @@ impl Origin {
             0: Offset<Text> = host,
             1: u16 = port,
         ];
-        create_table::<Origin, 8, _>(builder, fields)
+        create_table::<Origin, _>(builder, fields)
     }
 
     /// Returns the host, or `None` where there is none.
@@ -46,6 +47,8 @@ impl Origin {
 }
 
 impl TableKind for Origin {
+    type Writer = TableWriter<8>;
+
     ghost name = { codes "[OriginRef]" };
 
     fn name() -> &'static str

@@ -5,7 +5,7 @@ use Rattle.std.specs.Str.{IsUtf8}
 use Rattle.std.specs.declared.alloc.Global.{Global}
 use Rattle.planus_read.specs.Stands.{Stands, at}
 use Rattle.planus_read.specs.Values.{reference_list}
-use Rattle.planus_tables.specs.Contents.{Content}
+use Rattle.planus_write.specs.Contents.{Content}
 use Rattle.planus_tables.specs.Holds.{holds_text}
 use Rattle.planus_tables.specs.ReadBack.{TableStands, content_at}
 use Rattle.planus_read.specs.Clauses.{Answer, shown}

@@ -15,15 +15,16 @@ ghost use Rattle.planus_read.specs.Reading.{vector_reading};
 ghost use Rattle.planus_read.specs.Tables.{FieldAnswer, table_start};
 ghost use Rattle.planus_view.specs.VectorView.{ShowsVector};
 ghost use Rattle.planus_write.specs.State.{Grows};
-ghost use Rattle.planus_tables.specs.Contents.{WritesContents, holds_if, unless};
+ghost use Rattle.planus_tables.specs.Contents.{WritesContents};
+ghost use Rattle.planus_fields.specs.Contents.{holds_if, unless};
 ghost use Rattle.planus_tables.specs.Holds.{holds_text, holds_u16, holds_u32s};
 ghost use Rattle.planus_tables.specs.ReadBack.{SlotHolds};
 ghost use Rattle.planus_tables.specs.ReadKinds.{reads_text, reads_unsigned};
 ghost use Rattle.uses_record.specs.Ships.{CreatesShip};
 
 use planus::{
-    BuildError, Builder, List, Offset, OrDefault, Result, TableKind, TableRef, Text, Vector,
-    create_table, fields,
+    BuildError, Builder, List, Offset, OrDefault, Result, TableKind, TableRef, TableWriter, Text,
+    Vector, create_table, fields,
 };
 use planus_tables::laws;
 
@@ -63,7 +64,7 @@ impl Ship {
             2: Offset<List<u32>> = cargo,
             1: u16 = hull,
         ];
-        create_table::<Ship, 10, _>(builder, fields)
+        create_table::<Ship, _>(builder, fields)
     }
 
     /// Returns the name. Its errors are those of a field `&str` that must be there. Where the ship
@@ -105,6 +106,8 @@ impl Ship {
 }
 
 impl TableKind for Ship {
+    type Writer = TableWriter<10>;
+
     ghost name = { codes "[ShipRef]" };
 
     fn name() -> &'static str

@@ -15,7 +15,7 @@ use crate::owner::{Owner, OwnerRef};
 use planus_read::Result;
 use planus_tables::{TableKind, TableRef, Variant, create_table, fields, variant};
 use planus_view::UnionVector;
-use planus_write::{BuildError, Builder, Offset, Text};
+use planus_write::{BuildError, Builder, Offset, TableWriter, Text};
 
 /// The kind of an offset to a fleet.
 pub struct Fleet;
@@ -43,7 +43,7 @@ impl Fleet {
             (0, 1): union Owner = variant![1: Text = owner],
             (2, 3): unions Owner = captains,
         ];
-        create_table::<Fleet, 12, _>(builder, fields)
+        create_table::<Fleet, _>(builder, fields)
     }
 
     /// Returns the owner of a fleet that is read, or `None` where there is none.
@@ -64,6 +64,8 @@ impl Fleet {
 }
 
 impl TableKind for Fleet {
+    type Writer = TableWriter<12>;
+
     ghost name = { codes "[FleetRef]" };
 
     fn name() -> &'static str

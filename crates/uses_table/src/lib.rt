@@ -1,12 +1,16 @@
-//! Ships, ports and fleets, written from lists of their fields and read in place.
+//! Ships, ports, fleets, boats and voyages, written from lists of their fields and read in place.
 #![tactic(auto)]
 
+mod boat;
 mod fleet;
 mod owner;
 mod port;
 mod ship;
+mod voyage;
 
+pub use boat::{Boat, Callsign};
 pub use fleet::{Fleet, Named};
 pub use owner::{Owner, OwnerRef};
 pub use port::{Port, PortFields};
 pub use ship::Ship;
+pub use voyage::{Voyage, VoyageFields};

@@ -3,7 +3,7 @@ ghost use Rattle.std.specs.Prelude.{◌≡◌, codes, ⊤};
 
 use crate::ship::Ship;
 use planus_read::errors::ErrorKind;
-use planus_read::{SliceWithStartOffset, TableRead, TableReadUnion, VectorName};
+use planus_read::{SliceWithStartOffset, TableRead, TableReadUnion, VectorReadUnion};
 use planus_tables::TableRef;
 
 /// The kind of a union that is an owner: a name with tag 1, a ship with tag 2.
@@ -34,7 +34,7 @@ impl<'a> TableReadUnion<'a> for OwnerRef<'a> {
     }
 }
 
-impl<'a> VectorName for OwnerRef<'a> {
+impl<'a> VectorReadUnion<'a> for OwnerRef<'a> {
     ghost name = { codes "[Owner]" };
 
     fn vector_name() -> &'static str

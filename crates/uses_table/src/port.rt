@@ -8,12 +8,12 @@
 //! ```
 
 ghost use Rattle.std.specs.Prelude.{◌≤◌, [], ◌∷◌, length, negsuc, codes, IfOk, ◌≡◌, MatchOption, ⊤};
-ghost use Rattle.std.specs.Ordering.{int_eq};
 ghost use Rattle.planus_write.specs.State.{Grows};
 ghost use Rattle.planus_write.specs.InBuilder.{IsIn, AllIn, AllUnionsIn};
-ghost use Rattle.planus_tables.specs.Contents.{WritesContents, unless};
+ghost use Rattle.planus_tables.specs.Contents.{WritesContents};
+ghost use Rattle.planus_fields.specs.Contents.{unless};
 ghost use Rattle.planus_tables.specs.Holds.{holds_any_union_tags, holds_any_union_values};
-ghost use Rattle.planus_tables.specs.Holds.{holds_bool, holds_i16, holds_offsets, holds_texts};
+ghost use Rattle.planus_tables.specs.Holds.{equals_i16, holds_bool, holds_i16, holds_offsets, holds_texts};
 ghost use Rattle.planus_tables.specs.Holds.{holds_u64, holds_union_tag, holds_union_value};
 
 use crate::owner::{Owner, OwnerRef};
@@ -21,7 +21,7 @@ use crate::ship::Ship;
 use planus_read::Result;
 use planus_tables::{OrDefault, TableKind, TableRef, create_table, fields};
 use planus_view::{UnionVector, Vector};
-use planus_write::{BuildError, Builder, ByRef, List, Offset, Text, UnionOffset};
+use planus_write::{BuildError, Builder, List, Offset, TableWriter, Text, UnionOffset};
 
 /// The kind of an offset to a port.
 pub struct Port;
@@ -55,16 +55,15 @@ impl Port {
             ∷ (3, holds_texts (λ berth. berth.now) port.entry.berths.now)
             ∷ (7, holds_any_union_tags port.entry.shares.now)
             ∷ (8, holds_any_union_values port.entry.shares.now)
-            ∷ (4, unless (int_eq port.entry.depth (negsuc 4)) (holds_i16 port.entry.depth))
+            ∷ (4, unless (equals_i16 port.entry.depth (negsuc 4)) (holds_i16 port.entry.depth))
             ∷ (5, holds_bool port.entry.is_open)
             ∷ (0, holds_union_tag port.entry.owner) ∷ [])
             builder.old offset.distance builder.new) }
         ensures reached { IfOk result (λ offset. offset.distance ≤ length builder.new.bytes) }
         ensures grows { Grows builder.old builder.new }
     {
-        // By reference, a number with a sign needs no proof of what the contract says of it.
         let depth = OrDefault {
-            value: ByRef(&port.depth),
+            value: port.depth,
             default: -5,
         };
         let shares = OrDefault {
@@ -80,7 +79,7 @@ impl Port {
             4: i16 = depth,
             5: bool = port.is_open,
         ];
-        create_table::<Port, 22, _>(builder, fields)
+        create_table::<Port, _>(builder, fields)
     }
 
     /// Returns the owner of a port that is read, or `None` where there is none.
@@ -109,6 +108,8 @@ impl Port {
 }
 
 impl TableKind for Port {
+    type Writer = TableWriter<22>;
+
     ghost name = { codes "[PortRef]" };
 
     fn name() -> &'static str

@@ -11,13 +11,14 @@ ghost use Rattle.planus_read.specs.Located.{Located, OrDefault as OrElse};
 ghost use Rattle.planus_read.specs.Reading.{number_reading};
 ghost use Rattle.planus_read.specs.Tables.{FieldAnswer, table_start};
 ghost use Rattle.planus_write.specs.State.{Grows};
-ghost use Rattle.planus_tables.specs.Contents.{WritesContents, holds_if, unless};
+ghost use Rattle.planus_tables.specs.Contents.{WritesContents};
+ghost use Rattle.planus_fields.specs.Contents.{holds_if, unless};
 ghost use Rattle.planus_tables.specs.Holds.{holds_text, holds_u16, holds_u32s};
 
 use planus_read::Result;
 use planus_tables::{OrDefault, TableKind, TableRef, create_table, fields};
 use planus_view::Vector;
-use planus_write::{BuildError, Builder, List, Offset, Text};
+use planus_write::{BuildError, Builder, List, Offset, TableWriter, Text};
 
 /// The kind of an offset to a ship.
 pub struct Ship;
@@ -47,7 +48,7 @@ impl Ship {
             2: Offset<List<u32>> = cargo,
             1: u16 = hull,
         ];
-        create_table::<Ship, 10, _>(builder, fields)
+        create_table::<Ship, _>(builder, fields)
     }
 
     /// Returns the name of a ship that is read.
@@ -71,6 +72,8 @@ impl Ship {
 }
 
 impl TableKind for Ship {
+    type Writer = TableWriter<10>;
+
     ghost name = { codes "[ShipRef]" };
 
     fn name() -> &'static str

@@ -3,6 +3,7 @@
 mod entries;
 mod numbers;
 mod tables;
+mod voyages;
 
 use planus::{BuildError, Builder};
 use std::alloc::Global;

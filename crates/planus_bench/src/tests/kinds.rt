@@ -6,7 +6,7 @@ ghost use Rattle.std.specs.Prelude.{◌≡◌, ⊤, codes};
 use planus::table_reader::Table;
 use planus::{
     Error, Place, ReadError, SliceWithStartOffset, Stride, TableRead, TableReadUnion,
-    TableReadUnionVector, VectorName, VectorReadInner,
+    TableReadUnionVector, VectorReadInner, VectorReadUnion,
 };
 use planus_read::errors::ErrorKind;
 
@@ -122,7 +122,7 @@ impl<'buf> TableReadUnion<'buf> for Held<'buf> {
     }
 }
 
-impl<'buf> VectorName for Held<'buf> {
+impl<'buf> VectorReadUnion<'buf> for Held<'buf> {
     ghost name = { codes "[Held]" };
 
     fn vector_name() -> &'static str

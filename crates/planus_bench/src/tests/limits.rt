@@ -3,6 +3,8 @@
 ghost use Rattle.std.proofs.Common.{lit≤, lit<};
 ghost use Rattle.std.specs.Prelude.{◌≡◌, length, refl};
 ghost use Rattle.planus_back.proofs.Multiples.{divides_multiple};
+ghost use Rattle.planus_read.specs.Values.{plain};
+ghost use Rattle.planus_write.specs.lemmas.FieldItemLaws.{plain_is_item};
 
 use super::agreement::same_kind;
 use super::kinds::{Pair, slot_has};
@@ -53,9 +55,17 @@ impl<'a> WriteAsPrimitive<Largest> for Bytes<'a> {
 
     ghost leaves = { λ item place. item.bytes.now };
 
+    ghost field = { λ item. plain (record { bytes = item.bytes.now; alignment = 1 }) };
+
     fn write(&self, bytes: &mut [u8], _place: u32) {
         bytes.copy_from_slice(self.bytes);
     }
+
+    ghost is_item = { λ item. plain_is_item 65531 1 item.bytes.now item.sized (record {
+      power = (0, lit≤ tt, refl);
+      positive = lit< tt;
+      multiple = divides_multiple 1 65531 65531 refl;
+    }) };
 }
 
 // Writes a table of this field alone in slot 0, and finishes it.

@@ -5,8 +5,8 @@ ghost use Rattle.std.specs.Prelude.{◌≡◌, ◌≤◌, length, IsTrue, codes}
 use super::kinds::slot_has;
 use planus::table_reader::Table;
 use planus::{
-    BuildError, Builder, Error, Offset, SliceWithStartOffset, TableKind, TableRead, Text,
-    UnionOffset, Vector, create_table, fields,
+    BuildError, Builder, Error, Offset, SliceWithStartOffset, TableKind, TableRead, TableWriter,
+    Text, UnionOffset, Vector, create_table, fields,
 };
 use std::alloc::Global;
 
@@ -46,6 +46,8 @@ pub enum Outcome {
 struct Weapon;
 
 impl TableKind for Weapon {
+    type Writer = TableWriter<8>;
+
     ghost name = { codes "[Weapon]" };
 
     fn name() -> &'static str
@@ -112,7 +114,7 @@ fn write_unions(builder: &mut Builder) -> Result<Written, BuildError> {
 
 fn write_weapon(builder: &mut Builder) -> Result<Written, BuildError> {
     let fields = fields![0: Offset<Text> = "Axe", 1: i16 = 24i16];
-    let weapon = create_table::<Weapon, 8, _>(builder, fields)?;
+    let weapon = create_table::<Weapon, _>(builder, fields)?;
     Ok(Written {
         value: weapon.downcast(),
         tags: None,

@@ -10,8 +10,8 @@ use crate::monster::{Monster, MonsterRef};
 use crate::tests::check;
 use planus::errors::ErrorKind;
 use planus::{
-    BuildError, Builder, ByteList, Caches, DefaultValue, HasDefaultContent, Offset, ReadAsRoot,
-    TableItem, UnionOffset, UnionVector,
+    BuildError, Builder, ByteList, Caches, DefaultValue, Offset, ReadAsRoot, UnionOffset,
+    UnionVector, WriteAsDefault,
 };
 use std::alloc::Global;
 
@@ -216,12 +216,10 @@ fn has_all_hit_points(bytes: &[u8]) -> bool {
 }
 
 // Whether a goblin with these hit points is written as the one above, and read.
-fn goblin_is_written<H: HasDefaultContent<i16, i16> + Drop>(
+fn goblin_is_written<H: WriteAsDefault<i16, i16> + Drop>(
     builder: &mut Builder,
     hp: H,
 ) -> Result<bool, BuildError>
-where
-    H::Prepared: TableItem<i16>,
     requires { H.may hp builder.old }
 {
     let goblin = Monster::create(builder, hp, "Gob", (), (), (), ())?;

@@ -1,8 +1,13 @@
 //! Offsets: values that are written already.
-ghost use Rattle.std.specs.Prelude.{◌≤◌, length};
+ghost use Rattle.std.specs.Prelude.{◌≤◌, length, Some, refl};
 ghost use Rattle.planus_write.specs.Preparing.{IsPrepared};
-ghost use Rattle.planus_write.specs.Laws.{offset_is_lawful};
-ghost use Rattle.planus_fields.specs.Fields.{AlwaysWritten, left_out_is_lawful};
+ghost use Rattle.planus_write.specs.lemmas.Laws.{offset_is_lawful};
+ghost use Rattle.planus_fields.specs.Fields.{AlwaysWritten};
+ghost use Rattle.planus_fields.specs.lemmas.FieldLaws.{left_out_is_lawful};
+ghost use Rattle.planus_read.specs.Values.{reference};
+ghost use Rattle.planus_write.specs.Contents.{written};
+ghost use Rattle.planus_write.specs.lemmas.ContentLaws.{ready_prepared};
+ghost use Rattle.planus_fields.specs.lemmas.ContentLaws.{always_prepared};
 
 use crate::traits::{WriteAs, WriteAsDefault, WriteAsOptional};
 use planus_write::{BuildError, Builder, Offset};
@@ -14,12 +19,17 @@ impl<T> WriteAs<Offset<T>> for Offset<T> {
 
     ghost outcome = { λ offset old answer new. IsPrepared offset old answer new };
 
+    ghost content = { λ offset. written offset.distance };
+
     #[inline]
     fn prepare(&self, _builder: &mut Builder) -> Result<Offset<T>, BuildError> {
         Ok(*self)
     }
 
     ghost is_lawful = { offset_is_lawful };
+
+    ghost has_content = { ready_prepared (λ offset. written offset.distance)
+        (λ offset. reference offset.distance) (λ offset past. refl) };
 }
 
 impl<T> WriteAsOptional<Offset<T>> for Offset<T> {
@@ -29,12 +39,17 @@ impl<T> WriteAsOptional<Offset<T>> for Offset<T> {
 
     ghost outcome = { λ offset old answer new. AlwaysWritten (IsPrepared offset) old answer new };
 
+    ghost content = { λ offset. Some (written offset.distance) };
+
     #[inline]
     fn prepare(&self, _builder: &mut Builder) -> Result<Option<Offset<T>>, BuildError> {
         Ok(Some(*self))
     }
 
     ghost is_lawful = { left_out_is_lawful (λ offset. ⊥) (offset_is_lawful) };
+
+    ghost has_content = { always_prepared (ready_prepared (λ offset. written offset.distance)
+        (λ offset. reference offset.distance) (λ offset past. refl)) };
 }
 
 impl<T, D> WriteAsDefault<Offset<T>, D> for Offset<T> {
@@ -44,6 +59,8 @@ impl<T, D> WriteAsDefault<Offset<T>, D> for Offset<T> {
 
     ghost outcome = { λ offset default old answer new.
         AlwaysWritten (IsPrepared offset) old answer new };
+
+    ghost content = { λ offset default. Some (written offset.distance) };
 
     #[inline]
     fn prepare(
@@ -55,4 +72,7 @@ impl<T, D> WriteAsDefault<Offset<T>, D> for Offset<T> {
     }
 
     ghost is_lawful = { λ default. left_out_is_lawful (λ offset. ⊥) (offset_is_lawful) };
+
+    ghost has_content = { λ default. always_prepared (ready_prepared (λ offset. written offset.distance)
+        (λ offset. reference offset.distance) (λ offset past. refl)) };
 }

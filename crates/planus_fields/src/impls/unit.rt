@@ -1,7 +1,10 @@
 //! No field at all.
 ghost use Rattle.std.specs.Prelude.{None, ⊤};
 ghost use Rattle.planus_write.specs.Preparing.{Answers};
-ghost use Rattle.planus_fields.specs.Fields.{left_out_always_is_lawful};
+ghost use Rattle.planus_fields.specs.lemmas.FieldLaws.{left_out_always_is_lawful};
+ghost use Rattle.planus_fields.specs.lemmas.ContentLaws.{never_prepared};
+ghost use Rattle.planus_fields.specs.lemmas.UnionContentLaws.{never_union_prepared};
+ghost use Rattle.planus_fields.specs.lemmas.UnionContentLaws.{never_union_vector_prepared};
 
 use crate::left_out::LeftOut;
 use crate::traits::{WriteAsOptional, WriteAsOptionalUnion, WriteAsOptionalUnionVector};
@@ -14,12 +17,16 @@ impl<P: Primitive> WriteAsOptional<P> for () {
 
     ghost outcome = { λ unit old answer new. Answers None old answer new };
 
+    ghost content = { λ unit. None };
+
     #[inline]
     fn prepare(&self, _builder: &mut Builder) -> Result<Option<LeftOut>, BuildError> {
         Ok(None)
     }
 
     ghost is_lawful = { left_out_always_is_lawful };
+
+    ghost has_content = { never_prepared };
 }
 
 impl<T> WriteAsOptionalUnion<T> for () {
@@ -27,12 +34,16 @@ impl<T> WriteAsOptionalUnion<T> for () {
 
     ghost outcome = { λ unit old answer new. Answers None old answer new };
 
+    ghost content = { λ unit. None };
+
     #[inline]
     fn prepare(&self, _builder: &mut Builder) -> Result<Option<UnionOffset<T>>, BuildError> {
         Ok(None)
     }
 
     ghost is_lawful = { left_out_always_is_lawful };
+
+    ghost has_content = { never_union_prepared };
 }
 
 impl<T> WriteAsOptionalUnionVector<T> for () {
@@ -40,10 +51,14 @@ impl<T> WriteAsOptionalUnionVector<T> for () {
 
     ghost outcome = { λ unit old answer new. Answers None old answer new };
 
+    ghost contents = { λ unit. None };
+
     #[inline]
     fn prepare(&self, _builder: &mut Builder) -> Result<Option<UnionVectorOffset<T>>, BuildError> {
         Ok(None)
     }
 
     ghost is_lawful = { left_out_always_is_lawful };
+
+    ghost has_contents = { never_union_vector_prepared };
 }

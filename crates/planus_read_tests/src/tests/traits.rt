@@ -7,8 +7,7 @@ use planus_read::errors::{Error, ErrorKind};
 use planus_read::table_reader::Table;
 use planus_read::{
     Place, ReadAsRoot, SignedBytes, SliceWithStartOffset, Stride, TableRead, TableReadUnion,
-    TableReadUnionVector, TaggedPlace, VectorName, VectorRead, VectorReadInner, VectorReadUnion,
-    located,
+    TableReadUnionVector, TaggedPlace, VectorRead, VectorReadInner, VectorReadUnion, located,
 };
 use std::alloc::Global;
 
@@ -74,7 +73,7 @@ fn stride<T: Stride>() -> usize {
     T::stride()
 }
 
-fn vector_name<T: VectorName>() -> &'static str {
+fn vector_name<'buf, T: VectorReadUnion<'buf>>() -> &'static str {
     T::vector_name()
 }
 
@@ -163,7 +162,7 @@ impl<'buf> TableReadUnion<'buf> for OneText<'buf> {
     }
 }
 
-impl<'buf> VectorName for OneText<'buf> {
+impl<'buf> VectorReadUnion<'buf> for OneText<'buf> {
     ghost use Rattle.std.specs.Prelude.{◌≡◌, codes};
 
     ghost name = { codes "[OneText]" };

@@ -1,7 +1,7 @@
 //! Lists of items that lie in an array: they are written as those of a slice.
 ghost use Rattle.planus_write.specs.Preparing.{AllMay, WritesList};
-ghost use Rattle.planus_write.specs.ListLaws.{list_is_lawful};
-ghost use Rattle.planus_write.specs.UnionLaws.{union_vector_is_lawful};
+ghost use Rattle.planus_write.specs.lemmas.ListLaws.{list_is_lawful};
+ghost use Rattle.planus_write.specs.lemmas.UnionLaws.{union_vector_is_lawful};
 ghost use Rattle.planus_write.specs.Unions.{WritesUnionVector};
 
 use crate::builder::Builder;
@@ -13,10 +13,10 @@ use crate::union_vector_offset::UnionVectorOffset;
 use crate::unions::write_union_vector;
 
 impl<P: Primitive, T: VectorWrite<P>, const N: usize> WriteAsOffset<List<P>> for [T; N] {
-    ghost may = { λ items old. AllMay T.may items old };
+    ghost may = { λ items old. T.all_may items old };
 
     ghost outcome = { λ items old answer new.
-        WritesList T.outcome T.Value.leaves P.SIZE P.ALIGNMENT items old answer new };
+        WritesList T.prepares T.Value.leaves P.SIZE P.ALIGNMENT items old answer new };
 
     #[inline]
     fn prepare(&self, builder: &mut Builder) -> Result<Offset<List<P>>, BuildError> {
@@ -24,7 +24,7 @@ impl<P: Primitive, T: VectorWrite<P>, const N: usize> WriteAsOffset<List<P>> for
         write_list::<P, T>(builder, &array[..])
     }
 
-    ghost is_lawful = { list_is_lawful P.SIZE P.ALIGNMENT (λ items. items) T.is_lawful };
+    ghost is_lawful = { list_is_lawful P.SIZE P.ALIGNMENT (λ items. items) T.are_lawful };
 }
 
 impl<T, U: WriteAsUnion<T>, const N: usize> WriteAsUnionVector<T> for [U; N] {

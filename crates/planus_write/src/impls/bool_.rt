@@ -2,7 +2,7 @@
 ghost use Rattle.std.specs.Prelude.{[], ◌∷◌, refl};
 ghost use Rattle.std.specs.Int.{from_bool};
 ghost use Rattle.std.proofs.Common.{lit≤};
-ghost use Rattle.planus_write.specs.Laws.{layout_of_one};
+ghost use Rattle.planus_write.specs.lemmas.Laws.{layout_of_one};
 
 use super::scalar::{Scalar, ScalarItem};
 use crate::traits::Primitive;
@@ -25,6 +25,8 @@ impl Scalar for bool {
     ghost encoded = { λ truth. from_bool truth ∷ [] };
 
     ghost is_aligned = { refl };
+
+    ghost is_sized = { λ x. refl };
 
     #[inline]
     fn put(&self, bytes: &mut [u8]) {

@@ -1,5 +1,6 @@
 //! Boxed values: they are written as what lies in the box.
-ghost use Rattle.planus_write.specs.Laws.{lawful_of};
+ghost use Rattle.planus_write.specs.lemmas.Laws.{lawful_of};
+ghost use Rattle.planus_write.specs.lemmas.UnionContentLaws.{union_item_prepared_as};
 
 use crate::builder::Builder;
 use crate::errors::BuildError;
@@ -25,10 +26,14 @@ impl<P, T: WriteAsUnion<P>> WriteAsUnion<P> for Box<T> {
 
     ghost outcome = { λ boxed old answer new. T.outcome boxed.value old answer new };
 
+    ghost content = { λ boxed. T.content boxed.value };
+
     #[inline]
     fn prepare(&self, builder: &mut Builder) -> Result<UnionOffset<P>, BuildError> {
         (**self).prepare(builder)
     }
 
     ghost is_lawful = { lawful_of (λ boxed. boxed.value) T.is_lawful };
+
+    ghost has_content = { union_item_prepared_as (λ boxed. boxed.value) T.has_content };
 }

@@ -1,6 +1,10 @@
 //! References: they are written as what they lead to.
-ghost use Rattle.std.specs.Prelude.{◌≡◌};
-ghost use Rattle.planus_write.specs.Laws.{lawful_of};
+ghost use Rattle.std.specs.Prelude.{◌≡◌, map};
+ghost use Rattle.planus_write.specs.Preparing.{PreparesItems};
+ghost use Rattle.planus_write.specs.lemmas.Laws.{lawful_of};
+ghost use Rattle.planus_write.specs.lemmas.ListLaws.{items_are_lawful_as};
+ghost use Rattle.planus_write.specs.lemmas.ListContentLaws.{list_prepared_as};
+ghost use Rattle.planus_write.specs.lemmas.UnionContentLaws.{union_item_prepared_as};
 
 use crate::builder::Builder;
 use crate::by_ref::ByRef;
@@ -17,11 +21,15 @@ impl<'a, P: Primitive, T: WriteAsPrimitive<P>> WriteAsPrimitive<P> for ByRef<'a,
 
     ghost leaves = { λ by_ref. T.leaves by_ref.0.now };
 
+    ghost field = { λ by_ref. T.field by_ref.0.now };
+
     #[inline]
     fn write(&self, bytes: &mut [u8], place: u32) {
         let inner = self.0;
         inner.write(bytes, place);
     }
+
+    ghost is_item = { λ by_ref. T.is_item by_ref.0.now };
 }
 
 impl<'a, P, T: WriteAsOffset<P>> WriteAsOffset<P> for ByRef<'a, T> {
@@ -47,6 +55,13 @@ impl<'a, P: Primitive, T: VectorWrite<P>> VectorWrite<P> for ByRef<'a, T> {
 
     ghost outcome = { λ by_ref old answer new. T.outcome by_ref.0.now old answer new };
 
+    ghost all_may = { λ items old. T.all_may (map (λ by_ref. by_ref.0.now) items) old };
+
+    ghost prepares = { λ items. PreparesItems
+        (λ by_ref old answer new. T.outcome by_ref.0.now old answer new) items };
+
+    ghost list = { λ items. T.list (map (λ by_ref. by_ref.0.now) items) };
+
     #[inline]
     fn stride() -> usize
         ensures { result ≡ T.STRIDE }
@@ -61,6 +76,11 @@ impl<'a, P: Primitive, T: VectorWrite<P>> VectorWrite<P> for ByRef<'a, T> {
     }
 
     #[inline]
+    fn as_prepared<'s>(_items: &'s [ByRef<'a, T>]) -> Option<&'s [T::Value]> {
+        None
+    }
+
+    #[inline]
     fn write_values(values: &[T::Value], bytes: &mut [u8], place: u32) {
         T::write_values(values, bytes, place);
     }
@@ -68,12 +88,18 @@ impl<'a, P: Primitive, T: VectorWrite<P>> VectorWrite<P> for ByRef<'a, T> {
     ghost is_size = { T.is_size };
 
     ghost is_lawful = { lawful_of (λ by_ref. by_ref.0.now) T.is_lawful };
+
+    ghost are_lawful = { items_are_lawful_as (λ by_ref. by_ref.0.now) T.is_lawful T.are_lawful };
+
+    ghost has_list = { list_prepared_as (λ by_ref. by_ref.0.now) T.are_lawful T.has_list };
 }
 
 impl<'a, P, T: WriteAsUnion<P>> WriteAsUnion<P> for ByRef<'a, T> {
     ghost may = { λ by_ref old. T.may by_ref.0.now old };
 
     ghost outcome = { λ by_ref old answer new. T.outcome by_ref.0.now old answer new };
+
+    ghost content = { λ by_ref. T.content by_ref.0.now };
 
     #[inline]
     fn prepare(&self, builder: &mut Builder) -> Result<UnionOffset<P>, BuildError> {
@@ -82,6 +108,8 @@ impl<'a, P, T: WriteAsUnion<P>> WriteAsUnion<P> for ByRef<'a, T> {
     }
 
     ghost is_lawful = { lawful_of (λ by_ref. by_ref.0.now) T.is_lawful };
+
+    ghost has_content = { union_item_prepared_as (λ by_ref. by_ref.0.now) T.has_content };
 }
 
 impl<'a, P, T: WriteAsUnionVector<P>> WriteAsUnionVector<P> for ByRef<'a, T> {

@@ -3,7 +3,7 @@ ghost use Rattle.std.specs.Prelude.{map, ⊤};
 ghost use Rattle.std.specs.Int.{w8, cast_unsigned};
 ghost use Rattle.planus_write.specs.Parts.{byte_list_entry};
 ghost use Rattle.planus_write.specs.Preparing.{WritesByteList};
-ghost use Rattle.planus_write.specs.Laws.{entry_is_lawful};
+ghost use Rattle.planus_write.specs.lemmas.Laws.{entry_is_lawful};
 
 use crate::builder::Builder;
 use crate::byte_lists::{ByteList, SignedList};

@@ -1,28 +1,21 @@
 //! Offsets: values that are written already.
-ghost use Rattle.std.specs.Prelude.{◌≡◌, ℕ, refl};
+ghost use Rattle.std.specs.Prelude.{map, refl};
 ghost use Rattle.std.proofs.Common.{lit≤};
-ghost use Rattle.planus_read.specs.Aligned.{field_alignment};
-ghost use Rattle.planus_read.specs.Values.{reference};
-ghost use Rattle.planus_write.specs.Tables.{field_size};
-ghost use Rattle.planus_write.specs.InBuilder.{IsIn};
+ghost use Rattle.planus_read.specs.Values.{reference, reference_list};
+ghost use Rattle.planus_write.specs.InBuilder.{IsIn, AllIn};
 ghost use Rattle.planus_write.specs.Items.{reference_item};
-ghost use Rattle.planus_write.specs.Preparing.{IsPrepared};
-ghost use Rattle.planus_write.specs.Laws.{layout_of_four, offset_is_lawful};
+ghost use Rattle.planus_write.specs.Preparing.{Answers, IsPrepared};
+ghost use Rattle.planus_write.specs.lemmas.Laws.{layout_of_four, offset_is_lawful};
+ghost use Rattle.planus_write.specs.Contents.{value};
+ghost use Rattle.planus_write.specs.lemmas.FieldItemLaws.{reference_is_item};
+ghost use Rattle.planus_write.specs.lemmas.ListLaws.{offsets_are_lawful};
+ghost use Rattle.planus_write.specs.lemmas.ListContentLaws.{offset_list_has_content};
 
 use crate::builder::Builder;
 use crate::errors::BuildError;
 use crate::lists::write_each;
 use crate::offset::Offset;
 use crate::traits::{Primitive, VectorWrite, WriteAsOffset, WriteAsPrimitive};
-
-/// What stands in a table or in a list as a reference.
-pub trait Reference: Primitive {
-    /// Its size is that of a reference in a table, whatever it leads to.
-    ghost is_sized: { (distance : ℕ) → Self.SIZE ≡ field_size (reference distance) };
-
-    /// So is its alignment.
-    ghost is_aligned: { (distance : ℕ) → Self.ALIGNMENT ≡ field_alignment (reference distance) };
-}
 
 impl<T> Primitive for Offset<T> {
     ghost ALIGNMENT = { 4 };
@@ -38,21 +31,19 @@ impl<T> Primitive for Offset<T> {
     const SIZE: usize = 4;
 }
 
-impl<T> Reference for Offset<T> {
-    ghost is_sized = { λ distance. refl };
-
-    ghost is_aligned = { λ distance. refl };
-}
-
 impl<T> WriteAsPrimitive<Offset<T>> for Offset<T> {
     ghost reach = { λ offset. offset.distance };
 
     ghost leaves = { λ offset. reference_item offset.distance };
 
+    ghost field = { λ offset. reference offset.distance };
+
     #[inline]
     fn write(&self, bytes: &mut [u8], place: u32) {
         bytes.copy_from_slice(&(place - self.distance()).to_le_bytes());
     }
+
+    ghost is_item = { λ offset. reference_is_item offset.distance };
 }
 
 impl<T> VectorWrite<Offset<T>> for Offset<T> {
@@ -63,6 +54,12 @@ impl<T> VectorWrite<Offset<T>> for Offset<T> {
     ghost may = { λ offset old. IsIn old offset };
 
     ghost outcome = { IsPrepared };
+
+    ghost all_may = { λ offsets old. AllIn old offsets };
+
+    ghost prepares = { Answers };
+
+    ghost list = { λ offsets. value (reference_list (map (λ offset. offset.distance) offsets)) };
 
     #[inline]
     fn stride() -> usize {
@@ -75,7 +72,6 @@ impl<T> VectorWrite<Offset<T>> for Offset<T> {
     }
 
     #[inline]
-    #[tactic(auto, using(crate::proofs::PreparedItems::all_ready))]
     fn as_prepared(items: &[Offset<T>]) -> Option<&[Offset<T>]> {
         Some(items)
     }
@@ -88,6 +84,10 @@ impl<T> VectorWrite<Offset<T>> for Offset<T> {
     ghost is_size = { refl };
 
     ghost is_lawful = { offset_is_lawful };
+
+    ghost are_lawful = { offsets_are_lawful };
+
+    ghost has_list = { offset_list_has_content };
 }
 
 impl<T> WriteAsOffset<T> for Offset<T> {

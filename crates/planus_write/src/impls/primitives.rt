@@ -2,8 +2,8 @@
 ghost use Rattle.std.specs.Prelude.{[], ◌∷◌, refl};
 ghost use Rattle.std.specs.Int.{w8, w16, w32, w64, to_le_bytes, cast_unsigned};
 ghost use Rattle.std.proofs.Common.{lit≤};
-ghost use Rattle.planus_write.specs.Laws.{layout_of_one, layout_of_two, layout_of_four};
-ghost use Rattle.planus_write.specs.Laws.{layout_of_eight};
+ghost use Rattle.planus_write.specs.lemmas.Laws.{layout_of_one, layout_of_two, layout_of_four};
+ghost use Rattle.planus_write.specs.lemmas.Laws.{layout_of_eight};
 
 use super::scalar::{Scalar, ScalarItem};
 use crate::traits::Primitive;
@@ -26,6 +26,8 @@ impl Scalar for u8 {
     ghost encoded = { λ number. to_le_bytes w8 number };
 
     ghost is_aligned = { refl };
+
+    ghost is_sized = { λ x. refl };
 
     #[inline]
     fn put(&self, bytes: &mut [u8]) {
@@ -51,6 +53,8 @@ impl Scalar for u16 {
     ghost encoded = { λ number. to_le_bytes w16 number };
 
     ghost is_aligned = { refl };
+
+    ghost is_sized = { λ x. refl };
 
     #[inline]
     fn put(&self, bytes: &mut [u8]) {
@@ -79,6 +83,8 @@ impl Scalar for u32 {
 
     ghost is_aligned = { refl };
 
+    ghost is_sized = { λ x. refl };
+
     #[inline]
     fn put(&self, bytes: &mut [u8]) {
         bytes.copy_from_slice(&self.to_le_bytes());
@@ -105,6 +111,8 @@ impl Scalar for u64 {
     ghost encoded = { λ number. to_le_bytes w64 number };
 
     ghost is_aligned = { refl };
+
+    ghost is_sized = { λ x. refl };
 
     #[inline]
     fn put(&self, bytes: &mut [u8]) {
@@ -133,6 +141,8 @@ impl Scalar for i8 {
 
     ghost is_aligned = { refl };
 
+    ghost is_sized = { λ x. refl };
+
     #[inline]
     fn put(&self, bytes: &mut [u8]) {
         bytes.copy_from_slice(&self.to_le_bytes());
@@ -157,6 +167,8 @@ impl Scalar for i16 {
     ghost encoded = { λ number. to_le_bytes w16 (cast_unsigned w16 number) };
 
     ghost is_aligned = { refl };
+
+    ghost is_sized = { λ x. refl };
 
     #[inline]
     fn put(&self, bytes: &mut [u8]) {
@@ -185,6 +197,8 @@ impl Scalar for i32 {
 
     ghost is_aligned = { refl };
 
+    ghost is_sized = { λ x. refl };
+
     #[inline]
     fn put(&self, bytes: &mut [u8]) {
         bytes.copy_from_slice(&self.to_le_bytes());
@@ -211,6 +225,8 @@ impl Scalar for i64 {
     ghost encoded = { λ number. to_le_bytes w64 (cast_unsigned w64 number) };
 
     ghost is_aligned = { refl };
+
+    ghost is_sized = { λ x. refl };
 
     #[inline]
     fn put(&self, bytes: &mut [u8]) {

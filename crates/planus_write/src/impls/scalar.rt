@@ -1,8 +1,13 @@
 //! Scalars in place and as items of lists: one implementation for all of them.
-ghost use Rattle.std.specs.Prelude.{◌≡◌, List, ℕ, length, refl, ⊤};
+ghost use Rattle.std.specs.Prelude.{◌≡◌, List, ℕ, length, map, refl, ⊤};
+ghost use Rattle.planus_read.specs.Values.{plain, plain_list};
+ghost use Rattle.planus_write.specs.Contents.{value};
+ghost use Rattle.planus_write.specs.lemmas.FieldItemLaws.{plain_is_item};
 ghost use Rattle.planus_write.specs.Items.{plain_item};
 ghost use Rattle.planus_write.specs.Preparing.{Answers};
-ghost use Rattle.planus_write.specs.Laws.{ready_is_lawful};
+ghost use Rattle.planus_write.specs.lemmas.Laws.{ready_is_lawful};
+ghost use Rattle.planus_write.specs.lemmas.ListLaws.{numbers_are_lawful};
+ghost use Rattle.planus_write.specs.lemmas.ListContentLaws.{plain_list_has_content};
 
 use crate::builder::Builder;
 use crate::errors::BuildError;
@@ -21,6 +26,9 @@ pub trait Scalar: Primitive + Copy {
 
     /// The format: a scalar is aligned to its size.
     ghost is_aligned: { Self.ALIGNMENT ≡ Self.SIZE };
+
+    /// Its bytes are as many as its size.
+    ghost is_sized: { (x : Self) → length (encoded x) ≡ Self.SIZE };
 }
 
 /// A scalar that is an item of lists. One of a single byte is none, but for truth values: a list of
@@ -32,10 +40,16 @@ impl<S: Scalar> WriteAsPrimitive<S> for S {
 
     ghost leaves = { λ scalar. plain_item (S.encoded scalar) };
 
+    ghost field = { λ scalar.
+        plain (record { bytes = S.encoded scalar; alignment = S.ALIGNMENT }) };
+
     #[inline]
     fn write(&self, bytes: &mut [u8], _place: u32) {
         self.put(bytes);
     }
+
+    ghost is_item = { λ scalar.
+        plain_is_item S.SIZE S.ALIGNMENT (S.encoded scalar) (S.is_sized scalar) S.is_layout };
 }
 
 impl<S: ScalarItem> VectorWrite<S> for S {
@@ -46,6 +60,12 @@ impl<S: ScalarItem> VectorWrite<S> for S {
     ghost may = { λ scalar old. ⊤ };
 
     ghost outcome = { Answers };
+
+    ghost all_may = { λ scalars old. ⊤ };
+
+    ghost prepares = { Answers };
+
+    ghost list = { λ items. value (plain_list S.SIZE S.ALIGNMENT (map S.encoded items)) };
 
     #[inline]
     fn stride() -> usize {
@@ -58,7 +78,6 @@ impl<S: ScalarItem> VectorWrite<S> for S {
     }
 
     #[inline]
-    #[tactic(auto, using(crate::proofs::PreparedItems::all_ready))]
     fn as_prepared(items: &[S]) -> Option<&[S]> {
         Some(items)
     }
@@ -71,4 +90,8 @@ impl<S: ScalarItem> VectorWrite<S> for S {
     ghost is_size = { refl };
 
     ghost is_lawful = { ready_is_lawful };
+
+    ghost are_lawful = { numbers_are_lawful };
+
+    ghost has_list = { plain_list_has_content S.encoded S.SIZE S.ALIGNMENT S.is_layout S.is_sized };
 }

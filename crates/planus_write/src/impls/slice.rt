@@ -1,7 +1,7 @@
 //! Lists of items that lie in a slice.
 ghost use Rattle.planus_write.specs.Preparing.{AllMay, WritesList};
-ghost use Rattle.planus_write.specs.ListLaws.{list_is_lawful};
-ghost use Rattle.planus_write.specs.UnionLaws.{union_vector_is_lawful};
+ghost use Rattle.planus_write.specs.lemmas.ListLaws.{list_is_lawful};
+ghost use Rattle.planus_write.specs.lemmas.UnionLaws.{union_vector_is_lawful};
 ghost use Rattle.planus_write.specs.Unions.{WritesUnionVector};
 
 use crate::builder::Builder;
@@ -13,10 +13,10 @@ use crate::union_vector_offset::UnionVectorOffset;
 use crate::unions::write_union_vector;
 
 impl<'a, P: Primitive, T: VectorWrite<P>> WriteAsOffset<List<P>> for &'a [T] {
-    ghost may = { λ items old. AllMay T.may items.now old };
+    ghost may = { λ items old. T.all_may items.now old };
 
     ghost outcome = { λ items old answer new.
-        WritesList T.outcome T.Value.leaves P.SIZE P.ALIGNMENT items.now old answer new };
+        WritesList T.prepares T.Value.leaves P.SIZE P.ALIGNMENT items.now old answer new };
 
     #[inline]
     fn prepare(&self, builder: &mut Builder) -> Result<Offset<List<P>>, BuildError> {
@@ -24,7 +24,7 @@ impl<'a, P: Primitive, T: VectorWrite<P>> WriteAsOffset<List<P>> for &'a [T] {
         write_list::<P, T>(builder, items)
     }
 
-    ghost is_lawful = { list_is_lawful P.SIZE P.ALIGNMENT (λ items. items.now) T.is_lawful };
+    ghost is_lawful = { list_is_lawful P.SIZE P.ALIGNMENT (λ items. items.now) T.are_lawful };
 }
 
 impl<'a, T, U: WriteAsUnion<T>> WriteAsUnionVector<T> for &'a [U] {

@@ -2,7 +2,7 @@
 ghost use Rattle.std.specs.Prelude.{◌≤◌, length};
 ghost use Rattle.planus_write.specs.Preparing.{Answers};
 ghost use Rattle.planus_write.specs.Unions.{union_vector_reach};
-ghost use Rattle.planus_write.specs.UnionLaws.{union_vector_offset_is_lawful};
+ghost use Rattle.planus_write.specs.lemmas.UnionLaws.{union_vector_offset_is_lawful};
 
 use crate::builder::Builder;
 use crate::errors::BuildError;

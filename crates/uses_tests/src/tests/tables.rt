@@ -5,7 +5,7 @@ use super::in_builder;
 use planus_read::ReadAsRoot;
 use planus_tables::{TableRef, variant};
 use planus_write::{BuildError, Builder, Text, UnionOffset};
-use uses_table::{Fleet, Named, Owner, OwnerRef, Port, PortFields, Ship};
+use uses_table::{Boat, Callsign, Fleet, Named, Owner, OwnerRef, Port, PortFields, Ship};
 
 // Whether the root is a ship with this name and this hull, and this number of items as its cargo.
 fn is_ship(bytes: &[u8], name: &str, hull: u16, cargo: Option<usize>) -> bool {
@@ -103,10 +103,18 @@ fn fleets_are_read(builder: &mut Builder) -> Result<bool, BuildError> {
     Ok(is_fleet(bytes, 2))
 }
 
+fn boats_are_read(builder: &mut Builder) -> Result<bool, BuildError> {
+    let boat = Boat::create(builder, Callsign("J12"))?;
+    let bytes = builder.finish(boat, None)?;
+    let boat: Result<TableRef<'_, Boat>, _> = ReadAsRoot::read_as_root(bytes);
+    Ok(matches!(boat, Ok(boat) if matches!(Boat::callsign(&boat), Ok("J12"))))
+}
+
 #[test]
 fn tables_are_read_back(rt: HostRuntime) {
     assert!(rt; in_builder(rt.alloc(), ships_are_read), "ships");
     assert!(rt; in_builder(rt.alloc(), fleets_are_read), "fleets");
+    assert!(rt; in_builder(rt.alloc(), boats_are_read), "boats");
     for (depth, shares) in [(-5, 2), (7, 0)] {
         let read = in_builder(rt.alloc(), |builder| ports_are_read(builder, depth, shares));
         assert!(rt; read, "ports");

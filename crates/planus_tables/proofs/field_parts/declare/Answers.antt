@@ -7,10 +7,10 @@ use Rattle.planus_tables.proofs.field_parts.declare.Goals as goal
 pub returns-clause-told : goal.returns-clause-told
 returns-clause-told g c = λ fields told.
     let value = c.args._field.now in
-    told_item c.args.slot g.A.TableItem.field g.P.Primitive.SIZE g.P.Primitive.ALIGNMENT
+    told_item c.args.slot g.A.WriteAsPrimitive.field g.P.Primitive.SIZE g.P.Primitive.ALIGNMENT
     (g.A.WriteAsPrimitive.reach value) (g.A.WriteAsPrimitive.leaves value) value
-    (g.met.A.TableItem.is_item value) c.write_entry.new.self fields
-    (c.write_entry.ensures.told _ told)
+    (g.met.A.WriteAsPrimitive.is_item value) (g.W.TableWrite.at c.enter.new.self) fields
+    (c.enter.ensures.told _ told)
 
 pub returns-clause-others : goal.returns-clause-others
 returns-clause-others g c = λ other apart unused.
@@ -19,5 +19,5 @@ returns-clause-others g c = λ other apart unused.
       size = g.P.Primitive.SIZE;
       alignment = g.P.Primitive.ALIGNMENT;
     } in
-    subst (λ writer. IsUnused writer other) (sym c.write_entry.ensures.entered)
-    (still_unused c.args.writer.now one other apart c.requires.unused unused)
+    subst (λ writer. IsUnused writer other) (sym c.enter.ensures.entered)
+    (still_unused (g.W.TableWrite.at c.args.writer.now) one other apart c.requires.unused unused)

@@ -1,4 +1,4 @@
-use Rattle.planus_write.proofs.PutEntries.{entries_put, entries_too_large}
+use Rattle.planus_write.specs.lemmas.PutEntries.{entries_put, entries_too_large}
 use Rattle.planus_write.proofs.laws.entries_are_put.Goals as goal
 
 pub returns-clause-put : goal.returns-clause-put

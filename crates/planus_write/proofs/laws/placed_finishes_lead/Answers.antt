@@ -1,4 +1,4 @@
-use Rattle.planus_write.proofs.Standing.{finishes_lead, finishes_are_identified}
+use Rattle.planus_write.specs.lemmas.StandingLaws.{finishes_lead, finishes_are_identified}
 use Rattle.planus_write.proofs.laws.placed_finishes_lead.Goals as goal
 
 pub returns-clause-root : goal.returns-clause-root

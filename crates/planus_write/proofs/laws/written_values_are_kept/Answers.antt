@@ -1,5 +1,5 @@
-use Rattle.planus_write.proofs.Staying.{kept_stays}
-use Rattle.planus_write.proofs.Standing.{values_are_kept}
+use Rattle.planus_write.specs.lemmas.Staying.{kept_stays}
+use Rattle.planus_write.specs.lemmas.StandingLaws.{values_are_kept}
 use Rattle.planus_write.proofs.laws.written_values_are_kept.Goals as goal
 
 pub returns-clause-kept : goal.returns-clause-kept

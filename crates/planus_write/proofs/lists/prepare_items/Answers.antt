@@ -4,7 +4,7 @@ use Rattle.std.proofs.lemmas.List.{take_more, take-append-drop}
 use Rattle.std.proofs.Math.Seq.{take-length}
 use Rattle.std.proofs.lemmas.Option.{slice_get_read}
 use Rattle.planus_write.specs.Preparing.{PreparesAll}
-use Rattle.planus_write.specs.Laws.{unchanged_grows, grows_on}
+use Rattle.planus_write.specs.lemmas.Laws.{unchanged_grows, grows_on}
 use Rattle.planus_write.proofs.PreparedItems.{prepares_more, prepares_stops, may_at, reached_further, all_more}
 use Rattle.planus_write.proofs.lists.prepare_items.Goals as goal
 

@@ -7,7 +7,7 @@ use super::super::{push_numbers, shows};
 use super::unions;
 use crate::tests::check;
 use planus_read::errors::ErrorKind;
-use planus_read::{Error, SliceWithStartOffset, TableRead, TableReadUnion, VectorName};
+use planus_read::{Error, SliceWithStartOffset, TableRead, TableReadUnion, VectorReadUnion};
 use planus_unions::UnionVector;
 use planus_view::CopyError;
 use std::alloc::{AllocError, Global};
@@ -32,7 +32,7 @@ impl<'buf> TableReadUnion<'buf> for Number {
     }
 }
 
-impl VectorName for Number {
+impl<'buf> VectorReadUnion<'buf> for Number {
     ghost name = { codes "[Number]" };
 
     fn vector_name() -> &'static str

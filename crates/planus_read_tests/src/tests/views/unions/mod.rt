@@ -6,7 +6,7 @@ mod rows;
 ghost use Rattle.std.specs.Prelude.{◌≡◌, ⊤, codes};
 
 use planus_read::errors::ErrorKind;
-use planus_read::{SliceWithStartOffset, TableRead, TableReadUnion, VectorName};
+use planus_read::{SliceWithStartOffset, TableRead, TableReadUnion, VectorReadUnion};
 use planus_unions::UnionVector;
 
 // Of tag 1 a text, and of tag 2 a number of four bytes.
@@ -32,7 +32,7 @@ impl<'buf> TableReadUnion<'buf> for Choice<'buf> {
     }
 }
 
-impl<'buf> VectorName for Choice<'buf> {
+impl<'buf> VectorReadUnion<'buf> for Choice<'buf> {
     ghost name = { codes "[Choice]" };
 
     fn vector_name() -> &'static str

@@ -10,7 +10,7 @@ use Rattle.planus_write.specs.View.{state_of}
 use Rattle.planus_write.specs.declared.sharing.Lookup.{Lookup}
 use Rattle.planus_write.specs.declared.sharing.Lookup.TheVariants.{Found, Reserved}
 use Rattle.planus_write.proofs.ContentsInFront.{list_in_front}
-use Rattle.planus_write.proofs.KeptContents.{new_byte_lists}
+use Rattle.planus_write.specs.lemmas.KeptContents.{new_byte_lists}
 use Rattle.planus_write.proofs.PlacedParts.{begun, found_again, not_begun, new_bytes, both_put, still_sound, left_sound}
 use Rattle.planus_write.proofs.builder.Builder.write_byte_list.Given as given
 use Rattle.planus_write.proofs.builder.Builder.write_byte_list.Goals as goal

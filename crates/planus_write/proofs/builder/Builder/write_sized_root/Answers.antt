@@ -6,7 +6,7 @@ use Rattle.planus_write.specs.Backed.{MakesRoom, PutsBytes, LacksRoom}
 use Rattle.planus_write.specs.Finishing.{PutsInFront}
 use Rattle.planus_write.specs.Placing.{Refuses}
 use Rattle.planus_write.specs.View.{state_of}
-use Rattle.planus_write.proofs.PartBytes.{front_number}
+use Rattle.planus_write.specs.lemmas.PartBytes.{front_number}
 use Rattle.planus_write.proofs.PlacedParts.{front_refused, sized_finishes, still_sound, left_sound}
 use Rattle.planus_write.proofs.builder.Builder.write_sized_root.Goals as goal
 

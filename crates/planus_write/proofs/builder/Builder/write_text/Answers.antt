@@ -10,7 +10,7 @@ use Rattle.planus_write.specs.declared.sharing.Lookup.{Lookup}
 use Rattle.planus_write.specs.declared.sharing.Lookup.TheVariants.{Found, Reserved}
 use Rattle.std.specs.Int.{w32, to_le_bytes}
 use Rattle.planus_write.proofs.ContentsInFront.{text_in_front}
-use Rattle.planus_write.proofs.KeptContents.{new_texts}
+use Rattle.planus_write.specs.lemmas.KeptContents.{new_texts}
 use Rattle.planus_write.proofs.PlacedParts.{begun, found_again, not_begun, new_bytes, still_sound}
 use Rattle.planus_write.proofs.builder.Builder.write_text.Goals as goal
 

@@ -9,7 +9,7 @@ use Rattle.planus_write.specs.View.{state_of}
 use Rattle.planus_write.specs.declared.sharing.Lookup.{Lookup}
 use Rattle.planus_write.specs.declared.sharing.Lookup.TheVariants.{Found, Reserved}
 use Rattle.planus_write.proofs.ContentsInFront.{vtable_in_front}
-use Rattle.planus_write.proofs.KeptTables.{new_vtables}
+use Rattle.planus_write.specs.lemmas.KeptTables.{new_vtables}
 use Rattle.planus_write.proofs.PlacedParts.{begun, found_again, not_begun, new_bytes, still_sound, left_sound}
 use Rattle.planus_write.proofs.builder.Builder.write_vtable.Goals as goal
 

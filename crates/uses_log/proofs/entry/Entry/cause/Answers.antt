@@ -1,6 +1,7 @@
 use Rattle.std.proofs.Common.{◌≡◌, Some, codes, subst, sym, lit≤}
 use Rattle.planus_read.specs.Tables.{table_start}
-use Rattle.planus_tables.specs.Contents.{written, tag_content}
+use Rattle.planus_write.specs.Contents.{written}
+use Rattle.planus_tables.specs.Contents.{tag_content}
 use Rattle.planus_tables.specs.ReadBack.{SlotHolds}
 use Rattle.uses_log.proofs.Causes.{cause_read}
 use Rattle.uses_log.proofs.entry.Entry.cause.Goals as goal

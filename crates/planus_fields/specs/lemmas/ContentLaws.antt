@@ -1,0 +1,93 @@
+-- The laws of what fields hold that may be left out.
+use Rattle.std.specs.Prelude.{◌≡◌, Bool, true, false, Option, Some, None, Ok, ⊤, List, []}
+use Rattle.std.specs.Prelude.{◌∷◌}
+use Rattle.std.specs.Bool.{Decides}
+use Rattle.std.proofs.Common.{refl, subst, sym}
+use Rattle.planus_read.specs.Values.{Field}
+use Rattle.planus_fields.specs.Fields.{MayIf, PreparesIf, LeftOutWhere}
+use Rattle.planus_write.specs.Past.{Past}
+use Rattle.planus_write.specs.Placing.{Outcome}
+use Rattle.planus_write.specs.Preparing.{Answers}
+use Rattle.planus_write.specs.State.{State, IsPast}
+use Rattle.planus_write.specs.Contents.{Content, Comes, PreparesContent}
+use Rattle.planus_fields.specs.Contents.{HoldsIf, unless, holds_if, PreparesOptional, is_empty}
+use Rattle.planus_write.specs.lemmas.ContentLaws.{stays_there}
+
+-- a value that is left out where a test says so
+pub left_out_prepared : {X A : Type 0} {may : X → State → Type 0} {outcome : X → Outcome A}
+    {content : X → Content} {field : A → Field} (is_default : X → Bool) (Default : X → Type 0)
+    → ((x : X) → Decides (is_default x) (Default x)) → PreparesContent may outcome content field
+    → PreparesOptional may (λ x old answer new. LeftOutWhere (Default x) (outcome x) old answer new)
+    (λ x. unless (is_default x) (Some (content x))) field
+left_out_prepared {X} {A} {may} {outcome} {content} {field} is_default Default decides lawful =
+    record { comes = comes }
+  where
+    holds : (x : X) (prepared : Option A) (new : State) (past : Past) (b : Bool) → is_default x ≡ b
+        → Comes past new (λ after. HoldsIf after (unless b (Some (content x))) field prepared)
+        → Comes past new (λ after. HoldsIf after (unless (is_default x) (Some (content x))) field prepared)
+    holds x prepared new past b is there =
+        subst (λ (b : Bool). Comes past new (λ after. HoldsIf after (unless b (Some (content x))) field prepared))
+        (sym is) there
+
+    written : (x : X) (old : State) (found : A) (new : State) (past : Past) (b : Bool) → may x old
+        → is_default x ≡ b → (Default x → ⊥) → outcome x old (Ok found) new → IsPast old past
+        → Comes past new (λ after. HoldsIf after (unless (is_default x) (Some (content x))) field (Some found))
+    written x old found new past false may is other done is_past =
+        holds x (Some found) new past false is (lawful.comes x old found new past may done is_past)
+    written x old found new past true may is other done is_past =
+        absurd (other ((decides x).0 is))
+
+    comes : (x : X) (old : State) (prepared : Option A) (new : State) (past : Past) → may x old
+        → LeftOutWhere (Default x) (outcome x) old (Ok prepared) new → IsPast old past
+        → Comes past new (λ after. HoldsIf after (unless (is_default x) (Some (content x))) field prepared)
+    comes x old None new past may done is_past =
+        holds x None new past true ((decides x).1 done.0)
+        (stays_there past old new (λ after. ⊤) done.1 is_past tt)
+    comes x old (Some found) new past may done is_past =
+        written x old found new past (is_default x) may refl done.0 done.1 is_past
+
+-- one that is never left out
+pub always_prepared : {X A : Type 0} {may : X → State → Type 0} {outcome : X → Outcome A}
+    {content : X → Content} {field : A → Field} → PreparesContent may outcome content field
+    → PreparesOptional may (λ x old answer new. LeftOutWhere ⊥ (outcome x) old answer new)
+    (λ x. Some (content x)) field
+always_prepared lawful =
+    left_out_prepared (λ x. false) (λ x. ⊥) (λ x. ((λ same. cc), (λ none. absurd none))) lawful
+
+-- one that is always left out
+pub never_prepared : {X A : Type 0} {may : X → State → Type 0} {field : A → Field}
+    → PreparesOptional {X = X} may (λ x old answer new. Answers None old answer new) (λ x. None) field
+never_prepared {X} {A} {may} {field} = record {
+  comes = λ x old prepared new past may done is_past.
+      (let same : None ≡ prepared = cc in
+      subst (λ (prepared : Option A). Comes past new (λ after. HoldsIf after None field prepared)) same
+      (stays_there past old new (λ after. ⊤) done.1 is_past tt));
+}
+
+-- a field that may be absent
+pub optional_prepared : {X A : Type 0} {may : X → State → Type 0} {outcome : X → Outcome (Option A)}
+    {content : X → Option Content} {field : A → Field} → PreparesOptional may outcome content field
+    → PreparesOptional (λ x old. MayIf may x old) (λ x old answer new. PreparesIf outcome x old answer new)
+    (λ x. holds_if content x) field
+optional_prepared {X} {A} {may} {outcome} {content} {field} lawful = record { comes = prepared }
+  where
+    prepared : (x : Option X) (old : State) (prepared : Option A) (new : State) (past : Past)
+        → MayIf may x old → PreparesIf outcome x old (Ok prepared) new → IsPast old past
+        → Comes past new (λ after. HoldsIf after (holds_if content x) field prepared)
+    prepared None old None new past may done is_past =
+        stays_there past old new (λ after. ⊤) done.1 is_past tt
+    prepared None old (Some found) new past may done is_past = cc
+    prepared (Some x) old found new past may done is_past = lawful.comes x old found new past may done is_past
+
+-- what is prepared as something else
+pub prepared_as : {X Y A : Type 0} {may : X → State → Type 0} {outcome : X → Outcome (Option A)}
+    {content : X → Option Content} {field : A → Field} (of : Y → X)
+    → PreparesOptional may outcome content field
+    → PreparesOptional (λ y old. may (of y) old) (λ y old answer new. outcome (of y) old answer new)
+    (λ y. content (of y)) field
+prepared_as of lawful = record { comes = λ y. lawful.comes (of y) }
+
+-- whether a list has no items
+pub empty_decides : {A : Type 0} (xs : List A) → Decides (is_empty xs) (xs ≡ [])
+empty_decides [] = ((λ h. refl), (λ h. refl))
+empty_decides (x ∷ xs) = ((λ h. cc), (λ h. cc))

@@ -1,0 +1,169 @@
+-- The laws of what unions and vectors of unions hold that may be left out.
+use Rattle.std.specs.Prelude.{◌≡◌, ℕ, List, [], ◌∷◌, map, Option, Some, None, Ok, ⊤}
+use Rattle.std.proofs.Common.{refl, subst, ap}
+use Rattle.planus_read.specs.Values.{tags, values as values_field}
+use Rattle.planus_fields.specs.Fields.{MayIf, PreparesIf, LeftOutWhere}
+use Rattle.planus_write.specs.Past.{Past}
+use Rattle.planus_write.specs.Placing.{Outcome}
+use Rattle.planus_write.specs.Preparing.{AllMay, Answers, IsLawful}
+use Rattle.planus_write.specs.State.{State, IsPast}
+use Rattle.planus_write.specs.Unions.{union_reach, WritesUnionVector}
+use Rattle.planus_write.specs.declared.union_offset.UnionOffset.{UnionOffset}
+use Rattle.planus_write.specs.declared.union_vector_offset.UnionVectorOffset.{UnionVectorOffset}
+use Rattle.planus_write.specs.Contents.{Content, written_tags, written_values, UnionHolds, Comes}
+use Rattle.planus_write.specs.Contents.{unions_hold, PreparesUnionItem}
+use Rattle.planus_write.specs.Contents.{UnionVectorHolds}
+use Rattle.planus_fields.specs.Contents.{union_if, union_vector_if}
+use Rattle.planus_fields.specs.Contents.{any_unions_hold, PreparesUnion, PreparesUnionVector}
+use Rattle.planus_write.specs.lemmas.ContentLaws.{stays_there}
+use Rattle.planus_write.specs.lemmas.UnionContentLaws.{vector_comes}
+
+-- Unions that are prepared, one after another, are a vector that may be left out.
+module _ {X T : Type 0} {may : X → State → Type 0} {outcome : X → Outcome (UnionOffset T)}
+    (lawful : IsLawful may outcome union_reach) (content : X → ℕ × Content)
+    (prepares : PreparesUnionItem may outcome content) where
+  -- a vector of such unions
+  pub unions_prepared : {Y : Type 0} (items : Y → List X)
+      → PreparesUnionVector (λ y old. AllMay may (items y) old)
+      (λ y old answer new. LeftOutWhere ⊥ (WritesUnionVector outcome (items y)) old answer new)
+      (λ y. Some (unions_hold (map content (items y))))
+  unions_prepared {Y} items = record { comes = comes }
+    where
+      comes : (y : Y) (old : State) (prepared : Option (UnionVectorOffset T)) (new : State) (past : Past)
+          → AllMay may (items y) old
+          → LeftOutWhere ⊥ (WritesUnionVector outcome (items y)) old (Ok prepared) new
+          → IsPast old past
+          → Comes past new
+          (λ after. UnionVectorHolds after (Some (unions_hold (map content (items y)))) prepared)
+      comes y old None new past mays done is_past = elim done.0 [ ]
+      comes y old (Some vector) new past mays done is_past =
+          vector_comes lawful content prepares (items y) old vector new past mays done.1 is_past
+
+  -- the same of one that is left out where it is empty
+  pub unions_or_none_prepared : {Y : Type 0} (items : Y → List X)
+      → PreparesUnionVector (λ y old. AllMay may (items y) old)
+      (λ y old answer new. LeftOutWhere (items y ≡ []) (WritesUnionVector outcome (items y)) old answer new)
+      (λ y. any_unions_hold (map content (items y)))
+  unions_or_none_prepared {Y} items = record {
+    comes = λ y old prepared new past mays done is_past.
+        comes (items y) old prepared new past mays done is_past;
+  }
+    where
+      comes : (xs : List X) (old : State) (prepared : Option (UnionVectorOffset T)) (new : State)
+          (past : Past) → AllMay may xs old
+          → LeftOutWhere (xs ≡ []) (WritesUnionVector outcome xs) old (Ok prepared) new
+          → IsPast old past
+          → Comes past new (λ after. UnionVectorHolds after (any_unions_hold (map content xs)) prepared)
+      comes [] old None new past mays done is_past =
+          stays_there past old new (λ after. ⊤) done.1 is_past tt
+      comes [] old (Some vector) new past mays done is_past = absurd (done.0 refl)
+      comes (x ∷ xs) old None new past mays done is_past = cc
+      comes (x ∷ xs) old (Some vector) new past mays done is_past =
+          vector_comes lawful content prepares (x ∷ xs) old vector new past mays done.1 is_past
+
+-- a vector of unions that may be absent
+pub optional_union_vector_prepared : {X T : Type 0} {may : X → State → Type 0}
+    {outcome : X → Outcome (Option (UnionVectorOffset T))} {contents : X → Option (Content × Content)}
+    → PreparesUnionVector may outcome contents
+    → PreparesUnionVector (λ x old. MayIf may x old) (λ x old answer new. PreparesIf outcome x old answer new)
+    (λ x. union_vector_if contents x)
+optional_union_vector_prepared {X} {T} {may} {outcome} {contents} lawful = record { comes = prepared }
+  where
+    prepared : (x : Option X) (old : State) (prepared : Option (UnionVectorOffset T)) (new : State) (past : Past)
+        → MayIf may x old → PreparesIf outcome x old (Ok prepared) new → IsPast old past
+        → Comes past new (λ after. UnionVectorHolds after (union_vector_if contents x) prepared)
+    prepared None old None new past may done is_past =
+        stays_there past old new (λ after. ⊤) done.1 is_past tt
+    prepared None old (Some found) new past may done is_past = cc
+    prepared (Some x) old found new past may done is_past = lawful.comes x old found new past may done is_past
+
+-- a vector of unions that is written already
+pub union_vector_offset_prepared : {T : Type 0} {may : UnionVectorOffset T → State → Type 0}
+    → PreparesUnionVector may (λ vector old answer new. LeftOutWhere ⊥ (Answers vector) old answer new)
+    (λ vector. Some (written_tags vector.tags.distance, written_values vector.values.distance))
+union_vector_offset_prepared {T} {may} = record { comes = comes }
+  where
+    comes : (vector : UnionVectorOffset T) (old : State) (prepared : Option (UnionVectorOffset T)) (new : State)
+        (past : Past) → may vector old → LeftOutWhere ⊥ (Answers vector) old (Ok prepared) new
+        → IsPast old past
+        → Comes past new
+        (λ after.
+        UnionVectorHolds after
+        (Some (written_tags vector.tags.distance, written_values vector.values.distance)) prepared)
+    comes vector old None new past may done is_past = elim done.0 [ ]
+    comes vector old (Some found) new past may done is_past =
+        let same : found ≡ vector = cc in
+        stays_there past old new
+        (λ after. (tags found.tags.distance ≡ tags vector.tags.distance)
+        × (values_field found.values.distance ≡ values_field vector.values.distance))
+        done.1.1 is_past (
+          ap (λ (vector : UnionVectorOffset T). tags vector.tags.distance) same,
+          ap (λ (vector : UnionVectorOffset T). values_field vector.values.distance) same,
+        )
+
+-- a union that is always there
+pub always_union_prepared : {X T : Type 0} {may : X → State → Type 0}
+    {outcome : X → Outcome (UnionOffset T)} {content : X → ℕ × Content}
+    → PreparesUnionItem may outcome content
+    → PreparesUnion may (λ x old answer new. LeftOutWhere ⊥ (outcome x) old answer new)
+    (λ x. Some (content x))
+always_union_prepared {X} {T} {may} {outcome} {content} lawful = record { comes = comes }
+  where
+    comes : (x : X) (old : State) (prepared : Option (UnionOffset T)) (new : State) (past : Past)
+        → may x old → LeftOutWhere ⊥ (outcome x) old (Ok prepared) new → IsPast old past
+        → Comes past new (λ after. UnionHolds after (Some (content x)) prepared)
+    comes x old None new past may done is_past = elim done.0 [ ]
+    comes x old (Some union) new past may done is_past =
+        lawful.comes x old union new past may done.1 is_past
+
+-- a union that may be absent
+pub optional_union_prepared : {X T : Type 0} {may : X → State → Type 0}
+    {outcome : X → Outcome (Option (UnionOffset T))} {content : X → Option (ℕ × Content)}
+    → PreparesUnion may outcome content
+    → PreparesUnion (λ x old. MayIf may x old) (λ x old answer new. PreparesIf outcome x old answer new)
+    (λ x. union_if content x)
+optional_union_prepared {X} {T} {may} {outcome} {content} lawful = record { comes = prepared }
+  where
+    prepared : (x : Option X) (old : State) (prepared : Option (UnionOffset T)) (new : State) (past : Past)
+        → MayIf may x old → PreparesIf outcome x old (Ok prepared) new → IsPast old past
+        → Comes past new (λ after. UnionHolds after (union_if content x) prepared)
+    prepared None old None new past may done is_past =
+        stays_there past old new (λ after. ⊤) done.1 is_past tt
+    prepared None old (Some found) new past may done is_past = cc
+    prepared (Some x) old found new past may done is_past = lawful.comes x old found new past may done is_past
+
+-- a union that is always left out
+pub never_union_prepared : {X T : Type 0} {may : X → State → Type 0}
+    → PreparesUnion {X = X} {T = T} may (λ x old answer new. Answers None old answer new) (λ x. None)
+never_union_prepared {X} {T} {may} = record {
+  comes = λ x old prepared new past may done is_past.
+      (let same : None ≡ prepared = cc in
+      subst (λ (prepared : Option (UnionOffset T)). Comes past new (λ after. UnionHolds after None prepared)) same
+      (stays_there past old new (λ after. ⊤) done.1 is_past tt));
+}
+
+-- a union that is prepared as something else
+pub union_prepared_as : {X Y T : Type 0} {may : X → State → Type 0}
+    {outcome : X → Outcome (Option (UnionOffset T))} {content : X → Option (ℕ × Content)} (of : Y → X)
+    → PreparesUnion may outcome content
+    → PreparesUnion (λ y old. may (of y) old) (λ y old answer new. outcome (of y) old answer new)
+    (λ y. content (of y))
+union_prepared_as of lawful = record { comes = λ y. lawful.comes (of y) }
+
+-- a vector of unions that is always left out
+pub never_union_vector_prepared : {X T : Type 0} {may : X → State → Type 0}
+    → PreparesUnionVector {X = X} {T = T} may (λ x old answer new. Answers None old answer new) (λ x. None)
+never_union_vector_prepared {X} {T} {may} = record {
+  comes = λ x old prepared new past may done is_past.
+      (let same : None ≡ prepared = cc in
+      subst (λ (prepared : Option (UnionVectorOffset T)). Comes past new (λ after. UnionVectorHolds after None prepared)) same
+      (stays_there past old new (λ after. ⊤) done.1 is_past tt));
+}
+
+-- a vector of unions that is prepared as something else
+pub union_vector_prepared_as : {X Y T : Type 0} {may : X → State → Type 0}
+    {outcome : X → Outcome (Option (UnionVectorOffset T))} {contents : X → Option (Content × Content)}
+    (of : Y → X) → PreparesUnionVector may outcome contents
+    → PreparesUnionVector (λ y old. may (of y) old) (λ y old answer new. outcome (of y) old answer new)
+    (λ y. contents (of y))
+union_vector_prepared_as of lawful = record { comes = λ y. lawful.comes (of y) }

@@ -1,0 +1,4 @@
+pub mod ContentLaws
+pub mod PreparingLaws
+pub mod UnionContentLaws
+pub mod VariantLaws

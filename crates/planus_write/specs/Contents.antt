@@ -1,0 +1,131 @@
+-- What a value holds as a field of a table, in the words of its caller.
+use Rattle.std.specs.Prelude.{◌≡◌, ℕ, List, [], ◌∷◌, Option}
+use Rattle.std.specs.Prelude.{Some, None, Ok, ⊤}
+use Rattle.planus_read.specs.Values.{Value, Field, Plain, plain, reference, tags}
+use Rattle.planus_read.specs.Values.{values as values_field, reference_list, union_vector}
+use Rattle.planus_write.specs.Kept.{IsKept}
+use Rattle.planus_write.specs.Parts.{Named}
+use Rattle.planus_write.specs.Past.{Past}
+use Rattle.planus_write.specs.Placing.{Outcome}
+use Rattle.planus_write.specs.State.{State, IsPast, Extends}
+use Rattle.planus_write.specs.Unions.{union_reach}
+use Rattle.planus_write.specs.declared.union_offset.UnionOffset.{UnionOffset}
+use Rattle.planus_write.specs.declared.union_vector_offset.UnionVectorOffset.{UnionVectorOffset}
+
+mutual
+  -- What a field holds: a number or a truth value; a reference to a value; a reference to a list of
+  -- references to values; or a reference to what was written before, at this distance. A vector of
+  -- unions has two fields, one that refers to its tags and one that refers to its values: they are those
+  -- of a list of these unions, or of one that was written before.
+  pub data Content : Type 0 where
+    item : Plain → Content
+    value : Value → Content
+    values : List Value → Content
+    written : ℕ → Content
+    union_tags : Unions → Content
+    union_values : Unions → Content
+    written_tags : ℕ → Content
+    written_values : ℕ → Content
+
+  -- The unions of a vector: the tag of each, and what the reference to its value holds.
+  pub data Unions : Type 0 where
+    no_unions : Unions
+    union_and : ℕ → Content → Unions → Unions
+
+-- some tags, and what the reference to the value of each holds, as such unions
+abbrev pub as_unions : List (ℕ × Content) → Unions
+as_unions [] = no_unions
+as_unions (one ∷ others) = union_and one.0 one.1 (as_unions others)
+
+-- named by one distance
+abbrev pub named_at : ℕ → Named
+named_at distance = record { distance = distance; tags = None }
+
+-- the values are kept at these distances, one by one
+abbrev pub AllKept : Past → List Value → List ℕ → Type 0
+AllKept past [] [] = ⊤
+AllKept past (one ∷ others) (distance ∷ distances) =
+    IsKept past one (named_at distance) × AllKept past others distances
+AllKept past [] (distance ∷ distances) = ⊥
+AllKept past (one ∷ others) [] = ⊥
+
+-- the same of a vector of unions
+abbrev pub named_at_both : (tags_at values_at : ℕ) → Named
+named_at_both tags_at values_at = record { distance = values_at; tags = Some tags_at }
+
+abbrev mutual
+  -- The field holds this. What it refers to is kept; of what was written before that is the caller's
+  -- to know.
+  pub FieldIs : Past → Content → Field → Type 0
+  FieldIs past (item content) field = field ≡ plain content
+  FieldIs past (value content) field =
+      (distance : ℕ) × (field ≡ reference distance) × IsKept past content (named_at distance)
+  FieldIs past (values contents) field =
+      (distance : ℕ) × (field ≡ reference distance)
+      × ((distances : List ℕ) × IsKept past (reference_list distances) (named_at distance)
+      × AllKept past contents distances)
+  FieldIs past (written distance) field = field ≡ reference distance
+  FieldIs past (union_tags contents) field =
+      (tags_at values_at : ℕ) × (field ≡ tags tags_at)
+      × ((unions : List (ℕ × ℕ)) × IsKept past (union_vector unions) (named_at_both tags_at values_at)
+      × UnionsAre past contents unions)
+  FieldIs past (union_values contents) field =
+      (tags_at values_at : ℕ) × (field ≡ values_field values_at)
+      × ((unions : List (ℕ × ℕ)) × IsKept past (union_vector unions) (named_at_both tags_at values_at)
+      × UnionsAre past contents unions)
+  FieldIs past (written_tags distance) field = field ≡ tags distance
+  FieldIs past (written_values distance) field = field ≡ values_field distance
+
+  -- Unions, each a tag and a distance, have these tags, and the references to their values hold these.
+  pub UnionsAre : Past → Unions → List (ℕ × ℕ) → Type 0
+  UnionsAre past no_unions [] = ⊤
+  UnionsAre past (union_and tag content others) (union ∷ unions) =
+      (union.0 ≡ tag) × FieldIs past content (reference union.1) × UnionsAre past others unions
+  UnionsAre past no_unions (union ∷ unions) = ⊥
+  UnionsAre past (union_and tag content others) [] = ⊥
+
+-- from a past a builder came to one in which this holds
+abbrev pub Comes : Past → State → (Past → Type 0) → Type 0
+Comes past new Holds = (after : Past) × IsPast new after × Extends past after × Holds after
+
+-- Once a value is prepared, the field that it becomes holds its content.
+pub record PreparesContent {X A : Type 0} (may : X → State → Type 0) (outcome : X → Outcome A)
+    (content : X → Content) (field : A → Field) : Type 0 where
+  pub comes :
+      (x : X) (old : State) (prepared : A) (new : State) (past : Past) → may x old
+      → outcome x old (Ok prepared) new → IsPast old past
+      → Comes past new (λ after. FieldIs after (content x) (field prepared))
+
+-- A union, written before, has this tag, and a reference to its value holds this; or it is left out.
+abbrev pub UnionHolds : {T : Type 0} → Past → Option (ℕ × Content) → Option (UnionOffset T) → Type 0
+UnionHolds past None None = ⊤
+UnionHolds past (Some content) (Some union) =
+    (union.tag ≡ content.0) × FieldIs past content.1 (reference (union_reach union))
+UnionHolds past None (Some union) = ⊥
+UnionHolds past (Some content) None = ⊥
+
+-- The same of a union that is always there, as one of a vector.
+pub record PreparesUnionItem {X T : Type 0} (may : X → State → Type 0)
+    (outcome : X → Outcome (UnionOffset T)) (content : X → ℕ × Content) : Type 0 where
+  pub comes :
+      (x : X) (old : State) (prepared : UnionOffset T) (new : State) (past : Past) → may x old
+      → outcome x old (Ok prepared) new → IsPast old past
+      → Comes past new (λ after. UnionHolds after (Some (content x)) (Some prepared))
+
+-- The two fields of a vector of unions hold these; or it is left out.
+abbrev pub UnionVectorHolds : {T : Type 0} → Past → Option (Content × Content)
+    → Option (UnionVectorOffset T) → Type 0
+UnionVectorHolds past None None = ⊤
+UnionVectorHolds past (Some contents) (Some vector) =
+    FieldIs past contents.0 (tags vector.tags.distance)
+    × FieldIs past contents.1 (values_field vector.values.distance)
+UnionVectorHolds past None (Some vector) = ⊥
+UnionVectorHolds past (Some contents) None = ⊥
+
+-- what its two fields hold
+abbrev pub unions_hold : List (ℕ × Content) → Content × Content
+unions_hold contents = (union_tags (as_unions contents), union_values (as_unions contents))
+
+-- the tag of a union that was written before, and what the reference to its value holds
+abbrev pub written_union : {T : Type 0} → UnionOffset T → ℕ × Content
+written_union union = (union.tag, written (union_reach union))

@@ -1,0 +1,28 @@
+-- What lists hold once they are written.
+use Rattle.std.specs.Prelude.{ℕ, List, [], map, Ok}
+use Rattle.planus_read.specs.Values.{reference}
+use Rattle.planus_write.specs.Items.{Item}
+use Rattle.planus_write.specs.Parts.{list_entries}
+use Rattle.planus_write.specs.Past.{Past}
+use Rattle.planus_write.specs.Placing.{Outcome, then_does}
+use Rattle.planus_write.specs.Preparing.{AnswersLast}
+use Rattle.planus_write.specs.Preparing.{WritesEntries}
+use Rattle.planus_write.specs.State.{State, IsPast}
+use Rattle.planus_write.specs.Contents.{Content, FieldIs, Comes}
+
+-- a list of items was written, or refused: its items are prepared, and then its entries put down
+abbrev pub WritesItems : {Y A : Type 0} → (List Y → Outcome (List A)) → (A → Item)
+    → (size alignment : ℕ) → List Y → Outcome ℕ
+WritesItems prepares leaves size alignment ys =
+    then_does (prepares ys)
+    (λ items. AnswersLast (WritesEntries (list_entries size alignment (map leaves items)) []))
+
+-- What is asked of items of which there are lists: once a list of them is written, a reference to it
+-- holds this.
+pub record ListHasContent {Y A : Type 0} (all_may : List Y → State → Type 0)
+    (prepares : List Y → Outcome (List A)) (leaves : A → Item) (size alignment : ℕ)
+    (list : List Y → Content) : Type 0 where
+  pub comes :
+      (ys : List Y) (old : State) (distance : ℕ) (new : State) (past : Past) → all_may ys old
+      → WritesItems prepares leaves size alignment ys old (Ok distance) new → IsPast old past
+      → Comes past new (λ after. FieldIs after (list ys) (reference distance))

@@ -1,0 +1,17 @@
+pub mod Laws
+pub mod ListLaws
+pub mod UnionLaws
+pub mod TableLaws
+pub mod PartBytes
+pub mod Staying
+pub mod KeptContents
+pub mod KeptLists
+pub mod TableBytes
+pub mod KeptTables
+pub mod KeptUnions
+pub mod PutEntries
+pub mod StandingLaws
+pub mod FieldItemLaws
+pub mod ContentLaws
+pub mod UnionContentLaws
+pub mod ListContentLaws

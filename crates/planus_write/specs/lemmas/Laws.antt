@@ -1,0 +1,232 @@
+-- The laws of what can be written.
+use Rattle.std.specs.Prelude.{◌≡◌, ℕ, ◌+◌, ◌≤◌, List, [], ◌∷◌, ◌++◌, length, replicate, Option}
+use Rattle.std.specs.Prelude.{Some, None, Result, Ok, Err, ⊤}
+use Rattle.std.proofs.Common.{ap, subst, sym, refl, ◌∙◌, arith, append_assoc, length-append, lit<}
+use Rattle.std.proofs.Common.{lit≤}
+use Rattle.planus_back.proofs.Multiples.{divides_multiple}
+use Rattle.planus_back.specs.Parts.{Part}
+use Rattle.planus_back.specs.Padding.{promise_of}
+use Rattle.planus_write.specs.Shared.{Contents, Seen, Switches, and_seen, shared_as}
+use Rattle.planus_write.specs.Past.{Past, Entry, Adds, PutsAfter, Puts, found_before, part_after}
+use Rattle.planus_write.specs.State.{State, IsPast, Extends, Grows}
+use Rattle.planus_write.specs.Placing.{Outcome, PutsDown, WritesEntry, LeftAsItWas}
+use Rattle.planus_write.specs.Preparing.{IsLawful, IsLayout, Answers, AsOffset, IsPrepared}
+use Rattle.planus_write.specs.declared.errors.BuildError.{BuildError}
+use Rattle.planus_write.specs.declared.errors.BuildError.TheVariants.{OutOfMemory, TooLarge}
+use Rattle.planus_write.specs.declared.offset.Offset.{Offset}
+
+-- what extends twice extends
+pub extends_on : (before between after : Past) → Extends before between → Extends between after
+    → Extends before after
+extends_on before between after first second = record {
+  bytes = (
+    second.bytes.0 ++ first.bytes.0,
+    second.bytes.1 ∙ ap (λ bytes. second.bytes.0 ++ bytes) first.bytes.1
+        ∙ sym (append_assoc second.bytes.0 first.bytes.0 before.written.bytes),
+  );
+  promises = (
+    second.promises.0 ++ first.promises.0,
+    second.promises.1 ∙ ap (λ promises. second.promises.0 ++ promises) first.promises.1
+        ∙ sym (append_assoc second.promises.0 first.promises.0 before.written.promises),
+  );
+  seen = (
+    second.seen.0 ++ first.seen.0,
+    second.seen.1 ∙ ap (λ seen. second.seen.0 ++ seen) first.seen.1
+        ∙ sym (append_assoc second.seen.0 first.seen.0 before.seen),
+  );
+}
+
+-- what was written extends itself
+pub extends_itself : (past : Past) → Extends past past
+extends_itself past = record { bytes = ([], refl); promises = ([], refl); seen = ([], refl) }
+
+-- a builder that is left as it was grows by nothing
+pub unchanged_grows : (old new : State) → new ≡ old → Grows old new
+unchanged_grows old new same = record {
+  bytes = ([], ap (λ state. state.bytes) same);
+  past = λ past is_past. (
+    past,
+    subst (λ state. IsPast state past)
+        (sym same) is_past,
+    extends_itself past,
+  );
+  switches = ap (λ state. state.switches) same;
+}
+
+-- more room alone changes nothing of what was written
+pub roomier_past : (old new : State) (past : Past) → new ≡ record old { room = new.room }
+    → IsPast old past → IsPast new past
+roomier_past old new past same is_past =
+    subst (λ state. IsPast state past) (sym same)
+    (record {
+      bytes = is_past.bytes;
+      described = is_past.described;
+      seen = λ kind. record {
+        fits = (is_past.seen kind).fits;
+        finds = (is_past.seen kind).finds;
+      };
+      kept = is_past.kept;
+    })
+
+roomier_grows : (old new : State) → new ≡ record old { room = new.room } → Grows old new
+roomier_grows old new same = record {
+  bytes = ([], ap (λ state. state.bytes) same);
+  past = λ past is_past. (
+    past,
+    roomier_past old new past same is_past,
+    extends_itself past,
+  );
+  switches = ap (λ state. state.switches) same;
+}
+
+-- a builder that refused an entry grows by nothing
+pub left_grows : (error : BuildError) (shared : Option Contents) (old new : State)
+    → LeftAsItWas error shared old new → Grows old new
+left_grows OutOfMemory (Some contents) old new left = roomier_grows old new left.1
+left_grows OutOfMemory None old new left = unchanged_grows old new left
+left_grows TooLarge shared old new left = unchanged_grows old new left
+
+seen_more : (shared : Option Contents) (distance : ℕ) (before after : List Seen)
+    → after ≡ and_seen shared distance before
+    → (more : List Seen) × (after ≡ more ++ before)
+seen_more None distance before after same = ([], same)
+seen_more (Some contents) distance before after same =
+    (record { contents = contents; distance = distance } ∷ [], same)
+
+pub added_extends : (part : Part) (shared : Option Contents) (before : Past) (distance : ℕ)
+    (after : Past)
+    → Adds part shared before distance after → Extends before after
+added_extends part shared before distance after adds = record {
+  bytes = (part.bytes_at adds.placed.place ++ replicate adds.placed.padding 0, adds.placed.bytes);
+  promises = (promise_of adds.placed.place part.alignment ∷ [], adds.placed.promises);
+  seen = seen_more shared distance before.seen after.seen adds.seen;
+}
+
+put_after_extends : (earlier : Option ℕ) (part : Part) (shared : Option Contents) (before : Past)
+    (distance : ℕ) (after : Past)
+    → PutsAfter earlier part shared before distance after → Extends before after
+put_after_extends (Some d) part shared before distance after put =
+    subst (Extends before) (sym put.1) (extends_itself before)
+put_after_extends None part shared before distance after put =
+    added_extends part shared before distance after put
+
+-- an entry that is put down extends what was written
+pub put_extends : (switches : Switches) (entry : Entry) (got : List ℕ) (before : Past)
+    (distance : ℕ) (after : Past)
+    → Puts switches entry got before distance after → Extends before after
+put_extends switches entry got before distance after put =
+    put_after_extends (found_before switches entry before) (part_after entry got before)
+    (shared_as switches entry.contents)
+    before distance after put
+
+-- one entry put down grows the builder by it
+pub entry_grows : (entry : Entry) (got : List ℕ) (old : State) (distance : ℕ) (new : State)
+    → PutsDown entry got old distance new → Grows old new
+entry_grows entry got old distance new put = record {
+  bytes = put.grows;
+  past = λ past is_past.
+      let after = put.puts past is_past in
+      (after.0, after.2, put_extends old.switches entry got past distance after.0 after.1);
+  switches = put.switches;
+}
+
+-- what grows twice grows
+pub grows_on : (old mid new : State) → Grows old mid → Grows mid new → Grows old new
+grows_on old mid new first second = record {
+  bytes = (
+    second.bytes.0 ++ first.bytes.0,
+    second.bytes.1 ∙ ap (λ bytes. second.bytes.0 ++ bytes) first.bytes.1
+        ∙ sym (append_assoc second.bytes.0 first.bytes.0 old.bytes),
+  );
+  past = λ past is_past.
+      let between = first.past past is_past in
+      let after = second.past between.0 between.1 in
+      (after.0, after.1, extends_on past between.0 after.0 between.2 after.2);
+  switches = second.switches ∙ first.switches;
+}
+
+-- what an old state reaches, a grown one does
+pub reached_still : (distance : ℕ) (old new : State) → Grows old new → distance ≤ length old.bytes
+    → distance ≤ length new.bytes
+reached_still distance old new grows reached =
+    let e : length new.bytes ≡ length grows.bytes.0 + length old.bytes
+    = ap length grows.bytes.1 ∙ length-append grows.bytes.0 old.bytes in
+    omega (arith, e, reached)
+
+-- an entry that is put down, or refused, grows the builder
+pub writes_entry_grows : (entry : Entry) (got : List ℕ) (old : State) (answer : Result ℕ BuildError)
+    (new : State) → WritesEntry entry got old answer new → Grows old new
+writes_entry_grows entry got old (Ok distance) new done = entry_grows entry got old distance new done
+writes_entry_grows entry got old (Err error) new done =
+    left_grows error (shared_as old.switches entry.contents) old new done.unchanged
+
+-- so it is with the distance as an offset
+pub as_offset_grows : {T : Type 0} (writes : Outcome ℕ) (old : State)
+    → ((answer : Result ℕ BuildError) (new : State) → writes old answer new → Grows old new)
+    → (answer : Result (Offset T) BuildError) (new : State) → AsOffset writes old answer new
+    → Grows old new
+as_offset_grows writes old each (Ok offset) new done = each (Ok offset.distance) new done
+as_offset_grows writes old each (Err error) new done = each (Err error) new done
+
+-- what is written already is lawful where what it refers to lies in the bytes
+pub written_is_lawful : {A : Type 0} (reach : A → ℕ)
+    → IsLawful {X = A} (λ a old. reach a ≤ length old.bytes) Answers reach
+written_is_lawful {A} reach = record {
+  grows = λ a old answer new may done. unchanged_grows old new done.1;
+  reaches = λ a old answer new may done.
+      let same : answer ≡ a = cc in
+      subst (λ (state : State). reach answer ≤ length state.bytes) (sym done.1)
+      (subst (λ (b : A). reach b ≤ length old.bytes) (sym same) may);
+  stays = λ a old new grows may. reached_still (reach a) old new grows may;
+}
+
+-- an offset is lawful
+pub offset_is_lawful : {T : Type 0}
+    → IsLawful {X = Offset T} (λ offset old. offset.distance ≤ length old.bytes) IsPrepared
+    (λ offset. offset.distance)
+offset_is_lawful {T} = written_is_lawful (λ (offset : Offset T). offset.distance)
+
+-- what writes one entry is lawful, if it may always be prepared
+pub entry_is_lawful : {X T : Type 0} (entry : X → Entry)
+    → IsLawful {X = X} {A = Offset T} (λ x old. ⊤)
+    (λ x old answer new. AsOffset (WritesEntry (entry x) []) old answer new)
+    (λ offset. offset.distance)
+entry_is_lawful entry = record {
+  grows = λ x old answer new may done.
+      as_offset_grows (WritesEntry (entry x) []) old (writes_entry_grows (entry x) [] old) answer
+      new done;
+  reaches = λ x old answer new may done. done.reached;
+  stays = λ x old new grows may. tt;
+}
+
+-- what is answered as it is, and refers to nothing, is lawful
+pub ready_is_lawful : {A : Type 0} → IsLawful {X = A} (λ x old. ⊤) Answers (λ answer. 0)
+ready_is_lawful {A} = record {
+  grows = λ x old answer new may done. unchanged_grows old new done.1;
+  reaches = λ x old answer new may done. omega arith;
+  stays = λ x old new grows may. tt;
+}
+
+-- the layouts of numbers
+pub layout_of_one : IsLayout 1 1
+layout_of_one = record { power = (0, lit≤ tt, refl); positive = lit< tt; multiple = divides_multiple _ 1 _ refl }
+
+pub layout_of_two : IsLayout 2 2
+layout_of_two = record { power = (1, lit≤ tt, refl); positive = lit< tt; multiple = divides_multiple _ 1 _ refl }
+
+pub layout_of_four : IsLayout 4 4
+layout_of_four = record { power = (2, lit≤ tt, refl); positive = lit< tt; multiple = divides_multiple _ 1 _ refl }
+
+pub layout_of_eight : IsLayout 8 8
+layout_of_eight = record { power = (3, lit≤ tt, refl); positive = lit< tt; multiple = divides_multiple _ 1 _ refl }
+
+-- what is prepared as something else is lawful where that is
+pub lawful_of : {X Y A : Type 0} {may : X → State → Type 0} {outcome : X → Outcome A}
+    {reach : A → ℕ}
+    (of : Y → X) → IsLawful may outcome reach
+    → IsLawful (λ y old. may (of y) old) (λ y old answer new. outcome (of y) old answer new) reach
+lawful_of of lawful = record {
+  grows = λ y. lawful.grows (of y);
+  reaches = λ y. lawful.reaches (of y);
+  stays = λ y. lawful.stays (of y);
+}

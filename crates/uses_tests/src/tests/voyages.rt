@@ -1,0 +1,165 @@
+//! Voyages, tables of forty fields, are written and read back.
+use super::in_builder;
+use planus_read::{ReadAsRoot, TableRead};
+use planus_tables::TableRef;
+use planus_view::{UnionVector, Vector};
+use planus_write::{BuildError, Builder, UnionOffset};
+use uses_table::{Owner, OwnerRef, Ship, Voyage, VoyageFields};
+
+// Whether a slot is read as this.
+fn reads<'a, T: TableRead<'a> + PartialEq + Copy>(
+    voyage: &TableRef<'a, Voyage>,
+    slot: usize,
+    value: T,
+) -> bool {
+    matches!(voyage.table.access::<T>(slot, "Voyage", "field"), Ok(Some(read)) if read == value)
+}
+
+fn has_wide_numbers(voyage: &TableRef<'_, Voyage>) -> bool {
+    reads::<u64>(voyage, 0, 7)
+        && reads::<u64>(voyage, 1, 1_000)
+        && reads::<u64>(voyage, 2, 2_000)
+        && reads::<u64>(voyage, 3, 9)
+        && reads::<u32>(voyage, 17, 4_000)
+        && reads::<u32>(voyage, 18, 12)
+        && reads::<u32>(voyage, 19, 13)
+        && reads::<u32>(voyage, 20, 14)
+        && reads::<i32>(voyage, 21, -540_000)
+        && reads::<i32>(voyage, 22, 160_000)
+        && reads::<i32>(voyage, 23, -1)
+        && reads::<i32>(voyage, 24, -2_000_000_000)
+}
+
+fn has_narrow_numbers(voyage: &TableRef<'_, Voyage>) -> bool {
+    reads::<u16>(voyage, 25, 40)
+        && reads::<u16>(voyage, 26, 3)
+        && reads::<u16>(voyage, 27, 21)
+        && reads::<i16>(voyage, 28, -6)
+        && reads::<i16>(voyage, 29, -300)
+        && reads::<i16>(voyage, 30, 271)
+        && reads::<u8>(voyage, 31, 2)
+        && reads::<u8>(voyage, 32, 3)
+        && reads::<u8>(voyage, 33, 4)
+        && reads::<u8>(voyage, 34, 5)
+        && reads::<u8>(voyage, 35, 6)
+        && reads::<bool>(voyage, 36, true)
+        && reads::<bool>(voyage, 37, false)
+        && reads::<bool>(voyage, 38, true)
+        && reads::<bool>(voyage, 39, false)
+        && reads::<i8>(voyage, 40, -3)
+        && reads::<i8>(voyage, 41, 2)
+}
+
+fn has_texts(voyage: &TableRef<'_, Voyage>) -> bool {
+    reads::<&str>(voyage, 4, "Home")
+        && reads::<&str>(voyage, 5, "Jason")
+        && matches!(voyage.table.access::<&str>(6, "Voyage", "note"), Ok(None))
+        && reads::<&str>(voyage, 7, "Iolcus")
+}
+
+fn has_lists(voyage: &TableRef<'_, Voyage>) -> bool {
+    let legs = voyage.table.access::<Vector<'_, u32>>(8, "Voyage", "legs");
+    let soundings = voyage.table.access::<Vector<'_, u16>>(9, "Voyage", "soundings");
+    let ports = voyage
+        .table
+        .access::<Vector<'_, planus_read::Result<&str>>>(10, "Voyage", "ports");
+    matches!(legs, Ok(Some(legs)) if legs.len() == 3 && legs.get(2) == Some(30))
+        && matches!(soundings, Ok(None))
+        && matches!(ports, Ok(Some(ports)) if matches!(ports.last(), Some(Ok("Colchis"))))
+}
+
+fn is_argo(ship: &TableRef<'_, Ship>) -> bool {
+    matches!(Ship::name(ship), Ok("Argo"))
+}
+
+fn has_ships(voyage: &TableRef<'_, Voyage>) -> bool {
+    let ship = voyage.table.access::<TableRef<'_, Ship>>(11, "Voyage", "ship");
+    let consorts = voyage
+        .table
+        .access::<Vector<'_, planus_read::Result<TableRef<'_, Ship>>>>(12, "Voyage", "consorts");
+    matches!(ship, Ok(Some(ship)) if is_argo(&ship))
+        && matches!(consorts, Ok(Some(ships)) if matches!(ships.get(1), Some(Ok(ship)) if is_argo(&ship)))
+}
+
+fn has_owners(voyage: &TableRef<'_, Voyage>) -> bool {
+    let owner = voyage
+        .table
+        .access_union::<OwnerRef<'_>>(13, "Voyage", "owner");
+    let shares = voyage
+        .table
+        .access_union_vector::<UnionVector<'_, OwnerRef<'_>>>(15, "Voyage", "shares");
+    matches!(owner, Ok(Some(OwnerRef::Name("Pelias"))))
+        && matches!(shares, Ok(Some(shares)) if matches!(shares.get(1), Some(Ok(OwnerRef::Ship(_)))))
+}
+
+// Whether the root is the voyage that is written.
+fn is_voyage(bytes: &[u8]) -> bool {
+    let voyage: Result<TableRef<'_, Voyage>, _> = ReadAsRoot::read_as_root(bytes);
+    match voyage {
+        Ok(voyage) => {
+            has_wide_numbers(&voyage)
+                && has_narrow_numbers(&voyage)
+                && has_texts(&voyage)
+                && has_lists(&voyage)
+                && has_ships(&voyage)
+                && has_owners(&voyage)
+        }
+        Err(_) => false,
+    }
+}
+
+fn a_voyage_is_read(builder: &mut Builder) -> Result<bool, BuildError> {
+    let argo = Ship::create(builder, "Argo", 100, None)?;
+    let text = builder.create_string("Pelias")?;
+    let owner: UnionOffset<Owner> = UnionOffset::new(1, text.downcast());
+    let voyage = VoyageFields {
+        id: 7,
+        departed: 1_000,
+        arrived: 2_000,
+        insurer: 9,
+        name: "Home",
+        captain: Some("Jason"),
+        note: None,
+        flag: Some("Iolcus"),
+        legs: Some(&[10, 20, 30]),
+        soundings: None,
+        ports: &["Iolcus", "Colchis"],
+        ship: Some(argo),
+        consorts: &[argo, argo],
+        owner: Some(owner),
+        shares: &[owner, UnionOffset::new(2, argo.downcast())],
+        distance: 4_000,
+        cost: 12,
+        freight: 13,
+        water: 14,
+        latitude: -540_000,
+        longitude: 160_000,
+        drift: -1,
+        balance: -2_000_000_000,
+        crew: 40,
+        passengers: 3,
+        days: 21,
+        frost: -6,
+        depth: -300,
+        heading: 271,
+        masts: 2,
+        decks: 3,
+        guns: 4,
+        rating: 5,
+        class: 6,
+        insured: true,
+        late: false,
+        armed: true,
+        stormy: false,
+        heel: -3,
+        trim: 2,
+    };
+    let voyage = Voyage::create(builder, voyage)?;
+    let bytes = builder.finish(voyage, None)?;
+    Ok(is_voyage(bytes))
+}
+
+#[test]
+fn voyages_read_back(rt: HostRuntime) {
+    assert!(rt; in_builder(rt.alloc(), a_voyage_is_read), "a voyage");
+}
