@@ -4,12 +4,12 @@
 //! table Voyage {
 //!     id: uint64; departed: uint64; arrived: uint64; insurer: uint64;
 //!     name: string (required); captain: string; note: string; flag: string; legs: [uint32];
-//!     soundings: [uint16]; ports: [string]; ship: Ship; consorts: [Ship]; owner: Owner;
-//!     shares: [Owner]; distance: uint32; cost: uint32; freight: uint32; water: uint32;
-//!     latitude: int32; longitude: int32; drift: int32; balance: int32; crew: uint16 = 1;
-//!     passengers: uint16; days: uint16; frost: int16 = -5; depth: int16; heading: int16;
-//!     masts: uint8; decks: uint8; guns: uint8; rating: uint8; class: uint8; insured: bool;
-//!     late: bool; armed: bool; stormy: bool; heel: int8; trim: int8;
+//!     soundings: [uint16]; costs: [uint32]; freight: [uint32]; water: [uint16];
+//!     fares: [uint16]; ports: [string]; ship: Ship; consorts: [Ship]; owner: Owner;
+//!     shares: [Owner]; distance: uint32; latitude: int32; longitude: int32; drift: int32;
+//!     balance: int32; crew: uint16 = 1; days: uint16; frost: int16 = -5; depth: int16;
+//!     heading: int16; masts: uint8; decks: uint8; guns: uint8; rating: uint8; class: uint8;
+//!     insured: bool; late: bool; armed: bool; stormy: bool; heel: int8; trim: int8;
 //! }
 //! ```
 
@@ -41,21 +41,21 @@ pub struct VoyageFields<'a> {
     pub flag: Option<&'a str>,
     pub legs: Option<&'a [u32]>,
     pub soundings: Option<&'a [u16]>,
+    pub costs: Option<&'a [u32]>,
+    pub freight: Option<&'a [u32]>,
+    pub water: Option<&'a [u16]>,
+    pub fares: Option<&'a [u16]>,
     pub ports: &'a [&'a str],
     pub ship: Option<Offset<Ship>>,
     pub consorts: &'a [Offset<Ship>],
     pub owner: Option<UnionOffset<Owner>>,
     pub shares: &'a [UnionOffset<Owner>],
     pub distance: u32,
-    pub cost: u32,
-    pub freight: u32,
-    pub water: u32,
     pub latitude: i32,
     pub longitude: i32,
     pub drift: i32,
     pub balance: i32,
     pub crew: u16,
-    pub passengers: u16,
     pub days: u16,
     pub frost: i16,
     pub depth: i16,
@@ -112,21 +112,21 @@ impl Voyage {
             7: Offset<Text> = voyage.flag,
             8: Offset<List<u32>> = voyage.legs,
             9: Offset<List<u16>> = voyage.soundings,
-            10: Offset<List<Offset<Text>>> = voyage.ports,
-            11: Offset<Ship> = voyage.ship,
-            12: Offset<List<Offset<Ship>>> = voyage.consorts,
-            (13, 14): union Owner = voyage.owner,
-            (15, 16): unions Owner = shares,
-            17: u32 = voyage.distance,
-            18: u32 = voyage.cost,
-            19: u32 = voyage.freight,
-            20: u32 = voyage.water,
-            21: i32 = voyage.latitude,
-            22: i32 = voyage.longitude,
-            23: i32 = voyage.drift,
-            24: i32 = voyage.balance,
-            25: u16 = crew,
-            26: u16 = voyage.passengers,
+            10: Offset<List<u32>> = voyage.costs,
+            11: Offset<List<u32>> = voyage.freight,
+            12: Offset<List<u16>> = voyage.water,
+            13: Offset<List<u16>> = voyage.fares,
+            14: Offset<List<Offset<Text>>> = voyage.ports,
+            15: Offset<Ship> = voyage.ship,
+            16: Offset<List<Offset<Ship>>> = voyage.consorts,
+            (17, 18): union Owner = voyage.owner,
+            (19, 20): unions Owner = shares,
+            21: u32 = voyage.distance,
+            22: i32 = voyage.latitude,
+            23: i32 = voyage.longitude,
+            24: i32 = voyage.drift,
+            25: i32 = voyage.balance,
+            26: u16 = crew,
             27: u16 = voyage.days,
             28: i16 = frost,
             29: i16 = voyage.depth,

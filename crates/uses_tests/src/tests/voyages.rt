@@ -1,6 +1,6 @@
 //! Voyages, tables of forty fields, are written and read back.
 use super::in_builder;
-use planus_read::{ReadAsRoot, TableRead};
+use planus_read::{ReadAsRoot, TableRead, VectorRead};
 use planus_tables::TableRef;
 use planus_view::{UnionVector, Vector};
 use planus_write::{BuildError, Builder, UnionOffset};
@@ -20,19 +20,15 @@ fn has_wide_numbers(voyage: &TableRef<'_, Voyage>) -> bool {
         && reads::<u64>(voyage, 1, 1_000)
         && reads::<u64>(voyage, 2, 2_000)
         && reads::<u64>(voyage, 3, 9)
-        && reads::<u32>(voyage, 17, 4_000)
-        && reads::<u32>(voyage, 18, 12)
-        && reads::<u32>(voyage, 19, 13)
-        && reads::<u32>(voyage, 20, 14)
-        && reads::<i32>(voyage, 21, -540_000)
-        && reads::<i32>(voyage, 22, 160_000)
-        && reads::<i32>(voyage, 23, -1)
-        && reads::<i32>(voyage, 24, -2_000_000_000)
+        && reads::<u32>(voyage, 21, 4_000)
+        && reads::<i32>(voyage, 22, -540_000)
+        && reads::<i32>(voyage, 23, 160_000)
+        && reads::<i32>(voyage, 24, -1)
+        && reads::<i32>(voyage, 25, -2_000_000_000)
 }
 
 fn has_narrow_numbers(voyage: &TableRef<'_, Voyage>) -> bool {
-    reads::<u16>(voyage, 25, 40)
-        && reads::<u16>(voyage, 26, 3)
+    reads::<u16>(voyage, 26, 40)
         && reads::<u16>(voyage, 27, 21)
         && reads::<i16>(voyage, 28, -6)
         && reads::<i16>(voyage, 29, -300)
@@ -57,14 +53,32 @@ fn has_texts(voyage: &TableRef<'_, Voyage>) -> bool {
         && reads::<&str>(voyage, 7, "Iolcus")
 }
 
+// Whether a slot is read as a vector that ends in this number, or as none.
+fn ends_in<'a, T: VectorRead<'a> + PartialEq + Copy>(
+    voyage: &TableRef<'a, Voyage>,
+    slot: usize,
+    last: Option<T>,
+) -> bool {
+    match voyage
+        .table
+        .access::<Vector<'a, T>>(slot, "Voyage", "field")
+    {
+        Ok(Some(items)) => items.last() == last,
+        Ok(None) => last.is_none(),
+        Err(_) => false,
+    }
+}
+
 fn has_lists(voyage: &TableRef<'_, Voyage>) -> bool {
-    let legs = voyage.table.access::<Vector<'_, u32>>(8, "Voyage", "legs");
-    let soundings = voyage.table.access::<Vector<'_, u16>>(9, "Voyage", "soundings");
     let ports = voyage
         .table
-        .access::<Vector<'_, planus_read::Result<&str>>>(10, "Voyage", "ports");
-    matches!(legs, Ok(Some(legs)) if legs.len() == 3 && legs.get(2) == Some(30))
-        && matches!(soundings, Ok(None))
+        .access::<Vector<'_, planus_read::Result<&str>>>(14, "Voyage", "ports");
+    ends_in::<u32>(voyage, 8, Some(30))
+        && ends_in::<u16>(voyage, 9, None)
+        && ends_in::<u32>(voyage, 10, Some(41))
+        && ends_in::<u32>(voyage, 11, None)
+        && ends_in::<u16>(voyage, 12, Some(52))
+        && ends_in::<u16>(voyage, 13, Some(60))
         && matches!(ports, Ok(Some(ports)) if matches!(ports.last(), Some(Ok("Colchis"))))
 }
 
@@ -73,10 +87,12 @@ fn is_argo(ship: &TableRef<'_, Ship>) -> bool {
 }
 
 fn has_ships(voyage: &TableRef<'_, Voyage>) -> bool {
-    let ship = voyage.table.access::<TableRef<'_, Ship>>(11, "Voyage", "ship");
+    let ship = voyage
+        .table
+        .access::<TableRef<'_, Ship>>(15, "Voyage", "ship");
     let consorts = voyage
         .table
-        .access::<Vector<'_, planus_read::Result<TableRef<'_, Ship>>>>(12, "Voyage", "consorts");
+        .access::<Vector<'_, planus_read::Result<TableRef<'_, Ship>>>>(16, "Voyage", "consorts");
     matches!(ship, Ok(Some(ship)) if is_argo(&ship))
         && matches!(consorts, Ok(Some(ships)) if matches!(ships.get(1), Some(Ok(ship)) if is_argo(&ship)))
 }
@@ -84,10 +100,10 @@ fn has_ships(voyage: &TableRef<'_, Voyage>) -> bool {
 fn has_owners(voyage: &TableRef<'_, Voyage>) -> bool {
     let owner = voyage
         .table
-        .access_union::<OwnerRef<'_>>(13, "Voyage", "owner");
+        .access_union::<OwnerRef<'_>>(17, "Voyage", "owner");
     let shares = voyage
         .table
-        .access_union_vector::<UnionVector<'_, OwnerRef<'_>>>(15, "Voyage", "shares");
+        .access_union_vector::<UnionVector<'_, OwnerRef<'_>>>(19, "Voyage", "shares");
     matches!(owner, Ok(Some(OwnerRef::Name("Pelias"))))
         && matches!(shares, Ok(Some(shares)) if matches!(shares.get(1), Some(Ok(OwnerRef::Ship(_)))))
 }
@@ -123,21 +139,21 @@ fn a_voyage_is_read(builder: &mut Builder) -> Result<bool, BuildError> {
         flag: Some("Iolcus"),
         legs: Some(&[10, 20, 30]),
         soundings: None,
+        costs: Some(&[40, 41]),
+        freight: None,
+        water: Some(&[50, 51, 52]),
+        fares: Some(&[60]),
         ports: &["Iolcus", "Colchis"],
         ship: Some(argo),
         consorts: &[argo, argo],
         owner: Some(owner),
         shares: &[owner, UnionOffset::new(2, argo.downcast())],
         distance: 4_000,
-        cost: 12,
-        freight: 13,
-        water: 14,
         latitude: -540_000,
         longitude: 160_000,
         drift: -1,
         balance: -2_000_000_000,
         crew: 40,
-        passengers: 3,
         days: 21,
         frost: -6,
         depth: -300,
