@@ -2,7 +2,7 @@
 -- one in slot 2 and a number of two bytes in slot 1.
 use Rattle.std.proofs.Common.{◌≡◌, ℕ, [], ◌∷◌, true, false, refl}
 use Rattle.planus_write.specs.Tables.{Declared}
-use Rattle.planus_tables.specs.TableRules.{can_hold}
+use Rattle.planus_tables.specs.TableRules.{are_neighbours, can_hold}
 
 -- a field of this slot, aligned to its own size
 abbrev entry : ℕ → ℕ → Declared
@@ -29,3 +29,13 @@ small_field_first = refl
 -- a field of 65536 bytes
 object_too_large : can_hold 6 (record { slot = 0; size = 65536; alignment = 1 } ∷ []) ≡ false
 object_too_large = refl
+
+-- a union in slots 0 and 1, and a vector of unions in slots 4 and 5
+unions_have_neighbours : are_neighbours ((0, 1) ∷ (4, 5) ∷ []) ≡ true
+unions_have_neighbours = refl
+
+union_with_a_gap : are_neighbours ((0, 2) ∷ []) ≡ false
+union_with_a_gap = refl
+
+union_behind_its_value : are_neighbours ((1, 0) ∷ []) ≡ false
+union_behind_its_value = refl

@@ -28,6 +28,12 @@ can_hold n declared =
     leb 4 n && (leb n 65534 && (leb (4 + total_size declared) 65535
     && (has_slots n declared && is_falling 1073741824 declared)))
 
+-- the two slots of each union are neighbours, and so are those of each vector of unions, that of the tag
+-- or the tags first
+abbrev pub are_neighbours : List (ℕ × ℕ) → Bool
+are_neighbours [] = true
+are_neighbours (one ∷ others) = (one.1 == one.0 + 1) && are_neighbours others
+
 -- some of the entries, in their order
 abbrev pub Among : List Declared → List Declared → Type 0
 Among [] all = ⊤

@@ -2,7 +2,7 @@
 ghost use Rattle.std.specs.Prelude.{◌≤◌, [], ◌++◌, max, length, IfOk, IsTrue};
 ghost use Rattle.planus_write.specs.State.{Grows};
 ghost use Rattle.planus_write.specs.Tables.{body_size, body_bytes};
-ghost use Rattle.planus_tables.specs.TableRules.{can_hold};
+ghost use Rattle.planus_tables.specs.TableRules.{are_neighbours, can_hold};
 ghost use Rattle.planus_tables.specs.Preparing.{AnswersFields, WritesFields};
 ghost use Rattle.planus_write.specs.Placing.{then_does};
 ghost use Rattle.planus_write.specs.Preparing.{Answers};
@@ -68,8 +68,8 @@ pub(crate) fn write_table<T, W: TableWrite, F: PreparedFields, L: PreparedFields
 /// falling alignment: numbers of eight bytes first, then references, unions and numbers of four
 /// bytes, those of two, and those of one. They are prepared in the same order; one that is marked
 /// `last` is written after all that aren't, as the tags of unions are. No slot is used twice or lies
-/// outside the vtable, and with all fields the table is at most 65535 bytes without its vtable. All
-/// this is computed of the types of the fields.
+/// outside the vtable, the two slots of a union are neighbours, and with all fields the table is at
+/// most 65535 bytes without its vtable. All this is computed of the types of the fields.
 ///
 /// A refusal is that of the first field that is refused, or else that of the table:
 /// [`BuildError::TooLarge`] where a part's place would be above 2147483647 bytes from the end, and
@@ -81,6 +81,7 @@ pub fn create_table<K: TableKind, F: Fields + Drop>(
 ) -> Result<Offset<K>, BuildError>
     requires may { F.may fields builder.old }
     requires rules { IsTrue (can_hold K.Writer.room (F.all ++ F.all_last)) }
+    requires unions { IsTrue (are_neighbours F.unions) }
     ensures written { then_does (F.in_turn fields (λ ts ls. Answers (ts ++ ls)) [] []) WritesFields
         builder.old result builder.new }
     ensures kept { IfOk result (λ offset. WritesContents

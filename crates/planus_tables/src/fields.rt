@@ -42,6 +42,9 @@ pub trait Fields {
 
     ghost all_last: { List Declared };
 
+    /// The two slots of each union and of each vector of unions.
+    ghost unions: { List (ℕ × ℕ) };
+
     /// What the slots of the fields hold, each what it is or nothing.
     ghost contents: { Self → List (ℕ × option Content) };
 
@@ -91,6 +94,8 @@ impl Fields for () {
 
     ghost all_last = { [] };
 
+    ghost unions = { [] };
+
     ghost contents = { λ fields. [] };
 
     ghost last_contents = { λ fields. [] };
@@ -117,6 +122,8 @@ impl<F: Fields, S: Fields> Fields for (F, S) {
     ghost all = { F.all ++ S.all };
 
     ghost all_last = { F.all_last ++ S.all_last };
+
+    ghost unions = { F.unions ++ S.unions };
 
     ghost contents = { λ fields. F.contents fields.0 ++ S.contents fields.1 };
 
@@ -154,6 +161,8 @@ impl<const SLOT: usize, P: Primitive, V: WriteAsOptional<P>> Fields for FieldAt<
 
     ghost all_last = { [] };
 
+    ghost unions = { [] };
+
     ghost contents = { λ field. (SLOT, V.content field.value) ∷ [] };
 
     ghost last_contents = { λ field. [] };
@@ -189,6 +198,8 @@ impl<const SLOT: usize, P: Primitive, V: WriteAsOptional<P>> Fields for Trailing
     ghost all = { [] };
 
     ghost all_last = { record { slot = SLOT; size = P.SIZE; alignment = P.ALIGNMENT } ∷ [] };
+
+    ghost unions = { [] };
 
     ghost contents = { λ field. [] };
 
@@ -227,6 +238,8 @@ impl<const TAG: usize, const VALUE: usize, U, V: WriteAsOptionalUnion<U>> Fields
     ghost all = { record { slot = VALUE; size = 4; alignment = 4 } ∷ [] };
 
     ghost all_last = { record { slot = TAG; size = 1; alignment = 1 } ∷ [] };
+
+    ghost unions = { (TAG, VALUE) ∷ [] };
 
     ghost contents = { λ field.
         (VALUE, value_content (V.content field.value)) ∷ [] };
@@ -279,6 +292,8 @@ impl<const TAGS: usize, const VALUES: usize, U, V: WriteAsOptionalUnionVector<U>
         ∷ record { slot = VALUES; size = 4; alignment = 4 } ∷ [] };
 
     ghost all_last = { [] };
+
+    ghost unions = { (TAGS, VALUES) ∷ [] };
 
     ghost contents = { λ field. (TAGS, tags_content (V.contents field.value))
         ∷ (VALUES, values_content (V.contents field.value)) ∷ [] };

@@ -1,5 +1,5 @@
 //! A union whose value is written with it.
-ghost use Rattle.std.specs.Prelude.{Some};
+ghost use Rattle.std.specs.Prelude.{Some, ◌<◌};
 ghost use Rattle.planus_fields.specs.Fields.{AlwaysWritten};
 ghost use Rattle.planus_fields.specs.lemmas.FieldLaws.{left_out_is_lawful};
 ghost use Rattle.planus_fields.specs.lemmas.UnionContentLaws.{always_union_prepared};
@@ -18,6 +18,8 @@ pub struct Variant<const TAG: u8, K, V> {
     pub value: V,
     /// As what it is encoded.
     pub _marker: PhantomData<K>,
+    // The tag 0 is that of no union.
+    ghost is_tagged: { 0 < TAG },
 }
 
 /// Writes a [`Variant`], as `TAG: KIND = VALUE`: its tag, the type as which its value is encoded, and
