@@ -5,7 +5,7 @@ ghost use Rattle.planus_view.specs.declared.copies.CopyError.{CopyError};
 ghost use Rattle.planus_view.specs.Copies.{AreAllConverted, IsRefusal};
 
 use crate::items::Items;
-use crate::view::View;
+use crate::view::ReadView;
 use planus_read::located::Error;
 use std::alloc::{AllocError, Global};
 
@@ -112,7 +112,7 @@ impl<T, E: Into<Error<'static>>, O: FromItem<T>> Conversion<Result<T, E>, O> for
 
 /// Returns all items of the view, converted in order, or the first refusal. Memory for them is
 /// asked for once, before the first is read.
-pub fn copy_items<'n, V: View, O: Drop, C: Conversion<V::Item, O>>(
+pub fn copy_items<'n, V: ReadView, O: Drop, C: Conversion<V::Item, O>>(
     alloc: Global,
     view: &V,
 ) -> Result<Vec<O>, CopyError<'n>>

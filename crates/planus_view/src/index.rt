@@ -5,7 +5,7 @@ ghost use Rattle.std.specs.declared.ops.Bound.{Bound};
 ghost use Rattle.std.specs.declared.ops.Bound.TheVariants.{Included, Excluded, Unbounded};
 ghost use Rattle.planus_view.specs.Indexes.{GetsSubView, GetsItem, start_of, end_of};
 
-use crate::view::View;
+use crate::view::{ReadView, View};
 use std::ops::{Bound, Range, RangeFrom, RangeFull, RangeInclusive, RangeTo, RangeToInclusive};
 
 /// Seals [`ViewIndex`], since no other crate can name it.
@@ -39,7 +39,7 @@ pub trait ViewIndex<V: View>: Sealed {
         ensures { is_there view.now self result };
 }
 
-impl<V: View> ViewIndex<V> for usize {
+impl<V: ReadView> ViewIndex<V> for usize {
     type Output = V::Item;
 
     ghost gets = { λ v i r. GetsItem V.count V.is_item v i r };

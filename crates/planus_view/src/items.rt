@@ -4,7 +4,7 @@ ghost use Rattle.std.specs.Prelude.{◌≡◌, ℕ, ◌+◌, ◌-◌, ◌<◌, �
 ghost use Rattle.std.specs.Iterator.{at_most, UpTo};
 ghost use Rattle.std.specs.Iterator.SizeHint.{IsWithinCount};
 
-use crate::view::View;
+use crate::view::{ReadView, View};
 use std::alloc::AllocError;
 use std::iter::FusedIterator;
 
@@ -55,7 +55,7 @@ impl<V: View> Items<V> {
     }
 }
 
-impl<V: View> Iterator for Items<V> {
+impl<V: ReadView> Iterator for Items<V> {
     type Item = V::Item;
 
     ghost use Rattle.planus_view.specs.ItemsLeft.{count_left, ReadsFirst};
@@ -86,7 +86,7 @@ impl<V: View> Iterator for Items<V> {
     }
 }
 
-impl<V: View> DoubleEndedIterator for Items<V> {
+impl<V: ReadView> DoubleEndedIterator for Items<V> {
     ghost use Rattle.planus_view.specs.ItemsLeft.{ReadsLast};
 
     ghost next_back_gives = { λ s r t. ReadsLast V.is_item s r t };
@@ -102,14 +102,14 @@ impl<V: View> DoubleEndedIterator for Items<V> {
     }
 }
 
-impl<V: View> ExactSizeIterator for Items<V> {
+impl<V: ReadView> ExactSizeIterator for Items<V> {
     #[inline]
     fn len(&self) -> usize {
         self.back - self.front
     }
 }
 
-impl<V: View> FusedIterator for Items<V> {}
+impl<V: ReadView> FusedIterator for Items<V> {}
 
 impl<V: View> Clone for Items<V> {
     ghost use Rattle.planus_view.specs.ItemsLeft.{front_of, back_of, IsLeft};
@@ -128,7 +128,7 @@ impl<V: View> Clone for Items<V> {
     }
 }
 
-impl<V: View> Items<V> {
+impl<V: ReadView> Items<V> {
     ghost use Rattle.planus_view.specs.declared.items.Items.{Items};
     ghost use Rattle.planus_view.specs.ItemsLeft.{front_of, back_of, count_left, IsLeft};
     ghost use Rattle.planus_view.specs.ItemsLeft.{ReadsFirst, ReadsLast};
@@ -137,7 +137,7 @@ impl<V: View> Items<V> {
     /// left.
     #[inline]
     pub fn nth(&mut self, skipped: usize) -> Option<V::Item>
-        ensures { (mid : Items V V.Item V.Copied V.View) × IsLeft self.old
+        ensures { (mid : Items V V.View) × IsLeft self.old
             (front_of self.old + min skipped (count_left self.old)) (back_of self.old) mid
             × ReadsFirst V.is_item mid result self.new }
     {
@@ -149,7 +149,7 @@ impl<V: View> Items<V> {
     /// where none is left.
     #[inline]
     pub fn nth_back(&mut self, skipped: usize) -> Option<V::Item>
-        ensures { (mid : Items V V.Item V.Copied V.View) × IsLeft self.old (front_of self.old)
+        ensures { (mid : Items V V.View) × IsLeft self.old (front_of self.old)
             (back_of self.old - min skipped (count_left self.old)) mid
             × ReadsLast V.is_item mid result self.new }
     {
@@ -160,7 +160,7 @@ impl<V: View> Items<V> {
     /// Returns the last item, or `None` where none is left.
     #[inline]
     pub fn last(mut self) -> Option<V::Item>
-        ensures { (after : Items V V.Item V.Copied V.View) × ReadsLast V.is_item self result after }
+        ensures { (after : Items V V.View) × ReadsLast V.is_item self result after }
     {
         self.next_back()
     }

@@ -24,7 +24,7 @@ pub use sub_views::SubViews;
 pub use union_vector::{UnionSliceView, UnionVector};
 pub use vector::{SliceView, Vector};
 pub use vector_of::VectorOf;
-pub use view::View;
+pub use view::{ReadView, View};
 
 /// Why items can't be copied.
 pub type CopyError = copies::CopyError<'static>;

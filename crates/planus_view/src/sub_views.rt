@@ -160,7 +160,7 @@ impl<V: View, C: Cut> SubViews<V, C> {
     /// is left.
     #[inline]
     pub fn nth(&mut self, skipped: usize) -> Option<V>
-        ensures { (mid : SubViews V C V.Item V.Copied V.View C.Cut) × SkipsFront skipped self.old mid
+        ensures { (mid : SubViews V C V.View C.Cut) × SkipsFront skipped self.old mid
             × TakesFirst mid result self.new }
     {
         self.skip_front(skipped);
@@ -171,7 +171,7 @@ impl<V: View, C: Cut> SubViews<V, C> {
     /// where none is left.
     #[inline]
     pub fn nth_back(&mut self, skipped: usize) -> Option<V>
-        ensures { (mid : SubViews V C V.Item V.Copied V.View C.Cut) × SkipsBack skipped self.old mid
+        ensures { (mid : SubViews V C V.View C.Cut) × SkipsBack skipped self.old mid
             × TakesLast mid result self.new }
     {
         self.skip_back(skipped);
@@ -181,7 +181,7 @@ impl<V: View, C: Cut> SubViews<V, C> {
     /// Returns the last sub-view, or `None` where none is left.
     #[inline]
     pub fn last(mut self) -> Option<V>
-        ensures { (after : SubViews V C V.Item V.Copied V.View C.Cut) × TakesLast self result after }
+        ensures { (after : SubViews V C V.View C.Cut) × TakesLast self result after }
     {
         self.next_back()
     }

@@ -7,7 +7,7 @@ ghost use Rattle.planus_read.specs.Pieces.{slice_bytes};
 use crate::copies::EachRead;
 use crate::item_errors::{AsRead, ItemError};
 use crate::vector_of::VectorOf;
-use crate::view::View;
+use crate::view::{ReadView, View};
 use planus_read::errors::ErrorKind;
 use planus_read::{SliceWithStartOffset, TableReadUnionVector, VectorReadUnion, array_from_buffer};
 use std::alloc::AllocError;
@@ -47,20 +47,13 @@ impl<'buf, T, E> Clone for UnionSliceView<'buf, T, E> {
 
 impl<'buf, T, E> Copy for UnionSliceView<'buf, T, E> {}
 
-impl<'buf, T: VectorReadUnion<'buf>, E: ItemError> View for UnionSliceView<'buf, T, E> {
-    type Item = Result<T, E::Error>;
-
-    type Copied = EachRead;
-
-    ghost use Rattle.planus_view.specs.UnionSliceViews.{IsUnionOf};
+impl<'buf, T, E> View for UnionSliceView<'buf, T, E> {
     ghost use Rattle.planus_view.specs.UnionSliceViews.{union_view, union_count, IsSubUnions};
     ghost use Rattle.planus_view.specs.UnionViews.{sub_view_count, sub_view_twice};
 
     ghost count = { union_count };
 
     ghost is_sub_view = { IsSubUnions };
-
-    ghost is_item = { IsUnionOf T.reads T.name item_method E.keeps };
 
     ghost sub_view_count = { λ v u lo hi is.
         sub_view_count (union_view v) (union_view u) lo hi is };
@@ -82,6 +75,16 @@ impl<'buf, T: VectorReadUnion<'buf>, E: ItemError> View for UnionSliceView<'buf,
             _marker: PhantomData,
         }
     }
+}
+
+impl<'buf, T: VectorReadUnion<'buf>, E: ItemError> ReadView for UnionSliceView<'buf, T, E> {
+    type Item = Result<T, E::Error>;
+
+    type Copied = EachRead;
+
+    ghost use Rattle.planus_view.specs.UnionSliceViews.{IsUnionOf};
+
+    ghost is_item = { IsUnionOf T.reads T.name item_method E.keeps };
 
     #[inline]
     fn item(&self, position: usize) -> Result<T, E::Error> {

@@ -5,7 +5,7 @@ ghost use Rattle.planus_read.specs.Pieces.{slice_bytes};
 
 use crate::copies::{CopyError, EachItem, EachRead, FromItem, copy_items};
 use crate::vector_of::VectorOf;
-use crate::view::View;
+use crate::view::{ReadView, View};
 use planus_read::errors::ErrorKind;
 use planus_read::{
     Error, SliceWithStartOffset, Stride, TableRead, VectorRead, VectorReadInner, array_from_buffer,
@@ -40,20 +40,13 @@ impl<'buf, T: Stride> Clone for SliceView<'buf, T> {
 
 impl<'buf, T: Stride> Copy for SliceView<'buf, T> {}
 
-impl<'buf, T: VectorRead<'buf>> View for SliceView<'buf, T> {
-    type Item = T;
-
-    type Copied = EachItem;
-
-    ghost use Rattle.planus_view.specs.SliceViews.{IsItemOfSlice};
+impl<'buf, T: Stride> View for SliceView<'buf, T> {
     ghost use Rattle.planus_view.specs.SliceViews.{slice_count, slice_view, IsSubSlice};
     ghost use Rattle.planus_view.specs.SubViews.{sub_view_count, sub_view_twice};
 
     ghost count = { slice_count };
 
     ghost is_sub_view = { IsSubSlice T.STRIDE };
-
-    ghost is_item = { IsItemOfSlice T.STRIDE T.gives };
 
     ghost sub_view_count = { λ v u lo hi is.
         sub_view_count T.STRIDE (slice_view v) (slice_view u) lo hi is };
@@ -74,6 +67,16 @@ impl<'buf, T: VectorRead<'buf>> View for SliceView<'buf, T> {
             _marker: PhantomData,
         }
     }
+}
+
+impl<'buf, T: VectorRead<'buf>> ReadView for SliceView<'buf, T> {
+    type Item = T;
+
+    type Copied = EachItem;
+
+    ghost use Rattle.planus_view.specs.SliceViews.{IsItemOfSlice};
+
+    ghost is_item = { IsItemOfSlice T.STRIDE T.gives };
 
     #[inline]
     fn item(&self, position: usize) -> T {

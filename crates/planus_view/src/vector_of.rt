@@ -7,7 +7,7 @@ use crate::cuts::{ByChunks, ByChunksExact, ByRChunks, ByRChunksExact, ByWindows}
 use crate::index::ViewIndex;
 use crate::items::Items;
 use crate::sub_views::SubViews;
-use crate::view::View;
+use crate::view::{ReadView, View};
 use std::alloc::Global;
 use std::fmt;
 
@@ -18,18 +18,11 @@ pub struct VectorOf<V> {
 }
 
 impl<V: View> View for VectorOf<V> {
-    type Item = V::Item;
-
-    type Copied = V::Copied;
-
-    ghost use Rattle.planus_view.specs.Vectors.{IsItemIn};
     ghost use Rattle.planus_view.specs.Vectors.{count_in, IsSubVector};
 
     ghost count = { count_in V.count };
 
     ghost is_sub_view = { IsSubVector V.is_sub_view };
-
-    ghost is_item = { IsItemIn V.is_item };
 
     ghost sub_view_count = { λ v u lo hi is. V.sub_view_count v.view u.view lo hi is };
 
@@ -47,6 +40,16 @@ impl<V: View> View for VectorOf<V> {
             view: self.view.sub_view(lo, hi),
         }
     }
+}
+
+impl<V: ReadView> ReadView for VectorOf<V> {
+    type Item = V::Item;
+
+    type Copied = V::Copied;
+
+    ghost use Rattle.planus_view.specs.Vectors.{IsItemIn};
+
+    ghost is_item = { IsItemIn V.is_item };
 
     #[inline]
     fn item(&self, position: usize) -> V::Item {
@@ -179,7 +182,7 @@ impl<V: View> VectorOf<V> {
     }
 }
 
-impl<V: View> VectorOf<V> {
+impl<V: ReadView> VectorOf<V> {
     ghost use Rattle.planus_view.specs.Indexes.{GetsItem};
     ghost use Rattle.planus_view.specs.Splits.{FirstAndRest, LastAndRest, LastItem};
     ghost use Rattle.planus_view.specs.Vectors.{count_in, IsSubVector, IsItemIn};
@@ -225,7 +228,7 @@ impl<V: View> VectorOf<V> {
     }
 }
 
-impl<V: View> VectorOf<V>
+impl<V: ReadView> VectorOf<V>
 where
     V::Item: Drop,
 {
@@ -247,7 +250,7 @@ where
     }
 }
 
-impl<V: View> IntoIterator for VectorOf<V> {
+impl<V: ReadView> IntoIterator for VectorOf<V> {
     type Item = V::Item;
 
     type IntoIter = Items<VectorOf<V>>;
@@ -262,7 +265,7 @@ impl<V: View> IntoIterator for VectorOf<V> {
     }
 }
 
-impl<V: View> fmt::Debug for VectorOf<V>
+impl<V: ReadView> fmt::Debug for VectorOf<V>
 where
     V::Item: fmt::Debug + Drop,
 {

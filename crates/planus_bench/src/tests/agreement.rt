@@ -11,7 +11,7 @@ use planus::{
     Error, Place, SignedBytes, TaggedPlace, UnionVector, Vector, VectorRead, VectorReadUnion,
 };
 use planus_read::errors::ErrorKind;
-use planus_view::{Items, VectorOf, View};
+use planus_view::{Items, ReadView, VectorOf};
 
 // A position in bytes. The piece that is read begins at another one, and the bytes themselves begin
 // at some offset in their buffer.
@@ -95,7 +95,7 @@ pub fn same_number<T: Into<i128>>(read: Answer<T>, plain: Option<i128>) -> bool 
 }
 
 // What is read as a field of a table.
-pub(super) trait Field: Copy {
+pub trait Field: Copy {
     // Whether an answer is that of the plain reader.
     fn agrees(read: Answer<Self>, spot: Spot<'_>) -> bool;
 }
@@ -183,7 +183,7 @@ impl<'a, T: VectorRead<'a> + Item> Field for Vector<'a, T> {
 }
 
 // What is read as an item of a vector.
-pub(super) trait Item: Copy {
+pub trait Item: Copy {
     // Whether it is what the plain reader reads, where the tag of a union is at the first position.
     fn is_at(&self, tag: i128, spot: Spot<'_>) -> bool;
 }
@@ -276,7 +276,7 @@ impl<'a> PlainItems<'a> {
 
 // Whether an item is that of the plain vector by its position and from the front, and another one
 // from the back. One that is taken from the front is read in the piece that begins with it.
-fn three_agree<V: View>(
+fn three_agree<V: ReadView>(
     vector: VectorOf<V>,
     front: &mut Items<VectorOf<V>>,
     back: &mut Items<VectorOf<V>>,
@@ -292,7 +292,7 @@ where
 }
 
 // The same of all items.
-fn all_agree<V: View>(
+fn all_agree<V: ReadView>(
     vector: VectorOf<V>,
     front: &mut Items<VectorOf<V>>,
     back: &mut Items<VectorOf<V>>,
@@ -312,7 +312,7 @@ where
 
 // Whether the items of a vector are those of the plain one by each way to come to them: by their
 // position, from the front, and from the back.
-fn items_agree<V: View>(vector: VectorOf<V>, plain: PlainItems<'_>) -> bool
+fn items_agree<V: ReadView>(vector: VectorOf<V>, plain: PlainItems<'_>) -> bool
 where
     V::Item: Item,
 {
@@ -324,7 +324,7 @@ where
 }
 
 // What is read as a union field of a table, or as an item of a vector of unions.
-pub(super) trait Union: Copy {
+pub trait Union: Copy {
     // Whether an answer for this tag is that of the plain reader.
     fn agrees(read: Answer<Self>, tag: u8, spot: Spot<'_>) -> bool;
 
@@ -375,7 +375,7 @@ fn union_is<T: Union>(item: Result<T, Error>, tag: i128, spot: Spot<'_>) -> bool
 }
 
 // What is read as a field of two slots.
-pub(super) trait UnionField: Copy {
+pub trait UnionField: Copy {
     // Whether an answer is that of the plain reader, where the tags are at the first position.
     fn agrees(read: Answer<Self>, tags: i128, spot: Spot<'_>) -> bool;
 }

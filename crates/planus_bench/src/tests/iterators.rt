@@ -6,7 +6,7 @@ ghost use Rattle.std.specs.Prelude.{◌<◌};
 use planus::{Error, SliceWithStartOffset, TableRead, TaggedPlace, UnionVector, Vector};
 use planus_read::TableReadUnionVector;
 use planus_view::{
-    ByChunks, ByChunksExact, ByRChunks, ByRChunksExact, ByWindows, Cut, Items, SubViews, View,
+    ByChunks, ByChunksExact, ByRChunks, ByRChunksExact, ByWindows, Cut, Items, ReadView, SubViews,
 };
 use std::process::Abort;
 
@@ -21,7 +21,7 @@ const UNIONS: [u8; 48] = [
 ];
 
 // A view whose items tell their position in the whole, counted from 1.
-trait Numbered: View {
+trait Numbered: ReadView {
     fn number(item: Option<Self::Item>) -> Option<i128>;
 }
 

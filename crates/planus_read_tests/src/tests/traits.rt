@@ -73,7 +73,7 @@ fn stride<T: Stride>() -> usize {
     T::stride()
 }
 
-fn vector_name<'buf, T: VectorReadUnion<'buf>>() -> &'static str {
+fn vector_name<'buf, 'n, T: VectorReadUnion<'buf>>() -> &'n str {
     T::vector_name()
 }
 

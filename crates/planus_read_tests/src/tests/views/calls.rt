@@ -1,6 +1,6 @@
 //! Every call of a vector, over any view.
 
-use planus_view::{Cut, SubViews, VectorOf, View};
+use planus_view::{Cut, ReadView, SubViews, VectorOf, View};
 
 // How many items a split leaves.
 fn rest_of<A: Drop, V: View>(split: Option<(A, VectorOf<V>)>) -> Option<usize> {
@@ -11,7 +11,7 @@ fn rest_of<A: Drop, V: View>(split: Option<(A, VectorOf<V>)>) -> Option<usize> {
 }
 
 // Whether the calls of the items agree with `len` items.
-pub fn item_calls_agree<V: View>(v: VectorOf<V>, len: usize) -> bool
+pub fn item_calls_agree<V: ReadView>(v: VectorOf<V>, len: usize) -> bool
 where
     V::Item: Drop,
 {

@@ -16,10 +16,10 @@ loop-item-preserved g c =
       back = step.2.back_is ∙ was.back;
       room = omega (arith, was.room, c.in-Ok.ensures.capacity);
       converted =
-          let this : ItemConverts g.V.View.is_sub_view g.V.View.is_item g.C.Conversion.gives
+          let this : ItemConverts g.V.View.is_sub_view g.V.ReadView.is_item g.C.Conversion.gives
           view n (length done) (Ok c.in_ok-copy.copy) =
           (step.1.0, c.in-Some.item, left, step.1.2, c.in_ok-copy.ensures) in
           rw c.in-Ok.ensures.items
-          (one_more g.V.View.is_sub_view g.V.View.is_item g.C.Conversion.gives view n done
+          (one_more g.V.View.is_sub_view g.V.ReadView.is_item g.C.Conversion.gives view n done
           c.in_ok-copy.copy was.converted this);
     }

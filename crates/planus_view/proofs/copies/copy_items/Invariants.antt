@@ -10,6 +10,6 @@ invariant-loop-item g l = record {
   front : front_of l.item-iterator ≡ length l.copies.items;
   back : back_of l.item-iterator ≡ g.V.View.count l.fn.view;
   room : g.V.View.count l.fn.view ≤ vec_capacity l.copies;
-  converted : AreFirstConverted g.V.View.is_sub_view g.V.View.is_item g.C.Conversion.gives
+  converted : AreFirstConverted g.V.View.is_sub_view g.V.ReadView.is_item g.C.Conversion.gives
       l.fn.view (g.V.View.count l.fn.view) l.copies.items;
 }
