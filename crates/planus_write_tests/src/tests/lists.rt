@@ -1,7 +1,5 @@
 //! Lists of numbers, truth values and texts.
 
-ghost use Rattle.planus_write.specs.Preparing.{AllMay};
-
 use super::{calls_in_builder, finishes, in_builder, prepared};
 use crate::tests::check;
 use planus_write::{
@@ -14,7 +12,7 @@ use std::test::Fail;
 // Whether a list of the items, of which only the bound is known, is finished as these bytes. The
 // builder is empty afterwards.
 fn list_is<P: Primitive, T: VectorWrite<P>>(builder: &mut Builder, items: &[T], want: &[u8]) -> bool
-    requires { AllMay T.may items.now builder.old }
+    requires { T.all_may items.now builder.old }
 {
     let same = match builder.create_vector::<P, &[T]>(items) {
         Ok(list) => match builder.finish(list, None) {
