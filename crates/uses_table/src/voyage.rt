@@ -19,9 +19,11 @@ ghost use Rattle.planus_write.specs.InBuilder.{IsIn, AllIn, AllUnionsIn};
 ghost use Rattle.planus_tables.specs.Contents.{WritesContents};
 ghost use Rattle.uses_table.specs.Voyages.{voyage_contents};
 
-use crate::owner::Owner;
+use crate::owner::{Owner, OwnerRef};
 use crate::ship::Ship;
-use planus_tables::{OrDefault, TableKind, create_table, fields};
+use planus_read::Result;
+use planus_tables::{OrDefault, TableKind, TableRef, create_table, fields};
+use planus_view::UnionVector;
 use planus_write::{BuildError, Builder, List, Offset, TableWriter, Text, UnionOffset};
 
 /// The kind of a voyage, and of an offset to one.
@@ -144,6 +146,22 @@ impl Voyage {
             41: i8 = voyage.trim,
         ];
         create_table::<Voyage, _>(builder, fields)
+    }
+
+    /// Returns the owner of a voyage that is read, or `None` where there is none.
+    pub fn owner<'a>(voyage: &TableRef<'a, Voyage>) -> Result<Option<OwnerRef<'a>>> {
+        voyage
+            .table
+            .access_union::<OwnerRef<'a>>(17, "Voyage", "owner")
+    }
+
+    /// Returns who has shares of it, or `None` where nothing is said of it.
+    pub fn shares<'a>(
+        voyage: &TableRef<'a, Voyage>,
+    ) -> Result<Option<UnionVector<'a, OwnerRef<'a>>>> {
+        voyage
+            .table
+            .access_union_vector::<UnionVector<'a, OwnerRef<'a>>>(19, "Voyage", "shares")
     }
 }
 

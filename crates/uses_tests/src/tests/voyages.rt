@@ -1,8 +1,8 @@
 //! Voyages, tables of forty fields, are written and read back.
 use super::in_builder;
-use planus_read::{ReadAsRoot, TableRead, VectorRead};
+use planus_read::{ReadAsRoot, Result, TableRead};
 use planus_tables::TableRef;
-use planus_view::{UnionVector, Vector};
+use planus_view::Vector;
 use planus_write::{BuildError, Builder, UnionOffset};
 use uses_table::{Owner, OwnerRef, Ship, Voyage, VoyageFields};
 
@@ -47,39 +47,32 @@ fn has_narrow_numbers(voyage: &TableRef<'_, Voyage>) -> bool {
 }
 
 fn has_texts(voyage: &TableRef<'_, Voyage>) -> bool {
-    reads::<&str>(voyage, 4, "Home")
-        && reads::<&str>(voyage, 5, "Jason")
-        && matches!(voyage.table.access::<&str>(6, "Voyage", "note"), Ok(None))
-        && reads::<&str>(voyage, 7, "Iolcus")
+    matches!(
+        voyage.table.access::<&str>(4, "Voyage", "name"),
+        Ok(Some("Home"))
+    ) && matches!(
+        voyage.table.access::<&str>(5, "Voyage", "captain"),
+        Ok(Some("Jason"))
+    ) && matches!(voyage.table.access::<&str>(6, "Voyage", "note"), Ok(None))
+        && matches!(
+            voyage.table.access::<&str>(7, "Voyage", "flag"),
+            Ok(Some("Iolcus"))
+        )
 }
 
-// Whether a slot is read as a vector that ends in this number, or as none.
-fn ends_in<'a, T: VectorRead<'a> + PartialEq + Copy>(
-    voyage: &TableRef<'a, Voyage>,
-    slot: usize,
-    last: Option<T>,
-) -> bool {
-    match voyage
+fn legs<'a>(voyage: &TableRef<'a, Voyage>) -> Result<Option<Vector<'a, u32>>> {
+    voyage.table.access::<Vector<'a, u32>>(8, "Voyage", "legs")
+}
+
+fn fares<'a>(voyage: &TableRef<'a, Voyage>) -> Result<Option<Vector<'a, u16>>> {
+    voyage
         .table
-        .access::<Vector<'a, T>>(slot, "Voyage", "field")
-    {
-        Ok(Some(items)) => items.last() == last,
-        Ok(None) => last.is_none(),
-        Err(_) => false,
-    }
+        .access::<Vector<'a, u16>>(13, "Voyage", "fares")
 }
 
 fn has_lists(voyage: &TableRef<'_, Voyage>) -> bool {
-    let ports = voyage
-        .table
-        .access::<Vector<'_, planus_read::Result<&str>>>(14, "Voyage", "ports");
-    ends_in::<u32>(voyage, 8, Some(30))
-        && ends_in::<u16>(voyage, 9, None)
-        && ends_in::<u32>(voyage, 10, Some(41))
-        && ends_in::<u32>(voyage, 11, None)
-        && ends_in::<u16>(voyage, 12, Some(52))
-        && ends_in::<u16>(voyage, 13, Some(60))
-        && matches!(ports, Ok(Some(ports)) if matches!(ports.last(), Some(Ok("Colchis"))))
+    matches!(legs(voyage), Ok(Some(legs)) if legs.len() == 3)
+        && matches!(fares(voyage), Ok(Some(fares)) if fares.len() == 1)
 }
 
 fn is_argo(ship: &TableRef<'_, Ship>) -> bool {
@@ -92,25 +85,27 @@ fn has_ships(voyage: &TableRef<'_, Voyage>) -> bool {
         .access::<TableRef<'_, Ship>>(15, "Voyage", "ship");
     let consorts = voyage
         .table
-        .access::<Vector<'_, planus_read::Result<TableRef<'_, Ship>>>>(16, "Voyage", "consorts");
+        .access::<Vector<'_, Result<TableRef<'_, Ship>>>>(16, "Voyage", "consorts");
     matches!(ship, Ok(Some(ship)) if is_argo(&ship))
         && matches!(consorts, Ok(Some(ships)) if matches!(ships.get(1), Some(Ok(ship)) if is_argo(&ship)))
 }
 
 fn has_owners(voyage: &TableRef<'_, Voyage>) -> bool {
-    let owner = voyage
-        .table
-        .access_union::<OwnerRef<'_>>(17, "Voyage", "owner");
-    let shares = voyage
-        .table
-        .access_union_vector::<UnionVector<'_, OwnerRef<'_>>>(19, "Voyage", "shares");
-    matches!(owner, Ok(Some(OwnerRef::Name("Pelias"))))
-        && matches!(shares, Ok(Some(shares)) if matches!(shares.get(1), Some(Ok(OwnerRef::Ship(_)))))
+    match Voyage::shares(voyage) {
+        Ok(Some(shares)) => match shares.last() {
+            Some(Ok(OwnerRef::Ship(ship))) => {
+                is_argo(&ship)
+                    && matches!(Voyage::owner(voyage), Ok(Some(OwnerRef::Name("Pelias"))))
+            }
+            _ => false,
+        },
+        _ => false,
+    }
 }
 
 // Whether the root is the voyage that is written.
 fn is_voyage(bytes: &[u8]) -> bool {
-    let voyage: Result<TableRef<'_, Voyage>, _> = ReadAsRoot::read_as_root(bytes);
+    let voyage: Result<TableRef<'_, Voyage>> = ReadAsRoot::read_as_root(bytes);
     match voyage {
         Ok(voyage) => {
             has_wide_numbers(&voyage)
@@ -124,7 +119,7 @@ fn is_voyage(bytes: &[u8]) -> bool {
     }
 }
 
-fn a_voyage_is_read(builder: &mut Builder) -> Result<bool, BuildError> {
+fn a_voyage_is_read(builder: &mut Builder) -> std::result::Result<bool, BuildError> {
     let argo = Ship::create(builder, "Argo", 100, None)?;
     let text = builder.create_string("Pelias")?;
     let owner: UnionOffset<Owner> = UnionOffset::new(1, text.downcast());
