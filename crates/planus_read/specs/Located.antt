@@ -29,3 +29,9 @@ abbrev pub OrDefault :
     {A : Type 0} → A → (Result (Option A) ErrorKind → Type 0) → Result A ErrorKind → Type 0
 OrDefault default answers (Ok x) = answers (Ok (Some x)) ⊎ (answers (Ok None) × (x ≡ default))
 OrDefault default answers (Err e) = answers (Err e)
+
+-- the error that a required field is missing, at this location
+abbrev pub IsMissing : {A : Type 0} → List ℕ → List ℕ → ℕ → Result A Error → Type 0
+IsMissing {A} type_ method offset (Ok x) = ⊥
+IsMissing {A} type_ method offset (Err e) =
+    (e.error_kind ≡ MissingRequired) × IsLocation e.source_location type_ method offset

@@ -4,6 +4,7 @@ pub mod ReadBack
 pub mod ReadKinds
 pub mod Finished
 pub mod ReadVectors
+pub mod ReadItems
 pub mod ReadUnions
 pub mod Steps
 pub mod RefusedTables

@@ -7,8 +7,8 @@ use Rattle.planus_read.specs.declared.located.Error.{Error}
 use Rattle.planus_read.specs.declared.table_reader.Table.{Table}
 use Rattle.planus_read.specs.Bytes.{position_of}
 use Rattle.planus_read.specs.Clauses.{Answer, shown}
-use Rattle.planus_read.specs.Located.{Located, Required, OrDefault}
-use Rattle.planus_read.specs.Reading.{table_reading}
+use Rattle.planus_read.specs.Located.{Located, Required, OrDefault, IsMissing}
+use Rattle.planus_read.specs.Reading.{table_reading, Leads}
 use Rattle.planus_read.specs.Stands.{at, FieldStands, ReferenceStands}
 use Rattle.planus_read.specs.TableReading.{FieldRead}
 use Rattle.planus_read.specs.Tables.{Reads, FieldAnswer}
@@ -137,13 +137,12 @@ module _ (B : List ℕ) where
       (λ same. hold.1) (λ differs. holds_at contents fields parts.1 hold.2 slot))
 
   -- A table is read where a reference leads to it.
-  pub table_read : {K : Type 0} (contents : List (ℕ × Option Content)) (distance : ℕ)
-      → TableStands B contents distance → (start f : ℕ) → ReferenceStands B (start + f) distance
-      → (r : Result (TableRef K) ErrorKind)
+  pub table_led : {K : Type 0} (contents : List (ℕ × Option Content)) (distance : ℕ)
+      → TableStands B contents distance → (start f : ℕ)
+      → Leads B (start + f) (position_of B distance) → (r : Result (TableRef K) ErrorKind)
       → Answer (shown (ShowsView (drop start B) start) (table_reading (drop start B) f)) r
       → IsOkAnd r (λ view. TableHolds B contents view.table)
-  table_read {K} contents distance stands start f referred (Ok view) h =
-      let leads = references_lead B (start + f) distance referred in
+  table_led {K} contents distance stands start f leads (Ok view) h =
       let read = what_stands_reads_back B (at (position_of B distance)) (table stands.fields) tt
       stands.stands start f leads in
       λ slot. record {
@@ -152,11 +151,19 @@ module _ (B : List ℕ) where
         fields = read.fields (Ok view.table) h;
         holds = holds_at contents stands.fields stands.apart stands.hold slot;
       }
-  table_read {K} contents distance stands start f referred (Err e) h =
-      let leads = references_lead B (start + f) distance referred in
+  table_led {K} contents distance stands start f leads (Err e) h =
       let read = what_stands_reads_back B (at (position_of B distance)) (table stands.fields) tt
       stands.stands start f leads in
       read.fields (Err e) h
+
+  pub table_read : {K : Type 0} (contents : List (ℕ × Option Content)) (distance : ℕ)
+      → TableStands B contents distance → (start f : ℕ) → ReferenceStands B (start + f) distance
+      → (r : Result (TableRef K) ErrorKind)
+      → Answer (shown (ShowsView (drop start B) start) (table_reading (drop start B) f)) r
+      → IsOkAnd r (λ view. TableHolds B contents view.table)
+  table_read {K} contents distance stands start f referred r h =
+      table_led {K = K} contents distance stands start f
+      (references_lead B (start + f) distance referred) r h
 
 pub references_read_back : {K : Type 0} → ReferencesReadBack K
 references_read_back {K} B start f contents distance stands referred r h =
@@ -240,7 +247,18 @@ module _ {X T : Type 0} (reads : Reads T) (May : List ℕ → X → Type 0) (con
       or_default B read slot x default holds may type_ method offset (Err e) h =
           slot_read B read slot x holds may (Err e.error_kind) h.0
 
--- A slot that holds nothing is read as none, or as the default.
+-- What must be there, and is only answered as none, is missing.
+pub missing : {T : Type 0} (answers : Result (Option T) ErrorKind → Type 0)
+    → ((r : Result (Option T) ErrorKind) → answers r → r ≡ Ok None)
+    → (type_ method : List ℕ) (offset : ℕ) (r : Result T Error)
+    → Located (Required answers) type_ method offset r → IsMissing type_ method offset r
+missing answers none type_ method offset (Ok found) h =
+    let same = none (Ok (Some found)) h in (cc)
+missing answers none type_ method offset (Err e) (inl h, located) =
+    let same = none (Err e.error_kind) h in (cc)
+missing answers none type_ method offset (Err e) (inr h, located) = (h.1, located)
+
+-- A slot that holds nothing is read as none, as missing, or as the default.
 module _ {T : Type 0} (reads : Reads T) where
   none_read : (B : List ℕ) (k : ℕ) (field : Option Field) → FieldHoldsIf B None field
       → (r : Result (Option T) ErrorKind) → FieldRead reads B k field r → r ≡ Ok None
@@ -254,7 +272,11 @@ module _ {T : Type 0} (reads : Reads T) where
       ((fields_read reads B holds.position holds.entries read holds.fields slot).0 r h)
 
   pub absent_fields_read_back : AbsentFieldsReadBack reads
-  absent_fields_read_back = record { optional = optional; or_default = or_default }
+  absent_fields_read_back = record {
+    optional = optional;
+    required = λ B read slot holds. missing (FieldAnswer reads read slot) (absent_read B read slot holds);
+    or_default = or_default;
+  }
     where
       optional : (B : List ℕ) (read : Table) (slot : ℕ) → SlotHolds B read slot None
           → (type_ method : List ℕ) (offset : ℕ) (r : Result (Option T) Error)

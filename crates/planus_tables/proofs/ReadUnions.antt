@@ -32,7 +32,8 @@ use Rattle.planus_tables.specs.ReadUnions.{IsReference, ReadsUnion, UnionsReadBa
 use Rattle.planus_tables.specs.ReadUnions.{AreNewUnions, OffsetUnionVectorsReadBack}
 use Rattle.planus_tables.specs.ReadUnions.{UnionVectorSlotsReadBack, NewUnionVectorsReadBack}
 use Rattle.planus_tables.specs.ReadUnions.{UnionsStand, WrittenUnionVectorsReadBack}
-use Rattle.planus_tables.specs.ReadUnions.{AbsentUnionVectorsReadBack}
+use Rattle.planus_tables.specs.ReadUnions.{AbsentUnionVectorsReadBack, MissingUnionVectorsAreErrors}
+use Rattle.planus_tables.proofs.ReadBack.{missing}
 
 -- A table that was read has two neighbouring fields, which hold these in B.
 record HasBoth (B : List ℕ) (read : Table) (slot : ℕ) (first second : Content) : Type 0 where
@@ -169,7 +170,13 @@ module _ {T : Type 0} (reads : ReadsBoth T) where
       (neither B read slot holds next_holds)).0 r h
 
   pub unions_read_back : UnionsReadBack reads
-  unions_read_back = record { optional = optional; required = required; absent = absent }
+  unions_read_back = record {
+    optional = optional;
+    required = required;
+    absent = absent;
+    missing = λ B read slot holds next_holds.
+        missing (UnionAnswer reads read slot) (absent_read B read slot holds next_holds);
+  }
     where
       optional : (B : List ℕ) (read : Table) (slot tag : ℕ) (content : Content) → tag ≢ 0
           → tag < 256 → IsReference content
@@ -381,3 +388,7 @@ module _ (T E : Type 0) where
       let none = absent_vector_read B read slot holds next_holds (Ok found) h in (cc)
   absent_union_vectors_read_back B read slot holds next_holds type_ method offset (Err e) h =
       let none = absent_vector_read B read slot holds next_holds (Err e.error_kind) h.0 in (cc)
+
+  pub missing_union_vectors_are_errors : MissingUnionVectorsAreErrors T E
+  missing_union_vectors_are_errors B read slot holds next_holds =
+      missing (UnionVectorAnswer reads_unions read slot) (absent_vector_read B read slot holds next_holds)

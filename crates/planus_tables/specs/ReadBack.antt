@@ -6,17 +6,18 @@ use Rattle.planus_read.specs.declared.located.Error.{Error}
 use Rattle.planus_read.specs.declared.table_reader.Table.{Table}
 use Rattle.planus_read.specs.Bytes.{position_of}
 use Rattle.planus_read.specs.Clauses.{Answer, shown}
-use Rattle.planus_read.specs.Located.{Located, Required, OrDefault}
+use Rattle.planus_read.specs.Located.{Located, Required, OrDefault, IsMissing}
 use Rattle.planus_read.specs.Reading.{table_reading}
 use Rattle.planus_read.specs.Stands.{Stands, at, at_both, ReferenceStands}
 use Rattle.planus_read.specs.TableReading.{HasFields}
 use Rattle.planus_read.specs.Tables.{Reads, FieldAnswer}
 use Rattle.planus_read.specs.Values.{Value, Field, plain, reference, tags, values as values_field}
 use Rattle.planus_read.specs.Values.{reference_list, union_vector, table, field_at}
-use Rattle.planus_write.specs.Finishing.{FinishGives}
+use Rattle.planus_write.specs.Finishing.{FinishGives, SizedFinishGives}
 use Rattle.planus_write.specs.Past.{Past}
 use Rattle.planus_write.specs.Preparing.{IsPrepared}
-use Rattle.planus_write.specs.State.{State, IsPast}
+use Rattle.planus_write.specs.Placing.{Outcome}
+use Rattle.planus_write.specs.State.{State, IsPast, Extends}
 use Rattle.planus_write.specs.declared.offset.Offset.{Offset}
 use Rattle.planus_write.specs.Contents.{Content, item, value, values, written, union_tags}
 use Rattle.planus_write.specs.Contents.{union_values, written_tags, written_values}
@@ -123,7 +124,34 @@ KeptTablesStand =
     → TableIsKept past contents distance → IsTrue (are_apart contents)
     → TableStands past.written.bytes contents distance
 
--- So does one in what a finish of it gives, and the reference at the front leads to it.
+-- One that is kept stays so, whatever the builder writes later.
+abbrev pub KeptTablesStay : Type 0
+KeptTablesStay =
+    (before after : Past) (contents : List (ℕ × Option Content)) (distance : ℕ)
+    → Extends before after → TableIsKept before contents distance
+    → TableIsKept after contents distance
+
+-- It stands in the bytes that a finish gives, whatever the root of that is: one that may be prepared
+-- so, and is by this outcome.
+abbrev pub FinishesKeepTables : {X T : Type 0} → (X → State → Type 0) → (X → Outcome (Offset T))
+    → Type 0
+FinishesKeepTables {X} may outcome =
+    (contents : List (ℕ × Option Content)) (past : Past) (state : State) (distance : ℕ) (root : X)
+    (identifier : Option (List ℕ)) (bytes : List ℕ) → IsPast state past
+    → TableIsKept past contents distance → IsTrue (are_apart contents) → may root state
+    → FinishGives (outcome root) identifier state bytes → TableStands bytes contents distance
+
+-- So it does in the bytes that a finish with the size in front gives, and in those behind the size.
+abbrev pub SizedFinishesKeepTables : {X T : Type 0} → (X → State → Type 0)
+    → (X → Outcome (Offset T)) → Type 0
+SizedFinishesKeepTables {X} may outcome =
+    (contents : List (ℕ × Option Content)) (past : Past) (state : State) (distance : ℕ) (root : X)
+    (identifier : Option (List ℕ)) (bytes : List ℕ) → IsPast state past
+    → TableIsKept past contents distance → IsTrue (are_apart contents) → may root state
+    → SizedFinishGives (outcome root) identifier state bytes
+    → TableStands bytes contents distance × TableStands (drop 4 bytes) contents distance
+
+-- A table that is the root of a finish stands in the bytes, and the reference at the front leads to it.
 abbrev pub FinishedTablesStand : Type 0 → Type 0
 FinishedTablesStand T =
     (contents : List (ℕ × Option Content)) (past : Past) (state : State) (offset : Offset T)
@@ -132,7 +160,19 @@ FinishedTablesStand T =
     → offset.distance ≤ length state.bytes → FinishGives (IsPrepared offset) identifier state bytes
     → TableStands bytes contents offset.distance × ReferenceStands bytes 0 offset.distance
 
--- It is read by each reference that leads to it, with all its contents.
+-- One that is the root of a finish with the size in front stands in the bytes behind the size, and the
+-- reference at the front of these leads to it.
+abbrev pub SizedFinishedTablesStand : Type 0 → Type 0
+SizedFinishedTablesStand T =
+    (contents : List (ℕ × Option Content)) (past : Past) (state : State) (offset : Offset T)
+    (identifier : Option (List ℕ)) (bytes : List ℕ) → IsPast state past
+    → TableIsKept past contents offset.distance → IsTrue (are_apart contents)
+    → offset.distance ≤ length state.bytes
+    → SizedFinishGives (IsPrepared offset) identifier state bytes
+    → TableStands (drop 4 bytes) contents offset.distance
+    × ReferenceStands (drop 4 bytes) 0 offset.distance
+
+-- A table is read by each reference that leads to it, with all its contents.
 abbrev pub ReferencesReadBack : Type 0 → Type 0
 ReferencesReadBack K =
     (B : List ℕ) (start f : ℕ) (contents : List (ℕ × Option Content)) (distance : ℕ)
@@ -184,12 +224,18 @@ pub record ContentsReadBack {X T : Type 0} (reads : Reads T) (May : List ℕ →
       → Located (OrDefault default (FieldAnswer reads read slot)) type_ method offset r
       → IsOkAnd r (IsRead B x)
 
--- What they return at a slot that holds nothing: none, or the default.
+-- What they return at a slot that holds nothing: none, the error that a required field is missing, at
+-- the location of the call, or the default.
 pub record AbsentFieldsReadBack {T : Type 0} (reads : Reads T) : Type 0 where
   pub optional :
       (B : List ℕ) (read : Table) (slot : ℕ) → SlotHolds B read slot None
       → (type_ method : List ℕ) (offset : ℕ) (r : Result (Option T) Error)
       → Located (FieldAnswer reads read slot) type_ method offset r → r ≡ Ok None
+  pub required :
+      (B : List ℕ) (read : Table) (slot : ℕ) → SlotHolds B read slot None
+      → (type_ method : List ℕ) (offset : ℕ) (r : Result T Error)
+      → Located (Required (FieldAnswer reads read slot)) type_ method offset r
+      → IsMissing type_ method offset r
   pub or_default :
       (B : List ℕ) (read : Table) (slot : ℕ) (default : T) → SlotHolds B read slot None
       → (type_ method : List ℕ) (offset : ℕ) (r : Result T Error)

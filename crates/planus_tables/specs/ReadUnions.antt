@@ -7,7 +7,7 @@ use Rattle.planus_read.specs.declared.located.Error.{Error}
 use Rattle.planus_read.specs.declared.table_reader.Table.{Table}
 use Rattle.planus_read.specs.Bytes.{position_of}
 use Rattle.planus_read.specs.Clauses.{Answer, shown}
-use Rattle.planus_read.specs.Located.{Located, Required}
+use Rattle.planus_read.specs.Located.{Located, Required, IsMissing}
 use Rattle.planus_read.specs.Reading.{union_vector_reading}
 use Rattle.planus_read.specs.Stands.{Stands, at_both, ReferenceStands}
 use Rattle.planus_read.specs.TableReading.{SomeOf}
@@ -65,6 +65,12 @@ pub record UnionsReadBack {T : Type 0} (reads : ReadsBoth T) : Type 0 where
       → SlotHolds B read (slot + 1) None
       → (type_ method : List ℕ) (offset : ℕ) (r : Result (Option T) Error)
       → Located (UnionAnswer reads read slot) type_ method offset r → r ≡ Ok None
+  pub missing :
+      (B : List ℕ) (read : Table) (slot : ℕ) → SlotHolds B read slot None
+      → SlotHolds B read (slot + 1) None
+      → (type_ method : List ℕ) (offset : ℕ) (r : Result T Error)
+      → Located (Required (UnionAnswer reads read slot)) type_ method offset r
+      → IsMissing type_ method offset r
 
 -- what a vector of unions is answered with
 abbrev pub reads_unions : {T E : Type 0} → ReadsBoth (VectorOf (UnionSliceView T E))
@@ -136,3 +142,12 @@ AbsentUnionVectorsReadBack T E =
     → SlotHolds B read (slot + 1) None
     → (type_ method : List ℕ) (offset : ℕ) (r : Result (Option (VectorOf (UnionSliceView T E))) Error)
     → Located (UnionVectorAnswer reads_unions read slot) type_ method offset r → r ≡ Ok None
+
+-- One that must be there is missing then.
+abbrev pub MissingUnionVectorsAreErrors : (T E : Type 0) → Type 0
+MissingUnionVectorsAreErrors T E =
+    (B : List ℕ) (read : Table) (slot : ℕ) → SlotHolds B read slot None
+    → SlotHolds B read (slot + 1) None
+    → (type_ method : List ℕ) (offset : ℕ) (r : Result (VectorOf (UnionSliceView T E)) Error)
+    → Located (Required (UnionVectorAnswer reads_unions read slot)) type_ method offset r
+    → IsMissing type_ method offset r

@@ -1,17 +1,25 @@
 -- What is read of the vectors of a table that was written, in the words of what its slots hold.
-use Rattle.std.specs.Prelude.{◌≡◌, ℕ, List, drop, ⊤}
+use Rattle.std.specs.Borrow.{Bor}
+use Rattle.std.specs.Prelude.{◌≡◌, ℕ, ◌*◌, List, length, drop, map, slice_get, Option, Some, Result}
+use Rattle.std.specs.Prelude.{IsOkAnd, ⊤}
+use Rattle.std.specs.Str.{IsUtf8}
+use Rattle.planus_read.specs.declared.located.Error.{Error}
 use Rattle.planus_read.specs.declared.traits.Stride.{Ghosts as StrideGhosts}
 use Rattle.planus_read.specs.Clauses.{Answer, shown}
-use Rattle.planus_read.specs.Reading.{vector_reading}
+use Rattle.planus_read.specs.Located.{Located}
+use Rattle.planus_read.specs.Pieces.{ShowsBytes}
+use Rattle.planus_read.specs.Reading.{vector_reading, text_reading, table_reading}
 use Rattle.planus_read.specs.ReadsBack.{PlainReads, ReferenceReads}
 use Rattle.planus_read.specs.Tables.{Reads}
-use Rattle.planus_read.specs.Values.{Value, plain_list, reference_list}
+use Rattle.planus_read.specs.Values.{Value, text, plain_list, reference_list}
 use Rattle.planus_view.specs.ReadBack.{IsVectorOf}
-use Rattle.planus_view.specs.VectorView.{ShowsVector}
+use Rattle.planus_view.specs.VectorView.{ShowsVector, view_of, count_of}
 use Rattle.planus_view.specs.declared.vector.SliceView.{SliceView}
 use Rattle.planus_view.specs.declared.vector_of.VectorOf.{VectorOf}
-use Rattle.planus_write.specs.Contents.{value, values}
-use Rattle.planus_tables.specs.ReadBack.{AllStand, ContentsReadBack}
+use Rattle.planus_write.specs.Contents.{Content, value, values}
+use Rattle.planus_tables.specs.ReadBack.{AllStand, ContentsReadBack, TableStands, TableHolds}
+use Rattle.planus_tables.specs.Views.{ShowsView}
+use Rattle.planus_tables.specs.declared.table_ref.TableRef.{TableRef}
 
 module _ {T : Type 0} (stride : StrideGhosts T) where
   -- what a vector is answered with
@@ -52,3 +60,49 @@ module _ {T : Type 0} (stride : StrideGhosts T) where
       → ContentsReadBack {X = List Value} reads_vector (λ B contents. ⊤) values
       (λ B contents vector. (distances : List ℕ) × AllStand B contents distances
       × AreReferences B distances vector)
+
+  -- The item at a position of a vector is read over these bytes, from this start and at this offset.
+  abbrev pub item_bytes : VectorOf (SliceView T stride) → List ℕ
+  item_bytes vector = (view_of vector).bytes
+
+  abbrev pub item_offset : ℕ → ℕ
+  item_offset i = i * stride.STRIDE
+
+  -- The vector has as many items as these texts are, and each of them that is UTF-8 is read as the
+  -- item at its position, whatever location an error would have.
+  pub record ItemsAreTexts (texts : List (List ℕ)) (vector : VectorOf (SliceView T stride)) : Type 0
+    where
+      pub count : count_of vector ≡ length texts
+      pub item :
+          (i : ℕ) (bytes : List ℕ) → slice_get texts i ≡ Some bytes → IsUtf8 bytes
+          → (type_ method : List ℕ) (offset : ℕ) (r : Result (Bor (List ℕ)) Error)
+          → Located (Answer (shown ShowsBytes (text_reading (item_bytes vector) (item_offset i))))
+          type_ method offset r
+          → IsOkAnd r (λ found. found.now ≡ bytes)
+
+  -- So it is of a vector of references to texts that stand in B.
+  abbrev pub TextItemsReadBack : Type 0
+  TextItemsReadBack =
+      (B : List ℕ) (texts : List (List ℕ)) (distances : List ℕ) (vector : VectorOf (SliceView T stride))
+      → AllStand B (map text texts) distances → AreReferences B distances vector
+      → ItemsAreTexts texts vector
+
+  -- The vector has as many items as these distances are, and where a table with some contents stands
+  -- at one of them, the item at its position is read as a view with these contents.
+  pub record ItemsAreTables (K : Type 0) (B distances : List ℕ) (vector : VectorOf (SliceView T stride))
+      : Type 0 where
+    pub count : count_of vector ≡ length distances
+    pub item :
+        (i distance : ℕ) (contents : List (ℕ × Option Content))
+        → slice_get distances i ≡ Some distance → TableStands B contents distance
+        → (type_ method : List ℕ) (offset : ℕ) (r : Result (TableRef K) Error)
+        → Located (Answer (shown (ShowsView (item_bytes vector) (view_of vector).start)
+        (table_reading (item_bytes vector) (item_offset i))))
+        type_ method offset r
+        → IsOkAnd r (λ view. TableHolds B contents view.table)
+
+  -- So it is of a vector of references to tables that stand in B.
+  abbrev pub TableItemsReadBack : Type 0 → Type 0
+  TableItemsReadBack K =
+      (B distances : List ℕ) (vector : VectorOf (SliceView T stride))
+      → AreReferences B distances vector → ItemsAreTables K B distances vector
