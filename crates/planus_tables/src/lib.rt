@@ -7,6 +7,7 @@ mod field_chain;
 mod field_parts;
 mod fields;
 pub mod laws;
+mod lines;
 mod or_default;
 mod prepared_fields;
 mod required;

@@ -1,1 +1,3 @@
+pub mod LeftOut
+pub mod Vectors
 pub mod Causes

@@ -20,7 +20,11 @@ ReadsCause S start tag f (Err e) =
     ⊎ ((tag ≡ 2) × reads_view Origin S start f (Err e))
     ⊎ ((tag ≢ 1) × (tag ≢ 2) × (e ≡ UnknownUnionTag tag))
 
--- it is an origin with these contents in B
-abbrev pub IsOrigin : List ℕ → List (ℕ × Option Content) → CauseRef → Type 0
-IsOrigin B contents (cause.Origin view) = TableHolds B contents view.table
-IsOrigin B contents (cause.Entry view) = ⊥
+-- a tag that a cause has
+abbrev pub IsCauseTag : ℕ → Type 0
+IsCauseTag tag = (tag ≡ 1) ⊎ (tag ≡ 2)
+
+-- it is what the tag says, with these contents in B
+abbrev pub IsCause : List ℕ → List (ℕ × Option Content) → ℕ → CauseRef → Type 0
+IsCause B contents tag (cause.Entry view) = (tag ≡ 1) × TableHolds B contents view.table
+IsCause B contents tag (cause.Origin view) = (tag ≡ 2) × TableHolds B contents view.table

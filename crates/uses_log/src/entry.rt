@@ -7,27 +7,34 @@
 //! }
 //! ```
 
-ghost use Rattle.std.specs.Prelude.{◌≡◌, ◌≤◌, List as list, ℕ, length, codes, IfOk, MatchOption, ⊤};
-ghost use Rattle.std.specs.Prelude.{Option as option, Some, IsSomeAnd};
+ghost use Rattle.std.specs.Prelude.{◌≡◌, ◌<◌, ◌≤◌, ◌^◌, ◌==◌, List as list, ℕ, length, map, codes};
+ghost use Rattle.std.specs.Prelude.{IfOk, MatchOption, ⊤, Option as option, Some, None, IsSomeAnd};
+ghost use Rattle.std.specs.Borrow.{Bor};
 ghost use Rattle.std.specs.Result.{IsOkAnd};
 ghost use Rattle.std.specs.Str.{IsUtf8};
 ghost use Rattle.planus_write.specs.InBuilder.{IsIn, AllIn};
 ghost use Rattle.planus_write.specs.State.{Grows};
 ghost use Rattle.planus_write.specs.Contents.{Content};
+ghost use Rattle.planus_fields.specs.Contents.{unless};
 ghost use Rattle.planus_tables.specs.Contents.{WritesContents};
-ghost use Rattle.planus_tables.specs.Holds.{holds_text, holds_union_tag, holds_union_value};
-ghost use Rattle.planus_tables.specs.ReadBack.{SlotHolds, TableStands};
+ghost use Rattle.planus_tables.specs.Holds.{holds_u64, holds_u16, holds_u8, holds_text, holds_texts};
+ghost use Rattle.planus_tables.specs.Holds.{holds_offset, holds_offsets};
+ghost use Rattle.planus_tables.specs.Holds.{holds_union_tag, holds_union_value};
+ghost use Rattle.planus_tables.specs.ReadBack.{SlotHolds, TableStands, TableHolds};
+ghost use Rattle.planus_tables.specs.ReadVectors.{ItemsAreTexts, ItemsAreTables};
+ghost use Rattle.planus_write.specs.declared.offset.Offset.{Offset};
 ghost use Rattle.planus_write.specs.declared.union_offset.UnionOffset.{UnionOffset};
 ghost use Rattle.uses_log.specs.declared.cause.Cause.{Cause};
-ghost use Rattle.uses_log.specs.Causes.{IsOrigin};
+ghost use Rattle.uses_log.specs.declared.origin.Origin.{Origin};
+ghost use Rattle.uses_log.specs.Causes.{IsCauseTag, IsCause};
 ghost use Rattle.uses_log.specs.Entries.{entry_contents};
 
 use crate::cause::{Cause, CauseRef};
 use crate::level::Level;
 use crate::origin::{Origin, OriginRef};
 use planus::{
-    BuildError, Builder, List, Offset, OrDefault, Result, TableKind, TableRef, TableWriter, Text,
-    UnionOffset, Vector, create_table, fields,
+    BuildError, Builder, List, Offset, OrDefault, Result, Stride, TableKind, TableRef, TableWriter,
+    Text, UnionOffset, Vector, create_table, fields,
 };
 use planus_tables::laws;
 
@@ -84,12 +91,22 @@ impl Entry {
     }
 
     /// Returns when it was, 0 where nothing is said of it.
-    pub fn at(entry: &EntryRef<'_>) -> Result<u64> {
+    pub fn at(entry: &EntryRef<'_>) -> Result<u64>
+        ensures read_back { (B : list ℕ) (at : ℕ) → at < 2 ^ 64
+            → SlotHolds B entry.now.table 0 (holds_u64 at) → IsOkAnd result (λ read. read ≡ at) }
+    {
+        laws::fields_read_back();
         Ok(entry.table.access::<u64>(0, "Entry", "at")?.unwrap_or(0))
     }
 
     /// Returns how often it was tried again, 3 where nothing is said of it.
-    pub fn retries(entry: &EntryRef<'_>) -> Result<u16> {
+    pub fn retries(entry: &EntryRef<'_>) -> Result<u16>
+        ensures read_back { (B : list ℕ) (retries : ℕ) → retries < 65536
+            → SlotHolds B entry.now.table 1 (unless (retries == 3) (holds_u16 retries))
+            → IsOkAnd result (λ read. read ≡ retries) }
+    {
+        laws::fields_read_back();
+        laws::absent_fields_read_back::<u16>();
         Ok(
             entry
                 .table
@@ -107,28 +124,52 @@ impl Entry {
         entry.table.access_required::<&str>(2, "Entry", "text")
     }
 
-    /// Returns its tags, or `None` where there are none.
-    pub fn tags<'a>(entry: &EntryRef<'a>) -> Result<Option<Vector<'a, Result<&'a str>>>> {
+    /// Returns its tags, or `None` where there are none. Where the entry holds texts as its tags,
+    /// they are the vector of these.
+    pub fn tags<'a>(entry: &EntryRef<'a>) -> Result<Option<Vector<'a, Result<&'a str>>>>
+        ensures read_back { (B : list ℕ) (tags : list (Bor (list ℕ)))
+            → SlotHolds B entry.now.table 3 (holds_texts (λ tag. tag.now) tags)
+            → IsOkAnd result (λ found. IsSomeAnd found (ItemsAreTexts
+            ⟦<Result<&'a str> as Stride>⟧ (map (λ tag. tag.now) tags))) }
+    {
+        laws::vectors_read_back::<Result<&'a str>>();
+        laws::items_read_back::<Result<&'a str>, Entry>();
         entry
             .table
             .access::<Vector<'a, Result<&'a str>>>(3, "Entry", "tags")
     }
 
-    /// Returns where it comes from, or `None` where nothing is said of it.
-    pub fn origin<'a>(entry: &EntryRef<'a>) -> Result<Option<OriginRef<'a>>> {
+    /// Returns where it comes from, or `None` where nothing is said of it. Where the entry refers to
+    /// an origin that stands in the bytes, it is that origin.
+    pub fn origin<'a>(entry: &EntryRef<'a>) -> Result<Option<OriginRef<'a>>>
+        ensures read_back { (B : list ℕ) (contents : list (ℕ × option Content))
+            (origin : Offset Origin)
+            → SlotHolds B entry.now.table 4 (holds_offset origin.distance)
+            → TableStands B contents origin.distance
+            → IsOkAnd result (λ found. IsSomeAnd found (λ view.
+            TableHolds B contents view.table)) }
+        ensures left_out { (B : list ℕ) → SlotHolds B entry.now.table 4 None
+            → result ≡ Ok None }
+    {
+        laws::tables_read_back::<Origin>();
+        laws::absent_fields_read_back::<OriginRef<'a>>();
         entry.table.access::<OriginRef<'a>>(4, "Entry", "origin")
     }
 
-    /// Returns why it is there, or `None` where nothing is said of it. Where the entry holds an
-    /// origin that stands in the bytes, it is that origin.
+    /// Returns why it is there, or `None` where nothing is said of it. Where the entry holds the
+    /// tag of a cause and refers to a table that stands in the bytes, it is that entry or that
+    /// origin.
     pub fn cause<'a>(entry: &EntryRef<'a>) -> Result<Option<CauseRef<'a>>>
         ensures read_back { (B : list ℕ) (contents : list (ℕ × option Content))
-            (cause : UnionOffset Cause) → cause.tag ≡ 2
+            (cause : UnionOffset Cause) → IsCauseTag cause.tag
             → SlotHolds B entry.now.table 5 (holds_union_tag (Some cause))
             → SlotHolds B entry.now.table 6 (holds_union_value (Some cause))
             → TableStands B contents cause.offset.distance
-            → IsOkAnd result (λ cause. IsSomeAnd cause (IsOrigin B contents)) }
+            → IsOkAnd result (λ found. IsSomeAnd found (IsCause B contents cause.tag)) }
+        ensures left_out { (B : list ℕ) → SlotHolds B entry.now.table 5 None
+            → SlotHolds B entry.now.table 6 None → result ≡ Ok None }
     {
+        laws::views_read_back::<Entry>();
         laws::views_read_back::<Origin>();
         laws::unions_read_back::<CauseRef<'a>>();
         entry
@@ -136,15 +177,29 @@ impl Entry {
             .access_union::<CauseRef<'a>>(5, "Entry", "cause")
     }
 
-    /// Returns the entries that it follows, or `None` where there are none.
-    pub fn parents<'a>(entry: &EntryRef<'a>) -> Result<Option<Vector<'a, Result<EntryRef<'a>>>>> {
+    /// Returns the entries that it follows, or `None` where there are none. Where the entry refers
+    /// to entries, they are the vector of these.
+    pub fn parents<'a>(entry: &EntryRef<'a>) -> Result<Option<Vector<'a, Result<EntryRef<'a>>>>>
+        ensures read_back { (B : list ℕ) (parents : list (Offset Entry))
+            → SlotHolds B entry.now.table 7 (holds_offsets parents)
+            → IsOkAnd result (λ found. IsSomeAnd found (ItemsAreTables
+            ⟦<Result<EntryRef<'a>> as Stride>⟧ Entry B
+            (map (λ parent. parent.distance) parents))) }
+    {
+        laws::vectors_read_back::<Result<EntryRef<'a>>>();
+        laws::items_read_back::<Result<EntryRef<'a>>, Entry>();
         entry
             .table
             .access::<Vector<'a, Result<EntryRef<'a>>>>(7, "Entry", "parents")
     }
 
     /// Returns how grave it is, `Info` where nothing is said of it.
-    pub fn level(entry: &EntryRef<'_>) -> Result<Level> {
+    pub fn level(entry: &EntryRef<'_>) -> Result<Level>
+        ensures read_back { (B : list ℕ) (level : ℕ) → level < 256
+            → SlotHolds B entry.now.table 8 (holds_u8 level)
+            → IsOkAnd result (λ read. read.0 ≡ level) }
+    {
+        laws::fields_read_back();
         Ok(Level(entry.table.access::<u8>(8, "Entry", "level")?.unwrap_or(0)))
     }
 }
