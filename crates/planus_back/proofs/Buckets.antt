@@ -1,4 +1,4 @@
--- Maps from hashes to distances, as lists.
+-- Maps from the numbers of buckets to distances, as lists.
 use Rattle.std.proofs.Common.{◌≡◌, ℕ, ◌++◌, List, [], ◌∷◌, Option, Some, None, subst, nat_eq, Bool, true, false, cond, refl, ap, sym, ◌∙◌, Result, Ok, Err}
 use Rattle.std.specs.Result.{OnErr, OnOk}
 use Rattle.std.specs.Option.{option_map, unwrap_or, MatchOption}

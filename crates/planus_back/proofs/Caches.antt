@@ -11,7 +11,8 @@ use Rattle.std.specs.declared.alloc.AllocError.{AllocError}
 use mathlib.Core.Logic.{◌≢◌}
 use Rattle.planus_back.specs.CacheKeys.{key_at}
 use Rattle.planus_back.specs.declared.bucket.Bucket.{Bucket}
-use Rattle.planus_back.specs.Caches.{Held, Has, Fits, bucket, cut_hash}
+use Rattle.planus_back.specs.Numbers.{number_of}
+use Rattle.planus_back.specs.Caches.{Held, Has, Fits, bucket}
 use Rattle.planus_back.specs.Caches.{IsEmpty, Adds, FitsWhereKeyStands, FitsWhereItsKeyStands, IsBucketOf, IsFound}
 use Rattle.planus_back.specs.Buckets.{distances_in, lists_of, AddsAt, FoundAmong}
 use Rattle.planus_back.proofs.Buckets.{lookup-listed}
@@ -32,7 +33,7 @@ was_held s h None e k below = grind (arith, below)
 was_held s h (Some ds) e k below = (h, ds, e, k, below, refl)
 
 was_fitting : (key_in : List ℕ → Option (List ℕ)) (s : Held) (bytes : List ℕ) (h : ℕ) (o : Option (List ℕ)) → bucket s h ≡ o → Fits key_in s bytes
-    → (k : ℕ) → k < length (unwrap_or o []) → (key : List ℕ) × (key_at key_in bytes (get_or (unwrap_or o []) k 0) ≡ Some key) × (cut_hash s.mask key ≡ h)
+    → (k : ℕ) → k < length (unwrap_or o []) → (key : List ℕ) × (key_at key_in bytes (get_or (unwrap_or o []) k 0) ≡ Some key) × (number_of s.choice key ≡ h)
 unfolding Fits
 was_fitting key_in s bytes h None e fits k below = grind (arith, below)
 was_fitting key_in s bytes h (Some ds) e fits k below = fits h ds e k below
@@ -75,15 +76,15 @@ module _ (s t : Held) (h d : ℕ) (adds : AddsAt s.buckets h d t.buckets) where
     ],
   )
 
-  pub Fits-from : (key_in : List ℕ → Option (List ℕ)) (key : List ℕ) → t.mask ≡ s.mask → cut_hash s.mask key ≡ h → FitsWhereKeyStands key_in s key d t
+  pub Fits-from : (key_in : List ℕ → Option (List ℕ)) (key : List ℕ) → t.choice ≡ s.choice → number_of s.choice key ≡ h → FitsWhereKeyStands key_in s key d t
   unfolding Fits
-  Fits-from key_in key mask cut bytes fits stands q ds b k below = rw mask (
+  Fits-from key_in key same_choice belongs bytes fits stands q ds b k below = rw same_choice (
       elim (eqb_tells h q) [
         | inl w ↦ (
             let is : ds ≡ before ++ d ∷ [] = same_list q ds w.1 b in
             elim (cases_lt k (length before)) [
               | inl lt ↦ (let x = was_fitting key_in s bytes h (bucket s h) refl fits k lt in (x.0, grind (arith, common_steps, is, lt, x.1), x.2 ∙ w.1))
-              | inr le ↦ (key, grind (arith, common_steps, is, le, below, stands), cut ∙ w.1)
+              | inr le ↦ (key, grind (arith, common_steps, is, le, below, stands), belongs ∙ w.1)
             ]
             )
         | inr w ↦ fits q ds (sym (elsewhere q w.1) ∙ b) k below
@@ -105,45 +106,45 @@ Fits-empty key_in s bytes empty h ds b k below = absurd (empty (get_or ds k 0) (
 
 -- an empty bucket: the key stands at no distance
 pub none_in_bucket : (key_in : List ℕ → Option (List ℕ)) (s : Held) (bytes key : List ℕ) → Fits key_in s bytes
-    → ((ds : List ℕ) → bucket s (cut_hash s.mask key) ≡ Some ds → (k : ℕ) → k < length ds → key_at key_in bytes (get_or ds k 0) ≢ Some key)
+    → ((ds : List ℕ) → bucket s (number_of s.choice key) ≡ Some ds → (k : ℕ) → k < length ds → key_at key_in bytes (get_or ds k 0) ≢ Some key)
     → (d : ℕ) → Has s d → key_at key_in bytes d ≢ Some key
 unfolding Fits Has
 none_in_bucket key_in s bytes key fits none d x stands =
     let f = fits x.0 x.1 x.2 x.3 x.4 in
     let at : key_at key_in bytes (get_or x.1 x.3 0) ≡ Some key = rw x.5 stands in
     let same : f.0 ≡ key = grind (arith, at, f.1) in
-    let h : x.0 ≡ cut_hash s.mask key = sym f.2 ∙ ap (cut_hash s.mask) same in
+    let h : x.0 ≡ number_of s.choice key = sym f.2 ∙ ap (number_of s.choice) same in
     none x.1 (rw (← h) x.2) x.3 x.4 at
 
 -- what the scan of the key's bucket answers is the answer for the set
 pub found_in_bucket : (key_in : List ℕ → Option (List ℕ)) (s : Held) (bytes key ds : List ℕ) (r : Option ℕ) → Fits key_in s bytes
-    → bucket s (cut_hash s.mask key) ≡ Some ds → FoundAmong key_in ds bytes key r → IsFound key_in s bytes key r
+    → bucket s (number_of s.choice key) ≡ Some ds → FoundAmong key_in ds bytes key r → IsFound key_in s bytes key r
 unfolding Has
 found_in_bucket key_in s bytes key ds None fits b found =
     none_in_bucket key_in s bytes key fits (λ es b' k below. let e : es ≡ ds = grind (arith, b, b') in rw e (found k (rw (← e) below)))
-found_in_bucket key_in s bytes key ds (Some d) fits b found = ((cut_hash s.mask key, ds, b, found.0.0, found.0.1, found.0.2), found.1)
+found_in_bucket key_in s bytes key ds (Some d) fits b found = ((number_of s.choice key, ds, b, found.0.0, found.0.1, found.0.2), found.1)
 
 -- the same at the end of a call, where the cache was opened as s
 pub insert_adds : (s t old : Held) (h d : ℕ) (r : Result (Unit {0}) AllocError) → s ≡ old → OnOk r (AddsAt s.buckets h d t.buckets) → OnOk r (Adds old d t)
 insert_adds s t old h d (Ok x) e adds = rw (← e) (Adds-from s t h d adds)
 insert_adds s t old h d (Err x) e adds = tt
 
-pub insert_fits : (key_in : List ℕ → Option (List ℕ)) (s t old : Held) (b : Bucket) (d : ℕ) (r : Result (Unit {0}) AllocError) → s ≡ old → t.mask ≡ s.mask
-    → OnOk r (AddsAt s.buckets b.hash d t.buckets) → OnOk r (FitsWhereItsKeyStands key_in old b d t)
+pub insert_fits : (key_in : List ℕ → Option (List ℕ)) (s t old : Held) (b : Bucket) (d : ℕ) (r : Result (Unit {0}) AllocError) → s ≡ old → t.choice ≡ s.choice
+    → OnOk r (AddsAt s.buckets b.number d t.buckets) → OnOk r (FitsWhereItsKeyStands key_in old b d t)
 unfolding IsBucketOf
-insert_fits key_in s t old b d (Ok x) e mask adds = λ key is. rw (← e) (Fits-from s t b.hash d adds key_in key mask (ap (λ held. cut_hash held.mask key) e ∙ sym is))
-insert_fits key_in s t old b d (Err x) e mask adds = tt
+insert_fits key_in s t old b d (Ok x) e same_choice adds = λ key is. rw (← e) (Fits-from s t b.number d adds key_in key same_choice (ap (λ held. number_of held.choice key) e ∙ sym is))
+insert_fits key_in s t old b d (Err x) e same_choice adds = tt
 
 module _ (key_in : List ℕ → Option (List ℕ)) (es : List (ℕ × Distances)) (s old : Held) (b : Bucket) (bytes key : List ℕ) (opened : s ≡ old) (is : s.buckets ≡ lists_of es)
     (its : IsBucketOf old key b) (fits : Fits key_in old bytes) where
-  at_bucket : (o : Option Distances) → lookup (nat_eq b.hash) es ≡ o → bucket old (cut_hash old.mask key) ≡ option_map distances_in o
+  at_bucket : (o : Option Distances) → lookup (nat_eq b.number) es ≡ o → bucket old (number_of old.choice key) ≡ option_map distances_in o
   unfolding IsBucketOf
-  at_bucket o e = rw (← its, ← opened, is, ← e) (lookup-listed (nat_eq b.hash) es)
+  at_bucket o e = rw (← its, ← opened, is, ← e) (lookup-listed (nat_eq b.number) es)
 
-  pub got_some : (v : Distances) (r : Option ℕ) → lookup (nat_eq b.hash) es ≡ Some v → FoundAmong key_in (distances_in v) bytes key r → IsFound key_in old bytes key r
+  pub got_some : (v : Distances) (r : Option ℕ) → lookup (nat_eq b.number) es ≡ Some v → FoundAmong key_in (distances_in v) bytes key r → IsFound key_in old bytes key r
   got_some v r e found = found_in_bucket key_in old bytes key (distances_in v) r fits (at_bucket (Some v) e) found
 
-  pub got_none : lookup (nat_eq b.hash) es ≡ None → IsFound key_in old bytes key None
+  pub got_none : lookup (nat_eq b.number) es ≡ None → IsFound key_in old bytes key None
   got_none e = none_in_bucket key_in old bytes key fits (λ ds there. absurd (none_is_not_some ds (sym (at_bucket None e) ∙ there)))
 
 -- at each distance of the cache a key stands

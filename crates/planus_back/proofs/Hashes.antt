@@ -3,7 +3,7 @@ use Rattle.std.proofs.Common.{◌≡◌, ℕ, ℤ, zero, suc, ◌+◌, ◌<◌, 
 use Rattle.std.proofs.lemmas.Grind.{common_steps}
 use Rattle.std.proofs.lemmas.List.{take-append-drop, drop_more}
 use Rattle.std.specs.Int.{w64, from_le_bytes}
-use Rattle.planus_back.specs.Caches.{number_with, number_on, hash_with, hash_on}
+use Rattle.planus_back.specs.Hashes.{number_with, number_on, hash_with, hash_on}
 
 -- eight bytes at once
 pub word_more : (one two three four last : ℕ) (word rest : List ℕ) → length word ≡ 8 → hash_on one two three four last (word ++ rest) ≡ hash_on two three four (hash_with one (from_le_bytes w64 word)) last rest

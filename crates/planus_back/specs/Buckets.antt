@@ -1,4 +1,4 @@
--- What a cache does with the distances at one cut hash.
+-- What a cache does with the distances in its buckets.
 use Rattle.std.specs.Prelude.{◌≡◌, ℕ, ◌<◌, ◌++◌, List, [], ◌∷◌, map, length, slice_index, Option}
 use Rattle.std.specs.Prelude.{Some, MatchOption, box_value, nat_eq, cond, unwrap_or}
 use Rattle.std.specs.Map.{lookup}
@@ -16,11 +16,11 @@ distances_in (More distances) = (box_value distances).items
 abbrev pub lists_of : List (ℕ × Distances) → List (ℕ × List ℕ)
 lists_of entries = map (λ entry. (entry.0, distances_in entry.1)) entries
 
--- the distance is added at the end of the list at this hash, and nothing else changes
+-- the distance is added at the end of those in the bucket of this number, and nothing else changes
 abbrev pub AddsAt : List (ℕ × List ℕ) → ℕ → ℕ → List (ℕ × List ℕ) → Type 0
-AddsAt old hash distance new =
+AddsAt old number distance new =
     (other : ℕ) → lookup (nat_eq other) new
-    ≡ cond (nat_eq hash other) (Some (unwrap_or (lookup (nat_eq hash) old) [] ++ distance ∷ []))
+    ≡ cond (nat_eq number other) (Some (unwrap_or (lookup (nat_eq number) old) [] ++ distance ∷ []))
     (lookup (nat_eq other) old)
 
 -- one of the distances, at which the key stands, or none where there is none

@@ -10,6 +10,8 @@ pub mod Blocks
 pub mod BackView
 pub mod Pairs
 pub mod CacheKeys
+pub mod Hashes
+pub mod Numbers
 pub mod Caches
 pub mod Handing
 pub mod Cells

@@ -5,5 +5,5 @@
 #[derive(Clone, Copy)]
 pub struct Bucket {
     // The hash of its keys, cut by the cache's mask.
-    pub(crate) hash: u64,
+    pub(crate) number: u64,
 }

@@ -35,7 +35,7 @@ impl<C> Model for Cache<C> {
 
     ghost Value = { Held };
 
-    ghost view = { λ a. record { mask = a.hash_mask; buckets = lists_of a.buckets.entries } };
+    ghost view = { λ a. record { choice = a.hash_mask; buckets = lists_of a.buckets.entries } };
 }
 
 /// The first of the distances at which the key stands.
@@ -111,12 +111,12 @@ impl<C: GetCacheKey> Cache<C> {
     }
 
     // Where the distances of a key in whatever form are.
-    #[tactic(auto, unfolding(crate::specs::Caches::IsBucketOf))]
+    #[tactic(auto, unfolding(crate::specs::Caches::IsBucketOf, crate::specs::Numbers::number_of))]
     fn bucket_by<K: Key>(&self, key: &K) -> Bucket
         ensures { IsBucketOf self.now (K.bytes_of key.now) result }
     {
         Bucket {
-            hash: key.hash() & self.hash_mask,
+            number: key.hash() & self.hash_mask,
         }
     }
 
@@ -126,7 +126,7 @@ impl<C: GetCacheKey> Cache<C> {
         requires bucket { IsBucketOf self.now (K.bytes_of key.now) bucket }
         ensures { IsFound C.key_in self.now serialized.now (K.bytes_of key.now) result }
     {
-        match self.buckets.get(&bucket.hash) {
+        match self.buckets.get(&bucket.number) {
             Some(distances) => find::<C, K>(distances, serialized, key),
             None => None,
         }
@@ -195,6 +195,6 @@ impl<C: GetCacheKey> Cache<C> {
             (FitsWhereItsKeyStands C.key_in self.old bucket distance self.new) }
         ensures err { OnErr result (self.new ≡ self.old) }
     {
-        add(&mut self.buckets, self.alloc, bucket.hash, distance)
+        add(&mut self.buckets, self.alloc, bucket.number, distance)
     }
 }

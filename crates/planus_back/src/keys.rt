@@ -1,7 +1,7 @@
 //! What is looked for in a cache: bytes, as they are or as signed numbers.
 ghost use Rattle.std.specs.Prelude.{◌≡◌, ◌↔◌, ℕ, List, map, IsTrue};
 ghost use Rattle.std.specs.Int.{w8, w64, cast_unsigned, from_le_bytes};
-ghost use Rattle.planus_back.specs.Caches.{number_with, hash_with, last_number, hash_of};
+ghost use Rattle.planus_back.specs.Hashes.{number_with, hash_with, last_number, hash_of};
 
 /// What a hash is multiplied by: an odd number whose bits have no order.
 const FACTOR: u64 = 11400714819323198485;

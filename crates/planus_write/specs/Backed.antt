@@ -26,24 +26,27 @@ abbrev pub PutsBytes : List ℕ → Backed → Backed → Type 0
 PutsBytes bytes old new =
     new ≡ record old { bytes = bytes ++ old.bytes; room = old.room - length bytes }
 
--- There is room for a part of that size and for the padding behind it, and nothing else changed.
--- The padding is the least, and what is planned describes the promises with that of the part.
-pub record Plans (size alignment : ℕ) (old : Backed) (plan : Plan) (new : Backed) : Type 0 where
-  pub unchanged : new ≡ record old { room = new.room }
-  pub more : old.room ≤ new.room
-  pub enough : plan.padding + size ≤ new.room
-  pub as_was : plan.padding + size ≤ old.room → new.room ≡ old.room
-  pub is_place : plan.place ≡ length old.bytes + plan.padding + size
+-- A part of that size is planned. The padding behind it is the least, and what is planned describes
+-- the promises with that of the part.
+pub record Plans (size alignment : ℕ) (backed : Backed) (plan : Plan) : Type 0 where
+  pub is_place : plan.place ≡ length backed.bytes + plan.padding + size
   pub fits : plan.place ≤ greatest_place
   pub below : plan.padding < alignment
-  pub least : (promises : List Promise) → DescribedBy old promises
-      → IsLeastPadding (length old.bytes) promises size alignment plan.padding
-  pub kept : (promises : List Promise) → DescribedBy old promises
+  pub least : (promises : List Promise) → DescribedBy backed promises
+      → IsLeastPadding (length backed.bytes) promises size alignment plan.padding
+  pub kept : (promises : List Promise) → DescribedBy backed promises
       → greatest_alignment 1 promises ≤ alignment
       → Keep (promise_of plan.place alignment ∷ promises) plan.place
-  pub described : (promises : List Promise) → DescribedBy old promises
+  pub described : (promises : List Promise) → DescribedBy backed promises
       → Describes plan.place plan.promises.delayed plan.promises.mask
       (promise_of plan.place alignment ∷ promises)
+
+-- There is room for so many bytes, and nothing else changed.
+pub record Enlarges (n : ℕ) (old new : Backed) : Type 0 where
+  pub unchanged : new ≡ record old { room = new.room }
+  pub more : old.room ≤ new.room
+  pub enough : n ≤ new.room
+  pub as_was : n ≤ old.room → new.room ≡ old.room
 
 -- The padding was written, and the promise made.
 abbrev pub Pads : Plan → Backed → Backed → Type 0
@@ -84,10 +87,16 @@ LacksRoom size alignment old TooLarge = (promises : List Promise) → DescribedB
 LacksRoom size alignment old OutOfMemory = (promises : List Promise) → DescribedBy old promises
     → ExceedsRoom (length old.bytes) old.room size alignment promises
 
--- Room for a part of that size and alignment was planned, or it was refused.
-abbrev pub Reserves : ℕ → ℕ → Backed → Result Plan BuildError → Backed → Type 0
-Reserves size alignment old (Ok plan) new = Plans size alignment old plan new
-Reserves size alignment old (Err error) new = (new ≡ old) × LacksRoom size alignment old error
+-- A part of that size and alignment was planned, or it is too large.
+abbrev pub PlansPart : ℕ → ℕ → Backed → Result Plan BuildError → Type 0
+PlansPart size alignment backed (Ok plan) = Plans size alignment backed plan
+PlansPart size alignment backed (Err error) =
+    (error ≡ TooLarge) × LacksRoom size alignment backed TooLarge
+
+-- Room for so many bytes was made, or memory was refused for them.
+abbrev pub Reserves : ℕ → Backed → Result (Unit {0}) BuildError → Backed → Type 0
+Reserves n old (Ok done) new = Enlarges n old new
+Reserves n old (Err error) new = (error ≡ OutOfMemory) × (new ≡ old) × (old.room < n)
 
 -- Room was made for a part of that size and alignment, at the place that is answered, or it was
 -- refused.

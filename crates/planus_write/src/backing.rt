@@ -11,8 +11,8 @@ use std::marker::Model;
 /// One less than the alignment of a count or a reference.
 pub(crate) const WORD_MASK: usize = 3;
 
-/// The place of a part and the padding behind it, for both of which there is room, and the promises
-/// that are made once it stands there.
+/// The place of a part and the padding behind it, and the promises that are made once it stands
+/// there.
 #[derive(Drop)]
 pub(crate) struct Plan {
     pub(crate) promises: Promises,
@@ -41,7 +41,8 @@ impl Model for Backing {
 }
 
 impl Backing {
-    ghost use Rattle.planus_write.specs.Backed.{DescribedBy, PutsBytes, Reserves, Pads, Begins};
+    ghost use Rattle.planus_write.specs.Backed.{DescribedBy, PutsBytes, PlansPart, Reserves};
+    ghost use Rattle.planus_write.specs.Backed.{Pads, Begins};
 
     // No bytes, and room for so many.
     pub(crate) fn with_capacity(alloc: Global, capacity: usize) -> Result<Backing, AllocError>
@@ -92,21 +93,31 @@ impl Backing {
         self.promises = Promises::new();
     }
 
-    // Room for a part of `size` bytes and for the padding behind it. Nothing else is changed.
+    // The place of a part of `size` bytes and the padding behind it, if it isn't too large. No
+    // memory is asked for.
     #[inline]
-    pub(crate) fn reserve(&mut self, size: usize, mask: usize) -> Result<Plan, BuildError>
+    pub(crate) fn plan_part(&self, size: usize, mask: usize) -> Result<Plan, BuildError>
         requires power { IsPowerOfTwo (mask + 1) }
         requires bound { mask + 1 ≤ 2 ^ 30 }
-        ensures { Reserves size (mask + 1) self.old result self.new }
+        ensures { PlansPart size (mask + 1) self.now result }
     {
         let len = self.inner.len();
         let (promises, padding) = self.promises.request(len, size, mask)?;
-        self.inner.reserve(padding + size)?;
         Ok(Plan {
             promises,
             padding,
             place: (len + padding + size) as u32,
         })
+    }
+
+    // Room for `n` more bytes, in memory that is asked for where they don't fit. Nothing else is
+    // changed.
+    #[inline]
+    pub(crate) fn reserve(&mut self, n: usize) -> Result<(), BuildError>
+        ensures { Reserves n self.old result self.new }
+    {
+        self.inner.reserve(n)?;
+        Ok(())
     }
 
     // The padding behind a part that is planned, and the promise of its place.
@@ -127,7 +138,8 @@ impl Backing {
         requires bound { mask + 1 ≤ 2 ^ 30 }
         ensures { Begins size (mask + 1) self.old result self.new }
     {
-        let plan = self.reserve(size, mask)?;
+        let plan = self.plan_part(size, mask)?;
+        self.reserve(plan.padding + size)?;
         self.pad(&plan);
         Ok(plan.place)
     }

@@ -117,7 +117,8 @@ pub(crate) fn find_or_reserve<C: GetCacheKey, L: ByteItems>(
     if let Some(distance) = sharing.find(bucket, backing.as_slice(), contents) {
         return Ok(Lookup::Found(distance));
     }
-    let plan = backing.reserve(size, mask)?;
+    let plan = backing.plan_part(size, mask)?;
+    backing.reserve(plan.padding + size)?;
     sharing.keep(bucket, plan.place)?;
     backing.pad(&plan);
     Ok(Lookup::Reserved(plan.place))

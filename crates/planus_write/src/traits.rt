@@ -32,7 +32,9 @@ pub trait Primitive: Sized {
     /// Its first byte stands at a multiple of this number of bytes from the start of a buffer.
     const ALIGNMENT: usize;
 
-    /// One less than [`Primitive::ALIGNMENT`].
+    /// A name for one less than [`Primitive::ALIGNMENT`], and no more than a name: no contract says
+    /// its value, nothing here reads it, and nothing is said of an implementation that gives
+    /// another one. What is promised of an alignment is promised of [`Primitive::ALIGNMENT`].
     const ALIGNMENT_MASK: usize = Self::ALIGNMENT - 1;
 
     /// Its size in bytes.

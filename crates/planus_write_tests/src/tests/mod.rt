@@ -1,3 +1,6 @@
+ghost use Rattle.std.specs.Prelude.{◌≡◌};
+ghost use Rattle.std.specs.Int.{w32, to_le_bytes};
+
 mod back;
 mod caches;
 mod fields;
@@ -9,6 +12,7 @@ mod texts;
 mod unions;
 mod writes;
 
+use planus_back::{Fill, Overwrite};
 use planus_write::{BuildError, Builder, Caches, Offset, WriteAsOffset};
 use std::alloc::Global;
 use std::process::Abort;
@@ -56,6 +60,29 @@ fn prepared<T, X: WriteAsOffset<T>>(
     requires { X.may value.now builder.old }
 {
     value.prepare(builder)
+}
+
+// Writes its place, all four bytes of it, into its 4 bytes.
+struct PlaceWord;
+
+impl Fill for PlaceWord {
+    ghost fits = { λ _ place n. n ≡ 4 };
+
+    ghost leaves = { λ _ place n. to_le_bytes w32 place };
+
+    fn fill(&self, place: u32, bytes: &mut [u8]) {
+        bytes.copy_from_slice(&place.to_le_bytes());
+    }
+}
+
+impl Overwrite for PlaceWord {
+    ghost fits = { λ _ place n. n ≡ 4 };
+
+    ghost leaves = { λ _ place n. to_le_bytes w32 place };
+
+    fn overwrite(&self, place: u32, bytes: &mut [u8]) {
+        bytes.copy_from_slice(&place.to_le_bytes());
+    }
 }
 
 // The switches of a builder that writes equal contents each time.

@@ -2,10 +2,10 @@
 
 ghost use Rattle.std.specs.Prelude.{replicate, ⊤};
 
-use super::holds;
-use crate::tests::check;
+use super::{calls_in_builder, holds};
+use crate::tests::{PlaceWord, check};
 use planus_back::{Fill, Overwrite};
-use planus_write::{BuildError, Builder, Text};
+use planus_write::{BuildError, Builder, Caches, Text};
 use std::alloc::Global;
 
 // Leaves one byte over and over, as often as there is room.
@@ -70,7 +70,24 @@ fn what_is_last(alloc: Global, builder: &mut Builder) -> Result<bool, BuildError
     )
 }
 
-// Both, in a builder with room for 64 bytes.
+// Whether the builder's first word is its length, all four bytes of it.
+fn begins_with_its_length(builder: &Builder) -> bool {
+    let front = builder.current_offset::<Text>();
+    builder
+        .as_slice()
+        .starts_with(&front.distance().to_le_bytes())
+}
+
+// A filler and a writer, with more bytes behind them than two bytes count.
+fn places(builder: &mut Builder) -> Result<bool, BuildError> {
+    builder.write_with(70001, 0, &Repeated { byte: 9 })?;
+    builder.write_with(4, 0, &PlaceWord)?;
+    let filled = begins_with_its_length(builder);
+    builder.write_over(4, 0, &PlaceWord)?;
+    Ok(filled && begins_with_its_length(builder) && builder.len() == 70009)
+}
+
+// Lengths and what is last, in a builder with room for 64 bytes.
 fn written_in_64_bytes(alloc: Global) -> bool {
     match Builder::with_capacity(alloc, 64) {
         Ok(mut builder) => {
@@ -89,6 +106,8 @@ fn writes(rt: HostRuntime) {
         written_in_64_bytes(rt.alloc()),
         "lengths and what is last",
     );
+    let places = calls_in_builder(rt.alloc(), Caches::all(), places);
+    check(&rt, places, "places");
 }
 
 // Whether a builder can be made with room for so many bytes.

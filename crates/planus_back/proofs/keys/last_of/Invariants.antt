@@ -1,5 +1,5 @@
 use Rattle.std.proofs.Common.{◌≡◌, drop}
-use Rattle.planus_back.specs.Caches.{number_on}
+use Rattle.planus_back.specs.Hashes.{number_on}
 use Rattle.planus_back.proofs.keys.last_of.Given as goal
 
 abbrev pub invariant-loop-byte : goal.invariant-loop-byte

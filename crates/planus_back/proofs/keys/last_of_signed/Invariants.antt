@@ -1,6 +1,6 @@
 use Rattle.std.proofs.Common.{◌≡◌, ℤ, drop, map}
 use Rattle.std.specs.Int.{w8, cast_unsigned}
-use Rattle.planus_back.specs.Caches.{number_on}
+use Rattle.planus_back.specs.Hashes.{number_on}
 use Rattle.planus_back.proofs.keys.last_of_signed.Given as goal
 
 abbrev pub invariant-loop-number : goal.invariant-loop-number

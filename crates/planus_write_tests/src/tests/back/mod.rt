@@ -1,16 +1,14 @@
 //! The back vector, the greatest place, keys and caches.
 
-ghost use Rattle.std.specs.Prelude.{◌≡◌, ◌≤◌, ◌+◌, ◌%◌, [], ◌∷◌, map, OnOk};
+ghost use Rattle.std.specs.Prelude.{◌≡◌, ◌≤◌, ◌+◌, map, OnOk};
 ghost use Rattle.std.specs.Int.{w8, cast_unsigned};
 ghost use Rattle.planus_back.specs.CacheKeys.{bytes_in};
 ghost use Rattle.planus_back.specs.Caches.{Fits, IsFound};
 
 mod random;
 
-use crate::tests::check;
-use planus_back::{
-    BackVec, ByteVec, Cache, Fill, GetCacheKey, Overwrite, Promises, TooLarge, VTable, laws,
-};
+use crate::tests::{PlaceWord, check};
+use planus_back::{BackVec, ByteVec, Cache, GetCacheKey, Promises, TooLarge, VTable, laws};
 use std::alloc::AllocError;
 use std::test::Fail;
 
@@ -29,29 +27,6 @@ fn greatest_place_is_the_last(rt: HostRuntime) {
     check(&rt, is_too_large(8) && is_too_large(usize::MAX), "past it");
 }
 
-// Writes its place, modulo 256, into its one byte.
-struct PlaceByte;
-
-impl Fill for PlaceByte {
-    ghost fits = { λ _ place n. n ≡ 1 };
-
-    ghost leaves = { λ _ place n. (place % 256) ∷ [] };
-
-    fn fill(&self, place: u32, bytes: &mut [u8]) {
-        bytes[0] = (place % 256) as u8;
-    }
-}
-
-impl Overwrite for PlaceByte {
-    ghost fits = { λ _ place n. n ≡ 1 };
-
-    ghost leaves = { λ _ place n. (place % 256) ∷ [] };
-
-    fn overwrite(&self, place: u32, bytes: &mut [u8]) {
-        bytes[0] = (place % 256) as u8;
-    }
-}
-
 // Whether the vector has these bytes, and room for so many more.
 fn holds(vector: &BackVec, bytes: &[u8], room: usize) -> bool {
     vector.as_slice() == bytes && vector.len() == bytes.len() && vector.room() == room
@@ -61,10 +36,10 @@ fn grows_by_each_call(bytes: &mut BackVec) -> Result<bool, AllocError> {
     let empty = holds(bytes, b"", 16);
     bytes.extend_from_slice(b"end")?;
     bytes.extend_with_zeros(2)?;
-    bytes.extend_write(262, 1, &PlaceByte)?;
-    let fits = holds(bytes, b"\x06\0\0end", 10);
+    bytes.extend_write(0x4030201, 4, &PlaceWord)?;
+    let fits = holds(bytes, b"\x01\x02\x03\x04\0\0end", 7);
     bytes.extend_from_slice(b"0123456789x")?;
-    Ok(empty && fits && holds(bytes, b"0123456789x\x06\0\0end", 15))
+    Ok(empty && fits && holds(bytes, b"0123456789x\x01\x02\x03\x04\0\0end", 12))
 }
 
 fn shows_as(bytes: &BackVec, want: &str) -> bool {
@@ -93,33 +68,37 @@ fn grows_at_its_front(rt: HostRuntime) -> Result<(), Fail> {
     Ok(())
 }
 
-// Puts 15 bytes by each call.
+// Puts 21 bytes by each call.
 fn put_each(bytes: &mut BackVec)
-    requires { 15 ≤ bytes.old.room }
-    ensures { bytes.new.room + 15 ≡ bytes.old.room }
+    requires { 21 ≤ bytes.old.room }
+    ensures { bytes.new.room + 21 ≡ bytes.old.room }
 {
     bytes.put_slice(b"end");
     bytes.put_three(b"<", b"body", b">>");
     bytes.put_zeros(0);
     bytes.put_zeros(3);
-    bytes.put_filled(262, 1, &PlaceByte);
-    bytes.put_overwritten(7, 1, &PlaceByte);
+    bytes.put_filled(0x4030201, 4, &PlaceWord);
+    bytes.put_overwritten(0x8070605, 4, &PlaceWord);
 }
 
 fn puts_each(bytes: &mut BackVec) -> bool {
-    if bytes.room() != 40 {
+    if bytes.room() != 46 {
         return false;
     }
     put_each(bytes);
-    let put = holds(bytes, b"\x07\x06\0\0\0<body>>end", 25);
+    let put = holds(
+        bytes,
+        b"\x05\x06\x07\x08\x01\x02\x03\x04\0\0\0<body>>end",
+        25,
+    );
     bytes.put_zeros(9);
     bytes.put_zeros(16);
-    put && bytes.room() == 0 && bytes.as_slice().starts_with(&[0; 25]) && bytes.len() == 40
+    put && bytes.room() == 0 && bytes.as_slice().starts_with(&[0; 25]) && bytes.len() == 46
 }
 
 #[test]
 fn puts_into_its_room(rt: HostRuntime) -> Result<(), Fail> {
-    let mut bytes = BackVec::with_capacity(rt.alloc(), 40)?;
+    let mut bytes = BackVec::with_capacity(rt.alloc(), 46)?;
     check(&rt, puts_each(&mut bytes), "puts each");
     Ok(())
 }

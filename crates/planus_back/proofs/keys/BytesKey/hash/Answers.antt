@@ -1,5 +1,5 @@
 use Rattle.std.proofs.Common.{◌≡◌, ◌<◌, ◌++◌, rules, length, sym, ap, ◌∙◌}
-use Rattle.planus_back.specs.Caches.{hash_with, last_number, hash_on}
+use Rattle.planus_back.specs.Hashes.{hash_with, last_number, hash_on}
 use Rattle.planus_back.proofs.Hashes.{word_more, few_more, cut_at, eight_of}
 use Rattle.planus_back.proofs.keys.BytesKey.hash.Goals as goal
 

@@ -1,5 +1,5 @@
 use Rattle.std.proofs.Common.{◌≡◌, length}
-use Rattle.planus_back.specs.Caches.{last_number, hash_on, hash_of}
+use Rattle.planus_back.specs.Hashes.{last_number, hash_on, hash_of}
 use Rattle.planus_back.proofs.keys.BytesKey.hash.Given as goal
 
 abbrev pub invariant-loop-word : goal.invariant-loop-word

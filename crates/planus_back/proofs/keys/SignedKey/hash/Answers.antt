@@ -1,7 +1,7 @@
 use Rattle.std.proofs.Common.{◌≡◌, ℤ, ◌<◌, ◌++◌, arith, rules, length, map, sym, ap, ◌∙◌}
 use Rattle.std.proofs.lemmas.List.{map-append, length-map}
 use Rattle.std.specs.Int.{w8, cast_unsigned}
-use Rattle.planus_back.specs.Caches.{hash_with, last_number, hash_on}
+use Rattle.planus_back.specs.Hashes.{hash_with, last_number, hash_on}
 use Rattle.planus_back.proofs.Hashes.{word_more, few_more, cut_at, eight_of}
 use Rattle.planus_back.proofs.keys.SignedKey.hash.Goals as goal
 

@@ -1,6 +1,6 @@
 use Rattle.std.proofs.Common.{◌≡◌, ℤ, map, length}
 use Rattle.std.specs.Int.{w8, cast_unsigned}
-use Rattle.planus_back.specs.Caches.{last_number, hash_on, hash_of}
+use Rattle.planus_back.specs.Hashes.{last_number, hash_on, hash_of}
 use Rattle.planus_back.proofs.keys.SignedKey.hash.Given as goal
 
 abbrev pub invariant-loop-word : goal.invariant-loop-word

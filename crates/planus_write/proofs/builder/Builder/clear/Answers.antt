@@ -3,8 +3,8 @@ use Rattle.planus_write.proofs.PlacedParts.{nothing_written}
 use Rattle.planus_write.proofs.builder.Builder.clear.Goals as goal
 
 pub returns-clause-past : goal.returns-clause-past
-returns-clause-past c = nothing_written c.clear.new.self _ _ c.clear.ensures.bytes c.clear.ensures.described c.clear-2.ensures.empty c.clear-3.ensures.empty c.clear-4.ensures.empty
+returns-clause-past c = nothing_written c.clear.new.self _ _ c.clear.ensures.bytes c.clear.ensures.described (search) (search) (search)
 
 pub invariant_of-self : goal.invariant_of-self
 invariant_of-self c =
-    (no_past, nothing_written c.clear.new.self _ _ c.clear.ensures.bytes c.clear.ensures.described c.clear-2.ensures.empty c.clear-3.ensures.empty c.clear-4.ensures.empty)
+    (no_past, nothing_written c.clear.new.self _ _ c.clear.ensures.bytes c.clear.ensures.described (search) (search) (search))
