@@ -46,7 +46,8 @@ use Rattle.planus.specs.Runs.{value_distance, value_at, union_of, all_of, width_
 use Rattle.planus.specs.Slots.{greatest_field}
 use Rattle.planus.specs.Replays.{is_clear, named_step}
 use Rattle.planus.specs.Headline.{ValueHolds, IsFewest, FinishHolds, ValueInPiece, root_at}
-use Rattle.planus.specs.Headline.{HoldsBySize}
+use Rattle.planus.specs.Headline.{HoldsBySize, IsFinishOf, AreFinishesOf, finishes_of}
+use Rattle.planus.proofs.FinishNumbers.{is_no_finish, as_many, one_more, are_push}
 use Rattle.planus.proofs.Turns.{InTurn, fewest}
 use Rattle.planus.proofs.NamedKinds.{kind_written}
 use Rattle.planus.proofs.Placed.{IsPlacedInTurn, nothing_in_turn, added_in_turn, all_in_turn}
@@ -95,7 +96,7 @@ pub record Kept (switches : Switches) (all done : List Step) (state : State) : T
   pub values : AllByRecursion (ValueKept all done state.past state.listed) state.listed
   pub lists : ListsAll done state.listed
   pub run : LeadsTo switches nothing_written done state
-  pub finished : AllUtf8 all → AllByRecursion (FinishHolds switches all) state.finished
+  pub finished : AllUtf8 all → AreFinishesOf switches all (finishes_of done) state.finished
 
 pub leads_on : (switches : Switches) (before between after : State) (steps : List Step) (step : Step) → LeadsTo switches before steps between → Advances switches between step after
     → LeadsTo switches before (steps ++ step ∷ []) after
@@ -199,7 +200,8 @@ module _ (switches : Switches) (all done : List Step) (step : Step) (v : Value) 
     values = subst (λ vs. AllByRecursion (ValueKept all (done ++ step ∷ []) after.past vs) vs) (sym listed) all_values;
     lists = subst (ListsAll (done ++ step ∷ [])) (sym listed) lists_new;
     run = run;
-    finished = λ utf8. subst (λ fs. AllByRecursion (FinishHolds switches all) fs) (sym (finished ∙ append-nil before.finished)) (h.finished utf8);
+    finished = λ utf8. subst (λ numbers. AreFinishesOf switches all numbers after.finished) (sym (as_many 0 done step (is_no_finish before.listed step v is_value)))
+        (subst (AreFinishesOf switches all (finishes_of done)) (sym (finished ∙ append-nil before.finished)) (h.finished utf8));
   }
 
 greatest_rises : (promises : List Promise) → greatest_alignment 1 promises ≤ greatest_alignment 4 promises
@@ -365,6 +367,10 @@ module _ (switches : Switches) (all done : List Step) (front : Front) (root to :
     | inr last ↦ (let none : None ≡ Some of = ap kind_of last.1 ∙ is_kind in cc)
   ]
 
+  is_finish_of : AllUtf8 all → IsFinishOf switches all (0 + length done) (record { bytes = new.bytes; places = before.listed })
+  unfolding holds
+  is_finish_of utf8 = record { holds = holds utf8; of_step = (let e : length done ≡ 0 + length done = omega arith in e) }
+
   pub finish_kept : Kept switches all (done ++ finish front root identifier ∷ []) after
   finish_kept = record {
     numbered = counted done (finish front root identifier) before.next after.next next h.numbered;
@@ -376,7 +382,9 @@ module _ (switches : Switches) (all done : List Step) (front : Front) (root to :
         (value_moves all done (finish front root identifier) before.past after.past before.listed [] refl extends) before.listed h.values));
     lists = subst (ListsAll (done ++ finish front root identifier ∷ [])) (sym listed) lists_still;
     run = run;
-    finished = λ utf8. subst (λ fs. AllByRecursion (FinishHolds switches all) fs) (sym finished) (all_push (FinishHolds switches all) before.finished _ (h.finished utf8) (holds utf8));
+    finished = λ utf8. subst (λ numbers. AreFinishesOf switches all numbers after.finished) (sym (one_more 0 done front root identifier))
+        (subst (AreFinishesOf switches all (finishes_of done ++ (0 + length done) ∷ [])) (sym finished)
+        (are_push switches all (finishes_of done) before.finished (0 + length done) (record { bytes = new.bytes; places = before.listed }) (h.finished utf8) (is_finish_of utf8)));
   }
 
 -- a clear keeps what was given
@@ -388,7 +396,7 @@ clear_kept switches all done before h = record {
   values = tt;
   lists = λ n c of named is_kind. absurd (not_behind_clear done c n named);
   run = leads_on switches nothing_written before (cleared before) done clear h.run refl;
-  finished = h.finished;
+  finished = λ utf8. subst (λ numbers. AreFinishesOf switches all numbers before.finished) (sym (as_many 0 done clear refl)) (h.finished utf8);
 }
 
 -- a value that a step writes can be written, and reads back

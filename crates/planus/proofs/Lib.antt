@@ -1,6 +1,7 @@
 pub mod Lists
 pub mod NamedKinds
 pub mod FieldFaults
+pub mod FinishNumbers
 pub mod TableFields
 pub mod Filling
 pub mod Naming

@@ -10,7 +10,7 @@ use Rattle.planus_write.specs.State.{IsPast}
 use Rattle.planus.specs.Steps.{Step, bare_step}
 use Rattle.planus.specs.Runs.{nothing_written, LeadsTo, Advances, StepTooLarge}
 use Rattle.planus.specs.Replays.{first_bad, Replays, finish_given}
-use Rattle.planus.specs.Headline.{FinishHolds}
+use Rattle.planus.specs.Headline.{FinishHolds, AreFinishesOf, finishes_of}
 use Rattle.planus.specs.Replaying.{state_with, names, HasTaken, Takes, Stopped}
 use Rattle.planus.specs.Replaying.{AreReached}
 use Rattle.planus.specs.Names.{IsReached}
@@ -18,6 +18,7 @@ use Rattle.planus.specs.declared.steps.Step as code
 use Rattle.planus.specs.declared.progress.Progress.{Progress}
 use Rattle.planus.specs.declared.faults.ReplayError.{ReplayError}
 use Rattle.planus.specs.declared.faults.ReplayError.TheVariants.{OutOfMemory, TooLarge, BadStep}
+use Rattle.planus.proofs.FinishNumbers.{each_holds}
 use Rattle.planus.proofs.Kept.{leads_on, run_kept, run_value}
 use Rattle.planus.proofs.Lists.{found_at}
 use Rattle.planus.proofs.Naming.{checked}
@@ -87,8 +88,13 @@ ran switches steps i progress past h =
     let all : first_steps steps i ≡ map bare_step steps = ap (map bare_step) (take_all i steps past) in
     subst (λ cs. Replays switches cs (Ok (map finish_given progress.finished.items))) all (h.clean, (state_with progress h.run.0, h.run.2, refl))
 
+pub all_finished : (switches : Switches) (steps : List code.Step) (i : ℕ) (progress : Progress) → length steps ≤ i → Reaches switches steps i progress
+    → AreFinishesOf switches (map bare_step steps) (finishes_of (map bare_step steps)) (map finish_given progress.finished.items)
+all_finished switches steps i progress past h =
+    let all : first_steps steps i ≡ map bare_step steps = ap (map bare_step) (take_all i steps past) in
+    subst (λ cs. AreFinishesOf switches cs (finishes_of cs) (map finish_given progress.finished.items)) all
+    ((run_kept switches (first_steps steps i) (state_with progress h.run.0) h.run.2).finished (all_utf8 (take i steps)))
+
 pub all_hold : (switches : Switches) (steps : List code.Step) (i : ℕ) (progress : Progress) → length steps ≤ i → Reaches switches steps i progress → AllByRecursion (FinishHolds switches (map bare_step steps)) (map finish_given progress.finished.items)
 all_hold switches steps i progress past h =
-    let all : first_steps steps i ≡ map bare_step steps = ap (map bare_step) (take_all i steps past) in
-    subst (λ cs. AllByRecursion (FinishHolds switches cs) (map finish_given progress.finished.items)) all
-    ((run_kept switches (first_steps steps i) (state_with progress h.run.0) h.run.2).finished (all_utf8 (take i steps)))
+    each_holds switches (map bare_step steps) (finishes_of (map bare_step steps)) (map finish_given progress.finished.items) (all_finished switches steps i progress past h)

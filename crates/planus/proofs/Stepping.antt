@@ -8,10 +8,14 @@ use Rattle.std.specs.Option.{option_map}
 use Rattle.std.proofs.lemmas.List.{map_push, length-map}
 use Rattle.planus_read.specs.Values as value
 use Rattle.planus_read.specs.Values.{Value}
-use Rattle.planus_write.specs.Past.{Past, Entry, PutsAll, no_past}
+use Rattle.planus_back.specs.Parts.{Part}
+use Rattle.planus_back.specs.Promises.{Promise}
+use Rattle.planus_write.specs.Limits.{IsWithinLimit}
+use Rattle.planus_write.specs.Shared.{Contents, Switches, shared_as}
+use Rattle.planus_write.specs.Past.{Past, Entry, PutsAll, no_past, part_after}
 use Rattle.planus_write.specs.State as builder
 use Rattle.planus_write.specs.State.{IsPast}
-use Rattle.planus_write.specs.Placing.{Outcome, PutsDown, Refuses, then_does}
+use Rattle.planus_write.specs.Placing.{Outcome, PutsDown, Refuses, RefusedMemory, MayLackMemory, then_does}
 use Rattle.planus_write.specs.Finishing.{PutsInFront, WritesFront, LendsAll}
 use Rattle.planus_write.specs.Preparing.{IsPrepared, Answers, WritesText, WritesByteList, WritesList, WritesEntries}
 use Rattle.planus_write.specs.lemmas.ListLaws.{entries_grow, ready_list_is_put}
@@ -35,6 +39,7 @@ use Rattle.std.specs.Int.{Width, byte_len, to_le_bytes}
 use Rattle.std.specs.List.{list_all, AllByRecursion}
 use Rattle.planus.specs.Kinds.{a_value, kind_named}
 use Rattle.planus.specs.Runs.{width_of, fits_width, numbers_value, value_at, union_of, all_of}
+use Rattle.planus.specs.Runs.{AsksForMemory, ComesToRefusedEntry, StepRefused}
 use Rattle.planus.specs.Runs.{Listed, Finish, StepTooLarge, Writes, value_of, values_added, finishes_added, entries_put, finish_of}
 use Rattle.planus.specs.declared.faults.ReplayError.{ReplayError}
 use Rattle.planus.specs.declared.faults.ReplayError.TheVariants.{OutOfMemory as ReplayOutOfMemory, TooLarge as ReplayTooLarge, BadStep}
@@ -54,6 +59,35 @@ use Rattle.planus.proofs.Naming.{took_one, took_clear, one_more}
 finish_are : (old : Progress) (front : Front) (root distance : ℕ) (identifier : Option (List ℕ)) → value_at (values_listed old) root ≡ Some distance
     → entries_put (values_listed old) (finish front root identifier) ≡ Some (finish_of front identifier distance)
 finish_are old front root distance identifier h = ap (option_map (finish_of front identifier)) h
+
+-- what may lack memory isn't too large
+within : (shared : Option Contents) (part : Part) (old : builder.State) (promises : List Promise) → MayLackMemory shared part old promises
+    → IsWithinLimit (length old.bytes) part.size part.alignment promises
+within None part old promises h = (h.0, h.1, h.2.0)
+within (Some contents) part old promises h = h
+
+asks : (entry : Entry) (got : List ℕ) (old : builder.State) (past : Past) → IsPast old past → RefusedMemory entry got old past → AsksForMemory old.switches entry got past
+asks entry got old past is_past refused =
+    let part : Part = part_after entry got past in
+    record {
+      is_new = refused.is_new;
+      fits = subst (λ n. IsWithinLimit n part.size part.alignment past.written.promises) (sym (ap length is_past.bytes))
+          (within (shared_as old.switches entry.contents) part old past.written.promises refused.lacks);
+    }
+
+-- entries that were refused memory come to where it may be refused, and so do those that were put down
+entries_refused : (entries : List Entry) (got : List ℕ) (old new : builder.State) (past : Past) → WritesEntries entries got old (Err OutOfMemory) new → IsPast old past
+    → ComesToRefusedEntry old.switches entries got past
+entries_refused [] got old new past h is_past = tt
+entries_refused (entry ∷ entries) got old new past (inl refused) is_past = inl (asks entry got old past is_past (refused.cause past is_past))
+entries_refused (entry ∷ entries) got old new past (inr h) is_past =
+    let first = h.2.puts past is_past in
+    let rest = entries_refused entries (got ++ h.0 ∷ []) h.1 new first.0 h.3 first.2 in
+    inr (h.0, first.0, first.1, subst (λ switches. ComesToRefusedEntry switches entries (got ++ h.0 ∷ []) first.0) h.2.switches rest)
+
+all_put : (switches : Switches) (entries : List Entry) (got : List ℕ) (past : Past) (all : List ℕ) (after : Past) → PutsAll switches entries got past all after → ComesToRefusedEntry switches entries got past
+all_put switches [] got past all after h = tt
+all_put switches (entry ∷ entries) got past all after h = inr (h.0, h.1, h.2, all_put switches entries (got ++ h.0 ∷ []) h.1 all after h.3)
 
 -- A value of a step, by an outcome that puts down its entries, or is refused where they are.
 module _ {A : Type 0} (name : A → Named) (outcome : Outcome A) (step : Step) (value : Value) (old : Progress)
@@ -99,10 +133,20 @@ module _ {A : Type 0} (name : A → Named) (outcome : Outcome A) (step : Step) (
   pub stops : (after : builder.State) → WritesEntries (entries_of value) [] old.builder (Err TooLarge) after → Stopped old step ReplayTooLarge
   stops after refused = λ past is_past. record { entries = entries_of value; are = are; too_large = entries_too_large (entries_of value) [] old.builder after past refused is_past }
 
+  pub lacks : ((after : builder.State) → outcome old.builder (Err OutOfMemory) after → WritesEntries (entries_of value) [] old.builder (Err OutOfMemory) after)
+      → (new : Progress) → WritesValue name outcome old (Err ReplayOutOfMemory) new → Stopped old step ReplayOutOfMemory
+  lacks refused new (inl h) = λ past is_past. inr (
+      record { entries = entries_of value; are = are; refused = entries_refused (entries_of value) [] old.builder h.0 past (refused h.0 h.1) is_past }
+      )
+  lacks refused new (inr h) = λ past is_past.
+      let did = writes h.0 h.1 h.2 in
+      let put = puts_entries (entries_of value) [] old.builder did.0 h.1 past did.1 is_past in
+      inr (record { entries = entries_of value; are = are; refused = all_put old.builder.switches (entries_of value) [] past did.0 put.0 put.1 })
+
 -- what a builder refused is refused
 pub value_refused : {A : Type 0} (name : A → Named) (outcome : Outcome A) (old new : Progress) (error : BuildError) (after : builder.State) → outcome old.builder (Err error) after
     → WritesValue name outcome old (Err (replay_error error)) new
-value_refused name outcome old new OutOfMemory after h = tt
+value_refused name outcome old new OutOfMemory after h = inl (after, h)
 value_refused name outcome old new TooLarge after h = (after, h)
 
 -- what is noted of a value is one
@@ -122,7 +166,8 @@ text_advanced content old (Ok done) new noted = record {
   advances = runs_on offset_named (WritesText content) (text content) (value.text content) old refl refl (λ offset after put. by_entry (text_entry content) old.builder offset after put) new noted (λ past after. refl);
   switches = noted.done.switches;
 }
-text_advanced content old (Err ReplayOutOfMemory) new h = tt
+text_advanced content old (Err ReplayOutOfMemory) new h =
+    lacks {A = Offset Text} offset_named (WritesText content) (text content) (value.text content) old refl refl (λ offset after put. by_entry (text_entry content) old.builder offset after put) (λ after refused. inl refused) new h
 text_advanced content old (Err ReplayTooLarge) new h =
     stops {A = Offset Text} offset_named (WritesText content) (text content) (value.text content) old refl refl (λ offset after put. by_entry (text_entry content) old.builder offset after put) h.0 (inl h.1)
 text_advanced content old (Err (BadStep number why)) new h = absurd h
@@ -135,7 +180,8 @@ bytes_advanced content old (Ok done) new noted = record {
   advances = runs_on offset_named (WritesByteList content) (bytes content) (value.byte_list content) old refl refl (λ offset after put. by_entry (byte_list_entry content) old.builder offset after put) new noted (λ past after. refl);
   switches = noted.done.switches;
 }
-bytes_advanced content old (Err ReplayOutOfMemory) new h = tt
+bytes_advanced content old (Err ReplayOutOfMemory) new h =
+    lacks {A = Offset (ListOf ℕ)} offset_named (WritesByteList content) (bytes content) (value.byte_list content) old refl refl (λ offset after put. by_entry (byte_list_entry content) old.builder offset after put) (λ after refused. inl refused) new h
 bytes_advanced content old (Err ReplayTooLarge) new h =
     stops {A = Offset (ListOf ℕ)} offset_named (WritesByteList content) (bytes content) (value.byte_list content) old refl refl (λ offset after put. by_entry (byte_list_entry content) old.builder offset after put) h.0 (inl h.1)
 bytes_advanced content old (Err (BadStep number why)) new h = absurd h
@@ -152,11 +198,11 @@ module _ {A : Type 0} (leaves : A → Item) (size alignment : ℕ) (xs : List A)
         one put.0 ∙ ap (λ d. record { distance = d; tags = None }) (sym put.2),
       )
 
-  list_refused : (T : Type 0) (after : builder.State) → WritesList {T = T} Answers leaves size alignment xs old.builder (Err TooLarge) after
-      → WritesEntries (entries_of value) [] old.builder (Err TooLarge) after
-  list_refused T after refused =
-      subst (λ (es : List Entry). WritesEntries es [] old.builder (Err TooLarge) after) entries
-      (ready_list_is_refused T leaves size alignment xs old.builder TooLarge after refused)
+  list_refused : (T : Type 0) (error : BuildError) (after : builder.State) → WritesList {T = T} Answers leaves size alignment xs old.builder (Err error) after
+      → WritesEntries (entries_of value) [] old.builder (Err error) after
+  list_refused T error after refused =
+      subst (λ (es : List Entry). WritesEntries es [] old.builder (Err error) after) entries
+      (ready_list_is_refused T leaves size alignment xs old.builder error after refused)
 
 -- numbers that fit a known width
 module _ (width : ℕ) (w : Width) (items : List ℕ) (known : width_of width ≡ Some w) (fit : list_all (fits_width w) items ≡ true) (old : Progress) where
@@ -184,11 +230,14 @@ module _ (width : ℕ) (w : Width) (items : List ℕ) (known : width_of width �
     switches = switches_stay offset_named (WritesList Answers leaves_number (byte_len w) (byte_len w) items) (numbers width items) number_list old numbers_value_is numbers_are
         (list_writes leaves_number (byte_len w) (byte_len w) items number_list old numbers_entries (λ got. refl)) new noted;
   }
-  numbers_advanced T (Err ReplayOutOfMemory) new h = tt
+  numbers_advanced T (Err ReplayOutOfMemory) new h =
+      lacks {A = Offset T} offset_named (WritesList Answers leaves_number (byte_len w) (byte_len w) items) (numbers width items) number_list old numbers_value_is numbers_are
+      (list_writes leaves_number (byte_len w) (byte_len w) items number_list old numbers_entries (λ got. refl))
+      (list_refused leaves_number (byte_len w) (byte_len w) items number_list old numbers_entries (λ got. refl) T OutOfMemory) new h
   numbers_advanced T (Err ReplayTooLarge) new h =
       stops {A = Offset T} offset_named (WritesList Answers leaves_number (byte_len w) (byte_len w) items) (numbers width items) number_list old numbers_value_is numbers_are
       (list_writes leaves_number (byte_len w) (byte_len w) items number_list old numbers_entries (λ got. refl)) h.0
-      (list_refused leaves_number (byte_len w) (byte_len w) items number_list old numbers_entries (λ got. refl) T h.0 h.1)
+      (list_refused leaves_number (byte_len w) (byte_len w) items number_list old numbers_entries (λ got. refl) T TooLarge h.0 h.1)
   numbers_advanced T (Err (BadStep number why)) new h = absurd h
 
 -- references to values that were found
@@ -218,11 +267,11 @@ module _ (steps : List ℕ) (offsets : List (Offset (Unit {0}))) (old : Progress
     switches = switches_stay offset_named (WritesList Answers leaves_offset 4 4 offsets) (refs steps) reference_list old refs_value_is refs_are
         (list_writes leaves_offset 4 4 offsets reference_list old refs_entries (λ got. refl)) new noted;
   }
-  refs_advanced T (Err ReplayOutOfMemory) new h = tt
+  refs_advanced T (Err ReplayOutOfMemory) new h = λ past is_past. inl refl
   refs_advanced T (Err ReplayTooLarge) new h =
       stops {A = Offset T} offset_named (WritesList Answers leaves_offset 4 4 offsets) (refs steps) reference_list old refs_value_is refs_are
       (list_writes leaves_offset 4 4 offsets reference_list old refs_entries (λ got. refl)) h.0
-      (list_refused leaves_offset 4 4 offsets reference_list old refs_entries (λ got. refl) T h.0 h.1)
+      (list_refused leaves_offset 4 4 offsets reference_list old refs_entries (λ got. refl) T TooLarge h.0 h.1)
   refs_advanced T (Err (BadStep number why)) new h = absurd h
 
 -- what was found lies in the builder
@@ -276,7 +325,7 @@ module _ (items : List (ℕ × ℕ)) (offsets : List (UnionOffset (Unit {0}))) (
     advances = runs_on vector_named (WritesUnionVector Answers offsets) (unions items) unions_value old unions_value_is unions_are unions_write new noted (λ past after. refl);
     switches = switches_stay vector_named (WritesUnionVector Answers offsets) (unions items) unions_value old unions_value_is unions_are unions_write new noted;
   }
-  unions_advanced (Err ReplayOutOfMemory) new h = tt
+  unions_advanced (Err ReplayOutOfMemory) new h = λ past is_past. inl refl
   unions_advanced (Err ReplayTooLarge) new h =
       stops vector_named (WritesUnionVector Answers offsets) (unions items) unions_value old unions_value_is unions_are unions_write h.0 (unions_refused h.0 h.1)
   unions_advanced (Err (BadStep number why)) new h = absurd h
@@ -292,6 +341,14 @@ unions_reached old reached items offsets h =
 -- what a finish of an offset does, if this is its entry
 abbrev pub FrontLeaves : Offset (Unit {0}) → (ℕ → Entry) → builder.State → Result (Bor (List ℕ)) BuildError → builder.State → Type 0
 FrontLeaves offset entry = LendsAll (then_does (λ before prepared after. IsPrepared offset before prepared after) (λ root. WritesFront (entry root.distance)))
+
+-- the finish of an offset
+pub offset_finished : (offset : Offset (Unit {0})) (entry : ℕ → Entry) (old new : builder.State) (answer : Result (Bor (List ℕ)) BuildError) (lent : Bor (List ℕ)) → answer ≡ Ok lent
+    → FrontLeaves offset entry old answer new → PutsInFront (entry offset.distance) old (length new.bytes) new × (lent.now ≡ new.bytes)
+offset_finished offset entry old new answer lent ok leaves =
+    let h = subst (λ a. FrontLeaves offset entry old a new) ok leaves in
+    let same : h.0.0 ≡ offset = (let e : Ok h.0.0 ≡ Ok offset = h.0.2.0 in cc) in
+    (subst (λ before. PutsInFront (entry offset.distance) before (length new.bytes) new) h.0.2.1 (subst (λ (o : Offset (Unit {0})). PutsInFront (entry o.distance) h.0.1 (length new.bytes) new) same h.0.3), h.1)
 
 module _ (front : Front) (root : ℕ) (identifier : Option (List ℕ)) (entry : ℕ → Entry) (is_entry : (distance : ℕ) → finish_of front identifier distance ≡ entry distance ∷ []) where
   -- a finish advances the run
@@ -321,6 +378,21 @@ module _ (front : Front) (root : ℕ) (identifier : Option (List ℕ)) (entry : 
     switches = finishes.puts.switches;
   }
 
+  -- a finish that was put down, and refused memory to be given
+  pub finish_not_given : (old : Progress) (offset : Offset (Unit {0})) → value_at (values_listed old) root ≡ Some offset.distance
+      → (answer : Result (Bor (List ℕ)) BuildError) (lent : Bor (List ℕ)) (new : builder.State) → answer ≡ Ok lent
+      → FrontLeaves offset entry old.builder answer new → Stopped old (finish front root identifier) ReplayOutOfMemory
+  finish_not_given old offset found answer lent new ok leaves = λ past is_past.
+      let done = offset_finished offset entry old.builder new answer lent ok leaves in
+      let after = done.0.puts.puts past is_past in
+      inr (
+      record {
+        entries = entry offset.distance ∷ [];
+        are = finish_are old front root offset.distance identifier found ∙ ap Some (is_entry offset.distance);
+        refused = inr (length new.bytes, after.0, after.1, tt);
+      }
+      )
+
   -- a finish that was refused
   pub finish_stopped : (old : Progress) (offset : Offset (Unit {0})) → value_at (values_listed old) root ≡ Some offset.distance
       → (answer : Result (Bor (List ℕ)) BuildError) (error : BuildError) (new : builder.State) → answer ≡ Err error
@@ -328,7 +400,21 @@ module _ (front : Front) (root : ℕ) (identifier : Option (List ℕ)) (entry : 
   finish_stopped old offset found answer error new refused leaves = by_error error (subst (λ a. FrontLeaves offset entry old.builder a new) refused leaves)
     where
       by_error : (error : BuildError) → FrontLeaves offset entry old.builder (Err error) new → Stopped old (finish front root identifier) (replay_error error)
-      by_error OutOfMemory h = tt
+      by_error OutOfMemory h = λ past is_past. elim h as (λ _. StepRefused old.builder.switches (state_with old past) (finish front root identifier)) [
+        | inl none ↦ (let e : Err OutOfMemory ≡ Ok offset = none.0 in cc)
+        | inr put ↦
+            let same : put.0 ≡ offset = (let e : Ok put.0 ≡ Ok offset = put.2.0 in cc) in
+            let refuses : Refuses (entry offset.distance) [] old.builder OutOfMemory new
+            = subst (λ (b : builder.State). Refuses (entry offset.distance) [] b OutOfMemory new) put.2.1
+            (subst (λ (o : Offset (Unit {0})). Refuses (entry o.distance) [] put.1 OutOfMemory new) same put.3) in
+            inr (
+            record {
+              entries = entry offset.distance ∷ [];
+              are = finish_are old front root offset.distance identifier found ∙ ap Some (is_entry offset.distance);
+              refused = inl (asks (entry offset.distance) [] old.builder past is_past (refuses.cause past is_past));
+            }
+            )
+      ]
       by_error TooLarge h = λ past is_past. elim h as (λ _. StepTooLarge old.builder.switches (state_with old past) (finish front root identifier)) [
         | inl none ↦ (let e : Err TooLarge ≡ Ok offset = none.0 in cc)
         | inr put ↦
@@ -347,11 +433,3 @@ clear_advances old new is_past switches first none same = record {
   advances = λ past before. (no_past, is_past, (let next : new.first + 0 ≡ old.first + length old.offsets.items + 1 = omega (arith, first) in rw (none, same, next) refl));
   switches = switches;
 }
-
--- the finish of an offset
-pub offset_finished : (offset : Offset (Unit {0})) (entry : ℕ → Entry) (old new : builder.State) (answer : Result (Bor (List ℕ)) BuildError) (lent : Bor (List ℕ)) → answer ≡ Ok lent
-    → FrontLeaves offset entry old answer new → PutsInFront (entry offset.distance) old (length new.bytes) new × (lent.now ≡ new.bytes)
-offset_finished offset entry old new answer lent ok leaves =
-    let h = subst (λ a. FrontLeaves offset entry old a new) ok leaves in
-    let same : h.0.0 ≡ offset = (let e : Ok h.0.0 ≡ Ok offset = h.0.2.0 in cc) in
-    (subst (λ before. PutsInFront (entry offset.distance) before (length new.bytes) new) h.0.2.1 (subst (λ (o : Offset (Unit {0})). PutsInFront (entry o.distance) h.0.1 (length new.bytes) new) same h.0.3), h.1)

@@ -1,6 +1,6 @@
 -- What the writing of a table is to the run.
 use Rattle.std.proofs.Common.{◌≡◌, ℕ, ◌+◌, max, List, [], ◌∷◌, length, refl, sym, ap, ◌∙◌, subst}
-use Rattle.std.proofs.Common.{Result, Ok, Err, Option, Some, None}
+use Rattle.std.proofs.Common.{Result, Ok, Err, Option, Some, None, inl}
 use Rattle.std.proofs.Common.{◌≤◌, map, arith}
 use Rattle.std.specs.List.{AllByRecursion}
 use Rattle.std.specs.Option.{option_map}
@@ -32,7 +32,7 @@ use Rattle.planus.specs.declared.progress.Progress.{Progress}
 use Rattle.planus.specs.declared.written.Written.{Written}
 use Rattle.planus.specs.Replaying.{values_listed, Advanced, WritesValue}
 use Rattle.planus.proofs.Naming.{took_one}
-use Rattle.planus.proofs.Stepping.{runs_on, switches_stay, stops}
+use Rattle.planus.proofs.Stepping.{runs_on, switches_stay, stops, lacks}
 use Rattle.planus.proofs.Declaring.{values_reached}
 use Rattle.planus.proofs.WrittenTables.{tables_are_written}
 
@@ -59,7 +59,7 @@ module _ (fields : List (ℕ × FieldStep)) (all : List (ℕ × Field)) (old : P
     advances = runs_on offset_named (WritesTableAt all) (table fields) (value.table all) old table_value_is table_are table_writes new noted (λ past after. refl);
     switches = switches_stay offset_named (WritesTableAt all) (table fields) (value.table all) old table_value_is table_are table_writes new noted;
   }
-  table_advanced T (Err ReplayOutOfMemory) new h = tt
+  table_advanced T (Err ReplayOutOfMemory) new h = lacks {A = Offset T} offset_named (WritesTableAt all) (table fields) (value.table all) old table_value_is table_are table_writes (λ after refused. refused) new h
   table_advanced T (Err ReplayTooLarge) new h = stops {A = Offset T} offset_named (WritesTableAt all) (table fields) (value.table all) old table_value_is table_are table_writes h.0 h.1
   table_advanced T (Err (BadStep number why)) new h = absurd h
 
@@ -83,7 +83,7 @@ table_refused T all before after error put = subst (λ n. WritesEntries (object_
 -- A table is refused, as the replay has it.
 pub table_stopped : (fields : List (ℕ × FieldStep)) (all : List (ℕ × Field)) (old : Progress) → fields_of (values_listed old) [] greatest_field fields ≡ Some all
     → (error : BuildError) (new : Progress) → WritesTableAt {T = Unit {0}} all old.builder (Err error) new.builder → Advanced old (table fields) (Err (replay_error error)) new
-table_stopped fields all old made build.OutOfMemory new h = tt
+table_stopped fields all old made build.OutOfMemory new h = table_advanced fields all old made (Unit {0}) (Err ReplayOutOfMemory) new (inl (new.builder, h))
 table_stopped fields all old made build.TooLarge new h = table_advanced fields all old made (Unit {0}) (Err ReplayTooLarge) new (new.builder, h)
 
 -- how far the fields of a table refer that can be written

@@ -1,6 +1,6 @@
 -- What is true of every finish of every run.
 use Rattle.std.specs.Prelude.{◌≡◌, ℕ, ◌+◌, ◌≤◌, List, [], ◌∷◌, ◌++◌, length, take, drop}
-use Rattle.std.specs.Prelude.{slice_get, Option, Some, ⊤}
+use Rattle.std.specs.Prelude.{slice_get, Option, Some, ⊤, Bool, true, false, if◌then◌else◌}
 use Rattle.std.specs.List.{AllByRecursion}
 use Rattle.planus_back.specs.Promises.{Keep}
 use Rattle.planus_back.specs.Parts.{Part}
@@ -91,3 +91,32 @@ pub record FinishHolds (switches : Switches) (steps : List Step) (given : Finish
   pub sized : HoldsBySize front steps root identifier given
   pub keeps : Keep state.past.written.promises (length given.bytes)
   pub fewest : IsFewest state.past.parts state.past.places given.bytes
+
+-- whether a step is a finish
+abbrev pub is_finish : Step → Bool
+is_finish (finish front root identifier) = true
+is_finish _ = false
+
+-- the numbers of the finishes among these steps, in order, where the first step has this number
+abbrev pub finishes_from : ℕ → List Step → List ℕ
+finishes_from n [] = []
+finishes_from n (step ∷ steps) =
+    if is_finish step then n ∷ finishes_from (n + 1) steps else finishes_from (n + 1) steps
+
+-- the numbers of the finishes among the steps of a script
+abbrev pub finishes_of : List Step → List ℕ
+finishes_of steps = finishes_from 0 steps
+
+-- What is given by the finish of the step of this number.
+pub record IsFinishOf (switches : Switches) (steps : List Step) (number : ℕ)
+    (given : Finish) : Type 0 where
+  pub holds : FinishHolds switches steps given
+  pub of_step : holds.number ≡ number
+
+-- Each is given by the finish of the step of its number, and there are as many as numbers.
+abbrev pub AreFinishesOf : Switches → List Step → List ℕ → List Finish → Type 0
+AreFinishesOf switches steps [] [] = ⊤
+AreFinishesOf switches steps (number ∷ numbers) (given ∷ finished) =
+    IsFinishOf switches steps number given × AreFinishesOf switches steps numbers finished
+AreFinishesOf switches steps [] (given ∷ finished) = ⊥
+AreFinishesOf switches steps (number ∷ numbers) [] = ⊥

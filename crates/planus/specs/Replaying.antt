@@ -16,7 +16,7 @@ use Rattle.planus_write.specs.declared.offset.Offset.{Offset}
 use Rattle.planus_write.specs.declared.union_offset.UnionOffset.{UnionOffset}
 use Rattle.planus.specs.Steps.{Step, clear}
 use Rattle.planus.specs.Kinds.{Kind, a_value, kind_of, kind_named}
-use Rattle.planus.specs.Runs.{State, Listed, Advances, StepTooLarge, fits_width, value_at, union_of}
+use Rattle.planus.specs.Runs.{State, Listed, Advances, StepTooLarge, StepRefused, fits_width, value_at, union_of}
 use Rattle.planus.specs.Runs.{all_of}
 use Rattle.planus.specs.Replays.{finish_given, check_by, first_fault, union_fault, is_clear}
 use Rattle.planus.specs.Names.{written_named, name_of, listed_from, fault_since, IsReached}
@@ -94,18 +94,21 @@ pub record Noted {A : Type 0} (name : A → Named) (outcome : Outcome A)
   pub pushed : new.offsets.items ≡ old.offsets.items ++ Some noted ∷ []
   pub finished : new.finished.items ≡ old.finished.items
 
--- A value was written by this outcome, or refused.
+-- A value was written by this outcome, or refused; or it was written, and refused memory to be noted.
 abbrev pub WritesValue : {A : Type 0} → (A → Named) → Outcome A → Progress
     → Result (Unit {0}) ReplayError → Progress → Type 0
 WritesValue {A} name outcome old (Ok done) new = Noted name outcome old new
-WritesValue {A} name outcome old (Err OutOfMemory) new = ⊤
+WritesValue {A} name outcome old (Err OutOfMemory) new =
+    ((after : builder.State) × outcome old.builder (Err build.OutOfMemory) after)
+    ⊎ ((answer : A) × (after : builder.State) × outcome old.builder (Ok answer) after)
 WritesValue {A} name outcome old (Err TooLarge) new =
     (after : builder.State) × outcome old.builder (Err build.TooLarge) after
 WritesValue {A} name outcome old (Err (BadStep number why)) new = ⊥
 
 -- why a step was not taken
 abbrev pub Stopped : Progress → Step → ReplayError → Type 0
-Stopped old step OutOfMemory = ⊤
+Stopped old step OutOfMemory = (past : Past) → IsPast old.builder past
+    → StepRefused old.builder.switches (state_with old past) step
 Stopped old step TooLarge = (past : Past) → IsPast old.builder past
     → StepTooLarge old.builder.switches (state_with old past) step
 Stopped old step (BadStep number why) =

@@ -101,8 +101,9 @@ finish_given finished =
     record { bytes = finished.bytes.items; places = map place_of finished.places.items }
 
 -- The answer is that of the run: what each finish gives where no step is bad; the first bad step,
--- if the run comes to it; a part that is too large, if the run comes to that before. Of a want of
--- memory nothing is said.
+-- if the run comes to it; a part that is too large, if the run comes to that before. Of a refusal of
+-- memory nothing is said: memory is asked for before the first step, so whatever the steps are, it
+-- may be the answer. When it may be that of one step is `StepRefused`.
 abbrev pub Replays : Switches → List Step → Result (List Finish) ReplayError → Type 0
 Replays switches steps (Ok finished) = (first_bad steps ≡ None) × Runs switches steps finished
 Replays switches steps (Err (BadStep step why)) =

@@ -1,13 +1,16 @@
 -- Runs: what steps come to, by the definitions of entries and of how they are put down alone.
-use Rattle.std.specs.Prelude.{◌≡◌, ℕ, ◌+◌, ◌==◌, List, [], ◌∷◌, ◌++◌, take, slice_get, Option, Some}
-use Rattle.std.specs.Prelude.{None, if◌then◌else◌, Bool, nat_lt, ◌^◌, map}
+use Rattle.std.specs.Prelude.{◌≡◌, ℕ, ◌+◌, ◌==◌, ◌||◌, List, [], ◌∷◌, ◌++◌, take, slice_get, Option, Some}
+use Rattle.std.specs.Prelude.{None, if◌then◌else◌, Bool, true, false, nat_lt, ◌^◌, map, length, ⊤}
+use Rattle.std.specs.Prelude.{◌⊎◌}
 use Rattle.std.specs.Option.{option_map, option_and_then, is_none}
 use Rattle.std.specs.List.{list_all}
 use Rattle.std.specs.Int.{Width, w8, w16, w32, w64, byte_len, to_le_bytes}
 use Rattle.planus_read.specs.Values as value
 use Rattle.planus_read.specs.Values.{Value, Field}
 use Rattle.planus_write.specs.Shared.{Switches}
-use Rattle.planus_write.specs.Past.{Past, Entry, no_past, PutsAll}
+use Rattle.planus_back.specs.Parts.{Part, Written}
+use Rattle.planus_write.specs.Limits.{IsWithinLimit}
+use Rattle.planus_write.specs.Past.{Past, Entry, no_past, Puts, PutsAll, part_after, found_before}
 use Rattle.planus_write.specs.Past.{ComesToTooLarge as ComesToTooLargeEntry}
 use Rattle.planus_write.specs.Parts.{Named, named_by, entries_of, finish_entry}
 use Rattle.planus_write.specs.Parts.{sized_finish_entry}
@@ -222,3 +225,42 @@ pub record ComesToTooLarge (switches : Switches) (steps : List Step) (n : ℕ) :
   pub before : State
   pub run : LeadsTo switches nothing_written (take n steps) before
   pub too_large : StepTooLarge switches before step
+
+-- With the least padding the part isn't too large.
+abbrev pub IsNotTooLarge : Part → Written → Type 0
+IsNotTooLarge part written =
+    IsWithinLimit (length written.bytes) part.size part.alignment written.promises
+
+-- Memory is asked for an entry: it isn't found, and its part isn't too large.
+pub record AsksForMemory (switches : Switches) (entry : Entry) (got : List ℕ)
+    (before : Past) : Type 0 where
+  pub is_new : found_before switches entry before ≡ None
+  pub fits : IsNotTooLarge (part_after entry got before) before.written
+
+-- Putting down the entries comes to where memory may be refused: for one of them, or after the last.
+-- None of those before is too large, and nor is it.
+abbrev pub ComesToRefusedEntry : Switches → List Entry → List ℕ → Past → Type 0
+ComesToRefusedEntry switches [] got before = ⊤
+ComesToRefusedEntry switches (entry ∷ entries) got before =
+    AsksForMemory switches entry got before
+    ⊎ ((distance : ℕ) × (between : Past) × Puts switches entry got before distance between
+    × ComesToRefusedEntry switches entries (got ++ distance ∷ []) between)
+
+-- whether memory is asked for a list before a step puts anything down: of numbers that are made
+-- narrower, or of what was named
+abbrev pub takes_list : Step → Bool
+takes_list (numbers width items) = width == 2 || width == 4
+takes_list (refs steps) = true
+takes_list (unions items) = true
+takes_list _ = false
+
+-- The step puts down entries, and comes to where memory may be refused.
+pub record EntriesRefused (switches : Switches) (before : State) (step : Step) : Type 0 where
+  pub entries : List Entry
+  pub are : entries_put before.listed step ≡ Some entries
+  pub refused : ComesToRefusedEntry switches entries [] before.past
+
+-- Memory may be refused in the step: for its list, or as it puts down its entries.
+abbrev pub StepRefused : Switches → State → Step → Type 0
+StepRefused switches before step =
+    (takes_list step ≡ true) ⊎ EntriesRefused switches before step

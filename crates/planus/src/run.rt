@@ -4,7 +4,7 @@ ghost use Rattle.std.specs.List.{AllByRecursion};
 ghost use Rattle.planus.specs.Steps.{bare_step};
 ghost use Rattle.planus_write.specs.View.{switches_of};
 ghost use Rattle.planus.specs.Replays.{finish_given, Replays, given_by};
-ghost use Rattle.planus.specs.Headline.{FinishHolds};
+ghost use Rattle.planus.specs.Headline.{FinishHolds, AreFinishesOf, finishes_of};
 
 use crate::faults::ReplayError;
 use crate::finishes::Finished;
@@ -26,6 +26,9 @@ pub fn replay(alloc: Global, caches: Caches, steps: &[Step]) -> Result<Vec<Finis
     ensures run { Replays (switches_of caches) (map bare_step steps.now) (given_by result) }
     ensures holds { IfOk result (λ finished. AllByRecursion
         (FinishHolds (switches_of caches) (map bare_step steps.now))
+        (map finish_given finished.items)) }
+    ensures of_steps { IfOk result (λ finished. AreFinishesOf (switches_of caches)
+        (map bare_step steps.now) (finishes_of (map bare_step steps.now))
         (map finish_given finished.items)) }
 {
     let mut progress = Progress::new(alloc, caches)?;

@@ -237,7 +237,7 @@ none_zero false true c e f g = cc
 none_zero true b c e f g = cc
 
 -- both slots lie in the vtable
-union_at_both : (table : Table) (i : ℕ) → BothSlots table i → union_at (table_seen table) i ≡ tagged_union (table_seen table) i (tag_of table i)
+pub union_at_both : (table : Table) (i : ℕ) → BothSlots table i → union_at (table_seen table) i ≡ tagged_union (table_seen table) i (tag_of table i)
 union_at_both table i both =
     let past : nat_le (length (table_slots table)) (2 * i) ≡ false = le_false (length (table_slots table)) (2 * i) (omega (arith, both)) in
     let whole : nat_lt (length (table_slots table)) (2 * i + 4) ≡ false = lt_false (length (table_slots table)) (2 * i + 4) both in
@@ -251,11 +251,11 @@ absent_tag table i tag h =
     zeros : (a b c : ℕ) → (a ≡ 0) ⊎ (b ≡ 0) ⊎ (c ≡ 0) → ((a == 0) ≡ true) ⊎ ((b == 0) ≡ true) ⊎ ((c == 0) ≡ true)
     zeros a b c h = grind (arith, nat_tests, eq-eqb a 0, eq-eqb b 0, eq-eqb c 0)
 
-union_absent : (table : Table) (i : ℕ) → UnionAbsent table i → union_at (table_seen table) i ≡ Ok None
+pub union_absent : (table : Table) (i : ℕ) → UnionAbsent table i → union_at (table_seen table) i ≡ Ok None
 union_absent table i (inl past) = let e : nat_le (length (table_slots table)) (2 * i) ≡ true = le-leb (length (table_slots table)) (2 * i) past in rw e refl
 union_absent table i (inr (both, (tag, is, zero))) = union_at_both table i both ∙ ap (tagged_union (table_seen table) i) is ∙ absent_tag table i tag zero
 
-union_there : (table : Table) (i tag : ℕ) → UnionThere table i tag → union_at (table_seen table) i ≡ Ok (Some (record { tag = tag; offset = slot_of table (i + 1) }))
+pub union_there : (table : Table) (i tag : ℕ) → UnionThere table i tag → union_at (table_seen table) i ≡ Ok (Some (record { tag = tag; offset = slot_of table (i + 1) }))
 union_there table i tag h =
     let some : (tag == 0 || slot_of table i == 0 || slot_of table (i + 1) == 0) ≡ false
     = none_zero (tag == 0) (slot_of table i == 0) (slot_of table (i + 1) == 0) (eq_false tag 0 h.tag_present) (eq_false (slot_of table i) 0 h.tag_slot) (eq_false (slot_of table (i + 1)) 0 h.value_slot) in
@@ -288,16 +288,16 @@ union_vector_matches S f g =
       ),
     ))
 
-unions_both : (table : Table) (i : ℕ) → BothSlots table i → unions_at (table_seen table) i ≡ union_vector_by (table_object table) (slot_of table i) (slot_of table (i + 1))
+pub unions_both : (table : Table) (i : ℕ) → BothSlots table i → unions_at (table_seen table) i ≡ union_vector_by (table_object table) (slot_of table i) (slot_of table (i + 1))
 unions_both table i both =
     let whole : nat_lt (length (table_slots table)) (2 * i + 4) ≡ false = lt_false (length (table_slots table)) (2 * i + 4) both in
     rw whole refl
 
-half : (O : List ℕ) (f g : ℕ) → ((f ≡ 0) × (g ≢ 0)) ⊎ ((f ≢ 0) × (g ≡ 0)) → union_vector_by O f g ≡ Err (fault_text InvalidOffset)
+pub half : (O : List ℕ) (f g : ℕ) → ((f ≡ 0) × (g ≢ 0)) ⊎ ((f ≢ 0) × (g ≡ 0)) → union_vector_by O f g ≡ Err (fault_text InvalidOffset)
 half O f g (inl (a, b)) = let e : (f == 0) ≡ true = eq-eqb f 0 a in let h : (g == 0) ≡ false = eq_false g 0 b in rw (e, h) refl
 half O f g (inr (a, b)) = let e : (f == 0) ≡ false = eq_false f 0 a in let h : (g == 0) ≡ true = eq-eqb g 0 b in rw (e, h) refl
 
-whole : (O : List ℕ) (f g : ℕ) → f ≢ 0 → g ≢ 0 → union_vector_by O f g ≡ some_of (union_vector_at O f g)
+pub whole : (O : List ℕ) (f g : ℕ) → f ≢ 0 → g ≢ 0 → union_vector_by O f g ≡ some_of (union_vector_at O f g)
 whole O f g a b = let e : (f == 0) ≡ false = eq_false f 0 a in let h : (g == 0) ≡ false = eq_false g 0 b in rw (e, h) refl
 
 pub unions_fault : (table : Table) (i : ℕ) (e : ErrorKind)

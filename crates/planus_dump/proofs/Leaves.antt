@@ -98,7 +98,7 @@ text_event S f content path there h =
     value_event path (leaf_at LeafText S f) (quoted (content_at S f)) (all_pass (text_clauses S f) (text_tests S f) (quoted (content_at S f)) (text_matches S f) (text_holds S f content there).0) h
 
 -- a byte list
-byte_list_matches : (S : List ℕ) (f : ℕ) → Matches (byte_list_clauses S f) (byte_list_tests S f)
+pub byte_list_matches : (S : List ℕ) (f : ℕ) → Matches (byte_list_clauses S f) (byte_list_tests S f)
 byte_list_matches S f =
     head_matches S f (clause (items_at S f + count_at S f ≤ length S) InvalidLength ∷ []) (test (nat_le (items_at S f + count_at S f) (length S)) InvalidLength ∷ [])
     (le_match (items_at S f + count_at S f) (length S) InvalidLength, tt)
@@ -108,7 +108,7 @@ byte_list_event S f content path there h =
     value_event path (leaf_at LeafBytes S f) (bytes_text (content_at S f)) (all_pass (byte_list_clauses S f) (byte_list_tests S f) (bytes_text (content_at S f)) (byte_list_matches S f) (byte_list_holds S f content there).0) h
 
 -- a vector
-vector_matches : (S : List ℕ) (f stride : ℕ) → Matches (vector_clauses S f stride) (vector_tests S f stride)
+pub vector_matches : (S : List ℕ) (f stride : ℕ) → Matches (vector_clauses S f stride) (vector_tests S f stride)
 vector_matches S f stride =
     head_matches S f (clause (items_at S f + count_at S f * stride ≤ length S) InvalidLength ∷ []) (test (nat_le (items_at S f + count_at S f * stride) (length S)) InvalidLength ∷ [])
     (le_match (items_at S f + count_at S f * stride) (length S) InvalidLength, tt)

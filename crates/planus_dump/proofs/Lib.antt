@@ -7,3 +7,4 @@ mod Leaves
 mod NoFaults
 mod CleanDumps
 mod WorkedRows
+pub mod AsRead

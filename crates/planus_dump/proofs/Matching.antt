@@ -1,6 +1,6 @@
 -- A list of clauses and a list of tests that say the same.
 use Rattle.std.proofs.Common.{◌≢◌, ◌≡◌, ℕ, ◌+◌, ◌<◌, ◌≤◌, ◌%◌, List, [], ◌∷◌, length, refl, sym, ap, subst, arith, Bool, true, false, ◌&&◌, Ok, Err, inl, inr, ℤ}
-use Rattle.std.specs.Prelude.{T, ⊤, nat_le, nat_lt, ◌==◌, ◌≤ℤ◌, int_le, slice_index, codes}
+use Rattle.std.specs.Prelude.{if◌then◌else◌, T, ⊤, nat_le, nat_lt, ◌==◌, ◌≤ℤ◌, int_le, slice_index, codes}
 use Rattle.std.specs.Str.{is_utf8}
 use Rattle.std.proofs.lemmas.Bool.{leb-true, le-leb, ltb-true, lt-ltb, eqb-true, eq-eqb}
 use Rattle.std.specs.Int.Signed.{le_z_yes}
@@ -16,6 +16,7 @@ use Rattle.planus_dump.specs.Tests.{Test, test, answered, fault_text, is_zero_by
 -- a clause and a test say the same
 pub record Match (c : Clause) (t : Test) : Type 0 where
   pub passes : c.holds → t.passes ≡ true
+  pub back : t.passes ≡ true → c.holds
   pub fails : (c.holds → ⊥) → t.passes ≡ false
   pub fault : (e : ErrorKind) → c.errors e → fault_text e ≡ t.fault
 
@@ -38,6 +39,17 @@ first_fails (c ∷ cs) [] x e m h = absurd m
 first_fails (c ∷ cs) (t ∷ ts) x e m (inl h) = rw (m.0.fails h.0) (ap Err (sym (m.0.fault e h.1)))
 first_fails (c ∷ cs) (t ∷ ts) x e m (inr h) = rw (m.0.passes h.0) (first_fails cs ts x e m.1 h.1)
 
+-- where all tests pass, no clause fails, and the value is said
+pub passed_all : {A : Type 0} (cs : List Clause) (ts : List Test) (x y : A) → Matches cs ts → answered ts x ≡ Ok y → AllHold cs × (x ≡ y)
+passed_all [] [] x y m e = (tt, cc)
+passed_all [] (t ∷ ts) x y m e = absurd m
+passed_all (c ∷ cs) [] x y m e = absurd m
+passed_all (c ∷ cs) (t ∷ ts) x y m e = by_test t.passes refl e (passed_all cs ts x y m.1)
+  where
+    by_test : (b : Bool) → t.passes ≡ b → (if b then answered ts x else Err t.fault) ≡ Ok y → (answered ts x ≡ Ok y → AllHold cs × (x ≡ y)) → AllHold (c ∷ cs) × (x ≡ y)
+    by_test true is e rest = ((m.0.back is, (rest e).0), (rest e).1)
+    by_test false is e rest = cc
+
 -- a test that is false where its fact doesn't hold
 not_true : (b : Bool) → (b ≡ true → ⊥) → b ≡ false
 not_true true h = absurd (h refl)
@@ -55,6 +67,7 @@ eq_false a b h = not_true (a == b) (λ e. h (eqb-true a b e))
 matching : {P : Type 0} (b : Bool) (kind : ErrorKind) → (P → b ≡ true) → (b ≡ true → P) → Match (clause P kind) (test b kind)
 matching b kind to back = record {
   passes = to;
+  back = back;
   fails = λ broken. not_true b (λ e. broken (back e));
   fault = λ e same. ap fault_text same;
 }
@@ -98,6 +111,7 @@ utf8_fault bytes _ h = absurd h
 pub utf8_match : (bytes : List ℕ) → Match (utf8_clause bytes) (record { passes = is_utf8 bytes; fault = codes "Invalid utf-8" })
 utf8_match bytes = record {
   passes = is_utf8-from_IsUtf8 bytes;
+  back = IsUtf8-from_is_utf8 bytes;
   fails = λ broken. not_true (is_utf8 bytes) (λ e. broken (IsUtf8-from_is_utf8 bytes e));
   fault = utf8_fault bytes;
 }

@@ -2,6 +2,7 @@ pub mod Lines
 pub mod Schemas
 pub mod Tests
 pub mod Answers
+pub mod AsRead
 pub mod Events
 pub mod Seeing
 pub mod Shown

@@ -1,5 +1,5 @@
 -- What steps come to, and the dump of what they finish.
-use Rattle.std.specs.Prelude.{◌≡◌, ℕ, List, [], ◌∷◌, false, Vec, String}
+use Rattle.std.specs.Prelude.{◌≡◌, ℕ, List, [], ◌∷◌, slice_get, false, Vec, String}
 use Rattle.std.specs.Prelude.{Option, Some, None, Result, Ok, Err}
 use Rattle.std.specs.List.{AllByRecursion}
 use Rattle.std.specs.String.{string_bytes}
@@ -8,7 +8,7 @@ use Rattle.planus_write.specs.Shared.{Switches}
 use Rattle.planus.specs.Steps.{Step, root_first}
 use Rattle.planus.specs.Runs.{Finish}
 use Rattle.planus.specs.Replays.{Replays}
-use Rattle.planus.specs.Headline.{FinishHolds}
+use Rattle.planus.specs.Headline.{FinishHolds, finishes_of}
 use Rattle.planus_dump.specs.FaultLines.{is_fault_line}
 use Rattle.planus_dump.specs.Describes.{Fits}
 use Rattle.planus_dump.specs.Dumped.{Dumped}
@@ -26,12 +26,14 @@ pub record DumpsFirst
   pub run : Replays switches steps (Ok (given ∷ others))
   pub dumped : Dumped schema given.bytes budget answer
 
--- no line of this dump says of a fault, if the schema fits what the root's step wrote
+-- The first finish is that of the first step that is one; and no line of this dump says of a fault,
+-- if the schema fits what the step of its root wrote.
 pub record DumpsFit
     (switches : Switches) (steps : List Step) (schema : Schema) (budget : ℕ)
     (lines : Vec (String Global) Global) : Type 0 where
   pub first : DumpsFirst switches steps schema budget (Ok lines)
   pub holds : FinishHolds switches steps first.given
+  pub of_first : slice_get (finishes_of steps) 0 ≡ Some holds.number
   pub no_fault :
       holds.front ≡ root_first → Fits schema steps holds.root
       → AllByRecursion (λ line. is_fault_line (string_bytes line) ≡ false) lines.items

@@ -4,6 +4,8 @@ ghost use Rattle.std.specs.Prelude.{List, ℕ};
 ghost use Rattle.planus_dump.specs.FaultLines.{HasNoSpace};
 ghost use Rattle.planus_dump.specs.Shapes.{WorkedRowsFit};
 ghost use Rattle.planus_dump.specs.declared.schemas.Schema as schema;
+ghost use Rattle.planus_read.specs.declared.table_reader.Table as reader;
+ghost use Rattle.planus_dump.specs.AsRead.{ReadingsAreSaid, UnionsAreSaid, UnionVectorsAreSaid};
 ghost use Rattle.planus_dump.specs.Laws.{FaultLinesAreTold, PathsHaveNoSpace};
 ghost use Rattle.planus_dump.specs.Laws.{FinishesHaveNoFault, DumpsHaveNoFault};
 
@@ -22,6 +24,19 @@ pub fn fault_lines_are_told()
 pub fn finishes_have_no_fault()
     ensures events { FinishesHaveNoFault }
     ensures lines { DumpsHaveNoFault }
+{}
+
+/// What a dump says of a number, a truth value, a text, a list of bytes, a vector, a vector of unions
+/// or a table that a reference leads to is what `planus_read`'s readers answer: the value exactly
+/// where one stands, and else the text of the error of the first clause that fails.
+pub fn readings_are_said()
+    ensures { (S : List ℕ) (f : ℕ) → ReadingsAreSaid S f }
+{}
+
+/// So it is with the unions and the vectors of unions of any table, in any slots.
+pub fn unions_are_said()
+    ensures unions { (table : reader.Table) (i : ℕ) → UnionsAreSaid table i }
+    ensures vectors { (table : reader.Table) (i : ℕ) → UnionVectorsAreSaid table i }
 {}
 
 /// The schema of the worked rows fits the steps that write a weapon and a monster, and none with a

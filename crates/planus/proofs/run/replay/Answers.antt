@@ -2,7 +2,7 @@ use Rattle.std.proofs.Common.{arith, refl}
 use Rattle.std.proofs.lemmas.Result.{err_from_is_err_and}
 use Rattle.planus_write.specs.Past.{no_past}
 use Rattle.planus_write.specs.View.{switches_of}
-use Rattle.planus.proofs.Replayed.{are_reached, number_is, ran, reaches_next, stops, all_hold}
+use Rattle.planus.proofs.Replayed.{are_reached, number_is, ran, reaches_next, stops, all_finished, all_hold}
 use Rattle.planus.proofs.run.replay.Goals as goal
 
 pub advance-requires-clause-reached : goal.advance-requires-clause-reached
@@ -33,3 +33,6 @@ loop-step-init c = record {
   clean = refl;
   taken = c.in_ok-progress.ensures.taken;
 }
+
+pub returns-clause-of_steps : goal.returns-clause-of_steps
+returns-clause-of_steps c = all_finished (switches_of c.args.caches) c.args.steps.now c.loop-step.step-index c.loop-step.progress c.loop-step-test.false c.loop-step.invariant

@@ -1,13 +1,12 @@
-use Rattle.std.proofs.Common.{◌≡◌, ℕ, ◌∷◌, [], List, map, length, ◌≤◌, get_or, sym, ap, subst, arith, Ok, Err, Result, drop}
-use Rattle.std.specs.Prelude.{Vec, String}
-use Rattle.std.specs.List.{AllByRecursion}
+use Rattle.std.proofs.Common.{◌≡◌, ℕ, ◌∷◌, [], List, map, length, ◌≤◌, get_or, sym, ap, subst, arith, Ok, Err, Result, Some, drop}
+use Rattle.std.specs.Prelude.{Vec, String, slice_get}
 use Rattle.std.specs.declared.alloc.Global.{Global}
 use Rattle.planus_write.specs.Shared.{Switches}
 use Rattle.planus_write.specs.View.{switches_of}
 use Rattle.planus.specs.Steps.{Step, bare_step, Front, root_first}
 use Rattle.planus.specs.Runs.{Finish}
 use Rattle.planus.specs.Replays.{Replays, finish_given}
-use Rattle.planus.specs.Headline.{FinishHolds, root_at}
+use Rattle.planus.specs.Headline.{FinishHolds, AreFinishesOf, finishes_of, root_at}
 use Rattle.planus.specs.declared.finishes.Finished.{Finished}
 use Rattle.planus_dump.specs.Dumped.{Dumped}
 use Rattle.planus_dump.specs.Laws.{piece_of}
@@ -36,24 +35,32 @@ first_dumped switches steps schema budget answer finished first (rest, e) run du
 whole_piece : (switches : Switches) (steps : List Step) (given : Finish) (holds : FinishHolds switches steps given) → holds.front ≡ root_first → piece_of switches steps given holds ≡ given.bytes
 whole_piece switches steps given holds e = ap (λ (front : Front). drop (root_at front) given.bytes) e
 
+-- the first finish of some is that of the first of these numbers
+first_is : (switches : Switches) (steps : List Step) (numbers : List ℕ) (given : Finish) (rest : List Finish) → AreFinishesOf switches steps numbers (given ∷ rest)
+    → (holds : FinishHolds switches steps given) × (slice_get numbers 0 ≡ Some holds.number)
+first_is switches steps [] given rest h = absurd h
+first_is switches steps (number ∷ numbers) given rest h = (h.0.holds, ap Some (sym h.0.of_step))
+
 fit_dumped : (switches : Switches) (steps : List Step) (schema : Schema) (budget : ℕ) (lines : Vec (String Global) Global) (finished : List Finished) (first : Finished)
-    → (rest : List Finished) × (finished ≡ first ∷ rest) → Replays switches steps (Ok (map finish_given finished)) → AllByRecursion (FinishHolds switches steps) (map finish_given finished)
+    → (rest : List Finished) × (finished ≡ first ∷ rest) → Replays switches steps (Ok (map finish_given finished)) → AreFinishesOf switches steps (finishes_of steps) (map finish_given finished)
     → Dumped schema (finish_given first).bytes budget (Ok lines) → DumpsFit switches steps schema budget lines
 unfolding first_dumped
 fit_dumped switches steps schema budget lines finished first (rest, e) run all dumped =
-    let holds : FinishHolds switches steps (finish_given first) = (subst (λ (all : List Finished). AllByRecursion (FinishHolds switches steps) (map finish_given all)) e all).0 in
+    let is = first_is switches steps (finishes_of steps) (finish_given first) (map finish_given rest)
+    (subst (λ (all : List Finished). AreFinishesOf switches steps (finishes_of steps) (map finish_given all)) e all) in
     record {
       first = first_dumped switches steps schema budget (Ok lines) finished first (rest, e) run dumped;
-      holds = holds;
-      no_fault = λ front fits. dumps_have_no_fault switches steps (finish_given first) holds schema fits budget lines
-          (subst (λ bytes. Dumped schema bytes budget (Ok lines)) (sym (whole_piece switches steps (finish_given first) holds front)) dumped);
+      holds = is.0;
+      of_first = is.1;
+      no_fault = λ front fits. dumps_have_no_fault switches steps (finish_given first) is.0 schema fits budget lines
+          (subst (λ bytes. Dumped schema bytes budget (Ok lines)) (sym (whole_piece switches steps (finish_given first) is.0 front)) dumped);
     }
 
 pub returns-in-Ok-dump : goal.returns-in-Ok-dump
 returns-in-Ok-dump c =
     let there = with_first c.as_slice.result.now c.first-item.result c.in-len1-up.len_at_least c.first-item.is in
     let items = subst (λ (all : List Finished). (rest : List Finished) × (all ≡ c.first-item.result ∷ rest)) c.as_slice.ensures.value there in
-    fit_dumped (switches_of c.args.caches) (map bare_step c.args.steps.now) c.args.schema.now c.args.budget c.in-Ok-dump.lines c.in-Ok.finished.items c.first-item.result items c.in-Ok.ensures.run c.in-Ok.ensures.holds
+    fit_dumped (switches_of c.args.caches) (map bare_step c.args.steps.now) c.args.schema.now c.args.budget c.in-Ok-dump.lines c.in-Ok.finished.items c.first-item.result items c.in-Ok.ensures.run c.in-Ok.ensures.of_steps
     (subst (λ bytes. Dumped c.args.schema.now bytes c.args.budget (Ok c.in-Ok-dump.lines)) c.as_slice-in-len1-up.ensures.value c.in-Ok-dump.ensures)
 
 pub returns : goal.returns

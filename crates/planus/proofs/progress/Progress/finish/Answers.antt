@@ -1,16 +1,17 @@
 use Rattle.std.proofs.Common.{◌≡◌, ◌∙◌, ◌++◌, ◌∷◌, [], ℕ, ap, sym, subst, map, refl, length, None, Vec, Global}
 use Rattle.std.specs.Option.{option_and_then}
 use Rattle.planus_write.specs.Parts.{finish_entry, sized_finish_entry}
-use Rattle.planus.specs.Steps.{root_first, size_first}
+use Rattle.planus.specs.Steps.{root_first, size_first, front_of, finish}
 use Rattle.planus.specs.Runs.{value_distance}
 use Rattle.planus_write.specs.Finishing.{PutsInFront}
 use Rattle.planus.specs.Names.{name_of, listed_from}
 use Rattle.planus.specs.Replays.{place_of}
-use Rattle.planus.specs.Replaying.{values_listed}
+use Rattle.planus.specs.Replaying.{values_listed, Stopped}
+use Rattle.planus.specs.declared.faults.ReplayError.TheVariants.{OutOfMemory}
 use Rattle.planus.specs.declared.finishes.Finished.{Finished}
 use Rattle.planus.specs.declared.progress.Progress.{Progress}
 use Rattle.std.proofs.lemmas.Result.{err_from_is_err_and}
-use Rattle.planus.proofs.Stepping.{value_inside, finish_advances, finish_stopped, offset_finished}
+use Rattle.planus.proofs.Stepping.{value_inside, finish_advances, finish_stopped, finish_not_given, offset_finished}
 use Rattle.planus.proofs.progress.Progress.finish.Goals as goal
 use Rattle.planus.proofs.progress.Progress.finish.Goals.{then-sized+in_ok-finish_size_prefixed+in_ok-bytes, else-sized+in_ok-finish+in_ok-bytes-2}
 
@@ -68,3 +69,45 @@ returns-in_err-finish_size_prefixed c =
     let p = err_from_is_err_and c.from_residual.result c.from_residual.ensures.1 in
     rw (c.if-sized.true, p.1, p.2) (finish_stopped size_first c.args.root c.args.id (λ n. sized_finish_entry n c.args.id) (λ n. refl) c.args.self.now c.in-Ok.root (ap (option_and_then value_distance) c.in-Ok.ensures.0) c.finish_size_prefixed.result c.in_err-finish_size_prefixed.field-0.0 c.finish_size_prefixed.follows.lender-at-none c.in_err-finish_size_prefixed.was
     c.finish_size_prefixed.follows.holds-at-none)
+
+pub returns-in_err-bytes : goal.returns-in_err-bytes
+returns-in_err-bytes c =
+    let p = err_from_is_err_and c.from_residual-in_err-bytes.result c.from_residual-in_err-bytes.ensures.1 in
+    rw (c.if-sized.true, p.1, p.2) (finish_not_given size_first c.args.root c.args.id (λ n. sized_finish_entry n c.args.id) (λ n. refl) c.args.self.now c.in-Ok.root (ap (option_and_then value_distance) c.in-Ok.ensures.0) c.finish_size_prefixed.result c.in_ok-finish_size_prefixed.field-0 c.finish_size_prefixed.follows.lender-at-none c.in_ok-finish_size_prefixed.was
+    c.finish_size_prefixed.follows.holds-at-none)
+
+pub returns-in_err-bytes-2 : goal.returns-in_err-bytes-2
+returns-in_err-bytes-2 c =
+    let p = err_from_is_err_and c.from_residual-in_err-bytes-2.result c.from_residual-in_err-bytes-2.ensures.1 in
+    rw (c.if-sized.false, p.1, p.2) (finish_not_given root_first c.args.root c.args.id (λ n. finish_entry n c.args.id) (λ n. refl) c.args.self.now c.in-Ok.root (ap (option_and_then value_distance) c.in-Ok.ensures.0) c.finish.result c.in_ok-finish.field-0 c.finish.follows.lender-at-none c.in_ok-finish.was
+    c.finish.follows.holds-at-none)
+
+pub returns-in_err-places : goal.returns-in_err-places
+returns-in_err-places c =
+    let p = err_from_is_err_and c.from_residual-in_err-places.result c.from_residual-in_err-places.ensures.1 in
+    rw (p.1, p.2) (elim c.if-sized.branch as (λ _. Stopped c.args.self.now (finish (front_of c.args.sized) c.args.root c.args.id) OutOfMemory) [
+      | then-sized+in_ok-finish_size_prefixed+in_ok-bytes w ↦ rw w.if-sized.true (finish_not_given size_first c.args.root c.args.id (λ n. sized_finish_entry n c.args.id) (λ n. refl) c.args.self.now c.in-Ok.root (ap (option_and_then value_distance) c.in-Ok.ensures.0) w.finish_size_prefixed.result w.in_ok-finish_size_prefixed.field-0 w.finish_size_prefixed.follows.lender-at-none w.in_ok-finish_size_prefixed.was
+          w.finish_size_prefixed.follows.holds-at-none)
+      | else-sized+in_ok-finish+in_ok-bytes-2 w ↦ rw w.if-sized.false (finish_not_given root_first c.args.root c.args.id (λ n. finish_entry n c.args.id) (λ n. refl) c.args.self.now c.in-Ok.root (ap (option_and_then value_distance) c.in-Ok.ensures.0) w.finish.result w.in_ok-finish.field-0 w.finish.follows.lender-at-none w.in_ok-finish.was
+          w.finish.follows.holds-at-none)
+    ])
+
+pub returns-in_err-push : goal.returns-in_err-push
+returns-in_err-push c =
+    let p = err_from_is_err_and c.from_residual-in_err-push.result c.from_residual-in_err-push.ensures.1 in
+    rw (p.1, p.2) (elim c.if-sized.branch as (λ _. Stopped c.args.self.now (finish (front_of c.args.sized) c.args.root c.args.id) OutOfMemory) [
+      | then-sized+in_ok-finish_size_prefixed+in_ok-bytes w ↦ rw w.if-sized.true (finish_not_given size_first c.args.root c.args.id (λ n. sized_finish_entry n c.args.id) (λ n. refl) c.args.self.now c.in-Ok.root (ap (option_and_then value_distance) c.in-Ok.ensures.0) w.finish_size_prefixed.result w.in_ok-finish_size_prefixed.field-0 w.finish_size_prefixed.follows.lender-at-none w.in_ok-finish_size_prefixed.was
+          w.finish_size_prefixed.follows.holds-at-none)
+      | else-sized+in_ok-finish+in_ok-bytes-2 w ↦ rw w.if-sized.false (finish_not_given root_first c.args.root c.args.id (λ n. finish_entry n c.args.id) (λ n. refl) c.args.self.now c.in-Ok.root (ap (option_and_then value_distance) c.in-Ok.ensures.0) w.finish.result w.in_ok-finish.field-0 w.finish.follows.lender-at-none w.in_ok-finish.was
+          w.finish.follows.holds-at-none)
+    ])
+
+pub returns-in_err-push-2 : goal.returns-in_err-push-2
+returns-in_err-push-2 c =
+    let p = err_from_is_err_and c.from_residual-in_err-push-2.result c.from_residual-in_err-push-2.ensures.1 in
+    rw (p.1, p.2) (elim c.if-sized.branch as (λ _. Stopped c.args.self.now (finish (front_of c.args.sized) c.args.root c.args.id) OutOfMemory) [
+      | then-sized+in_ok-finish_size_prefixed+in_ok-bytes w ↦ rw w.if-sized.true (finish_not_given size_first c.args.root c.args.id (λ n. sized_finish_entry n c.args.id) (λ n. refl) c.args.self.now c.in-Ok.root (ap (option_and_then value_distance) c.in-Ok.ensures.0) w.finish_size_prefixed.result w.in_ok-finish_size_prefixed.field-0 w.finish_size_prefixed.follows.lender-at-none w.in_ok-finish_size_prefixed.was
+          w.finish_size_prefixed.follows.holds-at-none)
+      | else-sized+in_ok-finish+in_ok-bytes-2 w ↦ rw w.if-sized.false (finish_not_given root_first c.args.root c.args.id (λ n. finish_entry n c.args.id) (λ n. refl) c.args.self.now c.in-Ok.root (ap (option_and_then value_distance) c.in-Ok.ensures.0) w.finish.result w.in_ok-finish.field-0 w.finish.follows.lender-at-none w.in_ok-finish.was
+          w.finish.follows.holds-at-none)
+    ])
