@@ -1,6 +1,6 @@
 -- What a dump says of some bytes is what readers answer.
-use Rattle.std.proofs.Common.{◌≡◌, ◌≢◌, ℕ, zero, suc, ◌+◌, ◌*◌, ◌<◌, ◌≤◌, List, [], ◌∷◌, length, drop, refl, sym, ap, ◌∙◌, subst, arith, Bool, true, false, Option, Some, None, Result, Ok, Err, inl, inr}
-use Rattle.std.specs.Prelude.{nat_lt, nat_le, ◌==◌, ◌⊎◌, not, slice_index}
+use Rattle.std.proofs.Common.{◌≡◌, ◌≢◌, ℕ, zero, suc, ◌+◌, ◌*◌, ◌<◌, ◌≤◌, List, [], ◌∷◌, length, refl, sym, ap, ◌∙◌, subst, arith, Bool, true, false, Option, Some, None, Result, Ok, Err, inl, inr}
+use Rattle.std.specs.Prelude.{nat_lt, nat_le, ◌==◌, ◌⊎◌, not}
 use Rattle.std.specs.Option.{option_map}
 use Rattle.std.specs.Fmt.{decimal, signed_decimal}
 use Rattle.std.specs.Int.{Width, w8, byte_len, cast_signed}
@@ -11,16 +11,16 @@ use Rattle.planus_read.specs.declared.errors.ErrorKind.TheVariants.{InvalidOffse
 use Rattle.planus_read.specs.declared.table_reader.Table.{Table}
 use Rattle.planus_read.specs.Bytes.{Num}
 use Rattle.planus_read.specs.Clauses.{Reading, AllHold, Answer}
-use Rattle.planus_read.specs.Reading.{number, target, count_at, items_at, vtable_at, vtable_size_at, number_reading, signed_reading, truth_reading, text_reading, text_clauses, byte_list_reading, vector_reading, union_vector_reading, table_reading, Items, UnionItems, TableLayout, slots_of}
+use Rattle.planus_read.specs.Reading.{number, target, count_at, items_at, vtable_at, vtable_size_at, number_reading, signed_reading, truth_reading, text_reading, byte_list_reading, vector_reading, union_vector_reading, table_reading, Items, UnionItems, TableLayout}
 use Rattle.planus_read.specs.Tables.{table_object, table_slots, slot_of, tag_of, BothSlots, HalfVector, UnionAbsent, UnionThere, UnionBroken, UnionVectorSlots}
 use Rattle.planus_read.proofs.Reading.{num_inside, num_value, num_there, text_there, text_holds, byte_list_there, byte_list_holds, vector_there, vector_holds, union_vector_there, union_vector_holds, table_there, table_holds}
 use Rattle.planus_dump.specs.Lines.{quoted, bytes_text, truth_text}
 use Rattle.planus_dump.specs.Tests.{Test, answered, number_test, text_tests, byte_list_tests, vector_tests, union_vector_tests, table_tests, content_at, fault_text}
-use Rattle.planus_dump.specs.Answers.{unsigned_at, signed_at, leaf_at, table_at, union_at, unions_at, union_vector_at, some_of, tagged_union, Seen, SeenUnion, SeenUnions}
+use Rattle.planus_dump.specs.Answers.{unsigned_at, signed_at, leaf_at, table_at, union_at, unions_at, some_of, tagged_union, Seen, SeenUnion}
 use Rattle.planus_dump.specs.Seeing.{answer_seen, table_seen}
 use Rattle.planus_dump.specs.AsRead.{SaysAsRead, items_in, unions_in, layout_in, ReadingsAreSaid, UnionsAreSaid, NoUnionVector, UnionVectorsAreSaid}
 use Rattle.planus_dump.specs.declared.values.Leaf.TheVariants.{Bool as LeafBool}
-use Rattle.planus_dump.proofs.Matching.{Matches, all_pass, first_fails, passed_all, le_match, le_false, lt_false}
+use Rattle.planus_dump.proofs.Matching.{Matches, all_pass, first_fails, passed_all, le_match, le_false}
 use Rattle.planus_dump.proofs.Answering.{text_matches, table_matches, union_vector_matches, union_at_both, union_absent, union_there, unions_both, half, whole}
 use Rattle.planus_dump.proofs.Leaves.{byte_list_matches, vector_matches}
 

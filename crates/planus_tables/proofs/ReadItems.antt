@@ -1,6 +1,6 @@
 -- What is read of the items of a vector of references.
-use Rattle.std.proofs.Common.{◌≡◌, ℕ, zero, suc, ◌+◌, ◌*◌, List, [], ◌∷◌, length, drop, sym, subst, ap, ◌∙◌}
-use Rattle.std.proofs.Common.{Option, Some, None, Result, Ok, Err, refl}
+use Rattle.std.proofs.Common.{◌≡◌, ℕ, zero, suc, ◌+◌, ◌*◌, List, [], ◌∷◌, length, drop, subst, ap, ◌∙◌}
+use Rattle.std.proofs.Common.{Some, Result, Ok, Err, refl}
 use Rattle.std.specs.Borrow.{Bor}
 use Rattle.std.specs.Prelude.{IsOkAnd, map, slice_get}
 use Rattle.std.specs.Str.{IsUtf8}
@@ -17,15 +17,10 @@ use Rattle.planus_read.specs.Values.{text}
 use Rattle.planus_read.proofs.ReadingLaws.{is_shown, lawful_text}
 use Rattle.planus_read.proofs.ReadsBack.{what_stands_reads_back}
 use Rattle.planus_view.specs.Views.{View}
-use Rattle.planus_view.specs.VectorView.{view_of}
-use Rattle.planus_view.specs.declared.vector.SliceView.{SliceView}
-use Rattle.planus_view.specs.declared.vector_of.VectorOf.{VectorOf}
-use Rattle.planus_write.specs.Contents.{Content}
-use Rattle.planus_tables.specs.ReadBack.{AllStand, TableStands, TableHolds}
-use Rattle.planus_tables.specs.ReadVectors.{AreReferences, item_offset, TextItemsReadBack}
+use Rattle.planus_tables.specs.ReadBack.{AllStand, TableHolds}
+use Rattle.planus_tables.specs.ReadVectors.{item_offset, TextItemsReadBack}
 use Rattle.planus_tables.specs.ReadVectors.{TableItemsReadBack}
 use Rattle.planus_tables.specs.Views.{ShowsView}
-use Rattle.planus_tables.specs.declared.table_ref.TableRef.{TableRef}
 use Rattle.planus_tables.proofs.ReadBack.{table_led}
 
 -- texts that stand at some distances are as many
