@@ -19,14 +19,14 @@ pub use faults::{ReplayError, Why};
 pub use finishes::{Finished, StepPlace};
 pub use planus_back::{Fill, Overwrite};
 pub use planus_fields::{
-    DefaultValue, LeftOut, WriteAs, WriteAsDefault, WriteAsDefaultUnionVector, WriteAsOptional,
-    WriteAsOptionalUnion, WriteAsOptionalUnionVector,
+    DefaultValue, LeftOut, PlainDefault, PlainField, WriteAs, WriteAsDefault,
+    WriteAsDefaultUnionVector, WriteAsOptional, WriteAsOptionalUnion, WriteAsOptionalUnionVector,
 };
 pub use planus_read::{
-    ArrayWithStartOffset, Error, Place, ReadAsRoot, ReadError, Result, SignedBytes,
-    SliceWithStartOffset, Stride, TableRead, TableReadUnion, TableReadUnionVector, TaggedPlace,
-    VectorRead, VectorReadInner, VectorReadUnion, Void, errors, has_identifier, located,
-    read_size_prefixed, table_reader,
+    ArrayWithStartOffset, Enumeration, Error, Place, Plain, PlainItem, PlainTotal, ReadAsRoot,
+    ReadError, Result, SignedBytes, SliceWithStartOffset, Stride, TableRead, TableReadUnion,
+    TableReadUnionVector, TaggedPlace, VectorRead, VectorReadInner, VectorReadUnion, Void, errors,
+    has_identifier, located, read_size_prefixed, table_reader,
 };
 pub use planus_tables::{
     OrDefault, Required, TableKind, TableRef, Variant, create_table, fields, variant,

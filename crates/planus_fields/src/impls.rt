@@ -7,7 +7,7 @@ mod byte_list;
 mod default_value;
 mod offset;
 mod option;
-mod scalar;
+mod plain;
 mod signed_list;
 mod slice;
 mod str;

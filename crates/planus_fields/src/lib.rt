@@ -4,10 +4,12 @@
 mod default_value;
 mod impls;
 mod left_out;
+mod plain_field;
 pub mod traits;
 
 pub use default_value::DefaultValue;
 pub use left_out::LeftOut;
+pub use plain_field::{PlainDefault, PlainField};
 pub use traits::{
     WriteAs, WriteAsDefault, WriteAsDefaultUnionVector, WriteAsOptional, WriteAsOptionalUnion,
     WriteAsOptionalUnionVector,

@@ -39,6 +39,7 @@ use Rattle.planus_read.proofs.TableReading.{slot_reads_whole}
 plain_reads : (S : List ℕ) (f : ℕ) (bytes : List ℕ) → BytesStand S f bytes → PlainReads S f bytes
 plain_reads S f bytes h =
     record {
+      stands = h;
       number = λ width long. (lawful_number S f width).answered (from_le_bytes width bytes)
           (num_of_bytes S f width bytes long h);
       signed = λ width long. (lawful_signed S f width).answered

@@ -8,6 +8,12 @@ pub mod Pieces
 pub mod Clauses
 pub mod Utf8
 pub mod Reading
+pub mod Plain
+pub mod PlainNumbers
+pub mod Structs
+pub mod lemmas
+pub mod Floats
+pub mod Enums
 pub mod Heads
 pub mod Located
 pub mod SignedBytes

@@ -8,7 +8,7 @@ use Rattle.planus_read.specs.declared.errors.ErrorKind.{ErrorKind}
 use Rattle.planus_read.specs.declared.place.Place.{Place}
 use Rattle.planus_read.specs.declared.place.TaggedPlace.{TaggedPlace}
 use Rattle.planus_read.specs.declared.table_reader.Table.{Table}
-use Rattle.planus_read.specs.Bytes.{position_of}
+use Rattle.planus_read.specs.Bytes.{BytesStand, position_of}
 use Rattle.planus_read.specs.Clauses.{Answer, shown}
 use Rattle.planus_read.specs.Values.{Value, text, byte_list, plain_list, reference_list, union_vector}
 use Rattle.planus_read.specs.Values.{table, Field, plain, reference, tags, values}
@@ -29,8 +29,9 @@ WellFormed (text bytes) = IsUtf8 bytes
 WellFormed _ = ⊤
 
 -- The bytes of a plain item at f of S, as its reader answers them: a number or a signed number of
--- as many bytes, and one byte as a truth value.
+-- as many bytes, and one byte as a truth value. They stand there, for readers of structs.
 pub record PlainReads (S : List ℕ) (f : ℕ) (bytes : List ℕ) : Type 0 where
+  pub stands : BytesStand S f bytes
   pub number :
       (width : Width) → length bytes ≡ byte_len width
       → IsAnswered (number_reading S f width) (from_le_bytes width bytes)

@@ -2,7 +2,7 @@
 //! empty.
 
 ghost use Rattle.std.specs.Int.{Width};
-ghost use Rattle.std.specs.Prelude.{ℕ, List};
+ghost use Rattle.std.specs.Prelude.{◌≡◌, ℕ, List};
 ghost use Rattle.planus_read.specs.ListItems.{PlainItemsStand, ReferenceItemsStand};
 ghost use Rattle.planus_read.specs.ListItems.{UnionItemsStand};
 ghost use Rattle.planus_read.specs.Reading.{number_reading, signed_reading, truth_reading};
@@ -22,7 +22,23 @@ ghost use Rattle.planus_read.specs.ReadsBack.{FieldsReadBack, WhatStandsReadsBac
 ghost use Rattle.planus_read.specs.TableReading.{FieldsRead, UnionsRead, UnionVectorsRead};
 ghost use Rattle.planus_read.specs.Moves.{KeepsStanding, KeepsLeading, StandsAlone, LeadsAlone};
 
+use crate::plain::Plain;
 use crate::traits::{TableRead, TableReadUnion, TableReadUnionVector};
+
+/// A number, a truth value and a float have the alignment that is their size.
+pub fn scalars_are_aligned_to_their_size()
+    ensures u8 { ⟦<u8 as Plain>⟧.ALIGNMENT ≡ ⟦<u8 as Plain>⟧.SIZE }
+    ensures u16 { ⟦<u16 as Plain>⟧.ALIGNMENT ≡ ⟦<u16 as Plain>⟧.SIZE }
+    ensures u32 { ⟦<u32 as Plain>⟧.ALIGNMENT ≡ ⟦<u32 as Plain>⟧.SIZE }
+    ensures u64 { ⟦<u64 as Plain>⟧.ALIGNMENT ≡ ⟦<u64 as Plain>⟧.SIZE }
+    ensures i8 { ⟦<i8 as Plain>⟧.ALIGNMENT ≡ ⟦<i8 as Plain>⟧.SIZE }
+    ensures i16 { ⟦<i16 as Plain>⟧.ALIGNMENT ≡ ⟦<i16 as Plain>⟧.SIZE }
+    ensures i32 { ⟦<i32 as Plain>⟧.ALIGNMENT ≡ ⟦<i32 as Plain>⟧.SIZE }
+    ensures i64 { ⟦<i64 as Plain>⟧.ALIGNMENT ≡ ⟦<i64 as Plain>⟧.SIZE }
+    ensures bool { ⟦<bool as Plain>⟧.ALIGNMENT ≡ ⟦<bool as Plain>⟧.SIZE }
+    ensures f32 { ⟦<f32 as Plain>⟧.ALIGNMENT ≡ ⟦<f32 as Plain>⟧.SIZE }
+    ensures f64 { ⟦<f64 as Plain>⟧.ALIGNMENT ≡ ⟦<f64 as Plain>⟧.SIZE }
+{}
 
 /// What stands in some bytes, of any kind, keeps standing behind whatever is put in front of them,
 /// at positions further on by the length of that, and so at the same distances from the end. A

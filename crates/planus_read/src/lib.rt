@@ -8,6 +8,7 @@ mod impls;
 pub mod laws;
 pub mod located;
 mod place;
+mod plain;
 mod signed_bytes;
 mod size_prefixed;
 mod slice_helpers;
@@ -16,7 +17,9 @@ mod traits;
 
 pub use errors::Error;
 pub use heads::array_from_buffer;
+pub use impls::Enumeration;
 pub use place::{Place, TaggedPlace};
+pub use plain::{Plain, PlainItem, PlainTotal};
 pub use signed_bytes::SignedBytes;
 pub use size_prefixed::{has_identifier, read_size_prefixed};
 pub use slice_helpers::{ArrayWithStartOffset, SliceWithStartOffset};

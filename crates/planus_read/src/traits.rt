@@ -28,8 +28,9 @@ pub trait ReadAsRoot<'a>: Sized {
 ///
 /// | Type | Errors |
 /// |---|---|
-/// | `u8` to `u64`, `i8` to `i64`, `bool` | [`ErrorKind::InvalidOffset`] where its bytes don't all
-/// lie in the piece |
+/// | `u8` to `u64`, `i8` to `i64`, `f32`, `f64`, `bool`, and each [`crate::Plain`] |
+/// [`ErrorKind::InvalidOffset`] where its bytes don't all lie in the piece; then what its own `read`
+/// says, as [`ErrorKind::UnknownEnumTag`] of a [`crate::Enumeration`] whose number no variant has |
 /// | `&str` | [`ErrorKind::InvalidOffset`] where the reference, what it leads to or the count
 /// doesn't lie in the piece; [`ErrorKind::MissingNullTerminator`] where no zero byte follows the
 /// text, or the text passes the end; [`ErrorKind::InvalidUtf8`] where its bytes aren't UTF-8 |

@@ -2,6 +2,7 @@ pub mod FieldLists
 pub mod RuledTables
 pub mod ReadBack
 pub mod ReadKinds
+pub mod ReadPlain
 pub mod Finished
 pub mod ReadVectors
 pub mod ReadItems

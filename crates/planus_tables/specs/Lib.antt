@@ -8,5 +8,6 @@ pub mod ReadBack
 pub mod ReadKinds
 pub mod ReadVectors
 pub mod ReadUnions
+pub mod ReadPlain
 pub mod Variants
 pub mod lemmas

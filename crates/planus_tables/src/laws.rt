@@ -10,6 +10,7 @@ ghost use Rattle.planus_tables.specs.ReadBack.{ItemsReadBack, ReferencesReadBack
 ghost use Rattle.planus_tables.specs.ReadBack.{AbsentFieldsReadBack};
 ghost use Rattle.planus_tables.specs.ReadKinds.{TextsReadBack, ByteListsReadBack, NumbersReadBack};
 ghost use Rattle.planus_tables.specs.ReadKinds.{SignedReadBack, TruthsReadBack, TablesReadBack};
+ghost use Rattle.planus_tables.specs.ReadPlain.{PlainReadBack, PlainItemsReadBack};
 ghost use Rattle.planus_tables.specs.ReadUnions.{UnionsReadBack, NewUnionVectorsReadBack};
 ghost use Rattle.planus_tables.specs.ReadUnions.{WrittenUnionVectorsReadBack};
 ghost use Rattle.planus_tables.specs.ReadUnions.{AbsentUnionVectorsReadBack};
@@ -19,7 +20,7 @@ ghost use Rattle.planus_tables.specs.ReadVectors.{PlainVectorsReadBack, Referenc
 ghost use Rattle.planus_tables.specs.ReadVectors.{ValueVectorsReadBack, TextItemsReadBack};
 ghost use Rattle.planus_tables.specs.ReadVectors.{TableItemsReadBack};
 
-use planus_read::{Stride, TableRead, TableReadUnion};
+use planus_read::{Plain, Stride, TableRead, TableReadUnion};
 use planus_write::WriteAsOffset;
 
 /// A table that is kept, as `create_table` says with `Ok`, stands in what was written, with all
@@ -77,6 +78,13 @@ pub fn fields_read_back()
     ensures i32s { SignedReadBack w32 }
     ensures i64s { SignedReadBack w64 }
     ensures truths { TruthsReadBack }
+{}
+
+/// Of a slot that holds a value of a fixed layout, such as a struct, an enum or a float, they return
+/// this value; and so does a read of an item of a vector.
+pub fn plain_values_read_back<T: Plain>()
+    ensures fields { PlainReadBack T.Plain }
+    ensures items { PlainItemsReadBack T.Plain }
 {}
 
 /// Of a slot that refers to a table that stands they return its view, with all its contents.

@@ -16,7 +16,8 @@ use Rattle.planus_write.specs.Parts.{items_bytes, items_part, count_part, filled
 use Rattle.planus_write.specs.Items.{Item}
 use Rattle.planus_write.specs.State.{State}
 use Rattle.planus_write.specs.Placing.{Outcome, WritesEntry, Refuses}
-use Rattle.planus_write.specs.Preparing.{IsLayout, AsOffset, AnswersLast}
+use Rattle.planus_read.specs.Plain.{IsLayout}
+use Rattle.planus_write.specs.Preparing.{AsOffset, AnswersLast}
 use Rattle.planus_write.specs.Preparing.{WritesEntries, WritesPrepared, WritesList, MayStand}
 use Rattle.planus_write.specs.declared.errors.BuildError.{BuildError}
 use Rattle.planus_write.specs.declared.errors.BuildError.TheVariants.{OutOfMemory, TooLarge}

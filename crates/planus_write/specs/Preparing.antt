@@ -1,8 +1,7 @@
 -- What the preparing of a value may do.
-use Rattle.std.specs.Prelude.{◌≡◌, ℕ, ◌+◌, ◌*◌, ◌<◌, ◌≤◌, ◌^◌, List, [], ◌∷◌, ◌++◌, length, map}
+use Rattle.std.specs.Prelude.{◌≡◌, ℕ, ◌+◌, ◌*◌, ◌≤◌, List, [], ◌∷◌, ◌++◌, length, map}
 use Rattle.std.specs.Prelude.{slice_get, Some, Result, Ok, Err, Vec}
 use Rattle.std.specs.declared.alloc.Global.{Global}
-use Rattle.std.specs.Int.{◌∣◌}
 use Rattle.std.specs.List.{AllByRecursion}
 use Rattle.planus_write.specs.Past.{Entry}
 use Rattle.planus_write.specs.Parts.{text_entry, byte_list_entry, list_entries, last_of}
@@ -12,13 +11,6 @@ use Rattle.planus_write.specs.Placing.{Outcome, then_does, WritesEntry}
 use Rattle.planus_write.specs.declared.errors.BuildError.{BuildError}
 use Rattle.planus_write.specs.declared.errors.BuildError.TheVariants.{OutOfMemory}
 use Rattle.planus_write.specs.declared.offset.Offset.{Offset}
-
--- The layout of a primitive: its alignment in bytes is a power of two up to 2^30, and its size a
--- positive multiple of that.
-pub record IsLayout (size alignment : ℕ) : Type 0 where
-  pub power : (k : ℕ) × (k ≤ 30) × (alignment ≡ 2 ^ k)
-  pub positive : 0 < size
-  pub multiple : alignment ∣ size
 
 -- What is asked of everything that can be prepared, by when it may be, what that does, and how far
 -- from the end of the bytes the answer refers.

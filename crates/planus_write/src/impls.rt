@@ -1,18 +1,14 @@
 //! The types that can be written.
 
 mod array;
-mod bool_;
 mod box_;
 mod by_ref;
 mod byte_lists;
 mod offset;
-mod primitives;
-mod scalar;
+mod plain;
 mod slice;
 mod str;
 mod string;
 mod union_offset;
 mod union_vector_offset;
 mod vec;
-
-pub use scalar::Scalar;

@@ -25,7 +25,6 @@ pub use by_ref::ByRef;
 pub use byte_lists::{ByteList, SignedList};
 pub use caches::Caches;
 pub use errors::BuildError;
-pub use impls::Scalar;
 pub use markers::{Initialized, Uninitialized};
 pub use object_writer::{ObjectFill, ObjectWriter};
 pub use offset::{List, Offset, Text};

@@ -1,30 +1,43 @@
-//! Truth values.
+//! Truth values: one byte, 0 or 1; each other number is read as true.
 
-ghost use Rattle.std.specs.Int.{w8};
+ghost use Rattle.std.specs.Prelude.{[], ◌∷◌, ⊤};
+ghost use Rattle.std.specs.Int.{from_bool};
 ghost use Rattle.std.proofs.Common.{lit≤, refl};
+ghost use Rattle.planus_read.specs.PlainNumbers.{truth_is_plain};
 ghost use Rattle.planus_read.specs.Reading.{TruthThere};
 
-use super::scalar::{Scalar, ScalarItem};
+use crate::errors::ErrorKind;
+use crate::plain::{Plain, PlainItem, PlainTotal};
 use crate::slice_helpers::SliceWithStartOffset;
 use crate::traits::Stride;
 
-impl Scalar for bool {
-    ghost width = { w8 };
+impl Plain for bool {
+    ghost ALIGNMENT = { 1 };
+
+    ghost SIZE = { 1 };
+
+    ghost encoded = { λ truth. from_bool truth ∷ [] };
+
+    ghost fits = { λ truth. ⊤ };
 
     ghost there = { λ S f x. TruthThere S f x };
 
-    ghost is_positive = { lit≤ tt };
+    const ALIGNMENT: usize = 1;
+
+    const SIZE: usize = 1;
 
     #[inline]
-    fn size() -> usize {
-        1
+    fn put(&self, bytes: &mut [u8]) {
+        bytes.copy_from_slice(&[u8::from(*self)]);
     }
 
     #[inline]
-    fn read(buffer: SliceWithStartOffset<'_>, offset: usize) -> bool {
+    fn read(buffer: SliceWithStartOffset<'_>, offset: usize) -> Result<bool, ErrorKind> {
         let [byte] = *buffer.unchecked_advance_as_array::<1>(offset).as_array();
-        byte != 0
+        Ok(byte != 0)
     }
+
+    ghost is_plain = { truth_is_plain };
 }
 
 impl Stride for bool {
@@ -38,6 +51,10 @@ impl Stride for bool {
     }
 }
 
-impl ScalarItem for bool {
+impl PlainItem for bool {
     ghost is_its_size = { refl };
+}
+
+impl PlainTotal for bool {
+    ghost never_fails = { λ S f e broken. broken };
 }

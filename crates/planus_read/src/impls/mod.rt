@@ -2,7 +2,10 @@
 
 mod bool_;
 mod byte_slice;
+mod enumeration;
+mod floats;
 mod primitives;
 mod result;
-mod scalar;
 mod str;
+
+pub use enumeration::Enumeration;

@@ -6,7 +6,7 @@ use Rattle.std.proofs.Common.{refl, subst, sym}
 use Rattle.planus_read.specs.Values.{plain, reference, tags as tags_field}
 use Rattle.planus_read.specs.Values.{values as values_field}
 use Rattle.planus_write.specs.Items.{plain_item, reference_item}
-use Rattle.planus_write.specs.Preparing.{IsLayout}
+use Rattle.planus_read.specs.Plain.{IsLayout}
 use Rattle.planus_write.specs.FieldItems.{IsItem}
 
 -- bytes that are as many as the size

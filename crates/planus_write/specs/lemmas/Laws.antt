@@ -2,15 +2,15 @@
 use Rattle.std.specs.Prelude.{◌≡◌, ℕ, ◌+◌, ◌≤◌, List, [], ◌∷◌, ◌++◌, length, replicate, Option}
 use Rattle.std.specs.Prelude.{Some, None, Result, Ok, Err, ⊤}
 use Rattle.std.proofs.Common.{ap, subst, sym, refl, ◌∙◌, arith, append_assoc, length-append, lit<}
-use Rattle.std.proofs.Common.{lit≤}
-use Rattle.planus_back.proofs.Multiples.{divides_multiple}
+use Rattle.std.proofs.Math.Nat.{pow-le-pow_right}
 use Rattle.planus_back.specs.Parts.{Part}
 use Rattle.planus_back.specs.Padding.{promise_of}
 use Rattle.planus_write.specs.Shared.{Contents, Seen, Switches, and_seen, shared_as}
 use Rattle.planus_write.specs.Past.{Past, Entry, Adds, PutsAfter, Puts, found_before, part_after}
 use Rattle.planus_write.specs.State.{State, IsPast, Extends, Grows}
 use Rattle.planus_write.specs.Placing.{Outcome, PutsDown, WritesEntry, LeftAsItWas}
-use Rattle.planus_write.specs.Preparing.{IsLawful, IsLayout, Answers, AsOffset, IsPrepared}
+use Rattle.planus_read.specs.Plain.{IsLayout}
+use Rattle.planus_write.specs.Preparing.{IsLawful, Answers, AsOffset, IsPrepared}
 use Rattle.planus_write.specs.declared.errors.BuildError.{BuildError}
 use Rattle.planus_write.specs.declared.errors.BuildError.TheVariants.{OutOfMemory, TooLarge}
 use Rattle.planus_write.specs.declared.offset.Offset.{Offset}
@@ -207,18 +207,11 @@ ready_is_lawful {A} = record {
   stays = λ x old new grows may. tt;
 }
 
--- the layouts of numbers
-pub layout_of_one : IsLayout 1 1
-layout_of_one = record { power = (0, lit≤ tt, refl); positive = lit< tt; multiple = divides_multiple _ 1 _ refl }
-
-pub layout_of_two : IsLayout 2 2
-layout_of_two = record { power = (1, lit≤ tt, refl); positive = lit< tt; multiple = divides_multiple _ 1 _ refl }
-
-pub layout_of_four : IsLayout 4 4
-layout_of_four = record { power = (2, lit≤ tt, refl); positive = lit< tt; multiple = divides_multiple _ 1 _ refl }
-
-pub layout_of_eight : IsLayout 8 8
-layout_of_eight = record { power = (3, lit≤ tt, refl); positive = lit< tt; multiple = divides_multiple _ 1 _ refl }
+-- an alignment is a power of two up to 2^30
+pub alignment_is_small : (size alignment : ℕ) → IsLayout size alignment → alignment ≤ 1073741824
+alignment_is_small size alignment layout =
+    subst (λ n. n ≤ 1073741824) (sym layout.power.2)
+    (pow-le-pow_right {n = 2} (lit< tt) layout.power.1)
 
 -- what is prepared as something else is lawful where that is
 pub lawful_of : {X Y A : Type 0} {may : X → State → Type 0} {outcome : X → Outcome A}

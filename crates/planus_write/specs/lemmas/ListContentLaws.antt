@@ -12,7 +12,8 @@ use Rattle.planus_write.specs.Parts.{entries_of, list_entries, last_of}
 use Rattle.planus_write.specs.Past.{Past, Entry}
 use Rattle.planus_write.specs.Placing.{Outcome}
 use Rattle.planus_write.specs.InBuilder.{AllIn}
-use Rattle.planus_write.specs.Preparing.{AllMay, AreLawful, Answers, IsLawful, IsLayout, PreparesAll}
+use Rattle.planus_read.specs.Plain.{IsLayout}
+use Rattle.planus_write.specs.Preparing.{AllMay, AreLawful, Answers, IsLawful, PreparesAll}
 use Rattle.planus_write.specs.Preparing.{PreparesItems, WritesEntries, WritesList}
 use Rattle.planus_write.specs.State.{State, IsPast}
 use Rattle.planus_write.specs.declared.offset.Offset.{Offset}

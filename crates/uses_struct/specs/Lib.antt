@@ -1,0 +1,3 @@
+pub mod Kinds
+pub mod Structs
+pub mod Sites

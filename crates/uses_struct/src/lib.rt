@@ -1,0 +1,16 @@
+//! Places: tables with structs, an enum and a float.
+#![tactic(auto)]
+
+mod fix;
+mod kind;
+mod leg;
+mod pos;
+mod read_back;
+mod site;
+
+pub use fix::Fix;
+pub use kind::Kind;
+pub use leg::Leg;
+pub use pos::Pos;
+pub use read_back::{SiteError, home_read_back};
+pub use site::{Site, SiteFields, point};

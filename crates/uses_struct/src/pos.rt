@@ -1,0 +1,66 @@
+//! Where something is, of the schema `struct Pos { lat: int32; lon: int32; alt: int16; }`.
+ghost use Rattle.std.proofs.Common.{lit≤, refl};
+ghost use Rattle.uses_struct.specs.Structs.{pos_shape};
+
+use planus_fields::PlainField;
+use planus_read::errors::ErrorKind;
+use planus_read::{
+    Plain, PlainItem, PlainTotal, SliceWithStartOffset, Stride, put_fields, read_fields,
+};
+
+/// Where something is.
+#[derive(Clone, Copy, Debug, PartialEq)]
+pub struct Pos {
+    /// The latitude.
+    pub lat: i32,
+    /// The longitude.
+    pub lon: i32,
+    /// The height.
+    pub alt: i16,
+}
+
+impl Plain for Pos {
+    ghost ALIGNMENT = { 4 };
+
+    ghost SIZE = { 12 };
+
+    ghost encoded = { pos_shape.encoded };
+
+    ghost fits = { pos_shape.fits };
+
+    ghost there = { pos_shape.There };
+
+    ghost is_plain = { pos_shape.is_plain };
+
+    const ALIGNMENT: usize = 4;
+
+    const SIZE: usize = 12;
+
+    fn put(&self, bytes: &mut [u8]) {
+        put_fields!(self, bytes; lat: 4, lon: 4, alt: 2, _: 2);
+    }
+
+    fn read(buffer: SliceWithStartOffset<'_>, offset: usize) -> Result<Pos, ErrorKind> {
+        read_fields!(Pos, buffer, offset; lat, lon: 4, alt: 8)
+    }
+}
+
+impl Stride for Pos {
+    ghost STRIDE = { 12 };
+
+    ghost is_positive = { lit≤ tt };
+
+    fn stride() -> usize {
+        12
+    }
+}
+
+impl PlainItem for Pos {
+    ghost is_its_size = { refl };
+}
+
+impl PlainTotal for Pos {
+    ghost never_fails = { λ S f e broken. broken };
+}
+
+impl PlainField for Pos {}
