@@ -1,3 +1,4 @@
 pub mod LeftOut
 pub mod Vectors
 pub mod Causes
+pub mod Referred

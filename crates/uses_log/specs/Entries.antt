@@ -1,6 +1,6 @@
 -- What an entry holds.
 use Rattle.std.specs.Prelude.{ℕ, List, [], ◌∷◌, Option, ◌==◌}
-use Rattle.planus_write.specs.Contents.{Content, written}
+use Rattle.planus_write.specs.Contents.{Content}
 use Rattle.planus_fields.specs.Contents.{holds_if, unless}
 use Rattle.planus_tables.specs.Holds.{holds_u64, holds_u16, holds_u8, holds_text, holds_texts}
 use Rattle.planus_tables.specs.Holds.{holds_offset, holds_offsets, holds_union_value, holds_union_tag}

@@ -1,3 +1,4 @@
 pub mod Origins
 pub mod Entries
 pub mod Causes
+pub mod Reading

@@ -12,4 +12,4 @@ pub use cause::{Cause, CauseRef};
 pub use entry::{Entry, EntryFields, EntryRef};
 pub use level::Level;
 pub use origin::{Origin, OriginRef};
-pub use read_back::{LogError, text_read_back};
+pub use read_back::{EntryRead, LogError, all_read_back, text_read_back};

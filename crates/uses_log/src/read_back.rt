@@ -1,10 +1,16 @@
 //! What was written is read back.
 
-ghost use Rattle.std.specs.Prelude.{◌≡◌, IfOk, MatchOption, ⊤};
+ghost use Rattle.std.specs.Prelude.{◌≡◌, IfOk, IsSomeAnd, List as list, MatchOption, ℕ, map, ⊤};
 ghost use Rattle.planus_write.specs.InBuilder.{IsIn, AllIn};
+ghost use Rattle.planus_tables.specs.ReadVectors.{ItemsAreTexts, ItemsAreTables};
+ghost use Rattle.uses_log.specs.Reading.{IsRead, KeptTablesStandIn};
+ghost use Rattle.uses_log.specs.declared.entry.Entry.{Entry};
 
+use crate::cause::CauseRef;
 use crate::entry::{Entry, EntryFields, EntryRef};
-use planus::{BuildError, Builder, Error, ReadAsRoot};
+use crate::level::Level;
+use crate::origin::OriginRef;
+use planus::{BuildError, Builder, Error, Offset, ReadAsRoot, Stride, Vector};
 use planus_tables::laws;
 
 /// Why an entry can't be written, or not be read.
@@ -54,4 +60,62 @@ pub fn text_read_back<'b>(
     let bytes = builder.finish(offset, None)?;
     let root: EntryRef<'_> = ReadAsRoot::read_as_root(bytes)?;
     Ok(Entry::text(&root)?)
+}
+
+/// What is read of an entry: its eight fields, each in place.
+pub struct EntryRead<'a> {
+    pub at: u64,
+    pub retries: u16,
+    pub text: &'a str,
+    pub tags: Option<Vector<'a, planus::Result<&'a str>>>,
+    pub origin: Option<OriginRef<'a>>,
+    pub cause: Option<CauseRef<'a>>,
+    pub parents: Option<Vector<'a, planus::Result<EntryRef<'a>>>>,
+    pub level: Level,
+}
+
+/// Writes an entry as the root of a buffer, and reads it. With `Ok` each field is that of the
+/// argument: its numbers and its text are the same, its tags are read as the items of a vector, and
+/// its origin, its cause and its parents, which were written before, as views with all their
+/// contents.
+pub fn all_read_back<'b>(
+    builder: &'b mut Builder,
+    entry: EntryFields<'_>,
+) -> Result<EntryRead<'b>, LogError>
+    requires origin { MatchOption entry.origin ⊤ (λ origin. IsIn builder.old origin) }
+    requires cause { MatchOption entry.cause ⊤ (λ cause. IsIn builder.old cause.offset) }
+    requires parents { AllIn builder.old entry.parents.now }
+    ensures { IfOk result (λ read. (B : list ℕ) × KeptTablesStandIn B builder.old
+        × IsRead B entry.entry read
+        × IsSomeAnd read.tags (ItemsAreTexts ⟦<planus::Result<&'b str> as Stride>⟧
+        (map (λ tag. tag.now) entry.entry.tags.now))
+        × IsSomeAnd read.parents (ItemsAreTables ⟦<planus::Result<EntryRef<'b>> as Stride>⟧ Entry B
+        (map (λ parent. parent.distance) entry.entry.parents.now))) }
+{
+    laws::kept_tables_stay();
+    laws::finishes_keep_tables::<Entry, Offset<Entry>>();
+    laws::finished_tables_stand::<Entry>();
+    laws::views_read_back::<Entry>();
+    builder.has_a_past();
+    let offset = Entry::create(builder, entry)?;
+    let bytes = builder.finish(offset, None)?;
+    let root: EntryRef<'_> = ReadAsRoot::read_as_root(bytes)?;
+    let at = Entry::at(&root)?;
+    let retries = Entry::retries(&root)?;
+    let text = Entry::text(&root)?;
+    let tags = Entry::tags(&root)?;
+    let origin = Entry::origin(&root)?;
+    let cause = Entry::cause(&root)?;
+    let parents = Entry::parents(&root)?;
+    let level = Entry::level(&root)?;
+    Ok(EntryRead {
+        at,
+        retries,
+        text,
+        tags,
+        origin,
+        cause,
+        parents,
+        level,
+    })
 }

@@ -7,7 +7,8 @@ ghost use Rattle.planus_write.specs.State.{Grows};
 use super::in_builder;
 use planus::{BuildError, Builder, Offset, ReadAsRoot, UnionOffset, has_identifier};
 use uses_log::{
-    Cause, CauseRef, Entry, EntryFields, EntryRef, Level, Origin, OriginRef, text_read_back,
+    Cause, CauseRef, Entry, EntryFields, EntryRead, EntryRef, Level, Origin, OriginRef, all_read_back,
+    text_read_back,
 };
 
 // Writes an entry with this text alone.
@@ -115,9 +116,37 @@ fn a_text_is_read(builder: &mut Builder) -> Result<bool, BuildError> {
     Ok(matches!(text_read_back(builder, entry), Ok("hello")))
 }
 
+// Whether what was read is what `all_is_read` writes.
+fn is_hello(read: &EntryRead<'_>) -> bool {
+    read.at == 1
+        && read.retries == 0
+        && read.text == "hello"
+        && read.level == Level::WARNING
+        && matches!(&read.tags, Some(tags) if matches!(tags.get(1), Some(Ok("b"))))
+        && matches!(&read.origin, Some(origin) if is_host(origin))
+        && read.cause.is_none()
+        && matches!(&read.parents, Some(parents) if parents.is_empty())
+}
+
+fn all_is_read(builder: &mut Builder) -> Result<bool, BuildError> {
+    let origin = Origin::create(builder, "web1", 8080)?;
+    let entry = EntryFields {
+        at: 1,
+        retries: 0,
+        text: "hello",
+        tags: &["a", "b"],
+        origin: Some(origin),
+        cause: None,
+        parents: &[],
+        level: Level::WARNING,
+    };
+    Ok(matches!(all_read_back(builder, entry), Ok(read) if is_hello(&read)))
+}
+
 #[test]
 fn entries_are_read_back(rt: HostRuntime) {
     assert!(rt; in_builder(rt.alloc(), a_full_entry_is_read), "full");
     assert!(rt; in_builder(rt.alloc(), a_text_is_read), "text");
+    assert!(rt; in_builder(rt.alloc(), all_is_read), "all");
     assert!(rt; in_builder(rt.alloc(), a_marked_buffer), "marked");
 }
