@@ -29,7 +29,8 @@ pub use planus_read::{
     has_identifier, located, read_size_prefixed, table_reader,
 };
 pub use planus_tables::{
-    OrDefault, Required, TableKind, TableRef, Variant, create_table, fields, variant,
+    OrDefault, Required, TableKind, TableRef, Variant, create_table, fields, plain_field,
+    plain_field_or, variant,
 };
 pub use planus_unions::{UnionVector, union_vectors};
 pub use planus_view::{CopyError, FromItem, Vector, vectors};

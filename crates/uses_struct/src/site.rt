@@ -29,7 +29,9 @@ use crate::kind::Kind;
 use crate::leg::Leg;
 use crate::pos::Pos;
 use planus_read::{Result, Stride};
-use planus_tables::{OrDefault, TableKind, TableRef, create_table, fields, laws};
+use planus_tables::{
+    OrDefault, TableKind, TableRef, create_table, fields, laws, plain_field, plain_field_or,
+};
 use planus_view::Vector;
 use planus_write::{BuildError, Builder, List, Offset, TableWriter};
 
@@ -82,9 +84,7 @@ impl Site {
             → pos_shape.fits pos → IsOkAnd result (λ home. IsSomeAnd home (λ home. home ≡ pos)) }
         ensures left_out { (B : list ℕ) → SlotHolds B site.now.table 0 None → result ≡ Ok None }
     {
-        laws::plain_values_read_back::<Pos>();
-        laws::absent_fields_read_back::<Pos>();
-        site.table.access::<Pos>(0, "Site", "home")
+        plain_field(site, 0, "Site", "home")
     }
 
     /// Returns the fix, or `None` where there is none. Where the site holds one, it is this one.
@@ -93,8 +93,7 @@ impl Site {
             → SlotHolds B site.now.table 2 (holds_struct fix_shape fix) → fix_shape.fits fix
             → IsOkAnd result (λ found. IsSomeAnd found (λ found. found ≡ fix)) }
     {
-        laws::plain_values_read_back::<Fix>();
-        site.table.access::<Fix>(2, "Site", "fix")
+        plain_field(site, 2, "Site", "fix")
     }
 
     /// Returns the leg, or `None` where there is none. Where the site holds one, it is this one.
@@ -103,8 +102,7 @@ impl Site {
             → SlotHolds B site.now.table 6 (holds_struct leg_shape leg) → leg_shape.fits leg
             → IsOkAnd result (λ found. IsSomeAnd found (λ found. found ≡ leg)) }
     {
-        laws::plain_values_read_back::<Leg>();
-        site.table.access::<Leg>(6, "Site", "leg")
+        plain_field(site, 6, "Site", "leg")
     }
 
     /// Returns the track, or `None` where there is none.
@@ -139,8 +137,7 @@ impl Site {
         ensures { (B : list ℕ) (heat : Float) → SlotHolds B site.now.table 4 (holds_f32 heat)
             → FloatFits binary32 heat → IsOkAnd result (λ read. read ≡ heat) }
     {
-        laws::plain_values_read_back::<f32>();
-        Ok(site.table.access::<f32>(4, "Site", "heat")?.unwrap_or(1.0))
+        plain_field_or(site, 4, 1.0, "Site", "heat")
     }
 }
 
