@@ -5,6 +5,7 @@ pub mod ReadOn
 pub mod Printing
 pub mod Named
 pub mod Limited
+pub mod Taken
 pub mod OneText
 pub mod SomeText
 pub mod Lists
