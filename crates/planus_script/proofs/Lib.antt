@@ -1,6 +1,7 @@
 pub mod Splitting
 pub mod Numbers
 pub mod Words
+pub mod Asked
 pub mod ReadOn
 pub mod Printing
 pub mod Named
