@@ -565,13 +565,15 @@ pub fn parse(alloc: Global, input: &[u8]) -> std::result::Result<Script, ParseEr
         let (line, more) = first_line(text);
         rest = more;
         number += 1;
-        if !is_skipped(line) {
-            match step_of(alloc, line) {
-                Ok(step) => script.push(number, step)?,
-                Err(LineError::OutOfMemory) => return Err(ParseError::OutOfMemory),
-                Err(LineError::Fault(fault)) => return Err(ParseError::Line { number, fault }),
-            }
+        if is_skipped(line) {
+            continue;
         }
+        let step = match step_of(alloc, line) {
+            Ok(step) => step,
+            Err(LineError::OutOfMemory) => return Err(ParseError::OutOfMemory),
+            Err(LineError::Fault(fault)) => return Err(ParseError::Line { number, fault }),
+        };
+        script.push(number, step)?;
     }
     Ok(script)
 }

@@ -23,8 +23,8 @@ cut : (text line : List ℕ) (more : Option (Bor (List ℕ))) → MatchOption mo
 cut text line None h = h
 cut text line (Some rest) h = h
 
-pub loop-rest-preserved-in-Continue-1 : goal.loop-rest-preserved-in-Continue-1
-loop-rest-preserved-in-Continue-1 c =
+pub loop-rest-preserved : goal.loop-rest-preserved
+loop-rest-preserved c =
     let front = read_of c.loop-rest.script in
     let number = c.loop-rest.number + 1 in
     let line = c.first_line.result.0.now in
@@ -34,7 +34,7 @@ loop-rest-preserved-in-Continue-1 c =
     let kept : is_skipped line ≡ false = (cc) in
     let said : command_of line ≡ Ok command = search rules in
     let pushed : read_of c.push.new.self ≡ and_then front number command =
-    c.in_ok-push-in-Ok.ensures.ok ∙ ap (λ commands. record { numbers = front.numbers ++ number ∷ []; commands = commands }) (map-append bare_step c.loop-rest.script.steps.items (c.in-Ok.step ∷ [])) in
+    c.in_ok-push.ensures.ok ∙ ap (λ commands. record { numbers = front.numbers ++ number ∷ []; commands = commands }) (map-append bare_step c.loop-rest.script.steps.items (c.in-Ok.step ∷ [])) in
     record {
       read = ap (λ read. onto_front read (read_lines (number + 1) (lines_left more))) pushed
           ∙ sym (after_step front number line (lines_left more) command kept said)
