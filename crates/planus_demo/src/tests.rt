@@ -7,6 +7,7 @@ mod long_scripts;
 mod monster;
 mod no_memory;
 mod other_builders;
+mod program;
 mod scripts;
 mod weapon;
 
