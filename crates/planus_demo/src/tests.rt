@@ -9,6 +9,7 @@ mod no_memory;
 mod other_builders;
 mod program;
 mod scripts;
+mod settings;
 mod weapon;
 
 use planus::errors::ErrorKind;
