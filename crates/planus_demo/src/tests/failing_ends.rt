@@ -16,7 +16,7 @@ pub const SCRIPT: &[u8] = b"text Axe\ntable 0=ref:0 1=u16:24\nfinish 1\n";
 pub const PRINTED: &[u8] = b"04 00 00 00 f4 ff ff ff 10 00 00 00 18 00 00 00 \
     08 00 0a 00 04 00 08 00 03 00 00 00 41 78 65 00\n";
 
-const DUMPED: &[u8] = b"root: table Weapon\nroot.name = \"Axe\"\nroot.damage = 24\n";
+pub const DUMPED: &[u8] = b"root: table Weapon\nroot.name = \"Axe\"\nroot.damage = 24\n";
 
 /// What a call does in place of its work.
 #[derive(Clone, Copy)]
