@@ -5,3 +5,4 @@ pub mod Equipments
 pub mod Monsters
 pub mod MonsterViews
 pub mod ModeWords
+pub mod Programs

@@ -7,7 +7,9 @@ mod long_scripts;
 mod monster;
 mod no_memory;
 mod other_builders;
+mod program;
 mod scripts;
+mod settings;
 mod weapon;
 
 use planus::errors::ErrorKind;

@@ -23,7 +23,9 @@ abbrev pub Begin : List Event → List (List ℕ) → List Event → Type 0
 Begin es lines rest = es ≡ map line lines ++ rest
 
 -- What is answered of events: their lines, if they are no more than the budget and nothing lies too
--- deep; or else what comes first, a table that lies too deep, or a line past the budget.
+-- deep; or else what comes first, a table that lies too deep, or a line past the budget. Memory is
+-- asked for the text of the first event, also where the budget is 0: so whatever the events are, it
+-- may be refused.
 abbrev pub Answers : List Event → ℕ → Result (Vec (String Global) Global) DumpError → Type 0
 Answers es budget (Ok lines) =
     Begin es (map string_bytes lines.items) [] × (length lines.items ≤ budget)
@@ -33,7 +35,7 @@ Answers es budget (Err TooDeep) =
 Answers es budget (Err TooManyLines) =
     (lines : List (List ℕ)) × (next : List ℕ) × (rest : List Event)
     × Begin es lines (line next ∷ rest) × (length lines ≡ budget)
-Answers es budget (Err BadSchema) = ⊤
+Answers es budget (Err BadSchema) = ⊥
 Answers es budget (Err OutOfMemory) = ⊤
 
 -- What a dump answers: `BadSchema` exactly of a schema that isn't good, and else what is said of

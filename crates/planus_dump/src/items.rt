@@ -75,7 +75,10 @@ impl<'buf> Items<'buf> {
             Items::I64(vector) => Some(Found::Value(Value::Signed(vector.get(i)?))),
             Items::Bool(vector) => Some(Found::Value(Value::Truth(vector.get(i)?))),
             Items::Text(vector) => Some(item_found(vector.get(i)?, Item::Text)),
-            Items::Table(index, vector) => Some(item_found(vector.get(i)?, Item::Table(*index))),
+            Items::Table(index, vector) => {
+                let place = vector.get(i)?;
+                Some(item_found(place, Item::Table(*index)))
+            }
         }
     }
 }

@@ -1,10 +1,12 @@
 pub mod Splitting
 pub mod Numbers
 pub mod Words
+pub mod Asked
 pub mod ReadOn
 pub mod Printing
 pub mod Named
 pub mod Limited
+pub mod Taken
 pub mod OneText
 pub mod SomeText
 pub mod Lists

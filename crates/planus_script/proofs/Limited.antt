@@ -1,19 +1,13 @@
 -- A script that is read up to a limit is printed as the whole.
-use Rattle.std.proofs.Common.{◌≡◌, ℕ, ◌≤◌, List, [], ◌++◌, length, take, Bool, true, false, refl, sym, ap, ◌∙◌, subst, arith, Option, Some, None, inl, inr}
+use Rattle.std.proofs.Common.{◌≡◌, ℕ, ◌≤◌, List, length, take, Bool, true, false, refl, sym, subst, arith, Option, Some, None, inl, inr}
 use Rattle.std.specs.Prelude.{nat_lt, IfSome, codes}
 use Rattle.std.specs.Bool.{MatchBool}
-use Rattle.std.specs.Option.{option_map}
 use Rattle.std.specs.Io.KnownBytes.{Appends}
 use Rattle.std.proofs.lemmas.List.{length-take-le, take_all}
 use Rattle.std.proofs.lemmas.Bool.Decides.{nat_tests}
 use Rattle.planus_script.specs.Script.{script_of}
 use Rattle.planus_script.specs.Printed.{Printed, PrintedOrOutOfMemory, IsScript, PrintsRead, line_of}
 use Rattle.planus_script.specs.Runner.{WritesPrinted}
-
-pub read_known : (known : Option (List ℕ)) (limit : ℕ) (items before : List ℕ) → limit ≡ 1048577 → before ≡ [] → IfSome (option_map (take limit) known) (λ xs. items ≡ before ++ xs)
-    → IfSome known (λ bytes. items ≡ take 1048577 bytes)
-read_known None limit items before l b h = tt
-read_known (Some bytes) limit items before l b h = h ∙ ap (λ xs. xs ++ take limit bytes) b ∙ ap (λ n. take n bytes) l
 
 -- the bytes up to the limit tell whether the script is too long
 printed_whole : (bytes : List ℕ) (clean : Bool) (printed : List ℕ) (long : Bool) → nat_lt 1048576 (length bytes) ≡ long → Printed (take 1048577 bytes) clean printed → Printed bytes clean printed

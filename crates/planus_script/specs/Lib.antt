@@ -2,6 +2,7 @@ pub mod Words
 pub mod Fields
 pub mod Unions
 pub mod Script
+pub mod Asking
 pub mod Steps
 pub mod Texts
 pub mod Printed

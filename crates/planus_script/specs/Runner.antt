@@ -1,7 +1,8 @@
 -- What a run leaves behind.
-use Rattle.std.specs.Prelude.{ℕ, List, Bool, true, false, Option, Result, Ok, Err, ⊤}
-use Rattle.std.specs.Io.KnownBytes.{Appends, Keeps}
-use Rattle.planus_script.specs.Printed.{PrintedOrOutOfMemory}
+use Rattle.std.specs.Prelude.{ℕ, ◌+◌, ◌<◌, ◌≤◌, List, length, Bool, true, false, Option}
+use Rattle.std.specs.Prelude.{Result, Ok, Err, ⊤}
+use Rattle.std.specs.Io.KnownBytes.{Appends, Consumes, Keeps}
+use Rattle.planus_script.specs.Printed.{greatest_script, PrintedOrOutOfMemory}
 use Rattle.planus_script.specs.declared.run.RunError.{RunError}
 use Rattle.planus_script.specs.declared.run.RunError.TheVariants.{OutOfMemory, Read, Write}
 
@@ -16,11 +17,17 @@ LeavesUnwritten Write before after = ⊤
 LeavesUnwritten Read before after = Keeps before after
 LeavesUnwritten OutOfMemory before after = Keeps before after
 
--- an error of reading, or of memory
-abbrev pub IsReading : RunError → Type 0
-IsReading Write = ⊥
-IsReading Read = ⊤
-IsReading OutOfMemory = ⊤
+-- Reading ends with this error where so many bytes are taken: a read fails before the last byte that
+-- is read at most, and memory is refused for some bytes that are taken.
+abbrev pub FailsAt : RunError → ℕ → Type 0
+FailsAt Read count = count ≤ greatest_script
+FailsAt OutOfMemory count = (0 < count) × (count ≤ greatest_script + 1)
+FailsAt Write count = ⊥
+
+-- The reader has left what is behind the bytes that are taken when reading ends with this error.
+abbrev pub StopsReading : RunError → Option (List ℕ) → Option (List ℕ) → Type 0
+StopsReading error before after =
+    (taken : List ℕ) × Consumes before after taken × FailsAt error (length taken)
 
 -- the exit status: 0 clean, 1 after a printed fault, 2 where the run failed
 abbrev pub status_of : Result Bool RunError → ℕ

@@ -1,5 +1,5 @@
 -- The steps of the program, as the definitions see them, and what its readers of lines answer.
-use Rattle.std.specs.Prelude.{◌≡◌, ℕ, List, map, Vec, Option, Some, None, Result, Ok, Err, ⊤}
+use Rattle.std.specs.Prelude.{◌≡◌, ℕ, List, map, Vec, Option, Some, None, Result, Ok, Err}
 use Rattle.std.specs.declared.alloc.Global.{Global}
 use Rattle.planus_script.specs.declared.script.ReadFault.TheVariants.{BadHex}
 use Rattle.planus.specs.Steps.{Step, bare_step}
@@ -22,26 +22,27 @@ abbrev pub AnswersCommand : Result code.Step ReadFault → Result Step ReadFault
 AnswersCommand (Ok step) expected = expected ≡ Ok (bare_step step)
 AnswersCommand (Err fault) expected = expected ≡ Err fault
 
--- the same, unless memory was refused
-abbrev pub AnswersLine : Result code.Step LineError → Result Step ReadFault → Type 0
-AnswersLine (Ok step) expected = expected ≡ Ok (bare_step step)
-AnswersLine (Err (line.Fault fault)) expected = expected ≡ Err fault
-AnswersLine (Err line.OutOfMemory) expected = ⊤
+-- the same, unless memory was refused where it is asked for
+abbrev pub AnswersLine : Result code.Step LineError → Result Step ReadFault → Type 0 → Type 0
+AnswersLine (Ok step) expected asks = expected ≡ Ok (bare_step step)
+AnswersLine (Err (line.Fault fault)) expected asks = expected ≡ Err fault
+AnswersLine (Err line.OutOfMemory) expected asks = asks
 
--- the answer is these items or this fault, unless memory was refused
-abbrev pub AnswersList : {A : Type 0} → Result (Vec A Global) LineError → Result (List A) ReadFault
-    → Type 0
-AnswersList (Ok items) expected = expected ≡ Ok items.items
-AnswersList (Err (line.Fault fault)) expected = expected ≡ Err fault
-AnswersList (Err line.OutOfMemory) expected = ⊤
+-- the answer is these items or this fault, unless memory was refused where it is asked for
+abbrev pub AnswersList :
+    {A : Type 0} → Result (Vec A Global) LineError → Result (List A) ReadFault → Type 0 → Type 0
+AnswersList (Ok items) expected asks = expected ≡ Ok items.items
+AnswersList (Err (line.Fault fault)) expected asks = expected ≡ Err fault
+AnswersList (Err line.OutOfMemory) expected asks = asks
 
 -- bytes, or the fault that digits are none
 abbrev pub bytes_or_fault : Option (List ℕ) → Result (List ℕ) ReadFault
 bytes_or_fault None = Err BadHex
 bytes_or_fault (Some bytes) = Ok bytes
 
--- the answer is this script, or this line's fault, unless memory was refused
-abbrev pub AnswersScript : Result Script ParseError → Result Read (ℕ × ReadFault) → Type 0
-AnswersScript (Ok script) expected = expected ≡ Ok (read_of script)
-AnswersScript (Err (parse.Line number fault)) expected = expected ≡ Err (number, fault)
-AnswersScript (Err parse.OutOfMemory) expected = ⊤
+-- the answer is this script, or this line's fault, unless memory was refused where it is asked for
+abbrev pub AnswersScript :
+    Result Script ParseError → Result Read (ℕ × ReadFault) → Type 0 → Type 0
+AnswersScript (Ok script) expected asks = expected ≡ Ok (read_of script)
+AnswersScript (Err (parse.Line number fault)) expected asks = expected ≡ Err (number, fault)
+AnswersScript (Err parse.OutOfMemory) expected asks = asks

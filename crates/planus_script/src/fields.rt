@@ -4,6 +4,7 @@ ghost use Rattle.std.specs.Option.{option_copied};
 ghost use Rattle.planus_script.specs.Words.{words_behind};
 ghost use Rattle.planus_script.specs.Fields.{kind_of, slot_of, value_of, field_of, fields_of};
 ghost use Rattle.planus_script.specs.Script.{list_step, table_step};
+ghost use Rattle.planus_script.specs.Asking.{AsksForItems};
 ghost use Rattle.planus_script.specs.Steps.{AnswersLine};
 
 use crate::script::{FromWord, LineError, ReadFault, cut, items, number};
@@ -90,8 +91,9 @@ impl FromWord for Field {
 
 /// A table of fields, from what stands behind the first word.
 pub(crate) fn table(alloc: Global, words: Option<&str>) -> Result<Step, LineError>
-    ensures { AnswersLine result (list_step table_step
-        (fields_of (words_behind (option_copied words.entry)))) }
+    ensures { let words = words_behind (option_copied words.entry) in
+        AnswersLine result (list_step table_step (fields_of words))
+        (AsksForItems field_of words) }
 {
     Ok(Step::Table(items::<Field>(alloc, words)?))
 }

@@ -1,21 +1,25 @@
 //! From a reader to a writer.
-ghost use Rattle.std.specs.Prelude.{◌≡◌, ◌+◌, ℕ, List, take, Bool, true, false, IfOk, IfErr};
-ghost use Rattle.std.specs.Prelude.{IfSome, OnOk, Result, Ok, Err};
-ghost use Rattle.std.specs.Io.KnownBytes.{Appends, Keeps};
+ghost use Rattle.std.specs.Prelude.{◌≡◌, ◌+◌, ◌<◌, take, length, IfOk, IfErr, IfSome};
+ghost use Rattle.std.specs.Prelude.{OnOk, OnErr};
+ghost use Rattle.std.specs.Io.{ReadsAtMost};
+ghost use Rattle.std.specs.Io.KnownBytes.{Appends, Consumes, IsAtEnd, Keeps};
 ghost use Rattle.planus_script.specs.Printed.{greatest_script, PrintedOrOutOfMemory};
 ghost use Rattle.planus_script.specs.Outputs.{is_clean, printed_text};
-ghost use Rattle.planus_script.specs.Runner.{WritesPrinted, LeavesUnwritten, IsReading, status_of};
+ghost use Rattle.planus_script.specs.Runner.{WritesPrinted, LeavesUnwritten, StopsReading};
+ghost use Rattle.planus_script.specs.Runner.{status_of};
 
 use crate::output::Output;
 use crate::print::answer_text;
 use crate::script::{ParseError, parse};
 use planus::{Caches, replay};
 use std::alloc::{AllocError, Global};
-use std::io;
 use std::io::{ErrorKind, Read, Write};
 
 /// No script is longer, in bytes.
 pub const GREATEST_SCRIPT: usize = 1048576;
+
+/// No more bytes are read at once.
+const MOST_READ: usize = 8192;
 
 /// Why a run failed.
 #[derive(Clone, Copy, Debug, PartialEq, Eq)]
@@ -39,19 +43,48 @@ impl From<AllocError> for RunError {
     }
 }
 
-/// Returns the bytes of a script, or the first bytes of one that is too long.
+/// Reads some bytes, again and again where the read is interrupted. Returns how many; 0 bytes are
+/// the reader's end.
+fn read_some<R: Read>(reader: &mut R, bytes: &mut [u8]) -> std::result::Result<usize, RunError>
+    ensures bound { ReadsAtMost result bytes.new }
+    ensures bytes { IfOk result (λ count. Consumes (R.remaining reader.old)
+        (R.remaining reader.new) (take count bytes.new)) }
+    ensures end { IfOk result (λ count. count ≡ 0 → 0 < length bytes.old
+        → IsAtEnd (R.remaining reader.new)) }
+    ensures err { OnErr result (Keeps (R.remaining reader.old) (R.remaining reader.new)) }
+    ensures error { IfErr result (λ error. error ≡ RunError.Read) }
+{
+    for _ in 0..u64::MAX {
+        match reader.read(bytes) {
+            Ok(count) => return Ok(count),
+            Err(error) if error.kind() == ErrorKind::Interrupted => {}
+            Err(_) => return Err(RunError::Read),
+        }
+    }
+    Err(RunError::Read)
+}
+
+/// Returns the bytes of a script, or the first bytes of one that is too long. It reads one byte more
+/// than the longest script has, at most.
 pub fn read_script<R: Read>(alloc: Global, reader: &mut R) -> std::result::Result<Vec<u8>, RunError>
     ensures bytes { IfOk result (λ input. IfSome (R.remaining reader.old)
         (λ bytes. input.items ≡ take (greatest_script + 1) bytes)) }
-    ensures error { IfErr result (λ error. IsReading error) }
+    ensures left { IfOk result
+        (λ input. Consumes (R.remaining reader.old) (R.remaining reader.new) input.items) }
+    ensures error { IfErr result
+        (λ error. StopsReading error (R.remaining reader.old) (R.remaining reader.new)) }
 {
     let mut input = Vec::new(alloc);
-    let mut script = Read::take(&mut *reader, GREATEST_SCRIPT as u64 + 1);
-    match script.read_to_end(&mut input) {
-        Ok(_) => Ok(input),
-        Err(error) if error.kind() == ErrorKind::OutOfMemory => Err(RunError::OutOfMemory),
-        Err(_) => Err(RunError::Read),
+    let mut bytes = [0; MOST_READ];
+    while input.len() <= GREATEST_SCRIPT {
+        let most = (GREATEST_SCRIPT + 1 - input.len()).min(MOST_READ);
+        let count = read_some(reader, &mut bytes[..most])?;
+        if count == 0 {
+            return Ok(input);
+        }
+        input.extend_from_slice(&bytes[..count])?;
     }
+    Ok(input)
 }
 
 /// What is printed of an input: it is parsed, and its steps are replayed, where equal contents are

@@ -2,7 +2,7 @@
 
 ghost use Rattle.std.specs.Prelude.{◌≡◌, ℕ, ◌+◌, ◌-◌, ◌<◌, ◌≤◌, ◌==◌, List, [], ◌∷◌, length};
 ghost use Rattle.std.specs.Prelude.{IsTrue, ◌↔◌, Result, Ok, Err, MatchOption, MatchResult};
-ghost use Rattle.std.specs.Prelude.{unwrap_or, OnOk, ◌++◌, map, IfOk, IfSome};
+ghost use Rattle.std.specs.Prelude.{unwrap_or, OnOk, OnErr, ◌++◌, map, IfOk, IfSome};
 ghost use Rattle.std.specs.List.{slice_split, position, list_all, after_first};
 ghost use Rattle.std.specs.Option.{option_copied, option_map};
 ghost use Rattle.std.specs.Char.{is_ascii_digit};
@@ -17,6 +17,8 @@ ghost use Rattle.planus_script.specs.Script.{clear_of, command_of, command_of_wo
 ghost use Rattle.planus_script.specs.Script.{contents_named, steps_named, command_named};
 ghost use Rattle.planus_script.specs.Script.{step_by as step_by_lem};
 ghost use Rattle.planus_script.specs.Script.{is_skipped as is_skipped_lem};
+ghost use Rattle.planus_script.specs.Asking.{AsksForItems, AsksForBytes, AsksForStep};
+ghost use Rattle.planus_script.specs.Asking.{AsksForWords, AsksForLine, AsksForLines};
 ghost use Rattle.planus_script.specs.Steps.{AnswersCommand, AnswersLine, AnswersScript, read_of};
 ghost use Rattle.planus_script.specs.Steps.{AnswersList, bytes_or_fault};
 ghost use Rattle.planus.specs.Steps as step;
@@ -283,7 +285,8 @@ pub fn byte_of(high: u8, low: u8) -> Option<u8>
 
 /// The bytes of an even number of hexadecimal digits.
 fn hex_bytes(alloc: Global, digits: &[u8]) -> std::result::Result<Vec<u8>, LineError>
-    ensures { AnswersList result (bytes_or_fault (hex_bytes_lem digits.now)) }
+    ensures { AnswersList result (bytes_or_fault (hex_bytes_lem digits.now))
+        (2 ≤ length digits.now) }
 {
     let mut bytes = Vec::with_capacity(alloc, digits.len() / 2)?;
     let mut rest = digits;
@@ -302,7 +305,8 @@ fn hex_bytes(alloc: Global, digits: &[u8]) -> std::result::Result<Vec<u8>, LineE
 
 /// `bytes` or `bytes HEX`, from what stands behind the first word.
 fn bytes(alloc: Global, words: Option<&str>) -> std::result::Result<Step, LineError>
-    ensures { AnswersLine result (bytes_of (words_behind (option_copied words.entry))) }
+    ensures { let words = words_behind (option_copied words.entry) in
+        AnswersLine result (bytes_of words) (AsksForBytes words) }
 {
     let Some(words) = words else {
         return Ok(Step::Bytes(Vec::new(alloc)));
@@ -316,7 +320,7 @@ fn bytes(alloc: Global, words: Option<&str>) -> std::result::Result<Step, LineEr
 
 /// The bytes of a word, which has some digits.
 fn bytes_in(alloc: Global, digits: &str) -> std::result::Result<Step, LineError>
-    ensures { AnswersLine result (bytes_step (bytes_in_lem digits.now)) }
+    ensures { AnswersLine result (bytes_step (bytes_in_lem digits.now)) (2 ≤ length digits.now) }
 {
     if digits.is_empty() {
         return Err(LineError::Fault(ReadFault::BadHex));
@@ -347,7 +351,8 @@ pub(crate) fn items<T: FromWord>(
     alloc: Global,
     words: Option<&str>,
 ) -> std::result::Result<Vec<T>, LineError>
-    ensures { AnswersList result (items_of T.said (words_behind (option_copied words.entry))) }
+    ensures { let words = words_behind (option_copied words.entry) in
+        AnswersList result (items_of T.said words) (AsksForItems T.said words) }
 {
     let mut items = Vec::new(alloc);
     let mut rest = words;
@@ -361,7 +366,8 @@ pub(crate) fn items<T: FromWord>(
 
 /// The numbers as those of steps.
 fn indexes(alloc: Global, numbers: &[u64]) -> std::result::Result<Vec<usize>, AllocError>
-    ensures { IfOk result (λ indexes. indexes.items ≡ numbers.now) }
+    ensures ok { IfOk result (λ indexes. indexes.items ≡ numbers.now) }
+    ensures err { OnErr result (0 < length numbers.now) }
 {
     let mut indexes = Vec::with_capacity(alloc, numbers.len())?;
     for number in numbers {
@@ -372,8 +378,9 @@ fn indexes(alloc: Global, numbers: &[u64]) -> std::result::Result<Vec<usize>, Al
 
 /// Numbers of `width` bytes each, from what stands behind the first word.
 fn list(alloc: Global, width: u8, words: Option<&str>) -> std::result::Result<Step, LineError>
-    ensures { AnswersLine result (list_step (step.numbers width)
-        (numbers_of (words_behind (option_copied words.entry)))) }
+    ensures { let words = words_behind (option_copied words.entry) in
+        AnswersLine result (list_step (step.numbers width) (numbers_of words))
+        (AsksForItems number_of words) }
 {
     let items = items::<u64>(alloc, words)?;
     Ok(Step::Numbers { width, items })
@@ -381,8 +388,9 @@ fn list(alloc: Global, width: u8, words: Option<&str>) -> std::result::Result<St
 
 /// References to steps, from what stands behind the first word.
 fn refs(alloc: Global, words: Option<&str>) -> std::result::Result<Step, LineError>
-    ensures { AnswersLine result (list_step step.refs
-        (numbers_of (words_behind (option_copied words.entry)))) }
+    ensures { let words = words_behind (option_copied words.entry) in
+        AnswersLine result (list_step step.refs (numbers_of words))
+        (AsksForItems number_of words) }
 {
     let items = items::<u64>(alloc, words)?;
     Ok(Step::Refs(indexes(alloc, items.as_slice())?))
@@ -485,8 +493,9 @@ fn step_by(
     command: Command,
     rest: Option<&str>,
 ) -> std::result::Result<Step, LineError>
-    ensures { AnswersLine result (step_by_lem command (unwrap_or (option_copied rest.entry) [])
-        (words_behind (option_copied rest.entry))) }
+    ensures { let rest = option_copied rest.entry in
+        AnswersLine result (step_by_lem command (unwrap_or rest []) (words_behind rest))
+        (AsksForStep command (words_behind rest)) }
 {
     match command {
         Command::Text => Ok(Step::Text(String::from_str(alloc, rest.unwrap_or(""))?)),
@@ -502,7 +511,8 @@ fn step_by(
 
 /// The step that the text of a line is.
 fn step_of_text(alloc: Global, line: &str) -> std::result::Result<Step, LineError>
-    ensures { AnswersLine result (command_of_words line.now (words_of line.now)) }
+    ensures { AnswersLine result (command_of_words line.now (words_of line.now))
+        (AsksForWords (words_of line.now)) }
 {
     let (word, rest) = first_word(line);
     match named(word) {
@@ -513,7 +523,7 @@ fn step_of_text(alloc: Global, line: &str) -> std::result::Result<Step, LineErro
 
 /// The step that a line is.
 fn step_of(alloc: Global, line: &[u8]) -> std::result::Result<Step, LineError>
-    ensures { AnswersLine result (command_of line.now) }
+    ensures { AnswersLine result (command_of line.now) (AsksForLine line.now) }
 {
     match str::from_utf8(line) {
         Ok(text) => step_of_text(alloc, text),
@@ -546,7 +556,7 @@ impl Script {
 
 /// Returns the steps of a script, or the first line with a fault of reading.
 pub fn parse(alloc: Global, input: &[u8]) -> std::result::Result<Script, ParseError>
-    ensures { AnswersScript result (script_of input.now) }
+    ensures { AnswersScript result (script_of input.now) (AsksForLines (lines_of input.now)) }
 {
     let mut script = Script::new(alloc);
     let mut number = 0;
@@ -555,13 +565,15 @@ pub fn parse(alloc: Global, input: &[u8]) -> std::result::Result<Script, ParseEr
         let (line, more) = first_line(text);
         rest = more;
         number += 1;
-        if !is_skipped(line) {
-            match step_of(alloc, line) {
-                Ok(step) => script.push(number, step)?,
-                Err(LineError::OutOfMemory) => return Err(ParseError::OutOfMemory),
-                Err(LineError::Fault(fault)) => return Err(ParseError::Line { number, fault }),
-            }
+        if is_skipped(line) {
+            continue;
         }
+        let step = match step_of(alloc, line) {
+            Ok(step) => step,
+            Err(LineError::OutOfMemory) => return Err(ParseError::OutOfMemory),
+            Err(LineError::Fault(fault)) => return Err(ParseError::Line { number, fault }),
+        };
+        script.push(number, step)?;
     }
     Ok(script)
 }

@@ -3,6 +3,7 @@ ghost use Rattle.std.specs.Prelude.{◌≡◌};
 ghost use Rattle.std.specs.Option.{option_copied};
 ghost use Rattle.planus.specs.Steps as step;
 ghost use Rattle.planus_script.specs.Script.{list_step};
+ghost use Rattle.planus_script.specs.Asking.{AsksForItems};
 ghost use Rattle.planus_script.specs.Steps.{AnswersLine};
 ghost use Rattle.planus_script.specs.Unions.{union_of, unions_of};
 ghost use Rattle.planus_script.specs.Words.{words_behind};
@@ -29,8 +30,9 @@ impl FromWord for (u8, usize) {
 
 /// A vector of unions, from what stands behind the first word.
 pub(crate) fn unions(alloc: Global, words: Option<&str>) -> Result<Step, LineError>
-    ensures { AnswersLine result (list_step step.unions
-        (unions_of (words_behind (option_copied words.entry)))) }
+    ensures { let words = words_behind (option_copied words.entry) in
+        AnswersLine result (list_step step.unions (unions_of words))
+        (AsksForItems union_of words) }
 {
     Ok(Step::Unions(items::<(u8, usize)>(alloc, words)?))
 }

@@ -1,5 +1,5 @@
 //! Parts of any size and alignment through the builder.
-ghost use Rattle.std.specs.Prelude.{◌≡◌, length, replicate, ⊤, ◌%◌};
+ghost use Rattle.std.specs.Prelude.{◌≡◌, ◌≤◌, ◌-◌, ◌++◌, length, replicate, ⊤};
 ghost use Rattle.std.specs.Int.{w32, to_le_bytes};
 
 use super::alignments::mask_of;
@@ -58,17 +58,17 @@ impl Fill for OwnPlace {
     }
 }
 
-// Leaves the last byte of the place at which it is called, as often as there is room.
+// Leaves the place at which it is called, all four bytes of it, and then zeros.
 #[derive(Drop)]
-struct PlaceByte;
+struct PlaceFirst;
 
-impl Fill for PlaceByte {
-    ghost fits = { λ _ _ _. ⊤ };
+impl Fill for PlaceFirst {
+    ghost fits = { λ _ _ n. 4 ≤ n };
 
-    ghost leaves = { λ _ place n. replicate n (place % 256) };
+    ghost leaves = { λ _ place n. to_le_bytes w32 place ++ replicate (n - 4) 0 };
 
     fn fill(&self, place: u32, bytes: &mut [u8]) {
-        bytes.fill((place % 256) as u8);
+        bytes[..4].copy_from_slice(&place.to_le_bytes());
     }
 }
 
@@ -270,21 +270,19 @@ fn write_parts(
     Ok(())
 }
 
-// Writes a part of a random size and alignment. Tells whether its filler was called at the length
-// with it.
+// Writes a part of a random alignment, and of four bytes more than a random size. Tells whether its
+// filler was called at the length with it.
 fn a_filler_knows_its_place(builder: &mut Builder, numbers: &mut Numbers) -> bool {
-    let size = (numbers.draw() % 128) as usize;
+    let size = (numbers.draw() % 128) as usize + 4;
     let mask = mask_of(1 << (numbers.draw() % 5));
-    if builder.write_with(size, mask, &PlaceByte).is_err() {
+    if builder.write_with(size, mask, &PlaceFirst).is_err() {
         return false;
     }
-    match builder.as_slice().get(..size) {
-        Some(part) => are_all(part, (builder.len() % 256) as u8),
-        None => false,
-    }
+    let place = (builder.len() as u64).to_le_bytes();
+    builder.as_slice().starts_with(&place[..4])
 }
 
-// The same of parts of the sizes and alignments of the others.
+// The same of parts, of the alignments of the others, and each of four bytes more.
 fn fillers_know_their_places(builder: &mut Builder, numbers: &mut Numbers) -> bool {
     for _ in 1..50 {
         if !a_filler_knows_its_place(builder, numbers) {

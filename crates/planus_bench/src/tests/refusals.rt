@@ -85,10 +85,17 @@ fn states_met(alloc: Global, call: Call, all: &[Lengths]) -> Result<Option<usize
 }
 
 // Calls, the lengths at which they may be refused, and at how many of them they are at least. Of a
-// list no request comes between its two texts: the builder has room for both, and their cache for
-// both entries.
+// list in a new builder no request comes between its two texts: the builder has room for both, and
+// their cache for both entries. Behind another text there is room for the first of them alone, and
+// the second is refused where the builder has the 6 bytes of the first; then the list's count is.
 const CALLS: &[(&str, Call, &[Lengths], usize)] = &[
     ("a list", Call::List, &[(0, 26), (6, 26), (14, 26)], 2),
+    (
+        "a list behind a text",
+        Call::ListBehind,
+        &[(10, 36), (16, 36), (32, 44)],
+        3,
+    ),
     ("unions", Call::Unions, &[(14, 34), (30, 50)], 2),
     ("a weapon", Call::Weapon, &[(0, 28), (8, 28), (16, 28)], 3),
 ];

@@ -3,6 +3,7 @@
 ghost use Rattle.std.specs.Prelude.{◌≡◌, ◌≤◌, length, IsTrue, codes};
 
 use super::kinds::slot_has;
+use super::parts::put;
 use planus::table_reader::Table;
 use planus::{
     BuildError, Builder, Error, Offset, SliceWithStartOffset, TableKind, TableRead, TableWriter,
@@ -15,6 +16,8 @@ use std::alloc::Global;
 pub enum Call {
     /// A list of the texts `A` and `B`, in a new builder.
     List,
+    /// The same behind the text `Axe` and two bytes, which leave room for one of the two.
+    ListBehind,
     /// A vector of two unions, with the tags 1 and 2 and the texts `A` and `B`, which stand there.
     Unions,
     /// A table with the text `Axe` and the number 24, in a new builder.
@@ -66,6 +69,9 @@ pub struct Written {
 
 /// The texts that stand there before a vector of unions is written.
 const TEXTS: &[u8] = b"\x01\0\0\0B\0\0\0\x01\0\0\0A\0";
+
+/// What stands there before a list, 10 bytes of it, and in front of that the texts of the list.
+const BEHIND: &[u8] = b"\x01\0\0\0B\0\0\0\x01\0\0\0A\0xy\x03\0\0\0Axe\0";
 
 /// The builder has what is at this distance.
 fn has(builder: &Builder, distance: u32) -> bool
@@ -128,6 +134,10 @@ pub fn prepare(builder: &mut Builder, call: Call) -> Result<(), BuildError> {
             let [_a, _b] = write_texts(builder)?;
             Ok(())
         }
+        Call::ListBehind => {
+            builder.create_string("Axe")?;
+            put(builder, b"xy", 1)
+        }
         _ => Ok(()),
     }
 }
@@ -135,7 +145,7 @@ pub fn prepare(builder: &mut Builder, call: Call) -> Result<(), BuildError> {
 /// Makes the call.
 pub fn make(builder: &mut Builder, call: Call) -> Result<Written, BuildError> {
     match call {
-        Call::List => write_list(builder),
+        Call::List | Call::ListBehind => write_list(builder),
         Call::Unions => write_unions(builder),
         Call::Weapon => write_weapon(builder),
     }
@@ -187,6 +197,10 @@ fn reads_back(builder: &mut Builder, call: Call, written: Written) -> bool {
             Some(tags) => finish_is_read(builder, tags, call, true),
             None => true,
         }
+        && match call {
+            Call::ListBehind => axe_is_read(builder),
+            _ => true,
+        }
 }
 
 /// Tells whether a text is written, or found, in the bytes that are there.
@@ -203,22 +217,46 @@ fn text_stands(builder: &mut Builder, letters: &str, serialized: &[u8]) -> bool 
     }
 }
 
+fn axe_stands(builder: &mut Builder) -> bool {
+    text_stands(builder, "Axe", b"\x03\0\0\0Axe\0")
+}
+
+fn a_and_b_stand(builder: &mut Builder) -> bool {
+    text_stands(builder, "A", b"\x01\0\0\0A\0") && text_stands(builder, "B", b"\x01\0\0\0B\0")
+}
+
 /// Tells whether the texts of a call are found only where they stand.
 fn texts_stand(builder: &mut Builder, call: Call) -> bool {
     match call {
-        Call::Weapon => text_stands(builder, "Axe", b"\x03\0\0\0Axe\0"),
-        _ => {
-            text_stands(builder, "A", b"\x01\0\0\0A\0")
-                && text_stands(builder, "B", b"\x01\0\0\0B\0")
-        }
+        Call::Weapon => axe_stands(builder),
+        Call::ListBehind => axe_stands(builder) && a_and_b_stand(builder),
+        _ => a_and_b_stand(builder),
     }
 }
 
-/// Tells whether what stood there before the call is still the end of the bytes.
+/// Tells whether these bytes are as many of the last of those behind a list, or end with all of them.
+fn is_behind(bytes: &[u8]) -> bool {
+    bytes.ends_with(BEHIND) || BEHIND.ends_with(bytes) && bytes.len() >= 10
+}
+
+/// Tells whether what stood there before the call is still the end of the bytes, and for a list
+/// behind a text whether its own texts that were written are, too.
 fn keeps_what_was_there(builder: &Builder, call: Call) -> bool {
     match call {
         Call::Unions => builder.as_slice().ends_with(TEXTS),
+        Call::ListBehind => is_behind(builder.as_slice()),
         _ => true,
+    }
+}
+
+/// Tells whether a text is read back that stands there before the call.
+fn axe_is_read(builder: &mut Builder) -> bool {
+    match builder.finish("Axe", None) {
+        Ok(bytes) => {
+            let whole = SliceWithStartOffset::new(bytes, 0);
+            matches!(<&str as TableRead<'_>>::from_buffer(whole, 0), Ok("Axe"))
+        }
+        Err(_) => false,
     }
 }
 

@@ -3,8 +3,7 @@
 use super::answers;
 use super::long_scripts::{end_line, push_bytes, push_references, push_text, push_word};
 use super::no_memory::gives_without_memory;
-use crate::mode::{field, mode, schema};
-use crate::modes::Mode;
+use crate::mode::{field, schema};
 use crate::tests::check;
 use planus_dump::{FieldSchema, Item, Kind, Schema, TableSchema};
 use planus_exhaust::holds_or_says;
@@ -70,28 +69,6 @@ fn inputs(rt: HostRuntime) {
             *clean,
         );
         assert!(rt; same, "{input}");
-    }
-}
-
-// Whether one word chooses this mode.
-fn chooses(alloc: Global, word: &str, expected: Option<Mode>) -> bool {
-    let mut words = Vec::new(alloc);
-    match String::from_str(alloc, word) {
-        Ok(word) => words.push(word).is_ok() && mode(words.as_slice()) == expected,
-        Err(_) => false,
-    }
-}
-
-#[test]
-fn modes(rt: HostRuntime) {
-    check(&rt, mode(&[]) == Some(Mode::Script), "no word");
-    let rows = [
-        ("weapon", Some(Mode::Weapon)),
-        ("monster", Some(Mode::Monster)),
-        ("Weapon", None),
-    ];
-    for (word, expected) in rows {
-        check(&rt, chooses(rt.alloc(), word, expected), "a word");
     }
 }
 

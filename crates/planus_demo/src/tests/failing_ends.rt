@@ -5,9 +5,10 @@ use crate::mode::schema;
 use crate::tests::check;
 use planus_dump::Schema;
 use planus_script::run::{RunError, status};
-use std::alloc::Global;
+use std::alloc::{AllocError, Global};
 use std::io;
 use std::io::{Error, ErrorKind, Read, Write};
+use std::test::Fail;
 
 // A weapon's script, what it prints, and the dump of that.
 pub const SCRIPT: &[u8] = b"text Axe\ntable 0=ref:0 1=u16:24\nfinish 1\n";
@@ -15,7 +16,7 @@ pub const SCRIPT: &[u8] = b"text Axe\ntable 0=ref:0 1=u16:24\nfinish 1\n";
 pub const PRINTED: &[u8] = b"04 00 00 00 f4 ff ff ff 10 00 00 00 18 00 00 00 \
     08 00 0a 00 04 00 08 00 03 00 00 00 41 78 65 00\n";
 
-const DUMPED: &[u8] = b"root: table Weapon\nroot.name = \"Axe\"\nroot.damage = 24\n";
+pub const DUMPED: &[u8] = b"root: table Weapon\nroot.name = \"Axe\"\nroot.damage = 24\n";
 
 /// What a call does in place of its work.
 #[derive(Clone, Copy)]
@@ -109,6 +110,38 @@ fn read_in_turn(alloc: Global, k: usize) -> [bool; 3] {
     ]
 }
 
+// Whether a script that is a byte too long, of which each byte is read by a call of its own, gives
+// this answer and prints this where the k-th read fails.
+fn too_long(
+    alloc: Global,
+    k: usize,
+    want: Result<bool, RunError>,
+    text: &str,
+) -> Result<bool, AllocError> {
+    let script = vec![in alloc; b'#'; 1048577]?;
+    let mut printed = Vec::new(alloc);
+    let mut reader = OddReader {
+        bytes: script.as_slice(),
+        left: k,
+        odd: Odd::Fails,
+    };
+    let answer = answers(alloc, None, &mut reader, &mut printed);
+    Ok(answer == want && printed.as_slice() == text.as_bytes())
+}
+
+// What is behind the first byte that is too much is not read.
+#[test]
+fn reads_of_a_long_script(rt: HostRuntime) -> Result<(), Fail> {
+    for (k, want, text) in [
+        (1048577, Err(RunError::Read), ""),
+        (1048578, Ok(false), "script too long\n"),
+    ] {
+        let found = too_long(rt.alloc(), k, want, text)?;
+        assert!(rt; found, "read {k}");
+    }
+    Ok(())
+}
+
 // Each of the script's 41 bytes is read by a call of its own, and one more call finds the end.
 #[test]
 fn each_read_in_turn(rt: HostRuntime) {
@@ -163,7 +196,7 @@ impl Write for OddWriter {
 fn writes(
     alloc: Global,
     schema: Option<&Schema>,
-    (k, odd, hands_on): (usize, Odd, bool),
+    (k, odd): (usize, Odd),
     want: Result<bool, RunError>,
     count: usize,
 ) -> bool {
@@ -175,7 +208,7 @@ fn writes(
         taken: Vec::new(alloc),
         left: k,
         odd,
-        hands_on,
+        hands_on: true,
     };
     let answer = answers(alloc, schema, &mut reader, &mut writer);
     answer == want && printed.get(..count) == Some(writer.taken.as_slice())
@@ -184,12 +217,12 @@ fn writes(
 // Whether a run answers the error of its k-th write, and writes the bytes before.
 fn writing_fails(alloc: Global, k: usize, odd: Odd) -> bool {
     let (fails, before) = (Err(RunError::Write), k.wrapping_sub(1));
-    writes(alloc, None, (k, odd, true), fails, before) && status(&fails) == 2
+    writes(alloc, None, (k, odd), fails, before) && status(&fails) == 2
 }
 
 // Whether a run writes all its bytes whose k-th write does something else.
 fn is_written(alloc: Global, k: usize, odd: Odd) -> bool {
-    writes(alloc, None, (k, odd, true), Ok(true), 96)
+    writes(alloc, None, (k, odd), Ok(true), 96)
 }
 
 // Whether a run goes as it should whose k-th write fails, takes nothing, or is interrupted.
@@ -201,15 +234,17 @@ fn write_in_turn(alloc: Global, k: usize) -> [bool; 3] {
     ]
 }
 
-// Whether a run answers that its bytes aren't handed on.
-fn handing_on_fails(alloc: Global) -> bool {
-    writes(
-        alloc,
-        None,
-        (0, Odd::Fails, false),
-        Err(RunError::Write),
-        96,
-    )
+// Whether a script's run answers that the so many bytes that it writes aren't handed on.
+fn handing_on_fails(alloc: Global, script: &[u8], count: usize) -> bool {
+    let mut reader = script;
+    let mut writer = OddWriter {
+        taken: Vec::new(alloc),
+        left: 0,
+        odd: Odd::Fails,
+        hands_on: false,
+    };
+    let answer = answers(alloc, None, &mut reader, &mut writer);
+    answer == Err(RunError::Write) && writer.taken.len() == count
 }
 
 // Each of the line's 96 bytes is written by a call of its own.
@@ -220,7 +255,10 @@ fn each_write_in_turn(rt: HostRuntime) {
         assert!(rt; found == [true; 3], "write {k}: {found:?}");
     }
     check(&rt, is_written(rt.alloc(), 97, Odd::Fails), "none");
-    check(&rt, handing_on_fails(rt.alloc()), "handed on");
+    for (script, count) in [(SCRIPT, 96), (b"".as_slice(), 0)] {
+        let found = handing_on_fails(rt.alloc(), script, count);
+        check(&rt, found, "handed on");
+    }
 }
 
 // Whether the error of a dump's k-th read is answered, and nothing is written.
@@ -239,7 +277,7 @@ fn dump_is_written(alloc: Global, k: usize) -> bool {
         (Ok(true), 54)
     };
     match schema(alloc, 0) {
-        Ok(schema) => writes(alloc, Some(&schema), (k, Odd::Fails, true), want, count),
+        Ok(schema) => writes(alloc, Some(&schema), (k, Odd::Fails), want, count),
         Err(_) => false,
     }
 }

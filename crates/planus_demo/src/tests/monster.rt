@@ -2,6 +2,7 @@
 
 ghost use Rattle.std.specs.Prelude.{◌≤◌, length, IsTrue};
 
+use super::settings::setting;
 use super::weapon::{WeaponRow, is_weapon, item_is, weapon};
 use super::{error_prints, fails_printing, finish_with, gives, in_builder};
 use crate::equipment::Equipment;
@@ -10,7 +11,7 @@ use crate::monster::{Monster, MonsterRef};
 use crate::tests::check;
 use planus::errors::ErrorKind;
 use planus::{
-    BuildError, Builder, ByteList, Caches, DefaultValue, Offset, ReadAsRoot, UnionOffset,
+    BuildError, Builder, ByteList, Caches, DefaultValue, Error, Offset, ReadAsRoot, UnionOffset,
     UnionVector, WriteAsDefault,
 };
 use std::alloc::Global;
@@ -29,7 +30,7 @@ const ORC: [u8; 84] = [
 const GOBLIN: &[u8] = b"\x04\0\0\0\xf8\xff\xff\xff\x0c\0\0\0\x08\0\x08\0\0\0\x04\0\x03\0\0\0Gob\0";
 
 // The builder has what is at this distance.
-fn has(builder: &Builder, distance: u32) -> bool
+pub fn has(builder: &Builder, distance: u32) -> bool
     ensures { IsTrue result → distance ≤ length builder.now.bytes }
 {
     distance as usize <= builder.len()
@@ -74,16 +75,6 @@ fn hoarder(builder: &mut Builder) -> Result<Offset<Monster>, BuildError> {
     Monster::create(builder, DefaultValue, "Gob", (), (), (), [unknown])
 }
 
-// One of the eight settings of the caches, by a number from 0 to 7.
-fn setting(number: usize) -> Caches {
-    Caches {
-        vtables: number & 1 != 0,
-        texts: number & 2 != 0,
-        bytes: number & 4 != 0,
-        hash_mask: 1,
-    }
-}
-
 fn orc_is_written(builder: &mut Builder) -> Result<bool, BuildError> {
     let orc = orc(builder)?;
     Ok(orc.distance() == 80 && finish_with(builder, orc)? == ORC.as_slice())
@@ -93,7 +84,7 @@ fn orc_is_written(builder: &mut Builder) -> Result<bool, BuildError> {
 #[test]
 fn an_orc_written(rt: HostRuntime) {
     for number in 0..8 {
-        let written = in_builder(rt.alloc(), setting(number), orc_is_written);
+        let written = in_builder(rt.alloc(), setting(number, 1), orc_is_written);
         assert!(rt; written, "setting {number}");
     }
 }
@@ -202,7 +193,7 @@ fn elf_is_read_twice(builder: &mut Builder) -> Result<bool, BuildError> {
 #[test]
 fn inventory_and_loot(rt: HostRuntime) {
     for number in 0..8 {
-        let read = in_builder(rt.alloc(), setting(number), elf_is_read_twice);
+        let read = in_builder(rt.alloc(), setting(number, 1), elf_is_read_twice);
         assert!(rt; read, "setting {number}");
     }
 }
@@ -263,6 +254,56 @@ fn an_unknown_tag(rt: HostRuntime) {
     let mut bytes = ORC;
     bytes[22] = 2;
     check(&rt, tag_is_unknown(rt.alloc(), &bytes), "an unknown tag");
+}
+
+// Whether an error was met by this method of this type, at this offset.
+fn is_at(error: &Error, type_: &str, method: &str, byte_offset: usize) -> bool {
+    let at = error.source_location;
+    at.type_ == type_ && at.method == method && at.byte_offset == byte_offset
+}
+
+// A monster without fields, at 4.
+const NAMELESS: &[u8] = b"\x04\0\0\0\xfc\xff\xff\xff\x04\0\x04\0";
+
+fn name_is_missing() -> bool {
+    let Ok(monster) = MonsterRef::read_as_root(NAMELESS) else {
+        return false;
+    };
+    match monster.name() {
+        Ok(_) => false,
+        Err(e) => {
+            matches!(e.error_kind, ErrorKind::MissingRequired) && is_at(&e, "Monster", "name", 4)
+        }
+    }
+}
+
+#[test]
+fn a_missing_name(rt: HostRuntime) {
+    check(&rt, name_is_missing(), "a missing name");
+}
+
+// The references of the weapons start at 0x2c.
+fn first_weapon_is_damaged(bytes: &[u8]) -> bool {
+    let Ok(orc) = MonsterRef::read_as_root(bytes) else {
+        return false;
+    };
+    let Ok(Some(weapons)) = orc.weapons() else {
+        return false;
+    };
+    match weapons.get(0usize) {
+        Some(Err(e)) => {
+            matches!(e.error_kind, ErrorKind::InvalidOffset) && is_at(&e, "[Weapon]", "get", 0x2c)
+        }
+        _ => false,
+    }
+}
+
+// The axe's vtable would stand in front of the buffer.
+#[test]
+fn a_damaged_weapon(rt: HostRuntime) {
+    let mut bytes = ORC;
+    bytes[0x3b] = 0x7f;
+    check(&rt, first_weapon_is_damaged(&bytes), "a damaged weapon");
 }
 
 // The references of the loot start 40 bytes before the end of 92, at 0x34.

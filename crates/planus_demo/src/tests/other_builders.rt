@@ -31,13 +31,13 @@ const WEAPONS: &[(&[u8], WeaponRow)] = &[
 
 // A monster. It has equipped a weapon.
 #[derive(Clone, Copy)]
-struct MonsterRow {
-    hp: i16,
-    name: &'static str,
-    inventory: &'static [u8],
-    weapons: Option<&'static [WeaponRow]>,
-    equipped: WeaponRow,
-    loot: Option<&'static [WeaponRow]>,
+pub struct MonsterRow {
+    pub hp: i16,
+    pub name: &'static str,
+    pub inventory: &'static [u8],
+    pub weapons: Option<&'static [WeaponRow]>,
+    pub equipped: WeaponRow,
+    pub loot: Option<&'static [WeaponRow]>,
 }
 
 const RAIDER: MonsterRow = MonsterRow {
@@ -185,7 +185,8 @@ fn is_monster(monster: MonsterRef<'_>, row: MonsterRow) -> bool {
         && loot_is(monster, row.loot)
 }
 
-fn monster_is_read(bytes: &[u8], row: MonsterRow) -> bool {
+// Whether these bytes are read as this monster, field by field.
+pub fn monster_is_read(bytes: &[u8], row: MonsterRow) -> bool {
     match MonsterRef::read_as_root(bytes) {
         Ok(monster) => is_monster(monster, row),
         Err(_) => false,

@@ -16,11 +16,15 @@ use planus_write::{
 use std::alloc::{AllocError, Global};
 
 // A kind of unions.
-struct Drinks;
+pub struct Drinks;
 
 // Prepares a field that is always there, of which only the bound is known; tells whether it is
 // prepared as this.
-fn always<P: Primitive, T: WriteAs<P>>(builder: &mut Builder, field: &T, want: T::Prepared) -> bool
+pub fn always<P: Primitive, T: WriteAs<P>>(
+    builder: &mut Builder,
+    field: &T,
+    want: T::Prepared,
+) -> bool
 where
     T::Prepared: PartialEq,
     requires { T.may field.now builder.old }
@@ -29,7 +33,7 @@ where
 }
 
 // The same of one that is written; tells whether it is at this distance.
-fn written<K, T: WriteAs<Offset<K>, Prepared = Offset<K>>>(
+pub fn written<K, T: WriteAs<Offset<K>, Prepared = Offset<K>>>(
     builder: &mut Builder,
     field: &T,
     distance: u32,
@@ -41,14 +45,14 @@ fn written<K, T: WriteAs<Offset<K>, Prepared = Offset<K>>>(
 
 // What a field that may be left out can be.
 #[derive(Clone, Copy, PartialEq)]
-enum Answer {
+pub enum Answer {
     There,
     LeftOut,
     Refused,
 }
 
 // Prepares a field that may be absent; tells whether it is there.
-fn optional<P: Primitive, T: WriteAsOptional<P>>(builder: &mut Builder, field: &T) -> Answer
+pub fn optional<P: Primitive, T: WriteAsOptional<P>>(builder: &mut Builder, field: &T) -> Answer
     requires { T.may field.now builder.old }
 {
     match field.prepare(builder) {
@@ -59,7 +63,7 @@ fn optional<P: Primitive, T: WriteAsOptional<P>>(builder: &mut Builder, field: &
 }
 
 // Prepares a field with a default; tells whether it is there.
-fn defaulted<P: Primitive, D, T: WriteAsDefault<P, D>>(
+pub fn defaulted<P: Primitive, D, T: WriteAsDefault<P, D>>(
     builder: &mut Builder,
     field: &T,
     default: &D,
@@ -73,17 +77,17 @@ fn defaulted<P: Primitive, D, T: WriteAsDefault<P, D>>(
     }
 }
 
-fn is_there(answer: Answer) -> bool {
+pub fn is_there(answer: Answer) -> bool {
     answer == Answer::There
 }
 
-fn is_left_out(answer: Answer) -> bool {
+pub fn is_left_out(answer: Answer) -> bool {
     answer == Answer::LeftOut
 }
 
 // Prepares a union that may be absent; tells whether it is of this tag and at distance 6, or isn't
 // there where no tag is wanted.
-fn drink_is<X: WriteAsOptionalUnion<Drinks>>(
+pub fn drink_is<X: WriteAsOptionalUnion<Drinks>>(
     builder: &mut Builder,
     field: &X,
     tag: Option<u8>,
@@ -136,7 +140,7 @@ fn optional_order_is<X: WriteAsOptionalUnionVector<Drinks>>(
     }
 }
 
-fn numbers_are_prepared(builder: &mut Builder) -> bool {
+pub fn numbers_are_prepared(builder: &mut Builder) -> bool {
     always::<u8, u8>(builder, &7, 7)
         && always::<u16, u16>(builder, &7, 7)
         && always::<u32, u32>(builder, &7, 7)
@@ -149,7 +153,7 @@ fn numbers_are_prepared(builder: &mut Builder) -> bool {
         && builder.is_empty()
 }
 
-fn numbers_are_left_out(builder: &mut Builder) -> bool {
+pub fn numbers_are_left_out(builder: &mut Builder) -> bool {
     is_there(optional::<i16, i16>(builder, &24))
         && is_there(optional::<i16, Option<i16>>(builder, &Some(24)))
         && is_left_out(optional::<i16, Option<i16>>(builder, &None))
@@ -161,15 +165,7 @@ fn numbers_are_left_out(builder: &mut Builder) -> bool {
         && builder.is_empty()
 }
 
-#[test]
-fn numbers(rt: HostRuntime) {
-    let prepared = in_builder(rt.alloc(), NO_CACHES, numbers_are_prepared);
-    check(&rt, prepared, "always there");
-    let left_out = in_builder(rt.alloc(), NO_CACHES, numbers_are_left_out);
-    check(&rt, left_out, "left out");
-}
-
-fn texts_are_left_out(builder: &mut Builder, owned: &String) -> bool {
+pub fn texts_are_left_out(builder: &mut Builder, owned: &String) -> bool {
     is_left_out(defaulted::<Offset<Text>, &str, &str>(builder, &"Axe", &"Axe"))
         && is_left_out(defaulted::<Offset<Text>, &str, String>(builder, owned, &"Axe"))
         && is_left_out(optional::<Offset<Text>, Option<&str>>(builder, &None))
@@ -186,9 +182,9 @@ fn texts_are_there(builder: &mut Builder, owned: &String) -> bool {
         && builder.len() == 32
 }
 
-fn texts_are_left_out_or_there(alloc: Global, builder: &mut Builder) -> Result<bool, AllocError> {
+fn owned_texts_are_there(alloc: Global, builder: &mut Builder) -> Result<bool, AllocError> {
     let owned = String::from_str(alloc, "Axe")?;
-    Ok(texts_are_left_out(builder, &owned) && texts_are_there(builder, &owned))
+    Ok(texts_are_there(builder, &owned))
 }
 
 fn boxed_texts_are_there(alloc: Global, builder: &mut Builder) -> bool {
@@ -214,10 +210,12 @@ fn texts_of_before_are_there(builder: &mut Builder) -> Result<bool, BuildError> 
 #[test]
 fn texts(rt: HostRuntime) {
     let alloc = rt.alloc();
-    let owned = calls_in_builder(alloc, NO_CACHES, |builder| {
-        texts_are_left_out_or_there(alloc, builder)
-    });
-    check(&rt, owned, "left out or there");
+    let owned = calls_in_builder(
+        alloc,
+        NO_CACHES,
+        |builder| owned_texts_are_there(alloc, builder),
+    );
+    check(&rt, owned, "there");
     let boxed = in_builder(
         alloc,
         NO_CACHES,
@@ -228,10 +226,12 @@ fn texts(rt: HostRuntime) {
     check(&rt, before, "of before");
 }
 
-fn empty_lists_are_left_out(builder: &mut Builder, owned: &Vec<u16>) -> bool {
+pub fn empty_lists_are_left_out(builder: &mut Builder, owned: &Vec<u16>) -> bool {
     let none: &[u16] = &[];
+    let absent: Option<&[u16]> = None;
     let (bytes, signed) = (ByteList(&[]), SignedList(&[]));
     is_left_out(defaulted::<Offset<List<u16>>, (), &[u16]>(builder, &none, &()))
+        && is_left_out(optional::<Offset<List<u16>>, Option<&[u16]>>(builder, &absent))
         && is_left_out(defaulted::<Offset<List<u16>>, (), Vec<u16>>(builder, owned, &()))
         && is_left_out(defaulted::<Offset<List<u8>>, (), ByteList<'_>>(builder, &bytes, &()))
         && is_left_out(defaulted::<Offset<List<i8>>, (), SignedList<'_>>(builder, &signed, &()))
@@ -274,12 +274,6 @@ fn lists_of_bytes_are_prepared(builder: &mut Builder) -> bool {
 #[test]
 fn lists(rt: HostRuntime) {
     let (alloc, owned) = (rt.alloc(), Vec::new(rt.alloc()));
-    let left_out = in_builder(
-        alloc,
-        NO_CACHES,
-        |builder| empty_lists_are_left_out(builder, &owned),
-    );
-    check(&rt, left_out, "left out");
     let empty = in_builder(
         alloc,
         NO_CACHES,
@@ -300,7 +294,7 @@ fn lists(rt: HostRuntime) {
     );
 }
 
-fn unions_are_left_out(builder: &mut Builder) -> bool {
+pub fn unions_are_left_out(builder: &mut Builder) -> bool {
     let absent: Option<UnionOffset<Drinks>> = None;
     drink_is(builder, &absent, None) && drink_is(builder, &(), None) && builder.is_empty()
 }
@@ -327,7 +321,7 @@ fn unions_are_there(alloc: Global, builder: &mut Builder) -> Result<bool, BuildE
     Ok(plain && optional && boxed && by_ref && builder.len() == 6)
 }
 
-fn union_vectors_are_left_out(builder: &mut Builder) -> bool {
+pub fn union_vectors_are_left_out(builder: &mut Builder) -> bool {
     let none: &[UnionOffset<Drinks>] = &[];
     let absent: Option<&[UnionOffset<Drinks>]> = None;
     order_is(builder, &none, None)
@@ -356,16 +350,6 @@ fn written_union_vectors_are_there(builder: &mut Builder) -> Result<bool, BuildE
 #[test]
 fn unions(rt: HostRuntime) {
     let alloc = rt.alloc();
-    check(
-        &rt,
-        in_builder(alloc, NO_CACHES, unions_are_left_out),
-        "left out",
-    );
-    check(
-        &rt,
-        in_builder(alloc, NO_CACHES, union_vectors_are_left_out),
-        "lists left out",
-    );
     check(
         &rt,
         in_builder(alloc, NO_CACHES, empty_union_vectors_are_there),

@@ -10,6 +10,7 @@ mod sized;
 mod tables;
 mod texts;
 mod unions;
+mod without_memory;
 mod writes;
 
 use planus_back::{Fill, Overwrite};

@@ -122,7 +122,7 @@ fn lists_of_unions(rt: HostRuntime) {
 }
 
 // Whether a union, of which only the bound is known, is of tag 7 and at distance 6.
-fn union_stands<X: WriteAsUnion<()>>(builder: &mut Builder, value: &X) -> bool
+pub fn union_stands<T, X: WriteAsUnion<T>>(builder: &mut Builder, value: &X) -> bool
     requires { X.may value.now builder.old }
 {
     match value.prepare(builder) {

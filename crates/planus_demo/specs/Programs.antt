@@ -1,0 +1,32 @@
+-- What the program prints of its input, by the mode that its words choose.
+use Rattle.std.specs.Prelude.{◌≡◌, ℕ, List, Bool, false, Option, Some, None, IfSome, codes}
+use Rattle.std.specs.Io.KnownBytes.{Appends}
+use Rattle.planus_dump.specs.Shapes.{HasShape, worked_tables, worked_unions}
+use Rattle.planus_dump.specs.declared.schemas.Schema.{Schema}
+use Rattle.planus_script.specs.Printed.{line_of}
+use Rattle.planus_script.specs.Runner.{WritesPrinted}
+use Rattle.planus_script.specs.DumpRuns.{WritesDump}
+use Rattle.planus_demo.specs.declared.modes.Mode.{Mode}
+use Rattle.planus_demo.specs.declared.modes.Mode.TheVariants.{Script, Weapon, Monster}
+
+-- The dump of an input was written by the schema of weapons and monsters with this root.
+abbrev pub DumpsRoot : ℕ → List ℕ → Bool → Option (List ℕ) → Option (List ℕ) → Type 0
+DumpsRoot root input clean before after = (schema : Schema)
+    × HasShape schema worked_tables worked_unions root × WritesDump schema input clean before after
+
+-- Only that no word is known was written.
+abbrev pub SaysUnknown : Bool → Option (List ℕ) → Option (List ℕ) → Type 0
+SaysUnknown clean before after =
+    (clean ≡ false) × Appends before after (line_of (codes "unknown argument"))
+
+-- What the input says as a script was written, or its dump as a weapon or as a monster; without a
+-- mode a line that says so.
+abbrev pub DoesMode :
+    Option Mode → Option (List ℕ) → Bool → Option (List ℕ) → Option (List ℕ) → Type 0
+DoesMode (Some Script) input clean before after =
+    IfSome input (λ bytes. WritesPrinted bytes clean before after)
+DoesMode (Some Weapon) input clean before after =
+    IfSome input (λ bytes. DumpsRoot 0 bytes clean before after)
+DoesMode (Some Monster) input clean before after =
+    IfSome input (λ bytes. DumpsRoot 1 bytes clean before after)
+DoesMode None input clean before after = SaysUnknown clean before after

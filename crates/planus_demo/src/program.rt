@@ -1,0 +1,101 @@
+//! From the words behind the program's name, and a reader, to a writer.
+ghost use Rattle.std.specs.Prelude.{◌≡◌, Option, None, IfOk, IfErr, IfSome};
+ghost use Rattle.planus_script.specs.Runner.{LeavesUnwritten};
+ghost use Rattle.planus_demo.specs.Programs.{DoesMode, DumpsRoot, SaysUnknown};
+
+use crate::mode::{mode, schema};
+use crate::modes::Mode;
+use planus_script::dump_run::run_dump;
+use planus_script::run::{RunError, run, write_out};
+use std::alloc::Global;
+use std::env;
+use std::env::Env;
+use std::io::{ErrorKind, Read, Write};
+
+/// The words behind the program's name, or `None` where one of them is no text.
+fn words_of<E: Env + AllocGlobal>(env: &E) -> Result<Option<Vec<String>>, RunError> {
+    let mut words = Vec::new(env.alloc());
+    let mut arguments = match env::args(env) {
+        Ok(arguments) => arguments,
+        Err(error) if error.kind() == ErrorKind::OutOfMemory => return Err(RunError::OutOfMemory),
+        Err(_) => return Ok(None),
+    };
+    let _name = arguments.next();
+    for word in arguments {
+        if words.push(word).is_err() {
+            return Err(RunError::OutOfMemory);
+        }
+    }
+    Ok(Some(words))
+}
+
+/// Dumps a line of bytes by the schema of weapons and monsters with this root.
+fn dump_root<R: Read, W: Write>(
+    alloc: Global,
+    root: usize,
+    reader: &mut R,
+    writer: &mut W,
+) -> Result<bool, RunError>
+    ensures printed { IfOk result (λ clean. IfSome (R.remaining reader.old) (λ input.
+        DumpsRoot root input clean (W.contents writer.old) (W.contents writer.new))) }
+    ensures unwritten { IfErr result
+        (λ error. LeavesUnwritten error (W.contents writer.old) (W.contents writer.new)) }
+{
+    let schema = schema(alloc, root)?;
+    run_dump(alloc, &schema, reader, writer)
+}
+
+/// Says that the words choose no mode.
+fn refuse<W: Write>(writer: &mut W) -> Result<bool, RunError>
+    ensures printed { IfOk result (λ clean.
+        SaysUnknown clean (W.contents writer.old) (W.contents writer.new)) }
+    ensures error { IfErr result (λ error. error ≡ RunError.Write) }
+{
+    write_out(writer, b"unknown argument\n")?;
+    Ok(false)
+}
+
+/// Does what a mode says, and without one says so, and reads nothing. Returns whether all went well.
+///
+/// [`RunError::OutOfMemory`] and [`RunError::Read`] where nothing was written, and
+/// [`RunError::Write`] where writing failed.
+pub fn run_mode<R: Read, W: Write>(
+    alloc: Global,
+    mode: Option<Mode>,
+    reader: &mut R,
+    writer: &mut W,
+) -> Result<bool, RunError>
+    ensures printed { IfOk result (λ clean. DoesMode mode (R.remaining reader.old) clean
+        (W.contents writer.old) (W.contents writer.new)) }
+    ensures unread { mode ≡ None → reader.new ≡ reader.old }
+    ensures unwritten { IfErr result
+        (λ error. LeavesUnwritten error (W.contents writer.old) (W.contents writer.new)) }
+{
+    match mode {
+        Some(Mode::Script) => run(alloc, reader, writer),
+        Some(Mode::Weapon) => dump_root(alloc, 0, reader, writer),
+        Some(Mode::Monster) => dump_root(alloc, 1, reader, writer),
+        None => refuse(writer),
+    }
+}
+
+/// Does what the words behind the program's name choose, as [`run_mode`]: nothing is read before
+/// they are known. [`RunError::OutOfMemory`] where memory for them is refused.
+pub fn run_program<E: Env + AllocGlobal, R: Read, W: Write>(
+    env: &E,
+    reader: &mut R,
+    writer: &mut W,
+) -> Result<bool, RunError>
+    ensures printed { IfOk result (λ clean. (mode : Option Mode)
+        × DoesMode mode (R.remaining reader.old) clean (W.contents writer.old)
+        (W.contents writer.new)) }
+    ensures unwritten { IfErr result
+        (λ error. LeavesUnwritten error (W.contents writer.old) (W.contents writer.new)) }
+{
+    let words = words_of(env)?;
+    let mode = match &words {
+        Some(words) => mode(words.as_slice()),
+        None => None,
+    };
+    run_mode(env.alloc(), mode, reader, writer)
+}

@@ -1,0 +1,55 @@
+-- For which lines memory is asked: a step keeps its text, its bytes or its items, and the items of a
+-- list are kept one after the other, before a fault behind them is found.
+use Rattle.std.specs.Prelude.{ℕ, ◌≤◌, List, [], ◌∷◌, length, ⊤, ◌⊎◌, Option, Some, None, Result}
+use Rattle.std.specs.Prelude.{IsOk, IsTrue}
+use Rattle.std.specs.Bool.{MatchBool}
+use Rattle.std.specs.Str.{is_utf8}
+use Rattle.planus_script.specs.Words.{words_of, number_of}
+use Rattle.planus_script.specs.Fields.{field_of}
+use Rattle.planus_script.specs.Unions.{union_of}
+use Rattle.planus_script.specs.Script.{command_named, command_of, is_skipped}
+use Rattle.planus_script.specs.declared.script.Command.{Command}
+use Rattle.planus_script.specs.declared.script.Command.TheVariants as named
+use Rattle.planus_script.specs.declared.script.ReadFault.{ReadFault}
+
+-- for some items, if the first word is one
+abbrev pub AsksForItems :
+    {A : Type 0} → (List ℕ → Result A ReadFault) → List (List ℕ) → Type 0
+AsksForItems read [] = ⊥
+AsksForItems read (word ∷ words) = IsOk (read word)
+
+-- for the bytes of a word, if it has the digits of one
+abbrev pub AsksForBytes : List (List ℕ) → Type 0
+AsksForBytes (word ∷ []) = 2 ≤ length word
+AsksForBytes _ = ⊥
+
+-- for the step of a command, by the words behind it
+abbrev pub AsksForStep : Command → List (List ℕ) → Type 0
+AsksForStep named.Text words = ⊤
+AsksForStep named.Bytes words = AsksForBytes words
+AsksForStep (named.Numbers width) words = AsksForItems number_of words
+AsksForStep named.Refs words = AsksForItems number_of words
+AsksForStep named.Unions words = AsksForItems union_of words
+AsksForStep named.Table words = AsksForItems field_of words
+AsksForStep (named.Finish sized) words = ⊥
+AsksForStep named.Clear words = ⊥
+
+-- the same, if the command is known
+abbrev pub AsksIfKnown : Option Command → List (List ℕ) → Type 0
+AsksIfKnown None words = ⊥
+AsksIfKnown (Some command) words = AsksForStep command words
+
+-- for what the words of a line say
+abbrev pub AsksForWords : List (List ℕ) → Type 0
+AsksForWords [] = ⊥
+AsksForWords (word ∷ words) = AsksIfKnown (command_named word) words
+
+-- For the step that a line is: its words are read if it is UTF-8.
+abbrev pub AsksForLine : List ℕ → Type 0
+AsksForLine line = IsTrue (is_utf8 line) × AsksForWords (words_of line)
+
+-- For the steps of lines: the first line that isn't skipped is a step, which is kept, or asks itself.
+abbrev pub AsksForLines : List (List ℕ) → Type 0
+AsksForLines [] = ⊥
+AsksForLines (line ∷ lines) =
+    MatchBool (is_skipped line) (AsksForLines lines) (IsOk (command_of line) ⊎ AsksForLine line)
