@@ -7,8 +7,8 @@ ghost use Rattle.planus_write.specs.State.{Grows};
 use super::in_builder;
 use planus::{BuildError, Builder, Offset, ReadAsRoot, UnionOffset, has_identifier};
 use uses_log::{
-    Cause, CauseRef, Entry, EntryFields, EntryRead, EntryRef, Level, Origin, OriginRef, all_read_back,
-    text_read_back,
+    Cause, CauseRef, Entry, EntryFields, EntryRead, EntryRef, Level, Origin, OriginRef,
+    all_read_back, text_read_back,
 };
 
 // Writes an entry with this text alone.

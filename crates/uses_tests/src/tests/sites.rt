@@ -173,10 +173,12 @@ fn sites_are_read_back(rt: HostRuntime) {
 // Whether a kind that is unknown is an error with the location of the call.
 fn is_unknown_kind(site: &TableRef<'_, Site>) -> bool {
     match Site::kind(site) {
-        Err(Error {
-            source_location,
-            error_kind: ErrorKind::UnknownEnumTag { source },
-        }) => {
+        Err(
+            Error {
+                source_location,
+                error_kind: ErrorKind::UnknownEnumTag { source },
+            },
+        ) => {
             source.tag == 9
                 && source_location.type_ == "Site"
                 && source_location.method == "kind"
@@ -191,5 +193,8 @@ fn unknown_kinds_are_errors(rt: HostRuntime) {
     let mut bytes = FLATC_SITE;
     bytes[31] = 9;
     let site: Result<TableRef<'_, Site>, _> = ReadAsRoot::read_as_root(&bytes);
-    assert!(rt; matches!(site, Ok(site) if is_unknown_kind(&site)), "kind 9");
+    assert!(rt;
+        matches!(site, Ok(site) if is_unknown_kind(&site)),
+        "kind 9"
+    );
 }
