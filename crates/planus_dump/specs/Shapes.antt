@@ -86,8 +86,8 @@ abbrev pub unnamed_steps : List Step
 unnamed_steps =
     bytes (codes "Axe") ∷ table ((0, ref_field 0) ∷ (1, number_field 2 24) ∷ []) ∷ []
 
--- The schema of weapons fits the axe, and that of monsters the monster; it fits no weapon with a
--- field of another size or kind, nor does a weapon's fit a monster.
+-- The schema of weapons fits the axe, and that of monsters the monster. That of weapons fits neither
+-- of the other two, nor the monster.
 pub record WorkedRowsFit (schema : Schema) : Type 0 where
   pub weapon : HasShape schema worked_tables worked_unions 0 → Fits schema worked_steps 1
   pub monster : HasShape schema worked_tables worked_unions 1 → Fits schema worked_steps 6

@@ -41,7 +41,8 @@ impl From<AllocError> for DumpError {
 /// bytes refer to. There are no more than the budget. Damage in the bytes is a line of its own, and
 /// no error. The path of the root is `root`.
 ///
-/// Time and memory are in proportion to the budget and the bytes, however often a table is named.
+/// Time and memory are in proportion to the budget and the bytes, however often a table is named. The
+/// contract speaks of neither; a test has a table that is named twice by each of 40 above it.
 pub fn dump(
     alloc: Global,
     schema: &Schema,

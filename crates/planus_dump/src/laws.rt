@@ -39,8 +39,8 @@ pub fn unions_are_said()
     ensures vectors { (table : reader.Table) (i : ℕ) → UnionVectorsAreSaid table i }
 {}
 
-/// The schema of the worked rows fits the steps that write a weapon and a monster, and none with a
-/// field of another size or kind.
+/// The schema of the worked rows fits the steps that write a weapon and a monster; that of weapons
+/// doesn't fit a weapon whose damage has 4 bytes, one whose name is a list of bytes, or that monster.
 pub fn worked_rows_fit()
     ensures { (one : schema.Schema) → WorkedRowsFit one }
 {}
