@@ -64,7 +64,7 @@ pub field_path_no_space : (path name : List ℕ) → HasNoSpace path → HasNoSp
 field_path_no_space path name h named = all_append (λ byte. (byte == 32) ≡ false) path (codes "." ++ name) h (refl, named)
 
 -- names of a good schema
-both_true : (a b : Bool) → (a && b) ≡ true → (a ≡ true) × (b ≡ true)
+pub both_true : (a b : Bool) → (a && b) ≡ true → (a ≡ true) × (b ≡ true)
 both_true true true e = (refl, refl)
 both_true true false e = cc
 both_true false b e = cc

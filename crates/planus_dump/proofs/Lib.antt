@@ -1,6 +1,7 @@
 mod Matching
 mod Answering
 mod Feeds
+mod FirstLine
 mod FaultLines
 mod Written
 mod Leaves

@@ -1,5 +1,5 @@
 -- What a dump answers, by the events of the table at 0.
-use Rattle.std.specs.Prelude.{◌≡◌, ℕ, ◌≤◌, List, [], ◌∷◌, ◌++◌, length, map, ⊤, codes}
+use Rattle.std.specs.Prelude.{◌≡◌, ℕ, ◌<◌, ◌≤◌, List, [], ◌∷◌, ◌++◌, length, map, codes}
 use Rattle.std.specs.Prelude.{Result, Ok, Err, Vec, String, true, false}
 use Rattle.std.specs.String.{string_bytes}
 use Rattle.std.specs.declared.alloc.Global.{Global}
@@ -24,8 +24,8 @@ Begin es lines rest = es ≡ map line lines ++ rest
 
 -- What is answered of events: their lines, if they are no more than the budget and nothing lies too
 -- deep; or else what comes first, a table that lies too deep, or a line past the budget. Memory is
--- asked for the text of the first event, also where the budget is 0: so whatever the events are, it
--- may be refused.
+-- asked for where the budget isn't 0, and then for the first line: so whatever the events are, it may
+-- be refused.
 abbrev pub Answers : List Event → ℕ → Result (Vec (String Global) Global) DumpError → Type 0
 Answers es budget (Ok lines) =
     Begin es (map string_bytes lines.items) [] × (length lines.items ≤ budget)
@@ -36,7 +36,7 @@ Answers es budget (Err TooManyLines) =
     (lines : List (List ℕ)) × (next : List ℕ) × (rest : List Event)
     × Begin es lines (line next ∷ rest) × (length lines ≡ budget)
 Answers es budget (Err BadSchema) = ⊥
-Answers es budget (Err OutOfMemory) = ⊤
+Answers es budget (Err OutOfMemory) = 0 < budget
 
 -- What a dump answers: `BadSchema` exactly of a schema that isn't good, and else what is said of
 -- the events; or memory was refused.

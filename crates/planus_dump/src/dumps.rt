@@ -54,6 +54,10 @@ pub fn dump(
     if !is_good_schema(schema) {
         return Err(DumpError::BadSchema);
     }
+    // The first line is past the budget already, so no memory is asked for it.
+    if budget == 0 {
+        return Err(DumpError::TooManyLines);
+    }
     let whole = SliceWithStartOffset::new(bytes, 0);
     let root = match <Place<'_> as TableRead<'_>>::from_buffer(whole, 0) {
         Ok(place) => place,

@@ -1,10 +1,11 @@
-use Rattle.std.proofs.Common.{◌≡◌, ◌∙◌, true, codes, rules}
+use Rattle.std.proofs.Common.{◌≡◌, ◌∙◌, [], sym, true, codes, rules}
 use Rattle.planus_read.specs.Places.{place_bytes, place_offset}
 use Rattle.planus_dump.specs.Dumped.{events_of}
 use Rattle.planus_dump.specs.Schemas.{is_good}
 use Rattle.planus_dump.specs.Shown.{shown, feed, begin}
 use Rattle.planus_dump.specs.declared.output.Stop.TheVariants.{Going, TooDeep, TooMany}
 use Rattle.planus_dump.proofs.Feeds.{root_fed, walked, all_lines}
+use Rattle.planus_dump.proofs.FirstLine.{begins_with_line}
 use Rattle.planus_dump.proofs.dumps.dump.Goals as goal
 
 pub returns-in-Going : goal.returns-in-Going
@@ -30,3 +31,9 @@ returns-in-TooMany c =
     (c.in-Ok.ensures.bytes ∙ c.new-whole.ensures.bytes) c.in-Ok.ensures.offset c.new-out.ensures c.in_ok-dump_table.ensures in
     let good : is_good c.args.schema.now ≡ true = search rules in
     (good, walked es c.args.budget c.dump_table.new.out TooMany fed c.in-TooMany.is)
+
+pub returns-then-budget-eq0 : goal.returns-then-budget-eq0
+returns-then-budget-eq0 c =
+    let good : is_good c.args.schema.now ≡ true = search rules in
+    let first = begins_with_line c.args.schema.now c.args.bytes.now good in
+    (good, ([], first.0, first.1, first.2, sym c.if-budget-eq0.true))

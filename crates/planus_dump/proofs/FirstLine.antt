@@ -1,0 +1,46 @@
+-- The first event of a dump is a line.
+use Rattle.std.proofs.Common.{◌≡◌, ◌≢◌, ℕ, zero, suc, ◌<◌, List, [], ◌∷◌, length, true, refl, ap, ◌∙◌, arith, Some, Result, Ok, Err}
+use Rattle.std.specs.Prelude.{slice_get, nat_lt, ◌&&◌, codes}
+use Rattle.std.specs.List.{list_all}
+use Rattle.std.specs.String.{string_bytes}
+use Rattle.std.proofs.lemmas.Bool.Decides.{nat_tests}
+use Rattle.planus_dump.specs.Answers.{Seen, table_at}
+use Rattle.planus_dump.specs.Dumped.{events_of}
+use Rattle.planus_dump.specs.Events.{Event, line, TableEvents, events, fields_events, shape_events, table_events}
+use Rattle.planus_dump.specs.Lines.{fault_line, table_line}
+use Rattle.planus_dump.specs.Schemas.{is_good, table_count, union_count, table_fits, union_fits}
+use Rattle.planus_dump.specs.declared.schemas.Schema.{Schema}
+use Rattle.planus_dump.specs.declared.schemas.TableSchema.{TableSchema}
+use Rattle.planus_dump.proofs.FaultLines.{both_true}
+use Rattle.planus_dump.proofs.Feeds.{events-more}
+
+abbrev pub BeginsWithLine : List Event → Type 0
+BeginsWithLine es = (next : List ℕ) × (rest : List Event) × (es ≡ line next ∷ rest)
+
+table_there : (tables : List TableSchema) (n : ℕ) → n < length tables → (table : TableSchema) × (slice_get tables n ≡ Some table)
+table_there [] n h = absurd (omega (arith, h))
+table_there (table ∷ tables) zero h = (table, refl)
+table_there (table ∷ tables) (suc n) h = table_there tables n (omega (arith, h))
+
+of_table : (E : TableEvents) (schema : Schema) (shape : TableSchema) (path : List ℕ) (answer : Result Seen (List ℕ)) → BeginsWithLine (table_events E schema shape path answer)
+of_table E schema shape path (Ok table) = (table_line path (string_bytes shape.name), fields_events E schema table path shape.fields.items, refl)
+of_table E schema shape path (Err fault) = (fault_line path fault, [], refl)
+
+root_there : (schema : Schema) → is_good schema ≡ true → schema.root < table_count schema
+root_there schema good =
+    let tables = table_count schema in
+    let named = list_all (table_fits tables (union_count schema)) schema.tables.items in
+    let outer = both_true (nat_lt schema.root tables && named) (list_all (union_fits tables) schema.unions.items) good in
+    let inside : nat_lt schema.root tables ≡ true = (both_true (nat_lt schema.root tables) named outer.0).0 in
+    grind (arith, nat_tests, inside)
+
+pub begins_with_line : (schema : Schema) (bytes : List ℕ) → is_good schema ≡ true → BeginsWithLine (events_of schema bytes)
+begins_with_line schema bytes good =
+    let shape = table_there schema.tables.items schema.root (root_there schema good) in
+    let first = of_table (events schema 63) schema shape.0 (codes "root") (table_at bytes 0) in
+    let some : 64 ≢ 0 = λ e. omega (arith, e) in (
+      first.0,
+      first.1,
+      events-more schema 64 schema.root bytes 0 (codes "root") some
+          ∙ ap (λ o. shape_events (events schema 63) schema o bytes 0 (codes "root")) shape.1 ∙ first.2,
+    )
