@@ -63,6 +63,7 @@ pub fn text_read_back<'b>(
 }
 
 /// What is read of an entry: its eight fields, each in place.
+#[derive(Drop)]
 pub struct EntryRead<'a> {
     pub at: u64,
     pub retries: u16,
