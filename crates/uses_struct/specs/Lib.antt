@@ -1,3 +1,4 @@
 pub mod Kinds
 pub mod Structs
+pub mod Floats
 pub mod Sites

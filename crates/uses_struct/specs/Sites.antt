@@ -1,12 +1,12 @@
 -- What a site holds.
-use Rattle.std.specs.Prelude.{ℕ, ◌==◌, List, [], ◌∷◌, Option, Some, map, to_bits}
-use Rattle.std.specs.Int.{w8, w32, to_le_bytes}
-use lib.Ieee.{Float, binary32}
+use Rattle.std.specs.Prelude.{ℕ, ◌==◌, List, [], ◌∷◌, Option, Some, map}
+use Rattle.std.specs.Int.{w8, to_le_bytes}
 use Rattle.planus_read.specs.Structs.{Shape}
 use Rattle.planus_read.specs.Values.{plain_list}
 use Rattle.planus_write.specs.Contents.{Content, item, value}
 use Rattle.planus_fields.specs.Contents.{holds_if, unless}
 use Rattle.uses_struct.specs.Structs.{pos_shape, fix_shape, leg_shape}
+use Rattle.uses_struct.specs.Floats.{holds_f32}
 use Rattle.uses_struct.specs.Kinds.{kind_number}
 use Rattle.uses_struct.specs.declared.pos.Pos.{Pos}
 use Rattle.uses_struct.specs.declared.kind.Kind.{Kind}
@@ -30,9 +30,6 @@ holds_kind kind =
 abbrev pub holds_kinds : List Kind → Option Content
 holds_kinds kinds =
     Some (value (plain_list 1 1 (map (λ kind. to_le_bytes w8 (kind_number kind)) kinds)))
-
-abbrev pub holds_f32 : Float → Option Content
-holds_f32 x = Some (item (record { bytes = to_le_bytes w32 (to_bits binary32 x); alignment = 4 }))
 
 -- slot by slot
 abbrev pub site_contents : SiteFields → List (ℕ × Option Content)

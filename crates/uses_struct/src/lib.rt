@@ -6,6 +6,7 @@ mod kind;
 mod leg;
 mod pos;
 mod read_back;
+mod sample;
 mod site;
 
 pub use fix::Fix;
@@ -13,4 +14,5 @@ pub use kind::Kind;
 pub use leg::Leg;
 pub use pos::Pos;
 pub use read_back::{SiteError, home_read_back};
+pub use sample::{Sample, USUAL};
 pub use site::{Site, SiteFields, point};

@@ -2,6 +2,7 @@
 
 mod entries;
 mod numbers;
+mod samples;
 mod sites;
 mod tables;
 mod voyages;

@@ -1,0 +1,87 @@
+//! Samples: tables of the schema `table Sample { exact: double = 0.0; rough: float; series: [double]; }`.
+
+ghost use Rattle.std.specs.Prelude.{◌≡◌, ◌≤◌, [], ◌∷◌, length, codes, IfOk, List as list, ℕ};
+ghost use Rattle.std.specs.Result.{IsOkAnd};
+ghost use lib.Ieee.{Float, binary32, binary64, eq as equal_floats};
+ghost use Rattle.planus_read.specs.Floats.{FloatFits};
+ghost use Rattle.planus_write.specs.State.{Grows};
+ghost use Rattle.planus_fields.specs.Contents.{unless};
+ghost use Rattle.planus_tables.specs.Contents.{WritesContents};
+ghost use Rattle.planus_tables.specs.ReadBack.{SlotHolds};
+ghost use Rattle.uses_struct.specs.Floats.{holds_f32, holds_f64, holds_f64s};
+
+use planus_read::Result;
+use planus_tables::{OrDefault, TableKind, TableRef, create_table, fields, plain_field_or};
+use planus_view::Vector;
+use planus_write::{BuildError, Builder, List, Offset, TableWriter};
+
+/// The kind of an offset to a sample.
+pub struct Sample;
+
+/// What a sample is exactly, where nothing is said of it.
+pub const USUAL: f64 = 0.0;
+
+impl Sample {
+    /// Writes a sample. What is exactly 0, with either sign, is left out.
+    pub fn create(
+        builder: &mut Builder,
+        exact: f64,
+        rough: f32,
+        series: &[f64],
+    ) -> std::result::Result<Offset<Sample>, BuildError>
+        ensures kept { IfOk result (λ offset. WritesContents
+            ((0, unless (equal_floats exact USUAL) (holds_f64 exact))
+            ∷ (2, holds_f64s series.now) ∷ (1, holds_f32 rough) ∷ [])
+            builder.old offset.distance builder.new) }
+        ensures reached { IfOk result (λ offset. offset.distance ≤ length builder.new.bytes) }
+        ensures grows { Grows builder.old builder.new }
+    {
+        let exact = OrDefault {
+            value: exact,
+            default: USUAL,
+        };
+        let fields = fields![
+            0: f64 = exact,
+            2: Offset<List<f64>> = series,
+            1: f32 = rough,
+        ];
+        create_table::<Sample, _>(builder, fields)
+    }
+
+    /// Returns what it is exactly, 0 where nothing is said of it. Where the sample holds a float, it
+    /// is this float.
+    pub fn exact(sample: &TableRef<'_, Sample>) -> Result<f64>
+        ensures { (B : list ℕ) (exact : Float) → SlotHolds B sample.now.table 0 (holds_f64 exact)
+            → FloatFits binary64 exact → IsOkAnd result (λ read. read ≡ exact) }
+    {
+        plain_field_or(sample, 0, USUAL, "Sample", "exact")
+    }
+
+    /// Returns what it is roughly, 0 where nothing is said of it. Where the sample holds a float, it
+    /// is this float.
+    pub fn rough(sample: &TableRef<'_, Sample>) -> Result<f32>
+        ensures { (B : list ℕ) (rough : Float) → SlotHolds B sample.now.table 1 (holds_f32 rough)
+            → FloatFits binary32 rough → IsOkAnd result (λ read. read ≡ rough) }
+    {
+        plain_field_or(sample, 1, 0.0, "Sample", "rough")
+    }
+
+    /// Returns its series, or `None` where there is none.
+    pub fn series<'a>(sample: &TableRef<'a, Sample>) -> Result<Option<Vector<'a, f64>>> {
+        sample
+            .table
+            .access::<Vector<'a, f64>>(2, "Sample", "series")
+    }
+}
+
+impl TableKind for Sample {
+    type Writer = TableWriter<10>;
+
+    ghost name = { codes "[SampleRef]" };
+
+    fn name() -> &'static str
+        ensures { result.now ≡ codes "[SampleRef]" }
+    {
+        "[SampleRef]"
+    }
+}
