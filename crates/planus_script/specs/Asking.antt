@@ -1,5 +1,5 @@
--- For which lines memory is asked: a step keeps its text, its bytes or its items, and the items of a
--- list are kept one after the other, before a fault behind them is found.
+-- Which lines ask for memory: a step holds its text, its bytes or its items; and the items of a list
+-- are held one after the other, before a fault behind them is found.
 use Rattle.std.specs.Prelude.{ℕ, ◌≤◌, List, [], ◌∷◌, length, ⊤, ◌⊎◌, Option, Some, None, Result}
 use Rattle.std.specs.Prelude.{IsOk, IsTrue}
 use Rattle.std.specs.Bool.{MatchBool}
@@ -12,18 +12,18 @@ use Rattle.planus_script.specs.declared.script.Command.{Command}
 use Rattle.planus_script.specs.declared.script.Command.TheVariants as named
 use Rattle.planus_script.specs.declared.script.ReadFault.{ReadFault}
 
--- for some items, if the first word is one
+-- the words of a list, if the first one is an item
 abbrev pub AsksForItems :
     {A : Type 0} → (List ℕ → Result A ReadFault) → List (List ℕ) → Type 0
 AsksForItems read [] = ⊥
 AsksForItems read (word ∷ words) = IsOk (read word)
 
--- for the bytes of a word, if it has the digits of one
+-- the words of bytes, if there is one, with the digits of a byte
 abbrev pub AsksForBytes : List (List ℕ) → Type 0
 AsksForBytes (word ∷ []) = 2 ≤ length word
 AsksForBytes _ = ⊥
 
--- for the step of a command, by the words behind it
+-- the words behind a command
 abbrev pub AsksForStep : Command → List (List ℕ) → Type 0
 AsksForStep named.Text words = ⊤
 AsksForStep named.Bytes words = AsksForBytes words
@@ -34,21 +34,21 @@ AsksForStep named.Table words = AsksForItems field_of words
 AsksForStep (named.Finish sized) words = ⊥
 AsksForStep named.Clear words = ⊥
 
--- the same, if the command is known
+-- the same, where the command may be unknown
 abbrev pub AsksIfKnown : Option Command → List (List ℕ) → Type 0
 AsksIfKnown None words = ⊥
 AsksIfKnown (Some command) words = AsksForStep command words
 
--- for what the words of a line say
+-- the words of a line
 abbrev pub AsksForWords : List (List ℕ) → Type 0
 AsksForWords [] = ⊥
 AsksForWords (word ∷ words) = AsksIfKnown (command_named word) words
 
--- For the step that a line is: its words are read if it is UTF-8.
+-- The line asks for memory: it is UTF-8, and its words ask.
 abbrev pub AsksForLine : List ℕ → Type 0
 AsksForLine line = IsTrue (is_utf8 line) × AsksForWords (words_of line)
 
--- For the steps of lines: the first line that isn't skipped is a step, which is kept, or asks itself.
+-- The lines ask for memory: the first one that isn't skipped is a step, which is held, or asks.
 abbrev pub AsksForLines : List (List ℕ) → Type 0
 AsksForLines [] = ⊥
 AsksForLines (line ∷ lines) =

@@ -17,8 +17,8 @@ LeavesUnwritten Write before after = ⊤
 LeavesUnwritten Read before after = Keeps before after
 LeavesUnwritten OutOfMemory before after = Keeps before after
 
--- Reading ends with this error where so many bytes are taken: a read fails before the last byte that
--- is read at most, and memory is refused for some bytes that are taken.
+-- How many bytes are taken where reading ends with this error. Behind one byte more than the longest
+-- script has nothing is read, so no read fails there; and memory is asked for bytes that are taken.
 abbrev pub FailsAt : RunError → ℕ → Type 0
 FailsAt Read count = count ≤ greatest_script
 FailsAt OutOfMemory count = (0 < count) × (count ≤ greatest_script + 1)

@@ -43,8 +43,8 @@ impl From<AllocError> for RunError {
     }
 }
 
-/// Reads some bytes, again and again where the read is interrupted, which no read is as often as the
-/// loop allows. Returns how many; 0 bytes are the reader's end.
+/// Reads some bytes, and returns how many: none at the reader's end. An interrupted read is made
+/// again, 2^64 - 1 times at most.
 fn read_some<R: Read>(reader: &mut R, bytes: &mut [u8]) -> std::result::Result<usize, RunError>
     ensures bound { ReadsAtMost result bytes.new }
     ensures bytes { IfOk result (λ count. Consumes (R.remaining reader.old)
