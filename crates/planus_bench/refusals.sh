@@ -1,6 +1,6 @@
 #!/bin/sh
-# Refuses one request for memory after the other: in a test of this crate, whose calls make some
-# fifty, up to the given one; and in planus_demo over a script of a weapon, until none is refused.
+# Refuses one request for memory after the other: in a test of this crate, whose calls make nearly
+# sixty, up to the given one; and in planus_demo over a script of a weapon, until none is refused.
 # Looks whether the test passes, and whether what the program prints may be. It takes half a minute a
 # run, most of it to build, and a run for each request.
 #

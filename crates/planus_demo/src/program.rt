@@ -68,6 +68,7 @@ pub fn run_mode<R: Read, W: Write>(
     ensures printed { IfOk result (λ clean. DoesMode mode (R.remaining reader.old) clean
         (W.contents writer.old) (W.contents writer.new)) }
     ensures unread { mode ≡ None → reader.new ≡ reader.old }
+    ensures unknown { mode ≡ None → IfErr result (λ error. error ≡ RunError.Write) }
     ensures unwritten { IfErr result
         (λ error. LeavesUnwritten error (W.contents writer.old) (W.contents writer.new)) }
 {
