@@ -1,7 +1,6 @@
 -- A home that is read is the one that was written.
-use Rattle.std.proofs.Common.{◌≡◌, ℕ, List, Option, Some, None, Result, Ok, ap}
-use Rattle.std.specs.Prelude.{IsOkAnd, IsSomeAnd, MatchOption, ⊤}
-use Rattle.planus_read.specs.declared.located.Error.{Error}
+use Rattle.std.proofs.Common.{◌≡◌, ℕ, List, Option, Some, None, ap}
+use Rattle.std.specs.Prelude.{IsSomeAnd, MatchOption, ⊤}
 use Rattle.planus_read.specs.declared.table_reader.Table.{Table}
 use Rattle.planus_fields.specs.Contents.{holds_if}
 use Rattle.planus_tables.specs.ReadBack.{SlotHolds}

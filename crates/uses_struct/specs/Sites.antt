@@ -5,7 +5,7 @@ use Rattle.planus_read.specs.Structs.{Shape}
 use Rattle.planus_read.specs.Values.{plain_list}
 use Rattle.planus_write.specs.Contents.{Content, item, value}
 use Rattle.planus_fields.specs.Contents.{holds_if, unless}
-use Rattle.uses_struct.specs.Structs.{pos_shape, fix_shape, leg_shape}
+use Rattle.uses_struct.specs.Structs.{pos_shape, fix_shape, leg_shape, features_shape}
 use Rattle.uses_struct.specs.Floats.{holds_f32}
 use Rattle.uses_struct.specs.Kinds.{kind_number}
 use Rattle.uses_struct.specs.declared.pos.Pos.{Pos}
@@ -40,4 +40,5 @@ site_contents site =
     ∷ (1, holds_structs pos_shape site.track.now)
     ∷ (4, holds_f32 site.heat)
     ∷ (5, holds_kinds site.kinds.now)
-    ∷ (3, unless (kind_number site.kind == 1) (holds_kind site.kind)) ∷ []
+    ∷ (3, unless (kind_number site.kind == 1) (holds_kind site.kind))
+    ∷ (7, holds_struct features_shape site.features) ∷ []

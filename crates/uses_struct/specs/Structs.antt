@@ -1,9 +1,10 @@
 -- The fields of structs.
 use Rattle.std.proofs.Common.{refl, lit≤, lit<}
 use Rattle.planus_read.specs.Structs.{Fields, Shape, field, no_more, struct_layout, struct_shape}
-use Rattle.planus_read.specs.Structs.{i32_shape, i16_shape, u64_shape, enum_shape}
+use Rattle.planus_read.specs.Structs.{i32_shape, i16_shape, u64_shape, u8_shape, enum_shape}
 use Rattle.uses_struct.specs.Kinds.{kind_number, kind_of, is_kind}
 use Rattle.uses_struct.specs.declared.pos.Pos.{Pos}
+use Rattle.uses_struct.specs.declared.features.Features.{Features}
 use Rattle.uses_struct.specs.declared.fix.Fix.{Fix}
 use Rattle.uses_struct.specs.declared.kind.Kind.{Kind}
 use Rattle.uses_struct.specs.declared.leg.Leg.{Leg}
@@ -28,6 +29,13 @@ fix_fields =
 abbrev pub fix_shape : Shape Fix
 fix_shape = struct_shape fix_fields (struct_layout 3 3 (lit≤ tt) (lit< tt))
     (λ v. record { when = v.0; at = v.1.0; kind = v.1.1.0 }) (λ fix. refl)
+
+abbrev pub features_fields : Fields Features
+features_fields = field (λ features. features.bits) u8_shape no_more
+
+abbrev pub features_shape : Shape Features
+features_shape = struct_shape features_fields (struct_layout 0 1 (lit≤ tt) (lit< tt))
+    (λ v. record { bits = v.0 }) (λ features. refl)
 
 abbrev pub leg_fields : Fields Leg
 leg_fields = field (λ leg. leg.from) fix_shape (field (λ leg. leg.to) fix_shape no_more)

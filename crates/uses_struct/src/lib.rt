@@ -1,6 +1,7 @@
 //! Places: tables with structs, an enum and a float.
 #![tactic(auto)]
 
+mod features;
 mod fix;
 mod kind;
 mod leg;
@@ -9,6 +10,7 @@ mod read_back;
 mod sample;
 mod site;
 
+pub use features::Features;
 pub use fix::Fix;
 pub use kind::Kind;
 pub use leg::Leg;

@@ -2,7 +2,7 @@
 //!
 //! ```text
 //! table Site { home: Pos; track: [Pos]; fix: Fix; kind: Kind = Bike; heat: float; kinds: [Kind];
-//!     leg: Leg; }
+//!     leg: Leg; features: Features; }
 //! ```
 
 ghost use Rattle.std.specs.Prelude.{◌≡◌, ◌≤◌, List as list, ℕ, length, codes, IfOk};
@@ -15,20 +15,23 @@ ghost use Rattle.planus_read.specs.Floats.{FloatFits};
 ghost use Rattle.planus_view.specs.VectorView.{count_of};
 ghost use Rattle.planus_tables.specs.ReadBack.{SlotHolds};
 ghost use Rattle.planus_tables.specs.ReadVectors.{ArePlainItems};
-ghost use Rattle.uses_struct.specs.Structs.{pos_shape, fix_shape, leg_shape};
+ghost use Rattle.uses_struct.specs.Structs.{pos_shape, fix_shape, leg_shape, features_shape};
 ghost use Rattle.uses_struct.specs.Floats.{holds_f32};
 ghost use Rattle.uses_struct.specs.Sites.{site_contents, holds_kind, holds_pos};
 ghost use Rattle.uses_struct.specs.Sites.{holds_struct};
+ghost use Rattle.uses_struct.specs.declared.features.Features.{Features};
 ghost use Rattle.uses_struct.specs.declared.fix.Fix.{Fix};
 ghost use Rattle.uses_struct.specs.declared.leg.Leg.{Leg};
 ghost use Rattle.uses_struct.specs.declared.pos.Pos.{Pos};
 ghost use Rattle.uses_struct.specs.declared.kind.Kind.{Kind};
 ghost use Rattle.uses_struct.specs.declared.kind.Kind.TheVariants.{Bike};
 
+use crate::features::Features;
 use crate::fix::Fix;
 use crate::kind::Kind;
 use crate::leg::Leg;
 use crate::pos::Pos;
+use planus_read::errors::ErrorKind;
 use planus_read::{Result, Stride};
 use planus_tables::{
     OrDefault, TableKind, TableRef, create_table, fields, laws, plain_field, plain_field_or,
@@ -49,6 +52,7 @@ pub struct SiteFields<'a> {
     pub heat: f32,
     pub kinds: &'a [Kind],
     pub leg: Option<Leg>,
+    pub features: Features,
 }
 
 impl Site {
@@ -74,6 +78,7 @@ impl Site {
             4: f32 = site.heat,
             5: Offset<List<Kind>> = site.kinds,
             3: Kind = kind,
+            7: Features = site.features,
         ];
         create_table::<Site, _>(builder, fields)
     }
@@ -127,6 +132,31 @@ impl Site {
         )
     }
 
+    /// Returns the kind, or another one in place of a number that is no kind's, as a later schema may
+    /// have it. Where the site holds a kind, it is this kind.
+    pub fn kind_or(site: &TableRef<'_, Site>, other: Kind) -> Result<Kind>
+        ensures read_back { (B : list ℕ) (kind : Kind) → SlotHolds B site.now.table 3 (holds_kind kind)
+            → IsOkAnd result (λ read. read ≡ kind) }
+    {
+        match Site::kind(site) {
+            Ok(kind) => Ok(kind),
+            Err(error) => match error.error_kind {
+                ErrorKind::UnknownEnumTag { .. } => Ok(other),
+                _ => Err(error),
+            },
+        }
+    }
+
+    /// Returns what it has, nothing where nothing is said of it. Where the site holds some features,
+    /// they are these.
+    pub fn features(site: &TableRef<'_, Site>) -> Result<Features>
+        ensures { (B : list ℕ) (features : Features)
+            → SlotHolds B site.now.table 7 (holds_struct features_shape features)
+            → features_shape.fits features → IsOkAnd result (λ read. read ≡ features) }
+    {
+        plain_field_or(site, 7, Features { bits: 0 }, "Site", "features")
+    }
+
     /// Returns the kinds, or `None` where there are none.
     pub fn kinds<'a>(site: &TableRef<'a, Site>) -> Result<Option<Vector<'a, Result<Kind>>>> {
         site.table
@@ -154,7 +184,7 @@ pub fn point(track: &Vector<'_, Pos>, index: usize) -> Pos
 }
 
 impl TableKind for Site {
-    type Writer = TableWriter<18>;
+    type Writer = TableWriter<20>;
 
     ghost name = { codes "[SiteRef]" };
 

@@ -4,7 +4,7 @@ use super::in_builder;
 use planus::errors::ErrorKind;
 use planus::{BuildError, Builder, Error, Plain, ReadAsRoot, SliceWithStartOffset, TableRead};
 use planus_tables::TableRef;
-use uses_struct::{Fix, Kind, Leg, Pos, Site, SiteFields, home_read_back};
+use uses_struct::{Features, Fix, Kind, Leg, Pos, Site, SiteFields, home_read_back};
 
 const PARIS: Pos = Pos {
     lat: 48_856_600,
@@ -50,10 +50,11 @@ const FIX_BYTES: [u8; 24] = [
     0, 0, 0, 0, 0, 1, 0, 0, 60, 156, 1, 254, 12, 172, 201, 251, 255, 255, 0, 0, 2, 0, 0, 0,
 ];
 
-// What flatc 2.0.8 writes of a site with these values, heat -1.5, the kind and the kinds Ship, Car.
+// What flatc 2.0.8 writes of a site with these values, the kind Ship, heat -1.5, the kinds Ship and
+// Car, water and a road.
 const FLATC_SITE: [u8; 168] = [
-    0x18, 0x00, 0x00, 0x00, 0x00, 0x00, 0x12, 0x00, 0x68, 0x00, 0x08, 0x00, 0x14, 0x00, 0x18, 0x00,
-    0x07, 0x00, 0x30, 0x00, 0x34, 0x00, 0x38, 0x00, 0x12, 0x00, 0x00, 0x00, 0x00, 0x00, 0x00, 0x02,
+    0x18, 0x00, 0x00, 0x00, 0x14, 0x00, 0x68, 0x00, 0x08, 0x00, 0x14, 0x00, 0x18, 0x00, 0x06, 0x00,
+    0x30, 0x00, 0x34, 0x00, 0x38, 0x00, 0x07, 0x00, 0x14, 0x00, 0x00, 0x00, 0x00, 0x00, 0x02, 0x05,
     0x18, 0x7e, 0xe9, 0x02, 0x48, 0xe4, 0x23, 0x00, 0x23, 0x00, 0x00, 0x00, 0x60, 0x00, 0x00, 0x00,
     0x00, 0x00, 0x00, 0x00, 0x00, 0x01, 0x00, 0x00, 0x3c, 0x9c, 0x01, 0xfe, 0x0c, 0xac, 0xc9, 0xfb,
     0xff, 0xff, 0x00, 0x00, 0x02, 0x00, 0x00, 0x00, 0x00, 0x00, 0xc0, 0xbf, 0x34, 0x00, 0x00, 0x00,
@@ -116,6 +117,17 @@ fn has_kinds(site: &TableRef<'_, Site>) -> bool {
     }
 }
 
+fn has_features(site: &TableRef<'_, Site>) -> bool {
+    match Site::features(site) {
+        Ok(features) => {
+            features.bits == 5
+                && features.has(Features::ROAD)
+                && !features.has(Features::POWER.with(Features::ROAD))
+        }
+        Err(_) => false,
+    }
+}
+
 // Whether the root is a site with these values, with this kind and this heat.
 fn is_site(bytes: &[u8], kind: Kind, heat: f32) -> bool {
     let site: Result<TableRef<'_, Site>, _> = ReadAsRoot::read_as_root(bytes);
@@ -129,6 +141,7 @@ fn is_site(bytes: &[u8], kind: Kind, heat: f32) -> bool {
         && matches!(Site::heat(&site), Ok(read) if read == heat)
         && has_track(&site)
         && has_kinds(&site)
+        && has_features(&site)
 }
 
 fn fields(kind: Kind, heat: f32) -> SiteFields<'static> {
@@ -140,6 +153,7 @@ fn fields(kind: Kind, heat: f32) -> SiteFields<'static> {
         heat,
         kinds: &[Kind::Ship, Kind::Car],
         leg: Some(LEG),
+        features: Features::WATER.with(Features::ROAD),
     }
 }
 
@@ -191,7 +205,7 @@ fn is_unknown_kind(site: &TableRef<'_, Site>) -> bool {
 #[test]
 fn unknown_kinds_are_errors(rt: HostRuntime) {
     let mut bytes = FLATC_SITE;
-    bytes[31] = 9;
+    bytes[30] = 9;
     let site: Result<TableRef<'_, Site>, _> = ReadAsRoot::read_as_root(&bytes);
     assert!(rt;
         matches!(site, Ok(site) if is_unknown_kind(&site)),

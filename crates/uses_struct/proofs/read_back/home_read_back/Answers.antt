@@ -1,4 +1,4 @@
-use Rattle.std.proofs.Common.{rules, refl, codes, None, Ok, ◌≡◌}
+use Rattle.std.proofs.Common.{rules, refl, codes, None, Ok}
 use Rattle.std.specs.Prelude.{MatchOption, ⊤}
 use Rattle.uses_struct.specs.Structs.{pos_shape}
 use Rattle.uses_struct.specs.Sites.{site_contents}
