@@ -99,7 +99,19 @@ impl<C: GetCacheKey> Cache<C> {
     }
 
     /// Takes all distances out.
+    #[inline]
     pub fn clear(&mut self)
+        ensures { IsEmpty self.new }
+    {
+        if self.buckets.is_empty() {
+            return;
+        }
+        self.clear_all();
+    }
+
+    #[cold]
+    #[inline(never)]
+    fn clear_all(&mut self)
         ensures { IsEmpty self.new }
     {
         // A clear of a map takes time by its capacity, however few entries it has.

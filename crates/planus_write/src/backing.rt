@@ -154,6 +154,18 @@ impl Backing {
         self.inner.put_slice(bytes);
     }
 
+    // The same of bytes that are often none, where nothing is copied then.
+    #[inline]
+    pub(crate) fn put_if_any(&mut self, bytes: &[u8])
+        requires room { length bytes.now ≤ self.old.room }
+        requires fits { length bytes.now + length self.old.bytes ≤ greatest_place }
+        ensures { PutsBytes bytes.now self.old self.new }
+    {
+        if !bytes.is_empty() {
+            self.put(bytes);
+        }
+    }
+
     // The bytes of three slices, for which there is room.
     #[inline]
     pub(crate) fn put_three(&mut self, first: &[u8], second: &[u8], third: &[u8])

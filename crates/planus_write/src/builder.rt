@@ -444,7 +444,7 @@ impl Builder {
         let mask = self.backing.finish_mask();
         let name = identifier_slice(&identifier);
         let place = self.backing.make_room(name.len() + 4, mask)?;
-        self.backing.put(name);
+        self.backing.put_if_any(name);
         self.backing.put(&(place - root).to_le_bytes());
         Ok(place)
     }
