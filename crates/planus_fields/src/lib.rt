@@ -9,7 +9,7 @@ pub mod traits;
 
 pub use default_value::DefaultValue;
 pub use left_out::LeftOut;
-pub use plain_field::{PlainDefault, PlainField};
+pub use plain_field::PlainField;
 pub use traits::{
     WriteAs, WriteAsDefault, WriteAsDefaultUnionVector, WriteAsOptional, WriteAsOptionalUnion,
     WriteAsOptionalUnionVector,

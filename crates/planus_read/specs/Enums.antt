@@ -1,60 +1,122 @@
--- Enums of a byte: variants with numbers.
-use Rattle.std.specs.Prelude.{◌≡◌, ℕ, ◌==◌, List, [], ◌∷◌, Option, Some, None, if◌then◌else◌, pos, IsSome}
-use Rattle.std.specs.Bool.{Decides}
-use Rattle.std.specs.Cmp.{unsigned_Decides}
-use Rattle.std.specs.Int.{w8, to_le_bytes}
-use Rattle.std.proofs.Common.{refl, sym, subst, ap, ◌∙◌}
+-- Enums: variants with numbers, encoded as these.
+use Rattle.std.specs.Prelude.{◌≡◌, ℕ, ℤ, pos, Bool, nat_eq, List, [], ◌∷◌, Option, Some, None, IsSome}
+use Rattle.std.specs.Prelude.{if◌then◌else◌, Result, Ok, Err, FitsSigned}
+use Rattle.std.specs.Int.{Width, w8, w16, w32, w64, byte_len, to_le_bytes, cast_signed, cast_unsigned}
+use Rattle.std.specs.Option.{option_and_then}
+use Rattle.std.specs.Ordering.{int_eq}
+use Rattle.std.proofs.Common.{refl, sym, subst, ap, ◌∙◌, to_z-of_z}
+use Rattle.planus_read.specs.declared.errors.ErrorKind.{ErrorKind}
 use Rattle.planus_read.specs.declared.errors.ErrorKind.TheVariants.{UnknownEnumTag}
-use Rattle.planus_read.specs.Clauses.{Clause, clause}
-use Rattle.planus_read.specs.Plain.{IsPlain}
-use Rattle.planus_read.specs.PlainNumbers.{NumberFits, one_byte, stood, layout_of_one}
-use Rattle.planus_read.specs.PlainNumbers.{bytes_number}
-use Rattle.planus_read.specs.Reading.{number, NumberThere}
+use Rattle.planus_read.specs.declared.located.Error.{Error}
+use Rattle.planus_read.specs.Bytes.{Num}
+use Rattle.planus_read.specs.Clauses.{clause}
+use Rattle.planus_read.specs.Plain.{IsLayout, NumberFits, Shape}
+use Rattle.planus_read.specs.Reading.{number}
+use Rattle.planus_read.specs.lemmas.EnumLaws.{is_some, same_value}
+use Rattle.planus_read.specs.lemmas.NumberLaws.{AreBytes, one_byte, two_bytes, four_bytes, eight_bytes}
+use Rattle.planus_read.specs.lemmas.NumberLaws.{layout_of_one, layout_of_two, layout_of_four}
+use Rattle.planus_read.specs.lemmas.NumberLaws.{layout_of_eight, bytes_number, stood_by}
 
--- the variant that has the number, of variants with their numbers
-abbrev pub variant_in : {E : Type 0} → List (ℕ × E) → ℕ → Option E
-variant_in [] n = None
-variant_in (one ∷ others) n = if n == one.0 then Some one.1 else variant_in others n
+-- the variant that has the number, of all variants
+abbrev pub variant_in : {E N : Type 0} → (N → N → Bool) → (E → N) → List E → N → Option E
+variant_in equal number_of [] n = None
+variant_in equal number_of (x ∷ others) n =
+    if equal n (number_of x) then Some x else variant_in equal number_of others n
 
--- The numbers of an enum's variants fit a byte, and each leads to its variant.
-abbrev pub IsEnum : {E : Type 0} → (E → ℕ) → (ℕ → Option E) → Type 0
-IsEnum {E} number_of variant_of =
-    (x : E) → (variant_of (number_of x) ≡ Some x) × NumberFits w8 (number_of x)
+-- each variant is found by its number
+abbrev pub AreFound : {E N : Type 0} → (N → N → Bool) → (E → N) → List E → Type 0
+AreFound {E} equal number_of all =
+    (x : E) → variant_in equal number_of all (number_of x) ≡ Some x
 
--- the variant whose number stands at f
-abbrev pub EnumThere : {E : Type 0} → (ℕ → Option E) → List ℕ → ℕ → E → Type 0
-EnumThere variant_of S f x = (n : ℕ) × NumberThere S f w8 n × (variant_of n ≡ Some x)
-
--- its clause: the number is a variant's
-abbrev pub enum_clauses : {E : Type 0} → (ℕ → Option E) → List ℕ → ℕ → List Clause
-enum_clauses variant_of S f =
-    clause (IsSome (variant_of (number S f w8)))
-    (UnknownEnumTag (record { tag = pos (number S f w8) })) ∷ []
-
-pub enum_is_plain : {E : Type 0} (number_of : E → ℕ) (variant_of : ℕ → Option E)
-    → IsEnum number_of variant_of
-    → IsPlain 1 1 (λ x. to_le_bytes w8 (number_of x)) (λ x. NumberFits w8 (number_of x))
-    (EnumThere variant_of) (enum_clauses variant_of)
-enum_is_plain {E} number_of variant_of is = record {
-  layout = layout_of_one;
-  sized = λ x. refl;
-  holds = λ S f x fits stands.
-      (let same : number S f w8 ≡ number_of x = bytes_number w8 one_byte S f (number_of x) fits stands in (
-        subst (λ (v : Option E). IsSome v) (sym (ap variant_of same ∙ (is x).0)) refl,
-        tt,
-      ));
+-- An enum by the numbers of its variants, all of them in a list: a variant is encoded as its number,
+-- `bits` of it, which is read again as `read_as`. The error of a number that no variant has names it.
+abbrev pub enum_shape :
+    {E N : Type 0} (width : Width) → AreBytes width → IsLayout (byte_len width) (byte_len width)
+    → (bits : N → ℕ) (read_as : ℕ → N) (Fits : N → Type 0)
+    → ((n : N) → Fits n → NumberFits width (bits n)) → ((n : N) → Fits n → read_as (bits n) ≡ n)
+    → (tag : N → ℤ) (equal : N → N → Bool) (number_of : E → N) (all : List E)
+    → AreFound equal number_of all → Shape E (byte_len width) (byte_len width)
+enum_shape {E} {N} width are layout bits read_as Fits few again tag equal number_of all found = record {
+  encoded = λ x. to_le_bytes width (bits (number_of x));
+  fits = λ x. Fits (number_of x);
+  There = λ S f x.
+      option_and_then (λ n. variant_in equal number_of all (read_as n)) (Num S f width) ≡ Some x;
+  clauses = λ S f.
+      clause (IsSome (variant_in equal number_of all (read_as (number S f width))))
+      (UnknownEnumTag (record { tag = tag (read_as (number S f width)) })) ∷ [];
+  layout = layout;
+  sized = λ x. are.sized (bits (number_of x));
+  holds = λ S f x fits stands. (
+    (let same : read_as (number S f width) ≡ number_of x =
+        ap read_as (bytes_number width are S f (bits (number_of x)) (few (number_of x) fits) stands)
+        ∙ again (number_of x) fits in
+        subst (λ (v : Option E). IsSome v)
+        (sym (ap (variant_in equal number_of all) same ∙ found x)) (is_some x)),
+    tt,
+  );
   again = λ S f x y fits stands there.
-      (let same : there.0 ≡ number_of x =
-      stood w8 one_byte S f (number_of x) there.0 fits stands there.1 in
-      let both : Some y ≡ Some x = sym there.2 ∙ ap variant_of same ∙ (is x).0 in cc);
+      (let stood : variant_in equal number_of all (read_as (bits (number_of x))) ≡ Some y =
+      stood_by (λ n. variant_in equal number_of all (read_as n)) width are S f (bits (number_of x)) y
+      (few (number_of x) fits) stands there in
+      same_value
+      (sym stood ∙ ap (variant_in equal number_of all) (again (number_of x) fits) ∙ found x));
 }
 
--- whether two variants are the same, by their numbers
-pub enum_decides : {E : Type 0} (number_of : E → ℕ) (variant_of : ℕ → Option E)
-    → IsEnum number_of variant_of → (x y : E) → Decides (number_of x == number_of y) (x ≡ y)
-enum_decides {E} number_of variant_of is x y =
-    let numbers = unsigned_Decides (number_of x) (number_of y) in (
-      (λ h.
-          let both : Some x ≡ Some y = sym (is x).0 ∙ ap variant_of (numbers.0 h) ∙ (is y).0 in cc),
-      (λ h. numbers.1 (ap number_of h)),
-    )
+-- an enum of unsigned numbers, and one of signed numbers
+abbrev pub unsigned_enum :
+    {E : Type 0} (width : Width) → AreBytes width → IsLayout (byte_len width) (byte_len width)
+    → (number_of : E → ℕ) (all : List E) → AreFound nat_eq number_of all
+    → Shape E (byte_len width) (byte_len width)
+unsigned_enum width are layout =
+    enum_shape width are layout (λ n. n) (λ n. n) (NumberFits width) (λ n fits. fits)
+    (λ n fits. refl) (λ n. pos n) nat_eq
+
+abbrev pub signed_enum :
+    {E : Type 0} (width : Width) → AreBytes width → IsLayout (byte_len width) (byte_len width)
+    → (number_of : E → ℤ) (all : List E) → AreFound int_eq number_of all
+    → Shape E (byte_len width) (byte_len width)
+signed_enum width are layout =
+    enum_shape width are layout (cast_unsigned width) (cast_signed width) (FitsSigned width)
+    are.unsigned (λ z fits. to_z-of_z fits) (λ z. z) int_eq
+
+abbrev pub u8_enum : {E : Type 0} (number_of : E → ℕ) (all : List E) → AreFound nat_eq number_of all
+    → Shape E 1 1
+u8_enum = unsigned_enum w8 one_byte layout_of_one
+
+abbrev pub u16_enum : {E : Type 0} (number_of : E → ℕ) (all : List E) → AreFound nat_eq number_of all
+    → Shape E 2 2
+u16_enum = unsigned_enum w16 two_bytes layout_of_two
+
+abbrev pub u32_enum : {E : Type 0} (number_of : E → ℕ) (all : List E) → AreFound nat_eq number_of all
+    → Shape E 4 4
+u32_enum = unsigned_enum w32 four_bytes layout_of_four
+
+abbrev pub u64_enum : {E : Type 0} (number_of : E → ℕ) (all : List E) → AreFound nat_eq number_of all
+    → Shape E 8 8
+u64_enum = unsigned_enum w64 eight_bytes layout_of_eight
+
+abbrev pub i8_enum : {E : Type 0} (number_of : E → ℤ) (all : List E) → AreFound int_eq number_of all
+    → Shape E 1 1
+i8_enum = signed_enum w8 one_byte layout_of_one
+
+abbrev pub i16_enum : {E : Type 0} (number_of : E → ℤ) (all : List E) → AreFound int_eq number_of all
+    → Shape E 2 2
+i16_enum = signed_enum w16 two_bytes layout_of_two
+
+abbrev pub i32_enum : {E : Type 0} (number_of : E → ℤ) (all : List E) → AreFound int_eq number_of all
+    → Shape E 4 4
+i32_enum = signed_enum w32 four_bytes layout_of_four
+
+abbrev pub i64_enum : {E : Type 0} (number_of : E → ℤ) (all : List E) → AreFound int_eq number_of all
+    → Shape E 8 8
+i64_enum = signed_enum w64 eight_bytes layout_of_eight
+
+-- the error, or another value where it is that of an unknown number
+abbrev pub unless_unknown : {A : Type 0} → ErrorKind → A → Error → Result A Error
+unless_unknown (UnknownEnumTag source) other e = Ok other
+unless_unknown kind other e = Err e
+
+-- what was read, or another value in place of an unknown number
+abbrev pub known_or : {A : Type 0} → A → Result A Error → Result A Error
+known_or other (Ok x) = Ok x
+known_or other (Err e) = unless_unknown e.error_kind other e

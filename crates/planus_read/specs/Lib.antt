@@ -9,11 +9,11 @@ pub mod Clauses
 pub mod Utf8
 pub mod Reading
 pub mod Plain
-pub mod PlainNumbers
+pub mod Floats
+pub mod Shapes
+pub mod Enums
 pub mod Structs
 pub mod lemmas
-pub mod Floats
-pub mod Enums
 pub mod Heads
 pub mod Located
 pub mod SignedBytes

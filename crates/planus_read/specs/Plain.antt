@@ -1,7 +1,7 @@
--- Values of a fixed layout: numbers, truth values, enums and structs.
+-- Values of a fixed layout: numbers, truth values, floats, enums and structs.
 use Prim.Native.Nat.{zero, suc}
-use Rattle.std.specs.Prelude.{◌≡◌, ℕ, ◌+◌, ◌<◌, ◌≤◌, ◌^◌, List, ◌∷◌, length}
-use Rattle.std.specs.Int.{◌∣◌}
+use Rattle.std.specs.Prelude.{◌≡◌, ℕ, ◌+◌, ◌*◌, ◌<◌, ◌≤◌, ◌^◌, List, ◌∷◌, length}
+use Rattle.std.specs.Int.{Width, byte_len, ◌∣◌}
 use Rattle.planus_read.specs.declared.errors.ErrorKind.TheVariants.{InvalidOffset}
 use Rattle.planus_read.specs.Bytes.{BytesStand}
 use Rattle.planus_read.specs.Clauses.{Clause, clause, AllHold, Reading}
@@ -13,31 +13,38 @@ pub record IsLayout (size alignment : ℕ) : Type 0 where
   pub positive : 0 < size
   pub multiple : alignment ∣ size
 
--- The reading of a value of so many bytes: they lie in S, and then its own clauses.
-abbrev pub plain_reading :
-    {A : Type 0} → ℕ → (List ℕ → ℕ → A → Type 0) → (List ℕ → ℕ → List Clause) → List ℕ → ℕ
-    → Reading A
-plain_reading size There clauses S f =
-    record {
-      There = There S f;
-      clauses = clause (f + size ≤ length S) InvalidOffset ∷ clauses S f;
-    }
-
--- The same where the bytes lie in S.
-abbrev pub own_reading :
-    {A : Type 0} → (List ℕ → ℕ → A → Type 0) → (List ℕ → ℕ → List Clause) → List ℕ → ℕ → Reading A
-own_reading There clauses S f = record { There = There S f; clauses = clauses S f }
-
--- What is asked of the values of a fixed layout: their layout, that each is encoded in so many bytes,
--- and that where these stand no clause fails and nothing else stands.
-pub record IsPlain {A : Type 0} (size alignment : ℕ) (encoded : A → List ℕ) (fits : A → Type 0)
-    (There : List ℕ → ℕ → A → Type 0) (clauses : List ℕ → ℕ → List Clause) : Type 0 where
+-- The values of a fixed layout, of so many bytes at this alignment: the bytes of each, which values the
+-- type has, which one stands at an offset of some bytes, and what a read of one tests there, in order.
+-- Its laws: each has so many bytes, and where these stand no clause fails and nothing else stands.
+pub record Shape (A : Type 0) (size alignment : ℕ) : Type 1 where
+  pub encoded : A → List ℕ
+  pub fits : A → Type 0
+  pub There : List ℕ → ℕ → A → Type 0
+  pub clauses : List ℕ → ℕ → List Clause
   pub layout : IsLayout size alignment
   pub sized : (x : A) → length (encoded x) ≡ size
   pub holds :
       (S : List ℕ) (f : ℕ) (x : A) → fits x → BytesStand S f (encoded x) → AllHold (clauses S f)
   pub again :
       (S : List ℕ) (f : ℕ) (x y : A) → fits x → BytesStand S f (encoded x) → There S f y → y ≡ x
+
+-- The reading of a value of this shape: its bytes lie in S, and then its own clauses.
+abbrev pub plain_reading :
+    {A : Type 0} {size alignment : ℕ} → Shape A size alignment → List ℕ → ℕ → Reading A
+plain_reading {A} {size} {alignment} shape S f =
+    record {
+      There = shape.There S f;
+      clauses = clause (f + size ≤ length S) InvalidOffset ∷ shape.clauses S f;
+    }
+
+-- The same where the bytes lie in S.
+abbrev pub own_reading :
+    {A : Type 0} {size alignment : ℕ} → Shape A size alignment → List ℕ → ℕ → Reading A
+own_reading shape S f = record { There = shape.There S f; clauses = shape.clauses S f }
+
+-- the number has no more bits
+abbrev pub NumberFits : Width → ℕ → Type 0
+NumberFits width n = n < 2 ^ (8 * byte_len width)
 
 -- the place that lies so many bytes behind another
 abbrev pub place : ℕ → ℕ → ℕ

@@ -1,32 +1,12 @@
 -- Structs: fields of a fixed layout, one behind the other.
-use Rattle.std.specs.Prelude.{◌≡◌, ℕ, ◌+◌, ◌-◌, ◌*◌, ◌%◌, ◌^◌, ◌<◌, ◌≤◌, max, List, [], ◌++◌, ◌∷◌, length, replicate, Bool, ℤ, FitsSigned, ⊤, Option, to_bits}
-use Rattle.std.specs.Int.{Width, w8, w16, w32, w64, byte_len, to_le_bytes, cast_unsigned, from_bool}
+use Rattle.std.specs.Prelude.{◌≡◌, ℕ, ◌+◌, ◌-◌, ◌*◌, ◌%◌, ◌^◌, ◌<◌, ◌≤◌, max, List, [], ◌++◌, length, replicate, ⊤}
 use Rattle.std.proofs.Common.{refl, sym, ap, ◌∙◌, length-append}
 use Rattle.std.proofs.lemmas.List.{length-replicate}
 use Rattle.std.proofs.Math.Nat.{dvd-mul_left}
-use lib.Ieee.{Float, binary32, binary64}
 use Rattle.planus_read.specs.Bytes.{BytesStand}
 use Rattle.planus_read.specs.Clauses.{Clause, AllHold}
-use Rattle.planus_read.specs.Enums.{EnumThere, IsEnum, enum_clauses, enum_is_plain}
-use Rattle.planus_read.specs.Floats.{FloatFits, FloatThere, f32_is_plain, f64_is_plain}
-use Rattle.planus_read.specs.Plain.{IsLayout, IsPlain, place}
-use Rattle.planus_read.specs.PlainNumbers.{AreBytes, NumberFits, one_byte, two_bytes, four_bytes}
-use Rattle.planus_read.specs.PlainNumbers.{eight_bytes, unsigned_is_plain, signed_is_plain}
-use Rattle.planus_read.specs.PlainNumbers.{small_is_plain, truth_is_plain, layout_of_one}
-use Rattle.planus_read.specs.PlainNumbers.{layout_of_two, layout_of_four, layout_of_eight}
-use Rattle.planus_read.specs.Reading.{NumberThere, SignedThere, TruthThere}
+use Rattle.planus_read.specs.Plain.{IsLayout, Shape, place}
 use Rattle.planus_read.specs.lemmas.StructLaws.{parts_stand, behind, both_are, both_hold}
-
--- What a field of a struct is: its bytes, which values they stand for, what a read of one tests, and
--- its laws.
-pub record Shape (A : Type 0) : Type 1 where
-  pub size : ℕ
-  pub alignment : ℕ
-  pub encoded : A → List ℕ
-  pub fits : A → Type 0
-  pub There : List ℕ → ℕ → A → Type 0
-  pub clauses : List ℕ → ℕ → List Clause
-  pub is_plain : IsPlain size alignment encoded fits There clauses
 
 -- The zeros that bring an offset to a multiple of an alignment.
 abbrev pub gap : ℕ → ℕ → ℕ
@@ -69,51 +49,69 @@ no_more {A} = record {
 
 -- A field at the next multiple of its alignment, and those behind it.
 -- The format: each field of a struct stands at a multiple of its own alignment, with zeros between.
-abbrev pub field : {A B : Type 0} → (A → B) → Shape B → Fields A → Fields A
-field {A} {B} get shape rest = record {
+abbrev pub field :
+    {A B : Type 0} {bytes align : ℕ} → (A → B) → Shape B bytes align → Fields A → Fields A
+field {A} {B} {bytes} {align} get shape rest = record {
   size = λ k.
-      (let g = gap k shape.alignment in g + (shape.size + rest.size (k + g + shape.size)));
-  alignment = max shape.alignment rest.alignment;
+      (let g = gap k align in g + (bytes + rest.size (k + g + bytes)));
+  alignment = max align rest.alignment;
   encoded = λ k x.
-      (let g = gap k shape.alignment in
-      replicate g 0 ++ (shape.encoded (get x) ++ rest.encoded (k + g + shape.size) x));
+      (let g = gap k align in
+      replicate g 0 ++ (shape.encoded (get x) ++ rest.encoded (k + g + bytes) x));
   fits = λ x. shape.fits (get x) × rest.fits x;
   There = λ k S f x.
-      (let g = gap k shape.alignment in
-      shape.There S (place f (k + g)) (get x) × rest.There (k + g + shape.size) S f x);
+      (let g = gap k align in
+      shape.There S (place f (k + g)) (get x) × rest.There (k + g + bytes) S f x);
   clauses = λ k S f.
-      (let g = gap k shape.alignment in
-      shape.clauses S (place f (k + g)) ++ rest.clauses (k + g + shape.size) S f);
+      (let g = gap k align in
+      shape.clauses S (place f (k + g)) ++ rest.clauses (k + g + bytes) S f);
   Values = B × rest.Values;
   values = λ x. (get x, rest.values x);
   sized = λ k x.
-      (let g = gap k shape.alignment in let a = shape.encoded (get x) in
-      let b = rest.encoded (k + g + shape.size) x in
+      (let g = gap k align in let a = shape.encoded (get x) in
+      let b = rest.encoded (k + g + bytes) x in
       length-append (replicate g 0) (a ++ b)
       ∙ ap (λ n. n + length (a ++ b)) (length-replicate g 0)
-      ∙ ap (λ n. g + n) (length-append a b ∙ ap (λ n. n + length b) (shape.is_plain.sized (get x))
-      ∙ ap (λ n. shape.size + n) (rest.sized (k + g + shape.size) x)));
+      ∙ ap (λ n. g + n) (length-append a b ∙ ap (λ n. n + length b) (shape.sized (get x))
+      ∙ ap (λ n. bytes + n) (rest.sized (k + g + bytes) x)));
   holds = λ k S f x fits stands.
-      (let g = gap k shape.alignment in let a = shape.encoded (get x) in
-      let b = rest.encoded (k + g + shape.size) x in
+      (let g = gap k align in let a = shape.encoded (get x) in
+      let b = rest.encoded (k + g + bytes) x in
       let zeros = parts_stand S (replicate g 0) (a ++ b) (place f k) stands in
       let here = behind S f k (length (replicate g 0)) g (a ++ b) (length-replicate g 0) zeros.1 in
       let both = parts_stand S a b (place f (k + g)) here in
-      both_hold (shape.clauses S (place f (k + g))) (rest.clauses (k + g + shape.size) S f)
-      (shape.is_plain.holds S (place f (k + g)) (get x) fits.0 both.0)
-      (rest.holds (k + g + shape.size) S f x fits.1
-      (behind S f (k + g) (length a) shape.size b (shape.is_plain.sized (get x)) both.1)));
+      both_hold (shape.clauses S (place f (k + g))) (rest.clauses (k + g + bytes) S f)
+      (shape.holds S (place f (k + g)) (get x) fits.0 both.0)
+      (rest.holds (k + g + bytes) S f x fits.1
+      (behind S f (k + g) (length a) bytes b (shape.sized (get x)) both.1)));
   again = λ k S f x y fits stands there.
-      (let g = gap k shape.alignment in let a = shape.encoded (get x) in
-      let b = rest.encoded (k + g + shape.size) x in
+      (let g = gap k align in let a = shape.encoded (get x) in
+      let b = rest.encoded (k + g + bytes) x in
       let zeros = parts_stand S (replicate g 0) (a ++ b) (place f k) stands in
       let here = behind S f k (length (replicate g 0)) g (a ++ b) (length-replicate g 0) zeros.1 in
       let both = parts_stand S a b (place f (k + g)) here in
       both_are (get y, rest.values y) (get x, rest.values x)
-      (shape.is_plain.again S (place f (k + g)) (get x) (get y) fits.0 both.0 there.0)
-      (rest.again (k + g + shape.size) S f x y fits.1
-      (behind S f (k + g) (length a) shape.size b (shape.is_plain.sized (get x)) both.1)
+      (shape.again S (place f (k + g)) (get x) (get y) fits.0 both.0 there.0)
+      (rest.again (k + g + bytes) S f x y fits.1
+      (behind S f (k + g) (length a) bytes b (shape.sized (get x)) both.1)
       there.1));
+}
+
+-- The same fields of a struct that stands at multiples of this alignment at least.
+-- The format: `force_align`.
+abbrev pub force_align : {A : Type 0} → ℕ → Fields A → Fields A
+force_align alignment fields = record {
+  size = fields.size;
+  alignment = max alignment fields.alignment;
+  encoded = fields.encoded;
+  fits = fields.fits;
+  There = fields.There;
+  clauses = fields.clauses;
+  Values = fields.Values;
+  values = fields.values;
+  sized = fields.sized;
+  holds = fields.holds;
+  again = fields.again;
 }
 
 -- The size of a struct, and its bytes: the fields, and zeros up to a multiple of its alignment.
@@ -132,13 +130,15 @@ struct_layout k n small positive = record {
   multiple = dvd-mul_left (2 ^ k) n;
 }
 
--- a struct of these fields
-pub struct_is_plain : {A : Type 0} (fields : Fields A)
-    → IsLayout (struct_size fields) fields.alignment
-    → (make : fields.Values → A) → ((x : A) → make (fields.values x) ≡ x)
-    → IsPlain (struct_size fields) fields.alignment (struct_bytes fields) fields.fits
-    (λ S f x. fields.There 0 S f x) (λ S f. fields.clauses 0 S f)
-struct_is_plain fields layout make made = record {
+-- A struct of these fields, which may be a field of another one. `make` makes it of their values.
+abbrev pub struct_shape : {A : Type 0} (fields : Fields A)
+    → IsLayout (struct_size fields) fields.alignment → (make : fields.Values → A)
+    → ((x : A) → make (fields.values x) ≡ x) → Shape A (struct_size fields) fields.alignment
+struct_shape fields layout make made = record {
+  encoded = struct_bytes fields;
+  fits = fields.fits;
+  There = λ S f x. fields.There 0 S f x;
+  clauses = λ S f. fields.clauses 0 S f;
   layout = layout;
   sized = λ x.
       (let n = gap (fields.size 0) fields.alignment in
@@ -153,122 +153,4 @@ struct_is_plain fields layout make made = record {
       (let n = gap (fields.size 0) fields.alignment in
       let both = parts_stand S (fields.encoded 0 x) (replicate n 0) f stands in
       sym (made y) ∙ ap make (fields.again 0 S f x y fits both.0 there) ∙ made x);
-}
-
-abbrev pub unsigned_shape : (width : Width) → AreBytes width
-    → IsLayout (byte_len width) (byte_len width) → Shape ℕ
-unsigned_shape width are layout = record {
-  size = byte_len width;
-  alignment = byte_len width;
-  encoded = λ n. to_le_bytes width n;
-  fits = NumberFits width;
-  There = λ S f n. NumberThere S f width n;
-  clauses = λ S f. [];
-  is_plain = unsigned_is_plain width are layout;
-}
-
-abbrev pub signed_shape : (width : Width) → AreBytes width
-    → IsLayout (byte_len width) (byte_len width) → Shape ℤ
-signed_shape width are layout = record {
-  size = byte_len width;
-  alignment = byte_len width;
-  encoded = λ z. to_le_bytes width (cast_unsigned width z);
-  fits = FitsSigned width;
-  There = λ S f z. SignedThere S f width z;
-  clauses = λ S f. [];
-  is_plain = signed_is_plain width are layout;
-}
-
--- numbers and truth values as fields
-abbrev pub u8_shape : Shape ℕ
-u8_shape = unsigned_shape w8 one_byte layout_of_one
-
-abbrev pub u16_shape : Shape ℕ
-u16_shape = unsigned_shape w16 two_bytes layout_of_two
-
-abbrev pub u32_shape : Shape ℕ
-u32_shape = unsigned_shape w32 four_bytes layout_of_four
-
-abbrev pub u64_shape : Shape ℕ
-u64_shape = unsigned_shape w64 eight_bytes layout_of_eight
-
-abbrev pub i16_shape : Shape ℤ
-i16_shape = signed_shape w16 two_bytes layout_of_two
-
-abbrev pub i32_shape : Shape ℤ
-i32_shape = signed_shape w32 four_bytes layout_of_four
-
-abbrev pub i64_shape : Shape ℤ
-i64_shape = signed_shape w64 eight_bytes layout_of_eight
-
-abbrev pub i8_shape : Shape ℤ
-i8_shape = record {
-  size = 1;
-  alignment = 1;
-  encoded = λ z. cast_unsigned w8 z ∷ [];
-  fits = FitsSigned w8;
-  There = λ S f z. SignedThere S f w8 z;
-  clauses = λ S f. [];
-  is_plain = small_is_plain;
-}
-
-abbrev pub bool_shape : Shape Bool
-bool_shape = record {
-  size = 1;
-  alignment = 1;
-  encoded = λ truth. from_bool truth ∷ [];
-  fits = λ truth. ⊤;
-  There = λ S f truth. TruthThere S f truth;
-  clauses = λ S f. [];
-  is_plain = truth_is_plain;
-}
-
--- floats as fields
-abbrev pub f32_shape : Shape Float
-f32_shape = record {
-  size = 4;
-  alignment = 4;
-  encoded = λ x. to_le_bytes w32 (to_bits binary32 x);
-  fits = FloatFits binary32;
-  There = λ S f x. FloatThere S f w32 binary32 x;
-  clauses = λ S f. [];
-  is_plain = f32_is_plain;
-}
-
-abbrev pub f64_shape : Shape Float
-f64_shape = record {
-  size = 8;
-  alignment = 8;
-  encoded = λ x. to_le_bytes w64 (to_bits binary64 x);
-  fits = FloatFits binary64;
-  There = λ S f x. FloatThere S f w64 binary64 x;
-  clauses = λ S f. [];
-  is_plain = f64_is_plain;
-}
-
--- an enum, by its numbers
-abbrev pub enum_shape : {E : Type 0} (number_of : E → ℕ) (variant_of : ℕ → Option E)
-    → IsEnum number_of variant_of → Shape E
-enum_shape {E} number_of variant_of is = record {
-  size = 1;
-  alignment = 1;
-  encoded = λ x. to_le_bytes w8 (number_of x);
-  fits = λ x. NumberFits w8 (number_of x);
-  There = EnumThere variant_of;
-  clauses = enum_clauses variant_of;
-  is_plain = enum_is_plain number_of variant_of is;
-}
-
--- a struct, also as a field of another one
-abbrev pub struct_shape : {A : Type 0} (fields : Fields A)
-    → IsLayout (struct_size fields) fields.alignment → (make : fields.Values → A)
-    → ((x : A) → make (fields.values x) ≡ x) → Shape A
-struct_shape fields layout make made = record {
-  size = struct_size fields;
-  alignment = fields.alignment;
-  encoded = struct_bytes fields;
-  fits = fields.fits;
-  There = λ S f x. fields.There 0 S f x;
-  clauses = λ S f. fields.clauses 0 S f;
-  is_plain = struct_is_plain fields layout make made;
 }

@@ -1,1 +1,3 @@
+pub mod EnumLaws
+pub mod NumberLaws
 pub mod StructLaws

@@ -10,9 +10,6 @@ use crate::errors::ErrorKind;
 use crate::slice_helpers::SliceWithStartOffset;
 use crate::traits::TableRead;
 
-// The size of a reference in bytes.
-pub(crate) const REFERENCE_SIZE: usize = 4;
-
 /// Returns the bytes of the piece from the first item on of the vector to which the reference at
 /// the offset leads, and the number of its items. Nothing is tested of the items themselves.
 /// [`ErrorKind::InvalidOffset`] where the reference, what it leads to or the count doesn't lie in

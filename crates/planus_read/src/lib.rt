@@ -17,9 +17,9 @@ mod traits;
 
 pub use errors::Error;
 pub use heads::array_from_buffer;
-pub use impls::Enumeration;
+pub use impls::known_or;
 pub use place::{Place, TaggedPlace};
-pub use plain::{Plain, PlainItem, PlainTotal};
+pub use plain::{Plain, PlainTotal};
 pub use signed_bytes::SignedBytes;
 pub use size_prefixed::{has_identifier, read_size_prefixed};
 pub use slice_helpers::{ArrayWithStartOffset, SliceWithStartOffset};

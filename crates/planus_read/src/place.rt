@@ -1,11 +1,9 @@
 //! Fields and items whose reading is chosen later.
 
 ghost use Rattle.std.specs.Prelude.{◌≡◌};
-ghost use Rattle.std.proofs.Common.{lit≤};
 ghost use Rattle.planus_read.specs.Clauses.{Answer};
 
 use crate::errors::ErrorKind;
-use crate::heads::REFERENCE_SIZE;
 use crate::slice_helpers::SliceWithStartOffset;
 use crate::traits::{Stride, TableRead, TableReadUnion, VectorRead, VectorReadUnion};
 
@@ -55,18 +53,7 @@ impl<'buf> TableRead<'buf> for Place<'buf> {
 }
 
 impl<'buf> Stride for Place<'buf> {
-    ghost use Rattle.planus_read.specs.Items.{reference_size};
-
-    ghost STRIDE = { reference_size };
-
-    ghost is_positive = { lit≤ tt };
-
-    #[inline]
-    fn stride() -> usize
-        ensures { result ≡ reference_size }
-    {
-        REFERENCE_SIZE
-    }
+    type Stands = u32;
 }
 
 impl<'buf> VectorRead<'buf> for Place<'buf> {

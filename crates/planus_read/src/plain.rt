@@ -1,37 +1,35 @@
 //! Values of a fixed layout.
 
-ghost use Rattle.std.specs.Prelude.{◌≡◌, ◌≤◌, ◌+◌, ℕ, List, [], length};
-ghost use Rattle.planus_read.specs.Clauses.{Answer, Clause, FirstBroken};
+ghost use Rattle.std.specs.Prelude.{◌≡◌, ◌≤◌, ◌+◌, ℕ, List, length, IfOk};
+ghost use Rattle.planus_read.specs.Clauses.{Answer, FirstBroken};
 ghost use Rattle.planus_read.specs.declared.errors.ErrorKind.{ErrorKind};
+ghost use Rattle.planus_read.specs.Items.{item_method, plain_name};
+ghost use Rattle.planus_read.specs.Located.{Located};
 ghost use Rattle.planus_read.specs.Pieces.{slice_bytes};
-ghost use Rattle.planus_read.specs.Plain.{IsPlain, own_reading, plain_reading};
+ghost use Rattle.planus_read.specs.Plain.{Shape, own_reading, plain_reading};
 
-use crate::errors::ErrorKind;
+use crate::errors::{Error, ErrorKind};
+use crate::located::ITEM_METHOD;
 use crate::slice_helpers::SliceWithStartOffset;
-use crate::traits::{Stride, TableRead, VectorRead};
+use crate::traits::{ReadError, Stride, TableRead, VectorRead, VectorReadInner};
+
+// The name of a vector of values of a fixed layout, for the location of an item's error.
+const VECTOR_NAME: &str = "[plain]";
 
 /// A value of a fixed layout, which stands in a table or in a list in place: a number, a truth value,
 /// a float, an enum or a struct. In the format the fields of a struct stand one behind another, each
 /// at a multiple of its own alignment, with zeros between and behind them.
 ///
-/// The ghost member `encoded` names its bytes. `there` says which value stands at an offset of some
-/// bytes, and `clauses` what a read of it tests there. `fits` holds of each value of the type, which
-/// in a definition may be any number. A struct has these from the list of its fields, and no proof:
-/// `struct_shape` of `specs/Structs.antt` computes gaps, the padding at the end and the alignment.
+/// The ghost member `shape` names the bytes of each value, which values the type has (in a definition
+/// a number may be any), which value stands at an offset of some bytes, and what a read tests there. A
+/// struct has its shape from the list of its fields, and no proof: `struct_shape` of
+/// `specs/Structs.antt` computes gaps, the padding at the end and the alignment.
 pub trait Plain: Copy {
     ghost ALIGNMENT: { ℕ };
 
     ghost SIZE: { ℕ };
 
-    ghost encoded: { Self → List ℕ };
-
-    ghost fits: { Self → Type 0 };
-
-    ghost there: { List ℕ → ℕ → Self → Type 0 };
-
-    ghost clauses: { List ℕ → ℕ → List Clause } = { λ S f. [] };
-
-    ghost is_plain: { IsPlain SIZE ALIGNMENT encoded fits there clauses };
+    ghost shape: { Shape Self SIZE ALIGNMENT };
 
     /// Its first byte stands at a multiple of this number of bytes from the start of a buffer.
     const ALIGNMENT: usize;
@@ -42,25 +40,22 @@ pub trait Plain: Copy {
     /// Writes its bytes over others, which are as many.
     fn put(&self, bytes: &mut [u8])
         requires { length bytes.old ≡ SIZE }
-        ensures { bytes.new ≡ encoded self.now };
+        ensures encoded { bytes.new ≡ (shape).encoded self.now }
+        ensures fits { (shape).fits self.now };
 
     /// Returns the value at the offset, in bytes from the start of the piece, or the error of the
     /// first thing that is wrong there. All of its bytes lie in the piece.
     fn read(buffer: SliceWithStartOffset<'_>, offset: usize) -> Result<Self, ErrorKind>
         requires { offset + SIZE ≤ length (slice_bytes buffer) }
-        ensures { Answer (own_reading there clauses (slice_bytes buffer.entry) offset) result };
+        ensures answer { Answer (own_reading shape (slice_bytes buffer.entry) offset) result }
+        ensures fits { IfOk result (shape).fits };
 }
 
-/// A value of a fixed layout that is an item of vectors. A number of a single byte is none: a vector
-/// of bytes is a byte list.
-pub trait PlainItem: Plain + Stride {
-    /// Its size in a vector is that of its bytes.
-    ghost is_its_size: { Self.STRIDE ≡ Self.SIZE };
-}
-
-/// An item of vectors whose read has no error.
-pub trait PlainTotal: PlainItem {
-    ghost never_fails: { (S : List ℕ) (f : ℕ) (e : ErrorKind) → FirstBroken (Self.clauses S f) e → ⊥ };
+/// A value of a fixed layout whose read has no error: an item of vectors that is read as it is. Any
+/// other is read as a `Result`.
+pub trait PlainTotal: Plain {
+    ghost never_fails: { (S : List ℕ) (f : ℕ) (e : ErrorKind)
+        → FirstBroken ((Self.shape).clauses S f) e → ⊥ };
 }
 
 /// Writes the fields of a struct over its bytes, in the body of [`Plain::put`]: each by its name and
@@ -101,7 +96,7 @@ macro_rules! read_fields {
 }
 
 impl<'buf, T: Plain> TableRead<'buf> for T {
-    ghost reads = { λ S start f r. Answer (plain_reading T.SIZE T.there T.clauses S f) r };
+    ghost reads = { λ S start f r. Answer (plain_reading T.shape S f) r };
 
     #[inline]
     fn from_buffer(buffer: SliceWithStartOffset<'buf>, offset: usize) -> Result<T, ErrorKind> {
@@ -112,14 +107,39 @@ impl<'buf, T: Plain> TableRead<'buf> for T {
     }
 }
 
+impl<T: Plain> Stride for T {
+    type Stands = T;
+}
+
 impl<'buf, T: PlainTotal> VectorRead<'buf> for T {
-    ghost gives = { λ S start f x. T.there S f x };
+    ghost gives = { λ S start f x. (T.shape).There S f x };
 
     #[inline]
     fn from_buffer(buffer: SliceWithStartOffset<'buf>, offset: usize) -> T {
         match T::read(buffer, offset) {
             Ok(value) => value,
             Err(_) => unreachable!(),
+        }
+    }
+}
+
+impl<T: Plain> ReadError for T {
+    type Error = Error;
+}
+
+impl<'buf, T: Plain> VectorReadInner<'buf> for T {
+    ghost gives = { λ S start f r.
+        Located (Answer (plain_reading T.shape S f)) plain_name item_method start r };
+
+    #[inline]
+    fn from_buffer(buffer: SliceWithStartOffset<'buf>, offset: usize) -> Result<T, Error> {
+        match <T as TableRead<'buf>>::from_buffer(buffer, offset) {
+            Ok(value) => Ok(value),
+            Err(kind) => Err(kind.with_error_location(
+                VECTOR_NAME,
+                ITEM_METHOD,
+                buffer.offset_from_start(),
+            )),
         }
     }
 }

@@ -10,6 +10,7 @@ ghost use Rattle.planus_read.specs.Located.{Located};
 use crate::Result;
 use crate::errors::ErrorKind;
 use crate::located::{self, ITEM_METHOD};
+use crate::plain::Plain;
 use crate::slice_helpers::SliceWithStartOffset;
 
 /// What can be read as the root of a buffer. In the format the first 4 bytes of a buffer are a
@@ -30,7 +31,7 @@ pub trait ReadAsRoot<'a>: Sized {
 /// |---|---|
 /// | `u8` to `u64`, `i8` to `i64`, `f32`, `f64`, `bool`, and each [`crate::Plain`] |
 /// [`ErrorKind::InvalidOffset`] where its bytes don't all lie in the piece; then what its own `read`
-/// says, as [`ErrorKind::UnknownEnumTag`] of a [`crate::Enumeration`] whose number no variant has |
+/// says, as [`ErrorKind::UnknownEnumTag`] of an enum whose number no variant has |
 /// | `&str` | [`ErrorKind::InvalidOffset`] where the reference, what it leads to or the count
 /// doesn't lie in the piece; [`ErrorKind::MissingNullTerminator`] where no zero byte follows the
 /// text, or the text passes the end; [`ErrorKind::InvalidUtf8`] where its bytes aren't UTF-8 |
@@ -88,17 +89,18 @@ pub trait TableReadUnionVector<'buf>: Sized {
             tags_offset values_offset result };
 }
 
-/// What has a size in a vector.
+/// What can be an item of vectors, and so has a size there.
 pub trait Stride: Sized {
-    /// The size of an item in bytes.
-    ghost STRIDE: { ℕ };
+    /// What stands in the vector for an item: a value of a fixed layout itself, and for what is
+    /// referred to the reference, a `u32`.
+    type Stands: Plain;
 
     /// Returns the size of an item in bytes.
-    fn stride() -> usize
-        ensures { result ≡ STRIDE };
-
-    /// No item has size 0.
-    ghost is_positive: { 1 ≤ STRIDE };
+    final fn stride() -> usize
+        ensures { result ≡ Self.Stands.SIZE }
+    {
+        <Self::Stands as Plain>::SIZE
+    }
 }
 
 /// What can be read as an item of a vector. Its bytes are there, so a number or a truth value has
@@ -110,7 +112,7 @@ pub trait VectorRead<'buf>: Stride {
     /// Returns the item that is encoded at the offset, in bytes from the start of the piece. All of
     /// it lies in the piece.
     fn from_buffer(buffer: SliceWithStartOffset<'buf>, offset: usize) -> Self
-        requires { offset + Self.STRIDE ≤ length (slice_bytes buffer) }
+        requires { offset + Self.Stands.SIZE ≤ length (slice_bytes buffer) }
         ensures { gives (slice_bytes buffer.entry) (slice_start buffer.entry) offset result };
 }
 
@@ -132,7 +134,7 @@ pub trait VectorReadInner<'buf>: Stride + ReadError {
         buffer: SliceWithStartOffset<'buf>,
         offset: usize,
     ) -> std::result::Result<Self, Self::Error>
-        requires { offset + Self.STRIDE ≤ length (slice_bytes buffer) }
+        requires { offset + Self.Stands.SIZE ≤ length (slice_bytes buffer) }
         ensures { gives (slice_bytes buffer.entry) (slice_start buffer.entry) offset result };
 }
 

@@ -1,12 +1,12 @@
 -- What is read of the items of a vector of references.
-use Rattle.std.proofs.Common.{◌≡◌, ℕ, zero, suc, ◌+◌, ◌*◌, List, [], ◌∷◌, length, drop, subst, ap, ◌∙◌}
+use Rattle.std.proofs.Common.{◌≡◌, ℕ, zero, suc, ◌+◌, List, [], ◌∷◌, length, drop, subst, ap, ◌∙◌}
 use Rattle.std.proofs.Common.{Some, Result, Ok, Err, refl}
 use Rattle.std.specs.Borrow.{Bor}
 use Rattle.std.specs.Prelude.{IsOkAnd, map, slice_get}
 use Rattle.std.specs.Str.{IsUtf8}
 use Rattle.planus_read.specs.declared.errors.ErrorKind.{ErrorKind}
 use Rattle.planus_read.specs.declared.located.Error.{Error}
-use Rattle.planus_read.specs.declared.traits.Stride.{Ghosts as StrideGhosts}
+use Rattle.planus_read.specs.declared.plain.Plain.{Ghosts as PlainGhosts}
 use Rattle.planus_read.specs.Bytes.{position_of}
 use Rattle.planus_read.specs.Clauses.{Answer, shown}
 use Rattle.planus_read.specs.Located.{Located}
@@ -64,40 +64,40 @@ when_located : {A : Type 0} (answers : Result A ErrorKind → Type 0) (Holds : A
 when_located answers Holds each type_ method offset (Ok x) h = each (Ok x) h
 when_located answers Holds each type_ method offset (Err e) h = each (Err e.error_kind) h.0
 
-module _ {T : Type 0} (stride : StrideGhosts T) where
-  pub text_items_read_back : TextItemsReadBack stride
+module _ (T : Type 0) {R : Type 0} (kind : PlainGhosts R) where
+  pub text_items_read_back : TextItemsReadBack T kind
   text_items_read_back B texts distances vector stand are = record {
     count = ap (λ (view : View). view.count) are.1.view ∙ as_many B texts distances stand;
     item = λ i bytes there utf8 type_ method offset r h.
         let at_it = stands_there B texts distances i bytes stand there in
         when_located
-        (Answer (shown ShowsBytes (text_reading (drop (are.0 + 4) B) (item_offset stride i))))
+        (Answer (shown ShowsBytes (text_reading (drop (are.0 + 4) B) (item_offset kind i))))
         (λ found. found.now ≡ bytes)
-        (text_led B bytes (are.0 + 4) (item_offset stride i) at_it.0 utf8 at_it.2
+        (text_led B bytes (are.0 + 4) (item_offset kind i) at_it.0 utf8 at_it.2
         (are.1.each i at_it.0 at_it.1).leads)
         type_ method offset r
         (subst
         (λ (view : View). Located
-        (Answer (shown ShowsBytes (text_reading view.bytes (item_offset stride i)))) type_ method
+        (Answer (shown ShowsBytes (text_reading view.bytes (item_offset kind i)))) type_ method
         offset r)
         are.1.view h);
   }
 
-  pub table_items_read_back : {K : Type 0} → TableItemsReadBack stride K
+  pub table_items_read_back : {K : Type 0} → TableItemsReadBack T kind K
   table_items_read_back {K} B distances vector are = record {
     count = ap (λ (view : View). view.count) are.1.view;
     item = λ i distance contents there stands type_ method offset r h.
         when_located
         (Answer (shown (ShowsView (drop (are.0 + 4) B) (are.0 + 4))
-        (table_reading (drop (are.0 + 4) B) (item_offset stride i))))
+        (table_reading (drop (are.0 + 4) B) (item_offset kind i))))
         (λ view. TableHolds B contents view.table)
-        (table_led B {K = K} contents distance stands (are.0 + 4) (item_offset stride i)
+        (table_led B {K = K} contents distance stands (are.0 + 4) (item_offset kind i)
         (are.1.each i distance there).leads)
         type_ method offset r
         (subst
         (λ (view : View). Located
         (Answer (shown (ShowsView view.bytes view.start)
-        (table_reading view.bytes (item_offset stride i))))
+        (table_reading view.bytes (item_offset kind i))))
         type_ method offset r)
         are.1.view h);
   }

@@ -1,50 +1,150 @@
 -- A value of a fixed layout is read back.
-use Rattle.std.proofs.Common.{◌≡◌, ℕ, ◌+◌, ◌<◌, ◌≤◌, List, [], ◌∷◌, length, drop, sym, subst, ◌∙◌, Result, Ok, Err, inl, inr, arith, length-drop}
-use Rattle.std.specs.Prelude.{IsOkAnd}
-use Rattle.planus_read.specs.declared.errors.ErrorKind.{ErrorKind}
+use Rattle.std.proofs.Common.{◌≡◌, ℕ, ◌+◌, ◌<◌, ◌≤◌, List, [], ◌∷◌, length, drop, subst, ◌∙◌, Result, Ok, Err, inl, inr, arith, length-drop}
+use Rattle.std.specs.Prelude.{IsOkAnd, IsSomeAnd, MatchOption, ⊤}
+use Rattle.std.specs.Option.{unwrap_or}
+use Rattle.std.proofs.Common.{Option, Some, None, ap, refl, inr, ◌*◌, slice_get, map}
+use Rattle.std.proofs.lemmas.List.{length-map}
+use Rattle.std.specs.Option.{option_map}
+use Rattle.std.proofs.lemmas.Option.{slice_get-map, slice_get_within}
 use Rattle.planus_read.specs.declared.plain.Plain.{Ghosts as PlainGhosts}
-use Rattle.planus_read.specs.Bytes.{BytesStand}
+use Rattle.planus_view.specs.Indexes.{GetsItem}
+use Rattle.planus_view.specs.VectorView.{count_of, view_of}
+use Rattle.planus_view.specs.Views.{View}
+use Rattle.planus_view.specs.declared.vector.SliceView.{SliceView}
+use Rattle.planus_view.specs.declared.vector_of.VectorOf.{VectorOf}
+use Rattle.planus_read.specs.declared.errors.ErrorKind.{ErrorKind}
+use Rattle.planus_read.specs.declared.located.Error.{Error}
+use Rattle.planus_read.specs.declared.table_reader.Table.{Table}
+use Rattle.planus_read.specs.Located.{Located, OrDefault}
+use Rattle.planus_read.specs.Tables.{FieldAnswer, table_start}
 use Rattle.planus_read.specs.Clauses.{Clause, AllHold, FirstBroken}
-use Rattle.planus_read.specs.Plain.{plain_reading}
+use Rattle.planus_read.specs.Plain.{Shape, plain_reading}
 use Rattle.planus_read.specs.Stands.{FieldStands}
-use Rattle.planus_read.specs.Values.{Field, plain}
+use Rattle.planus_read.specs.Values.{Field}
 use Rattle.planus_read.proofs.PieceLaws.{bytes_in_piece}
 use Rattle.planus_read.proofs.Reading.{stood_inside}
-use Rattle.planus_tables.specs.ReadBack.{FieldHolds}
+use Rattle.planus_fields.specs.Contents.{holds_if}
+use Rattle.planus_tables.specs.Holds.{holds_plain}
+use Rattle.planus_tables.specs.ReadBack.{FieldHolds, SlotHolds}
 use Rattle.planus_tables.specs.ReadPlain.{reads_plain, plain_content, PlainReadBack, PlainItemsReadBack}
-use Rattle.planus_tables.proofs.ReadBack.{contents_read_back}
+use Rattle.planus_tables.specs.ReadPlain.{IsPlainField, IsPlainFieldOr, IsPlainVector, ArePlain}
+use Rattle.planus_tables.specs.ReadVectors.{reads_vector}
+use Rattle.planus_tables.proofs.ReadVectors.{plain_vectors_read_back}
+use Rattle.planus_tables.proofs.ReadBack.{contents_read_back, absent_fields_read_back}
 
 none_broken : (clauses : List Clause) (e : ErrorKind) → FirstBroken clauses e → AllHold clauses → ⊥
 none_broken [] e broken hold = broken
 none_broken (one ∷ others) e (inl it) hold = it.0 hold.0
 none_broken (one ∷ others) e (inr it) hold = none_broken others e it.1 hold.1
 
-module _ {T : Type 0} (kind : PlainGhosts T) where
-  pub plain_read_back : PlainReadBack kind
-  plain_read_back = contents_read_back (reads_plain kind) (λ B x. kind.fits x) (plain_content kind)
+-- the value of an answer that has one, the default in place of none
+abbrev pub default_of : {T E : Type 0} → T → Result (Option T) E → Result T E
+default_of default (Ok found) = Ok (unwrap_or found default)
+default_of default (Err e) = Err e
+
+some_is : {T E : Type 0} (r : Result (Option T) E) (x : T)
+    → IsOkAnd r (λ found. IsSomeAnd found (λ found. found ≡ x)) → r ≡ Ok (Some x)
+some_is {T} {E} (Ok (Some y)) x same = ap (λ (y : T). Ok (Some y)) same
+some_is (Ok None) x none = elim none [ ]
+some_is (Err e) x error = elim error [ ]
+
+module _ {T : Type 0} {size alignment : ℕ} (shape : Shape T size alignment) where
+  pub plain_read_back : PlainReadBack shape
+  plain_read_back = contents_read_back (reads_plain shape) (λ B x. shape.fits x) (plain_content shape)
       (λ B x found. found ≡ x) answered
     where
-      answered : (B : List ℕ) (x : T) (field : Field) → kind.fits x
-          → FieldHolds B (plain_content kind x) field → (start f : ℕ)
+      answered : (B : List ℕ) (x : T) (field : Field) → shape.fits x
+          → FieldHolds B (plain_content shape x) field → (start f : ℕ)
           → FieldStands B (start + f) field → (r : Result T ErrorKind)
-          → reads_plain kind (drop start B) start f r → IsOkAnd r (λ found. found ≡ x)
+          → reads_plain shape (drop start B) start f r → IsOkAnd r (λ found. found ≡ x)
       answered B x field fits holds start f stands (Ok found) there =
-          let here = bytes_in_piece B start f (kind.encoded x)
+          let here = bytes_in_piece B start f (shape.encoded x)
           (subst (λ (field : Field). FieldStands B (start + f) field) holds stands) in
-          kind.is_plain.again (drop start B) f x found fits here there
+          shape.again (drop start B) f x found fits here there
       answered B x field fits holds start f stands (Err e) broken =
-          let here = bytes_in_piece B start f (kind.encoded x)
+          let here = bytes_in_piece B start f (shape.encoded x)
           (subst (λ (field : Field). FieldStands B (start + f) field) holds stands) in
           let S : List ℕ = drop start B in
-          let sized : length (kind.encoded x) ≡ kind.SIZE = kind.is_plain.sized x in
-          let long : length (kind.encoded x) ≤ length (drop f S) =
-          stood_inside (drop f S) (kind.encoded x) here in
-          let positive : 0 < kind.SIZE = kind.is_plain.layout.positive in
-          let inside : f + kind.SIZE ≤ length S = omega (arith, length-drop f S) in
-          let clauses = (plain_reading kind.SIZE kind.there kind.clauses S f).clauses in
-          let hold : AllHold clauses = (inside, kind.is_plain.holds S f x fits here) in
+          let sized : length (shape.encoded x) ≡ size = shape.sized x in
+          let long : length (shape.encoded x) ≤ length (drop f S) =
+          stood_inside (drop f S) (shape.encoded x) here in
+          let positive : 0 < size = shape.layout.positive in
+          let inside : f + size ≤ length S = omega (arith, length-drop f S) in
+          let clauses = (plain_reading shape S f).clauses in
+          let hold : AllHold clauses = (inside, shape.holds S f x fits here) in
           absurd (none_broken clauses e broken hold)
 
-  pub plain_items_read_back : PlainItemsReadBack kind
+  pub plain_items_read_back : PlainItemsReadBack shape
   plain_items_read_back S f x found fits reads there =
-      kind.is_plain.again S f x found fits reads.stands there
+      shape.again S f x found fits reads.stands there
+
+  -- The answer of a field is what a slot that was written holds.
+  pub field_read : (table : Table) (slot : ℕ) (type_ method : List ℕ) (r : Result (Option T) Error)
+      → Located (FieldAnswer (reads_plain shape) table slot) type_ method (table_start table) r
+      → IsPlainField shape table slot type_ method r
+  field_read table slot type_ method r h =
+      record { answer = h; read_back = λ B x holds fits. again B x holds fits }
+    where
+      again : (B : List ℕ) (x : Option T) → SlotHolds B table slot (holds_if (holds_plain shape) x)
+          → MatchOption x ⊤ shape.fits → r ≡ Ok x
+      again B None holds fits =
+          (absent_fields_read_back (reads_plain shape)).optional B table slot holds type_ method
+          (table_start table) r h
+      again B (Some x) holds fits =
+          some_is r x
+          (plain_read_back.optional B table slot x holds fits type_ method (table_start table) r h)
+
+  -- So is that of one with a default.
+  pub field_or_read : (default : T) (table : Table) (slot : ℕ) (type_ method : List ℕ)
+      (r : Result (Option T) Error)
+      → Located (FieldAnswer (reads_plain shape) table slot) type_ method (table_start table) r
+      → IsPlainFieldOr shape default table slot type_ method (default_of default r)
+  field_or_read default table slot type_ method r h =
+      let read = field_read table slot type_ method r h in
+      record {
+        answer = answered r h;
+        read_back = λ B x holds fits. ap (default_of default) (read.read_back B (Some x) holds fits);
+        left_out = λ B holds. ap (default_of default) (read.read_back B None holds tt);
+      }
+    where
+      answered : (r : Result (Option T) Error)
+          → Located (FieldAnswer (reads_plain shape) table slot) type_ method (table_start table) r
+          → Located (OrDefault default (FieldAnswer (reads_plain shape) table slot)) type_ method
+          (table_start table) (default_of default r)
+      answered (Ok (Some x)) h = inl h
+      answered (Ok None) h = inr (h, refl)
+      answered (Err e) h = h
+
+module _ {T : Type 0} {kind : PlainGhosts T} where
+  -- An item of the vector of some values is the value at its position.
+  pub item_read : (B : List ℕ) (xs : List T) (x : T) (vector : VectorOf (SliceView T T kind)) (i : ℕ)
+      (r : Option T) → ArePlain B xs vector → slice_get xs i ≡ Some x → kind.shape.fits x
+      → GetsItem (λ (v : VectorOf (SliceView T T kind)). count_of v)
+      (λ v i y. kind.shape.There (view_of v).bytes (i * kind.SIZE) y) vector i r
+      → r ≡ Some x
+  item_read B xs x vector i (Some y) are there fits gets =
+      let reads = are.1.each i (kind.shape.encoded x)
+      (slice_get-map kind.shape.encoded xs i ∙ ap (option_map kind.shape.encoded) there) in
+      let here = subst (λ (view : View). kind.shape.There view.bytes (i * kind.SIZE) y) are.1.view gets.1 in
+      ap (λ (y : T). Some y)
+      (kind.shape.again (drop (are.0 + 4) B) (i * kind.SIZE) x y fits reads.stands here)
+  item_read B xs x vector i None are there fits past =
+      let count : count_of vector ≡ length xs =
+      ap (λ (view : View). view.count) are.1.view ∙ length-map xs kind.shape.encoded in
+      let within : i < length xs = slice_get_within xs i x there in
+      absurd (omega (arith, count, within, past))
+
+  -- The answer of a vector is that of the values that a slot that was written holds.
+  pub vector_read : (table : Table) (slot : ℕ) (type_ method : List ℕ)
+      (r : Result (Option (VectorOf (SliceView T T kind))) Error)
+      → Located (FieldAnswer (reads_vector T kind) table slot) type_ method (table_start table) r
+      → IsPlainVector table slot type_ method r
+  vector_read table slot type_ method r h = record {
+    answer = h;
+    read_back = λ B xs holds.
+        (plain_vectors_read_back T kind).optional B table slot
+        (kind.ALIGNMENT, map kind.shape.encoded xs) holds tt type_ method (table_start table) r h;
+    left_out = λ B holds.
+        (absent_fields_read_back (reads_vector T kind)).optional B table slot holds type_ method
+        (table_start table) r h;
+  }

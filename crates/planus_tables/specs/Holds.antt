@@ -2,6 +2,7 @@
 use Rattle.std.specs.Prelude.{ℕ, List, [], ◌∷◌, map, Bool, Option, Some, ℤ}
 use Rattle.std.specs.Int.{Width, w8, w16, w32, w64, to_le_bytes, cast_unsigned, cast_signed, from_bool}
 use Rattle.std.specs.Ordering.{int_eq}
+use Rattle.planus_read.specs.Plain.{Shape}
 use Rattle.planus_read.specs.Values.{Value, text, byte_list, plain_list, reference_list}
 use Rattle.planus_write.specs.declared.offset.Offset.{Offset}
 use Rattle.planus_write.specs.declared.union_offset.UnionOffset.{UnionOffset}
@@ -71,6 +72,18 @@ holds_bool truth = Some (item (record { bytes = from_bool truth ∷ []; alignmen
 -- a text, of these bytes
 abbrev pub holds_text : List ℕ → Option Content
 holds_text bytes = Some (value (text bytes))
+
+-- a value of a fixed layout, such as a struct, an enum or a float
+abbrev pub holds_plain :
+    {A : Type 0} {size alignment : ℕ} → Shape A size alignment → A → Option Content
+holds_plain {A} {size} {alignment} shape x =
+    Some (item (record { bytes = shape.encoded x; alignment = alignment }))
+
+-- a list of these
+abbrev pub holds_plains :
+    {A : Type 0} {size alignment : ℕ} → Shape A size alignment → List A → Option Content
+holds_plains {A} {size} {alignment} shape xs =
+    Some (value (plain_list size alignment (map shape.encoded xs)))
 
 -- a byte list
 abbrev pub holds_bytes : List ℕ → Option Content

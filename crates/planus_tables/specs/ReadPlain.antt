@@ -1,29 +1,78 @@
 -- What is read of a field or of an item that is a value of a fixed layout.
-use Rattle.std.specs.Prelude.{◌≡◌, ℕ, List}
+use Rattle.std.specs.Prelude.{◌≡◌, ℕ, List, map, Option, None, Result, Ok, IsOkAnd, IsSomeAnd}
+use Rattle.std.specs.Prelude.{MatchOption, ⊤}
+use Rattle.planus_read.specs.declared.located.Error.{Error}
 use Rattle.planus_read.specs.declared.plain.Plain.{Ghosts as PlainGhosts}
+use Rattle.planus_read.specs.declared.table_reader.Table.{Table}
 use Rattle.planus_read.specs.Clauses.{Answer}
-use Rattle.planus_read.specs.Plain.{plain_reading}
+use Rattle.planus_read.specs.Located.{Located, OrDefault}
+use Rattle.planus_read.specs.Plain.{Shape, plain_reading}
 use Rattle.planus_read.specs.ReadsBack.{PlainReads}
-use Rattle.planus_read.specs.Tables.{Reads}
+use Rattle.planus_read.specs.Tables.{Reads, FieldAnswer, table_start}
+use Rattle.planus_view.specs.declared.vector.SliceView.{SliceView}
+use Rattle.planus_view.specs.declared.vector_of.VectorOf.{VectorOf}
 use Rattle.planus_write.specs.Contents.{Content, item}
-use Rattle.planus_tables.specs.ReadBack.{ContentsReadBack}
+use Rattle.planus_fields.specs.Contents.{holds_if}
+use Rattle.planus_tables.specs.Holds.{holds_plain, holds_plains}
+use Rattle.planus_tables.specs.ReadBack.{ContentsReadBack, SlotHolds}
+use Rattle.planus_tables.specs.ReadVectors.{ArePlainItems, reads_vector}
 
-module _ {T : Type 0} (kind : PlainGhosts T) where
+module _ {T : Type 0} {size alignment : ℕ} (shape : Shape T size alignment) where
   -- what it is answered with
   abbrev pub reads_plain : Reads T
-  reads_plain S start f r = Answer (plain_reading kind.SIZE kind.there kind.clauses S f) r
+  reads_plain S start f r = Answer (plain_reading shape S f) r
 
   -- what a field holds that is one
   abbrev pub plain_content : T → Content
-  plain_content x = item (record { bytes = kind.encoded x; alignment = kind.ALIGNMENT })
+  plain_content x = item (record { bytes = shape.encoded x; alignment = alignment })
 
   -- A field that holds such a value is read as this value.
   abbrev pub PlainReadBack : Type 0
   PlainReadBack =
-      ContentsReadBack reads_plain (λ B x. kind.fits x) plain_content (λ B x found. found ≡ x)
+      ContentsReadBack reads_plain (λ B x. shape.fits x) plain_content (λ B x found. found ≡ x)
 
   -- So is an item of a list: what is read where its bytes stand is this value.
   abbrev pub PlainItemsReadBack : Type 0
   PlainItemsReadBack =
-      (S : List ℕ) (f : ℕ) (x found : T) → kind.fits x → PlainReads S f (kind.encoded x)
-      → kind.there S f found → found ≡ x
+      (S : List ℕ) (f : ℕ) (x found : T) → shape.fits x → PlainReads S f (shape.encoded x)
+      → shape.There S f found → found ≡ x
+
+  -- What a call returns for the field in a slot of a table that may be absent: over any bytes what
+  -- stands there, or the error of the first thing that is wrong; and of a slot that was written what
+  -- it holds. The names are those of an error's location.
+  pub record IsPlainField
+      (table : Table) (slot : ℕ) (type_ method : List ℕ) (r : Result (Option T) Error) : Type 0 where
+    pub answer : Located (FieldAnswer reads_plain table slot) type_ method (table_start table) r
+    pub read_back :
+        (B : List ℕ) (x : Option T) → SlotHolds B table slot (holds_if (holds_plain shape) x)
+        → MatchOption x ⊤ shape.fits → r ≡ Ok x
+
+  -- The same of a field with a default.
+  pub record IsPlainFieldOr
+      (default : T) (table : Table) (slot : ℕ) (type_ method : List ℕ) (r : Result T Error) : Type 0
+    where
+      pub answer :
+          Located (OrDefault default (FieldAnswer reads_plain table slot)) type_ method
+          (table_start table) r
+      pub read_back :
+          (B : List ℕ) (x : T) → SlotHolds B table slot (holds_plain shape x) → shape.fits x
+          → r ≡ Ok x
+      pub left_out : (B : List ℕ) → SlotHolds B table slot None → r ≡ Ok default
+
+module _ {T : Type 0} {kind : PlainGhosts T} where
+  -- The vector is that of these values, which stand in B.
+  abbrev pub ArePlain : List ℕ → List T → VectorOf (SliceView T T kind) → Type 0
+  ArePlain B xs vector = ArePlainItems kind B (map kind.shape.encoded xs) vector
+
+  -- What a call returns for the vector in a slot that may be absent: over any bytes the vector of what
+  -- stands there, or the error of the first thing that is wrong; and of a slot that was written the
+  -- vector of the values that it holds.
+  pub record IsPlainVector
+      (table : Table) (slot : ℕ) (type_ method : List ℕ)
+      (r : Result (Option (VectorOf (SliceView T T kind))) Error) : Type 0 where
+    pub answer :
+        Located (FieldAnswer (reads_vector T kind) table slot) type_ method (table_start table) r
+    pub read_back :
+        (B : List ℕ) (xs : List T) → SlotHolds B table slot (holds_plains kind.shape xs)
+        → IsOkAnd r (λ found. IsSomeAnd found (ArePlain B xs))
+    pub left_out : (B : List ℕ) → SlotHolds B table slot None → r ≡ Ok None

@@ -4,7 +4,7 @@ use Rattle.std.specs.Prelude.{◌≡◌, ℕ, ◌*◌, List, length, drop, map, 
 use Rattle.std.specs.Prelude.{IsOkAnd, ⊤}
 use Rattle.std.specs.Str.{IsUtf8}
 use Rattle.planus_read.specs.declared.located.Error.{Error}
-use Rattle.planus_read.specs.declared.traits.Stride.{Ghosts as StrideGhosts}
+use Rattle.planus_read.specs.declared.plain.Plain.{Ghosts as PlainGhosts}
 use Rattle.planus_read.specs.Clauses.{Answer, shown}
 use Rattle.planus_read.specs.Located.{Located}
 use Rattle.planus_read.specs.Pieces.{ShowsBytes}
@@ -21,75 +21,40 @@ use Rattle.planus_tables.specs.ReadBack.{AllStand, ContentsReadBack, TableStands
 use Rattle.planus_tables.specs.Views.{ShowsView}
 use Rattle.planus_tables.specs.declared.table_ref.TableRef.{TableRef}
 
-module _ {T : Type 0} (stride : StrideGhosts T) where
-  -- what a vector is answered with
-  abbrev pub reads_vector : Reads (VectorOf (SliceView T stride))
-  reads_vector S start f r =
-      Answer (shown (ShowsVector S start) (vector_reading S f stride.STRIDE)) r
+-- where the item at a position is read
+abbrev pub item_offset : {R : Type 0} → PlainGhosts R → ℕ → ℕ
+item_offset kind i = i * kind.SIZE
 
+module _ {T R : Type 0} (kind : PlainGhosts R) where
   -- it is the vector of plain items of these bytes, or of references to these distances, wherever
   -- they stand in B
-  abbrev pub ArePlainItems : List ℕ → List (List ℕ) → VectorOf (SliceView T stride) → Type 0
+  abbrev pub ArePlainItems : List ℕ → List (List ℕ) → VectorOf (SliceView T R kind) → Type 0
   ArePlainItems B items vector =
-      (k : ℕ) × IsVectorOf stride (λ start f item. PlainReads (drop start B) f item) B k items vector
+      (k : ℕ) × IsVectorOf kind (λ start f item. PlainReads (drop start B) f item) B k items vector
 
-  abbrev pub AreReferences : List ℕ → List ℕ → VectorOf (SliceView T stride) → Type 0
+  abbrev pub AreReferences : List ℕ → List ℕ → VectorOf (SliceView T R kind) → Type 0
   AreReferences B distances vector =
-      (k : ℕ) × IsVectorOf stride (ReferenceReads B) B k distances vector
-
-  -- A slot that holds a list of plain items of the element type's size, by their alignment and
-  -- their bytes, is read as the vector of these items.
-  abbrev pub PlainVectorsReadBack : Type 0
-  PlainVectorsReadBack =
-      ContentsReadBack {X = ℕ × List (List ℕ)} reads_vector (λ B list. ⊤)
-      (λ list. value (plain_list stride.STRIDE list.0 list.1))
-      (λ B list vector. ArePlainItems B list.1 vector)
-
-  -- So is one that holds a list of references, where the element type has the size of one.
-  abbrev pub ReferenceVectorsReadBack : Type 0
-  ReferenceVectorsReadBack =
-      stride.STRIDE ≡ 4
-      → ContentsReadBack reads_vector (λ B distances. ⊤)
-      (λ distances. value (reference_list distances)) AreReferences
-
-  -- One that holds a list of references to values is read as the vector of references to these
-  -- values, which stand in B.
-  abbrev pub ValueVectorsReadBack : Type 0
-  ValueVectorsReadBack =
-      stride.STRIDE ≡ 4
-      → ContentsReadBack {X = List Value} reads_vector (λ B contents. ⊤) values
-      (λ B contents vector. (distances : List ℕ) × AllStand B contents distances
-      × AreReferences B distances vector)
+      (k : ℕ) × IsVectorOf kind (ReferenceReads B) B k distances vector
 
   -- The item at a position of a vector is read over these bytes, from this start and at this offset.
-  abbrev pub item_bytes : VectorOf (SliceView T stride) → List ℕ
+  abbrev pub item_bytes : VectorOf (SliceView T R kind) → List ℕ
   item_bytes vector = (view_of vector).bytes
-
-  abbrev pub item_offset : ℕ → ℕ
-  item_offset i = i * stride.STRIDE
 
   -- The vector has as many items as these texts are, and each of them that is UTF-8 is read as the
   -- item at its position, whatever location an error would have.
-  pub record ItemsAreTexts (texts : List (List ℕ)) (vector : VectorOf (SliceView T stride)) : Type 0
+  pub record ItemsAreTexts (texts : List (List ℕ)) (vector : VectorOf (SliceView T R kind)) : Type 0
     where
       pub count : count_of vector ≡ length texts
       pub item :
           (i : ℕ) (bytes : List ℕ) → slice_get texts i ≡ Some bytes → IsUtf8 bytes
           → (type_ method : List ℕ) (offset : ℕ) (r : Result (Bor (List ℕ)) Error)
-          → Located (Answer (shown ShowsBytes (text_reading (item_bytes vector) (item_offset i))))
+          → Located (Answer (shown ShowsBytes (text_reading (item_bytes vector) (item_offset kind i))))
           type_ method offset r
           → IsOkAnd r (λ found. found.now ≡ bytes)
 
-  -- So it is of a vector of references to texts that stand in B.
-  abbrev pub TextItemsReadBack : Type 0
-  TextItemsReadBack =
-      (B : List ℕ) (texts : List (List ℕ)) (distances : List ℕ) (vector : VectorOf (SliceView T stride))
-      → AllStand B (map text texts) distances → AreReferences B distances vector
-      → ItemsAreTexts texts vector
-
   -- The vector has as many items as these distances are, and where a table with some contents stands
   -- at one of them, the item at its position is read as a view with these contents.
-  pub record ItemsAreTables (K : Type 0) (B distances : List ℕ) (vector : VectorOf (SliceView T stride))
+  pub record ItemsAreTables (K : Type 0) (B distances : List ℕ) (vector : VectorOf (SliceView T R kind))
       : Type 0 where
     pub count : count_of vector ≡ length distances
     pub item :
@@ -97,12 +62,49 @@ module _ {T : Type 0} (stride : StrideGhosts T) where
         → slice_get distances i ≡ Some distance → TableStands B contents distance
         → (type_ method : List ℕ) (offset : ℕ) (r : Result (TableRef K) Error)
         → Located (Answer (shown (ShowsView (item_bytes vector) (view_of vector).start)
-        (table_reading (item_bytes vector) (item_offset i))))
+        (table_reading (item_bytes vector) (item_offset kind i))))
         type_ method offset r
         → IsOkAnd r (λ view. TableHolds B contents view.table)
+
+module _ (T : Type 0) {R : Type 0} (kind : PlainGhosts R) where
+  -- what a vector is answered with
+  abbrev pub reads_vector : Reads (VectorOf (SliceView T R kind))
+  reads_vector S start f r =
+      Answer (shown (ShowsVector S start) (vector_reading S f kind.SIZE)) r
+
+  -- A slot that holds a list of plain items of the element type's size, by their alignment and
+  -- their bytes, is read as the vector of these items.
+  abbrev pub PlainVectorsReadBack : Type 0
+  PlainVectorsReadBack =
+      ContentsReadBack {X = ℕ × List (List ℕ)} reads_vector (λ B list. ⊤)
+      (λ list. value (plain_list kind.SIZE list.0 list.1))
+      (λ B list vector. ArePlainItems kind B list.1 vector)
+
+  -- So is one that holds a list of references, where the element type has the size of one.
+  abbrev pub ReferenceVectorsReadBack : Type 0
+  ReferenceVectorsReadBack =
+      kind.SIZE ≡ 4
+      → ContentsReadBack reads_vector (λ B distances. ⊤)
+      (λ distances. value (reference_list distances)) (AreReferences {T = T} kind)
+
+  -- One that holds a list of references to values is read as the vector of references to these
+  -- values, which stand in B.
+  abbrev pub ValueVectorsReadBack : Type 0
+  ValueVectorsReadBack =
+      kind.SIZE ≡ 4
+      → ContentsReadBack {X = List Value} reads_vector (λ B contents. ⊤) values
+      (λ B contents vector. (distances : List ℕ) × AllStand B contents distances
+      × AreReferences kind B distances vector)
+
+  -- So it is of a vector of references to texts that stand in B.
+  abbrev pub TextItemsReadBack : Type 0
+  TextItemsReadBack =
+      (B : List ℕ) (texts : List (List ℕ)) (distances : List ℕ) (vector : VectorOf (SliceView T R kind))
+      → AllStand B (map text texts) distances → AreReferences kind B distances vector
+      → ItemsAreTexts kind texts vector
 
   -- So it is of a vector of references to tables that stand in B.
   abbrev pub TableItemsReadBack : Type 0 → Type 0
   TableItemsReadBack K =
-      (B distances : List ℕ) (vector : VectorOf (SliceView T stride))
-      → AreReferences B distances vector → ItemsAreTables K B distances vector
+      (B distances : List ℕ) (vector : VectorOf (SliceView T R kind))
+      → AreReferences kind B distances vector → ItemsAreTables kind K B distances vector

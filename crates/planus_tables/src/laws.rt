@@ -83,8 +83,8 @@ pub fn fields_read_back()
 /// Of a slot that holds a value of a fixed layout, such as a struct, an enum or a float, they return
 /// this value; and so does a read of an item of a vector.
 pub fn plain_values_read_back<T: Plain>()
-    ensures fields { PlainReadBack T.Plain }
-    ensures items { PlainItemsReadBack T.Plain }
+    ensures fields { PlainReadBack T.shape }
+    ensures items { PlainItemsReadBack T.shape }
 {}
 
 /// Of a slot that refers to a table that stands they return its view, with all its contents.
@@ -102,17 +102,17 @@ pub fn absent_fields_read_back<'buf, T: TableRead<'buf>>()
 /// Of a list of values that was written with its table, such as texts, the references lead to
 /// these.
 pub fn vectors_read_back<T: Stride>()
-    ensures plain { PlainVectorsReadBack T.Stride }
-    ensures references { ReferenceVectorsReadBack T.Stride }
-    ensures values { ValueVectorsReadBack T.Stride }
+    ensures plain { PlainVectorsReadBack T T.Stands.Plain }
+    ensures references { ReferenceVectorsReadBack T T.Stands.Plain }
+    ensures values { ValueVectorsReadBack T T.Stands.Plain }
 {}
 
 /// What is read of the item at a position of a vector of references: the text that was written with
 /// the list, if it is UTF-8, and the view of a table that stands, with all its contents. `K` is the
 /// kind of the tables.
 pub fn items_read_back<T: Stride, K>()
-    ensures texts { TextItemsReadBack T.Stride }
-    ensures tables { TableItemsReadBack T.Stride K }
+    ensures texts { TextItemsReadBack T T.Stands.Plain }
+    ensures tables { TableItemsReadBack T T.Stands.Plain K }
 {}
 
 /// What they return of two neighbouring slots that hold the tag and the value of a union: what `T`

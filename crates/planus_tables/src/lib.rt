@@ -27,7 +27,7 @@ pub use create::create_table;
 pub use field_at::FieldAt;
 pub use fields::Fields;
 pub use or_default::OrDefault;
-pub use plain_fields::{plain_field, plain_field_or};
+pub use plain_fields::{plain_field, plain_field_or, plain_item, plain_vector};
 pub use required::Required;
 pub use table_kind::TableKind;
 pub use table_ref::TableRef;

@@ -1,34 +1,26 @@
-//! Fields of a fixed layout, read back.
-ghost use Rattle.std.specs.Prelude.{◌≡◌, ℕ, List, Some, None, Ok, IsOkAnd, IsSomeAnd};
-ghost use Rattle.planus_read.specs.Located.{Located};
-ghost use Rattle.planus_read.specs.Tables.{FieldAnswer, table_start};
-ghost use Rattle.planus_tables.specs.ReadBack.{SlotHolds};
-ghost use Rattle.planus_tables.specs.ReadPlain.{plain_content, reads_plain};
+//! Fields of a fixed layout, and lists of these, read back.
+ghost use Rattle.std.specs.Prelude.{◌≡◌, ◌*◌, ℕ, List, Some, slice_get};
+ghost use Rattle.planus_view.specs.Indexes.{GetsItem};
+ghost use Rattle.planus_view.specs.VectorView.{count_of, view_of};
+ghost use Rattle.planus_tables.specs.ReadPlain.{ArePlain, IsPlainField, IsPlainFieldOr, IsPlainVector};
 
-use crate::laws;
 use crate::table_ref::TableRef;
-use planus_read::Plain;
 use planus_read::located::Error;
+use planus_read::{Plain, PlainTotal};
+use planus_view::Vector;
 
 /// Returns the field in a slot that has a fixed layout: a number, a truth value, a float, an enum or a
 /// struct; `None` where it is absent. It is `Table::access`, and says in its contract what is read
-/// back: where the slot holds a value, it is this value. So an accessor that calls it says so with no
-/// proof file. The names are those of the type and of the accessor, for errors.
+/// back: of a slot that was written, what it holds. So an accessor that calls it says so in one clause
+/// and with no proof file. The names are those of the type and of the accessor, for errors.
 pub fn plain_field<'n, K, T: Plain>(
     view: &TableRef<'_, K>,
     slot: usize,
     type_: &'n str,
     method: &'n str,
 ) -> Result<Option<T>, Error<'n>>
-    ensures answer { Located (FieldAnswer (reads_plain T.Plain) view.now.table slot) type_.now method.now
-        (table_start view.now.table) result }
-    ensures read_back { (B : List ℕ) (x : T)
-        → SlotHolds B view.now.table slot (Some (plain_content T.Plain x)) → T.fits x
-        → IsOkAnd result (λ found. IsSomeAnd found (λ found. found ≡ x)) }
-    ensures left_out { (B : List ℕ) → SlotHolds B view.now.table slot None → result ≡ Ok None }
+    ensures { IsPlainField T.shape view.now.table slot type_.now method.now result }
 {
-    laws::plain_values_read_back::<T>();
-    laws::absent_fields_read_back::<T>();
     view.table.access::<T>(slot, type_, method)
 }
 
@@ -40,13 +32,34 @@ pub fn plain_field_or<'n, K, T: Plain>(
     type_: &'n str,
     method: &'n str,
 ) -> Result<T, Error<'n>>
-    ensures read_back { (B : List ℕ) (x : T)
-        → SlotHolds B view.now.table slot (Some (plain_content T.Plain x)) → T.fits x
-        → IsOkAnd result (λ read. read ≡ x) }
-    ensures left_out { (B : List ℕ) → SlotHolds B view.now.table slot None → result ≡ Ok default }
+    ensures { IsPlainFieldOr T.shape default view.now.table slot type_.now method.now result }
 {
-    match plain_field(view, slot, type_, method)? {
-        Some(value) => Ok(value),
-        None => Ok(default),
+    match view.table.access::<T>(slot, type_, method) {
+        Ok(found) => Ok(found.unwrap_or(default)),
+        Err(error) => Err(error),
     }
+}
+
+/// Returns the vector in a slot that refers to a list of values of a fixed layout, or `None` where
+/// the field is absent.
+pub fn plain_vector<'a, 'n, K, T: Plain + 'a>(
+    view: &TableRef<'a, K>,
+    slot: usize,
+    type_: &'n str,
+    method: &'n str,
+) -> Result<Option<Vector<'a, T>>, Error<'n>>
+    ensures { IsPlainVector view.now.table slot type_.now method.now result }
+{
+    view.table.access::<Vector<'a, T>>(slot, type_, method)
+}
+
+/// Returns the item at a position of a vector of values of a fixed layout, or `None` where the vector
+/// doesn't have it. Of the vector of some values it is the value at this position.
+pub fn plain_item<T: PlainTotal>(vector: &Vector<'_, T>, index: usize) -> Option<T>
+    ensures item { GetsItem (λ v. count_of v) (λ v i x. (T.shape).There (view_of v).bytes (i * T.SIZE) x)
+        vector.now index result }
+    ensures read_back { (B : List ℕ) (xs : List T) (x : T) → ArePlain B xs vector.now
+        → slice_get xs index ≡ Some x → (T.shape).fits x → result ≡ Some x }
+{
+    vector.get(index)
 }

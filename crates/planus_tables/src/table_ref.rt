@@ -77,15 +77,7 @@ impl<'a, K: TableKind> ReadAsRoot<'a> for TableRef<'a, K> {
 }
 
 impl<'a, K> Stride for TableRef<'a, K> {
-    ghost STRIDE = { 4 };
-
-    ghost is_positive = { lit≤ tt };
-
-    fn stride() -> usize
-        ensures { result ≡ 4 }
-    {
-        4
-    }
+    type Stands = u32;
 }
 
 impl<'a, K> ReadError for TableRef<'a, K> {

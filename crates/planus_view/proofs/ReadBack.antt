@@ -3,7 +3,7 @@ use Rattle.std.proofs.Common.{◌≡◌, ℕ, ◌+◌, List, length, drop, ap, �
 use Rattle.std.specs.Prelude.{IsOkAnd}
 use Rattle.std.proofs.lemmas.List.{drop-drop}
 use Rattle.planus_read.specs.declared.errors.ErrorKind.{ErrorKind}
-use Rattle.planus_read.specs.declared.traits.Stride.{Ghosts as StrideGhosts}
+use Rattle.planus_read.specs.declared.plain.Plain.{Ghosts as PlainGhosts}
 use Rattle.planus_read.specs.Clauses.{Answer, shown}
 use Rattle.planus_read.specs.Reading.{Items, vector_reading}
 use Rattle.planus_read.specs.ReadsBack.{ListReads, PlainReads, ReferenceReads}
@@ -16,7 +16,7 @@ use Rattle.planus_view.specs.ReadBack.{IsVectorOf, PlainListsReadBack, Reference
 use Rattle.planus_view.specs.VectorView.{view_of, ShowsVector}
 use Rattle.planus_view.specs.Views.{View}
 
-module _ {T : Type 0} (stride : StrideGhosts T) where
+module _ (T : Type 0) {S : Type 0} (kind : PlainGhosts S) where
   -- the view of the items from a position on, where it stands in the whole
   view_moves :
       (B : List ℕ) (start position count place n : ℕ) → start + position ≡ place → count ≡ n
@@ -30,11 +30,11 @@ module _ {T : Type 0} (stride : StrideGhosts T) where
   -- what is returned for a list that reads back
   vector_of :
       {X : Type 0} (ItemReads : ℕ → ℕ → X → Type 0) (B : List ℕ) (k start f : ℕ) (items : List X)
-      → ListReads ItemReads B k start f stride.STRIDE items
-      → (r : Result (VectorOf (SliceView T stride)) ErrorKind)
+      → ListReads ItemReads B k start f kind.SIZE items
+      → (r : Result (VectorOf (SliceView T S kind)) ErrorKind)
       → Answer
-      (shown (ShowsVector (drop start B) start) (vector_reading (drop start B) f stride.STRIDE)) r
-      → IsOkAnd r (IsVectorOf stride ItemReads B k items)
+      (shown (ShowsVector (drop start B) start) (vector_reading (drop start B) f kind.SIZE)) r
+      → IsOkAnd r (IsVectorOf kind ItemReads B k items)
   vector_of ItemReads B k start f items reads (Ok v) h =
       let found : h.0 ≡ record { position = reads.position; count = length items } =
       reads.vector.alone h.0 h.1 in
@@ -49,13 +49,13 @@ module _ {T : Type 0} (stride : StrideGhosts T) where
       (let other : Err e ≡ Ok (record { position = reads.position; count = length items }) =
       reads.vector.only (Err e) h in cc)
 
-  pub plain_lists : PlainListsReadBack stride
+  pub plain_lists : PlainListsReadBack T kind
   plain_lists alignment B k start f items stands leads r h =
       vector_of (λ s p item. PlainReads (drop s B) p item) B k start f items
-      (what_stands_reads_back B (at k) (plain_list stride.STRIDE alignment items) tt stands start f
+      (what_stands_reads_back B (at k) (plain_list kind.SIZE alignment items) tt stands start f
       leads) r h
 
-  pub reference_lists : ReferenceListsReadBack stride
+  pub reference_lists : ReferenceListsReadBack T kind
   reference_lists e B k start f items stands leads r h =
       vector_of (ReferenceReads B) B k start f items
       (rw e (what_stands_reads_back B (at k) (reference_list items) tt stands start f leads)) r h

@@ -2,7 +2,7 @@
 use Rattle.std.specs.Prelude.{◌≡◌, ℕ, ◌+◌, ◌*◌, List, length, drop, slice_get, Some}
 use Rattle.std.specs.Prelude.{Result, IsOkAnd}
 use Rattle.planus_read.specs.declared.errors.ErrorKind.{ErrorKind}
-use Rattle.planus_read.specs.declared.traits.Stride.{Ghosts as StrideGhosts}
+use Rattle.planus_read.specs.declared.plain.Plain.{Ghosts as PlainGhosts}
 use Rattle.planus_read.specs.Clauses.{Answer, shown}
 use Rattle.planus_read.specs.Reading.{Leads, vector_reading}
 use Rattle.planus_read.specs.ReadsBack.{PlainReads, ReferenceReads}
@@ -12,18 +12,19 @@ use Rattle.planus_view.specs.declared.vector.SliceView.{SliceView}
 use Rattle.planus_view.specs.declared.vector_of.VectorOf.{VectorOf}
 use Rattle.planus_view.specs.VectorView.{view_of, ShowsVector}
 
-module _ {T : Type 0} (stride : StrideGhosts T) where
+module _ {T S : Type 0} (kind : PlainGhosts S) where
   -- The vector of the list of these items at k of B: it begins behind the count, has as many items,
   -- and each of them is returned so.
   pub record IsVectorOf
       {X : Type 0} (ItemReads : ℕ → ℕ → X → Type 0) (B : List ℕ) (k : ℕ) (items : List X)
-      (v : VectorOf (SliceView T stride)) : Type 0 where
+      (v : VectorOf (SliceView T S kind)) : Type 0 where
     pub view :
         view_of v ≡ record { bytes = drop (k + 4) B; start = k + 4; count = length items }
     pub each :
         (i : ℕ) (item : X) → slice_get items i ≡ Some item
-        → ItemReads (k + 4) (i * stride.STRIDE) item
+        → ItemReads (k + 4) (i * kind.SIZE) item
 
+module _ (T : Type 0) {S : Type 0} (kind : PlainGhosts S) where
   -- The list, a value that stands at k of B, is returned as its vector by each reference that leads
   -- to it, over each piece of B that begins no further on than the reference.
   abbrev pub IsReturnedAsVector :
@@ -31,18 +32,18 @@ module _ {T : Type 0} (stride : StrideGhosts T) where
   IsReturnedAsVector {X} ItemReads list =
       (B : List ℕ) (k start f : ℕ) (items : List X) → Stands B (at k) (list items)
       → Leads B (start + f) k
-      → (r : Result (VectorOf (SliceView T stride)) ErrorKind)
+      → (r : Result (VectorOf (SliceView T S kind)) ErrorKind)
       → Answer
-      (shown (ShowsVector (drop start B) start) (vector_reading (drop start B) f stride.STRIDE)) r
-      → IsOkAnd r (IsVectorOf (ItemReads B) B k items)
+      (shown (ShowsVector (drop start B) start) (vector_reading (drop start B) f kind.SIZE)) r
+      → IsOkAnd r (IsVectorOf kind (ItemReads B) B k items)
 
   -- So is a list of plain items of the element type's size.
   abbrev pub PlainListsReadBack : Type 0
   PlainListsReadBack =
       (alignment : ℕ)
       → IsReturnedAsVector (λ B start f item. PlainReads (drop start B) f item)
-      (plain_list stride.STRIDE alignment)
+      (plain_list kind.SIZE alignment)
 
   -- So is a list of references, where the element type has the size of one.
   abbrev pub ReferenceListsReadBack : Type 0
-  ReferenceListsReadBack = stride.STRIDE ≡ 4 → IsReturnedAsVector ReferenceReads reference_list
+  ReferenceListsReadBack = kind.SIZE ≡ 4 → IsReturnedAsVector ReferenceReads reference_list

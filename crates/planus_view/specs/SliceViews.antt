@@ -5,21 +5,21 @@ use Rattle.planus_view.specs.Views.{View, IsSubView}
 use Rattle.planus_view.specs.declared.vector.SliceView.{SliceView}
 
 -- the view, and how many items it has
-abbrev pub slice_view : {T : _} {stride : _} → SliceView T stride → View
+abbrev pub slice_view : {T S : _} {kind : _} → SliceView T S kind → View
 slice_view v =
     record { bytes = slice_bytes v.buffer; start = slice_start v.buffer; count = v.count }
 
-abbrev pub slice_count : {T : _} {stride : _} → SliceView T stride → ℕ
+abbrev pub slice_count : {T S : _} {kind : _} → SliceView T S kind → ℕ
 slice_count v = (slice_view v).count
 
 -- the last view is the sub-view of the first at these positions; the size of an item is given
 abbrev pub IsSubSlice :
-    {T : _} {stride : _} → ℕ → SliceView T stride → ℕ → ℕ → SliceView T stride → Type 0
+    {T S : _} {kind : _} → ℕ → SliceView T S kind → ℕ → ℕ → SliceView T S kind → Type 0
 IsSubSlice size v lo hi u = IsSubView size (slice_view v) lo hi (slice_view u)
 
 -- x may be returned for the item at the position; the size of an item and what its type may return
 -- are given
 abbrev pub IsItemOfSlice :
-    {T : _} {stride : _} {A : Type 0} → ℕ → (List ℕ → ℕ → ℕ → A → Type 0) → SliceView T stride
+    {T S : _} {kind : _} {A : Type 0} → ℕ → (List ℕ → ℕ → ℕ → A → Type 0) → SliceView T S kind
     → ℕ → A → Type 0
 IsItemOfSlice size gives v i x = gives (slice_view v).bytes (slice_view v).start (i * size) x

@@ -7,15 +7,15 @@ use Rattle.planus_view.specs.declared.vector.SliceView.{SliceView}
 use Rattle.planus_view.specs.declared.vector_of.VectorOf.{VectorOf}
 
 -- the view that a vector is, and how many items it has
-abbrev pub view_of : {T : _} {stride : _} → VectorOf (SliceView T stride) → View
+abbrev pub view_of : {T S : _} {kind : _} → VectorOf (SliceView T S kind) → View
 view_of v = slice_view v.view
 
-abbrev pub count_of : {T : _} {stride : _} → VectorOf (SliceView T stride) → ℕ
+abbrev pub count_of : {T S : _} {kind : _} → VectorOf (SliceView T S kind) → ℕ
 count_of v = (view_of v).count
 
 -- The vector is the view of these items of a piece with the bytes S and this start.
 abbrev pub ShowsVector :
-    {T : _} {stride : _} → List ℕ → ℕ → Items → VectorOf (SliceView T stride) → Type 0
+    {T S : _} {kind : _} → List ℕ → ℕ → Items → VectorOf (SliceView T S kind) → Type 0
 ShowsVector S start items v =
     view_of v ≡ record {
       bytes = drop items.position S;

@@ -30,6 +30,6 @@ pub fn sub_views_have_the_items()
 /// piece of the bytes that begins no further on than the reference: a list of plain items, or of
 /// references, each of which is read back.
 pub fn lists_read_back<T: Stride>()
-    ensures plain { PlainListsReadBack T.Stride }
-    ensures references { ReferenceListsReadBack T.Stride }
+    ensures plain { PlainListsReadBack T T.Stands.Plain }
+    ensures references { ReferenceListsReadBack T T.Stands.Plain }
 {}

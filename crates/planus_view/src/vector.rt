@@ -22,7 +22,7 @@ pub struct SliceView<'buf, T: Stride> {
     buffer: SliceWithStartOffset<'buf>,
     count: usize,
     _marker: PhantomData<T>,
-    ghost inside: { count * T.STRIDE ≤ length (slice_bytes buffer) },
+    ghost inside: { count * T.Stands.SIZE ≤ length (slice_bytes buffer) },
 }
 
 impl<'buf, T: Stride> Clone for SliceView<'buf, T> {
@@ -46,13 +46,13 @@ impl<'buf, T: Stride> View for SliceView<'buf, T> {
 
     ghost count = { slice_count };
 
-    ghost is_sub_view = { IsSubSlice T.STRIDE };
+    ghost is_sub_view = { IsSubSlice T.Stands.SIZE };
 
     ghost sub_view_count = { λ v u lo hi is.
-        sub_view_count T.STRIDE (slice_view v) (slice_view u) lo hi is };
+        sub_view_count T.Stands.SIZE (slice_view v) (slice_view u) lo hi is };
 
     ghost sub_view_twice = { λ v u w lo hi a b is also.
-        sub_view_twice T.STRIDE (slice_view v) (slice_view u) (slice_view w) lo hi a b is also };
+        sub_view_twice T.Stands.SIZE (slice_view v) (slice_view u) (slice_view w) lo hi a b is also };
 
     #[inline]
     fn len(&self) -> usize {
@@ -76,7 +76,7 @@ impl<'buf, T: VectorRead<'buf>> ReadView for SliceView<'buf, T> {
 
     ghost use Rattle.planus_view.specs.SliceViews.{IsItemOfSlice};
 
-    ghost is_item = { IsItemOfSlice T.STRIDE T.gives };
+    ghost is_item = { IsItemOfSlice T.Stands.SIZE T.gives };
 
     #[inline]
     fn item(&self, position: usize) -> T {
@@ -90,7 +90,7 @@ impl<'buf, T: Stride> TableRead<'buf> for Vector<'buf, T> {
     ghost use Rattle.planus_view.specs.VectorView.{ShowsVector};
 
     ghost reads = { λ S start f r.
-        Answer (shown (ShowsVector S start) (vector_reading S f T.STRIDE)) r };
+        Answer (shown (ShowsVector S start) (vector_reading S f T.Stands.SIZE)) r };
 
     #[inline]
     fn from_buffer(
@@ -147,12 +147,12 @@ impl<'buf, T: VectorReadInner<'buf> + Drop, E: From<T::Error> + Into<Error> + Dr
         &self,
         alloc: Global,
     ) -> Result<Vec<O>, CopyError<'n>>
-        ensures all { IfOk result (λ copies. AreAllConverted (IsSubVector (IsSubSlice T.STRIDE))
-            (IsItemIn (IsItemOfSlice T.STRIDE
+        ensures all { IfOk result (λ copies. AreAllConverted (IsSubVector (IsSubSlice T.Stands.SIZE))
+            (IsItemIn (IsItemOfSlice T.Stands.SIZE
             (λ S start f r. Converted (T.gives S start f) E.from_gives r)))
             (ReadConverts O.converts E.converts) self.now (count_of self.now) copies.items) }
-        ensures refused { IfErr result (λ e. IsRefusal (IsSubVector (IsSubSlice T.STRIDE))
-            (IsItemIn (IsItemOfSlice T.STRIDE
+        ensures refused { IfErr result (λ e. IsRefusal (IsSubVector (IsSubSlice T.Stands.SIZE))
+            (IsItemIn (IsItemOfSlice T.Stands.SIZE
             (λ S start f r. Converted (T.gives S start f) E.from_gives r)))
             (ReadConverts O.converts E.converts) self.now (count_of self.now) e) }
     {

@@ -1,7 +1,8 @@
 -- The numbers of the kinds.
-use Rattle.std.specs.Prelude.{ℕ, [], ◌∷◌, Option}
-use Rattle.std.proofs.Common.{refl, lit<}
-use Rattle.planus_read.specs.Enums.{IsEnum, variant_in}
+use Rattle.std.specs.Prelude.{ℕ, nat_eq, [], ◌∷◌}
+use Rattle.std.proofs.Common.{refl}
+use Rattle.planus_read.specs.Enums.{AreFound, u8_enum}
+use Rattle.planus_read.specs.Plain.{Shape}
 use Rattle.uses_struct.specs.declared.kind.Kind.{Kind}
 use Rattle.uses_struct.specs.declared.kind.Kind.TheVariants.{Car, Bike, Ship}
 
@@ -10,10 +11,10 @@ kind_number Car = 0
 kind_number Bike = 1
 kind_number Ship = 2
 
-abbrev pub kind_of : ℕ → Option Kind
-kind_of = variant_in ((0, Car) ∷ (1, Bike) ∷ (2, Ship) ∷ [])
+pub are_found : AreFound nat_eq kind_number (Car ∷ Bike ∷ Ship ∷ [])
+are_found Car = refl
+are_found Bike = refl
+are_found Ship = refl
 
-pub is_kind : IsEnum kind_number kind_of
-is_kind Car = (refl, lit< tt)
-is_kind Bike = (refl, lit< tt)
-is_kind Ship = (refl, lit< tt)
+abbrev pub kind_shape : Shape Kind 1 1
+kind_shape = u8_enum kind_number (Car ∷ Bike ∷ Ship ∷ []) are_found

@@ -1,4 +1,3 @@
 pub mod Kinds
 pub mod Structs
-pub mod Floats
 pub mod Sites

@@ -14,6 +14,8 @@ pub struct Features {
 }
 
 impl Features {
+    /// None of these.
+    pub const NOTHING: Features = Features { bits: 0 };
     /// Water.
     pub const WATER: Features = Features { bits: 1 };
     /// Power.
@@ -43,13 +45,7 @@ impl Plain for Features {
 
     ghost SIZE = { 1 };
 
-    ghost encoded = { features_shape.encoded };
-
-    ghost fits = { features_shape.fits };
-
-    ghost there = { features_shape.There };
-
-    ghost is_plain = { features_shape.is_plain };
+    ghost shape = { features_shape };
 
     const ALIGNMENT: usize = 1;
 

@@ -24,15 +24,7 @@ impl Plain for Fix {
 
     ghost SIZE = { 24 };
 
-    ghost encoded = { fix_shape.encoded };
-
-    ghost fits = { fix_shape.fits };
-
-    ghost there = { fix_shape.There };
-
-    ghost clauses = { fix_shape.clauses };
-
-    ghost is_plain = { fix_shape.is_plain };
+    ghost shape = { fix_shape };
 
     const ALIGNMENT: usize = 8;
 

@@ -1,11 +1,9 @@
 //! What a site is, of the schema `enum Kind : uint8 { Car = 0, Bike = 1, Ship = 2 }`.
-ghost use Rattle.std.specs.Prelude.{◌≡◌, ◌==◌};
-ghost use Rattle.std.proofs.Common.{lit≤, refl};
-ghost use Rattle.planus_read.specs.Enums.{enum_decides};
-ghost use Rattle.uses_struct.specs.Kinds.{is_kind, kind_number, kind_of};
+ghost use Rattle.uses_struct.specs.Kinds.{kind_shape};
 
-use planus_fields::{PlainDefault, PlainField};
-use planus_read::{Enumeration, PlainItem, Stride};
+use planus_fields::PlainField;
+use planus_read::errors::ErrorKind;
+use planus_read::{Plain, SliceWithStartOffset, read_variant};
 
 /// What a site is.
 #[derive(Clone, Copy, Debug, PartialEq)]
@@ -18,55 +16,24 @@ pub enum Kind {
     Ship = 2,
 }
 
-impl Enumeration for Kind {
-    ghost number_of = { kind_number };
+impl Plain for Kind {
+    ghost ALIGNMENT = { 1 };
 
-    ghost variant_of = { kind_of };
+    ghost SIZE = { 1 };
 
-    ghost is_enum = { is_kind };
+    ghost shape = { kind_shape };
 
-    fn to_number(&self) -> u8 {
-        match *self {
-            Kind::Car => 0,
-            Kind::Bike => 1,
-            Kind::Ship => 2,
-        }
+    const ALIGNMENT: usize = 1;
+
+    const SIZE: usize = 1;
+
+    fn put(&self, bytes: &mut [u8]) {
+        (*self as u8).put(bytes);
     }
 
-    fn from_number(number: u8) -> Option<Kind> {
-        match number {
-            0 => Some(Kind::Car),
-            1 => Some(Kind::Bike),
-            2 => Some(Kind::Ship),
-            _ => None,
-        }
+    fn read(buffer: SliceWithStartOffset<'_>, offset: usize) -> Result<Kind, ErrorKind> {
+        read_variant!(u8, buffer, offset; Kind::Car, Kind::Bike, Kind::Ship)
     }
-}
-
-impl Stride for Kind {
-    ghost STRIDE = { 1 };
-
-    ghost is_positive = { lit≤ tt };
-
-    fn stride() -> usize {
-        1
-    }
-}
-
-impl PlainItem for Kind {
-    ghost is_its_size = { refl };
 }
 
 impl PlainField for Kind {}
-
-impl PlainDefault for Kind {
-    ghost Is = { λ x y. x ≡ y };
-
-    ghost is_equal = { λ x y. kind_number x == kind_number y };
-
-    fn is(&self, other: &Kind) -> bool {
-        *self == *other
-    }
-
-    ghost decides = { enum_decides kind_number kind_of is_kind };
-}

@@ -20,15 +20,7 @@ impl Plain for Leg {
 
     ghost SIZE = { 48 };
 
-    ghost encoded = { leg_shape.encoded };
-
-    ghost fits = { leg_shape.fits };
-
-    ghost there = { leg_shape.There };
-
-    ghost clauses = { leg_shape.clauses };
-
-    ghost is_plain = { leg_shape.is_plain };
+    ghost shape = { leg_shape };
 
     const ALIGNMENT: usize = 8;
 

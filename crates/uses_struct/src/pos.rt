@@ -1,12 +1,9 @@
 //! Where something is, of the schema `struct Pos { lat: int32; lon: int32; alt: int16; }`.
-ghost use Rattle.std.proofs.Common.{lit≤, refl};
 ghost use Rattle.uses_struct.specs.Structs.{pos_shape};
 
 use planus_fields::PlainField;
 use planus_read::errors::ErrorKind;
-use planus_read::{
-    Plain, PlainItem, PlainTotal, SliceWithStartOffset, Stride, put_fields, read_fields,
-};
+use planus_read::{Plain, PlainTotal, SliceWithStartOffset, put_fields, read_fields};
 
 /// Where something is.
 #[derive(Clone, Copy, Debug, PartialEq)]
@@ -24,13 +21,7 @@ impl Plain for Pos {
 
     ghost SIZE = { 12 };
 
-    ghost encoded = { pos_shape.encoded };
-
-    ghost fits = { pos_shape.fits };
-
-    ghost there = { pos_shape.There };
-
-    ghost is_plain = { pos_shape.is_plain };
+    ghost shape = { pos_shape };
 
     const ALIGNMENT: usize = 4;
 
@@ -43,20 +34,6 @@ impl Plain for Pos {
     fn read(buffer: SliceWithStartOffset<'_>, offset: usize) -> Result<Pos, ErrorKind> {
         read_fields!(Pos, buffer, offset; lat, lon: 4, alt: 8)
     }
-}
-
-impl Stride for Pos {
-    ghost STRIDE = { 12 };
-
-    ghost is_positive = { lit≤ tt };
-
-    fn stride() -> usize {
-        12
-    }
-}
-
-impl PlainItem for Pos {
-    ghost is_its_size = { refl };
 }
 
 impl PlainTotal for Pos {

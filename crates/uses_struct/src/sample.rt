@@ -1,17 +1,18 @@
 //! Samples: tables of the schema `table Sample { exact: double = 0.0; rough: float; series: [double]; }`.
 
-ghost use Rattle.std.specs.Prelude.{◌≡◌, ◌≤◌, [], ◌∷◌, length, codes, IfOk, List as list, ℕ};
-ghost use Rattle.std.specs.Result.{IsOkAnd};
-ghost use lib.Ieee.{Float, binary32, binary64, eq as equal_floats};
-ghost use Rattle.planus_read.specs.Floats.{FloatFits};
+ghost use Rattle.std.specs.Prelude.{◌≡◌, ◌≤◌, [], ◌∷◌, length, codes, IfOk};
+ghost use lib.Ieee.{eq as equal_floats};
+ghost use Rattle.planus_read.specs.Shapes.{f32_shape, f64_shape};
 ghost use Rattle.planus_write.specs.State.{Grows};
 ghost use Rattle.planus_fields.specs.Contents.{unless};
 ghost use Rattle.planus_tables.specs.Contents.{WritesContents};
-ghost use Rattle.planus_tables.specs.ReadBack.{SlotHolds};
-ghost use Rattle.uses_struct.specs.Floats.{holds_f32, holds_f64, holds_f64s};
+ghost use Rattle.planus_tables.specs.Holds.{holds_plain, holds_plains};
+ghost use Rattle.planus_tables.specs.ReadPlain.{IsPlainFieldOr, IsPlainVector};
 
 use planus_read::Result;
-use planus_tables::{OrDefault, TableKind, TableRef, create_table, fields, plain_field_or};
+use planus_tables::{
+    OrDefault, TableKind, TableRef, create_table, fields, plain_field_or, plain_vector,
+};
 use planus_view::Vector;
 use planus_write::{BuildError, Builder, List, Offset, TableWriter};
 
@@ -20,6 +21,9 @@ pub struct Sample;
 
 /// What a sample is exactly, where nothing is said of it.
 pub const USUAL: f64 = 0.0;
+
+/// What a sample is roughly, where nothing is said of it.
+pub const ROUGHLY: f32 = 0.0;
 
 impl Sample {
     /// Writes a sample. What is exactly 0, with either sign, is left out.
@@ -30,8 +34,8 @@ impl Sample {
         series: &[f64],
     ) -> std::result::Result<Offset<Sample>, BuildError>
         ensures kept { IfOk result (λ offset. WritesContents
-            ((0, unless (equal_floats exact USUAL) (holds_f64 exact))
-            ∷ (2, holds_f64s series.now) ∷ (1, holds_f32 rough) ∷ [])
+            ((0, unless (equal_floats exact USUAL) (holds_plain f64_shape exact))
+            ∷ (2, holds_plains f64_shape series.now) ∷ (1, holds_plain f32_shape rough) ∷ [])
             builder.old offset.distance builder.new) }
         ensures reached { IfOk result (λ offset. offset.distance ≤ length builder.new.bytes) }
         ensures grows { Grows builder.old builder.new }
@@ -48,29 +52,25 @@ impl Sample {
         create_table::<Sample, _>(builder, fields)
     }
 
-    /// Returns what it is exactly, 0 where nothing is said of it. Where the sample holds a float, it
-    /// is this float.
+    /// Returns what it is exactly, 0 where nothing is said of it.
     pub fn exact(sample: &TableRef<'_, Sample>) -> Result<f64>
-        ensures { (B : list ℕ) (exact : Float) → SlotHolds B sample.now.table 0 (holds_f64 exact)
-            → FloatFits binary64 exact → IsOkAnd result (λ read. read ≡ exact) }
+        ensures { IsPlainFieldOr f64_shape USUAL sample.now.table 0 (codes "Sample") (codes "exact") result }
     {
         plain_field_or(sample, 0, USUAL, "Sample", "exact")
     }
 
-    /// Returns what it is roughly, 0 where nothing is said of it. Where the sample holds a float, it
-    /// is this float.
+    /// Returns what it is roughly, 0 where nothing is said of it.
     pub fn rough(sample: &TableRef<'_, Sample>) -> Result<f32>
-        ensures { (B : list ℕ) (rough : Float) → SlotHolds B sample.now.table 1 (holds_f32 rough)
-            → FloatFits binary32 rough → IsOkAnd result (λ read. read ≡ rough) }
+        ensures { IsPlainFieldOr f32_shape ROUGHLY sample.now.table 1 (codes "Sample") (codes "rough") result }
     {
-        plain_field_or(sample, 1, 0.0, "Sample", "rough")
+        plain_field_or(sample, 1, ROUGHLY, "Sample", "rough")
     }
 
     /// Returns its series, or `None` where there is none.
-    pub fn series<'a>(sample: &TableRef<'a, Sample>) -> Result<Option<Vector<'a, f64>>> {
-        sample
-            .table
-            .access::<Vector<'a, f64>>(2, "Sample", "series")
+    pub fn series<'a>(sample: &TableRef<'a, Sample>) -> Result<Option<Vector<'a, f64>>>
+        ensures { IsPlainVector sample.now.table 2 (codes "Sample") (codes "series") result }
+    {
+        plain_vector(sample, 2, "Sample", "series")
     }
 }
 

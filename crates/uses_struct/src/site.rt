@@ -5,25 +5,16 @@
 //!     leg: Leg; features: Features; }
 //! ```
 
-ghost use Rattle.std.specs.Prelude.{◌≡◌, ◌≤◌, List as list, ℕ, length, codes, IfOk};
-ghost use Rattle.std.specs.Prelude.{Option as option, Some, None, IsSomeAnd, slice_get, ◌<◌};
-ghost use Rattle.std.specs.Result.{IsOkAnd};
+ghost use Rattle.std.specs.Prelude.{◌≡◌, ◌≤◌, length, codes, IfOk, Some, slice_get, ℕ};
+ghost use Rattle.std.specs.Prelude.{List as list};
+ghost use Rattle.planus_read.specs.Shapes.{f32_shape};
 ghost use Rattle.planus_write.specs.State.{Grows};
 ghost use Rattle.planus_tables.specs.Contents.{WritesContents};
-ghost use lib.Ieee.{Float, binary32};
-ghost use Rattle.planus_read.specs.Floats.{FloatFits};
-ghost use Rattle.planus_view.specs.VectorView.{count_of};
-ghost use Rattle.planus_tables.specs.ReadBack.{SlotHolds};
-ghost use Rattle.planus_tables.specs.ReadVectors.{ArePlainItems};
+ghost use Rattle.planus_tables.specs.ReadPlain.{ArePlain, IsPlainField, IsPlainFieldOr, IsPlainVector};
 ghost use Rattle.uses_struct.specs.Structs.{pos_shape, fix_shape, leg_shape, features_shape};
-ghost use Rattle.uses_struct.specs.Floats.{holds_f32};
-ghost use Rattle.uses_struct.specs.Sites.{site_contents, holds_kind, holds_pos};
-ghost use Rattle.uses_struct.specs.Sites.{holds_struct};
-ghost use Rattle.uses_struct.specs.declared.features.Features.{Features};
-ghost use Rattle.uses_struct.specs.declared.fix.Fix.{Fix};
-ghost use Rattle.uses_struct.specs.declared.leg.Leg.{Leg};
+ghost use Rattle.uses_struct.specs.Kinds.{kind_shape};
+ghost use Rattle.uses_struct.specs.Sites.{site_contents, IsKnownOr};
 ghost use Rattle.uses_struct.specs.declared.pos.Pos.{Pos};
-ghost use Rattle.uses_struct.specs.declared.kind.Kind.{Kind};
 ghost use Rattle.uses_struct.specs.declared.kind.Kind.TheVariants.{Bike};
 
 use crate::features::Features;
@@ -31,16 +22,19 @@ use crate::fix::Fix;
 use crate::kind::Kind;
 use crate::leg::Leg;
 use crate::pos::Pos;
-use planus_read::errors::ErrorKind;
-use planus_read::{Result, Stride};
+use planus_read::{Result, known_or};
 use planus_tables::{
-    OrDefault, TableKind, TableRef, create_table, fields, laws, plain_field, plain_field_or,
+    OrDefault, TableKind, TableRef, create_table, fields, plain_field, plain_field_or, plain_item,
+    plain_vector,
 };
 use planus_view::Vector;
 use planus_write::{BuildError, Builder, List, Offset, TableWriter};
 
 /// The kind of an offset to a site.
 pub struct Site;
+
+/// The heat of a site of which none is said.
+pub const USUAL_HEAT: f32 = 1.0;
 
 /// What a site has.
 #[derive(Drop)]
@@ -61,7 +55,7 @@ impl Site {
         builder: &mut Builder,
         site: SiteFields<'_>,
     ) -> std::result::Result<Offset<Site>, BuildError>
-        ensures kept { IfOk result (λ offset. WritesContents (site_contents site.entry)
+        ensures kept { IfOk result (λ offset. WritesContents (site_contents ⟦<Kind as PartialEq>⟧.eq site.entry)
             builder.old offset.distance builder.new) }
         ensures reached { IfOk result (λ offset. offset.distance ≤ length builder.new.bytes) }
         ensures grows { Grows builder.old builder.new }
@@ -83,78 +77,48 @@ impl Site {
         create_table::<Site, _>(builder, fields)
     }
 
-    /// Returns the home, or `None` where there is none. Where the site holds a position, it is
-    /// this position.
+    /// Returns the home, or `None` where there is none.
     pub fn home(site: &TableRef<'_, Site>) -> Result<Option<Pos>>
-        ensures read_back { (B : list ℕ) (pos : Pos) → SlotHolds B site.now.table 0 (holds_pos pos)
-            → pos_shape.fits pos → IsOkAnd result (λ home. IsSomeAnd home (λ home. home ≡ pos)) }
-        ensures left_out { (B : list ℕ) → SlotHolds B site.now.table 0 None → result ≡ Ok None }
+        ensures { IsPlainField pos_shape site.now.table 0 (codes "Site") (codes "home") result }
     {
         plain_field(site, 0, "Site", "home")
     }
 
-    /// Returns the fix, or `None` where there is none. Where the site holds one, it is this one.
+    /// Returns the track, or `None` where there is none.
+    pub fn track<'a>(site: &TableRef<'a, Site>) -> Result<Option<Vector<'a, Pos>>>
+        ensures { IsPlainVector site.now.table 1 (codes "Site") (codes "track") result }
+    {
+        plain_vector(site, 1, "Site", "track")
+    }
+
+    /// Returns the fix, or `None` where there is none.
     pub fn fix(site: &TableRef<'_, Site>) -> Result<Option<Fix>>
-        ensures read_back { (B : list ℕ) (fix : Fix)
-            → SlotHolds B site.now.table 2 (holds_struct fix_shape fix) → fix_shape.fits fix
-            → IsOkAnd result (λ found. IsSomeAnd found (λ found. found ≡ fix)) }
+        ensures { IsPlainField fix_shape site.now.table 2 (codes "Site") (codes "fix") result }
     {
         plain_field(site, 2, "Site", "fix")
     }
 
-    /// Returns the leg, or `None` where there is none. Where the site holds one, it is this one.
-    pub fn leg(site: &TableRef<'_, Site>) -> Result<Option<Leg>>
-        ensures read_back { (B : list ℕ) (leg : Leg)
-            → SlotHolds B site.now.table 6 (holds_struct leg_shape leg) → leg_shape.fits leg
-            → IsOkAnd result (λ found. IsSomeAnd found (λ found. found ≡ leg)) }
-    {
-        plain_field(site, 6, "Site", "leg")
-    }
-
-    /// Returns the track, or `None` where there is none.
-    pub fn track<'a>(site: &TableRef<'a, Site>) -> Result<Option<Vector<'a, Pos>>> {
-        site.table.access::<Vector<'a, Pos>>(1, "Site", "track")
-    }
-
-    /// Returns the kind, `Bike` where there is none. Where the site holds a kind, it is this kind.
+    /// Returns the kind, `Bike` where there is none.
     pub fn kind(site: &TableRef<'_, Site>) -> Result<Kind>
-        ensures read_back { (B : list ℕ) (kind : Kind) → SlotHolds B site.now.table 3 (holds_kind kind)
-            → IsOkAnd result (λ read. read ≡ kind) }
-        ensures left_out { (B : list ℕ) → SlotHolds B site.now.table 3 None
-            → IsOkAnd result (λ read. read ≡ Bike) }
+        ensures { IsPlainFieldOr kind_shape Bike site.now.table 3 (codes "Site") (codes "kind") result }
     {
-        laws::plain_values_read_back::<Kind>();
-        laws::absent_fields_read_back::<Kind>();
-        Ok(
-            site.table
-                .access::<Kind>(3, "Site", "kind")?
-                .unwrap_or(Kind::Bike),
-        )
+        plain_field_or(site, 3, Kind::Bike, "Site", "kind")
     }
 
     /// Returns the kind, or another one in place of a number that is no kind's, as a later schema may
-    /// have it. Where the site holds a kind, it is this kind.
+    /// have it.
     pub fn kind_or(site: &TableRef<'_, Site>, other: Kind) -> Result<Kind>
-        ensures read_back { (B : list ℕ) (kind : Kind) → SlotHolds B site.now.table 3 (holds_kind kind)
-            → IsOkAnd result (λ read. read ≡ kind) }
+        ensures { IsKnownOr other (IsPlainFieldOr kind_shape Bike site.now.table 3 (codes "Site")
+            (codes "kind")) result }
     {
-        match Site::kind(site) {
-            Ok(kind) => Ok(kind),
-            Err(error) => match error.error_kind {
-                ErrorKind::UnknownEnumTag { .. } => Ok(other),
-                _ => Err(error),
-            },
-        }
+        known_or(Site::kind(site), other)
     }
 
-    /// Returns what it has, nothing where nothing is said of it. Where the site holds some features,
-    /// they are these.
-    pub fn features(site: &TableRef<'_, Site>) -> Result<Features>
-        ensures { (B : list ℕ) (features : Features)
-            → SlotHolds B site.now.table 7 (holds_struct features_shape features)
-            → features_shape.fits features → IsOkAnd result (λ read. read ≡ features) }
+    /// Returns the heat, 1 where there is none.
+    pub fn heat(site: &TableRef<'_, Site>) -> Result<f32>
+        ensures { IsPlainFieldOr f32_shape USUAL_HEAT site.now.table 4 (codes "Site") (codes "heat") result }
     {
-        plain_field_or(site, 7, Features { bits: 0 }, "Site", "features")
+        plain_field_or(site, 4, USUAL_HEAT, "Site", "heat")
     }
 
     /// Returns the kinds, or `None` where there are none.
@@ -163,24 +127,29 @@ impl Site {
             .access::<Vector<'a, Result<Kind>>>(5, "Site", "kinds")
     }
 
-    /// Returns the heat, 1 where there is none. Where the site holds a heat, it is this heat.
-    pub fn heat(site: &TableRef<'_, Site>) -> Result<f32>
-        ensures { (B : list ℕ) (heat : Float) → SlotHolds B site.now.table 4 (holds_f32 heat)
-            → FloatFits binary32 heat → IsOkAnd result (λ read. read ≡ heat) }
+    /// Returns the leg, or `None` where there is none.
+    pub fn leg(site: &TableRef<'_, Site>) -> Result<Option<Leg>>
+        ensures { IsPlainField leg_shape site.now.table 6 (codes "Site") (codes "leg") result }
     {
-        plain_field_or(site, 4, 1.0, "Site", "heat")
+        plain_field(site, 6, "Site", "leg")
+    }
+
+    /// Returns what it has, nothing where nothing is said of it.
+    pub fn features(site: &TableRef<'_, Site>) -> Result<Features>
+        ensures { IsPlainFieldOr features_shape Features.NOTHING site.now.table 7 (codes "Site")
+            (codes "features") result }
+    {
+        plain_field_or(site, 7, Features::NOTHING, "Site", "features")
     }
 }
 
-/// Returns a point of a track. Of the vector of a list of positions it is the position of this
-/// number.
-pub fn point(track: &Vector<'_, Pos>, index: usize) -> Pos
-    requires { index < count_of track.now }
-    ensures { (items : list (list ℕ)) (B : list ℕ) (pos : Pos) → ArePlainItems ⟦<Pos as Stride>⟧ B items track.now
-        → slice_get items index ≡ Some (pos_shape.encoded pos) → pos_shape.fits pos → result ≡ pos }
+/// Returns a point of a track, or `None` where the track doesn't have it. Of the vector of some
+/// positions it is the position of this number.
+pub fn point(track: &Vector<'_, Pos>, index: usize) -> Option<Pos>
+    ensures { (B : list ℕ) (positions : list Pos) (pos : Pos) → ArePlain B positions track.now
+        → slice_get positions index ≡ Some pos → pos_shape.fits pos → result ≡ Some pos }
 {
-    laws::plain_values_read_back::<Pos>();
-    track.get_unchecked(index)
+    plain_item(track, index)
 }
 
 impl TableKind for Site {

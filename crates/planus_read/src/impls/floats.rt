@@ -1,31 +1,41 @@
 //! Floats: their bits, as a number. A NaN that is read has no payload.
 
-ghost use Rattle.std.specs.Prelude.{to_bits};
-ghost use Rattle.std.specs.Int.{w32, w64, to_le_bytes};
-ghost use Rattle.std.proofs.Common.{lit≤, refl};
+ghost use Rattle.std.specs.Prelude.{◌≡◌, to_bits};
 ghost use lib.Ieee.{binary32, binary64};
-ghost use Rattle.planus_read.specs.Floats.{FloatFits, FloatThere, f32_is_plain, f64_is_plain};
+ghost use Rattle.planus_read.specs.Floats.{FloatFits};
+ghost use Rattle.planus_read.specs.Shapes.{f32_shape, f64_shape};
 
 use crate::errors::ErrorKind;
-use crate::plain::{Plain, PlainItem, PlainTotal};
+use crate::plain::{Plain, PlainTotal};
 use crate::slice_helpers::SliceWithStartOffset;
-use crate::traits::Stride;
 use std::num::{
     f32_from_bits_with_nan, f32_to_bits_with_nan, f64_from_bits_with_nan, f64_to_bits_with_nan,
 };
+
+// Returns the bits of a float, which its format holds.
+#[inline]
+fn f32_bits(x: f32) -> u32
+    ensures bits { result ≡ to_bits binary32 x }
+    ensures fits { FloatFits binary32 x }
+{
+    f32_to_bits_with_nan(x)
+}
+
+// Returns the bits of a float, which its format holds.
+#[inline]
+fn f64_bits(x: f64) -> u64
+    ensures bits { result ≡ to_bits binary64 x }
+    ensures fits { FloatFits binary64 x }
+{
+    f64_to_bits_with_nan(x)
+}
 
 impl Plain for f32 {
     ghost ALIGNMENT = { 4 };
 
     ghost SIZE = { 4 };
 
-    ghost encoded = { λ x. to_le_bytes w32 (to_bits binary32 x) };
-
-    ghost fits = { FloatFits binary32 };
-
-    ghost there = { λ S f x. FloatThere S f w32 binary32 x };
-
-    ghost is_plain = { f32_is_plain };
+    ghost shape = { f32_shape };
 
     const ALIGNMENT: usize = 4;
 
@@ -33,7 +43,7 @@ impl Plain for f32 {
 
     #[inline]
     fn put(&self, bytes: &mut [u8]) {
-        f32_to_bits_with_nan(*self).put(bytes);
+        f32_bits(*self).put(bytes);
     }
 
     #[inline]
@@ -41,21 +51,6 @@ impl Plain for f32 {
         let bits = <u32 as Plain>::read(buffer, offset)?;
         Ok(f32_from_bits_with_nan(bits))
     }
-}
-
-impl Stride for f32 {
-    ghost STRIDE = { 4 };
-
-    ghost is_positive = { lit≤ tt };
-
-    #[inline]
-    fn stride() -> usize {
-        4
-    }
-}
-
-impl PlainItem for f32 {
-    ghost is_its_size = { refl };
 }
 
 impl PlainTotal for f32 {
@@ -67,13 +62,7 @@ impl Plain for f64 {
 
     ghost SIZE = { 8 };
 
-    ghost encoded = { λ x. to_le_bytes w64 (to_bits binary64 x) };
-
-    ghost fits = { FloatFits binary64 };
-
-    ghost there = { λ S f x. FloatThere S f w64 binary64 x };
-
-    ghost is_plain = { f64_is_plain };
+    ghost shape = { f64_shape };
 
     const ALIGNMENT: usize = 8;
 
@@ -81,7 +70,7 @@ impl Plain for f64 {
 
     #[inline]
     fn put(&self, bytes: &mut [u8]) {
-        f64_to_bits_with_nan(*self).put(bytes);
+        f64_bits(*self).put(bytes);
     }
 
     #[inline]
@@ -89,21 +78,6 @@ impl Plain for f64 {
         let bits = <u64 as Plain>::read(buffer, offset)?;
         Ok(f64_from_bits_with_nan(bits))
     }
-}
-
-impl Stride for f64 {
-    ghost STRIDE = { 8 };
-
-    ghost is_positive = { lit≤ tt };
-
-    #[inline]
-    fn stride() -> usize {
-        8
-    }
-}
-
-impl PlainItem for f64 {
-    ghost is_its_size = { refl };
 }
 
 impl PlainTotal for f64 {

@@ -2,10 +2,10 @@
 
 mod bool_;
 mod byte_slice;
-mod enumeration;
+mod enums;
 mod floats;
 mod primitives;
 mod result;
 mod str;
 
-pub use enumeration::Enumeration;
+pub use enums::known_or;

@@ -6,14 +6,7 @@ use crate::slice_helpers::SliceWithStartOffset;
 use crate::traits::{Stride, VectorRead, VectorReadInner};
 
 impl<T: Stride, E> Stride for Result<T, E> {
-    ghost STRIDE = { T.STRIDE };
-
-    ghost is_positive = { T.is_positive };
-
-    #[inline]
-    fn stride() -> usize {
-        T::stride()
-    }
+    type Stands = T::Stands;
 }
 
 impl<'buf, T: VectorReadInner<'buf>, E: From<T::Error>> VectorRead<'buf> for Result<T, E> {

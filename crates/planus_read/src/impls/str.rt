@@ -1,7 +1,6 @@
 //! Texts as fields of tables and as items of vectors.
 
 ghost use Rattle.std.specs.Prelude.{◌≡◌, IfOk, IfErr};
-ghost use Rattle.std.proofs.Common.{lit≤};
 ghost use Rattle.planus_read.specs.Located.{Located};
 ghost use Rattle.planus_read.specs.Clauses.{Answer, shown, FirstBroken};
 ghost use Rattle.planus_read.specs.Pieces.{ShowsBytes};
@@ -9,7 +8,7 @@ ghost use Rattle.planus_read.specs.Reading.{text_reading};
 ghost use Rattle.planus_read.specs.Heads.{IsTextOf, text_of_clauses};
 
 use crate::errors::{Error, ErrorKind};
-use crate::heads::{REFERENCE_SIZE, array_from_buffer};
+use crate::heads::array_from_buffer;
 use crate::located::ITEM_METHOD;
 use crate::slice_helpers::SliceWithStartOffset;
 use crate::traits::{ReadError, Stride, TableRead, VectorReadInner};
@@ -43,18 +42,7 @@ impl<'buf> TableRead<'buf> for &'buf str {
 }
 
 impl<'buf> Stride for &'buf str {
-    ghost use Rattle.planus_read.specs.Items.{reference_size};
-
-    ghost STRIDE = { reference_size };
-
-    ghost is_positive = { lit≤ tt };
-
-    #[inline]
-    fn stride() -> usize
-        ensures { result ≡ reference_size }
-    {
-        REFERENCE_SIZE
-    }
+    type Stands = u32;
 }
 
 impl<'buf> ReadError for &'buf str {

@@ -5,7 +5,7 @@ ghost use Rattle.planus_read.specs.Values.{reference, reference_list};
 ghost use Rattle.planus_write.specs.InBuilder.{IsIn, AllIn};
 ghost use Rattle.planus_write.specs.Items.{reference_item};
 ghost use Rattle.planus_write.specs.Preparing.{Answers, IsPrepared};
-ghost use Rattle.planus_read.specs.PlainNumbers.{layout_of_four};
+ghost use Rattle.planus_read.specs.lemmas.NumberLaws.{layout_of_four};
 ghost use Rattle.planus_write.specs.lemmas.Laws.{offset_is_lawful};
 ghost use Rattle.planus_write.specs.Contents.{value};
 ghost use Rattle.planus_write.specs.lemmas.FieldItemLaws.{reference_is_item};

@@ -13,16 +13,16 @@ use crate::builder::Builder;
 use crate::errors::BuildError;
 use crate::lists::write_each;
 use crate::traits::{Primitive, VectorWrite, WriteAsPrimitive};
-use planus_read::{Plain, PlainItem};
+use planus_read::Plain;
 
 impl<P: Plain> Primitive for P {
     ghost ALIGNMENT = { P.ALIGNMENT };
 
     ghost SIZE = { P.SIZE };
 
-    ghost is_layout = { (P.is_plain).layout };
+    ghost is_layout = { (P.shape).layout };
 
-    ghost is_small = { alignment_is_small P.SIZE P.ALIGNMENT (P.is_plain).layout };
+    ghost is_small = { alignment_is_small P.SIZE P.ALIGNMENT (P.shape).layout };
 
     const ALIGNMENT: usize = <P as Plain>::ALIGNMENT;
 
@@ -32,20 +32,20 @@ impl<P: Plain> Primitive for P {
 impl<P: Plain> WriteAsPrimitive<P> for P {
     ghost reach = { λ x. 0 };
 
-    ghost leaves = { λ x. plain_item (P.encoded x) };
+    ghost leaves = { λ x. plain_item ((P.shape).encoded x) };
 
-    ghost field = { λ x. plain (record { bytes = P.encoded x; alignment = P.ALIGNMENT }) };
+    ghost field = { λ x. plain (record { bytes = (P.shape).encoded x; alignment = P.ALIGNMENT }) };
 
     #[inline]
     fn write(&self, bytes: &mut [u8], _place: u32) {
         self.put(bytes);
     }
 
-    ghost is_item = { λ x. plain_is_item P.SIZE P.ALIGNMENT (P.encoded x)
-        ((P.is_plain).sized x) (P.is_plain).layout };
+    ghost is_item = { λ x. plain_is_item P.SIZE P.ALIGNMENT ((P.shape).encoded x)
+        ((P.shape).sized x) (P.shape).layout };
 }
 
-impl<P: PlainItem> VectorWrite<P> for P {
+impl<P: Plain> VectorWrite<P> for P {
     type Value = P;
 
     ghost STRIDE = { P.SIZE };
@@ -58,7 +58,7 @@ impl<P: PlainItem> VectorWrite<P> for P {
 
     ghost prepares = { Answers };
 
-    ghost list = { λ items. value (plain_list P.SIZE P.ALIGNMENT (map P.encoded items)) };
+    ghost list = { λ items. value (plain_list P.SIZE P.ALIGNMENT (map (P.shape).encoded items)) };
 
     #[inline]
     fn stride() -> usize {
@@ -86,6 +86,6 @@ impl<P: PlainItem> VectorWrite<P> for P {
 
     ghost are_lawful = { numbers_are_lawful };
 
-    ghost has_list = { plain_list_has_content P.encoded P.SIZE P.ALIGNMENT (P.is_plain).layout
-        (P.is_plain).sized };
+    ghost has_list = { plain_list_has_content (P.shape).encoded P.SIZE P.ALIGNMENT (P.shape).layout
+        (P.shape).sized };
 }

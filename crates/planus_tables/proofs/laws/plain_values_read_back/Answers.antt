@@ -2,7 +2,7 @@ use Rattle.planus_tables.proofs.ReadPlain.{plain_read_back, plain_items_read_bac
 use Rattle.planus_tables.proofs.laws.plain_values_read_back.Goals as goal
 
 pub returns-clause-fields : goal.returns-clause-fields
-returns-clause-fields g c = plain_read_back g.T.Plain
+returns-clause-fields g c = plain_read_back g.T.Plain.shape
 
 pub returns-clause-items : goal.returns-clause-items
-returns-clause-items g c = plain_items_read_back g.T.Plain
+returns-clause-items g c = plain_items_read_back g.T.Plain.shape

@@ -1,12 +1,24 @@
-use Rattle.std.proofs.Common.{◌≡◌, Option, subst}
-use Rattle.std.specs.Prelude.{IsSomeAnd}
+use Rattle.std.proofs.Common.{sym, subst, ap, ◌∙◌, Result, Ok}
+use Rattle.planus_read.specs.declared.located.Error.{Error}
+use Rattle.planus_tables.specs.ReadPlain.{IsPlainFieldOr}
+use Rattle.planus_tables.proofs.ReadPlain.{default_of, field_or_read}
 use Rattle.planus_tables.proofs.plain_fields.plain_field_or.Goals as goal
 
-pub returns-in_err-value-clause-read_back : goal.returns-in_err-value-clause-read_back
-returns-in_err-value-clause-read_back g c = λ B x holds fits.
-    elim (c.in_err-value.ensures.read_back B x holds fits) [ ]
+pub returns-in-Ok : goal.returns-in-Ok
+returns-in-Ok g c =
+    subst
+    (λ (r : Result g.row.T.Denot Error). IsPlainFieldOr g.T.Plain.shape c.args.default
+    c.args.view.now.table c.args.slot c.args.type_.now c.args.method.now r)
+    (ap (default_of c.args.default) c.in-Ok.is
+    ∙ ap (λ (x : g.row.T.Denot). Ok x) (sym c.unwrap_or.ensures))
+    (field_or_read g.T.Plain.shape c.args.default c.args.view.now.table c.args.slot c.args.type_.now
+    c.args.method.now c.access.result c.access.ensures)
 
-pub returns-in-Some-clause-read_back : goal.returns-in-Some-clause-read_back
-returns-in-Some-clause-read_back g c = λ B x holds fits.
-    subst (λ (found : Option g.row.T.Denot). IsSomeAnd found (λ read. read ≡ x)) c.in-Some.is
-    (c.in_ok-value.ensures.read_back B x holds fits)
+pub returns-in-Err : goal.returns-in-Err
+returns-in-Err g c =
+    subst
+    (λ (r : Result g.row.T.Denot Error). IsPlainFieldOr g.T.Plain.shape c.args.default
+    c.args.view.now.table c.args.slot c.args.type_.now c.args.method.now r)
+    (ap (default_of c.args.default) c.in-Err.is)
+    (field_or_read g.T.Plain.shape c.args.default c.args.view.now.table c.args.slot c.args.type_.now
+    c.args.method.now c.access.result c.access.ensures)

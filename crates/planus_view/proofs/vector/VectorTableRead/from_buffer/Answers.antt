@@ -16,7 +16,7 @@ returns-in_default g c =
     let counted : c.in_ok-items.count ≡ count_at S c.args.offset =
     head.2.counted ∙ facts.count_is in
     let size : c.in_ok-items.count * c.stride.result
-    ≡ count_at S c.args.offset * g.T.Stride.STRIDE = (λ i. counted i * c.stride.ensures i) in
+    ≡ count_at S c.args.offset * g.T.Stands.Plain.SIZE = (λ i. counted i * c.stride.ensures i) in
     let rest : length (slice_bytes c.in_ok-items.items) ≡ length S - head.0.position =
     ap length head.2.bytes ∙ length-drop head.0.position S in
     inr (

@@ -1,14 +1,14 @@
--- Numbers and truth values have a fixed layout.
-use Rattle.std.specs.Prelude.{◌≡◌, ℕ, ◌+◌, ◌*◌, ◌<◌, ◌^◌, ℤ, List, [], ◌∷◌, length, take, drop, Bool, true, false, not, ◌==◌, Option, Some, None, nat_le, if◌then◌else◌, FitsSigned, ⊤}
-use Rattle.std.specs.Int.{Width, w8, w16, w32, w64, byte_len, to_le_bytes, from_le_bytes, cast_signed, cast_unsigned, from_bool}
-use Rattle.std.specs.Option.{option_map}
-use Rattle.std.proofs.Common.{refl, sym, subst, ap, ◌∙◌, lit≤, lit<, to_z-of_z}
+-- Laws for numbers: their layouts, and the number of bytes that stand.
+use Rattle.std.specs.Prelude.{◌≡◌, ℕ, ◌+◌, ℤ, List, [], ◌∷◌, length, take, drop, Bool, true, false, not, ◌==◌, Option, Some, None, nat_le, if◌then◌else◌, FitsSigned}
+use Rattle.std.specs.Int.{Width, w8, w16, w32, w64, byte_len, to_le_bytes, from_le_bytes, cast_unsigned, from_bool}
+use Rattle.std.specs.Option.{option_map, option_and_then}
+use Rattle.std.proofs.Common.{refl, sym, ap, ◌∙◌, lit≤, lit<}
 use Rattle.std.proofs.Math.Facts.{Fits-of_z}
 use Rattle.std.proofs.Math.Nat.{mod-eq_of_lt, dvd-mul_left}
 use Rattle.std.proofs.lemmas.Nat.{from_le_bytes-to_le_bytes_2, from_le_bytes-to_le_bytes_4, from_le_bytes-to_le_bytes_8}
 use Rattle.planus_read.specs.Bytes.{Num, BytesStand}
-use Rattle.planus_read.specs.Plain.{IsLayout, IsPlain}
-use Rattle.planus_read.specs.Reading.{number, NumberThere, SignedThere, TruthThere}
+use Rattle.planus_read.specs.Plain.{IsLayout, NumberFits}
+use Rattle.planus_read.specs.Reading.{number, NumberThere}
 
 pub layout_of_one : IsLayout 1 1
 layout_of_one = record { power = (0, lit≤ tt, refl); positive = lit< tt; multiple = dvd-mul_left 1 1 }
@@ -21,10 +21,6 @@ layout_of_four = record { power = (2, lit≤ tt, refl); positive = lit< tt; mult
 
 pub layout_of_eight : IsLayout 8 8
 layout_of_eight = record { power = (3, lit≤ tt, refl); positive = lit< tt; multiple = dvd-mul_left 8 1 }
-
--- the number has no more bits
-abbrev pub NumberFits : Width → ℕ → Type 0
-NumberFits width n = n < 2 ^ (8 * byte_len width)
 
 -- numbers of a width are as many bytes, of which they are made again
 pub record AreBytes (width : Width) : Type 0 where
@@ -90,67 +86,27 @@ stood_as {A} g width are S f n y fits stands there = at (Num S f width) refl the
     at (Some m) e h =
         let same : y ≡ g m = cc in same ∙ ap g (stood width are S f n m fits stands e)
 
-pub unsigned_is_plain : (width : Width) → AreBytes width → IsLayout (byte_len width) (byte_len width)
-    → IsPlain (byte_len width) (byte_len width) (λ n. to_le_bytes width n) (NumberFits width)
-    (λ S f n. NumberThere S f width n) (λ S f. [])
-unsigned_is_plain width are layout = record {
-  layout = layout;
-  sized = are.sized;
-  holds = λ S f n fits stands. tt;
-  again = λ S f n m fits stands there. stood width are S f n m fits stands there;
-}
+-- so is what may be computed of it
+pub stood_by : {A : Type 0} (g : ℕ → Option A) (width : Width) → AreBytes width → (S : List ℕ) (f n : ℕ) (y : A)
+    → NumberFits width n → BytesStand S f (to_le_bytes width n)
+    → option_and_then g (Num S f width) ≡ Some y → g n ≡ Some y
+stood_by {A} g width are S f n y fits stands there = at (Num S f width) refl there
+  where
+    at : (m : Option ℕ) → Num S f width ≡ m → option_and_then g m ≡ Some y → g n ≡ Some y
+    at None e h = absurd (let f : None ≡ Some y = h in cc)
+    at (Some m) e h = ap g (sym (stood width are S f n m fits stands e)) ∙ h
 
-pub signed_is_plain : (width : Width) → AreBytes width → IsLayout (byte_len width) (byte_len width)
-    → IsPlain (byte_len width) (byte_len width) (λ z. to_le_bytes width (cast_unsigned width z))
-    (FitsSigned width) (λ S f z. SignedThere S f width z) (λ S f. [])
-signed_is_plain width are layout = record {
-  layout = layout;
-  sized = λ z. are.sized (cast_unsigned width z);
-  holds = λ S f z fits stands. tt;
-  again = λ S f z y fits stands there.
-      stood_as (cast_signed width) width are S f (cast_unsigned width z) y (are.unsigned z fits) stands
-      there
-      ∙ to_z-of_z fits;
-}
-
-is_byte : (truth : Bool) → not (from_bool truth == 0) ≡ truth
+pub is_byte : (truth : Bool) → not (from_bool truth == 0) ≡ truth
 is_byte true = refl
 is_byte false = refl
 
-truth_fits : (truth : Bool) → NumberFits w8 (from_bool truth)
+pub truth_fits : (truth : Bool) → NumberFits w8 (from_bool truth)
 truth_fits true = lit< tt
 truth_fits false = lit< tt
 
-truth_bytes : (truth : Bool) → to_le_bytes w8 (from_bool truth) ≡ from_bool truth ∷ []
+pub truth_bytes : (truth : Bool) → to_le_bytes w8 (from_bool truth) ≡ from_bool truth ∷ []
 truth_bytes true = refl
 truth_bytes false = refl
 
-pub truth_is_plain :
-    IsPlain 1 1 (λ truth. from_bool truth ∷ []) (λ truth. ⊤) (λ S f truth. TruthThere S f truth)
-    (λ S f. [])
-truth_is_plain = record {
-  layout = layout_of_one;
-  sized = λ truth. refl;
-  holds = λ S f truth fits stands. tt;
-  again = λ S f truth y fits stands there.
-      stood_as (λ n. not (n == 0)) w8 one_byte S f (from_bool truth) y (truth_fits truth)
-      (subst (λ bytes. BytesStand S f bytes) (sym (truth_bytes truth)) stands) there
-      ∙ is_byte truth;
-}
-
-one_byte_is : (n : ℕ) → NumberFits w8 n → to_le_bytes w8 n ≡ n ∷ []
+pub one_byte_is : (n : ℕ) → NumberFits w8 n → to_le_bytes w8 n ≡ n ∷ []
 one_byte_is n may = ap (λ byte. byte ∷ []) (mod-eq_of_lt may)
-
-pub small_is_plain :
-    IsPlain 1 1 (λ z. cast_unsigned w8 z ∷ []) (FitsSigned w8) (λ S f z. SignedThere S f w8 z)
-    (λ S f. [])
-small_is_plain = record {
-  layout = layout_of_one;
-  sized = λ z. refl;
-  holds = λ S f z fits stands. tt;
-  again = λ S f z y fits stands there.
-      let may = one_byte.unsigned z fits in
-      stood_as (cast_signed w8) w8 one_byte S f (cast_unsigned w8 z) y may
-      (subst (λ bytes. BytesStand S f bytes) (sym (one_byte_is (cast_unsigned w8 z) may)) stands) there
-      ∙ to_z-of_z fits;
-}
