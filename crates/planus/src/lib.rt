@@ -19,18 +19,18 @@ pub use faults::{ReplayError, Why};
 pub use finishes::{Finished, StepPlace};
 pub use planus_back::{Fill, Overwrite};
 pub use planus_fields::{
-    DefaultValue, LeftOut, PlainDefault, PlainField, WriteAs, WriteAsDefault,
-    WriteAsDefaultUnionVector, WriteAsOptional, WriteAsOptionalUnion, WriteAsOptionalUnionVector,
+    DefaultValue, LeftOut, PlainField, WriteAs, WriteAsDefault, WriteAsDefaultUnionVector,
+    WriteAsOptional, WriteAsOptionalUnion, WriteAsOptionalUnionVector,
 };
 pub use planus_read::{
-    ArrayWithStartOffset, Enumeration, Error, Place, Plain, PlainItem, PlainTotal, ReadAsRoot,
-    ReadError, Result, SignedBytes, SliceWithStartOffset, Stride, TableRead, TableReadUnion,
-    TableReadUnionVector, TaggedPlace, VectorRead, VectorReadInner, VectorReadUnion, Void, errors,
-    has_identifier, located, read_size_prefixed, table_reader,
+    ArrayWithStartOffset, Error, Place, Plain, PlainTotal, ReadAsRoot, ReadError, Result,
+    SignedBytes, SliceWithStartOffset, Stride, TableRead, TableReadUnion, TableReadUnionVector,
+    TaggedPlace, VectorRead, VectorReadInner, VectorReadUnion, Void, errors, has_identifier,
+    known_or, located, put_fields, read_fields, read_size_prefixed, read_variant, table_reader,
 };
 pub use planus_tables::{
     OrDefault, Required, TableKind, TableRef, Variant, create_table, fields, plain_field,
-    plain_field_or, variant,
+    plain_field_or, plain_item, plain_vector, variant,
 };
 pub use planus_unions::{UnionVector, union_vectors};
 pub use planus_view::{CopyError, FromItem, Vector, vectors};

@@ -6,7 +6,6 @@
 
 ghost use Rattle.std.specs.Prelude.{◌≡◌, ◌≤◌, [], ◌∷◌, length, pos, codes, IfOk};
 ghost use Rattle.std.specs.Int.{w16};
-ghost use Rattle.std.proofs.Common.{lit≤};
 ghost use Rattle.planus_read.specs.Clauses.{Answer, shown};
 ghost use Rattle.planus_read.specs.Located.{Located, OrDefault as OrElse};
 ghost use Rattle.planus_read.specs.Pieces.{ShowsBytes};
@@ -133,15 +132,7 @@ impl<'a> ReadAsRoot<'a> for WeaponRef<'a> {
 }
 
 impl<'a> Stride for WeaponRef<'a> {
-    ghost STRIDE = { 4 };
-
-    ghost is_positive = { lit≤ tt };
-
-    fn stride() -> usize
-        ensures { result ≡ 4 }
-    {
-        4
-    }
+    type Stands = u32;
 }
 
 impl<'a> ReadError for WeaponRef<'a> {

@@ -33,7 +33,7 @@ use crate::cause::{Cause, CauseRef};
 use crate::level::Level;
 use crate::origin::{Origin, OriginRef};
 use planus::{
-    BuildError, Builder, List, Offset, OrDefault, Result, Stride, TableKind, TableRef, TableWriter,
+    BuildError, Builder, List, Offset, OrDefault, Plain, Result, TableKind, TableRef, TableWriter,
     Text, UnionOffset, Vector, create_table, fields,
 };
 use planus_tables::laws;
@@ -130,7 +130,7 @@ impl Entry {
         ensures read_back { (B : list ℕ) (tags : list (Bor (list ℕ)))
             → SlotHolds B entry.now.table 3 (holds_texts (λ tag. tag.now) tags)
             → IsOkAnd result (λ found. IsSomeAnd found (ItemsAreTexts
-            ⟦<Result<&'a str> as Stride>⟧ (map (λ tag. tag.now) tags))) }
+            ⟦<u32 as Plain>⟧ (map (λ tag. tag.now) tags))) }
     {
         laws::vectors_read_back::<Result<&'a str>>();
         laws::items_read_back::<Result<&'a str>, Entry>();
@@ -183,7 +183,7 @@ impl Entry {
         ensures read_back { (B : list ℕ) (parents : list (Offset Entry))
             → SlotHolds B entry.now.table 7 (holds_offsets parents)
             → IsOkAnd result (λ found. IsSomeAnd found (ItemsAreTables
-            ⟦<Result<EntryRef<'a>> as Stride>⟧ Entry B
+            ⟦<u32 as Plain>⟧ Entry B
             (map (λ parent. parent.distance) parents))) }
     {
         laws::vectors_read_back::<Result<EntryRef<'a>>>();

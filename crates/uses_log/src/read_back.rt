@@ -10,7 +10,7 @@ use crate::cause::CauseRef;
 use crate::entry::{Entry, EntryFields, EntryRef};
 use crate::level::Level;
 use crate::origin::OriginRef;
-use planus::{BuildError, Builder, Error, Offset, ReadAsRoot, Stride, Vector};
+use planus::{BuildError, Builder, Error, Offset, Plain, ReadAsRoot, Vector};
 use planus_tables::laws;
 
 /// Why an entry can't be written, or not be read.
@@ -88,9 +88,9 @@ pub fn all_read_back<'b>(
     requires parents { AllIn builder.old entry.parents.now }
     ensures { IfOk result (λ read. (B : list ℕ) × KeptTablesStandIn B builder.old
         × IsRead B entry.entry read
-        × IsSomeAnd read.tags (ItemsAreTexts ⟦<planus::Result<&'b str> as Stride>⟧
+        × IsSomeAnd read.tags (ItemsAreTexts ⟦<u32 as Plain>⟧
         (map (λ tag. tag.now) entry.entry.tags.now))
-        × IsSomeAnd read.parents (ItemsAreTables ⟦<planus::Result<EntryRef<'b>> as Stride>⟧ Entry B
+        × IsSomeAnd read.parents (ItemsAreTables ⟦<u32 as Plain>⟧ Entry B
         (map (λ parent. parent.distance) entry.entry.parents.now))) }
 {
     laws::kept_tables_stay();

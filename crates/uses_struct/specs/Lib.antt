@@ -1,3 +1,4 @@
 pub mod Kinds
+pub mod Levels
 pub mod Structs
 pub mod Sites

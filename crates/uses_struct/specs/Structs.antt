@@ -1,9 +1,13 @@
 -- The fields of structs.
 use Rattle.std.proofs.Common.{refl, lit≤, lit<}
 use Rattle.planus_read.specs.Plain.{Shape}
-use Rattle.planus_read.specs.Shapes.{i32_shape, i16_shape, u64_shape, u8_shape}
-use Rattle.planus_read.specs.Structs.{field, no_more, struct_layout, struct_shape}
+use Rattle.planus_read.specs.Shapes.{u8_shape, u16_shape, u32_shape, u64_shape}
+use Rattle.planus_read.specs.Shapes.{i8_shape, i16_shape, i32_shape, i64_shape}
+use Rattle.planus_read.specs.Shapes.{bool_shape, f32_shape, f64_shape}
+use Rattle.planus_read.specs.Structs.{field, force_align, no_more, struct_layout, struct_shape}
 use Rattle.uses_struct.specs.Kinds.{kind_shape}
+use Rattle.uses_struct.specs.Levels.{level_shape}
+use Rattle.uses_struct.specs.declared.reading.Reading.{Reading}
 use Rattle.uses_struct.specs.declared.pos.Pos.{Pos}
 use Rattle.uses_struct.specs.declared.features.Features.{Features}
 use Rattle.uses_struct.specs.declared.fix.Fix.{Fix}
@@ -28,3 +32,21 @@ features_shape = struct_shape (field (λ f. f.bits) u8_shape no_more)
 abbrev pub leg_shape : Shape Leg 48 8
 leg_shape = struct_shape (field (λ l. l.from) fix_shape (field (λ l. l.to) fix_shape no_more))
     (struct_layout 3 6 (lit≤ tt) (lit< tt)) (λ v. record { from = v.0; to = v.1.0 }) (λ l. refl)
+
+abbrev pub reading_shape : Shape Reading 48 16
+reading_shape = struct_shape (force_align 16
+    (field (λ r. r.on) bool_shape (field (λ r. r.tiny) i8_shape (field (λ r. r.port) u16_shape
+    (field (λ r. r.count) u32_shape (field (λ r. r.total) i64_shape (field (λ r. r.rough) f32_shape
+    (field (λ r. r.exact) f64_shape (field (λ r. r.level) level_shape no_more)))))))))
+    (struct_layout 4 3 (lit≤ tt) (lit< tt))
+    (λ v. record {
+      on = v.0;
+      tiny = v.1.0;
+      port = v.1.1.0;
+      count = v.1.1.1.0;
+      total = v.1.1.1.1.0;
+      rough = v.1.1.1.1.1.0;
+      exact = v.1.1.1.1.1.1.0;
+      level = v.1.1.1.1.1.1.1.0;
+    })
+    (λ r. refl)

@@ -2,6 +2,7 @@
 
 mod entries;
 mod numbers;
+mod probes;
 mod samples;
 mod sites;
 mod tables;

@@ -1,6 +1,5 @@
 //! Readers of the tests' own, which tell where they read, or read what is there by its tag.
 
-ghost use Rattle.std.proofs.Common.{lit≤};
 ghost use Rattle.std.specs.Prelude.{◌≡◌, ⊤, codes};
 
 use planus::table_reader::Table;
@@ -71,15 +70,7 @@ impl<'buf> TableReadUnionVector<'buf> for Pair<'buf> {
 pub struct Row<'buf>(pub Table<'buf>);
 
 impl<'buf> Stride for Row<'buf> {
-    ghost STRIDE = { 4 };
-
-    ghost is_positive = { lit≤ tt };
-
-    fn stride() -> usize
-        ensures { result ≡ 4 }
-    {
-        4
-    }
+    type Stands = u32;
 }
 
 impl<'buf> ReadError for Row<'buf> {

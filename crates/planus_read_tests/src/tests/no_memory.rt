@@ -37,6 +37,8 @@ fn traits_answer() -> bool {
     traits::numbers_are_fields()
         && traits::lists_are_fields()
         && traits::numbers_are_items()
+        && traits::floats_are_fields()
+        && traits::floats_are_items()
         && traits::texts_are_items()
         && traits::unions_are_read()
         && traits::roots_are_read()

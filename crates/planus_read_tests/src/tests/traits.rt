@@ -100,6 +100,27 @@ pub fn numbers_are_items() -> bool {
         && item::<i64>(&BYTES, 8) == Some(0x3_0002_0001)
         && item::<bool>(&BYTES, 8) == Some(true)
         && item::<u64>(&BYTES, 9).is_none()
+        && item::<u8>(&BYTES, 1) == Some(0xfe)
+        && item::<i8>(&BYTES, 1) == Some(-2)
+}
+
+// 1.5 and a NaN with a payload as floats of 4 bytes, and -0.125 as one of 8, as IEEE 754 has them.
+const FLOATS: [u8; 16] = [
+    0, 0, 0xc0, 0x3f, 1, 0, 0x80, 0x7f, 0, 0, 0, 0, 0, 0, 0xc0, 0xbf,
+];
+
+pub fn floats_are_fields() -> bool {
+    matches!(field::<f32>(&FLOATS, 0), Ok(read) if read == 1.5)
+        && matches!(field::<f32>(&FLOATS, 4), Ok(read) if read.is_nan())
+        && matches!(field::<f64>(&FLOATS, 8), Ok(read) if read == -0.125)
+        && matches!(field::<f64>(&FLOATS, 9), Err(ErrorKind::InvalidOffset))
+}
+
+pub fn floats_are_items() -> bool {
+    item::<f32>(&FLOATS, 0) == Some(1.5)
+        && item::<f64>(&FLOATS, 8) == Some(-0.125)
+        && item::<f64>(&FLOATS, 9).is_none()
+        && matches!(inner_item::<f64>(&FLOATS, 8), Some(Ok(read)) if read == -0.125)
 }
 
 // A reference to the text `Hi` at 0, and one to damage at 4.

@@ -4,7 +4,7 @@ use super::in_builder;
 use planus::errors::ErrorKind;
 use planus::{BuildError, Builder, Error, Plain, ReadAsRoot, SliceWithStartOffset, TableRead};
 use planus_tables::TableRef;
-use uses_struct::{Features, Fix, Kind, Leg, Pos, Site, SiteFields, home_read_back};
+use uses_struct::{Features, Fix, Kind, Leg, Pos, Site, SiteFields, home_read_back, point};
 
 const PARIS: Pos = Pos {
     lat: 48_856_600,
@@ -99,8 +99,9 @@ fn has_track(site: &TableRef<'_, Site>) -> bool {
     match Site::track(site) {
         Ok(Some(track)) => {
             track.len() == 2
-                && matches!(track.get(0), Some(pos) if pos == PARIS)
-                && matches!(track.get(1), Some(pos) if pos == SANTIAGO)
+                && matches!(point(&track, 0), Some(pos) if pos == PARIS)
+                && matches!(point(&track, 1), Some(pos) if pos == SANTIAGO)
+                && point(&track, 2).is_none()
         }
         _ => false,
     }
@@ -207,8 +208,73 @@ fn unknown_kinds_are_errors(rt: HostRuntime) {
     let mut bytes = FLATC_SITE;
     bytes[30] = 9;
     let site: Result<TableRef<'_, Site>, _> = ReadAsRoot::read_as_root(&bytes);
+    let Ok(site) = site else {
+        assert!(rt; false, "root");
+        return;
+    };
+    assert!(rt; is_unknown_kind(&site), "kind 9");
     assert!(rt;
-        matches!(site, Ok(site) if is_unknown_kind(&site)),
-        "kind 9"
+        matches!(Site::kind_or(&site, Kind::Car), Ok(Kind::Car)),
+        "another in its place"
     );
+}
+
+// Whether this is a value, or an error that a damaged field may have, with the accessor's name.
+fn is_named<T: Drop>(read: Result<T, Error>, method: &str) -> bool {
+    match read {
+        Ok(_) => true,
+        Err(
+            Error {
+                source_location,
+                error_kind,
+            },
+        ) => {
+            source_location.type_ == "Site"
+                && source_location.method == method
+                && matches!(
+                    error_kind,
+                    ErrorKind::InvalidOffset
+                        | ErrorKind::InvalidLength
+                        | ErrorKind::UnknownEnumTag { .. }
+                )
+        }
+    }
+}
+
+// Whether each accessor of the root, if there is one, answers so.
+fn is_answered(bytes: &[u8]) -> bool {
+    let site: Result<TableRef<'_, Site>, _> = ReadAsRoot::read_as_root(bytes);
+    let Ok(site) = site else {
+        return true;
+    };
+    is_named(Site::home(&site), "home")
+        && is_named(Site::track(&site), "track")
+        && is_named(Site::fix(&site), "fix")
+        && is_named(Site::kind(&site), "kind")
+        && is_named(Site::heat(&site), "heat")
+        && is_named(Site::kinds(&site), "kinds")
+        && is_named(Site::leg(&site), "leg")
+        && is_named(Site::features(&site), "features")
+}
+
+// Whether a site of which one byte is another is answered so, and one that is cut off there.
+fn damage_is_answered() -> bool {
+    for i in 0..FLATC_SITE.len() {
+        for other in [0, 1, 2, 0x7f, 0xff] {
+            let mut bytes = FLATC_SITE;
+            bytes[i] = other;
+            if !is_answered(&bytes) {
+                return false;
+            }
+        }
+        if !is_answered(&FLATC_SITE[..i]) {
+            return false;
+        }
+    }
+    true
+}
+
+#[test]
+fn damaged_sites_are_answered(rt: HostRuntime) {
+    assert!(rt; damage_is_answered(), "every byte");
 }

@@ -1,7 +1,6 @@
 //! Every call once on views of none, one and five items, of numbers, of texts and of a type of the
 //! test's own.
 
-ghost use Rattle.std.proofs.Common.{lit≤};
 ghost use Rattle.std.specs.Prelude.{⊤, ◌<◌, ◌^◌, length};
 
 use super::super::calls::{item_calls_agree, part_calls_agree};
@@ -14,13 +13,7 @@ use planus_view::Vector;
 struct Second(u8);
 
 impl Stride for Second {
-    ghost STRIDE = { 2 };
-
-    ghost is_positive = { lit≤ tt };
-
-    fn stride() -> usize {
-        2
-    }
+    type Stands = u16;
 }
 
 impl<'buf> VectorRead<'buf> for Second {
