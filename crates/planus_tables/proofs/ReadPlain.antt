@@ -2,7 +2,7 @@
 use Rattle.std.proofs.Common.{◌≡◌, ℕ, ◌+◌, ◌<◌, ◌≤◌, List, [], ◌∷◌, length, drop, subst, ◌∙◌, Result, Ok, Err, inl, inr, arith, length-drop}
 use Rattle.std.specs.Prelude.{IsOkAnd, IsSomeAnd, MatchOption, ⊤}
 use Rattle.std.specs.Option.{unwrap_or}
-use Rattle.std.proofs.Common.{Option, Some, None, ap, refl, inr, ◌*◌, slice_get, map}
+use Rattle.std.proofs.Common.{Option, Some, None, ap, refl, sym, inr, ◌*◌, slice_get, map}
 use Rattle.std.proofs.lemmas.List.{length-map}
 use Rattle.std.specs.Option.{option_map}
 use Rattle.std.proofs.lemmas.Option.{slice_get-map, slice_get_within}
@@ -19,6 +19,7 @@ use Rattle.planus_read.specs.Located.{Located, OrDefault}
 use Rattle.planus_read.specs.Tables.{FieldAnswer, table_start}
 use Rattle.planus_read.specs.Clauses.{Clause, AllHold, FirstBroken}
 use Rattle.planus_read.specs.Plain.{Shape, plain_reading}
+use Rattle.planus_read.specs.Bytes.{BytesStand}
 use Rattle.planus_read.specs.Stands.{FieldStands}
 use Rattle.planus_read.specs.Values.{Field}
 use Rattle.planus_read.proofs.PieceLaws.{bytes_in_piece}
@@ -28,6 +29,7 @@ use Rattle.planus_tables.specs.Holds.{holds_plain}
 use Rattle.planus_tables.specs.ReadBack.{FieldHolds, SlotHolds}
 use Rattle.planus_tables.specs.ReadPlain.{reads_plain, plain_content, PlainReadBack, PlainItemsReadBack}
 use Rattle.planus_tables.specs.ReadPlain.{IsPlainField, IsPlainFieldOr, IsPlainVector, ArePlain}
+use Rattle.planus_tables.specs.ReadPlain.{IsPlainResult, PlainResultsReadBack}
 use Rattle.planus_tables.specs.ReadVectors.{reads_vector}
 use Rattle.planus_tables.proofs.ReadVectors.{plain_vectors_read_back}
 use Rattle.planus_tables.proofs.ReadBack.{contents_read_back, absent_fields_read_back}
@@ -49,6 +51,17 @@ some_is (Ok None) x none = elim none [ ]
 some_is (Err e) x error = elim error [ ]
 
 module _ {T : Type 0} {size alignment : ℕ} (shape : Shape T size alignment) where
+  -- where the bytes of a value stand all clauses hold
+  all_hold : (S : List ℕ) (f : ℕ) (x : T) → shape.fits x → BytesStand S f (shape.encoded x)
+      → AllHold (plain_reading shape S f).clauses
+  all_hold S f x fits here =
+      let sized : length (shape.encoded x) ≡ size = shape.sized x in
+      let long : length (shape.encoded x) ≤ length (drop f S) =
+      stood_inside (drop f S) (shape.encoded x) here in
+      let positive : 0 < size = shape.layout.positive in
+      let inside : f + size ≤ length S = omega (arith, length-drop f S) in
+      (inside, shape.holds S f x fits here)
+
   pub plain_read_back : PlainReadBack shape
   plain_read_back = contents_read_back (reads_plain shape) (λ B x. shape.fits x) (plain_content shape)
       (λ B x found. found ≡ x) answered
@@ -64,15 +77,9 @@ module _ {T : Type 0} {size alignment : ℕ} (shape : Shape T size alignment) wh
       answered B x field fits holds start f stands (Err e) broken =
           let here = bytes_in_piece B start f (shape.encoded x)
           (subst (λ (field : Field). FieldStands B (start + f) field) holds stands) in
-          let S : List ℕ = drop start B in
-          let sized : length (shape.encoded x) ≡ size = shape.sized x in
-          let long : length (shape.encoded x) ≤ length (drop f S) =
-          stood_inside (drop f S) (shape.encoded x) here in
-          let positive : 0 < size = shape.layout.positive in
-          let inside : f + size ≤ length S = omega (arith, length-drop f S) in
-          let clauses = (plain_reading shape S f).clauses in
-          let hold : AllHold clauses = (inside, shape.holds S f x fits here) in
-          absurd (none_broken clauses e broken hold)
+          absurd
+          (none_broken (plain_reading shape (drop start B) f).clauses e broken
+          (all_hold (drop start B) f x fits here))
 
   pub plain_items_read_back : PlainItemsReadBack shape
   plain_items_read_back S f x found fits reads there =
@@ -116,6 +123,26 @@ module _ {T : Type 0} {size alignment : ℕ} (shape : Shape T size alignment) wh
       answered (Err e) h = h
 
 module _ {T : Type 0} {kind : PlainGhosts T} where
+  -- what stands at a position of the vector of some values
+  item_stands : {I : Type 0} (B : List ℕ) (xs : List T) (x : T)
+      (vector : VectorOf (SliceView I T kind)) (i : ℕ) → ArePlain B xs vector
+      → slice_get xs i ≡ Some x
+      → BytesStand (view_of vector).bytes (i * kind.SIZE) (kind.shape.encoded x)
+  item_stands B xs x vector i are there =
+      let reads = are.1.each i (kind.shape.encoded x)
+      (slice_get-map kind.shape.encoded xs i ∙ ap (option_map kind.shape.encoded) there) in
+      subst (λ (view : View). BytesStand view.bytes (i * kind.SIZE) (kind.shape.encoded x))
+      (sym are.1.view) reads.stands
+
+  -- and the vector has the position
+  item_within : {I : Type 0} (B : List ℕ) (xs : List T) (x : T)
+      (vector : VectorOf (SliceView I T kind)) (i : ℕ) → ArePlain B xs vector
+      → slice_get xs i ≡ Some x → i < count_of vector
+  item_within B xs x vector i are there =
+      let count : count_of vector ≡ length xs =
+      ap (λ (view : View). view.count) are.1.view ∙ length-map xs kind.shape.encoded in
+      let within : i < length xs = slice_get_within xs i x there in omega (arith, count, within)
+
   -- An item of the vector of some values is the value at its position.
   pub item_read : (B : List ℕ) (xs : List T) (x : T) (vector : VectorOf (SliceView T T kind)) (i : ℕ)
       (r : Option T) → ArePlain B xs vector → slice_get xs i ≡ Some x → kind.shape.fits x
@@ -123,20 +150,39 @@ module _ {T : Type 0} {kind : PlainGhosts T} where
       (λ v i y. kind.shape.There (view_of v).bytes (i * kind.SIZE) y) vector i r
       → r ≡ Some x
   item_read B xs x vector i (Some y) are there fits gets =
-      let reads = are.1.each i (kind.shape.encoded x)
-      (slice_get-map kind.shape.encoded xs i ∙ ap (option_map kind.shape.encoded) there) in
-      let here = subst (λ (view : View). kind.shape.There view.bytes (i * kind.SIZE) y) are.1.view gets.1 in
       ap (λ (y : T). Some y)
-      (kind.shape.again (drop (are.0 + 4) B) (i * kind.SIZE) x y fits reads.stands here)
+      (kind.shape.again (view_of vector).bytes (i * kind.SIZE) x y fits
+      (item_stands B xs x vector i are there) gets.1)
   item_read B xs x vector i None are there fits past =
-      let count : count_of vector ≡ length xs =
-      ap (λ (view : View). view.count) are.1.view ∙ length-map xs kind.shape.encoded in
-      let within : i < length xs = slice_get_within xs i x there in
-      absurd (omega (arith, count, within, past))
+      absurd (let within = item_within B xs x vector i are there in omega (arith, within, past))
 
+  -- So is one whose read may fail.
+  result_read : (B : List ℕ) (xs : List T) (x : T)
+      (vector : VectorOf (SliceView (Result T Error) T kind)) (i : ℕ) (r : Option (Result T Error))
+      → ArePlain B xs vector → slice_get xs i ≡ Some x → kind.shape.fits x
+      → GetsItem (λ (v : VectorOf (SliceView (Result T Error) T kind)). count_of v) IsPlainResult vector i r
+      → r ≡ Some (Ok x)
+  result_read B xs x vector i (Some (Ok y)) are there fits gets =
+      ap (λ (y : T). Some (Ok y))
+      (kind.shape.again (view_of vector).bytes (i * kind.SIZE) x y fits
+      (item_stands B xs x vector i are there) gets.1)
+  result_read B xs x vector i (Some (Err e)) are there fits gets =
+      absurd
+      (none_broken (plain_reading kind.shape (view_of vector).bytes (i * kind.SIZE)).clauses
+      gets.1.0.error_kind gets.1.1.0
+      (all_hold kind.shape (view_of vector).bytes (i * kind.SIZE) x fits
+      (item_stands B xs x vector i are there)))
+  result_read B xs x vector i None are there fits past =
+      absurd (let within = item_within B xs x vector i are there in omega (arith, within, past))
+
+pub results_read_back : {T : Type 0} (kind : PlainGhosts T) → PlainResultsReadBack kind
+results_read_back kind B xs x vector i r are there fits gets =
+    result_read B xs x vector i r are there fits gets
+
+module _ {T R : Type 0} {kind : PlainGhosts R} where
   -- The answer of a vector is that of the values that a slot that was written holds.
   pub vector_read : (table : Table) (slot : ℕ) (type_ method : List ℕ)
-      (r : Result (Option (VectorOf (SliceView T T kind))) Error)
+      (r : Result (Option (VectorOf (SliceView T R kind))) Error)
       → Located (FieldAnswer (reads_vector T kind) table slot) type_ method (table_start table) r
       → IsPlainVector table slot type_ method r
   vector_read table slot type_ method r h = record {

@@ -1,14 +1,18 @@
 -- What is read of a field or of an item that is a value of a fixed layout.
-use Rattle.std.specs.Prelude.{◌≡◌, ℕ, List, map, Option, None, Result, Ok, IsOkAnd, IsSomeAnd}
-use Rattle.std.specs.Prelude.{MatchOption, ⊤}
+use Rattle.std.specs.Prelude.{◌≡◌, ℕ, ◌*◌, List, map, Option, None, Result, Ok, IsOkAnd, IsSomeAnd}
+use Rattle.std.specs.Prelude.{MatchOption, ⊤, slice_get, Some}
 use Rattle.planus_read.specs.declared.located.Error.{Error}
 use Rattle.planus_read.specs.declared.plain.Plain.{Ghosts as PlainGhosts}
 use Rattle.planus_read.specs.declared.table_reader.Table.{Table}
 use Rattle.planus_read.specs.Clauses.{Answer}
+use Rattle.planus_read.specs.Converted.{Converted}
+use Rattle.planus_read.specs.Items.{item_method, plain_name}
 use Rattle.planus_read.specs.Located.{Located, OrDefault}
 use Rattle.planus_read.specs.Plain.{Shape, plain_reading}
 use Rattle.planus_read.specs.ReadsBack.{PlainReads}
 use Rattle.planus_read.specs.Tables.{Reads, FieldAnswer, table_start}
+use Rattle.planus_view.specs.Indexes.{GetsItem}
+use Rattle.planus_view.specs.VectorView.{count_of, view_of}
 use Rattle.planus_view.specs.declared.vector.SliceView.{SliceView}
 use Rattle.planus_view.specs.declared.vector_of.VectorOf.{VectorOf}
 use Rattle.planus_write.specs.Contents.{Content, item}
@@ -59,9 +63,10 @@ module _ {T : Type 0} {size alignment : ℕ} (shape : Shape T size alignment) wh
           → r ≡ Ok x
       pub left_out : (B : List ℕ) → SlotHolds B table slot None → r ≡ Ok default
 
-module _ {T : Type 0} {kind : PlainGhosts T} where
+-- T is the type of the items of a vector, and R that of what stands for them.
+module _ {T R : Type 0} {kind : PlainGhosts R} where
   -- The vector is that of these values, which stand in B.
-  abbrev pub ArePlain : List ℕ → List T → VectorOf (SliceView T T kind) → Type 0
+  abbrev pub ArePlain : List ℕ → List R → VectorOf (SliceView T R kind) → Type 0
   ArePlain B xs vector = ArePlainItems kind B (map kind.shape.encoded xs) vector
 
   -- What a call returns for the vector in a slot that may be absent: over any bytes the vector of what
@@ -69,10 +74,26 @@ module _ {T : Type 0} {kind : PlainGhosts T} where
   -- vector of the values that it holds.
   pub record IsPlainVector
       (table : Table) (slot : ℕ) (type_ method : List ℕ)
-      (r : Result (Option (VectorOf (SliceView T T kind))) Error) : Type 0 where
+      (r : Result (Option (VectorOf (SliceView T R kind))) Error) : Type 0 where
     pub answer :
         Located (FieldAnswer (reads_vector T kind) table slot) type_ method (table_start table) r
     pub read_back :
-        (B : List ℕ) (xs : List T) → SlotHolds B table slot (holds_plains kind.shape xs)
+        (B : List ℕ) (xs : List R) → SlotHolds B table slot (holds_plains kind.shape xs)
         → IsOkAnd r (λ found. IsSomeAnd found (ArePlain B xs))
     pub left_out : (B : List ℕ) → SlotHolds B table slot None → r ≡ Ok None
+
+-- What such a vector answers for the item at a position: the value that stands there, or the error of
+-- the first thing that is wrong, at the start of the items.
+abbrev pub IsPlainResult :
+    {T : Type 0} {kind : PlainGhosts T} → VectorOf (SliceView (Result T Error) T kind) → ℕ
+    → Result T Error → Type 0
+IsPlainResult {T} {kind} vector i r =
+    Converted (Located (Answer (plain_reading kind.shape (view_of vector).bytes (i * kind.SIZE)))
+    plain_name item_method (view_of vector).start) (λ (e f : Error). f ≡ e) r
+
+-- An item of the vector of some values whose reads may fail is read as the value at its position.
+abbrev pub PlainResultsReadBack : {T : Type 0} → PlainGhosts T → Type 0
+PlainResultsReadBack {T} kind =
+    (B : List ℕ) (xs : List T) (x : T) (vector : VectorOf (SliceView (Result T Error) T kind)) (i : ℕ)
+    (r : Option (Result T Error)) → ArePlain B xs vector → slice_get xs i ≡ Some x
+    → kind.shape.fits x → GetsItem (λ v. count_of v) IsPlainResult vector i r → r ≡ Some (Ok x)

@@ -10,7 +10,7 @@ ghost use Rattle.planus_tables.specs.ReadBack.{ItemsReadBack, ReferencesReadBack
 ghost use Rattle.planus_tables.specs.ReadBack.{AbsentFieldsReadBack};
 ghost use Rattle.planus_tables.specs.ReadKinds.{TextsReadBack, ByteListsReadBack, NumbersReadBack};
 ghost use Rattle.planus_tables.specs.ReadKinds.{SignedReadBack, TruthsReadBack, TablesReadBack};
-ghost use Rattle.planus_tables.specs.ReadPlain.{PlainReadBack, PlainItemsReadBack};
+ghost use Rattle.planus_tables.specs.ReadPlain.{PlainReadBack, PlainItemsReadBack, PlainResultsReadBack};
 ghost use Rattle.planus_tables.specs.ReadUnions.{UnionsReadBack, NewUnionVectorsReadBack};
 ghost use Rattle.planus_tables.specs.ReadUnions.{WrittenUnionVectorsReadBack};
 ghost use Rattle.planus_tables.specs.ReadUnions.{AbsentUnionVectorsReadBack};
@@ -81,10 +81,11 @@ pub fn fields_read_back()
 {}
 
 /// Of a slot that holds a value of a fixed layout, such as a struct, an enum or a float, they return
-/// this value; and so does a read of an item of a vector.
+/// this value; and so does a read of an item of a vector, be it one that may fail.
 pub fn plain_values_read_back<T: Plain>()
     ensures fields { PlainReadBack T.shape }
     ensures items { PlainItemsReadBack T.shape }
+    ensures results { PlainResultsReadBack T.Plain }
 {}
 
 /// Of a slot that refers to a table that stands they return its view, with all its contents.

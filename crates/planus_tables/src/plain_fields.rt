@@ -6,7 +6,7 @@ ghost use Rattle.planus_tables.specs.ReadPlain.{ArePlain, IsPlainField, IsPlainF
 
 use crate::table_ref::TableRef;
 use planus_read::located::Error;
-use planus_read::{Plain, PlainTotal};
+use planus_read::{Plain, PlainTotal, Stride};
 use planus_view::Vector;
 
 /// Returns the field in a slot that has a fixed layout: a number, a truth value, a float, an enum or a
@@ -41,8 +41,8 @@ pub fn plain_field_or<'n, K, T: Plain>(
 }
 
 /// Returns the vector in a slot that refers to a list of values of a fixed layout, or `None` where
-/// the field is absent.
-pub fn plain_vector<'a, 'n, K, T: Plain + 'a>(
+/// the field is absent. `T` is such a value, or a `Result` of one whose read may fail.
+pub fn plain_vector<'a, 'n, K, T: Stride + 'a>(
     view: &TableRef<'a, K>,
     slot: usize,
     type_: &'n str,

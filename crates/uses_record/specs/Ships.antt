@@ -1,5 +1,5 @@
 -- Ships as they are written.
-use Rattle.std.specs.Prelude.{◌≡◌, ℕ, List, [], ◌∷◌, Option}
+use Rattle.std.specs.Prelude.{ℕ, ◌==◌, IsTrue, List, [], ◌∷◌, Option}
 use Rattle.std.specs.Borrow.{Bor}
 use Rattle.std.specs.Int.{w16, w32, to_le_bytes}
 use Rattle.planus_read.specs.Values.{Field, plain, reference}
@@ -38,6 +38,6 @@ CreatesShip {T} name hull cargo =
     then_does
     (then_does (AlwaysWritten (WritesText {T = Text} name))
     (λ name. then_does (PreparesCargo {T = ListOf ℕ} cargo)
-    (λ cargo. then_does (LeftOutWhere (hull ≡ 100) (Answers hull))
+    (λ cargo. then_does (LeftOutWhere (IsTrue (hull == 100)) (Answers hull))
     (λ hull. Answers (ship_fields name cargo hull)))))
     WritesFields

@@ -9,7 +9,7 @@ ghost use Rattle.planus_write.specs.State.{Grows};
 ghost use Rattle.planus_fields.specs.Contents.{holds_if, unless};
 ghost use Rattle.planus_tables.specs.Contents.{WritesContents};
 ghost use Rattle.planus_tables.specs.Holds.{holds_plain, holds_plains};
-ghost use Rattle.planus_tables.specs.ReadPlain.{IsPlainField, IsPlainFieldOr};
+ghost use Rattle.planus_tables.specs.ReadPlain.{IsPlainField, IsPlainFieldOr, IsPlainVector};
 ghost use Rattle.uses_struct.specs.Levels.{level_shape};
 ghost use Rattle.uses_struct.specs.Structs.{fix_shape, reading_shape};
 ghost use Rattle.uses_struct.specs.declared.level.Level.TheVariants.{Mid};
@@ -19,7 +19,7 @@ use crate::level::Level;
 use crate::reading::Reading;
 use planus_read::Result;
 use planus_tables::{
-    OrDefault, TableKind, TableRef, create_table, fields, plain_field, plain_field_or,
+    OrDefault, TableKind, TableRef, create_table, fields, plain_field, plain_field_or, plain_vector,
 };
 use planus_view::Vector;
 use planus_write::{BuildError, Builder, List, Offset, TableWriter};
@@ -73,19 +73,17 @@ impl Probe {
 
     /// Returns the readings, or `None` where there are none. Each is read as a `Result`, since the
     /// number of its level may be no level's.
-    pub fn readings<'a>(
-        probe: &TableRef<'a, Probe>,
-    ) -> Result<Option<Vector<'a, Result<Reading>>>> {
-        probe
-            .table
-            .access::<Vector<'a, Result<Reading>>>(2, "Probe", "readings")
+    pub fn readings<'a>(probe: &TableRef<'a, Probe>) -> Result<Option<Vector<'a, Result<Reading>>>>
+        ensures { IsPlainVector probe.now.table 2 (codes "Probe") (codes "readings") result }
+    {
+        plain_vector(probe, 2, "Probe", "readings")
     }
 
     /// Returns the fixes, or `None` where there are none.
-    pub fn fixes<'a>(probe: &TableRef<'a, Probe>) -> Result<Option<Vector<'a, Result<Fix>>>> {
-        probe
-            .table
-            .access::<Vector<'a, Result<Fix>>>(3, "Probe", "fixes")
+    pub fn fixes<'a>(probe: &TableRef<'a, Probe>) -> Result<Option<Vector<'a, Result<Fix>>>>
+        ensures { IsPlainVector probe.now.table 3 (codes "Probe") (codes "fixes") result }
+    {
+        plain_vector(probe, 3, "Probe", "fixes")
     }
 }
 

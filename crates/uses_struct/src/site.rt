@@ -121,10 +121,12 @@ impl Site {
         plain_field_or(site, 4, USUAL_HEAT, "Site", "heat")
     }
 
-    /// Returns the kinds, or `None` where there are none.
-    pub fn kinds<'a>(site: &TableRef<'a, Site>) -> Result<Option<Vector<'a, Result<Kind>>>> {
-        site.table
-            .access::<Vector<'a, Result<Kind>>>(5, "Site", "kinds")
+    /// Returns the kinds, or `None` where there are none. Each is read as a `Result`, since its number
+    /// may be no kind's.
+    pub fn kinds<'a>(site: &TableRef<'a, Site>) -> Result<Option<Vector<'a, Result<Kind>>>>
+        ensures { IsPlainVector site.now.table 5 (codes "Site") (codes "kinds") result }
+    {
+        plain_vector(site, 5, "Site", "kinds")
     }
 
     /// Returns the leg, or `None` where there is none.

@@ -219,26 +219,24 @@ fn unknown_kinds_are_errors(rt: HostRuntime) {
     );
 }
 
-// Whether this is a value, or an error that a damaged field may have, with the accessor's name.
-fn is_named<T: Drop>(read: Result<T, Error>, method: &str) -> bool {
-    match read {
-        Ok(_) => true,
-        Err(
-            Error {
-                source_location,
-                error_kind,
-            },
-        ) => {
-            source_location.type_ == "Site"
-                && source_location.method == method
-                && matches!(
-                    error_kind,
-                    ErrorKind::InvalidOffset
-                        | ErrorKind::InvalidLength
-                        | ErrorKind::UnknownEnumTag { .. }
-                )
+// Whether this is an error that a damaged field may have, with the accessor's name.
+fn is_named(error: Error, method: &str) -> bool {
+    error.source_location.type_ == "Site"
+        && error.source_location.method == method
+        && matches!(
+            error.error_kind,
+            ErrorKind::InvalidOffset | ErrorKind::InvalidLength | ErrorKind::UnknownEnumTag { .. }
+        )
+}
+
+// Whether a read gives a value or such an error.
+macro_rules! is_answered {
+    ($site:ident, $accessor:ident, $name:literal) => {
+        match Site::$accessor(&$site) {
+            Ok(_) => true,
+            Err(error) => is_named(error, $name),
         }
-    }
+    };
 }
 
 // Whether each accessor of the root, if there is one, answers so.
@@ -247,14 +245,14 @@ fn is_answered(bytes: &[u8]) -> bool {
     let Ok(site) = site else {
         return true;
     };
-    is_named(Site::home(&site), "home")
-        && is_named(Site::track(&site), "track")
-        && is_named(Site::fix(&site), "fix")
-        && is_named(Site::kind(&site), "kind")
-        && is_named(Site::heat(&site), "heat")
-        && is_named(Site::kinds(&site), "kinds")
-        && is_named(Site::leg(&site), "leg")
-        && is_named(Site::features(&site), "features")
+    is_answered!(site, home, "home")
+        && is_answered!(site, track, "track")
+        && is_answered!(site, fix, "fix")
+        && is_answered!(site, kind, "kind")
+        && is_answered!(site, heat, "heat")
+        && is_answered!(site, kinds, "kinds")
+        && is_answered!(site, leg, "leg")
+        && is_answered!(site, features, "features")
 }
 
 // Whether a site of which one byte is another is answered so, and one that is cut off there.
