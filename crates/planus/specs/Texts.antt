@@ -1,5 +1,8 @@
--- The texts of what is wrong with a step.
-use Rattle.std.specs.Prelude.{ℕ, List, codes}
+-- The texts of why a replay stops.
+use Rattle.std.specs.Prelude.{ℕ, List, codes, ◌++◌}
+use Rattle.std.specs.Fmt.{decimal}
+use Rattle.planus.specs.declared.faults.ReplayError.{ReplayError}
+use Rattle.planus.specs.declared.faults.ReplayError.TheVariants.{OutOfMemory, TooLarge, BadStep}
 use Rattle.planus.specs.declared.faults.Why.{Why}
 use Rattle.planus.specs.declared.faults.Why.TheVariants.{WidthUnknown, ValueTooBig}
 use Rattle.planus.specs.declared.faults.Why.TheVariants.{NoSuchStep, WrongKind, ZeroTag}
@@ -15,3 +18,9 @@ why_text ZeroTag = codes "zero tag"
 why_text SlotTooBig = codes "slot too big"
 why_text SlotTwice = codes "slot twice"
 why_text RisingAlignment = codes "rising alignment"
+
+-- the words of why a replay stopped, with the number of a bad step
+abbrev pub replay_error_text : ReplayError → List ℕ
+replay_error_text OutOfMemory = codes "out of memory"
+replay_error_text TooLarge = codes "too large"
+replay_error_text (BadStep step why) = codes "step " ++ (decimal step ++ (codes ": " ++ why_text why))

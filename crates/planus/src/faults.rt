@@ -58,6 +58,21 @@ pub enum ReplayError {
     BadStep { step: usize, why: Why },
 }
 
+impl fmt::Display for ReplayError {
+    ghost use Rattle.planus.specs.Texts.{replay_error_text};
+    ghost use Rattle.std.specs.Prelude.{Some};
+
+    ghost output = { λ error. Some (replay_error_text error) };
+
+    fn fmt<W: fmt::Write>(&self, f: &mut fmt::Formatter<W>) -> fmt::Result {
+        match self {
+            ReplayError::OutOfMemory => write!(f, "out of memory"),
+            ReplayError::TooLarge => write!(f, "too large"),
+            ReplayError::BadStep { step, why } => write!(f, "step {step}: {why}"),
+        }
+    }
+}
+
 impl From<BuildError> for ReplayError {
     ghost use Rattle.std.specs.Prelude.{◌≡◌};
     ghost use Rattle.planus.specs.Replays.{replay_error};

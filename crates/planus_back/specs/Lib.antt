@@ -16,3 +16,4 @@ pub mod Caches
 pub mod Handing
 pub mod Cells
 pub mod Buckets
+pub mod Texts

@@ -6,6 +6,7 @@ ghost use Rattle.planus_back.specs.Padding.{greatest_place, promise_of, IsLeast,
 ghost use Rattle.planus_back.specs.Requests.{LeavesSome, DescribesThose, DescribesAll};
 ghost use Rattle.planus_back.specs.Requests.{PassesGreatestPlace};
 
+use std::fmt;
 use std::marker::Model;
 
 /// No part lies further from the end, in bytes: the greatest signed number of 4 bytes.
@@ -14,6 +15,17 @@ const GREATEST_PLACE: usize = 2147483647;
 /// A part would lie too far from the end of the buffer: its place would be above 2147483647.
 #[derive(Clone, Copy, Debug, PartialEq, Eq)]
 pub struct TooLarge;
+
+impl fmt::Display for TooLarge {
+    ghost use Rattle.planus_back.specs.Texts.{too_large_text};
+    ghost use Rattle.std.specs.Prelude.{Some};
+
+    ghost output = { λ _. Some too_large_text };
+
+    fn fmt<W: fmt::Write>(&self, f: &mut fmt::Formatter<W>) -> fmt::Result {
+        write!(f, "too large")
+    }
+}
 
 /// The finished lengths at which every part placed so far stands aligned.
 ///

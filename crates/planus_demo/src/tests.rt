@@ -2,6 +2,7 @@
 
 mod dumper;
 mod dumps;
+mod errors;
 mod failing_ends;
 mod long_scripts;
 mod monster;
@@ -21,6 +22,7 @@ use planus_script::dump_run::run_dump;
 use planus_script::run::{RunError, run, status};
 use planus_script::script::{Script, parse};
 use std::alloc::Global;
+use std::fmt::Display;
 use std::io::{Read, Write};
 use std::process::Abort;
 
@@ -98,9 +100,9 @@ fn gives<T: PartialEq + Drop>(read: planus::Result<T>, want: T) -> bool {
     }
 }
 
-// Whether an error prints this text; no where memory for it is refused.
-fn error_prints(alloc: Global, error: &Error, text: &str) -> bool {
-    match format!(in alloc; "{error}") {
+// Whether a value prints this text; no where memory for it is refused.
+fn prints_as<T: Display>(alloc: Global, value: &T, text: &str) -> bool {
+    match format!(in alloc; "{value}") {
         Ok(shown) => shown.as_str() == text,
         Err(_) => false,
     }
@@ -110,7 +112,7 @@ fn error_prints(alloc: Global, error: &Error, text: &str) -> bool {
 fn fails_printing<T: Drop>(alloc: Global, answer: planus::Result<T>, text: &str) -> bool {
     match answer {
         Ok(_) => false,
-        Err(error) => error_prints(alloc, &error, text),
+        Err(error) => prints_as(alloc, &error, text),
     }
 }
 

@@ -12,3 +12,4 @@ pub mod Describes
 pub mod Laws
 pub mod Shapes
 pub mod Runs
+pub mod Texts

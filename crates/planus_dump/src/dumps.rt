@@ -7,6 +7,7 @@ use crate::schemas::Schema;
 use crate::walk::dump_table;
 use planus::{Place, SliceWithStartOffset, TableRead};
 use std::alloc::{AllocError, Global};
+use std::fmt;
 
 /// The greatest depth of a table, the root having depth 1.
 const GREATEST_DEPTH: usize = 64;
@@ -24,6 +25,23 @@ pub enum DumpError {
     TooDeep,
     /// There are more lines than the budget.
     TooManyLines,
+}
+
+impl fmt::Display for DumpError {
+    ghost use Rattle.planus_dump.specs.Texts.{dump_error_text};
+    ghost use Rattle.std.specs.Prelude.{Some};
+
+    ghost output = { λ error. Some (dump_error_text error) };
+
+    fn fmt<W: fmt::Write>(&self, f: &mut fmt::Formatter<W>) -> fmt::Result {
+        let text = match self {
+            DumpError::OutOfMemory => "out of memory",
+            DumpError::BadSchema => "bad schema",
+            DumpError::TooDeep => "too deep",
+            DumpError::TooManyLines => "too many lines",
+        };
+        write!(f, "{text}")
+    }
 }
 
 impl From<AllocError> for DumpError {

@@ -8,6 +8,7 @@ use crate::dumps::{DumpError, dump};
 use crate::schemas::Schema;
 use planus::{Caches, ReplayError, Step, replay};
 use std::alloc::Global;
+use std::fmt;
 
 /// Why steps have no dump.
 #[derive(Clone, Copy, Debug, PartialEq, Eq)]
@@ -16,6 +17,20 @@ pub enum DumpRunError {
     Replay(ReplayError),
     /// What they finish has no dump.
     Dump(DumpError),
+}
+
+impl fmt::Display for DumpRunError {
+    ghost use Rattle.planus_dump.specs.Texts.{dump_run_error_text};
+    ghost use Rattle.std.specs.Prelude.{Some};
+
+    ghost output = { λ error. Some (dump_run_error_text error) };
+
+    fn fmt<W: fmt::Write>(&self, f: &mut fmt::Formatter<W>) -> fmt::Result {
+        match self {
+            DumpRunError::Replay(error) => write!(f, "{error}"),
+            DumpRunError::Dump(error) => write!(f, "{error}"),
+        }
+    }
 }
 
 /// Runs steps, and returns the lines of what the first of their finishes gave, or `None` where they

@@ -13,6 +13,7 @@ use crate::print::answer_text;
 use crate::script::{ParseError, parse};
 use planus::{Caches, replay};
 use std::alloc::{AllocError, Global};
+use std::fmt;
 use std::io::{ErrorKind, Read, Write};
 
 /// No script is longer, in bytes.
@@ -30,6 +31,22 @@ pub enum RunError {
     Read,
     /// Writing failed.
     Write,
+}
+
+impl fmt::Display for RunError {
+    ghost use Rattle.planus_script.specs.Texts.{run_error_text};
+    ghost use Rattle.std.specs.Prelude.{Some};
+
+    ghost output = { λ error. Some (run_error_text error) };
+
+    fn fmt<W: fmt::Write>(&self, f: &mut fmt::Formatter<W>) -> fmt::Result {
+        let text = match self {
+            RunError::OutOfMemory => "out of memory",
+            RunError::Read => "reading failed",
+            RunError::Write => "writing failed",
+        };
+        write!(f, "{text}")
+    }
 }
 
 impl From<AllocError> for RunError {

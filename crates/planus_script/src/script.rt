@@ -78,6 +78,20 @@ pub enum ParseError {
     Line { number: usize, fault: ReadFault },
 }
 
+impl fmt::Display for ParseError {
+    ghost use Rattle.planus_script.specs.Texts.{parse_error_text};
+    ghost use Rattle.std.specs.Prelude.{Some};
+
+    ghost output = { λ error. Some (parse_error_text error) };
+
+    fn fmt<W: fmt::Write>(&self, f: &mut fmt::Formatter<W>) -> fmt::Result {
+        match self {
+            ParseError::OutOfMemory => write!(f, "out of memory"),
+            ParseError::Line { number, fault } => write!(f, "line {number}: {fault}"),
+        }
+    }
+}
+
 impl From<AllocError> for ParseError {
     ghost use Rattle.std.specs.Prelude.{◌≡◌};
     ghost use Rattle.planus_script.specs.declared.script.ParseError.TheVariants.{OutOfMemory};

@@ -14,3 +14,4 @@ pub mod Splits
 pub mod Copies
 pub mod Laws
 pub mod ReadBack
+pub mod Texts

@@ -8,6 +8,7 @@ use crate::items::Items;
 use crate::view::ReadView;
 use planus_read::located::Error;
 use std::alloc::{AllocError, Global};
+use std::fmt;
 
 /// Why items can't be copied, with names of any lifetime in the error of a read. With literal names
 /// it is [`crate::CopyError`].
@@ -17,6 +18,20 @@ pub enum CopyError<'n> {
     OutOfMemory,
     /// An item can't be read.
     Read(Error<'n>),
+}
+
+impl<'n> fmt::Display for CopyError<'n> {
+    ghost use Rattle.planus_view.specs.Texts.{copy_error_text};
+    ghost use Rattle.std.specs.Prelude.{Some};
+
+    ghost output = { λ error. Some (copy_error_text error) };
+
+    fn fmt<W: fmt::Write>(&self, f: &mut fmt::Formatter<W>) -> fmt::Result {
+        match self {
+            CopyError::OutOfMemory => write!(f, "out of memory"),
+            CopyError::Read(error) => write!(f, "{error}"),
+        }
+    }
 }
 
 impl<'n> From<AllocError> for CopyError<'n> {

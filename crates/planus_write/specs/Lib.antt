@@ -21,3 +21,4 @@ pub mod Contents
 pub mod FieldItems
 pub mod ListContents
 pub mod lemmas
+pub mod Texts

@@ -2,6 +2,7 @@
 
 use planus_back::TooLarge;
 use std::alloc::AllocError;
+use std::fmt;
 
 /// Why a write is refused. A refused placement leaves bytes, promises and what the caches find as
 /// they were; what was written before it stays.
@@ -11,6 +12,21 @@ pub enum BuildError {
     OutOfMemory,
     /// The part would begin more than 2147483647 bytes from the end. No memory was asked for.
     TooLarge,
+}
+
+impl fmt::Display for BuildError {
+    ghost use Rattle.planus_write.specs.Texts.{build_error_text};
+    ghost use Rattle.std.specs.Prelude.{Some};
+
+    ghost output = { λ error. Some (build_error_text error) };
+
+    fn fmt<W: fmt::Write>(&self, f: &mut fmt::Formatter<W>) -> fmt::Result {
+        let text = match self {
+            BuildError::OutOfMemory => "out of memory",
+            BuildError::TooLarge => "too large",
+        };
+        write!(f, "{text}")
+    }
 }
 
 impl From<AllocError> for BuildError {

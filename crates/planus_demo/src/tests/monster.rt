@@ -4,7 +4,7 @@ ghost use Rattle.std.specs.Prelude.{◌≤◌, length, IsTrue};
 
 use super::settings::setting;
 use super::weapon::{WeaponRow, is_weapon, item_is, weapon};
-use super::{error_prints, fails_printing, finish_with, gives, in_builder};
+use super::{fails_printing, finish_with, gives, in_builder, prints_as};
 use crate::equipment::Equipment;
 use crate::equipment_ref::EquipmentRef;
 use crate::monster::{Monster, MonsterRef};
@@ -243,7 +243,7 @@ fn tag_is_unknown(alloc: Global, bytes: &[u8]) -> bool {
     match orc.equipped() {
         Ok(_) => false,
         Err(e) => {
-            let prints = error_prints(alloc, &e, text);
+            let prints = prints_as(alloc, &e, text);
             prints && matches!(e.error_kind, ErrorKind::UnknownUnionTag { tag: 2 })
         }
     }
