@@ -203,6 +203,46 @@ impl BackVec {
         self.start = start;
     }
 
+    /// Puts two parts and a slice in front at once. The first part is the bytes of a slice, with
+    /// `first_padding` zeros behind them. The second lies in front of that: `n` bytes, all of which
+    /// the writer writes, over whatever was there, with `padding` zeros behind them. The bytes of
+    /// `front` are the foremost. There is room for all of them. The writer gets `place`, as in
+    /// [`BackVec::put_overwritten`].
+    #[inline(always)]
+    pub fn put_two_parts<W: Overwrite>(
+        &mut self,
+        first_padding: usize,
+        first: &[u8],
+        padding: usize,
+        place: u32,
+        n: usize,
+        writer: &W,
+        front: &[u8],
+    )
+        requires room { first_padding + length first.now + padding + n + length front.now
+            ≤ self.old.room }
+        requires fits { W.fits writer.now place n }
+        ensures bytes { self.new.bytes ≡ front.now ++ (W.leaves writer.now place n
+            ++ (replicate padding 0 ++ (first.now ++ (replicate first_padding 0
+            ++ self.old.bytes)))) }
+        ensures count { length (W.leaves writer.now place n) ≡ n }
+        ensures room { self.new.room
+            + (first_padding + length first.now + padding + n + length front.now)
+            ≡ self.old.room }
+    {
+        let first_end = self.start - first_padding;
+        let first_at = first_end - first.len();
+        let second_end = first_at - padding;
+        let second_at = second_end - n;
+        let start = second_at - front.len();
+        self.block.put_zeros(first_end, first_padding);
+        self.block.put_slice(first_at, first);
+        self.block.put_zeros(second_end, padding);
+        self.block.put_overwritten(second_at, place, n, writer);
+        self.block.put_slice(start, front);
+        self.start = start;
+    }
+
     /// Puts the bytes of the slice in front. A refusal of memory changes nothing.
     #[inline]
     pub fn extend_from_slice(&mut self, bytes: &[u8]) -> Result<(), AllocError>

@@ -7,6 +7,7 @@ pub mod PreparedItems
 pub mod WrittenLists
 pub mod WrittenUnions
 pub mod ToldTables
+pub mod WholeTables
 pub mod WrittenTables
 pub mod WrittenBodies
 pub mod InBuilder

@@ -199,7 +199,7 @@ stands_within : (key_in : List ℕ → Option (List ℕ)) (bytes : List ℕ) (di
 stands_within key_in bytes distance key h = grind (arith, leb_tells, h)
 
 -- what stands at the front stands at the distance of all bytes
-at_its_place : (key_in : List ℕ → Option (List ℕ)) (bytes : List ℕ) (place : ℕ) (key : List ℕ) → length bytes ≡ place → key_in bytes ≡ Some key → key_at key_in bytes place ≡ Some key
+pub at_its_place : (key_in : List ℕ → Option (List ℕ)) (bytes : List ℕ) (place : ℕ) (key : List ℕ) → length bytes ≡ place → key_in bytes ≡ Some key → key_at key_in bytes place ≡ Some key
 at_its_place key_in bytes place key long h =
     let whole : length bytes - place ≡ 0 = omega (arith, long) in
     let within : place ≤ length bytes = omega (arith, long) in

@@ -10,6 +10,7 @@ pub mod State
 pub mod InBuilder
 pub mod Sharing
 pub mod Placing
+pub mod WholeTables
 pub mod ObjectWriting
 pub mod View
 pub mod Preparing

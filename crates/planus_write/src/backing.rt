@@ -1,7 +1,10 @@
 //! The bytes of a builder, and the promises made of them.
-ghost use Rattle.std.specs.Prelude.{◌≡◌, ◌+◌, ◌≤◌, ◌^◌, [], ◌++◌, List, length, IfOk};
+ghost use Rattle.std.specs.Prelude.{◌≡◌, ◌+◌, ◌≤◌, ◌^◌, [], ◌++◌, List, length, IfOk, ℕ};
+ghost use Rattle.std.specs.Prelude.{pos, ◌-ℤ◌};
+ghost use Rattle.std.specs.Int.{w32, to_le_bytes, cast_unsigned};
 ghost use Rattle.planus_back.specs.Promises.{Promise, IsPowerOfTwo, greatest_alignment};
 ghost use Rattle.planus_back.specs.Padding.{greatest_place};
+ghost use Rattle.planus_write.specs.Backed.{Backed, PlansPart};
 
 use crate::errors::BuildError;
 use planus_back::{BackVec, Fill, Overwrite, Promises};
@@ -41,8 +44,10 @@ impl Model for Backing {
 }
 
 impl Backing {
-    ghost use Rattle.planus_write.specs.Backed.{DescribedBy, PutsBytes, PlansPart, Reserves};
+    ghost use Rattle.planus_write.specs.Backed.{DescribedBy, PutsBytes, Reserves};
     ghost use Rattle.planus_write.specs.Backed.{Pads, Begins};
+    ghost use Rattle.planus_write.specs.Parts.{filled_part};
+    ghost use Rattle.planus_write.specs.WholeTables.{PutsPartsIf};
 
     // No bytes, and room for so many.
     pub(crate) fn with_capacity(alloc: Global, capacity: usize) -> Result<Backing, AllocError>
@@ -101,13 +106,7 @@ impl Backing {
         requires bound { mask + 1 ≤ 2 ^ 30 }
         ensures { PlansPart size (mask + 1) self.now result }
     {
-        let len = self.inner.len();
-        let (promises, padding) = self.promises.request(len, size, mask)?;
-        Ok(Plan {
-            promises,
-            padding,
-            place: (len + padding + size) as u32,
-        })
+        plan_after(self.promises, self.inner.len(), size, mask)
     }
 
     // Room for `n` more bytes, in memory that is asked for where they don't fit. Nothing else is
@@ -201,6 +200,49 @@ impl Backing {
         self.inner.put_overwritten(place, size, writer);
     }
 
+    // A vtable, the body of a table, which the writer writes, and its word, all at once, into room
+    // that there is. Answers whether they were put: nothing is changed where one of them is too
+    // large or where they don't fit the room.
+    #[inline(always)]
+    pub(crate) fn put_table<W: Overwrite>(
+        &mut self,
+        vtable: &[u8],
+        size: usize,
+        mask: usize,
+        writer: &W,
+    ) -> bool
+        requires power { IsPowerOfTwo (mask + 1) }
+        requires bound { mask + 1 ≤ 2 ^ 30 }
+        requires fits { (place : ℕ) → length self.old.bytes + size ≤ place
+            → place ≤ greatest_place → W.fits writer.now place size }
+        ensures { PutsPartsIf result vtable.now (filled_part size (mask + 1)
+            (W.leaves writer.now)) self.old self.new }
+    {
+        let Ok(first) = self.plan_part(vtable.len(), 1) else {
+            return false;
+        };
+        let Ok(body) = plan_after(first.promises, first.place as usize, size, mask) else {
+            return false;
+        };
+        let Ok(word) = plan_after(body.promises, body.place as usize, 4, 0) else {
+            return false;
+        };
+        if word.place as usize - self.len() > self.room() {
+            return false;
+        }
+        self.inner.put_two_parts(
+            first.padding,
+            vtable,
+            body.padding,
+            body.place,
+            size,
+            writer,
+            &word_between(first.place, word.place),
+        );
+        self.promises = word.promises;
+        true
+    }
+
     // The allocator of the bytes.
     pub(crate) fn alloc(&self) -> Global {
         self.inner.alloc()
@@ -217,4 +259,38 @@ impl Backing {
     {
         self.promises.mask().max(WORD_MASK)
     }
+}
+
+// The place of a part of `size` bytes and the padding behind it, in front of `len` bytes of which
+// that was promised, if it isn't too large.
+#[inline(always)]
+fn plan_after(promises: Promises, len: usize, size: usize, mask: usize) -> Result<Plan, BuildError>
+    requires power { IsPowerOfTwo (mask + 1) }
+    requires bound { mask + 1 ≤ 2 ^ 30 }
+    requires small { len ≤ greatest_place }
+    ensures planned { (backed : Backed) → length backed.bytes ≡ len
+        → backed.delayed ≡ promises.delayed → backed.mask ≡ promises.mask
+        → PlansPart size (mask + 1) backed result }
+    ensures place { IfOk result (λ plan. plan.place ≡ len + plan.padding + size) }
+    ensures fits { IfOk result (λ plan. plan.place ≤ greatest_place) }
+    ensures below { IfOk result (λ plan. plan.padding ≤ mask) }
+{
+    let (promises, padding) = promises.request(len, size, mask)?;
+    Ok(Plan {
+        promises,
+        padding,
+        place: (len + padding + size) as u32,
+    })
+}
+
+// The word of a table at a distance from the end, whose vtable is at another one.
+#[inline]
+pub(crate) fn word_between(vtable: u32, table: u32) -> [u8; 4]
+    requires vtable { vtable ≤ greatest_place }
+    requires table { table ≤ greatest_place }
+    ensures { result ≡ to_le_bytes w32 (cast_unsigned w32 (pos vtable -ℤ pos table)) }
+{
+    let vtable = vtable as i32;
+    let table = table as i32;
+    (vtable - table).to_le_bytes()
 }

@@ -1,14 +1,12 @@
 //! The builder.
 ghost use Rattle.std.specs.Prelude.{◌≡◌, ◌+◌, ◌≤◌, ◌^◌, [], length, IsTrue, ◌↔◌, IfOk, IfErr, ℕ};
 ghost use Rattle.std.specs.Prelude.{Some};
-ghost use Rattle.std.specs.Prelude.{pos, ◌-ℤ◌};
-ghost use Rattle.std.specs.Int.{w32, to_le_bytes, cast_unsigned};
 ghost use Rattle.planus_back.specs.Promises.{IsPowerOfTwo};
 ghost use Rattle.planus_back.specs.Padding.{greatest_place};
 ghost use Rattle.planus_back.specs.CacheKeys.{vtable_in};
 ghost use Rattle.planus_write.specs.Parts.{identifier_bytes};
 
-use crate::backing::{Backing, WORD_MASK};
+use crate::backing::{Backing, WORD_MASK, word_between};
 use crate::byte_lists::{ByteItems, ByteList, Copied};
 use crate::caches::Caches;
 use crate::errors::BuildError;
@@ -61,6 +59,7 @@ impl Builder {
     ghost use Rattle.planus_write.specs.InBuilder.{IsIn};
     ghost use Rattle.planus_write.specs.View.{switches_of};
     ghost use Rattle.planus_write.specs.Placing.{WritesEntry, WritesPart};
+    ghost use Rattle.planus_write.specs.WholeTables.{PutsTableIf};
     ghost use Rattle.planus_write.specs.Preparing.{WritesText, WritesByteList};
     ghost use Rattle.planus_write.specs.Finishing.{EndsAs, FinishGives, FinishLeaves, WritesRoot};
     ghost use Rattle.planus_write.specs.Finishing.{SizedFinishGives, SizedFinishLeaves};
@@ -267,6 +266,27 @@ impl Builder {
         let place = self.backing.make_room(4, 0)?;
         self.backing.put(&word_between(vtable, place));
         Ok(place)
+    }
+
+    // Puts the three parts of a table down at once, where equal vtables aren't written once and
+    // there is room for all of it. Answers whether it did: else nothing is changed.
+    #[inline(always)]
+    pub(crate) fn put_table<W: Overwrite>(
+        &mut self,
+        vtable: &[u8],
+        size: usize,
+        mask: usize,
+        writer: &W,
+    ) -> bool
+        requires vtable { vtable_in vtable.now ≡ Some vtable.now }
+        requires power { IsPowerOfTwo (mask + 1) }
+        requires bound { mask + 1 ≤ 2 ^ 30 }
+        requires fits { (place : ℕ) → length self.old.bytes + size ≤ place
+            → place ≤ greatest_place → W.fits writer.now place size }
+        ensures { PutsTableIf result vtable.now (filled_part size (mask + 1)
+            (W.leaves writer.now)) self.old self.new }
+    {
+        !self.vtables.is_on() && self.backing.put_table(vtable, size, mask, writer)
     }
 
     // The allocator of the bytes.
@@ -479,15 +499,4 @@ fn identifier_slice(identifier: &Option<[u8; 4]>) -> &[u8]
         None => &[],
         Some(bytes) => bytes,
     }
-}
-
-// The word of a table at a distance from the end, whose vtable is at another one.
-fn word_between(vtable: u32, table: u32) -> [u8; 4]
-    requires vtable { vtable ≤ greatest_place }
-    requires table { table ≤ greatest_place }
-    ensures { result ≡ to_le_bytes w32 (cast_unsigned w32 (pos vtable -ℤ pos table)) }
-{
-    let vtable = vtable as i32;
-    let table = table as i32;
-    (vtable - table).to_le_bytes()
 }

@@ -48,6 +48,14 @@ impl<C: GetCacheKey> Sharing<C> {
         })
     }
 
+    // Whether equal contents are written once.
+    #[inline]
+    pub(crate) fn is_on(&self) -> bool
+        ensures { result ≡ self.now.on }
+    {
+        self.on
+    }
+
     // Where equal contents are found, if they ever are.
     #[inline]
     fn bucket_of<L: ByteItems>(&self, contents: &L) -> Option<Bucket>

@@ -147,8 +147,13 @@ impl<const N: usize> TableWriter<N> {
         } = self;
         put_pair(&mut vtable, 0, vtable_size as u16);
         put_pair(&mut vtable, 2, object_size as u16);
-        let place = builder.write_vtable(&vtable[..vtable_size])?;
-        builder.write_over(object_size - 4, mask, &Body { filler })?;
+        let body = Body { filler };
+        let vtable = &vtable[..vtable_size];
+        if builder.put_table(vtable, object_size - 4, mask, &body) {
+            return Ok(());
+        }
+        let place = builder.write_vtable(vtable)?;
+        builder.write_over(object_size - 4, mask, &body)?;
         builder.write_word(place)?;
         Ok(())
     }
