@@ -187,6 +187,24 @@ impl BackVec {
         self.start = start;
     }
 
+    /// Puts `padding` zeros in front, and in front of them `n` bytes, which the filler writes over
+    /// zeros. There is room for both. The filler gets `place`, as in [`BackVec::extend_write`].
+    #[inline]
+    pub fn put_filled_padded<F: Fill>(&mut self, padding: usize, place: u32, n: usize, filler: &F)
+        requires room { padding + n ≤ self.old.room }
+        requires fits { F.fits filler.now place n }
+        ensures bytes { self.new.bytes
+            ≡ F.leaves filler.now place n ++ (replicate padding 0 ++ self.old.bytes) }
+        ensures count { length (F.leaves filler.now place n) ≡ n }
+        ensures room { self.new.room + (padding + n) ≡ self.old.room }
+    {
+        let end = self.start - padding;
+        let start = end - n;
+        self.block.put_zeros(end, padding);
+        self.block.put_filled(start, place, n, filler);
+        self.start = start;
+    }
+
     /// Puts `n` bytes in front, all of which the writer writes, over whatever was there. There is
     /// room for them. The writer gets `place`: the distance in bytes from the end of the
     /// buffer to the first of them.

@@ -17,7 +17,7 @@ use std_alloc::room::may_hold;
 const AHEAD: usize = 256;
 
 /// What zeros are copied from.
-const ZEROS: [u8; 256] = [0; 256];
+const ZEROS: [u8; 4096] = [0; 4096];
 
 /// A block of places. Who writes to it knows from which place on each holds a byte.
 pub struct Block {

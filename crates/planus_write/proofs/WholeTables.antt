@@ -59,7 +59,7 @@ module _ (vtable : List ℕ) (body : Part) (old new : Backed) (first second thir
     (second_planned : PlansBehind first body.size body.alignment second) (third_planned : PlansBehind second 4 1 third)
     (count : length (body.bytes_at second.place) ≡ body.size) (word : List ℕ)
     (word_is : word ≡ to_le_bytes w32 (cast_unsigned w32 (pos first.place -ℤ pos third.place)))
-    (within : third.place - length old.bytes ≤ old.room)
+    (within : first.padding + length vtable + second.padding + body.size + 4 ≤ old.room)
     (bytes : new.bytes ≡ word ++ (body.bytes_at second.place ++ (replicate second.padding 0 ++ (vtable ++ (replicate first.padding 0 ++ old.bytes)))))
     (room : new.room + (first.padding + length vtable + second.padding + body.size + length word) ≡ old.room)
     (delayed : new.delayed ≡ third.promises.delayed) (mask : new.mask ≡ third.promises.mask) where
@@ -87,9 +87,6 @@ module _ (vtable : List ℕ) (body : Part) (old new : Backed) (first second thir
   none : third.padding ≡ 0
   none = omega (arith, third_plans.below)
 
-  whole : third.place ≡ length old.bytes + (first.padding + length vtable + second.padding + body.size + 4)
-  whole = omega (arith, first_planned.is_place, one_long, second_plans.is_place, two_long, third_plans.is_place, none)
-
   same : three ≡ new
   same =
       let rest : List ℕ = body.bytes_at second.place ++ (replicate second.padding 0 ++ (vtable ++ (replicate first.padding 0 ++ old.bytes))) in
@@ -101,12 +98,12 @@ module _ (vtable : List ℕ) (body : Part) (old new : Backed) (first second thir
   puts_parts = record {
     vtable_at = first.place;
     first = one;
-    vtable_put = planned_put (vtable_part vtable) old first first_planned refl (omega (arith, within, whole));
+    vtable_put = planned_put (vtable_part vtable) old first first_planned refl (omega (arith, within));
     body_at = second.place;
     second = two;
-    body_put = planned_put body one second second_plans count (omega (arith, within, whole));
+    body_put = planned_put body one second second_plans count (omega (arith, within));
     table_at = third.place;
-    word_put = rw (← same) (planned_put (word_part first.place) two third third_plans refl (omega (arith, within, whole, count, none)));
+    word_put = rw (← same) (planned_put (word_part first.place) two third third_plans refl (omega (arith, within, count, none)));
   }
 
 -- where equal vtables aren't written once, parts that are put are the entries of a table, put down

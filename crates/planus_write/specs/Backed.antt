@@ -103,3 +103,10 @@ Reserves n old (Err error) new = (error ≡ OutOfMemory) × (new ≡ old) × (ol
 abbrev pub Begins : ℕ → ℕ → Backed → Result ℕ BuildError → Backed → Type 0
 Begins size alignment old (Ok place) new = MakesRoom size alignment old place new
 Begins size alignment old (Err error) new = (new ≡ old) × LacksRoom size alignment old error
+
+-- A part of that size and alignment was planned, and room was made for it and the padding behind
+-- it, or it was refused.
+abbrev pub PlansRoom : ℕ → ℕ → Backed → Result Plan BuildError → Backed → Type 0
+PlansRoom size alignment old (Ok plan) new =
+    Plans size alignment old plan × Enlarges (plan.padding + size) old new
+PlansRoom size alignment old (Err error) new = (new ≡ old) × LacksRoom size alignment old error

@@ -47,6 +47,7 @@ impl Backing {
     ghost use Rattle.planus_write.specs.Backed.{DescribedBy, PutsBytes, Reserves};
     ghost use Rattle.planus_write.specs.Backed.{Pads, Begins};
     ghost use Rattle.planus_write.specs.Parts.{filled_part};
+    ghost use Rattle.planus_write.specs.Backed.{PlansRoom};
     ghost use Rattle.planus_write.specs.WholeTables.{PutsPartsIf};
 
     // No bytes, and room for so many.
@@ -130,6 +131,18 @@ impl Backing {
         self.promises = plan.promises;
     }
 
+    // The plan of a part of `size` bytes, and room for it and the padding behind it.
+    #[inline]
+    pub(crate) fn plan_room(&mut self, size: usize, mask: usize) -> Result<Plan, BuildError>
+        requires power { IsPowerOfTwo (mask + 1) }
+        requires bound { mask + 1 ≤ 2 ^ 30 }
+        ensures { PlansRoom size (mask + 1) self.old result self.new }
+    {
+        let plan = self.plan_part(size, mask)?;
+        self.reserve(plan.padding + size)?;
+        Ok(plan)
+    }
+
     // Room for a part of `size` bytes, and the padding behind it. Returns the part's place.
     #[inline]
     pub(crate) fn make_room(&mut self, size: usize, mask: usize) -> Result<u32, BuildError>
@@ -137,10 +150,25 @@ impl Backing {
         requires bound { mask + 1 ≤ 2 ^ 30 }
         ensures { Begins size (mask + 1) self.old result self.new }
     {
-        let plan = self.plan_part(size, mask)?;
-        self.reserve(plan.padding + size)?;
+        let plan = self.plan_room(size, mask)?;
         self.pad(&plan);
         Ok(plan.place)
+    }
+
+    // The filler's bytes as a part that is planned, and the padding behind it, for which there is
+    // room.
+    #[inline]
+    pub(crate) fn put_planned<F: Fill>(&mut self, plan: &Plan, size: usize, filler: &F)
+        requires room { plan.now.padding + size ≤ self.old.room }
+        requires within { size + (plan.now.padding + length self.old.bytes) ≤ greatest_place }
+        requires fits { F.fits filler.now plan.now.place size }
+        ensures put { (padded : Backed) × Pads plan.now self.old padded
+            × PutsBytes (F.leaves filler.now plan.now.place size) padded self.new }
+        ensures count { length (F.leaves filler.now plan.now.place size) ≡ size }
+    {
+        self.inner
+            .put_filled_padded(plan.padding, plan.place, size, filler);
+        self.promises = plan.promises;
     }
 
     // Bytes for which there is room.
@@ -174,18 +202,6 @@ impl Backing {
         ensures { PutsBytes (first.now ++ second.now ++ third.now) self.old self.new }
     {
         self.inner.put_three(first, second, third);
-    }
-
-    // The filler's bytes, for which there is room.
-    #[inline]
-    pub(crate) fn put_filled<F: Fill>(&mut self, place: u32, size: usize, filler: &F)
-        requires room { size ≤ self.old.room }
-        requires within { size + length self.old.bytes ≤ greatest_place }
-        requires fits { F.fits filler.now place size }
-        ensures put { PutsBytes (F.leaves filler.now place size) self.old self.new }
-        ensures count { length (F.leaves filler.now place size) ≡ size }
-    {
-        self.inner.put_filled(place, size, filler);
     }
 
     // The writer's bytes, for which there is room.
@@ -227,7 +243,7 @@ impl Backing {
         let Ok(word) = plan_after(body.promises, body.place as usize, 4, 0) else {
             return false;
         };
-        if word.place as usize - self.len() > self.room() {
+        if first.padding + vtable.len() + body.padding + size + 4 > self.room() {
             return false;
         }
         self.inner.put_two_parts(
@@ -273,7 +289,6 @@ fn plan_after(promises: Promises, len: usize, size: usize, mask: usize) -> Resul
         → PlansPart size (mask + 1) backed result }
     ensures place { IfOk result (λ plan. plan.place ≡ len + plan.padding + size) }
     ensures fits { IfOk result (λ plan. plan.place ≤ greatest_place) }
-    ensures below { IfOk result (λ plan. plan.padding ≤ mask) }
 {
     let (promises, padding) = promises.request(len, size, mask)?;
     Ok(Plan {

@@ -319,8 +319,8 @@ impl Builder {
         ensures { WritesPart (unshared_entry (filled_part size (alignment_mask + 1)
             (F.leaves filler.now))) self.old result self.new }
     {
-        let place = self.backing.make_room(size, alignment_mask)?;
-        self.backing.put_filled(place, size, filler);
+        let plan = self.backing.plan_room(size, alignment_mask)?;
+        self.backing.put_planned(&plan, size, filler);
         Ok(())
     }
 

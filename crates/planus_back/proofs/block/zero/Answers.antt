@@ -9,9 +9,9 @@ pub loop-i-preserved : goal.loop-i-preserved
 loop-i-preserved c =
     let then = c.args.places.now in let now = c.loop-i.places in let new = c.copy_in.new.self in let at = c.args.at in let i = c.loop-i.i in let n = c.min-count.result in
     let kept = c.loop-i.invariant in let put = c.copy_in.ensures in
-    let least : n ≤ 256 = omega (arith, c.min-count.ensures) in let left : i + n ≤ c.args.n = omega (arith, c.min-count.ensures, c.loop-i-test.true) in
-    let src : List ℕ = take n (replicate 256 0) in
-    let zeros : src ≡ replicate n 0 = take-replicate n 256 0 least in
+    let least : n ≤ 4096 = omega (arith, c.min-count.ensures) in let left : i + n ≤ c.args.n = omega (arith, c.min-count.ensures, c.loop-i-test.true) in
+    let src : List ℕ = take n (replicate 4096 0) in
+    let zeros : src ≡ replicate n 0 = take-replicate n 4096 0 least in
     let count : length src ≡ n = ap length zeros ∙ length-replicate {A = ℕ} n 0 in
     let next : at + i + length src ≡ at + (i + n) = omega (arith, count) in
     let more : Filled (slots_filled new) (at + i) (at + (i + n)) = subst (λ (k : ℕ). Filled (slots_filled new) (at + i) k) next put.filled.0 in
