@@ -17,55 +17,54 @@ use Rattle.planus_read.specs.lemmas.NumberLaws.{AreBytes, one_byte, two_bytes, f
 use Rattle.planus_read.specs.lemmas.NumberLaws.{layout_of_one, layout_of_two, layout_of_four}
 use Rattle.planus_read.specs.lemmas.NumberLaws.{layout_of_eight, bytes_number, stood_by}
 
--- the variant that has the number, of all variants
-abbrev pub variant_in : {E N : Type 0} → (N → N → Bool) → (E → N) → List E → N → Option E
-variant_in equal number_of [] n = None
-variant_in equal number_of (x ∷ others) n =
-    if equal n (number_of x) then Some x else variant_in equal number_of others n
+-- the variant that has the number, of variants with their numbers
+abbrev pub variant_in : {E N : Type 0} → (N → N → Bool) → List (N × E) → N → Option E
+variant_in equal [] n = None
+variant_in equal (one ∷ others) n = if equal n one.0 then Some one.1 else variant_in equal others n
 
--- each variant is found by its number
-abbrev pub AreFound : {E N : Type 0} → (N → N → Bool) → (E → N) → List E → Type 0
-AreFound {E} equal number_of all =
-    (x : E) → variant_in equal number_of all (number_of x) ≡ Some x
+-- a variant's number, by which it is found
+pub record Numbered {E N : Type 0} (equal : N → N → Bool) (variants : List (N × E)) (x : E) : Type 0 where
+  pub number : N
+  pub found : variant_in equal variants number ≡ Some x
 
--- An enum by the numbers of its variants, all of them in a list: a variant is encoded as its number,
--- `bits` of it, which is read again as `read_as`. The error of a number that no variant has names it.
+-- An enum by its variants with their numbers: a variant is encoded as its number, `bits` of it, which
+-- is read again as `read_as`. The error of a number that no variant has names it.
 abbrev pub enum_shape :
     {E N : Type 0} (width : Width) → AreBytes width → IsLayout (byte_len width) (byte_len width)
     → (bits : N → ℕ) (read_as : ℕ → N) (Fits : N → Type 0)
     → ((n : N) → Fits n → NumberFits width (bits n)) → ((n : N) → Fits n → read_as (bits n) ≡ n)
-    → (tag : N → ℤ) (equal : N → N → Bool) (number_of : E → N) (all : List E)
-    → AreFound equal number_of all → Shape E (byte_len width) (byte_len width)
-enum_shape {E} {N} width are layout bits read_as Fits few again tag equal number_of all found = record {
-  encoded = λ x. to_le_bytes width (bits (number_of x));
-  fits = λ x. Fits (number_of x);
+    → (tag : N → ℤ) (equal : N → N → Bool) (variants : List (N × E))
+    → ((x : E) → Numbered equal variants x) → Shape E (byte_len width) (byte_len width)
+enum_shape {E} {N} width are layout bits read_as Fits few again tag equal variants numbers = record {
+  encoded = λ x. to_le_bytes width (bits (numbers x).number);
+  fits = λ x. Fits (numbers x).number;
   There = λ S f x.
-      option_and_then (λ n. variant_in equal number_of all (read_as n)) (Num S f width) ≡ Some x;
+      option_and_then (λ n. variant_in equal variants (read_as n)) (Num S f width) ≡ Some x;
   clauses = λ S f.
-      clause (IsSome (variant_in equal number_of all (read_as (number S f width))))
+      clause (IsSome (variant_in equal variants (read_as (number S f width))))
       (UnknownEnumTag (record { tag = tag (read_as (number S f width)) })) ∷ [];
   layout = layout;
-  sized = λ x. are.sized (bits (number_of x));
+  sized = λ x. are.sized (bits (numbers x).number);
   holds = λ S f x fits stands. (
-    (let same : read_as (number S f width) ≡ number_of x =
-        ap read_as (bytes_number width are S f (bits (number_of x)) (few (number_of x) fits) stands)
-        ∙ again (number_of x) fits in
+    (let same : read_as (number S f width) ≡ (numbers x).number =
+        ap read_as (bytes_number width are S f (bits (numbers x).number) (few (numbers x).number fits) stands)
+        ∙ again (numbers x).number fits in
         subst (λ (v : Option E). IsSome v)
-        (sym (ap (variant_in equal number_of all) same ∙ found x)) (is_some x)),
+        (sym (ap (variant_in equal variants) same ∙ (numbers x).found)) (is_some x)),
     tt,
   );
   again = λ S f x y fits stands there.
-      (let stood : variant_in equal number_of all (read_as (bits (number_of x))) ≡ Some y =
-      stood_by (λ n. variant_in equal number_of all (read_as n)) width are S f (bits (number_of x)) y
-      (few (number_of x) fits) stands there in
+      (let stood : variant_in equal variants (read_as (bits (numbers x).number)) ≡ Some y =
+      stood_by (λ n. variant_in equal variants (read_as n)) width are S f (bits (numbers x).number) y
+      (few (numbers x).number fits) stands there in
       same_value
-      (sym stood ∙ ap (variant_in equal number_of all) (again (number_of x) fits) ∙ found x));
+      (sym stood ∙ ap (variant_in equal variants) (again (numbers x).number fits) ∙ (numbers x).found));
 }
 
 -- an enum of unsigned numbers, and one of signed numbers
 abbrev pub unsigned_enum :
     {E : Type 0} (width : Width) → AreBytes width → IsLayout (byte_len width) (byte_len width)
-    → (number_of : E → ℕ) (all : List E) → AreFound nat_eq number_of all
+    → (variants : List (ℕ × E)) → ((x : E) → Numbered nat_eq variants x)
     → Shape E (byte_len width) (byte_len width)
 unsigned_enum width are layout =
     enum_shape width are layout (λ n. n) (λ n. n) (NumberFits width) (λ n fits. fits)
@@ -73,43 +72,43 @@ unsigned_enum width are layout =
 
 abbrev pub signed_enum :
     {E : Type 0} (width : Width) → AreBytes width → IsLayout (byte_len width) (byte_len width)
-    → (number_of : E → ℤ) (all : List E) → AreFound int_eq number_of all
+    → (variants : List (ℤ × E)) → ((x : E) → Numbered int_eq variants x)
     → Shape E (byte_len width) (byte_len width)
 signed_enum width are layout =
     enum_shape width are layout (cast_unsigned width) (cast_signed width) (FitsSigned width)
     are.unsigned (λ z fits. to_z-of_z fits) (λ z. z) int_eq
 
-abbrev pub u8_enum : {E : Type 0} (number_of : E → ℕ) (all : List E) → AreFound nat_eq number_of all
-    → Shape E 1 1
-u8_enum = unsigned_enum w8 one_byte layout_of_one
+abbrev pub u8_enum :
+    {E : Type 0} {variants : List (ℕ × E)} → ((x : E) → Numbered nat_eq variants x) → Shape E 1 1
+u8_enum {E} {variants} = unsigned_enum w8 one_byte layout_of_one variants
 
-abbrev pub u16_enum : {E : Type 0} (number_of : E → ℕ) (all : List E) → AreFound nat_eq number_of all
-    → Shape E 2 2
-u16_enum = unsigned_enum w16 two_bytes layout_of_two
+abbrev pub u16_enum :
+    {E : Type 0} {variants : List (ℕ × E)} → ((x : E) → Numbered nat_eq variants x) → Shape E 2 2
+u16_enum {E} {variants} = unsigned_enum w16 two_bytes layout_of_two variants
 
-abbrev pub u32_enum : {E : Type 0} (number_of : E → ℕ) (all : List E) → AreFound nat_eq number_of all
-    → Shape E 4 4
-u32_enum = unsigned_enum w32 four_bytes layout_of_four
+abbrev pub u32_enum :
+    {E : Type 0} {variants : List (ℕ × E)} → ((x : E) → Numbered nat_eq variants x) → Shape E 4 4
+u32_enum {E} {variants} = unsigned_enum w32 four_bytes layout_of_four variants
 
-abbrev pub u64_enum : {E : Type 0} (number_of : E → ℕ) (all : List E) → AreFound nat_eq number_of all
-    → Shape E 8 8
-u64_enum = unsigned_enum w64 eight_bytes layout_of_eight
+abbrev pub u64_enum :
+    {E : Type 0} {variants : List (ℕ × E)} → ((x : E) → Numbered nat_eq variants x) → Shape E 8 8
+u64_enum {E} {variants} = unsigned_enum w64 eight_bytes layout_of_eight variants
 
-abbrev pub i8_enum : {E : Type 0} (number_of : E → ℤ) (all : List E) → AreFound int_eq number_of all
-    → Shape E 1 1
-i8_enum = signed_enum w8 one_byte layout_of_one
+abbrev pub i8_enum :
+    {E : Type 0} {variants : List (ℤ × E)} → ((x : E) → Numbered int_eq variants x) → Shape E 1 1
+i8_enum {E} {variants} = signed_enum w8 one_byte layout_of_one variants
 
-abbrev pub i16_enum : {E : Type 0} (number_of : E → ℤ) (all : List E) → AreFound int_eq number_of all
-    → Shape E 2 2
-i16_enum = signed_enum w16 two_bytes layout_of_two
+abbrev pub i16_enum :
+    {E : Type 0} {variants : List (ℤ × E)} → ((x : E) → Numbered int_eq variants x) → Shape E 2 2
+i16_enum {E} {variants} = signed_enum w16 two_bytes layout_of_two variants
 
-abbrev pub i32_enum : {E : Type 0} (number_of : E → ℤ) (all : List E) → AreFound int_eq number_of all
-    → Shape E 4 4
-i32_enum = signed_enum w32 four_bytes layout_of_four
+abbrev pub i32_enum :
+    {E : Type 0} {variants : List (ℤ × E)} → ((x : E) → Numbered int_eq variants x) → Shape E 4 4
+i32_enum {E} {variants} = signed_enum w32 four_bytes layout_of_four variants
 
-abbrev pub i64_enum : {E : Type 0} (number_of : E → ℤ) (all : List E) → AreFound int_eq number_of all
-    → Shape E 8 8
-i64_enum = signed_enum w64 eight_bytes layout_of_eight
+abbrev pub i64_enum :
+    {E : Type 0} {variants : List (ℤ × E)} → ((x : E) → Numbered int_eq variants x) → Shape E 8 8
+i64_enum {E} {variants} = signed_enum w64 eight_bytes layout_of_eight variants
 
 -- the error, or another value where it is that of an unknown number
 abbrev pub unless_unknown : {A : Type 0} → ErrorKind → A → Error → Result A Error

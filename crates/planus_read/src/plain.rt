@@ -52,8 +52,8 @@ pub trait Plain: Copy {
 }
 
 /// A value of a fixed layout whose read has no error: an item of vectors that is read as it is. Any
-/// other is read as a `Result`.
-pub trait PlainTotal: Plain {
+/// other item is read as a `Result`.
+pub trait PlainTotal: Plain + Stride<Stands = Self> {
     ghost never_fails: { (S : List ℕ) (f : ℕ) (e : ErrorKind)
         → FirstBroken ((Self.shape).clauses S f) e → ⊥ };
 }
@@ -107,10 +107,6 @@ impl<'buf, T: Plain> TableRead<'buf> for T {
     }
 }
 
-impl<T: Plain> Stride for T {
-    type Stands = T;
-}
-
 impl<'buf, T: PlainTotal> VectorRead<'buf> for T {
     ghost gives = { λ S start f x. (T.shape).There S f x };
 
@@ -127,7 +123,7 @@ impl<T: Plain> ReadError for T {
     type Error = Error;
 }
 
-impl<'buf, T: Plain> VectorReadInner<'buf> for T {
+impl<'buf, T: Plain + Stride<Stands = T>> VectorReadInner<'buf> for T {
     ghost gives = { λ S start f r.
         Located (Answer (plain_reading T.shape S f)) plain_name item_method start r };
 

@@ -6,7 +6,7 @@ use crate::kind::Kind;
 use crate::pos::Pos;
 use planus_fields::PlainField;
 use planus_read::errors::ErrorKind;
-use planus_read::{Plain, SliceWithStartOffset, put_fields, read_fields};
+use planus_read::{Plain, SliceWithStartOffset, Stride, put_fields, read_fields};
 
 /// When something was where.
 #[derive(Clone, Copy, Debug, PartialEq)]
@@ -37,6 +37,10 @@ impl Plain for Fix {
     fn read(buffer: SliceWithStartOffset<'_>, offset: usize) -> Result<Fix, ErrorKind> {
         read_fields!(Fix, buffer, offset; when, at: 8, kind: 20)
     }
+}
+
+impl Stride for Fix {
+    type Stands = Fix;
 }
 
 impl PlainField for Fix {}

@@ -3,7 +3,7 @@ ghost use Rattle.uses_struct.specs.Kinds.{kind_shape};
 
 use planus_fields::PlainField;
 use planus_read::errors::ErrorKind;
-use planus_read::{Plain, SliceWithStartOffset, read_variant};
+use planus_read::{Plain, SliceWithStartOffset, Stride, read_variant};
 
 /// What a site is.
 #[derive(Clone, Copy, Debug, PartialEq)]
@@ -34,6 +34,10 @@ impl Plain for Kind {
     fn read(buffer: SliceWithStartOffset<'_>, offset: usize) -> Result<Kind, ErrorKind> {
         read_variant!(u8, buffer, offset; Kind::Car, Kind::Bike, Kind::Ship)
     }
+}
+
+impl Stride for Kind {
+    type Stands = Kind;
 }
 
 impl PlainField for Kind {}

@@ -3,7 +3,7 @@ ghost use Rattle.uses_struct.specs.Structs.{pos_shape};
 
 use planus_fields::PlainField;
 use planus_read::errors::ErrorKind;
-use planus_read::{Plain, PlainTotal, SliceWithStartOffset, put_fields, read_fields};
+use planus_read::{Plain, PlainTotal, SliceWithStartOffset, Stride, put_fields, read_fields};
 
 /// Where something is.
 #[derive(Clone, Copy, Debug, PartialEq)]
@@ -34,6 +34,10 @@ impl Plain for Pos {
     fn read(buffer: SliceWithStartOffset<'_>, offset: usize) -> Result<Pos, ErrorKind> {
         read_fields!(Pos, buffer, offset; lat, lon: 4, alt: 8)
     }
+}
+
+impl Stride for Pos {
+    type Stands = Pos;
 }
 
 impl PlainTotal for Pos {

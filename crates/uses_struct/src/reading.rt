@@ -9,7 +9,7 @@ ghost use Rattle.uses_struct.specs.Structs.{reading_shape};
 use crate::level::Level;
 use planus_fields::PlainField;
 use planus_read::errors::ErrorKind;
-use planus_read::{Plain, SliceWithStartOffset, put_fields, read_fields};
+use planus_read::{Plain, SliceWithStartOffset, Stride, put_fields, read_fields};
 
 /// What an instrument shows.
 #[derive(Clone, Copy, Debug, PartialEq)]
@@ -52,6 +52,10 @@ impl Plain for Reading {
         read_fields!(Reading, buffer, offset; on, tiny: 1, port: 2, count: 4, total: 8, rough: 16,
             exact: 24, level: 32)
     }
+}
+
+impl Stride for Reading {
+    type Stands = Reading;
 }
 
 impl PlainField for Reading {}

@@ -5,6 +5,7 @@ ghost use Rattle.planus_read.specs.Shapes.{bool_shape};
 use crate::errors::ErrorKind;
 use crate::plain::{Plain, PlainTotal};
 use crate::slice_helpers::SliceWithStartOffset;
+use crate::traits::Stride;
 
 impl Plain for bool {
     ghost ALIGNMENT = { 1 };
@@ -27,6 +28,10 @@ impl Plain for bool {
         let [byte] = *buffer.unchecked_advance_as_array::<1>(offset).as_array();
         Ok(byte != 0)
     }
+}
+
+impl Stride for bool {
+    type Stands = bool;
 }
 
 impl PlainTotal for bool {

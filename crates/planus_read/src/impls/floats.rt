@@ -8,6 +8,7 @@ ghost use Rattle.planus_read.specs.Shapes.{f32_shape, f64_shape};
 use crate::errors::ErrorKind;
 use crate::plain::{Plain, PlainTotal};
 use crate::slice_helpers::SliceWithStartOffset;
+use crate::traits::Stride;
 use std::num::{
     f32_from_bits_with_nan, f32_to_bits_with_nan, f64_from_bits_with_nan, f64_to_bits_with_nan,
 };
@@ -53,6 +54,10 @@ impl Plain for f32 {
     }
 }
 
+impl Stride for f32 {
+    type Stands = f32;
+}
+
 impl PlainTotal for f32 {
     ghost never_fails = { λ S f e broken. broken };
 }
@@ -78,6 +83,10 @@ impl Plain for f64 {
         let bits = <u64 as Plain>::read(buffer, offset)?;
         Ok(f64_from_bits_with_nan(bits))
     }
+}
+
+impl Stride for f64 {
+    type Stands = f64;
 }
 
 impl PlainTotal for f64 {

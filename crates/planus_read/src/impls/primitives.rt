@@ -6,6 +6,7 @@ ghost use Rattle.planus_read.specs.Shapes.{i8_shape, i16_shape, i32_shape, i64_s
 use crate::errors::ErrorKind;
 use crate::plain::{Plain, PlainTotal};
 use crate::slice_helpers::SliceWithStartOffset;
+use crate::traits::Stride;
 
 impl Plain for u8 {
     ghost ALIGNMENT = { 1 };
@@ -28,6 +29,10 @@ impl Plain for u8 {
         let bytes = buffer.unchecked_advance_as_array::<1>(offset);
         Ok(u8::from_le_bytes(*bytes.as_array()))
     }
+}
+
+impl Stride for u8 {
+    type Stands = u8;
 }
 
 impl PlainTotal for u8 {
@@ -57,6 +62,10 @@ impl Plain for u16 {
     }
 }
 
+impl Stride for u16 {
+    type Stands = u16;
+}
+
 impl PlainTotal for u16 {
     ghost never_fails = { λ S f e broken. broken };
 }
@@ -82,6 +91,10 @@ impl Plain for u32 {
         let bytes = buffer.unchecked_advance_as_array::<4>(offset);
         Ok(u32::from_le_bytes(*bytes.as_array()))
     }
+}
+
+impl Stride for u32 {
+    type Stands = u32;
 }
 
 impl PlainTotal for u32 {
@@ -111,6 +124,10 @@ impl Plain for u64 {
     }
 }
 
+impl Stride for u64 {
+    type Stands = u64;
+}
+
 impl PlainTotal for u64 {
     ghost never_fails = { λ S f e broken. broken };
 }
@@ -136,6 +153,10 @@ impl Plain for i8 {
         let bytes = buffer.unchecked_advance_as_array::<1>(offset);
         Ok(i8::from_le_bytes(*bytes.as_array()))
     }
+}
+
+impl Stride for i8 {
+    type Stands = i8;
 }
 
 impl PlainTotal for i8 {
@@ -165,6 +186,10 @@ impl Plain for i16 {
     }
 }
 
+impl Stride for i16 {
+    type Stands = i16;
+}
+
 impl PlainTotal for i16 {
     ghost never_fails = { λ S f e broken. broken };
 }
@@ -192,6 +217,10 @@ impl Plain for i32 {
     }
 }
 
+impl Stride for i32 {
+    type Stands = i32;
+}
+
 impl PlainTotal for i32 {
     ghost never_fails = { λ S f e broken. broken };
 }
@@ -217,6 +246,10 @@ impl Plain for i64 {
         let bytes = buffer.unchecked_advance_as_array::<8>(offset);
         Ok(i64::from_le_bytes(*bytes.as_array()))
     }
+}
+
+impl Stride for i64 {
+    type Stands = i64;
 }
 
 impl PlainTotal for i64 {
