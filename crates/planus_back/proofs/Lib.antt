@@ -11,3 +11,4 @@ pub mod Caches
 pub mod Hashes
 mod Runs
 mod Deeds
+pub mod Same

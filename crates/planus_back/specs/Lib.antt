@@ -17,3 +17,4 @@ pub mod Handing
 pub mod Cells
 pub mod Buckets
 pub mod Texts
+pub mod Bytes

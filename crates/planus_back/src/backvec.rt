@@ -142,18 +142,21 @@ impl BackVec {
         self.start = start;
     }
 
-    /// Puts the bytes of three slices in front, those of the first foremost. There is room for all
-    /// of them.
+    /// Puts `padding` zeros in front, and in front of them the bytes of three slices, those of the
+    /// first foremost. There is room for all of them.
     #[inline]
-    pub fn put_three(&mut self, first: &[u8], second: &[u8], third: &[u8])
-        requires { length (first.now ++ second.now ++ third.now) ≤ self.old.room }
-        ensures bytes { self.new.bytes ≡ (first.now ++ second.now ++ third.now) ++ self.old.bytes }
-        ensures room { self.new.room + length
-            (first.now ++ second.now ++ third.now) ≡ self.old.room }
+    pub fn put_three_padded(&mut self, padding: usize, first: &[u8], second: &[u8], third: &[u8])
+        requires { padding + length (first.now ++ second.now ++ third.now) ≤ self.old.room }
+        ensures bytes { self.new.bytes ≡ (first.now ++ second.now ++ third.now)
+            ++ (replicate padding 0 ++ self.old.bytes) }
+        ensures room { self.new.room + (padding + length
+            (first.now ++ second.now ++ third.now)) ≡ self.old.room }
     {
-        let third_at = self.start - third.len();
+        let end = self.start - padding;
+        let third_at = end - third.len();
         let second_at = third_at - second.len();
         let start = second_at - first.len();
+        self.block.put_zeros(end, padding);
         self.block.put_slice(third_at, third);
         self.block.put_slice(second_at, second);
         self.block.put_slice(start, first);

@@ -50,6 +50,7 @@ fn find<C: GetCacheKey, K: Key>(distances: &Distances, serialized: &[u8], key: &
 }
 
 /// The first of these distances at which the key stands.
+#[inline]
 fn find_among<C: GetCacheKey, K: Key>(distances: &[u32], serialized: &[u8], key: &K) -> Option<u32>
     ensures { FoundAmong C.key_in distances.now serialized.now (K.bytes_of key.now) result }
 {
@@ -61,6 +62,27 @@ fn find_among<C: GetCacheKey, K: Key>(distances: &[u32], serialized: &[u8], key:
         }
     }
     None
+}
+
+/// Returns the first of some distances at which a key stands in the bytes, and `None` where it
+/// stands at none of them.
+#[inline]
+pub fn find_key<C: GetCacheKey>(distances: &[u32], serialized: &[u8], key: &[u8]) -> Option<u32>
+    ensures { FoundAmong C.key_in distances.now serialized.now key.now result }
+{
+    find_among::<C, Bytes<'_>>(distances, serialized, &Bytes(key))
+}
+
+/// [`find_key`] of a key of signed numbers, each of which is a byte.
+pub fn find_signed_key<C: GetCacheKey>(
+    distances: &[u32],
+    serialized: &[u8],
+    key: &[i8],
+) -> Option<u32>
+    ensures { FoundAmong C.key_in distances.now serialized.now
+        (map (λ number. cast_unsigned w8 number) key.now) result }
+{
+    find_among::<C, Signed<'_>>(distances, serialized, &Signed(key))
 }
 
 /// Adds a distance to those at a hash. A refusal changes nothing.
@@ -133,6 +155,7 @@ impl<C: GetCacheKey> Cache<C> {
     }
 
     // What `get_in` answers for a key in whatever form.
+    #[inline(never)]
     fn get_by<K: Key>(&self, bucket: Bucket, serialized: &[u8], key: &K) -> Option<u32>
         requires fits { Fits C.key_in self.now serialized.now }
         requires bucket { IsBucketOf self.now (K.bytes_of key.now) bucket }

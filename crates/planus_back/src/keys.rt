@@ -1,6 +1,7 @@
 //! What is looked for in a cache: bytes, as they are or as signed numbers.
-ghost use Rattle.std.specs.Prelude.{◌≡◌, ◌↔◌, ℕ, List, map, IsTrue};
+ghost use Rattle.std.specs.Prelude.{◌≡◌, ◌↔◌, ℕ, List, length, map, IsTrue};
 ghost use Rattle.std.specs.Int.{w8, w64, cast_unsigned, from_le_bytes};
+ghost use Rattle.planus_back.specs.Bytes.{AreBytes};
 ghost use Rattle.planus_back.specs.Hashes.{number_with, hash_with, last_number, hash_of};
 
 /// What a hash is multiplied by: an odd number whose bits have no order.
@@ -107,6 +108,45 @@ fn last_of_signed(numbers: &[i8]) -> u64
     joined
 }
 
+// Whether these are the same bytes.
+#[inline]
+fn same(left: &[u8], right: &[u8]) -> bool
+    ensures { IsTrue result ↔ (left.now ≡ right.now) }
+{
+    left.len() == right.len() && same_words(left, right)
+}
+
+// The same of as many. The last 8 are compared first, and then 8 at a time, since most of what is
+// compared is short.
+#[inline]
+fn same_words(left: &[u8], right: &[u8]) -> bool
+    requires left { AreBytes left.now }
+    requires right { AreBytes right.now }
+    requires length { length left.now ≡ length right.now }
+    ensures { IsTrue result ↔ (left.now ≡ right.now) }
+{
+    let Some(last) = left.last_chunk::<8>() else {
+        return left == right;
+    };
+    let Some(end) = right.last_chunk::<8>() else {
+        return false;
+    };
+    if u64::from_le_bytes(*last) != u64::from_le_bytes(*end) {
+        return false;
+    }
+    let (mut left, mut right) = (left, right);
+    while let Some((word, behind)) = left.split_first_chunk::<8>() {
+        let Some((other, rest)) = right.split_first_chunk::<8>() else {
+            return false;
+        };
+        if u64::from_le_bytes(*word) != u64::from_le_bytes(*other) {
+            return false;
+        }
+        (left, right) = (behind, rest);
+    }
+    true
+}
+
 impl<'a> Key for Bytes<'a> {
     ghost bytes_of = { λ key. key.0.now };
 
@@ -125,7 +165,7 @@ impl<'a> Key for Bytes<'a> {
 
     #[inline]
     fn is(&self, bytes: &[u8]) -> bool {
-        bytes == self.0
+        same(bytes, self.0)
     }
 }
 

@@ -27,7 +27,7 @@ pub mod promises;
 
 pub use backvec::BackVec;
 pub use bucket::Bucket;
-pub use cache::Cache;
+pub use cache::{Cache, find_key, find_signed_key};
 pub use cache_keys::{ByteVec, GetCacheKey, VTable};
 pub use fill::{Fill, Overwrite};
 pub use promises::{Promises, TooLarge};

@@ -1,3 +1,4 @@
+pub mod HeldContents
 pub mod SharedContents
 pub mod ContentsInFront
 pub mod PlacedParts

@@ -7,8 +7,6 @@ use Rattle.std.specs.Prelude.{if◌then◌else◌}
 use Rattle.std.proofs.lemmas.List.{length-replicate}
 use Rattle.std.specs.Int.{w32, to_le_bytes}
 use Rattle.planus_back.specs.CacheKeys.{key_at, bytes_in, vtable_in}
-use Rattle.planus_back.specs.Caches.{Held}
-use Rattle.planus_back.specs.Caches as caches
 use Rattle.planus_back.specs.Promises.{Promise, Keep, greatest_alignment}
 use Rattle.planus_back.specs.Padding.{greatest_place, promise_of}
 use Rattle.planus_back.specs.Parts.{Part, Placed}
@@ -17,8 +15,9 @@ use Rattle.planus_write.specs.Shared.{shared_as, earlier_distance, distance_seen
 use Rattle.planus_write.specs.Past.{Past, Entry, unshared_entry, part_after, Adds, PutsAfter, Puts}
 use Rattle.planus_write.specs.Past.{found_before, no_past}
 use Rattle.planus_write.specs.Parts.{front_part, front_entry, root_words, sized_words, sized_finish_entry, identifier_bytes}
-use Rattle.planus_write.specs.Backed.{Backed, DescribedBy, PutsBytes, MakesRoom, LacksRoom}
-use Rattle.planus_write.specs.Sharing.{Shares, FindsIf, KeepsIf, LacksSharedRoom, FindsOrReserves}
+use Rattle.planus_write.specs.Backed.{Backed, DescribedBy, Pads, PutsBytes, MakesRoom, LacksRoom}
+use Rattle.planus_write.specs.Holding.{Holding, HoldsNothing, HoldsMore, FitsInFront}
+use Rattle.planus_write.specs.Sharing.{Shares, FindsIf, Finds, KeepsIf, Keeps, LacksSharedRoom, FindsOrPlans}
 use Rattle.planus_write.specs.Kept.{AllSeenKept}
 use Rattle.planus_write.specs.State.{State, IsPast, FindsSeen, Holdings, holding_of, contents_in}
 use Rattle.planus_write.specs.Placing.{PutsDown, MayLackMemory}
@@ -26,13 +25,15 @@ use Rattle.planus_write.specs.Placing.{RefusedFor, Refuses, LeftAsItWas}
 use Rattle.planus_write.specs.lemmas.Laws.{left_grows}
 use Rattle.planus_write.specs.Finishing.{Finishes, PutsInFront}
 use Rattle.planus_write.specs.View.{state_from, state_of}
-use Rattle.planus_write.specs.declared.sharing.Lookup.TheVariants.{Found, Reserved}
+use Rattle.planus_write.specs.declared.backing.Plan.{Plan}
+use Rattle.planus_write.specs.declared.sharing.Lookup.TheVariants.{Found, Planned}
 use Rattle.planus_write.specs.declared.builder.Builder.TheInside.{Inside}
 use Rattle.planus_write.specs.declared.errors.BuildError.{BuildError}
 use Rattle.planus_write.specs.declared.errors.BuildError.TheVariants.{OutOfMemory, TooLarge}
 use Rattle.planus_write.specs.lemmas.KeptContents.{AreKept, same_of, shared_or_not, added_kept}
 use Rattle.planus_write.specs.lemmas.KeptContents.{alone_kept}
 use Rattle.std.proofs.lemmas.Bool.Decides.{leb_tells}
+use Rattle.planus_write.proofs.PlannedRoom.{makes_room}
 use Rattle.planus_write.proofs.SharedContents.{none_is_not_some, finds_still, finds_added, other_finds, finds_nothing}
 
 -- the entry's part has this size and alignment, whatever was written before
@@ -166,17 +167,17 @@ module _ (part_from : List ℕ → List Promise → Part) (got : List ℕ) (size
   }
 
 -- what is held, with this of one kind
-abbrev pub holding : Kind → Holdings → Held → Holdings
+abbrev pub holding : Kind → Holdings → Holding → Holdings
 holding texts holdings x = record holdings { held_texts = x }
 holding byte_lists holdings x = record holdings { held_byte_lists = x }
 holding vtables holdings x = record holdings { held_vtables = x }
 
-holding_it : (kind : Kind) (holdings : Holdings) (x : Held) → holding_of (holding kind holdings x) kind ≡ x
+holding_it : (kind : Kind) (holdings : Holdings) (x : Holding) → holding_of (holding kind holdings x) kind ≡ x
 holding_it texts holdings x = refl
 holding_it byte_lists holdings x = refl
 holding_it vtables holdings x = refl
 
-holding_others : (kind other : Kind) (holdings : Holdings) (x : Held) → same_kind kind other ≡ false → holding_of (holding kind holdings x) other ≡ holding_of holdings other
+holding_others : (kind other : Kind) (holdings : Holdings) (x : Holding) → same_kind kind other ≡ false → holding_of (holding kind holdings x) other ≡ holding_of holdings other
 holding_others texts texts holdings x e = cc
 holding_others byte_lists byte_lists holdings x e = cc
 holding_others vtables vtables holdings x e = cc
@@ -187,7 +188,7 @@ holding_others byte_lists vtables holdings x e = refl
 holding_others vtables texts holdings x e = refl
 holding_others vtables byte_lists holdings x e = refl
 
-held_again : (kind other : Kind) (holdings : Holdings) (x : Held) → x ≡ holding_of holdings kind → holding_of (holding kind holdings x) other ≡ holding_of holdings other
+held_again : (kind other : Kind) (holdings : Holdings) (x : Holding) → x ≡ holding_of holdings kind → holding_of (holding kind holdings x) other ≡ holding_of holdings other
 held_again kind other holdings x same = by_case (same_kind kind other) refl
   where
     by_case : (b : Bool) → same_kind kind other ≡ b → holding_of (holding kind holdings x) other ≡ holding_of holdings other
@@ -267,8 +268,8 @@ module _ (kind : Kind) (contents : List ℕ) (part : Part) (got : List ℕ) (b :
           let none : Some distance ≡ None = subst (λ on. FindsIf on (contents_in kind) (holding_of holdings kind) b.bytes contents (Some distance)) e finds in
           absurd (none_is_not_some distance (sym none))
 
-  module _ (place : ℕ) (mid n : Backed) (x : Held) (bytes : List ℕ) (none : FindsIf (is_on switches kind) (contents_in kind) (holding_of holdings kind) b.bytes contents None)
-      (room : MakesRoom part.size part.alignment b place mid) (keeps : KeepsIf (is_on switches kind) (contents_in kind) contents place (holding_of holdings kind) x)
+  module _ (place : ℕ) (mid n : Backed) (x : Holding) (bytes : List ℕ) (none : FindsIf (is_on switches kind) (contents_in kind) (holding_of holdings kind) b.bytes contents None)
+      (room : MakesRoom part.size part.alignment b place mid) (keeps : KeepsIf (is_on switches kind) (contents_in kind) b.bytes contents place (holding_of holdings kind) x)
       (bytes_are : part.bytes_at place ≡ bytes) (length_is : length bytes ≡ part.size) (put : PutsBytes bytes mid n) (stands : key_at (contents_in kind) n.bytes place ≡ Some contents)
       (are_kept : AreKept kind contents part) where
     abbrev after : State
@@ -285,11 +286,11 @@ module _ (kind : Kind) (contents : List ℕ) (part : Part) (got : List ℕ) (b :
 
     seen_it : (past : Past) → IsPast before past → is_on switches kind ≡ true → FindsSeen after (seen_more past.seen) kind
     seen_it past h e =
-        let on : KeepsIf true (contents_in kind) contents place (holding_of holdings kind) x = subst (λ on. KeepsIf on (contents_in kind) contents place (holding_of holdings kind) x) e keeps in
+        let on : KeepsIf true (contents_in kind) b.bytes contents place (holding_of holdings kind) x = subst (λ on. KeepsIf on (contents_in kind) b.bytes contents place (holding_of holdings kind) x) e keeps in
         let finds : FindsIf true (contents_in kind) (holding_of holdings kind) b.bytes contents None = subst (λ on. FindsIf on (contents_in kind) (holding_of holdings kind) b.bytes contents None) e none in
         let it : holding_of (holding kind holdings x) kind ≡ x = holding_it kind holdings x in
-        let adds : caches.Adds (holding_of holdings kind) place (holding_of (holding kind holdings x) kind) = subst (λ (y : Held). caches.Adds (holding_of holdings kind) place y) (sym it) on.0 in
-        let fits : caches.FitsWhereKeyStands (contents_in kind) (holding_of holdings kind) contents place (holding_of (holding kind holdings x) kind) = subst (λ (y : Held). caches.FitsWhereKeyStands (contents_in kind) (holding_of holdings kind) contents place y) (sym it) on.1 in
+        let adds : HoldsMore (holding_of holdings kind) place (holding_of (holding kind holdings x) kind) = subst (λ (y : Holding). HoldsMore (holding_of holdings kind) place y) (sym it) on.0 in
+        let fits : FitsInFront (contents_in kind) b.bytes contents place (holding_of (holding kind holdings x) kind) = subst (λ (y : Holding). FitsInFront (contents_in kind) b.bytes contents place y) (sym it) on.1 in
         finds_added before after (bytes ++ replicate room.padding 0) in_front past.seen kind contents place adds fits stands (not_seen past h finds) (h.seen kind)
 
     seen_on : (past : Past) → IsPast before past → is_on switches kind ≡ true → (other : Kind) → (same : Bool) → same_kind kind other ≡ same → FindsSeen after (seen_more past.seen) other
@@ -300,7 +301,7 @@ module _ (kind : Kind) (contents : List ℕ) (part : Part) (got : List ℕ) (b :
     seen_after past h other true e =
         subst (λ (shared : Option Contents). FindsSeen after (and_seen shared place past.seen) other) (sym (shared_if true e)) (seen_on past h e other (same_kind kind other) refl)
     seen_after past h other false e =
-        let same : x ≡ holding_of holdings kind = subst (λ on. KeepsIf on (contents_in kind) contents place (holding_of holdings kind) x) e keeps in
+        let same : x ≡ holding_of holdings kind = subst (λ on. KeepsIf on (contents_in kind) b.bytes contents place (holding_of holdings kind) x) e keeps in
         subst (λ (shared : Option Contents). FindsSeen after (and_seen shared place past.seen) other) (sym (shared_if false e))
         (still past h other (held_again kind other holdings x same))
 
@@ -436,47 +437,57 @@ with_shares byte_lists a n s = record a { backing = n; byte_lists = s }
 with_shares vtables a n s = record a { backing = n; vtables = s }
 
 module _ (contents : List ℕ) (part : Part) (a : Inside) (mid : Backed) (s : Shares) where
-  -- a part that was begun is put down
-  pub begun : (kind : Kind) (place : ℕ) (n : Backed) (bytes : List ℕ)
-      → FindsOrReserves (contents_in kind) contents part.size part.alignment a.backing (shares_of kind a) (Ok (Reserved place)) mid s
-      → part.bytes_at place ≡ bytes → length bytes ≡ part.size → PutsBytes bytes mid n → contents_in kind n.bytes ≡ Some contents
+  -- a part whose contents are kept is put into the room that was made for it
+  in_room : (kind : Kind) (place : ℕ) (padded n : Backed) (bytes : List ℕ)
+      → Finds (contents_in kind) (shares_of kind a) a.backing.bytes contents None → MakesRoom part.size part.alignment a.backing place padded
+      → Keeps (contents_in kind) a.backing.bytes contents place (shares_of kind a) s
+      → part.bytes_at place ≡ bytes → length bytes ≡ part.size → PutsBytes bytes padded n → contents_in kind n.bytes ≡ Some contents
       → AreKept kind contents part
       → PutsDown (shared_entry kind contents part) [] (state_of a) place (state_of (with_shares kind a n s))
-  begun texts place n bytes h bytes_are length_is put stands are_kept =
-      subst (λ on. PutsDown (shared_entry texts contents part) [] (state_of a) place (state_from n (record (state_of a).switches { texts_on = on }) (record (state_of a).holdings { held_texts = s.held }))) (sym h.2.on)
-      (shared_down texts contents part [] a.backing (state_of a).switches (state_of a).holdings place mid n s.held bytes h.0 h.1 h.2.held bytes_are length_is put
-      (at_its_place bytes_in n.bytes place contents (new_length part.size part.alignment place a.backing mid n bytes h.1 length_is put) stands)
+  in_room texts place padded n bytes none room keeps bytes_are length_is put stands are_kept =
+      subst (λ on. PutsDown (shared_entry texts contents part) [] (state_of a) place (state_from n (record (state_of a).switches { texts_on = on }) (record (state_of a).holdings { held_texts = s.holding }))) (sym keeps.on)
+      (shared_down texts contents part [] a.backing (state_of a).switches (state_of a).holdings place padded n s.holding bytes none room keeps.holding bytes_are length_is put
+      (at_its_place bytes_in n.bytes place contents (new_length part.size part.alignment place a.backing padded n bytes room length_is put) stands)
       are_kept)
-  begun byte_lists place n bytes h bytes_are length_is put stands are_kept =
-      subst (λ on. PutsDown (shared_entry byte_lists contents part) [] (state_of a) place (state_from n (record (state_of a).switches { byte_lists_on = on }) (record (state_of a).holdings { held_byte_lists = s.held }))) (sym h.2.on)
-      (shared_down byte_lists contents part [] a.backing (state_of a).switches (state_of a).holdings place mid n s.held bytes h.0 h.1 h.2.held bytes_are length_is put
-      (at_its_place bytes_in n.bytes place contents (new_length part.size part.alignment place a.backing mid n bytes h.1 length_is put) stands)
+  in_room byte_lists place padded n bytes none room keeps bytes_are length_is put stands are_kept =
+      subst (λ on. PutsDown (shared_entry byte_lists contents part) [] (state_of a) place (state_from n (record (state_of a).switches { byte_lists_on = on }) (record (state_of a).holdings { held_byte_lists = s.holding }))) (sym keeps.on)
+      (shared_down byte_lists contents part [] a.backing (state_of a).switches (state_of a).holdings place padded n s.holding bytes none room keeps.holding bytes_are length_is put
+      (at_its_place bytes_in n.bytes place contents (new_length part.size part.alignment place a.backing padded n bytes room length_is put) stands)
       are_kept)
-  begun vtables place n bytes h bytes_are length_is put stands are_kept =
-      subst (λ on. PutsDown (shared_entry vtables contents part) [] (state_of a) place (state_from n (record (state_of a).switches { vtables_on = on }) (record (state_of a).holdings { held_vtables = s.held }))) (sym h.2.on)
-      (shared_down vtables contents part [] a.backing (state_of a).switches (state_of a).holdings place mid n s.held bytes h.0 h.1 h.2.held bytes_are length_is put
-      (at_its_place vtable_in n.bytes place contents (new_length part.size part.alignment place a.backing mid n bytes h.1 length_is put) stands)
+  in_room vtables place padded n bytes none room keeps bytes_are length_is put stands are_kept =
+      subst (λ on. PutsDown (shared_entry vtables contents part) [] (state_of a) place (state_from n (record (state_of a).switches { vtables_on = on }) (record (state_of a).holdings { held_vtables = s.holding }))) (sym keeps.on)
+      (shared_down vtables contents part [] a.backing (state_of a).switches (state_of a).holdings place padded n s.holding bytes none room keeps.holding bytes_are length_is put
+      (at_its_place vtable_in n.bytes place contents (new_length part.size part.alignment place a.backing padded n bytes room length_is put) stands)
       are_kept)
+
+  -- a part that was planned is put down
+  pub begun : (kind : Kind) (plan : Plan) (padded n : Backed) (bytes : List ℕ)
+      → FindsOrPlans (contents_in kind) contents part.size part.alignment a.backing (shares_of kind a) (Ok (Planned plan)) mid s → Pads plan mid padded
+      → part.bytes_at plan.place ≡ bytes → length bytes ≡ part.size → PutsBytes bytes padded n → contents_in kind n.bytes ≡ Some contents
+      → AreKept kind contents part
+      → PutsDown (shared_entry kind contents part) [] (state_of a) plan.place (state_of (with_shares kind a n s))
+  begun kind plan padded n bytes h pads bytes_are length_is put stands are_kept =
+      in_room kind plan.place padded n bytes h.0 (makes_room part.size part.alignment a.backing mid padded plan h.1.0 h.1.1 pads) h.1.2 bytes_are length_is put stands are_kept
 
   -- one whose contents are found is put down
-  pub found_again : (kind : Kind) (distance : ℕ) → FindsOrReserves (contents_in kind) contents part.size part.alignment a.backing (shares_of kind a) (Ok (Found distance)) mid s
-      → length a.backing.bytes ≤ greatest_place → PutsDown (shared_entry kind contents part) [] (state_of a) distance (state_of (with_shares kind a mid s))
-  found_again texts distance h small =
-      rw (h.1, h.2) (shared_found texts contents part [] a.backing (state_of a).switches (state_of a).holdings distance h.0 small)
-  found_again byte_lists distance h small =
-      rw (h.1, h.2) (shared_found byte_lists contents part [] a.backing (state_of a).switches (state_of a).holdings distance h.0 small)
-  found_again vtables distance h small =
-      rw (h.1, h.2) (shared_found vtables contents part [] a.backing (state_of a).switches (state_of a).holdings distance h.0 small)
+  pub found_again : (kind : Kind) (distance : ℕ) → FindsOrPlans (contents_in kind) contents part.size part.alignment a.backing (shares_of kind a) (Ok (Found distance)) mid s
+      → PutsDown (shared_entry kind contents part) [] (state_of a) distance (state_of (with_shares kind a mid s))
+  found_again texts distance h =
+      rw (h.1, h.2) (shared_found texts contents part [] a.backing (state_of a).switches (state_of a).holdings distance h.0 h.3)
+  found_again byte_lists distance h =
+      rw (h.1, h.2) (shared_found byte_lists contents part [] a.backing (state_of a).switches (state_of a).holdings distance h.0 h.3)
+  found_again vtables distance h =
+      rw (h.1, h.2) (shared_found vtables contents part [] a.backing (state_of a).switches (state_of a).holdings distance h.0 h.3)
 
   -- one that isn't begun is refused
-  pub not_begun : (kind : Kind) (error : BuildError) → FindsOrReserves (contents_in kind) contents part.size part.alignment a.backing (shares_of kind a) (Err error) mid s
+  pub not_begun : (kind : Kind) (error : BuildError) → FindsOrPlans (contents_in kind) contents part.size part.alignment a.backing (shares_of kind a) (Err error) mid s
       → Refuses (shared_entry kind contents part) [] (state_of a) error (state_of (with_shares kind a mid s))
   not_begun texts error h =
-      rw h.2 (shared_refused texts contents part [] a.backing (state_of a).switches (state_of a).holdings error mid h.0 h.1)
+      rw h.1.1 (shared_refused texts contents part [] a.backing (state_of a).switches (state_of a).holdings error mid h.0 h.1.0)
   not_begun byte_lists error h =
-      rw h.2 (shared_refused byte_lists contents part [] a.backing (state_of a).switches (state_of a).holdings error mid h.0 h.1)
+      rw h.1.1 (shared_refused byte_lists contents part [] a.backing (state_of a).switches (state_of a).holdings error mid h.0 h.1.0)
   not_begun vtables error h =
-      rw h.2 (shared_refused vtables contents part [] a.backing (state_of a).switches (state_of a).holdings error mid h.0 h.1)
+      rw h.1.1 (shared_refused vtables contents part [] a.backing (state_of a).switches (state_of a).holdings error mid h.0 h.1.0)
 
 -- a builder that put down an entry, or refused one, still has a past
 pub still_sound : (entry : Entry) (got : List ℕ) (old new : State) (distance : ℕ) → (past : Past) × IsPast old past → PutsDown entry got old distance new → (past : Past) × IsPast new past
@@ -488,7 +499,7 @@ left_sound entry got old new error sound refused =
 
 -- a builder without bytes, promises and contents that are held has an empty past
 pub nothing_written : (b : Backed) (switches : Switches) (holdings : Holdings) → b.bytes ≡ [] → DescribedBy b []
-    → caches.IsEmpty holdings.held_texts → caches.IsEmpty holdings.held_byte_lists → caches.IsEmpty holdings.held_vtables → IsPast (state_from b switches holdings) no_past
+    → HoldsNothing holdings.held_texts → HoldsNothing holdings.held_byte_lists → HoldsNothing holdings.held_vtables → IsPast (state_from b switches holdings) no_past
 nothing_written b switches holdings bytes described none_of_texts none_of_lists none_of_vtables = record { bytes = sym bytes; described = described; seen = of_kind; kept = tt }
   where
     of_kind : (kind : Kind) → FindsSeen (state_from b switches holdings) [] kind

@@ -5,8 +5,9 @@ use Rattle.std.specs.Prelude.{if◌then◌else◌}
 use Rattle.std.specs.Str.{bytes_eq}
 use Rattle.std.proofs.lemmas.Slice.Eq.{bytes_eq-Decides}
 use Rattle.planus_back.specs.CacheKeys.{key_at}
-use Rattle.planus_back.specs.Caches.{Has, IsEmpty, Adds, FitsWhereKeyStands}
-use Rattle.planus_back.proofs.Caches.{key_at-front, Fits-front, Fits-empty, Has-stands}
+use Rattle.planus_back.proofs.Caches.{key_at-front}
+use Rattle.planus_write.specs.Holding.{Holds, HoldsNothing, HoldsMore, FitsInFront}
+use Rattle.planus_write.proofs.HeldContents.{holding_fits-front, holds-stands, nothing-fits}
 use Rattle.planus_write.specs.Shared.{Kind, texts, byte_lists, vtables, same_kind, Seen, distance_seen}
 use Rattle.planus_write.specs.State.{State, FindsSeen, holding_of, contents_in}
 
@@ -30,24 +31,24 @@ module _ (old new : State) (front : List ℕ) (bytes_are : new.bytes ≡ front +
   moved_on distance bytes h = rw bytes_are (key_at-front (contents_in kind) front old.bytes distance bytes h)
 
   -- what stands at a distance that is held stood there before
-  stood : (distance : ℕ) (bytes : List ℕ) → Has (holding_of old.holdings kind) distance → key_at (contents_in kind) new.bytes distance ≡ Some bytes → key_at (contents_in kind) old.bytes distance ≡ Some bytes
+  stood : (distance : ℕ) (bytes : List ℕ) → Holds (holding_of old.holdings kind) distance → key_at (contents_in kind) new.bytes distance ≡ Some bytes → key_at (contents_in kind) old.bytes distance ≡ Some bytes
   stood distance bytes has h =
-      let stands = Has-stands (contents_in kind) (holding_of old.holdings kind) old.bytes distance was.fits has in
+      let stands = holds-stands (contents_in kind) (holding_of old.holdings kind) old.bytes distance was.fits has in
       stands.1 ∙ sym (moved_on distance stands.0 stands.1) ∙ h
 
   pub finds_still : holding_of new.holdings kind ≡ holding_of old.holdings kind → FindsSeen new seen kind
   finds_still same = record {
-    fits = rw (same, bytes_are) (Fits-front (contents_in kind) (holding_of old.holdings kind) front old.bytes was.fits);
+    fits = rw (same, bytes_are) (holding_fits-front (contents_in kind) (holding_of old.holdings kind) front old.bytes was.fits);
     finds = λ bytes distance. (
       λ is_seen. let x = (was.finds bytes distance).0 is_seen in (rw same x.0, moved_on distance bytes x.1),
-      λ x. let has : Has (holding_of old.holdings kind) distance = rw (← same) x.0 in (was.finds bytes distance).1 (has, stood distance bytes has x.1),
+      λ x. let has : Holds (holding_of old.holdings kind) distance = rw (← same) x.0 in (was.finds bytes distance).1 (has, stood distance bytes has x.1),
     );
   }
 
 -- contents that were not seen are found once they are added
 module _ (old new : State) (front : List ℕ) (bytes_are : new.bytes ≡ front ++ old.bytes) (seen : List Seen) (kind : Kind) (contents : List ℕ) (place : ℕ)
-    (adds : Adds (holding_of old.holdings kind) place (holding_of new.holdings kind))
-    (fits : FitsWhereKeyStands (contents_in kind) (holding_of old.holdings kind) contents place (holding_of new.holdings kind))
+    (adds : HoldsMore (holding_of old.holdings kind) place (holding_of new.holdings kind))
+    (fits : FitsInFront (contents_in kind) old.bytes contents place (holding_of new.holdings kind))
     (stands : key_at (contents_in kind) new.bytes place ≡ Some contents)
     (is_new : distance_seen seen (record { kind = kind; bytes = contents }) ≡ None)
     (was : FindsSeen old seen kind) where
@@ -58,12 +59,12 @@ module _ (old new : State) (front : List ℕ) (bytes_are : new.bytes ≡ front +
   was_new distance e = none_is_not_some distance (sym is_new ∙ e)
 
   abbrev IsFoundAt : Option ℕ → List ℕ → ℕ → Type 0
-  IsFoundAt answer bytes distance = (answer ≡ Some distance) ↔ (Has (holding_of new.holdings kind) distance × (key_at (contents_in kind) new.bytes distance ≡ Some bytes))
+  IsFoundAt answer bytes distance = (answer ≡ Some distance) ↔ (Holds (holding_of new.holdings kind) distance × (key_at (contents_in kind) new.bytes distance ≡ Some bytes))
 
   found_here : (bytes : List ℕ) (distance : ℕ) → contents ≡ bytes → IsFoundAt (Some place) bytes distance
   found_here bytes distance same = (
     λ e. let at : place ≡ distance = some_same place distance e in
-        (subst (Has (holding_of new.holdings kind)) at ((adds place).1 (inr refl)), subst (λ d. key_at (contents_in kind) new.bytes d ≡ Some bytes) at (stands ∙ ap Some same)),
+        (subst (Holds (holding_of new.holdings kind)) at ((adds place).1 (inr refl)), subst (λ d. key_at (contents_in kind) new.bytes d ≡ Some bytes) at (stands ∙ ap Some same)),
     λ x. elim ((adds distance).0 x.0) as (λ _. Some place ≡ Some distance) [
       | inl has ↦ absurd (was_new distance (subst (λ b. distance_seen seen (record { kind = kind; bytes = b }) ≡ Some distance) (sym same)
           ((was.finds bytes distance).1 (has, stood old new front bytes_are seen kind was distance bytes has x.1))))
@@ -97,7 +98,7 @@ module _ (old new : State) (front : List ℕ) (bytes_are : new.bytes ≡ front +
 
   pub finds_added : FindsSeen new added kind
   finds_added = record {
-    fits = fits new.bytes (rw bytes_are (Fits-front (contents_in kind) (holding_of old.holdings kind) front old.bytes was.fits)) stands;
+    fits = rw bytes_are (fits front (rw bytes_are at stands));
     finds = finds_bytes;
   }
 
@@ -116,8 +117,8 @@ other_finds state kind other contents place seen apart was = record {
 }
 
 -- where nothing was written nothing is seen, and empty caches find nothing
-pub finds_nothing : (state : State) (kind : Kind) → IsEmpty (holding_of state.holdings kind) → FindsSeen state [] kind
+pub finds_nothing : (state : State) (kind : Kind) → HoldsNothing (holding_of state.holdings kind) → FindsSeen state [] kind
 finds_nothing state kind empty = record {
-  fits = Fits-empty (contents_in kind) (holding_of state.holdings kind) state.bytes empty;
+  fits = nothing-fits (contents_in kind) (holding_of state.holdings kind) state.bytes empty;
   finds = λ bytes distance. (λ e. absurd (none_is_not_some distance e), λ x. absurd (empty distance x.0));
 }

@@ -110,12 +110,12 @@ module _ (vtable : List ℕ) (body : Part) (old new : Backed) (first second thir
 module _ (vtable : List ℕ) (body : Part) (a : Inside) (off : a.vtables.on ≡ false) (is_vtable : vtable_in vtable ≡ Some vtable) where
   vtable_down : (place : ℕ) (new : Backed) → PutsPart (vtable_part vtable) a.backing place new → PutsDown (vtable_entry vtable) [] (state_of a) place (state_of (record a { backing = new }))
   vtable_down place new h =
-      let none : FindsIf a.vtables.on vtable_in a.vtables.held a.backing.bytes vtable None = subst (λ on. FindsIf on vtable_in a.vtables.held a.backing.bytes vtable None) (sym off) refl in
-      let keeps : KeepsIf a.vtables.on vtable_in vtable place a.vtables.held a.vtables.held = subst (λ on. KeepsIf on vtable_in vtable place a.vtables.held a.vtables.held) (sym off) refl in
+      let none : FindsIf a.vtables.on vtable_in a.vtables.holding a.backing.bytes vtable None = subst (λ on. FindsIf on vtable_in a.vtables.holding a.backing.bytes vtable None) (sym off) refl in
+      let keeps : KeepsIf a.vtables.on vtable_in a.backing.bytes vtable place a.vtables.holding a.vtables.holding = subst (λ on. KeepsIf on vtable_in a.backing.bytes vtable place a.vtables.holding a.vtables.holding) (sym off) refl in
       let there = new_bytes (length vtable) 2 place a.backing h.between new vtable h.room refl h.put ∙ append_assoc vtable (replicate h.room.padding 0) a.backing.bytes in
       let in_front : vtable_in new.bytes ≡ Some vtable = ap vtable_in there ∙ vtable_in_front vtable (replicate h.room.padding 0 ++ a.backing.bytes) vtable is_vtable in
       let long : length new.bytes ≡ place = new_length (length vtable) 2 place a.backing h.between new vtable h.room refl h.put in
-      shared_down vtables vtable (vtable_part vtable) [] a.backing (state_of a).switches (state_of a).holdings place h.between new a.vtables.held vtable none h.room keeps refl refl h.put
+      shared_down vtables vtable (vtable_part vtable) [] a.backing (state_of a).switches (state_of a).holdings place h.between new a.vtables.holding vtable none h.room keeps refl refl h.put
       (at_its_place vtable_in new.bytes place vtable long in_front) (new_vtables vtable)
 
   part_down : (part : Part) (old new : Backed) (place : ℕ) → PutsPart part old place new

@@ -6,6 +6,7 @@ pub mod Parts
 pub mod Kept
 pub mod Limits
 pub mod Backed
+pub mod Holding
 pub mod State
 pub mod InBuilder
 pub mod Sharing

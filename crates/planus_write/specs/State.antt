@@ -1,21 +1,21 @@
 -- What a builder is to its callers.
 use Rattle.std.specs.Prelude.{◌≡◌, ℕ, List, ◌++◌, length, Option, Some, ◌↔◌}
 use Rattle.planus_back.specs.CacheKeys.{key_at, bytes_in, vtable_in}
-use Rattle.planus_back.specs.Caches.{Held, Has, Fits}
 use Rattle.planus_back.specs.Descriptions.{Describes}
+use Rattle.planus_write.specs.Holding.{Holding, Holds, HoldingFits}
 use Rattle.planus_write.specs.Shared.{Kind, texts, byte_lists, vtables, Switches, Seen}
 use Rattle.planus_write.specs.Shared.{distance_seen}
 use Rattle.planus_write.specs.Past.{Past}
 use Rattle.planus_write.specs.Kept.{AllSeenKept}
 use Rattle.planus_back.specs.Promises.{Promise}
 
--- what the caches hold, one of each kind of contents
+-- what is held of each kind of contents
 pub record Holdings : Type 0 where
-  pub held_texts : Held
-  pub held_byte_lists : Held
-  pub held_vtables : Held
+  pub held_texts : Holding
+  pub held_byte_lists : Holding
+  pub held_vtables : Holding
 
-abbrev pub holding_of : Holdings → Kind → Held
+abbrev pub holding_of : Holdings → Kind → Holding
 holding_of holdings texts = holdings.held_texts
 holding_of holdings byte_lists = holdings.held_byte_lists
 holding_of holdings vtables = holdings.held_vtables
@@ -27,7 +27,7 @@ contents_in byte_lists = bytes_in
 contents_in vtables = vtable_in
 
 -- Its bytes; the remainder and the mask that describe its promises; how many bytes fit without
--- memory; which equal contents it writes once; and what its caches hold of them.
+-- memory; which equal contents it writes once; and what is held of them.
 pub record State : Type 0 where
   pub bytes : List ℕ
   pub delayed : ℕ
@@ -36,12 +36,12 @@ pub record State : Type 0 where
   pub switches : Switches
   pub holdings : Holdings
 
--- The cache of a kind fits the bytes, and finds contents there exactly where they were seen.
+-- What is held of a kind fits the bytes, and contents are found there exactly where they were seen.
 pub record FindsSeen (state : State) (seen : List Seen) (kind : Kind) : Type 0 where
-  pub fits : Fits (contents_in kind) (holding_of state.holdings kind) state.bytes
+  pub fits : HoldingFits (contents_in kind) (holding_of state.holdings kind) state.bytes
   pub finds : (bytes : List ℕ) (distance : ℕ)
       → (distance_seen seen (record { kind = kind; bytes = bytes }) ≡ Some distance)
-      ↔ (Has (holding_of state.holdings kind) distance
+      ↔ (Holds (holding_of state.holdings kind) distance
       × (key_at (contents_in kind) state.bytes distance ≡ Some bytes))
 
 -- This may be what was written: the builder has its bytes, describes its promises, and finds the

@@ -54,9 +54,9 @@ state_of a =
       vtables_on = a.vtables.on;
     })
     (record {
-      held_texts = a.texts.held;
-      held_byte_lists = a.byte_lists.held;
-      held_vtables = a.vtables.held;
+      held_texts = a.texts.holding;
+      held_byte_lists = a.byte_lists.holding;
+      held_vtables = a.vtables.holding;
     })
 
 -- A builder always has some past.

@@ -11,7 +11,7 @@ use crate::byte_lists::{ByteItems, ByteList, Copied};
 use crate::caches::Caches;
 use crate::errors::BuildError;
 use crate::offset::{List, Offset, Text};
-use crate::sharing::{Lookup, Sharing, find_or_reserve};
+use crate::sharing::{Lookup, Sharing, find_or_plan};
 use crate::traits::{Primitive, WriteAsOffset, WriteAsUnionVector};
 use crate::union_vector_offset::UnionVectorOffset;
 use planus_back::{ByteVec, Fill, Overwrite, VTable};
@@ -184,7 +184,7 @@ impl Builder {
     {
         let bytes = text.as_bytes();
         let size = bytes.len() + 5;
-        match find_or_reserve(
+        match find_or_plan(
             &mut self.backing,
             &mut self.texts,
             &ByteList(bytes),
@@ -192,10 +192,10 @@ impl Builder {
             WORD_MASK,
         )? {
             Lookup::Found(distance) => Ok(Offset::at(distance)),
-            Lookup::Reserved(place) => {
-                self.backing
-                    .put_three(&(bytes.len() as u32).to_le_bytes(), bytes, &[0]);
-                Ok(Offset::at(place))
+            Lookup::Planned(plan) => {
+                let count = (bytes.len() as u32).to_le_bytes();
+                self.backing.put_planned_slices(&plan, &count, bytes, &[0]);
+                Ok(Offset::at(plan.place))
             }
         }
     }
@@ -209,7 +209,7 @@ impl Builder {
         ensures { WritesByteList (L.bytes_of list.now) self.old result self.new }
     {
         let count = list.count();
-        match find_or_reserve(
+        match find_or_plan(
             &mut self.backing,
             &mut self.byte_lists,
             list,
@@ -217,11 +217,10 @@ impl Builder {
             WORD_MASK,
         )? {
             Lookup::Found(distance) => Ok(Offset::at(distance)),
-            Lookup::Reserved(place) => {
-                self.backing
-                    .put_overwritten(place - 4, count, &Copied { items: list });
-                self.backing.put(&(count as u32).to_le_bytes());
-                Ok(Offset::at(place))
+            Lookup::Planned(plan) => {
+                let items = Copied { items: list };
+                self.backing.put_planned_list(&plan, count as u32, &items);
+                Ok(Offset::at(plan.place))
             }
         }
     }
@@ -237,11 +236,12 @@ impl Builder {
     }
 
     // A vtable as one part. Its own size stands in front.
+    #[inline(never)]
     pub(crate) fn write_vtable(&mut self, bytes: &[u8]) -> Result<u32, BuildError>
         requires { vtable_in bytes.now ≡ Some bytes.now }
         ensures { WritesEntry (vtable_entry bytes.now) [] self.old result self.new }
     {
-        match find_or_reserve(
+        match find_or_plan(
             &mut self.backing,
             &mut self.vtables,
             &ByteList(bytes),
@@ -249,9 +249,9 @@ impl Builder {
             1,
         )? {
             Lookup::Found(distance) => Ok(distance),
-            Lookup::Reserved(place) => {
-                self.backing.put(bytes);
-                Ok(place)
+            Lookup::Planned(plan) => {
+                self.backing.put_planned_slices(&plan, bytes, &[], &[]);
+                Ok(plan.place)
             }
         }
     }

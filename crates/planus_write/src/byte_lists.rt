@@ -2,10 +2,11 @@
 ghost use Rattle.std.specs.Prelude.{◌≡◌, ◌<◌, ◌≤◌, ◌^◌, ℕ, List, length, map};
 ghost use Rattle.std.specs.Int.{w8, cast_unsigned};
 ghost use Rattle.planus_back.specs.Padding.{greatest_place};
+ghost use Rattle.planus_back.specs.Buckets.{FoundAmong};
 ghost use Rattle.planus_back.specs.Caches.{Fits, IsBucketOf, IsFound};
 
 use crate::lists::write_each;
-use planus_back::{Bucket, Cache, GetCacheKey, Overwrite};
+use planus_back::{Bucket, Cache, GetCacheKey, Overwrite, find_key, find_signed_key};
 
 /// A list of `u8`: a count of 4 bytes, and the bytes.
 #[derive(Clone, Copy)]
@@ -45,6 +46,10 @@ pub(crate) trait ByteItems {
         requires fits { Fits C.key_in cache.now serialized.now }
         requires bucket { IsBucketOf cache.now (bytes_of self.now) bucket }
         ensures { IsFound C.key_in cache.now serialized.now (bytes_of self.now) result };
+
+    /// Looks for them at some distances.
+    fn find_among<C: GetCacheKey>(&self, distances: &[u32], serialized: &[u8]) -> Option<u32>
+        ensures { FoundAmong C.key_in distances.now serialized.now (bytes_of self.now) result };
 }
 
 impl<'a> ByteItems for ByteList<'a> {
@@ -74,6 +79,11 @@ impl<'a> ByteItems for ByteList<'a> {
     ) -> Option<u32> {
         cache.get_in(bucket, serialized, self.0)
     }
+
+    #[inline]
+    fn find_among<C: GetCacheKey>(&self, distances: &[u32], serialized: &[u8]) -> Option<u32> {
+        find_key::<C>(distances, serialized, self.0)
+    }
 }
 
 impl<'a> ByteItems for SignedList<'a> {
@@ -102,6 +112,11 @@ impl<'a> ByteItems for SignedList<'a> {
         serialized: &[u8],
     ) -> Option<u32> {
         cache.get_signed_in(bucket, serialized, self.0)
+    }
+
+    #[inline]
+    fn find_among<C: GetCacheKey>(&self, distances: &[u32], serialized: &[u8]) -> Option<u32> {
+        find_signed_key::<C>(distances, serialized, self.0)
     }
 }
 

@@ -7,6 +7,7 @@ mod by_ref;
 mod byte_lists;
 pub mod caches;
 pub mod errors;
+mod first_distances;
 mod impls;
 pub mod laws;
 mod lists;

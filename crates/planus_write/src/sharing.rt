@@ -1,13 +1,15 @@
 //! Contents of one kind that are written once.
-ghost use Rattle.std.specs.Prelude.{◌≡◌, ◌+◌, ◌≤◌, ◌^◌, None, IfOk, OnOk, OnErr, length};
-ghost use Rattle.planus_back.specs.Caches.{Fits, IsEmpty};
-ghost use Rattle.planus_back.specs.Padding.{greatest_place};
+ghost use Rattle.std.specs.Prelude.{◌≡◌, ◌+◌, ◌≤◌, ◌^◌, true, false, IfOk, OnOk, OnErr};
+ghost use Rattle.planus_back.specs.Caches.{IsEmpty};
 ghost use Rattle.planus_back.specs.Promises.{IsPowerOfTwo};
-ghost use Rattle.planus_write.specs.Sharing.{LooksIn, Finds, KeepsIn, FindsOrReserves};
+ghost use Rattle.planus_write.specs.Holding.{few, many, HoldingFits, HoldsNothing, FindsHeld};
+ghost use Rattle.planus_write.specs.Sharing.{LooksIn, Finds, Keeps, KeepsIf, PlansShared};
+ghost use Rattle.planus_write.specs.Sharing.{FindsOrPlans};
 
-use crate::backing::Backing;
+use crate::backing::{Backing, Plan};
 use crate::byte_lists::ByteItems;
 use crate::errors::BuildError;
+use crate::first_distances::FirstDistances;
 use planus_back::{Bucket, Cache, GetCacheKey};
 use std::alloc::{AllocError, Global};
 use std::fmt;
@@ -17,33 +19,47 @@ use std::marker::Model;
 pub(crate) enum Lookup {
     /// Equal contents stand at this distance from the end, and nothing is to be written.
     Found(u32),
-    /// There is room for the part at this place, and the padding behind it is written.
-    Reserved(u32),
+    /// There is room for the part, which is planned.
+    Planned(Plan),
 }
 
 /// Contents of one kind, found again if equal ones are to be written once.
 #[derive(Drop)]
 pub(crate) struct Sharing<C> {
     on: bool,
+    // Where contents stand while they are few.
+    first: FirstDistances,
+    // Whether they are so many that the cache has all of them. It is empty before.
+    is_many: bool,
     cache: Cache<C>,
 }
 
 impl<C> Model for Sharing<C> {
+    ghost use Rattle.std.specs.Prelude.{◌≡◌, cond, false};
+    ghost use Rattle.planus_back.specs.Caches.{IsEmpty};
+    ghost use Rattle.planus_write.specs.Holding.{few, many};
     ghost use Rattle.planus_write.specs.Sharing.{Shares};
 
     ghost Value = { Shares };
 
-    ghost view = { λ a. record { on = a.on; held = a.cache } };
+    ghost view = { λ a. record {
+      on = a.on;
+      holding = cond a.is_many (many a.cache) (few a.first);
+    } };
+
+    ghost invariant = { λ a. a.is_many ≡ false → IsEmpty a.cache };
 }
 
 impl<C: GetCacheKey> Sharing<C> {
     // Nothing is found yet, and nothing ever will be if this isn't on.
     pub(crate) fn new(alloc: Global, on: bool, hash_mask: u64) -> Result<Sharing<C>, AllocError>
         ensures on { IfOk result (λ sharing. sharing.on ≡ on) }
-        ensures empty { IfOk result (λ sharing. IsEmpty sharing.held) }
+        ensures empty { IfOk result (λ sharing. HoldsNothing sharing.holding) }
     {
         Ok(Sharing {
             on,
+            first: FirstDistances::new(),
+            is_many: false,
             cache: Cache::new(alloc, hash_mask)?,
         })
     }
@@ -56,58 +72,166 @@ impl<C: GetCacheKey> Sharing<C> {
         self.on
     }
 
-    // Where equal contents are found, if they ever are.
-    #[inline]
+    // Where the cache has the contents, or would have them, if they are looked for there.
+    #[inline(always)]
     fn bucket_of<L: ByteItems>(&self, contents: &L) -> Option<Bucket>
-        ensures { LooksIn self.now (L.bytes_of contents.now) result }
+        ensures { LooksIn self.now.holding (L.bytes_of contents.now) result }
     {
-        if !self.on {
-            return None;
+        if self.is_many {
+            return Some(contents.bucket_in(&self.cache));
         }
-        Some(contents.bucket_in(&self.cache))
+        None
     }
 
     // The distance at which equal contents stand in the bytes.
-    #[inline]
-    fn find<L: ByteItems>(
+    #[inline(always)]
+    fn find_in<L: ByteItems>(
         &self,
         bucket: Option<Bucket>,
         serialized: &[u8],
         contents: &L,
     ) -> Option<u32>
-        requires fits { Fits C.key_in self.now.held serialized.now }
-        requires bucket { LooksIn self.now (L.bytes_of contents.now) bucket }
-        ensures { Finds C.key_in self.now serialized.now (L.bytes_of contents.now) result }
+        requires fits { HoldingFits C.key_in self.now.holding serialized.now }
+        requires bucket { LooksIn self.now.holding (L.bytes_of contents.now) bucket }
+        ensures { FindsHeld C.key_in self.now.holding serialized.now
+            (L.bytes_of contents.now) result }
     {
-        contents.find_in(bucket?, &self.cache, serialized)
+        match bucket {
+            Some(bucket) => contents.find_in(bucket, &self.cache, serialized),
+            None => contents.find_among::<C>(self.first.as_slice(), serialized),
+        }
     }
 
-    // The contents that are looked for there stand at the distance, or are about to. A refusal of
-    // memory changes nothing.
-    #[inline]
-    fn keep(&mut self, bucket: Option<Bucket>, distance: u32) -> Result<(), AllocError>
-        ensures ok { OnOk result (KeepsIn C.key_in bucket distance self.old self.new) }
-        ensures err { OnErr result ((¬ (bucket ≡ None)) × (self.new ≡ self.old)) }
+    // The same, if equal contents are written once.
+    #[inline(always)]
+    pub(crate) fn find<L: ByteItems>(&self, serialized: &[u8], contents: &L) -> Option<u32>
+        requires { HoldingFits C.key_in self.now.holding serialized.now }
+        ensures { Finds C.key_in self.now serialized.now (L.bytes_of contents.now) result }
+    {
+        if !self.on {
+            return None;
+        }
+        self.find_in(self.bucket_of(contents), serialized, contents)
+    }
+
+    // The contents stand at the distance, or are about to. A refusal of memory changes nothing.
+    #[inline(never)]
+    fn keep_in<L: ByteItems>(
+        &mut self,
+        bucket: Option<Bucket>,
+        serialized: &[u8],
+        contents: &L,
+        distance: u32,
+    ) -> Result<(), AllocError>
+        requires fits { HoldingFits C.key_in self.old.holding serialized.now }
+        requires bucket { LooksIn self.old.holding (L.bytes_of contents.now) bucket }
+        ensures on { self.new.on ≡ self.old.on }
+        ensures ok { OnOk result (KeepsIf true C.key_in serialized.now (L.bytes_of contents.now)
+            distance self.old.holding self.new.holding) }
+        ensures err { OnErr result (self.new ≡ self.old) }
     {
         if let Some(bucket) = bucket {
-            self.cache.insert_in(bucket, distance)?;
+            return self.cache.insert_in(bucket, distance);
         }
+        if self.first.push(distance) {
+            return Ok(());
+        }
+        spill(
+            &mut self.cache,
+            self.first.as_slice(),
+            serialized,
+            contents,
+            distance,
+        )?;
+        self.first.clear();
+        self.is_many = true;
         Ok(())
     }
 
     // Nothing is found any more.
+    #[inline]
     pub(crate) fn clear(&mut self)
         ensures on { self.new.on ≡ self.old.on }
-        ensures empty { IsEmpty self.new.held }
+        ensures empty { HoldsNothing self.new.holding }
     {
+        self.first.clear();
+        self.is_many = false;
         self.cache.clear();
     }
 }
 
-// Finds equal contents, or makes room for a part of `size` bytes, in this order: it may be too
-// large; the memory of padding and part; that of the cache; the padding.
+// Lets an empty cache have the distances at which the first contents stand in the bytes, and that of
+// others, which are about to stand there. A refusal of memory leaves it empty.
+#[cold]
+#[inline(never)]
+fn spill<C: GetCacheKey, L: ByteItems>(
+    cache: &mut Cache<C>,
+    first: &[u32],
+    serialized: &[u8],
+    contents: &L,
+    distance: u32,
+) -> Result<(), AllocError>
+    requires empty { IsEmpty cache.old }
+    requires fits { HoldingFits C.key_in (few first.now) serialized.now }
+    ensures ok { OnOk result (KeepsIf true C.key_in serialized.now (L.bytes_of contents.now)
+        distance (few first.now) (many cache.new)) }
+    ensures err { OnErr result (IsEmpty cache.new) }
+{
+    let filled = fill(cache, first, serialized, contents, distance);
+    if filled.is_err() {
+        cache.clear();
+    }
+    filled
+}
+
+// The same, but a refusal leaves some of the distances.
+fn fill<C: GetCacheKey, L: ByteItems>(
+    cache: &mut Cache<C>,
+    first: &[u32],
+    serialized: &[u8],
+    contents: &L,
+    distance: u32,
+) -> Result<(), AllocError>
+    requires empty { IsEmpty cache.old }
+    requires fits { HoldingFits C.key_in (few first.now) serialized.now }
+    ensures { OnOk result (KeepsIf true C.key_in serialized.now (L.bytes_of contents.now)
+        distance (few first.now) (many cache.new)) }
+{
+    for at in first {
+        if let Some(key) = C::key_at(serialized, *at) {
+            cache.insert(key, *at)?;
+        }
+    }
+    cache.insert_in(contents.bucket_in(cache), distance)
+}
+
+// Makes room for a part of `size` bytes whose contents aren't found, in this order: it may be too
+// large; the memory of padding and part; that of the cache.
 #[inline]
-pub(crate) fn find_or_reserve<C: GetCacheKey, L: ByteItems>(
+pub(crate) fn plan_shared<C: GetCacheKey, L: ByteItems>(
+    backing: &mut Backing,
+    sharing: &mut Sharing<C>,
+    bucket: Option<Bucket>,
+    contents: &L,
+    size: usize,
+    mask: usize,
+) -> Result<Plan, BuildError>
+    requires power { IsPowerOfTwo (mask + 1) }
+    requires bound { mask + 1 ≤ 2 ^ 30 }
+    requires on { sharing.old.on ≡ true }
+    requires fits { HoldingFits C.key_in sharing.old.holding backing.old.bytes }
+    requires bucket { LooksIn sharing.old.holding (L.bytes_of contents.now) bucket }
+    ensures { PlansShared C.key_in (L.bytes_of contents.now) size (mask + 1)
+        backing.old sharing.old result backing.new sharing.new }
+{
+    let plan = backing.plan_room(size, mask)?;
+    sharing.keep_in(bucket, backing.as_slice(), contents, plan.place)?;
+    Ok(plan)
+}
+
+// Finds equal contents, or makes room for a part of `size` bytes, as `plan_shared` does.
+#[inline(always)]
+pub(crate) fn find_or_plan<C: GetCacheKey, L: ByteItems>(
     backing: &mut Backing,
     sharing: &mut Sharing<C>,
     contents: &L,
@@ -116,20 +240,19 @@ pub(crate) fn find_or_reserve<C: GetCacheKey, L: ByteItems>(
 ) -> Result<Lookup, BuildError>
     requires power { IsPowerOfTwo (mask + 1) }
     requires bound { mask + 1 ≤ 2 ^ 30 }
-    requires fits { Fits C.key_in sharing.old.held backing.old.bytes }
-    ensures found { FindsOrReserves C.key_in (L.bytes_of contents.now) size (mask + 1)
+    requires fits { HoldingFits C.key_in sharing.old.holding backing.old.bytes }
+    ensures { FindsOrPlans C.key_in (L.bytes_of contents.now) size (mask + 1)
         backing.old sharing.old result backing.new sharing.new }
-    ensures small { length backing.old.bytes ≤ greatest_place }
 {
+    if !sharing.on {
+        return Ok(Lookup::Planned(backing.plan_room(size, mask)?));
+    }
     let bucket = sharing.bucket_of(contents);
-    if let Some(distance) = sharing.find(bucket, backing.as_slice(), contents) {
+    if let Some(distance) = sharing.find_in(bucket, backing.as_slice(), contents) {
         return Ok(Lookup::Found(distance));
     }
-    let plan = backing.plan_part(size, mask)?;
-    backing.reserve(plan.padding + size)?;
-    sharing.keep(bucket, plan.place)?;
-    backing.pad(&plan);
-    Ok(Lookup::Reserved(plan.place))
+    let plan = plan_shared(backing, sharing, bucket, contents, size, mask)?;
+    Ok(Lookup::Planned(plan))
 }
 
 /// Prints whether equal contents are written once.

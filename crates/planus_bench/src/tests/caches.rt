@@ -92,62 +92,96 @@ fn are_at(three: Three, want: [u32; 3]) -> bool {
         && matches!(table, Ok(at) if at == want[2])
 }
 
-fn are_refused(three: Three) -> bool {
-    matches!(
-        three,
-        [
-            Err(BuildError::OutOfMemory),
-            Err(BuildError::OutOfMemory),
-            Err(BuildError::OutOfMemory),
-        ]
-    )
+// With one more of a kind there are so many that a cache has them.
+const OTHERS: [&str; 15] = [
+    "",
+    "a",
+    "ab",
+    "abc",
+    "abcd",
+    "abcde",
+    "abcdef",
+    "abcdefg",
+    "abcdefgh",
+    "abcdefghi",
+    "abcdefghij",
+    "abcdefghijk",
+    "abcdefghijkl",
+    "abcdefghijklm",
+    "abcdefghijklmn",
+];
+
+// Whether the others are written as texts and as byte lists, or found, and there are so many bytes
+// then.
+fn have_others(builder: &mut Builder, len: usize) -> bool {
+    for letters in OTHERS {
+        if text_at(builder, letters).is_err() || bytes_at(builder, letters).is_err() {
+            return false;
+        }
+    }
+    builder.len() == len
 }
 
-// Whether contents that the caches don't have are refused, and those that they have are found.
+fn is_refused(at: Result<u32, BuildError>) -> bool {
+    at == Err(BuildError::OutOfMemory)
+}
+
+// Whether contents for which a cache would be needed are refused, and those before are found.
 fn only_equal_contents_are_found(builder: &mut Builder, before: &[u8]) -> bool {
     let room = builder.room();
-    are_refused(write_three(builder, "Hi", true))
+    is_refused(text_at(builder, "Hi"))
+        && is_refused(bytes_at(builder, "Hi"))
+        && have_others(builder, 424)
         && builder.as_slice() == before
         && builder.room() == room
-        && are_at(write_three(builder, "Axe", false), [8, 16, 40])
+        && are_at(write_three(builder, "Axe", false), [8, 16, 432])
 }
 
 // Tells that with all memory taken; nothing where memory was left.
-fn found_without_memory(alloc: Global, builder: &mut Builder) -> Result<Option<bool>, AllocError> {
-    let before = Vec::from_slice(alloc, builder.as_slice())?;
+fn found_without_memory(
+    alloc: Global,
+    builder: &mut Builder,
+    before: &[u8],
+) -> Result<Option<bool>, AllocError> {
     let mut held: Vec<Vec<u8>> = Vec::with_capacity(alloc, 262144)?;
     let exhausted = exhaust(alloc, &mut held)?;
-    let found = only_equal_contents_are_found(builder, before.as_slice());
+    let found = only_equal_contents_are_found(builder, before);
     drop(held);
     Ok(if exhausted { Some(found) } else { None })
 }
 
-// What stands at the end, the last of it first. The second of the three tables, which was written
+// What stands in front, the last of it first. The second of the three tables, which was written
 // while memory was refused, has the vtable of the first.
-const WRITTEN: &[u8] = b"\xf8\xff\xff\xff\x07\0\0\0\x08\0\x08\0\0\0\x04\0\
+const IN_FRONT: &[u8] = b"\xf8\xff\xff\xff\x07\0\0\0\x08\0\x08\0\0\0\x04\0\
     \x02\0\0\0Hi\0\0\x02\0\0\0Hi\0\0\
-    \xf0\xff\xff\xff\x07\0\0\0\xf8\xff\xff\xff\x07\0\0\0\x08\0\x06\0\0\0\x04\0\
-    \x03\0\0\0Axe\0\x03\0\0\0Axe\0";
+    \x68\xfe\xff\xff\x07\0\0\0";
 
-// Whether what was refused is written once memory is there again.
-fn written_again(builder: &mut Builder) -> bool {
-    are_at(write_three(builder, "Hi", true), [48, 56, 72]) && builder.as_slice() == WRITTEN
+// Whether what was refused is written once memory is there again, and all of it is found.
+fn written_again(builder: &mut Builder, before: &[u8]) -> bool {
+    are_at(write_three(builder, "Hi", true), [440, 448, 464])
+        && have_others(builder, 464)
+        && builder.as_slice().starts_with(IN_FRONT)
+        && builder.as_slice().ends_with(before)
 }
 
-// Whether a builder with room refuses contents that are new where there is no memory for their
-// entries, and writes them once there is; nothing where memory was left. All have one hash, of
-// which the first distance takes no block of memory, and the second does.
+// Whether a builder with room refuses contents for whose cache there is no memory, and writes them
+// once there is; nothing where memory was left.
 fn entries_are_refused(alloc: Global, builder: &mut Builder) -> Result<Option<bool>, AllocError> {
     let first = are_at(write_three(builder, "Axe", false), [8, 16, 32]);
-    match found_without_memory(alloc, builder)? {
-        Some(found) => Ok(Some(first && found && written_again(builder))),
+    let others = have_others(builder, 424);
+    let before = Vec::from_slice(alloc, builder.as_slice())?;
+    match found_without_memory(alloc, builder, before.as_slice())? {
+        Some(found) => {
+            let written = written_again(builder, before.as_slice());
+            Ok(Some(first && others && found && written))
+        }
         None => Ok(None),
     }
 }
 
-// The same of a new builder with room for 256 bytes.
-fn entries_in_256_bytes(alloc: Global, caches: Caches) -> Result<Option<bool>, AllocError> {
-    match Builder::with_caches(alloc, 256, caches) {
+// The same of a new builder with room for 1024 bytes.
+fn entries_in_1024_bytes(alloc: Global, caches: Caches) -> Result<Option<bool>, AllocError> {
+    match Builder::with_caches(alloc, 1024, caches) {
         Ok(mut builder) => entries_are_refused(alloc, &mut builder),
         Err(_) => Err(AllocError),
     }
@@ -155,7 +189,7 @@ fn entries_in_256_bytes(alloc: Global, caches: Caches) -> Result<Option<bool>, A
 
 #[test]
 fn entries_with_refused_memory(rt: HostRuntime) -> Result<(), Fail> {
-    let refused = entries_in_256_bytes(rt.alloc(), Switches::of(7).caches(0))?;
+    let refused = entries_in_1024_bytes(rt.alloc(), Switches::of(7).caches(0))?;
     check(&rt, holds_or_says(&rt, refused)?, "refused entries");
     Ok(())
 }

@@ -74,7 +74,7 @@ fn put_each(bytes: &mut BackVec)
     ensures { bytes.new.room + 21 ≡ bytes.old.room }
 {
     bytes.put_slice(b"end");
-    bytes.put_three(b"<", b"body", b">>");
+    bytes.put_three_padded(0, b"<", b"body", b">>");
     bytes.put_zeros(0);
     bytes.put_zeros(3);
     bytes.put_filled(0x4030201, 4, &PlaceWord);

@@ -1,0 +1,6 @@
+-- What the type of a slice of bytes says of them.
+use Rattle.std.specs.Prelude.{ℕ, ◌<◌, List, slice_index}
+
+-- each is a byte
+abbrev pub AreBytes : List ℕ → Type 0
+AreBytes bytes = (i : ℕ) → slice_index bytes i < 256

@@ -1,0 +1,134 @@
+-- What the definitions of what is held say of each other.
+use Rattle.std.proofs.Common.{◌≡◌, ℕ, ◌+◌, ◌<◌, List, [], ◌∷◌, ◌++◌, length, get_or, Option, Some, None, inl, inr, arith, refl, sym, ap, ◌∙◌, Bool, true, false, cond, Result, Ok, Err}
+use Rattle.std.specs.Result.{OnOk}
+use Rattle.std.specs.declared.alloc.AllocError.{AllocError}
+use Rattle.std.proofs.lemmas.Grind.{common_steps}
+use Rattle.std.proofs.lemmas.Bool.{cases_lt}
+use Rattle.std.specs.Prelude.{◌↔◌, slice_index}
+use Rattle.planus_back.specs.Buckets.{FoundAmong}
+use Rattle.planus_back.specs.CacheKeys.{key_at}
+use Rattle.planus_back.specs.Caches.{Held, Has, Fits, IsEmpty, Adds, IsBucketOf, FitsWhereItsKeyStands}
+use Rattle.planus_back.specs.declared.bucket.Bucket.{Bucket}
+use Rattle.planus_back.proofs.Caches.{key_at-front, Fits-front, Fits-empty, Has-stands}
+use Rattle.planus_write.specs.Holding.{Holding, few, many, FindContents, Holds, HoldsNothing, HoldsMore, HoldingFits, FitsInFront, FindsHeld}
+use Rattle.planus_write.specs.Sharing.{LooksIn, KeepsIf}
+
+-- it fits with bytes in front
+pub holding_fits-front : (contents_in : FindContents) (holding : Holding) (front bytes : List ℕ) → HoldingFits contents_in holding bytes → HoldingFits contents_in holding (front ++ bytes)
+holding_fits-front contents_in (few distances) front bytes fits = λ i below. let x = fits i below in (x.0, key_at-front contents_in front bytes _ x.0 x.1)
+holding_fits-front contents_in (many held) front bytes fits = Fits-front contents_in held front bytes fits
+
+-- at each distance that is held contents stand
+pub holds-stands : (contents_in : FindContents) (holding : Holding) (bytes : List ℕ) (distance : ℕ) → HoldingFits contents_in holding bytes → Holds holding distance
+    → (contents : List ℕ) × (key_at contents_in bytes distance ≡ Some contents)
+holds-stands contents_in (few distances) bytes distance fits x = let f = fits x.0 x.1 in (f.0, rw (← x.2) f.1)
+holds-stands contents_in (many held) bytes distance fits x = Has-stands contents_in held bytes distance fits x
+
+-- where nothing is held, it fits
+pub nothing-fits : (contents_in : FindContents) (holding : Holding) (bytes : List ℕ) → HoldsNothing holding → HoldingFits contents_in holding bytes
+nothing-fits contents_in (few distances) bytes nothing = λ i below. absurd (nothing (get_or distances i 0) (i, below, refl))
+nothing-fits contents_in (many held) bytes nothing = Fits-empty contents_in held bytes nothing
+
+-- no distances are none that are held
+pub none-nothing : HoldsNothing (few [])
+none-nothing distance x = absurd (omega (arith, x.1))
+
+-- what is found among the first is what is found
+pub found_among : (contents_in : FindContents) (distances bytes contents : List ℕ) (answer : Option ℕ) → FoundAmong contents_in distances bytes contents answer
+    → FindsHeld contents_in (few distances) bytes contents answer
+found_among contents_in distances bytes contents None none = λ distance x stands. none x.0 x.1 (rw x.2 stands)
+found_among contents_in distances bytes contents (Some distance) found = found
+
+-- one distance more among the first
+pub one_more : (distances : List ℕ) (distance : ℕ) → HoldsMore (few distances) distance (few (distances ++ distance ∷ []))
+one_more distances distance other = (
+  λ x. elim (cases_lt x.0 (length distances)) [
+    | inl lt ↦ inl (x.0, lt, grind (arith, common_steps, lt, x.2))
+    | inr le ↦ inr (grind (arith, common_steps, le, x.1, x.2))
+  ],
+  elim [
+    | inl x ↦ (x.0, grind (arith, common_steps, x.1), grind (arith, common_steps, x.1, x.2))
+    | inr e ↦ (length distances, grind (arith, common_steps), grind (arith, common_steps, e))
+  ],
+)
+
+pub one_more-fits : (contents_in : FindContents) (distances bytes contents : List ℕ) (distance : ℕ) → HoldingFits contents_in (few distances) bytes
+    → FitsInFront contents_in bytes contents distance (few (distances ++ distance ∷ []))
+one_more-fits contents_in distances bytes contents distance fits front stands i below =
+    elim (cases_lt i (length distances)) [
+      | inl lt ↦ (let x = holding_fits-front contents_in (few distances) front bytes fits i lt in (x.0, grind (arith, common_steps, lt, x.1)))
+      | inr le ↦ (contents, grind (arith, common_steps, le, below, stands))
+    ]
+
+-- one distance more in the cache
+pub cache_more-fits : (contents_in : FindContents) (old new : Held) (bucket : Bucket) (bytes contents : List ℕ) (distance : ℕ) → HoldingFits contents_in (many old) bytes
+    → IsBucketOf old contents bucket → FitsWhereItsKeyStands contents_in old bucket distance new → FitsInFront contents_in bytes contents distance (many new)
+cache_more-fits contents_in old new bucket bytes contents distance fits its more front stands =
+    more contents its (front ++ bytes) (Fits-front contents_in old front bytes fits) stands
+
+-- a cache has the first distances, so many of them
+abbrev pub HasFirst : Held → List ℕ → ℕ → Type 0
+HasFirst held distances n = (distance : ℕ) → Has held distance ↔ ((i : ℕ) × (i < n) × (slice_index distances i ≡ distance))
+
+pub has-none : (held : Held) (distances : List ℕ) → IsEmpty held → HasFirst held distances 0
+has-none held distances empty distance = (λ has. absurd (empty distance has), λ x. absurd (omega (arith, x.1)))
+
+pub has-next : (old new : Held) (distances : List ℕ) (n : ℕ) → HasFirst old distances n → Adds old (slice_index distances n) new → HasFirst new distances (n + 1)
+has-next old new distances n has adds distance = (
+  λ x. elim ((adds distance).0 x) [
+    | inl there ↦ (let i = (has distance).0 there in (i.0, omega (arith, i.1), i.2))
+    | inr e ↦ (n, omega arith, sym e)
+  ],
+  λ x. elim (cases_lt x.0 n) [
+    | inl lt ↦ (adds distance).1 (inl ((has distance).1 (x.0, lt, x.2)))
+    | inr le ↦ (let same : x.0 ≡ n = omega (arith, le, x.1) in (adds distance).1 (inr (sym x.2 ∙ ap (λ i. slice_index distances i) same)))
+  ],
+)
+
+-- a cache that has all of the first distances, and one more
+pub spilled : (contents_in : FindContents) (distances bytes contents : List ℕ) (old new : Held) (bucket : Bucket) (distance : ℕ) → Fits contents_in old bytes
+    → HasFirst old distances (length distances) → IsBucketOf old contents bucket → Adds old distance new → FitsWhereItsKeyStands contents_in old bucket distance new
+    → KeepsIf true contents_in bytes contents distance (few distances) (many new)
+spilled contents_in distances bytes contents old new bucket distance fits has its adds more = (
+  λ other. (
+    λ x. elim ((adds other).0 x) [ inl there ↦ inl ((has other).0 there) | inr e ↦ inr e ],
+    elim [ inl x ↦ (adds other).1 (inl ((has other).1 x)) | inr e ↦ (adds other).1 (inr e) ],
+  ),
+  cache_more-fits contents_in old new bucket bytes contents distance fits its more,
+)
+
+-- the same at the end of a call
+pub spilled_if : (r : Result (Unit {0}) AllocError) (contents_in : FindContents) (distances bytes contents : List ℕ) (old new : Held) (bucket : Bucket) (distance : ℕ) → Fits contents_in old bytes
+    → HasFirst old distances (length distances) → IsBucketOf old contents bucket → OnOk r (Adds old distance new) → OnOk r (FitsWhereItsKeyStands contents_in old bucket distance new)
+    → OnOk r (KeepsIf true contents_in bytes contents distance (few distances) (many new))
+spilled_if (Ok done) contents_in distances bytes contents old new bucket distance fits has its adds more = spilled contents_in distances bytes contents old new bucket distance fits has its adds more
+spilled_if (Err error) contents_in distances bytes contents old new bucket distance fits has its adds more = tt
+
+-- what is held is the cache, or the first distances
+module _ (contents_in : FindContents) (bytes contents : List ℕ) (distance : ℕ) (held : Held) (distances : List ℕ) where
+  abbrev pub held_if : Bool → Holding
+  held_if is_many = cond is_many (many held) (few distances)
+
+  -- who looks into the cache adds to it
+  pub kept_in_cache : (is_many : Bool) (bucket : Bucket) (new : Held) (r : Result (Unit {0}) AllocError) → LooksIn (held_if is_many) contents (Some bucket)
+      → HoldingFits contents_in (held_if is_many) bytes → OnOk r (Adds held distance new) → OnOk r (FitsWhereItsKeyStands contents_in held bucket distance new)
+      → OnOk r (KeepsIf true contents_in bytes contents distance (held_if is_many) (cond is_many (many new) (few distances)))
+  kept_in_cache true bucket new (Ok done) looks fits adds more = (adds, cache_more-fits contents_in held new bucket bytes contents distance fits looks more)
+  kept_in_cache true bucket new (Err error) looks fits adds more = tt
+  kept_in_cache false bucket new r looks fits adds more = absurd (cc looks)
+
+  -- who doesn't adds to the first
+  pub kept_first : (is_many : Bool) (new : List ℕ) → LooksIn (held_if is_many) contents None → HoldingFits contents_in (held_if is_many) bytes → new ≡ distances ++ distance ∷ []
+      → KeepsIf true contents_in bytes contents distance (held_if is_many) (cond is_many (many held) (few new))
+  kept_first true new looks fits same = absurd looks
+  kept_first false new looks fits same = rw same (one_more distances distance, one_more-fits contents_in distances bytes contents distance fits)
+
+  pub first_fit : (is_many : Bool) → LooksIn (held_if is_many) contents None → HoldingFits contents_in (held_if is_many) bytes → HoldingFits contents_in (few distances) bytes
+  first_fit true looks fits = absurd looks
+  first_fit false looks fits = fits
+
+  -- or has the cache have all of them
+  pub kept_spilled : (is_many : Bool) (new : Held) → LooksIn (held_if is_many) contents None → KeepsIf true contents_in bytes contents distance (few distances) (many new)
+      → KeepsIf true contents_in bytes contents distance (held_if is_many) (many new)
+  kept_spilled true new looks kept = absurd looks
+  kept_spilled false new looks kept = kept

@@ -1,0 +1,29 @@
+use Rattle.std.proofs.Common.{◌≡◌, length, sym, subst, ◌∙◌, arith}
+use Rattle.planus_back.proofs.Caches.{Fits-empty}
+use Rattle.planus_write.proofs.HeldContents.{HasFirst, has-none, has-next, spilled_if}
+use Rattle.planus_write.proofs.SharedContents.{none_is_not_some}
+use Rattle.planus_write.proofs.sharing.fill.Goals as goal
+use Rattle.planus_write.proofs.sharing.fill.Goals.{in-Some+in_ok-insert, in_default}
+
+pub loop-at-init : goal.loop-at-init
+loop-at-init g c = record {
+  fits = Fits-empty g.C.GetCacheKey.key_in c.args.cache.now c.args.serialized.now c.requires.empty;
+  holds = has-none c.args.cache.now c.args.first.now c.requires.empty;
+}
+
+pub loop-at-preserved : goal.loop-at-preserved
+loop-at-preserved g c =
+    let l = c.loop-at in
+    elim c.match-key_at.branch [
+      | in-Some+in_ok-insert w ↦ rw w.cache-is (record {
+        fits = w.in_ok-insert.ensures.fits c.args.serialized.now l.invariant.fits (sym w.in-Some.ensures);
+        holds = has-next l.cache w.insert.new.self c.args.first.now l.at-index l.invariant.holds w.in_ok-insert.ensures.ok;
+      })
+      | in_default w ↦ absurd (none_is_not_some _ (rw w.in_default.is at c.key_at.ensures ∙ (c.requires.fits l.at-index c.loop-at-test.true).1))
+    ]
+
+pub returns : goal.returns
+returns g c =
+    let all : c.loop-at.at-index ≡ length c.args.first.now = omega arith in
+    spilled_if c.insert_in.result g.C.GetCacheKey.key_in c.args.first.now c.args.serialized.now _ c.loop-at.cache c.insert_in.new.self c.bucket_in.result c.args.distance c.loop-at.invariant.fits
+    (subst (HasFirst c.loop-at.cache c.args.first.now) all c.loop-at.invariant.holds) c.bucket_in.ensures c.insert_in.ensures.ok c.insert_in.ensures.fits
