@@ -23,3 +23,4 @@ pub mod FieldItems
 pub mod ListContents
 pub mod lemmas
 pub mod Texts
+pub mod IoErrors
