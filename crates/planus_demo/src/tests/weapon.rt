@@ -191,7 +191,7 @@ fn weapons_behind_their_size(rt: HostRuntime) {
     check(&rt, missing_behind_a_size(rt.alloc()), "no root");
 }
 
-// Whether a value prints this text for debugging; the first letters of it for a text that is longer.
+// Whether what a value prints for debugging begins with this text.
 fn shows<T: Debug>(alloc: Global, value: &T, text: &str) -> bool {
     match format!(in alloc; "{value:?}") {
         Ok(shown) => shown.as_str().starts_with(text),
