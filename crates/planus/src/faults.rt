@@ -2,6 +2,7 @@
 
 use planus_write::BuildError;
 use std::alloc::{AllocError, AllocFailed};
+use std::error::Error;
 use std::fmt;
 
 /// What is wrong with a step.
@@ -47,6 +48,8 @@ impl fmt::Display for Why {
     }
 }
 
+impl Error for Why {}
+
 /// Why a replay stopped.
 #[derive(Clone, Copy, Debug, PartialEq, Eq)]
 pub enum ReplayError {
@@ -72,6 +75,8 @@ impl fmt::Display for ReplayError {
         }
     }
 }
+
+impl Error for ReplayError {}
 
 impl From<BuildError> for ReplayError {
     ghost use Rattle.std.specs.Prelude.{◌≡◌};

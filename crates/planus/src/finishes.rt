@@ -13,7 +13,7 @@ pub struct StepPlace {
 }
 
 /// What a finish gives: the bytes, and where each value since the last clear stands in them.
-#[derive(Debug, Drop)]
+#[derive(Clone, Debug, PartialEq, Eq, Drop)]
 pub struct Finished {
     /// All of the buffer, with its size in front where that was asked for.
     pub bytes: Vec<u8>,

@@ -23,10 +23,11 @@ pub use planus_fields::{
     WriteAsOptional, WriteAsOptionalUnion, WriteAsOptionalUnionVector,
 };
 pub use planus_read::{
-    ArrayWithStartOffset, Error, Place, Plain, PlainTotal, ReadAsRoot, ReadError, Result,
-    SignedBytes, SliceWithStartOffset, Stride, TableRead, TableReadUnion, TableReadUnionVector,
-    TaggedPlace, VectorRead, VectorReadInner, VectorReadUnion, Void, errors, has_identifier,
-    known_or, located, put_fields, read_fields, read_size_prefixed, read_variant, table_reader,
+    ArrayWithStartOffset, Error, Place, Plain, PlainTotal, ReadAsRoot, ReadError, ReadPieceAsRoot,
+    Result, SignedBytes, SignedItems, SliceWithStartOffset, Stride, TableRead, TableReadUnion,
+    TableReadUnionVector, TaggedPlace, VectorRead, VectorReadInner, VectorReadUnion, Void, errors,
+    has_identifier, known_or, located, put_fields, read_fields, read_size_prefixed, read_variant,
+    table_reader,
 };
 pub use planus_tables::{
     OrDefault, Required, TableKind, TableRef, Variant, create_table, fields, plain_field,

@@ -1,7 +1,7 @@
 //! The steps of a script.
 
 /// One step: a value that is written, a finish, or a clear.
-#[derive(Debug, Drop)]
+#[derive(Clone, Debug, PartialEq, Eq, Drop)]
 pub enum Step {
     /// A text.
     Text(String),
@@ -28,7 +28,7 @@ pub enum Step {
 }
 
 /// One field of a table.
-#[derive(Debug, Drop)]
+#[derive(Clone, Debug, PartialEq, Eq, Drop)]
 pub struct Field {
     /// The slot of the vtable by which the field is found, from 0 to 255; no other field of the
     /// table has it.
@@ -38,7 +38,7 @@ pub struct Field {
 }
 
 /// What a field of a table holds.
-#[derive(Debug, Drop)]
+#[derive(Clone, Debug, PartialEq, Eq, Drop)]
 pub enum FieldValue {
     /// A number of 1, 2, 4 or 8 bytes, whose alignment is its width.
     Number { width: u8, value: u64 },

@@ -6,6 +6,7 @@ ghost use Rattle.planus_back.specs.Padding.{greatest_place, promise_of, IsLeast,
 ghost use Rattle.planus_back.specs.Requests.{LeavesSome, DescribesThose, DescribesAll};
 ghost use Rattle.planus_back.specs.Requests.{PassesGreatestPlace};
 
+use std::error::Error;
 use std::fmt;
 use std::marker::Model;
 
@@ -27,13 +28,15 @@ impl fmt::Display for TooLarge {
     }
 }
 
+impl Error for TooLarge {}
+
 /// The finished lengths at which every part placed so far stands aligned.
 ///
 /// In a flatbuffer each number stands at a multiple of its size from the buffer's start. A writer
 /// that works from the back doesn't know the start yet, so each part that it places is a promise on
 /// the finished length. All of them are kept by exactly the lengths `len + delayed() + k * (mask()
 /// + 1)`, where `len` is the number of bytes so far.
-#[derive(Clone, Copy, Debug)]
+#[derive(Clone, Copy, Debug, PartialEq, Eq)]
 pub struct Promises {
     delayed: usize,
     mask: usize,
@@ -140,5 +143,16 @@ impl Promises {
             mask: self.mask.max(mask),
         };
         Ok((next, padding))
+    }
+}
+
+/// No promise yet, as [`Promises::new`].
+impl Default for Promises {
+    ghost is_default = { λ promises. (promises.delayed ≡ 0) × (promises.mask ≡ 0)
+        × DescribesAll promises 0 [] };
+
+    #[inline]
+    fn default() -> Promises {
+        Promises::new()
     }
 }

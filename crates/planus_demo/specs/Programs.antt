@@ -1,8 +1,12 @@
--- What the program prints of its input, by the mode that its words choose.
-use Rattle.std.specs.Prelude.{◌≡◌, ℕ, List, Bool, false, Option, Some, None, IfSome, codes}
+-- What the program prints of its input, by the mode that its words choose, and what it says on
+-- standard error.
+use Rattle.std.specs.Prelude.{◌≡◌, ℕ, List, [], ◌++◌, Bool, false, Option, Some, None, IfSome}
+use Rattle.std.specs.Prelude.{Result, Ok, Err, codes}
 use Rattle.std.specs.Io.KnownBytes.{Appends}
 use Rattle.planus_dump.specs.Shapes.{HasShape, worked_tables, worked_unions}
 use Rattle.planus_dump.specs.declared.schemas.Schema.{Schema}
+use Rattle.planus_script.specs.declared.run.RunError.{RunError}
+use Rattle.planus_script.specs.declared.run.RunError.TheVariants.{OutOfMemory, Read, Write}
 use Rattle.planus_script.specs.Printed.{line_of}
 use Rattle.planus_script.specs.Runner.{WritesPrinted}
 use Rattle.planus_script.specs.DumpRuns.{WritesDump}
@@ -30,3 +34,18 @@ DoesMode (Some Weapon) input clean before after =
 DoesMode (Some Monster) input clean before after =
     IfSome input (λ bytes. DumpsRoot 1 bytes clean before after)
 DoesMode None input clean before after = SaysUnknown clean before after
+
+-- how the program is called
+abbrev pub usage_text : List ℕ
+usage_text =
+    line_of (codes "usage: planus_demo < SCRIPT")
+    ++ line_of (codes "       planus_demo weapon < BYTES")
+    ++ line_of (codes "       planus_demo monster < BYTES")
+
+-- What is said on standard error: why the program failed, or without a mode how it is called.
+abbrev pub told_text : Result Bool RunError → Option Mode → List ℕ
+told_text (Err OutOfMemory) mode = line_of (codes "out of memory")
+told_text (Err Read) mode = line_of (codes "can't read standard input")
+told_text (Err Write) mode = line_of (codes "can't write standard output")
+told_text (Ok clean) (Some mode) = []
+told_text (Ok clean) None = usage_text

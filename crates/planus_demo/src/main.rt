@@ -1,7 +1,9 @@
 //! Reads a script from standard input, and prints each finished buffer as a line of hexadecimal
 //! bytes. With the argument `weapon` or `monster` reads such a line, and prints what stands in it.
+//! What goes wrong with its ends is said on standard error.
 #![tactic(auto)]
 
+mod ending;
 mod equipment;
 mod equipment_ref;
 mod mode;
@@ -19,5 +21,7 @@ use std::process::ExitCode;
 fn main(rt: HostRuntime) -> ExitCode {
     let mut reader = rt.reader();
     let mut writer = io::writer(&rt);
-    ExitCode::from(status(&program::run_program(&rt, &mut reader, &mut writer)))
+    let mut errors = rt.stderr();
+    let ending = program::run_program(&rt, &mut reader, &mut writer, &mut errors);
+    ExitCode::from(status(&ending.answer))
 }

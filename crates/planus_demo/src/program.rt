@@ -1,8 +1,10 @@
-//! From the words behind the program's name, and a reader, to a writer.
-ghost use Rattle.std.specs.Prelude.{◌≡◌, Option, None, IfOk, IfErr, IfSome};
+//! From the words behind the program's name, and a reader, to two writers.
+ghost use Rattle.std.specs.Prelude.{◌≡◌, Option, None, IfOk, IfErr, IfSome, IsTrue};
+ghost use Rattle.std.specs.Io.KnownBytes.{Appends};
 ghost use Rattle.planus_script.specs.Runner.{LeavesUnwritten};
-ghost use Rattle.planus_demo.specs.Programs.{DoesMode, DumpsRoot, SaysUnknown};
+ghost use Rattle.planus_demo.specs.Programs.{DoesMode, DumpsRoot, SaysUnknown, told_text};
 
+use crate::ending::Ending;
 use crate::mode::{mode, schema};
 use crate::modes::Mode;
 use planus_script::dump_run::run_dump;
@@ -11,6 +13,10 @@ use std::alloc::Global;
 use std::env;
 use std::env::Env;
 use std::io::{ErrorKind, Read, Write};
+
+/// How the program is called.
+const USAGE: &str = "usage: planus_demo < SCRIPT\n       \
+    planus_demo weapon < BYTES\n       planus_demo monster < BYTES\n";
 
 /// The words behind the program's name, or `None` where one of them is no text.
 fn words_of<E: Env + AllocGlobal>(env: &E) -> Result<Option<Vec<String>>, RunError> {
@@ -80,23 +86,60 @@ pub fn run_mode<R: Read, W: Write>(
     }
 }
 
+/// Returns the mode that the words behind the program's name choose, or `None` where they choose
+/// none. [`RunError::OutOfMemory`] where memory for them is refused.
+fn chosen<E: Env + AllocGlobal>(env: &E) -> Result<Option<Mode>, RunError> {
+    match words_of(env)? {
+        Some(words) => Ok(mode(words.as_slice())),
+        None => Ok(None),
+    }
+}
+
+/// Returns what there is to say on standard error: why the program failed, or without a mode how it
+/// is called.
+fn words_for(answer: Result<bool, RunError>, mode: Option<Mode>) -> &'static str
+    ensures { result.now ≡ told_text answer mode }
+{
+    match answer {
+        Err(RunError::OutOfMemory) => "out of memory\n",
+        Err(RunError::Read) => "can't read standard input\n",
+        Err(RunError::Write) => "can't write standard output\n",
+        Ok(_) => match mode {
+            Some(_) => "",
+            None => USAGE,
+        },
+    }
+}
+
+/// Writes these words, if there are any. Returns whether they were written.
+fn tell<W: Write>(errors: &mut W, words: &str) -> bool
+    ensures { IsTrue result
+        → Appends (W.contents errors.old) (W.contents errors.new) words.now }
+{
+    words.is_empty() || write_out(errors, words.as_bytes()).is_ok()
+}
+
 /// Does what the words behind the program's name choose, as [`run_mode`]: nothing is read before
-/// they are known. [`RunError::OutOfMemory`] where memory for them is refused.
-pub fn run_program<E: Env + AllocGlobal, R: Read, W: Write>(
+/// they are known. [`RunError::OutOfMemory`] also where memory for them is refused. Then says on
+/// standard error, to which `errors` writes, why the program failed, or how it is called where the
+/// words choose nothing.
+pub fn run_program<E: Env + AllocGlobal, R: Read, W: Write, X: Write>(
     env: &E,
     reader: &mut R,
     writer: &mut W,
-) -> Result<bool, RunError>
-    ensures printed { IfOk result (λ clean. (mode : Option Mode)
-        × DoesMode mode (R.remaining reader.old) clean (W.contents writer.old)
-        (W.contents writer.new)) }
-    ensures unwritten { IfErr result
+    errors: &mut X,
+) -> Ending
+    ensures printed { (mode : Option Mode) × IfOk result.answer (λ clean.
+        DoesMode mode (R.remaining reader.old) clean (W.contents writer.old)
+        (W.contents writer.new)) × (IsTrue result.told
+        → Appends (X.contents errors.old) (X.contents errors.new) (told_text result.answer mode)) }
+    ensures unwritten { IfErr result.answer
         (λ error. LeavesUnwritten error (W.contents writer.old) (W.contents writer.new)) }
 {
-    let words = words_of(env)?;
-    let mode = match &words {
-        Some(words) => mode(words.as_slice()),
-        None => None,
+    let (answer, mode) = match chosen(env) {
+        Ok(mode) => (run_mode(env.alloc(), mode, reader, writer), mode),
+        Err(error) => (Err(error), None),
     };
-    run_mode(env.alloc(), mode, reader, writer)
+    let told = tell(errors, words_for(answer, mode));
+    Ending { answer, told }
 }

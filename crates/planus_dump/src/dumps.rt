@@ -7,6 +7,7 @@ use crate::schemas::Schema;
 use crate::walk::dump_table;
 use planus::{Place, SliceWithStartOffset, TableRead};
 use std::alloc::{AllocError, Global};
+use std::error::Error;
 use std::fmt;
 
 /// The greatest depth of a table, the root having depth 1.
@@ -43,6 +44,8 @@ impl fmt::Display for DumpError {
         write!(f, "{text}")
     }
 }
+
+impl Error for DumpError {}
 
 impl From<AllocError> for DumpError {
     ghost use Rattle.std.specs.Prelude.{◌≡◌};

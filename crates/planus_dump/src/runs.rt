@@ -8,6 +8,7 @@ use crate::dumps::{DumpError, dump};
 use crate::schemas::Schema;
 use planus::{Caches, ReplayError, Step, replay};
 use std::alloc::Global;
+use std::error::Error;
 use std::fmt;
 
 /// Why steps have no dump.
@@ -32,6 +33,8 @@ impl fmt::Display for DumpRunError {
         }
     }
 }
+
+impl Error for DumpRunError {}
 
 /// Runs steps, and returns the lines of what the first of their finishes gave, or `None` where they
 /// have none. There are no more lines than the budget.

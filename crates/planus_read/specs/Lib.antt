@@ -17,6 +17,7 @@ pub mod lemmas
 pub mod Heads
 pub mod Located
 pub mod SignedBytes
+pub mod SignedItems
 pub mod Tables
 pub mod Items
 pub mod Places

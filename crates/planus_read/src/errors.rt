@@ -17,7 +17,7 @@ pub type ErrorLocation = located::ErrorLocation<'static>;
 pub type UnknownEnumTag = located::UnknownEnumTag<'static>;
 
 /// What can be wrong with bytes that are read.
-#[derive(Clone, Copy, Debug)]
+#[derive(Clone, Copy, Debug, PartialEq, Eq)]
 pub enum ErrorKind {
     /// A reference leads past the end of the piece that is read, a number doesn't lie wholly in it,
     /// or a table's vtable would begin in front of it. Also where exactly one of the two slots of a
@@ -61,7 +61,7 @@ pub enum ErrorKind {
 }
 
 /// A value that its enum doesn't have.
-#[derive(Clone, Copy, Debug)]
+#[derive(Clone, Copy, Debug, PartialEq, Eq)]
 pub struct UnknownEnumTagKind {
     /// The value that was read.
     pub tag: i128,
@@ -138,6 +138,10 @@ impl fmt::Display for UnknownEnumTagKind {
         write!(f, "Unknown enum (tag = {})", self.tag)
     }
 }
+
+impl std::error::Error for ErrorKind {}
+
+impl std::error::Error for UnknownEnumTagKind {}
 
 impl From<UnknownEnumTagKind> for ErrorKind {
     ghost use Rattle.planus_read.specs.declared.errors.ErrorKind.TheVariants.{

@@ -10,6 +10,7 @@ pub mod located;
 mod place;
 mod plain;
 mod signed_bytes;
+mod signed_items;
 mod size_prefixed;
 mod slice_helpers;
 pub mod table_reader;
@@ -21,11 +22,12 @@ pub use impls::known_or;
 pub use place::{Place, TaggedPlace};
 pub use plain::{Plain, PlainTotal};
 pub use signed_bytes::SignedBytes;
+pub use signed_items::SignedItems;
 pub use size_prefixed::{has_identifier, read_size_prefixed};
 pub use slice_helpers::{ArrayWithStartOffset, SliceWithStartOffset};
 pub use traits::{
-    ReadAsRoot, ReadError, Stride, TableRead, TableReadUnion, TableReadUnionVector, VectorRead,
-    VectorReadInner, VectorReadUnion,
+    ReadAsRoot, ReadError, ReadPieceAsRoot, Stride, TableRead, TableReadUnion,
+    TableReadUnionVector, VectorRead, VectorReadInner, VectorReadUnion,
 };
 
 /// The result of a read that names its location.

@@ -11,7 +11,7 @@ const NO_OFFSET: usize = usize::MAX;
 pub(crate) const ITEM_METHOD: &str = "get";
 
 /// The error of a read: what is wrong with the bytes, and where it was met.
-#[derive(Clone, Copy, Debug)]
+#[derive(Clone, Copy, Debug, PartialEq, Eq)]
 pub struct Error<'n> {
     /// Where the error was met.
     pub source_location: ErrorLocation<'n>,
@@ -21,7 +21,7 @@ pub struct Error<'n> {
 
 /// Where an error was met: the names of the type and the method that read, and the offset in the
 /// buffer.
-#[derive(Clone, Copy, Debug)]
+#[derive(Clone, Copy, Debug, PartialEq, Eq)]
 pub struct ErrorLocation<'n> {
     /// The name of the type that was read.
     pub type_: &'n str,
@@ -35,7 +35,7 @@ pub struct ErrorLocation<'n> {
 
 /// A value that its enum doesn't have, and where it was met. A writer by a later schema may have
 /// put it there.
-#[derive(Clone, Debug, Drop)]
+#[derive(Clone, Debug, PartialEq, Eq, Drop)]
 pub struct UnknownEnumTag<'n> {
     /// Where the value was met.
     pub source_location: ErrorLocation<'n>,
@@ -84,6 +84,10 @@ impl<'n> fmt::Display for UnknownEnumTag<'n> {
         write!(f, "In {}: {}", self.source_location, self.error_kind)
     }
 }
+
+impl<'n> std::error::Error for Error<'n> {}
+
+impl<'n> std::error::Error for UnknownEnumTag<'n> {}
 
 impl<'n> From<UnknownEnumTag<'n>> for Error<'n> {
     ghost use Rattle.planus_read.specs.declared.errors.ErrorKind.TheVariants.{

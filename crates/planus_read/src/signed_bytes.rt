@@ -5,6 +5,7 @@ ghost use Rattle.planus_read.specs.Clauses.{Answer, shown};
 ghost use Rattle.planus_read.specs.Reading.{byte_list_reading};
 
 use crate::errors::ErrorKind;
+use crate::signed_items::SignedItems;
 use crate::slice_helpers::SliceWithStartOffset;
 use crate::traits::TableRead;
 
@@ -17,6 +18,7 @@ pub struct SignedBytes<'buf> {
 
 impl<'buf> SignedBytes<'buf> {
     ghost use Rattle.planus_read.specs.SignedBytes.{signed_bytes, signed_item};
+    ghost use Rattle.planus_read.specs.SignedItems.{bytes_left};
 
     /// Returns the number of bytes.
     #[inline]
@@ -43,12 +45,52 @@ impl<'buf> SignedBytes<'buf> {
         Some(i8::from_le_bytes([*byte]))
     }
 
+    /// Returns an iterator over the signed bytes.
+    #[inline]
+    pub fn iter(&self) -> SignedItems<'buf>
+        ensures { bytes_left result ≡ signed_bytes self.now }
+    {
+        SignedItems::new(self.bytes)
+    }
+
     /// Returns the same bytes, unsigned.
     #[inline]
     pub fn as_bytes(&self) -> &'buf [u8]
         ensures { result.now ≡ signed_bytes self.now }
     {
         self.bytes
+    }
+}
+
+impl<'buf> IntoIterator for SignedBytes<'buf> {
+    type Item = i8;
+
+    type IntoIter = SignedItems<'buf>;
+
+    ghost use Rattle.planus_read.specs.SignedBytes.{signed_bytes};
+    ghost use Rattle.planus_read.specs.SignedItems.{bytes_left};
+
+    ghost into_iter_gives = { λ list items. bytes_left items ≡ signed_bytes list };
+
+    #[inline]
+    fn into_iter(self) -> SignedItems<'buf> {
+        self.iter()
+    }
+}
+
+impl<'a, 'buf> IntoIterator for &'a SignedBytes<'buf> {
+    type Item = i8;
+
+    type IntoIter = SignedItems<'buf>;
+
+    ghost use Rattle.planus_read.specs.SignedBytes.{signed_bytes};
+    ghost use Rattle.planus_read.specs.SignedItems.{bytes_left};
+
+    ghost into_iter_gives = { λ list items. bytes_left items ≡ signed_bytes list.now };
+
+    #[inline]
+    fn into_iter(self) -> SignedItems<'buf> {
+        self.iter()
     }
 }
 

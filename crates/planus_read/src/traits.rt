@@ -25,6 +25,18 @@ pub trait ReadAsRoot<'a>: Sized {
         ensures { reads_root slice.entry.now result };
 }
 
+/// What can be read as the root of a piece of a buffer, as of that which
+/// [`read_size_prefixed`](crate::read_size_prefixed) returns.
+pub trait ReadPieceAsRoot<'a>: Sized {
+    /// What may be returned for a piece with these bytes and this start.
+    ghost reads_root: { List ℕ → ℕ → std_result Self Error → Type 0 };
+
+    /// Returns the view of the root of the piece, which begins with the reference to it. Its errors
+    /// are those of [`ReadAsRoot::read_as_root`], at the offset at which the piece starts.
+    fn read_piece_as_root(piece: SliceWithStartOffset<'a>) -> Result<Self>
+        ensures { reads_root (slice_bytes piece.entry) (slice_start piece.entry) result };
+}
+
 /// What can be read as a field of a table. The errors of the types of this library:
 ///
 /// | Type | Errors |

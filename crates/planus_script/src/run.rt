@@ -13,6 +13,7 @@ use crate::print::answer_text;
 use crate::script::{ParseError, parse};
 use planus::{Caches, replay};
 use std::alloc::{AllocError, Global};
+use std::error::Error;
 use std::fmt;
 use std::io::{ErrorKind, Read, Write};
 
@@ -48,6 +49,8 @@ impl fmt::Display for RunError {
         write!(f, "{text}")
     }
 }
+
+impl Error for RunError {}
 
 impl From<AllocError> for RunError {
     ghost use Rattle.std.specs.Prelude.{◌≡◌};

@@ -28,6 +28,7 @@ use crate::fields::table;
 use crate::unions::unions;
 use planus::Step;
 use std::alloc::{AllocError, AllocFailed, Global};
+use std::error::Error;
 use std::fmt;
 
 /// A fault in the reading of a line.
@@ -69,6 +70,8 @@ impl fmt::Display for ReadFault {
     }
 }
 
+impl Error for ReadFault {}
+
 /// Why a script could not be read.
 #[derive(Clone, Copy, Debug, PartialEq, Eq)]
 pub enum ParseError {
@@ -91,6 +94,8 @@ impl fmt::Display for ParseError {
         }
     }
 }
+
+impl Error for ParseError {}
 
 impl From<AllocError> for ParseError {
     ghost use Rattle.std.specs.Prelude.{◌≡◌};

@@ -9,7 +9,7 @@ use planus_write::{BuildError, Builder, Primitive, UnionVectorOffset};
 
 /// A value that is left out where it is the default. The default of a list and of a vector of unions
 /// is `()`: the empty one.
-#[derive(Drop)]
+#[derive(Debug, Drop)]
 pub struct OrDefault<V, D> {
     /// The value.
     pub value: V,

@@ -10,7 +10,7 @@ use planus_fields::{WriteAs, WriteAsOptional};
 use planus_write::{BuildError, Builder, Primitive};
 
 /// A value of a field that the schema requires: it is always written.
-#[derive(Drop)]
+#[derive(Debug, Drop)]
 pub struct Required<V>(pub V);
 
 impl<P: Primitive, V: WriteAs<P>> WriteAsOptional<P> for Required<V> {

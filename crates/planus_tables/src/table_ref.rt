@@ -11,17 +11,20 @@ use crate::table_kind::TableKind;
 use planus_read::errors::ErrorKind;
 use planus_read::table_reader::Table;
 use planus_read::{
-    Error, ReadAsRoot, ReadError, Result, SliceWithStartOffset, Stride, TableRead, VectorReadInner,
+    Error, ReadAsRoot, ReadError, ReadPieceAsRoot, Result, SliceWithStartOffset, Stride, TableRead,
+    VectorReadInner,
 };
 use std::alloc::AllocError;
 use std::marker::PhantomData;
 
 /// A table of kind `K`, in a buffer. Its fields are what the calls of [`Table`] return at their
 /// slots.
+#[derive_where(Debug)]
 pub struct TableRef<'a, K> {
     /// The table.
     pub table: Table<'a>,
     /// Its kind.
+    #[derive_where(skip)]
     pub _marker: PhantomData<K>,
 }
 
@@ -68,10 +71,22 @@ impl<'a, K: TableKind> ReadAsRoot<'a> for TableRef<'a, K> {
         K.name (codes "read_as_root") 0 r };
 
     fn read_as_root(slice: &'a [u8]) -> Result<TableRef<'a, K>> {
-        let whole = SliceWithStartOffset::new(slice, 0);
-        match <TableRef<'a, K> as TableRead<'a>>::from_buffer(whole, 0) {
+        ReadPieceAsRoot::read_piece_as_root(SliceWithStartOffset::new(slice, 0))
+    }
+}
+
+impl<'a, K: TableKind> ReadPieceAsRoot<'a> for TableRef<'a, K> {
+    ghost reads_root = { λ S start r.
+        Located (Answer (shown (ShowsView S start) (table_reading S 0)))
+        K.name (codes "read_as_root") start r };
+
+    fn read_piece_as_root(piece: SliceWithStartOffset<'a>) -> Result<TableRef<'a, K>> {
+        match <TableRef<'a, K> as TableRead<'a>>::from_buffer(piece, 0) {
             Ok(view) => Ok(view),
-            Err(kind) => Err(kind.with_error_location(K::name(), "read_as_root", 0)),
+            Err(kind) => {
+                let start = piece.offset_from_start();
+                Err(kind.with_error_location(K::name(), "read_as_root", start))
+            }
         }
     }
 }

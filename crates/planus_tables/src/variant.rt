@@ -13,10 +13,12 @@ use std::marker::PhantomData;
 /// A union that has the tag `TAG`, which is above 0, and whose value is encoded as a `K`: it is
 /// written with the union, if it isn't written already. [`variant`](crate::variant) writes one.
 #[derive(Drop)]
+#[derive_where(Debug; V)]
 pub struct Variant<const TAG: u8, K, V> {
     /// The value.
     pub value: V,
     /// As what it is encoded.
+    #[derive_where(skip)]
     pub _marker: PhantomData<K>,
     // The tag 0 is that of no union.
     ghost is_tagged: { 0 < TAG },

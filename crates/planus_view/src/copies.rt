@@ -12,7 +12,7 @@ use std::fmt;
 
 /// Why items can't be copied, with names of any lifetime in the error of a read. With literal names
 /// it is [`crate::CopyError`].
-#[derive(Clone, Copy, Debug)]
+#[derive(Clone, Copy, Debug, PartialEq, Eq)]
 pub enum CopyError<'n> {
     /// There is no memory.
     OutOfMemory,
@@ -33,6 +33,8 @@ impl<'n> fmt::Display for CopyError<'n> {
         }
     }
 }
+
+impl<'n> std::error::Error for CopyError<'n> {}
 
 impl<'n> From<AllocError> for CopyError<'n> {
     ghost use Rattle.planus_view.specs.declared.copies.CopyError.TheVariants.{OutOfMemory};

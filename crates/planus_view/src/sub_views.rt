@@ -200,6 +200,7 @@ impl<V: View> SubViews<V, ByChunksExact> {
     ghost use Rattle.planus_view.specs.Ranges.{remainder};
 
     /// Returns what remains of the view behind all exact chunks, whatever was taken of them.
+    #[must_use]
     pub fn remainder(&self) -> V
         ensures { let whole = whole_of self.now in let n = V.count whole in
             V.is_sub_view whole (n - remainder n (size_of self.now)) n result }
@@ -214,6 +215,7 @@ impl<V: View> SubViews<V, ByRChunksExact> {
     ghost use Rattle.planus_view.specs.Ranges.{remainder};
 
     /// Returns what remains of the view in front of all exact chunks, whatever was taken of them.
+    #[must_use]
     pub fn remainder(&self) -> V
         ensures { let whole = whole_of self.now in
             V.is_sub_view whole 0 (remainder (V.count whole) (size_of self.now)) result }

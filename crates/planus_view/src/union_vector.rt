@@ -139,6 +139,7 @@ impl<'buf, T, E> VectorOf<UnionSliceView<'buf, T, E>> {
 
     /// Returns a vector with no items, which lies in no buffer and starts at 0.
     #[inline]
+    #[must_use]
     pub fn new_empty() -> VectorOf<UnionSliceView<'buf, T, E>>
         ensures { view_of result ≡ record { tags = []; references = []; start = 0; count = 0 } }
     {

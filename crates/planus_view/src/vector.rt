@@ -118,6 +118,7 @@ impl<'buf, T: Stride> Vector<'buf, T> {
 
     /// Returns a vector with no items, which lies in no buffer and starts at 0.
     #[inline]
+    #[must_use]
     pub fn new_empty() -> Vector<'buf, T>
         ensures { view_of result ≡ record { bytes = []; start = 0; count = 0 } }
     {

@@ -67,6 +67,7 @@ impl<V: View> VectorOf<V> {
 
     /// Returns `true` if there are no items.
     #[inline]
+    #[must_use]
     pub fn is_empty(&self) -> bool
         ensures { result ≡ (count_in V.count self.now == 0) }
     {
@@ -75,6 +76,7 @@ impl<V: View> VectorOf<V> {
 
     /// Returns the number of items.
     #[inline]
+    #[must_use]
     pub fn len(&self) -> usize
         ensures { result ≡ count_in V.count self.now }
     {
@@ -84,6 +86,7 @@ impl<V: View> VectorOf<V> {
     /// Returns the item at a position, or the sub-vector at a range of positions, or `None` where
     /// the vector doesn't have it.
     #[inline]
+    #[must_use]
     pub fn get<I: ViewIndex<VectorOf<V>>>(&self, index: I) -> Option<I::Output>
         ensures { I.gets self.now index result }
     {
@@ -93,6 +96,7 @@ impl<V: View> VectorOf<V> {
     /// Returns the item at a position, or the sub-vector at a range of positions, which the vector
     /// has.
     #[inline]
+    #[must_use]
     pub fn get_unchecked<I: ViewIndex<VectorOf<V>>>(&self, index: I) -> I::Output
         requires { I.fits self.now index }
         ensures { I.is_there self.now index result }
@@ -103,6 +107,7 @@ impl<V: View> VectorOf<V> {
     /// Returns the sub-vectors of the first `mid` items and of the others, or `None` where there
     /// are fewer items.
     #[inline]
+    #[must_use]
     pub fn split_at(&self, mid: usize) -> Option<(VectorOf<V>, VectorOf<V>)>
         ensures { SplitsAt (count_in V.count) (IsSubVector V.is_sub_view) self.now mid result }
     {
@@ -114,6 +119,7 @@ impl<V: View> VectorOf<V> {
 
     /// Returns the sub-vectors of the first `mid` items, which the vector has, and of the others.
     #[inline]
+    #[must_use]
     pub fn split_at_unchecked(&self, mid: usize) -> (VectorOf<V>, VectorOf<V>)
         requires { mid ≤ count_in V.count self.now }
         ensures { SplitAt (count_in V.count) (IsSubVector V.is_sub_view) self.now mid result }
@@ -123,6 +129,7 @@ impl<V: View> VectorOf<V> {
 
     /// Returns an iterator over the items.
     #[inline]
+    #[must_use]
     pub fn iter(&self) -> Items<VectorOf<V>>
         ensures { IsOverAll self.now result }
     {
@@ -132,6 +139,7 @@ impl<V: View> VectorOf<V> {
     /// Returns an iterator over the sub-vectors of `size` items each from the front on; the
     /// last may be shorter. `size` is above 0.
     #[inline]
+    #[must_use]
     pub fn chunks(&self, size: usize) -> SubViews<VectorOf<V>, ByChunks>
         requires { 0 < size }
         ensures { IsOverRanges self.now size (chunks (count_in V.count self.now) size) result }
@@ -142,6 +150,7 @@ impl<V: View> VectorOf<V> {
     /// Returns an iterator over the sub-vectors of `size` items each from the back on; the
     /// last, at the front, may be shorter. `size` is above 0.
     #[inline]
+    #[must_use]
     pub fn rchunks(&self, size: usize) -> SubViews<VectorOf<V>, ByRChunks>
         requires { 0 < size }
         ensures { IsOverRanges self.now size (rchunks (count_in V.count self.now) size) result }
@@ -152,6 +161,7 @@ impl<V: View> VectorOf<V> {
     /// Returns an iterator over the sub-vectors of exactly `size` items each from the front
     /// on. What remains at the back is its `remainder`. `size` is above 0.
     #[inline]
+    #[must_use]
     pub fn chunks_exact(&self, size: usize) -> SubViews<VectorOf<V>, ByChunksExact>
         requires { 0 < size }
         ensures { IsOverRanges self.now size
@@ -163,6 +173,7 @@ impl<V: View> VectorOf<V> {
     /// Returns an iterator over the sub-vectors of exactly `size` items each from the back
     /// on. What remains at the front is its `remainder`. `size` is above 0.
     #[inline]
+    #[must_use]
     pub fn rchunks_exact(&self, size: usize) -> SubViews<VectorOf<V>, ByRChunksExact>
         requires { 0 < size }
         ensures { IsOverRanges self.now size
@@ -174,6 +185,7 @@ impl<V: View> VectorOf<V> {
     /// Returns an iterator over all sub-vectors of exactly `size` items, which overlap. `size` is
     /// above 0.
     #[inline]
+    #[must_use]
     pub fn windows(&self, size: usize) -> SubViews<VectorOf<V>, ByWindows>
         requires { 0 < size }
         ensures { IsOverRanges self.now size (windows (count_in V.count self.now) size) result }
@@ -189,6 +201,7 @@ impl<V: ReadView> VectorOf<V> {
 
     /// Returns the first item, or `None` where there is none.
     #[inline]
+    #[must_use]
     pub fn first(&self) -> Option<V::Item>
         ensures { GetsItem (count_in V.count) (IsItemIn V.is_item) self.now 0 result }
     {
@@ -197,6 +210,7 @@ impl<V: ReadView> VectorOf<V> {
 
     /// Returns the last item, or `None` where there is none.
     #[inline]
+    #[must_use]
     pub fn last(&self) -> Option<V::Item>
         ensures { LastItem (count_in V.count) (IsItemIn V.is_item) self.now result }
     {
@@ -206,6 +220,7 @@ impl<V: ReadView> VectorOf<V> {
 
     /// Returns the first item and the sub-vector of the others, or `None` where there is none.
     #[inline]
+    #[must_use]
     pub fn split_first(&self) -> Option<(V::Item, VectorOf<V>)>
         ensures { FirstAndRest (count_in V.count) (IsSubVector V.is_sub_view) (IsItemIn V.is_item)
             self.now result }
@@ -219,6 +234,7 @@ impl<V: ReadView> VectorOf<V> {
 
     /// Returns the last item and the sub-vector of the others, or `None` where there is none.
     #[inline]
+    #[must_use]
     pub fn split_last(&self) -> Option<(V::Item, VectorOf<V>)>
         ensures { LastAndRest (count_in V.count) (IsSubVector V.is_sub_view) (IsItemIn V.is_item)
             self.now result }
@@ -258,6 +274,21 @@ impl<V: ReadView> IntoIterator for VectorOf<V> {
     ghost use Rattle.planus_view.specs.ItemsLeft.{IsOverAll};
 
     ghost into_iter_gives = { λ vector items. IsOverAll vector items };
+
+    #[inline]
+    fn into_iter(self) -> Items<VectorOf<V>> {
+        self.iter()
+    }
+}
+
+impl<'a, V: ReadView> IntoIterator for &'a VectorOf<V> {
+    type Item = V::Item;
+
+    type IntoIter = Items<VectorOf<V>>;
+
+    ghost use Rattle.planus_view.specs.ItemsLeft.{IsOverAll};
+
+    ghost into_iter_gives = { λ vector items. IsOverAll vector.now items };
 
     #[inline]
     fn into_iter(self) -> Items<VectorOf<V>> {

@@ -24,3 +24,4 @@ pub mod FieldItems
 pub mod ListContents
 pub mod lemmas
 pub mod Texts
+pub mod IoErrors

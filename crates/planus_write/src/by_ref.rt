@@ -1,6 +1,7 @@
 //! A reference that is written as what it leads to.
 
 use std::alloc::AllocError;
+use std::fmt;
 
 /// Is written as the value that it refers to.
 pub struct ByRef<'a, T>(pub &'a T);
@@ -19,3 +20,12 @@ impl<'a, T> Clone for ByRef<'a, T> {
 }
 
 impl<'a, T> Copy for ByRef<'a, T> {}
+
+/// Prints the value.
+impl<'a, T: fmt::Debug> fmt::Debug for ByRef<'a, T> {
+    ghost debug_output = { λ by_ref. T.debug_output by_ref.0.now };
+
+    fn fmt<W: fmt::Write>(&self, f: &mut fmt::Formatter<W>) -> fmt::Result {
+        fmt::Debug::fmt(self.0, f)
+    }
+}

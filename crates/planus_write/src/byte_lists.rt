@@ -7,6 +7,7 @@ ghost use Rattle.planus_back.specs.Caches.{Fits, IsBucketOf, IsFound};
 
 use crate::lists::write_each;
 use planus_back::{Bucket, Cache, GetCacheKey, Overwrite, find_key, find_signed_key};
+use std::fmt;
 
 /// A list of `u8`: a count of 4 bytes, and the bytes.
 #[derive(Clone, Copy)]
@@ -15,6 +16,48 @@ pub struct ByteList<'a>(pub &'a [u8]);
 /// A list of `i8`: a count of 4 bytes, and the numbers' bytes.
 #[derive(Clone, Copy)]
 pub struct SignedList<'a>(pub &'a [i8]);
+
+impl<'a> From<&'a [u8]> for ByteList<'a> {
+    ghost from_gives = { λ bytes list. list.0 ≡ bytes };
+
+    #[inline]
+    fn from(bytes: &'a [u8]) -> ByteList<'a> {
+        ByteList(bytes)
+    }
+}
+
+impl<'a> From<&'a [i8]> for SignedList<'a> {
+    ghost from_gives = { λ numbers list. list.0 ≡ numbers };
+
+    #[inline]
+    fn from(numbers: &'a [i8]) -> SignedList<'a> {
+        SignedList(numbers)
+    }
+}
+
+/// Prints the bytes as those of a slice.
+impl<'a> fmt::Debug for ByteList<'a> {
+    ghost use Rattle.std.specs.Prelude.{Some};
+    ghost use Rattle.std.specs.Fmt.{debug_list, decimal};
+
+    ghost debug_output = { λ list. debug_list (λ byte. Some (decimal byte)) list.0.now };
+
+    fn fmt<W: fmt::Write>(&self, f: &mut fmt::Formatter<W>) -> fmt::Result {
+        fmt::Debug::fmt(&self.0, f)
+    }
+}
+
+/// Prints the numbers as those of a slice.
+impl<'a> fmt::Debug for SignedList<'a> {
+    ghost use Rattle.std.specs.Prelude.{Some};
+    ghost use Rattle.std.specs.Fmt.{debug_list, signed_decimal};
+
+    ghost debug_output = { λ list. debug_list (λ number. Some (signed_decimal number)) list.0.now };
+
+    fn fmt<W: fmt::Write>(&self, f: &mut fmt::Formatter<W>) -> fmt::Result {
+        fmt::Debug::fmt(&self.0, f)
+    }
+}
 
 /// The items of a byte list.
 pub(crate) trait ByteItems {

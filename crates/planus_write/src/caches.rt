@@ -5,7 +5,7 @@ ghost use Rattle.std.specs.Prelude.{◌≡◌, ◌-◌, ◌^◌, true};
 ///
 /// The hash has no secret. Who chooses the contents can make them collide, and each of them is then
 /// compared with all that collided before: turn the cache off for contents that a stranger chooses.
-#[derive(Clone, Copy, Debug)]
+#[derive(Clone, Copy, Debug, PartialEq, Eq)]
 pub struct Caches {
     /// Equal vtables.
     pub vtables: bool,
@@ -32,5 +32,16 @@ impl Caches {
             bytes: true,
             hash_mask: u64::MAX,
         }
+    }
+}
+
+/// All of them, as [`Caches::all`].
+impl Default for Caches {
+    ghost is_default = { λ caches. caches
+        ≡ record { vtables = true; texts = true; bytes = true; hash_mask = 2 ^ 64 - 1 } };
+
+    #[inline]
+    fn default() -> Caches {
+        Caches::all()
     }
 }

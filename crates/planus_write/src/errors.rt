@@ -2,7 +2,8 @@
 
 use planus_back::TooLarge;
 use std::alloc::AllocError;
-use std::fmt;
+use std::error::Error;
+use std::{fmt, io};
 
 /// Why a write is refused. A refused placement leaves bytes, promises and what the caches find as
 /// they were; what was written before it stays.
@@ -29,6 +30,8 @@ impl fmt::Display for BuildError {
     }
 }
 
+impl Error for BuildError {}
+
 impl From<AllocError> for BuildError {
     ghost use Rattle.std.specs.Prelude.{◌≡◌};
     ghost use Rattle.planus_write.specs.declared.errors.BuildError.TheVariants.{OutOfMemory};
@@ -48,5 +51,22 @@ impl From<TooLarge> for BuildError {
 
     fn from(_error: TooLarge) -> BuildError {
         BuildError::TooLarge
+    }
+}
+
+/// An error of the kind [`io::ErrorKind::OutOfMemory`], or of the kind
+/// [`io::ErrorKind::FileTooLarge`] with the text of this one.
+impl From<BuildError> for io::Error {
+    ghost use Rattle.std.specs.Prelude.{◌≡◌};
+    ghost use Rattle.std.specs.IoError.{error_kind};
+    ghost use Rattle.planus_write.specs.IoErrors.{io_kind};
+
+    ghost from_gives = { λ error e. error_kind e ≡ io_kind error };
+
+    fn from(error: BuildError) -> io::Error {
+        match error {
+            BuildError::OutOfMemory => io::Error::from(io::ErrorKind::OutOfMemory),
+            BuildError::TooLarge => io::Error::new(io::ErrorKind::FileTooLarge, "too large"),
+        }
     }
 }

@@ -1,21 +1,13 @@
 //! Writes a text as the root of a flatbuffer, and reads it back in place.
 #![tactic(auto)]
 
-use planus::{BuildError, Builder, SliceWithStartOffset, TableRead};
+use planus::{Builder, SliceWithStartOffset, TableRead};
 use std::io;
 
-/// A refused write, as an error of the program.
-fn refused(error: BuildError) -> io::Error {
-    match error {
-        BuildError::OutOfMemory => io::Error::from(io::ErrorKind::OutOfMemory),
-        BuildError::TooLarge => io::Error::from(io::ErrorKind::FileTooLarge),
-    }
-}
-
 fn main(rt: HostRuntime) -> io::Result<()> {
-    let mut builder = Builder::new(rt.alloc()).map_err(refused)?;
-    let text = builder.create_string("Axe").map_err(refused)?;
-    let bytes = builder.finish(text, None).map_err(refused)?;
+    let mut builder = Builder::new(rt.alloc())?;
+    let text = builder.create_string("Axe")?;
+    let bytes = builder.finish(text, None)?;
 
     let whole = SliceWithStartOffset::new(bytes, 0);
     match <&str as TableRead>::from_buffer(whole, 0) {

@@ -4,28 +4,14 @@
 
 mod stream;
 
-use planus::{BuildError, Builder, TableRead};
-use std::alloc::AllocError;
+use planus::{Builder, TableRead};
 use std::io;
 use stream::{append, read_all};
-
-/// A refused write, as an error of the program.
-fn refused(error: BuildError) -> io::Error {
-    match error {
-        BuildError::OutOfMemory => io::Error::from(io::ErrorKind::OutOfMemory),
-        BuildError::TooLarge => io::Error::from(io::ErrorKind::FileTooLarge),
-    }
-}
-
-/// Refused memory, as an error of the program.
-fn out_of_memory(_error: AllocError) -> io::Error {
-    io::Error::from(io::ErrorKind::OutOfMemory)
-}
 
 /// Prints how long a stream is, the text of each of its buffers, and how it ends.
 fn print_texts(rt: &HostRuntime, stream: &[u8]) -> io::Result<()> {
     println!(rt; "{} bytes", stream.len())?;
-    let records = read_all(rt.alloc(), stream).map_err(out_of_memory)?;
+    let records = read_all(rt.alloc(), stream)?;
     for piece in &records.pieces {
         match <&str as TableRead>::from_buffer(*piece, 0) {
             Ok(text) => println!(rt; "{text}")?,
@@ -42,7 +28,7 @@ fn print_texts(rt: &HostRuntime, stream: &[u8]) -> io::Result<()> {
 fn stream_of_texts(rt: &HostRuntime, builder: &mut Builder) -> io::Result<Vec<u8>> {
     let mut stream = Vec::new(rt.alloc());
     for text in ["Axe", "Bow", "Club"] {
-        append(&mut stream, builder, text).map_err(refused)?;
+        append(&mut stream, builder, text)?;
     }
     Ok(stream)
 }
@@ -63,7 +49,7 @@ fn print_cuts(rt: &HostRuntime, stream: &[u8]) -> io::Result<()> {
 }
 
 fn main(rt: HostRuntime) -> io::Result<()> {
-    let mut builder = Builder::new(rt.alloc()).map_err(refused)?;
+    let mut builder = Builder::new(rt.alloc())?;
     let stream = stream_of_texts(&rt, &mut builder)?;
     print_cuts(&rt, stream.as_slice())
 }

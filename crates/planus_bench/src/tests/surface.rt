@@ -1,10 +1,10 @@
 //! The version, what is exported again, and a step that no script has.
 
 use super::new_builder;
-use super::runs::{add, add_field, word};
+use super::runs::{add, add_field, add_finish, word};
 use crate::tests::check;
 use planus::{
-    Builder, Caches, FieldValue, ReplayError, SliceWithStartOffset, Step, TableRead, Why,
+    Builder, Caches, FieldValue, Finished, ReplayError, SliceWithStartOffset, Step, TableRead, Why,
     check_version_compatibility, replay,
 };
 use std::alloc::{AllocError, Global};
@@ -94,4 +94,43 @@ fn a_width_that_numbers_cannot_have(rt: HostRuntime) {
     check(&rt, width_is_refused(alloc, false), "the fault in a list");
     check(&rt, width_is_refused(alloc, true), "the fault in a table");
     check(&rt, prints_its_words(alloc, Why::WidthUnknown), "its words");
+}
+
+// Whether a copy of a step is equal to it, and another one isn't.
+fn is_copied(alloc: Global, step: &Step) -> Result<bool, AllocError> {
+    let copy = step.clone()?;
+    Ok(copy == *step && copy != odd_width(alloc, false)?)
+}
+
+// Whether what a replay gives is copied, the bytes and the places.
+fn finishes_are_copied(finished: &[Finished]) -> Result<bool, AllocError> {
+    match finished {
+        [first, second] => Ok(first.clone()? == *first && first != second),
+        _ => Ok(false),
+    }
+}
+
+// The same of a text that is finished twice.
+fn a_replay_is_copied(alloc: Global, steps: &mut Vec<Step>) -> Result<bool, AllocError> {
+    add(steps, word(alloc, "Axe"))?;
+    add_finish(steps, 0)?;
+    add_finish(steps, 0)?;
+    match replay(alloc, Caches::all(), steps.as_slice()) {
+        Ok(finished) => finishes_are_copied(finished.as_slice()),
+        Err(_) => Ok(false),
+    }
+}
+
+fn steps_are_copied(alloc: Global) -> Result<bool, AllocError> {
+    let mut steps = Vec::new(alloc);
+    Ok(is_copied(alloc, &odd_width(alloc, true)?)? && a_replay_is_copied(alloc, &mut steps)?)
+}
+
+#[test]
+fn copies_are_equal(rt: HostRuntime) {
+    check(
+        &rt,
+        matches!(steps_are_copied(rt.alloc()), Ok(true)),
+        "copies",
+    );
 }

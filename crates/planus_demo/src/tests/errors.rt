@@ -5,6 +5,7 @@ use planus::{BuildError, CopyError, ReplayError, Why};
 use planus_dump::DumpError;
 use planus_script::run::RunError;
 use planus_script::script::{ParseError, ReadFault};
+use std::io;
 
 #[test]
 fn refusals_print_their_texts(rt: HostRuntime) {
@@ -21,6 +22,26 @@ fn refusals_print_their_texts(rt: HostRuntime) {
             && prints_as(alloc, &RunError::Write, "writing failed"),
         "of memory, size, reading and writing",
     );
+}
+
+// A refused write as an error of input and output, as `?` makes it.
+fn refused(error: BuildError) -> io::Result<()> {
+    Err(error)?;
+    Ok(())
+}
+
+#[test]
+fn refused_writes_are_errors_of_programs(rt: HostRuntime) {
+    for (error, text) in [
+        (BuildError::OutOfMemory, "out of memory"),
+        (BuildError::TooLarge, "too large"),
+    ] {
+        let printed = match refused(error) {
+            Ok(()) => false,
+            Err(error) => prints_as(rt.alloc(), &error, text),
+        };
+        check(&rt, printed, text);
+    }
 }
 
 #[test]

@@ -39,10 +39,21 @@ impl Odd {
 
 /// A reader that gives one byte at a time. So many calls from now on, one does something else.
 #[derive(Drop)]
-struct OddReader<'a> {
+pub struct OddReader<'a> {
     bytes: &'a [u8],
     left: usize,
     odd: Odd,
+}
+
+impl OddReader<'_> {
+    /// One over a weapon's script, whose k-th read fails; none does for k of 0.
+    pub fn failing(k: usize) -> OddReader<'static> {
+        OddReader {
+            bytes: SCRIPT,
+            left: k,
+            odd: Odd::Fails,
+        }
+    }
 }
 
 impl<'a> Read for OddReader<'a> {

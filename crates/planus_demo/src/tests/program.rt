@@ -1,6 +1,7 @@
 //! The program with the words of a command line.
 
-use super::failing_ends::{DUMPED, PRINTED, SCRIPT};
+use super::failing_ends::{DUMPED, OddReader, PRINTED, SCRIPT};
+use crate::ending::Ending;
 use crate::program::run_program;
 use crate::tests::check;
 use planus_exhaust::{exhaust, holds_or_says};
@@ -36,26 +37,28 @@ impl<'a> Env for Words<'a> {
     }
 }
 
-// What the program answers with these words, and how many bytes of its input it leaves unread. It
-// adds what it prints.
+// How the program ends with these words, and how many bytes of its input it leaves unread. It adds
+// what it prints, and what it says on standard error.
 fn ran(
     alloc: Global,
     words: &[&[u8]],
     input: &[u8],
     printed: &mut Vec<u8>,
-) -> (Result<bool, RunError>, usize) {
+    told: &mut Vec<u8>,
+) -> (Ending, usize) {
     let mut reader = input;
-    let answer = run_program(&(Words { words }, alloc), &mut reader, printed);
-    (answer, reader.len())
+    let ending = run_program(&(Words { words }, alloc), &mut reader, printed, told);
+    (ending, reader.len())
 }
 
-// Words, the program's name in front, an input, what is printed, the exit status, and how many bytes
-// of the input are left unread.
+// Words, the program's name in front, an input, what is printed, what is said on standard error,
+// the exit status, and how many bytes of the input are left unread.
 #[derive(Clone, Copy)]
 struct Row {
     words: &'static [&'static [u8]],
     input: &'static [u8],
     printed: &'static [u8],
+    told: &'static [u8],
     status: u8,
     unread: usize,
 }
@@ -67,6 +70,7 @@ const ROWS: &[Row] = &[
         words: &[NAME],
         input: SCRIPT,
         printed: PRINTED,
+        told: b"",
         status: 0,
         unread: 0,
     },
@@ -74,6 +78,7 @@ const ROWS: &[Row] = &[
         words: &[],
         input: b"finish 0\n",
         printed: b"line 1: no such step\n",
+        told: b"",
         status: 1,
         unread: 0,
     },
@@ -81,6 +86,7 @@ const ROWS: &[Row] = &[
         words: &[NAME, b"weapon"],
         input: PRINTED,
         printed: DUMPED,
+        told: b"",
         status: 0,
         unread: 0,
     },
@@ -88,6 +94,7 @@ const ROWS: &[Row] = &[
         words: &[NAME, b"monster"],
         input: b"00 00 00\n",
         printed: b"root ! Invalid offset\n",
+        told: b"",
         status: 0,
         unread: 0,
     },
@@ -95,10 +102,15 @@ const ROWS: &[Row] = &[
         words: &[NAME, b"monster"],
         input: b"00 0\n",
         printed: b"bad hex\n",
+        told: b"",
         status: 1,
         unread: 0,
     },
 ];
+
+// How the program is called.
+const USAGE: &[u8] = b"usage: planus_demo < SCRIPT\n       planus_demo weapon < BYTES\n       \
+    planus_demo monster < BYTES\n";
 
 // Words that choose nothing.
 const UNKNOWN: &[&[&[u8]]] = &[
@@ -109,9 +121,13 @@ const UNKNOWN: &[&[&[u8]]] = &[
 ];
 
 fn goes_as(alloc: Global, row: &Row) -> bool {
-    let mut printed = Vec::new(alloc);
-    let (answer, unread) = ran(alloc, row.words, row.input, &mut printed);
-    status(&answer) == row.status && printed.as_slice() == row.printed && unread == row.unread
+    let (mut printed, mut told) = (Vec::new(alloc), Vec::new(alloc));
+    let (ending, unread) = ran(alloc, row.words, row.input, &mut printed, &mut told);
+    status(&ending.answer) == row.status
+        && ending.told
+        && printed.as_slice() == row.printed
+        && told.as_slice() == row.told
+        && unread == row.unread
 }
 
 #[test]
@@ -124,6 +140,7 @@ fn words_on_a_command_line(rt: HostRuntime) {
             words,
             input: PRINTED,
             printed: b"unknown argument\n",
+            told: USAGE,
             status: 1,
             unread: 96,
         };
@@ -131,11 +148,63 @@ fn words_on_a_command_line(rt: HostRuntime) {
     }
 }
 
+// Whether the program failed with this error and the status 2, and said this on standard error.
+fn fails_saying(ending: &Ending, error: RunError, told: &[u8], words: &[u8]) -> bool {
+    ending.answer == Err(error) && status(&ending.answer) == 2 && ending.told && told == words
+}
+
+// Whether that is so without a word where the k-th read fails, with this room for what is printed.
+fn an_end_fails(
+    alloc: Global,
+    k: usize,
+    room: &mut [u8],
+    (error, words): (RunError, &str),
+) -> bool {
+    let mut told = Vec::new(alloc);
+    let mut reader = OddReader::failing(k);
+    let mut writer = room;
+    let env = (Words { words: &[NAME] }, alloc);
+    let ending = run_program(&env, &mut reader, &mut writer, &mut told);
+    fails_saying(&ending, error, told.as_slice(), words.as_bytes())
+}
+
+#[test]
+fn ends_that_fail(rt: HostRuntime) {
+    let alloc = rt.alloc();
+    let read = (RunError::Read, "can't read standard input\n");
+    let write = (RunError::Write, "can't write standard output\n");
+    check(
+        &rt,
+        an_end_fails(alloc, 1, &mut [0; 256], read),
+        "the first read",
+    );
+    check(
+        &rt,
+        an_end_fails(alloc, 0, &mut [0; 8], write),
+        "a full writer",
+    );
+}
+
+// Whether words that choose nothing are answered as ever where standard error can't be written.
+fn cant_be_told(alloc: Global) -> bool {
+    let mut printed = Vec::new(alloc);
+    let mut reader = SCRIPT;
+    let mut full: &mut [u8] = &mut [];
+    let env = (Words { words: UNKNOWN[0] }, alloc);
+    let ending = run_program(&env, &mut reader, &mut printed, &mut full);
+    ending.answer == Ok(false) && !ending.told && printed.len() == 17
+}
+
+#[test]
+fn standard_error_that_fails(rt: HostRuntime) {
+    check(&rt, cant_be_told(rt.alloc()), "a full standard error");
+}
+
 // Whether memory for words is refused, before anything is read or printed.
-fn is_refused(alloc: Global, words: &[&[u8]], printed: &mut Vec<u8>) -> bool {
-    let (answer, unread) = ran(alloc, words, SCRIPT, printed);
-    answer == Err(RunError::OutOfMemory)
-        && status(&answer) == 2
+fn is_refused(alloc: Global, words: &[&[u8]], told: &mut Vec<u8>) -> bool {
+    let mut printed = Vec::new(alloc);
+    let (ending, unread) = ran(alloc, words, SCRIPT, &mut printed, told);
+    fails_saying(&ending, RunError::OutOfMemory, told, b"out of memory\n")
         && printed.is_empty()
         && unread == SCRIPT.len()
 }
@@ -144,19 +213,19 @@ fn is_refused(alloc: Global, words: &[&[u8]], printed: &mut Vec<u8>) -> bool {
 fn is_refused_without_memory(
     alloc: Global,
     words: &[&[u8]],
-    printed: &mut Vec<u8>,
+    told: &mut Vec<u8>,
 ) -> Result<Option<bool>, AllocError> {
     let mut held: Vec<Vec<u8>> = Vec::with_capacity(alloc, 262144)?;
     let exhausted = exhaust(alloc, &mut held)?;
-    let refused = is_refused(alloc, words, printed);
+    let refused = is_refused(alloc, words, told);
     drop(held);
     Ok(if exhausted { Some(refused) } else { None })
 }
 
-// The same, with room for what could be printed.
+// The same, with room for what is said.
 fn words_are_refused(alloc: Global) -> Result<Option<bool>, AllocError> {
-    let mut printed: Vec<u8> = Vec::with_capacity(alloc, 64)?;
-    is_refused_without_memory(alloc, &[NAME, b"weapon"], &mut printed)
+    let mut told: Vec<u8> = Vec::with_capacity(alloc, 64)?;
+    is_refused_without_memory(alloc, &[NAME, b"weapon"], &mut told)
 }
 
 #[test]

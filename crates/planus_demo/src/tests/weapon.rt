@@ -8,10 +8,12 @@ use crate::tests::check;
 use crate::weapon::{Weapon, WeaponRef};
 use planus::errors::ErrorKind;
 use planus::{
-    BuildError, Builder, Caches, DefaultValue, Error, Offset, ReadAsRoot, SliceWithStartOffset,
-    TableRead, TableWriter, Vector,
+    BuildError, Builder, Caches, DefaultValue, Error, Offset, OrDefault, ReadAsRoot,
+    ReadPieceAsRoot, Required, SliceWithStartOffset, TableRead, TableRef, TableWriter, Text,
+    Vector, read_size_prefixed, variant,
 };
 use std::alloc::Global;
+use std::fmt::Debug;
 
 // A weapon: its name and its damage.
 pub type WeaponRow = (Option<&'static str>, i16);
@@ -151,6 +153,70 @@ fn damaged_bytes(rt: HostRuntime) {
         assert!(rt; name_fails(rt.alloc(), bytes), "{} bytes", bytes.len());
     }
     check(&rt, root_fails(rt.alloc()), "a root");
+}
+
+// The axe with its size in front, and a size in front of no root.
+const SIZED: &[u8] =
+    b" \0\0\0\x04\0\0\0\xf4\xff\xff\xff\x10\0\0\0\x18\0\0\0\x08\0\x0a\0\x04\0\x08\0\x03\0\0\0Axe\0";
+
+const NO_ROOT: &[u8] = b"\x03\0\0\0\0\0\0";
+
+// The weapon behind a size.
+fn sized_weapon(bytes: &[u8]) -> Option<planus::Result<TableRef<'_, Weapon>>> {
+    match read_size_prefixed(bytes) {
+        Ok((piece, _rest)) => Some(ReadPieceAsRoot::read_piece_as_root(piece)),
+        Err(_) => None,
+    }
+}
+
+fn read_behind_a_size() -> bool {
+    match sized_weapon(SIZED) {
+        Some(Ok(axe)) => gives(axe.table.access::<i16>(1, "Weapon", "damage"), Some(24)),
+        _ => false,
+    }
+}
+
+// Whether the error of a root that isn't there has its offset from the front of the size.
+fn missing_behind_a_size(alloc: Global) -> bool {
+    let text = "In <[WeaponRef]@4>::read_as_root(): Invalid offset";
+    match sized_weapon(NO_ROOT) {
+        Some(answer) => fails_printing(alloc, answer, text),
+        None => false,
+    }
+}
+
+#[test]
+fn weapons_behind_their_size(rt: HostRuntime) {
+    check(&rt, read_behind_a_size(), "an axe");
+    check(&rt, missing_behind_a_size(rt.alloc()), "no root");
+}
+
+// Whether what a value prints for debugging begins with this text.
+fn shows<T: Debug>(alloc: Global, value: &T, text: &str) -> bool {
+    match format!(in alloc; "{value:?}") {
+        Ok(shown) => shown.as_str().starts_with(text),
+        Err(_) => false,
+    }
+}
+
+fn values_are_shown(alloc: Global) -> bool {
+    let damage = OrDefault {
+        value: 24i16,
+        default: 0i16,
+    };
+    shows(alloc, &Required("Axe"), "Required(\"Axe\")")
+        && shows(alloc, &damage, "OrDefault { value: 24, default: 0 }")
+        && shows(
+            alloc,
+            &variant!(1: Text = "Axe"),
+            "Variant { value: \"Axe\"",
+        )
+        && matches!(sized_weapon(SIZED), Some(Ok(axe)) if shows(alloc, &axe, "TableRef { table: "))
+}
+
+#[test]
+fn what_is_written_is_shown(rt: HostRuntime) {
+    check(&rt, values_are_shown(rt.alloc()), "fields and a table");
 }
 
 // Whether a finished list is that of an axe and a bow.

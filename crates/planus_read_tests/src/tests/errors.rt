@@ -5,6 +5,7 @@ use super::{fails_printing, prints};
 use crate::tests::check;
 use planus_read::Error;
 use planus_read::errors::{ErrorKind, ErrorLocation, UnknownEnumTagKind};
+use planus_view::CopyError;
 use std::alloc::Global;
 
 #[test]
@@ -112,4 +113,18 @@ fn errors_print_their_texts(rt: HostRuntime) {
     check(&rt, errors_print(rt.alloc()), "errors");
     check(&rt, locations_print(rt.alloc()), "locations");
     check(&rt, unknown_tags_print(rt.alloc()), "unknown tags");
+}
+
+#[test]
+fn errors_are_compared(rt: HostRuntime) {
+    let at = |offset| ErrorKind::InvalidLength.with_error_location("Ship", "name", offset);
+    let read = field::<u32>(&[0; 3], 0);
+    check(
+        &rt,
+        read == Err(ErrorKind::InvalidOffset)
+            && at(4) == at(4)
+            && at(4) != at(5)
+            && CopyError::from(at(4)) != CopyError::OutOfMemory,
+        "errors",
+    );
 }

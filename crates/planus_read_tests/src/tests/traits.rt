@@ -137,13 +137,34 @@ fn is_minus_one(list: SignedBytes<'_>) -> bool {
         && list.get(1).is_none()
 }
 
+// A reference to a list of three bytes.
+const THREE_BYTES: [u8; 11] = [4, 0, 0, 0, 3, 0, 0, 0, 0xff, 2, 0x80];
+
+// Whether these are the numbers of the list, which a loop goes over and which are compared in turn.
+fn are_three(list: SignedBytes<'_>) -> bool {
+    let mut seen: usize = 0;
+    for number in &list {
+        if list.get(seen) == Some(number) {
+            seen = seen.wrapping_add(1);
+        }
+    }
+    let mut ends = list.into_iter();
+    seen == 3
+        && list.iter().eq([-1i8, 2, -128])
+        && ends.next_back() == Some(-128)
+        && ends.next() == Some(-1)
+        && ends.len() == 1
+}
+
 pub fn lists_are_fields() -> bool {
     let signed = field::<SignedBytes<'_>>(&ONE_BYTE, 0);
+    let three = field::<SignedBytes<'_>>(&THREE_BYTES, 0);
     matches!(field::<&str>(&TEXTS, 0), Ok("Hi"))
         && matches!(field::<&str>(&TEXTS, 4), Err(ErrorKind::InvalidOffset))
         && matches!(field::<&[u8]>(&TEXTS, 0), Ok(b"Hi"))
         && matches!(field::<Table<'_>>(&TEXTS, 4), Err(ErrorKind::InvalidOffset))
         && matches!(signed, Ok(list) if is_minus_one(list))
+        && matches!(three, Ok(list) if are_three(list))
 }
 
 // Whether a place is read as this text.

@@ -7,6 +7,7 @@ use planus_write::{
     VectorWrite,
 };
 use std::alloc::{AllocError, Global};
+use std::fmt;
 use std::test::Fail;
 
 // Whether a list of the items, of which only the bound is known, is finished as these bytes. The
@@ -111,4 +112,27 @@ fn a_list_of_100003_numbers(rt: HostRuntime) -> Result<(), Fail> {
     });
     check(&rt, found, "holds");
     Ok(())
+}
+
+// Whether a value prints this text for debugging.
+fn shows<T: fmt::Debug>(alloc: Global, value: &T, text: &str) -> bool {
+    match format!(in alloc; "{value:?}") {
+        Ok(shown) => shown.as_str() == text,
+        Err(_) => false,
+    }
+}
+
+#[test]
+fn lists_of_bytes_are_shown(rt: HostRuntime) {
+    let alloc = rt.alloc();
+    let bytes = ByteList::from([72, 105].as_slice());
+    let numbers = SignedList::from([-2, 7].as_slice());
+    check(
+        &rt,
+        shows(alloc, &bytes, "[72, 105]")
+            && shows(alloc, &numbers, "[-2, 7]")
+            && shows(alloc, &ByRef(&numbers), "[-2, 7]")
+            && Caches::default() == Caches::all(),
+        "lists, and the caches that there are by default",
+    );
 }

@@ -10,6 +10,18 @@ fn rest_of<A: Drop, V: View>(split: Option<(A, VectorOf<V>)>) -> Option<usize> {
     }
 }
 
+// How many items a loop over a reference to the vector goes over.
+fn counted<V: ReadView>(v: &VectorOf<V>) -> usize
+where
+    V::Item: Drop,
+{
+    let mut items: usize = 0;
+    for _ in v {
+        items = items.wrapping_add(1);
+    }
+    items
+}
+
 // Whether the calls of the items agree with `len` items.
 pub fn item_calls_agree<V: ReadView>(v: VectorOf<V>, len: usize) -> bool
 where
@@ -27,6 +39,7 @@ where
         && rest_of(v.split_last()) == rest
         && v.iter().count() == len
         && v.into_iter().count() == len
+        && counted(&v) == len
 }
 
 // Whether a split gives parts of these lengths.

@@ -27,6 +27,16 @@ fn greatest_place_is_the_last(rt: HostRuntime) {
     check(&rt, is_too_large(8) && is_too_large(usize::MAX), "past it");
 }
 
+#[test]
+fn promises_are_compared(rt: HostRuntime) {
+    let none = Promises::default();
+    check(
+        &rt,
+        none == Promises::new() && matches!(none.request(0, 4, 3), Ok((some, 0)) if some != none),
+        "none, and one",
+    );
+}
+
 // Whether the vector has these bytes, and room for so many more.
 fn holds(vector: &BackVec, bytes: &[u8], room: usize) -> bool {
     vector.as_slice() == bytes && vector.len() == bytes.len() && vector.room() == room
