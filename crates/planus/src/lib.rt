@@ -30,8 +30,12 @@ pub use planus_read::{
     table_reader,
 };
 pub use planus_tables::{
-    OrDefault, Required, TableKind, TableRef, Variant, create_table, fields, plain_field,
-    plain_field_or, plain_item, plain_vector, variant,
+    OrDefault, Required, TableKind, TableRef, TableView, Variant, bytes_field, bytes_required,
+    create_table, fields, plain_field, plain_field_or, plain_item, plain_required, plain_vector,
+    plain_vector_required, read_root, read_view, table_field, table_item, table_required,
+    table_vector, table_vector_required, text_field, text_item, text_required, text_vector,
+    text_vector_required, union_field, union_item, union_required, union_vector,
+    union_vector_required, variant,
 };
 pub use planus_unions::{UnionVector, union_vectors};
 pub use planus_view::{CopyError, FromItem, Vector, vectors};

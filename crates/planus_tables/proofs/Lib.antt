@@ -9,3 +9,8 @@ pub mod ReadItems
 pub mod ReadUnions
 pub mod Steps
 pub mod RefusedTables
+pub mod Accessors
+pub mod ItemAccessors
+pub mod Roots
+pub mod Unions
+pub mod UnionAccessors

@@ -1,8 +1,8 @@
 -- A value of a fixed layout is read back.
 use Rattle.std.proofs.Common.{◌≡◌, ℕ, ◌+◌, ◌<◌, ◌≤◌, List, [], ◌∷◌, length, drop, subst, ◌∙◌, Result, Ok, Err, inl, inr, arith, length-drop}
-use Rattle.std.specs.Prelude.{IsOkAnd, IsSomeAnd, MatchOption, ⊤}
+use Rattle.std.specs.Prelude.{IsOkAnd, IsSomeAnd, IsTrue, MatchOption, ⊤}
 use Rattle.std.specs.Option.{unwrap_or}
-use Rattle.std.proofs.Common.{Option, Some, None, ap, refl, sym, inr, ◌*◌, slice_get, map}
+use Rattle.std.proofs.Common.{Bool, true, false, Option, Some, None, ap, refl, sym, inr, ◌*◌, slice_get}
 use Rattle.std.proofs.lemmas.List.{length-map}
 use Rattle.std.specs.Option.{option_map}
 use Rattle.std.proofs.lemmas.Option.{slice_get-map, slice_get_within}
@@ -24,14 +24,12 @@ use Rattle.planus_read.specs.Stands.{FieldStands}
 use Rattle.planus_read.specs.Values.{Field}
 use Rattle.planus_read.proofs.PieceLaws.{bytes_in_piece}
 use Rattle.planus_read.proofs.Reading.{stood_inside}
-use Rattle.planus_fields.specs.Contents.{holds_if}
+use Rattle.planus_fields.specs.Contents.{holds_if, unless}
 use Rattle.planus_tables.specs.Holds.{holds_plain}
 use Rattle.planus_tables.specs.ReadBack.{FieldHolds, SlotHolds}
-use Rattle.planus_tables.specs.ReadPlain.{reads_plain, plain_content, PlainReadBack, PlainItemsReadBack}
-use Rattle.planus_tables.specs.ReadPlain.{IsPlainField, IsPlainFieldOr, IsPlainVector, ArePlain}
+use Rattle.planus_tables.specs.ReadPlain.{reads_plain, plain_content, PlainReadBack}
+use Rattle.planus_tables.specs.ReadPlain.{IsPlainField, IsPlainFieldOr, ArePlain}
 use Rattle.planus_tables.specs.ReadPlain.{IsPlainResult, PlainResultsReadBack}
-use Rattle.planus_tables.specs.ReadVectors.{reads_vector}
-use Rattle.planus_tables.proofs.ReadVectors.{plain_vectors_read_back}
 use Rattle.planus_tables.proofs.ReadBack.{contents_read_back, absent_fields_read_back}
 
 none_broken : (clauses : List Clause) (e : ErrorKind) → FirstBroken clauses e → AllHold clauses → ⊥
@@ -81,10 +79,6 @@ module _ {T : Type 0} {size alignment : ℕ} (shape : Shape T size alignment) wh
           (none_broken (plain_reading shape (drop start B) f).clauses e broken
           (all_hold (drop start B) f x fits here))
 
-  pub plain_items_read_back : PlainItemsReadBack shape
-  plain_items_read_back S f x found fits reads there =
-      shape.again S f x found fits reads.stands there
-
   -- The answer of a field is what a slot that was written holds.
   pub field_read : (table : Table) (slot : ℕ) (type_ method : List ℕ) (r : Result (Option T) Error)
       → Located (FieldAnswer (reads_plain shape) table slot) type_ method (table_start table) r
@@ -112,8 +106,20 @@ module _ {T : Type 0} {size alignment : ℕ} (shape : Shape T size alignment) wh
         answer = answered r h;
         read_back = λ B x holds fits. ap (default_of default) (read.read_back B (Some x) holds fits);
         left_out = λ B holds. ap (default_of default) (read.read_back B None holds tt);
+        read_back_unless = unless_default;
       }
     where
+      unless_default : (B : List ℕ) (x : T) (is_default : Bool)
+          → SlotHolds B table slot (unless is_default (holds_plain shape x))
+          → (IsTrue is_default → x ≡ default) → shape.fits x → default_of default r ≡ Ok x
+      unless_default B x true holds same fits =
+          ap (default_of default)
+          ((field_read table slot type_ method r h).read_back B None holds tt)
+          ∙ ap (λ (y : T). Ok y) (sym (same refl))
+      unless_default B x false holds same fits =
+          ap (default_of default)
+          ((field_read table slot type_ method r h).read_back B (Some x) holds fits)
+
       answered : (r : Result (Option T) Error)
           → Located (FieldAnswer (reads_plain shape) table slot) type_ method (table_start table) r
           → Located (OrDefault default (FieldAnswer (reads_plain shape) table slot)) type_ method
@@ -178,19 +184,3 @@ module _ {T : Type 0} {kind : PlainGhosts T} where
 pub results_read_back : {T : Type 0} (kind : PlainGhosts T) → PlainResultsReadBack kind
 results_read_back kind B xs x vector i r are there fits gets =
     result_read B xs x vector i r are there fits gets
-
-module _ {T R : Type 0} {kind : PlainGhosts R} where
-  -- The answer of a vector is that of the values that a slot that was written holds.
-  pub vector_read : (table : Table) (slot : ℕ) (type_ method : List ℕ)
-      (r : Result (Option (VectorOf (SliceView T R kind))) Error)
-      → Located (FieldAnswer (reads_vector T kind) table slot) type_ method (table_start table) r
-      → IsPlainVector table slot type_ method r
-  vector_read table slot type_ method r h = record {
-    answer = h;
-    read_back = λ B xs holds.
-        (plain_vectors_read_back T kind).optional B table slot
-        (kind.ALIGNMENT, map kind.shape.encoded xs) holds tt type_ method (table_start table) r h;
-    left_out = λ B holds.
-        (absent_fields_read_back (reads_vector T kind)).optional B table slot holds type_ method
-        (table_start table) r h;
-  }

@@ -19,17 +19,14 @@ use Rattle.planus_read.proofs.TableReading.{slot_below, unions_read, union_vecto
 use Rattle.planus_unions.proofs.ReadBack.{union_vectors}
 use Rattle.planus_view.specs.declared.union_vector.UnionSliceView.{UnionSliceView}
 use Rattle.planus_view.specs.declared.vector_of.VectorOf.{VectorOf}
-use Rattle.planus_write.specs.Unions.{item_of, union_reach}
-use Rattle.planus_write.specs.declared.union_offset.UnionOffset.{UnionOffset}
 use Rattle.planus_write.specs.Contents.{Content, Unions, item, value, values, written}
 use Rattle.planus_write.specs.Contents.{no_unions, union_and, union_tags, union_values}
 use Rattle.planus_write.specs.Contents.{written_tags}
-use Rattle.planus_write.specs.Contents.{as_unions, written_union}
 use Rattle.planus_write.specs.Contents.{written_values}
 use Rattle.planus_tables.specs.Contents.{tag_content, value_content}
 use Rattle.planus_tables.specs.ReadBack.{FieldHolds, FieldHoldsIf, SlotHolds, UnionsHold}
 use Rattle.planus_tables.specs.ReadUnions.{IsReference, ReadsUnion, UnionsReadBack, reads_unions, AreUnions}
-use Rattle.planus_tables.specs.ReadUnions.{AreNewUnions, OffsetUnionVectorsReadBack}
+use Rattle.planus_tables.specs.ReadUnions.{AreNewUnions}
 use Rattle.planus_tables.specs.ReadUnions.{UnionVectorSlotsReadBack, NewUnionVectorsReadBack}
 use Rattle.planus_tables.specs.ReadUnions.{UnionsStand, WrittenUnionVectorsReadBack}
 use Rattle.planus_tables.specs.ReadUnions.{AbsentUnionVectorsReadBack, MissingUnionVectorsAreErrors}
@@ -255,18 +252,6 @@ refer_to_unions B contents one next holds next_holds =
       next_holds.3.2,
     )
 
--- unions that were written before have their tags and their distances
-same_unions : {U : Type 0} (B : List ℕ) (unions : List (UnionOffset U)) (items : List (ℕ × ℕ))
-    → UnionsHold B (as_unions (map written_union unions)) items → items ≡ map item_of unions
-same_unions B [] [] hold = refl
-same_unions B (union ∷ unions) ((tag, distance) ∷ items) hold =
-    let same : distance ≡ union_reach union = cc in
-    ap (λ (tag : ℕ). (tag, distance) ∷ items) hold.0
-    ∙ ap (λ (distance : ℕ). (union.tag, distance) ∷ items) same
-    ∙ ap (λ (others : List (ℕ × ℕ)). item_of union ∷ others) (same_unions B unions items hold.2)
-same_unions B [] (one ∷ items) hold = elim hold [ ]
-same_unions B (union ∷ unions) [] hold = elim hold [ ]
-
 module _ (T E : Type 0) where
   -- an answer to a vector of unions where both references stand
   some_unions : (B : List ℕ) (k tags_at values_at : ℕ) (items : List (ℕ × ℕ))
@@ -351,20 +336,6 @@ module _ (T E : Type 0) where
         refer.0,
         refer.1,
         (λ vector are. (refer.0, refer.2, are)),
-      )))
-
-  pub offset_union_vectors_read_back : (U : Type 0) → OffsetUnionVectorsReadBack T E U
-  offset_union_vectors_read_back U = vectors_read_back (λ B unions. ⊤)
-      (λ unions. union_tags (as_unions (map written_union unions)))
-      (λ unions. union_values (as_unions (map written_union unions)))
-      (λ B unions. AreUnions B (map item_of unions))
-      (λ B unions one next may holds next_holds.
-      (let refer = refer_to_unions B (as_unions (map written_union unions)) one next holds next_holds in (
-        refer.0,
-        refer.1,
-        (λ vector are.
-            subst (λ (items : List (ℕ × ℕ)). AreUnions B items vector)
-            (same_unions B unions refer.0 refer.2) are),
       )))
 
   pub written_union_vectors_read_back : WrittenUnionVectorsReadBack T E

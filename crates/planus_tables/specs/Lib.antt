@@ -9,5 +9,10 @@ pub mod ReadKinds
 pub mod ReadVectors
 pub mod ReadUnions
 pub mod ReadPlain
+pub mod Accessors
+pub mod ItemAccessors
+pub mod Roots
+pub mod Unions
+pub mod UnionAccessors
 pub mod Variants
 pub mod lemmas

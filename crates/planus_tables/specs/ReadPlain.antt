@@ -1,6 +1,6 @@
 -- What is read of a field or of an item that is a value of a fixed layout.
-use Rattle.std.specs.Prelude.{◌≡◌, ℕ, ◌*◌, List, map, Option, None, Result, Ok, IsOkAnd, IsSomeAnd}
-use Rattle.std.specs.Prelude.{MatchOption, ⊤, slice_get, Some}
+use Rattle.std.specs.Prelude.{◌≡◌, ℕ, ◌*◌, List, map, Bool, Option, None, Result, Ok}
+use Rattle.std.specs.Prelude.{MatchOption, ⊤, slice_get, Some, IsTrue}
 use Rattle.planus_read.specs.declared.located.Error.{Error}
 use Rattle.planus_read.specs.declared.plain.Plain.{Ghosts as PlainGhosts}
 use Rattle.planus_read.specs.declared.table_reader.Table.{Table}
@@ -9,17 +9,16 @@ use Rattle.planus_read.specs.Converted.{Converted}
 use Rattle.planus_read.specs.Items.{item_method, plain_name}
 use Rattle.planus_read.specs.Located.{Located, OrDefault}
 use Rattle.planus_read.specs.Plain.{Shape, plain_reading}
-use Rattle.planus_read.specs.ReadsBack.{PlainReads}
 use Rattle.planus_read.specs.Tables.{Reads, FieldAnswer, table_start}
 use Rattle.planus_view.specs.Indexes.{GetsItem}
 use Rattle.planus_view.specs.VectorView.{count_of, view_of}
 use Rattle.planus_view.specs.declared.vector.SliceView.{SliceView}
 use Rattle.planus_view.specs.declared.vector_of.VectorOf.{VectorOf}
 use Rattle.planus_write.specs.Contents.{Content, item}
-use Rattle.planus_fields.specs.Contents.{holds_if}
-use Rattle.planus_tables.specs.Holds.{holds_plain, holds_plains}
+use Rattle.planus_fields.specs.Contents.{holds_if, unless}
+use Rattle.planus_tables.specs.Holds.{holds_plain}
 use Rattle.planus_tables.specs.ReadBack.{ContentsReadBack, SlotHolds}
-use Rattle.planus_tables.specs.ReadVectors.{ArePlainItems, reads_vector}
+use Rattle.planus_tables.specs.ReadVectors.{ArePlainItems}
 
 module _ {T : Type 0} {size alignment : ℕ} (shape : Shape T size alignment) where
   -- what it is answered with
@@ -34,12 +33,6 @@ module _ {T : Type 0} {size alignment : ℕ} (shape : Shape T size alignment) wh
   abbrev pub PlainReadBack : Type 0
   PlainReadBack =
       ContentsReadBack reads_plain (λ B x. shape.fits x) plain_content (λ B x found. found ≡ x)
-
-  -- So is an item of a list: what is read where its bytes stand is this value.
-  abbrev pub PlainItemsReadBack : Type 0
-  PlainItemsReadBack =
-      (S : List ℕ) (f : ℕ) (x found : T) → shape.fits x → PlainReads S f (shape.encoded x)
-      → shape.There S f found → found ≡ x
 
   -- What a call returns for the field in a slot of a table that may be absent: over any bytes what
   -- stands there, or the error of the first thing that is wrong; and of a slot that was written what
@@ -62,25 +55,16 @@ module _ {T : Type 0} {size alignment : ℕ} (shape : Shape T size alignment) wh
           (B : List ℕ) (x : T) → SlotHolds B table slot (holds_plain shape x) → shape.fits x
           → r ≡ Ok x
       pub left_out : (B : List ℕ) → SlotHolds B table slot None → r ≡ Ok default
+      pub read_back_unless :
+          (B : List ℕ) (x : T) (is_default : Bool)
+          → SlotHolds B table slot (unless is_default (holds_plain shape x))
+          → (IsTrue is_default → x ≡ default) → shape.fits x → r ≡ Ok x
 
 -- T is the type of the items of a vector, and R that of what stands for them.
 module _ {T R : Type 0} {kind : PlainGhosts R} where
   -- The vector is that of these values, which stand in B.
   abbrev pub ArePlain : List ℕ → List R → VectorOf (SliceView T R kind) → Type 0
   ArePlain B xs vector = ArePlainItems kind B (map kind.shape.encoded xs) vector
-
-  -- What a call returns for the vector in a slot that may be absent: over any bytes the vector of what
-  -- stands there, or the error of the first thing that is wrong; and of a slot that was written the
-  -- vector of the values that it holds.
-  pub record IsPlainVector
-      (table : Table) (slot : ℕ) (type_ method : List ℕ)
-      (r : Result (Option (VectorOf (SliceView T R kind))) Error) : Type 0 where
-    pub answer :
-        Located (FieldAnswer (reads_vector T kind) table slot) type_ method (table_start table) r
-    pub read_back :
-        (B : List ℕ) (xs : List R) → SlotHolds B table slot (holds_plains kind.shape xs)
-        → IsOkAnd r (λ found. IsSomeAnd found (ArePlain B xs))
-    pub left_out : (B : List ℕ) → SlotHolds B table slot None → r ≡ Ok None
 
 -- What such a vector answers for the item at a position: the value that stands there, or the error of
 -- the first thing that is wrong, at the start of the items.

@@ -1,6 +1,6 @@
 -- What is read of the unions and of the vectors of unions of a table that was written, in the words
 -- of what their slots hold.
-use Rattle.std.specs.Prelude.{◌≡◌, ◌≢◌, ℕ, ◌+◌, ◌<◌, List, drop, map, Option, Some, None, Result, Ok}
+use Rattle.std.specs.Prelude.{◌≡◌, ◌≢◌, ℕ, ◌+◌, ◌<◌, List, drop, Option, Some, None, Result, Ok}
 use Rattle.std.specs.Prelude.{IsOkAnd, IsSomeAnd, ⊤}
 use Rattle.planus_read.specs.declared.errors.ErrorKind.{ErrorKind}
 use Rattle.planus_read.specs.declared.located.Error.{Error}
@@ -17,13 +17,10 @@ use Rattle.planus_unions.specs.ReadBack.{IsUnionVectorOf}
 use Rattle.planus_view.specs.UnionVectorView.{ShowsUnionVector}
 use Rattle.planus_view.specs.declared.union_vector.UnionSliceView.{UnionSliceView}
 use Rattle.planus_view.specs.declared.vector_of.VectorOf.{VectorOf}
-use Rattle.planus_write.specs.Unions.{item_of}
-use Rattle.planus_write.specs.declared.union_offset.UnionOffset.{UnionOffset}
 use Rattle.planus_write.specs.Contents.{Content, Unions, value, values, written}
 use Rattle.planus_write.specs.Contents.{union_tags, union_values, written_tags}
 use Rattle.planus_write.specs.Contents.{written_values}
 use Rattle.planus_tables.specs.Contents.{tag_content, value_content}
-use Rattle.planus_write.specs.Contents.{as_unions, written_union}
 use Rattle.planus_tables.specs.ReadBack.{FieldHolds, SlotHolds, UnionsHold}
 
 -- the field that holds this is a reference
@@ -110,14 +107,6 @@ pub record UnionVectorSlotsReadBack (T E : Type 0) {X : Type 0} (May : List ℕ 
 abbrev pub NewUnionVectorsReadBack : (T E : Type 0) → Type 0
 NewUnionVectorsReadBack T E =
     UnionVectorSlotsReadBack T E (λ B contents. ⊤) union_tags union_values AreNewUnions
-
--- The items of one that was written with its table, of unions that were written before, are these.
-abbrev pub OffsetUnionVectorsReadBack : (T E U : Type 0) → Type 0
-OffsetUnionVectorsReadBack T E U =
-    UnionVectorSlotsReadBack T E {X = List (UnionOffset U)} (λ B unions. ⊤)
-    (λ unions. union_tags (as_unions (map written_union unions)))
-    (λ unions. union_values (as_unions (map written_union unions)))
-    (λ B unions. AreUnions B (map item_of unions))
 
 -- a vector of unions that stands in B: its items, and the distances of its tags and of its values
 pub record WrittenUnions : Type 0 where

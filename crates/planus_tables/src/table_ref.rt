@@ -8,6 +8,7 @@ ghost use Rattle.planus_read.specs.Tables.{FieldAnswer, table_start};
 ghost use Rattle.planus_tables.specs.Views.{ShowsView};
 
 use crate::table_kind::TableKind;
+use crate::table_view::TableView;
 use planus_read::errors::ErrorKind;
 use planus_read::table_reader::Table;
 use planus_read::{
@@ -43,13 +44,23 @@ impl<'a, K> Copy for TableRef<'a, K> {}
 
 impl<'a, K> TableRef<'a, K> {
     // The table, as one of this kind.
-    fn of_table(table: Table<'a>) -> TableRef<'a, K>
+    fn new(table: Table<'a>) -> TableRef<'a, K>
         ensures { result.table ≡ table.entry }
     {
         TableRef {
             table,
             _marker: PhantomData,
         }
+    }
+}
+
+impl<'a, K: TableKind> TableView<'a> for TableRef<'a, K> {
+    type Kind = K;
+
+    ghost table = { λ view. view.table };
+
+    fn of_table(read: Table<'a>) -> TableRef<'a, K> {
+        TableRef::new(read)
     }
 }
 
@@ -61,7 +72,7 @@ impl<'a, K> TableRead<'a> for TableRef<'a, K> {
         offset: usize,
     ) -> std::result::Result<TableRef<'a, K>, ErrorKind> {
         let table = Table::from_buffer(buffer, offset)?;
-        Ok(TableRef::of_table(table))
+        Ok(TableRef::new(table))
     }
 }
 

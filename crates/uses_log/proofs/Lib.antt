@@ -1,4 +1,0 @@
-pub mod LeftOut
-pub mod Vectors
-pub mod Causes
-pub mod Referred

@@ -2,8 +2,9 @@
 use Rattle.std.specs.Prelude.{ℕ, List, [], ◌∷◌, Option, ◌==◌}
 use Rattle.planus_write.specs.Contents.{Content}
 use Rattle.planus_fields.specs.Contents.{holds_if, unless}
-use Rattle.planus_tables.specs.Holds.{holds_u64, holds_u16, holds_u8, holds_text, holds_texts}
+use Rattle.planus_tables.specs.Holds.{holds_plain, holds_u64, holds_u16, holds_text, holds_texts}
 use Rattle.planus_tables.specs.Holds.{holds_offset, holds_offsets, holds_union_value, holds_union_tag}
+use Rattle.uses_log.specs.Levels.{level_shape}
 use Rattle.uses_log.specs.declared.entry.EntryFields.{EntryFields}
 
 -- Slot by slot: the fields in the order in which they are written, which falls by alignment. Retries
@@ -18,4 +19,4 @@ entry_contents entry =
     ∷ (7, holds_offsets entry.parents.now)
     ∷ (1, unless (entry.retries == 3) (holds_u16 entry.retries))
     ∷ (5, holds_union_tag entry.cause)
-    ∷ (8, holds_u8 entry.level.0) ∷ []
+    ∷ (8, holds_plain level_shape entry.level) ∷ []

@@ -1,18 +1,16 @@
 -- What is read of an entry that was written.
-use Rattle.std.specs.Prelude.{◌≡◌, ℕ, List, Option, Some, None, IsTrue, IsSomeAnd}
-use Rattle.planus_write.specs.Contents.{Content}
+use Rattle.std.specs.Prelude.{◌≡◌, ℕ, List, map, Option, IsTrue, IsSomeAnd, MatchOption, ⊤}
+use Rattle.planus_write.specs.Contents.{Content, written}
 use Rattle.planus_write.specs.Past.{Past}
 use Rattle.planus_write.specs.State.{State, IsPast}
-use Rattle.planus_write.specs.declared.offset.Offset.{Offset}
-use Rattle.planus_write.specs.declared.union_offset.UnionOffset.{UnionOffset}
+use Rattle.planus_tables.specs.Accessors.{SameIf, TableIsThere, IsViewOf}
 use Rattle.planus_tables.specs.Contents.{TableIsKept}
-use Rattle.planus_tables.specs.ReadBack.{TableStands, TableHolds, are_apart}
-use Rattle.planus_tables.specs.declared.table_ref.TableRef.{TableRef}
-use Rattle.uses_log.specs.Causes.{IsCauseTag, IsCause}
-use Rattle.uses_log.specs.declared.cause.Cause.{Cause}
-use Rattle.uses_log.specs.declared.cause.CauseRef.{CauseRef}
+use Rattle.planus_tables.specs.ReadBack.{TableStands, are_apart}
+use Rattle.planus_tables.specs.ReadVectors.{ItemsAreTexts, ItemsAreTables}
+use Rattle.planus_tables.specs.Unions.{UnionStands, IsUnion}
+use Rattle.uses_log.specs.Causes.{cause_variants}
+use Rattle.uses_log.specs.declared.entry.Entry.{Entry}
 use Rattle.uses_log.specs.declared.entry.EntryFields.{EntryFields}
-use Rattle.uses_log.specs.declared.origin.Origin.{Origin}
 use Rattle.uses_log.specs.declared.read_back.EntryRead.{EntryRead}
 
 -- Each table that was kept in a builder stands in B, with all that it refers to.
@@ -22,26 +20,22 @@ KeptTablesStandIn B state =
     → TableIsKept past contents distance → IsTrue (are_apart contents)
     → TableStands B contents distance
 
--- An origin that was referred to is read with the contents that stand there in B; where none was,
--- none is read.
-abbrev pub IsOriginRead : List ℕ → Option (Offset Origin) → Option (TableRef Origin) → Type 0
-IsOriginRead B None found = found ≡ None
-IsOriginRead B (Some origin) found =
-    (contents : List (ℕ × Option Content)) → TableStands B contents origin.distance
-    → IsSomeAnd found (λ view. TableHolds B contents view.table)
-
--- So is a cause, as what its tag says.
-abbrev pub IsCauseRead : List ℕ → Option (UnionOffset Cause) → Option CauseRef → Type 0
-IsCauseRead B None found = found ≡ None
-IsCauseRead B (Some cause) found =
-    (contents : List (ℕ × Option Content)) → IsCauseTag cause.tag
-    → TableStands B contents cause.offset.distance → IsSomeAnd found (IsCause B contents cause.tag)
-
--- These fields of an entry are read as they were given; those that aren't here are vectors.
+-- The fields of an entry are read as they were given: numbers and texts as they are, an origin and a
+-- cause that stand in B as the views of these, and none where none was given.
 pub record IsRead (B : List ℕ) (entry : EntryFields) (read : EntryRead) : Type 0 where
   pub at : read.at ≡ entry.at
   pub retries : read.retries ≡ entry.retries
   pub text : read.text.now ≡ entry.text.now
-  pub origin : IsOriginRead B entry.origin read.origin
-  pub cause : IsCauseRead B entry.cause read.cause
-  pub level : read.level.0 ≡ entry.level.0
+  pub tags : IsSomeAnd read.tags (ItemsAreTexts _ (map (λ tag. tag.now) entry.tags.now))
+  pub origin :
+      MatchOption entry.origin ⊤ (λ origin. TableIsThere B origin.distance)
+      → SameIf (λ origin. IsViewOf (λ view. view.table) B origin.distance) entry.origin read.origin
+  pub cause :
+      MatchOption entry.cause ⊤
+      (λ cause. UnionStands cause_variants B cause.tag (written cause.offset.distance))
+      → SameIf (λ cause. IsUnion cause_variants B cause.tag (written cause.offset.distance))
+      entry.cause read.cause
+  pub parents :
+      IsSomeAnd read.parents
+      (ItemsAreTables _ Entry B (map (λ parent. parent.distance) entry.parents.now))
+  pub level : read.level ≡ entry.level

@@ -17,9 +17,10 @@ pub enum CauseRef<'a> {
 }
 
 impl<'a> TableReadUnion<'a> for CauseRef<'a> {
-    ghost use Rattle.uses_log.specs.Causes.{ReadsCause};
+    ghost use Rattle.planus_tables.specs.Unions.{ReadsVariants};
+    ghost use Rattle.uses_log.specs.Causes.{cause_variants};
 
-    ghost reads = { ReadsCause };
+    ghost reads = { ReadsVariants cause_variants };
 
     fn from_buffer(
         buffer: SliceWithStartOffset<'a>,

@@ -7,36 +7,30 @@
 //! }
 //! ```
 
-ghost use Rattle.std.specs.Prelude.{◌≡◌, ◌<◌, ◌≤◌, ◌^◌, ◌==◌, List as list, ℕ, length, map, codes};
-ghost use Rattle.std.specs.Prelude.{IfOk, MatchOption, ⊤, Option as option, Some, None, IsSomeAnd};
-ghost use Rattle.std.specs.Borrow.{Bor};
-ghost use Rattle.std.specs.Result.{IsOkAnd};
-ghost use Rattle.std.specs.Str.{IsUtf8};
+ghost use Rattle.std.specs.Prelude.{◌≡◌, ◌≤◌, length, codes, IfOk, MatchOption, ⊤};
+ghost use Rattle.planus_read.specs.Shapes.{u16_shape, u64_shape};
 ghost use Rattle.planus_write.specs.InBuilder.{IsIn, AllIn};
 ghost use Rattle.planus_write.specs.State.{Grows};
-ghost use Rattle.planus_write.specs.Contents.{Content};
-ghost use Rattle.planus_fields.specs.Contents.{unless};
+ghost use Rattle.planus_tables.specs.Accessors.{IsTableField, IsTableVector};
+ghost use Rattle.planus_tables.specs.Accessors.{IsTextRequired, IsTextVector};
 ghost use Rattle.planus_tables.specs.Contents.{WritesContents};
-ghost use Rattle.planus_tables.specs.Holds.{holds_u64, holds_u16, holds_u8, holds_text, holds_texts};
-ghost use Rattle.planus_tables.specs.Holds.{holds_offset, holds_offsets};
-ghost use Rattle.planus_tables.specs.Holds.{holds_union_tag, holds_union_value};
-ghost use Rattle.planus_tables.specs.ReadBack.{SlotHolds, TableStands, TableHolds};
-ghost use Rattle.planus_tables.specs.ReadVectors.{ItemsAreTexts, ItemsAreTables};
-ghost use Rattle.planus_write.specs.declared.offset.Offset.{Offset};
-ghost use Rattle.planus_write.specs.declared.union_offset.UnionOffset.{UnionOffset};
+ghost use Rattle.planus_tables.specs.ReadPlain.{IsPlainFieldOr};
+ghost use Rattle.planus_tables.specs.UnionAccessors.{IsUnionField};
+ghost use Rattle.planus_tables.specs.Unions.{ReadsVariants};
 ghost use Rattle.uses_log.specs.declared.cause.Cause.{Cause};
 ghost use Rattle.uses_log.specs.declared.origin.Origin.{Origin};
-ghost use Rattle.uses_log.specs.Causes.{IsCauseTag, IsCause};
+ghost use Rattle.uses_log.specs.Causes.{cause_variants};
 ghost use Rattle.uses_log.specs.Entries.{entry_contents};
+ghost use Rattle.uses_log.specs.Levels.{level_shape};
 
 use crate::cause::{Cause, CauseRef};
 use crate::level::Level;
 use crate::origin::{Origin, OriginRef};
 use planus::{
-    BuildError, Builder, List, Offset, OrDefault, Plain, Result, TableKind, TableRef, TableWriter,
-    Text, UnionOffset, Vector, create_table, fields,
+    BuildError, Builder, List, Offset, OrDefault, Result, TableKind, TableRef, TableWriter, Text,
+    UnionOffset, Vector, create_table, fields, plain_field_or, table_field, table_vector,
+    text_required, text_vector, union_field,
 };
-use planus_tables::laws;
 
 /// The kind of an entry, and of an offset to one.
 pub struct Entry;
@@ -85,122 +79,68 @@ impl Entry {
             4: Offset<Origin> = entry.origin,
             (5, 6): union Cause = entry.cause,
             7: Offset<List<Offset<Entry>>> = entry.parents,
-            8: last u8 = entry.level.0,
+            8: last Level = entry.level,
         ];
         create_table::<Entry, _>(builder, fields)
     }
 
     /// Returns when it was, 0 where nothing is said of it.
     pub fn at(entry: &EntryRef<'_>) -> Result<u64>
-        ensures read_back { (B : list ℕ) (at : ℕ) → at < 2 ^ 64
-            → SlotHolds B entry.now.table 0 (holds_u64 at) → IsOkAnd result (λ read. read ≡ at) }
+        ensures { IsPlainFieldOr u64_shape 0 entry.now.table 0 (codes "Entry") (codes "at") result }
     {
-        laws::fields_read_back();
-        Ok(entry.table.access::<u64>(0, "Entry", "at")?.unwrap_or(0))
+        plain_field_or(&entry.table, 0, 0, "Entry", "at")
     }
 
     /// Returns how often it was tried again, 3 where nothing is said of it.
     pub fn retries(entry: &EntryRef<'_>) -> Result<u16>
-        ensures read_back { (B : list ℕ) (retries : ℕ) → retries < 65536
-            → SlotHolds B entry.now.table 1 (unless (retries == 3) (holds_u16 retries))
-            → IsOkAnd result (λ read. read ≡ retries) }
+        ensures { IsPlainFieldOr u16_shape 3 entry.now.table 1 (codes "Entry") (codes "retries") result }
     {
-        laws::fields_read_back();
-        laws::absent_fields_read_back::<u16>();
-        Ok(
-            entry
-                .table
-                .access::<u16>(1, "Entry", "retries")?
-                .unwrap_or(3),
-        )
+        plain_field_or(&entry.table, 1, 3, "Entry", "retries")
     }
 
-    /// Returns its text. Where the entry holds a text that is UTF-8, it is that text.
+    /// Returns its text.
     pub fn text<'a>(entry: &EntryRef<'a>) -> Result<&'a str>
-        ensures read_back { (B text : list ℕ) → SlotHolds B entry.now.table 2 (holds_text text)
-            → IsUtf8 text → IsOkAnd result (λ read. read.now ≡ text) }
+        ensures { IsTextRequired entry.now.table 2 (codes "Entry") (codes "text") result }
     {
-        laws::fields_read_back();
-        entry.table.access_required::<&str>(2, "Entry", "text")
+        text_required(&entry.table, 2, "Entry", "text")
     }
 
-    /// Returns its tags, or `None` where there are none. Where the entry holds texts as its tags,
-    /// they are the vector of these.
+    /// Returns its tags, or `None` where there are none.
     pub fn tags<'a>(entry: &EntryRef<'a>) -> Result<Option<Vector<'a, Result<&'a str>>>>
-        ensures read_back { (B : list ℕ) (tags : list (Bor (list ℕ)))
-            → SlotHolds B entry.now.table 3 (holds_texts (λ tag. tag.now) tags)
-            → IsOkAnd result (λ found. IsSomeAnd found (ItemsAreTexts
-            ⟦<u32 as Plain>⟧ (map (λ tag. tag.now) tags))) }
+        ensures { IsTextVector entry.now.table 3 (codes "Entry") (codes "tags") result }
     {
-        laws::vectors_read_back::<Result<&'a str>>();
-        laws::items_read_back::<Result<&'a str>, Entry>();
-        entry
-            .table
-            .access::<Vector<'a, Result<&'a str>>>(3, "Entry", "tags")
+        text_vector(&entry.table, 3, "Entry", "tags")
     }
 
-    /// Returns where it comes from, or `None` where nothing is said of it. Where the entry refers to
-    /// an origin that stands in the bytes, it is that origin.
+    /// Returns where it comes from, or `None` where nothing is said of it.
     pub fn origin<'a>(entry: &EntryRef<'a>) -> Result<Option<OriginRef<'a>>>
-        ensures read_back { (B : list ℕ) (contents : list (ℕ × option Content))
-            (origin : Offset Origin)
-            → SlotHolds B entry.now.table 4 (holds_offset origin.distance)
-            → TableStands B contents origin.distance
-            → IsOkAnd result (λ found. IsSomeAnd found (λ view.
-            TableHolds B contents view.table)) }
-        ensures left_out { (B : list ℕ) → SlotHolds B entry.now.table 4 None
-            → result ≡ Ok None }
+        ensures { IsTableField Origin (λ origin. origin.table) entry.now.table 4 (codes "Entry")
+            (codes "origin") result }
     {
-        laws::tables_read_back::<Origin>();
-        laws::absent_fields_read_back::<OriginRef<'a>>();
-        entry.table.access::<OriginRef<'a>>(4, "Entry", "origin")
+        table_field(&entry.table, 4, "Entry", "origin")
     }
 
-    /// Returns why it is there, or `None` where nothing is said of it. Where the entry holds the
-    /// tag of a cause and refers to a table that stands in the bytes, it is that entry or that
-    /// origin.
+    /// Returns why it is there, or `None` where nothing is said of it.
     pub fn cause<'a>(entry: &EntryRef<'a>) -> Result<Option<CauseRef<'a>>>
-        ensures read_back { (B : list ℕ) (contents : list (ℕ × option Content))
-            (cause : UnionOffset Cause) → IsCauseTag cause.tag
-            → SlotHolds B entry.now.table 5 (holds_union_tag (Some cause))
-            → SlotHolds B entry.now.table 6 (holds_union_value (Some cause))
-            → TableStands B contents cause.offset.distance
-            → IsOkAnd result (λ found. IsSomeAnd found (IsCause B contents cause.tag)) }
-        ensures left_out { (B : list ℕ) → SlotHolds B entry.now.table 5 None
-            → SlotHolds B entry.now.table 6 None → result ≡ Ok None }
+        ensures { IsUnionField (ReadsVariants cause_variants) entry.now.table 5 (codes "Entry")
+            (codes "cause") Cause result }
     {
-        laws::views_read_back::<Entry>();
-        laws::views_read_back::<Origin>();
-        laws::unions_read_back::<CauseRef<'a>>();
-        entry
-            .table
-            .access_union::<CauseRef<'a>>(5, "Entry", "cause")
+        union_field::<Cause, CauseRef<'a>>(&entry.table, 5, "Entry", "cause")
     }
 
-    /// Returns the entries that it follows, or `None` where there are none. Where the entry refers
-    /// to entries, they are the vector of these.
+    /// Returns the entries that it follows, or `None` where there are none.
     pub fn parents<'a>(entry: &EntryRef<'a>) -> Result<Option<Vector<'a, Result<EntryRef<'a>>>>>
-        ensures read_back { (B : list ℕ) (parents : list (Offset Entry))
-            → SlotHolds B entry.now.table 7 (holds_offsets parents)
-            → IsOkAnd result (λ found. IsSomeAnd found (ItemsAreTables
-            ⟦<u32 as Plain>⟧ Entry B
-            (map (λ parent. parent.distance) parents))) }
+        ensures { IsTableVector Entry entry.now.table 7 (codes "Entry") (codes "parents") result }
     {
-        laws::vectors_read_back::<Result<EntryRef<'a>>>();
-        laws::items_read_back::<Result<EntryRef<'a>>, Entry>();
-        entry
-            .table
-            .access::<Vector<'a, Result<EntryRef<'a>>>>(7, "Entry", "parents")
+        table_vector(&entry.table, 7, "Entry", "parents")
     }
 
     /// Returns how grave it is, `Info` where nothing is said of it.
     pub fn level(entry: &EntryRef<'_>) -> Result<Level>
-        ensures read_back { (B : list ℕ) (level : ℕ) → level < 256
-            → SlotHolds B entry.now.table 8 (holds_u8 level)
-            → IsOkAnd result (λ read. read.0 ≡ level) }
+        ensures { IsPlainFieldOr level_shape Level.INFO entry.now.table 8 (codes "Entry")
+            (codes "level") result }
     {
-        laws::fields_read_back();
-        Ok(Level(entry.table.access::<u8>(8, "Entry", "level")?.unwrap_or(0)))
+        plain_field_or(&entry.table, 8, Level::INFO, "Entry", "level")
     }
 }
 

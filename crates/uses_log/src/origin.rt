@@ -1,18 +1,16 @@
 //! Where an entry comes from, of the schema `table Origin { host: string; port: uint16; }`.
-ghost use Rattle.std.specs.Prelude.{◌≡◌, ◌<◌, ◌≤◌, List as list, ℕ, length, codes, IfOk, IsSomeAnd};
-ghost use Rattle.std.specs.Result.{IsOkAnd};
-ghost use Rattle.std.specs.Str.{IsUtf8};
+ghost use Rattle.std.specs.Prelude.{◌≡◌, ◌≤◌, length, codes, IfOk};
+ghost use Rattle.planus_read.specs.Shapes.{u16_shape};
 ghost use Rattle.planus_write.specs.State.{Grows};
+ghost use Rattle.planus_tables.specs.Accessors.{IsTextField};
 ghost use Rattle.planus_tables.specs.Contents.{WritesContents};
-ghost use Rattle.planus_tables.specs.Holds.{holds_text, holds_u16};
-ghost use Rattle.planus_tables.specs.ReadBack.{SlotHolds};
+ghost use Rattle.planus_tables.specs.ReadPlain.{IsPlainFieldOr};
 ghost use Rattle.uses_log.specs.Origins.{origin_contents};
 
 use planus::{
     BuildError, Builder, Offset, Result, TableKind, TableRef, TableWriter, Text, create_table,
-    fields,
+    fields, plain_field_or, text_field,
 };
-use planus_tables::laws;
 
 /// The kind of an origin, and of an offset to one.
 pub struct Origin;
@@ -40,29 +38,18 @@ impl Origin {
         create_table::<Origin, _>(builder, fields)
     }
 
-    /// Returns the host, or `None` where there is none. Where the origin holds a text that is UTF-8
-    /// as its host, it is that text.
+    /// Returns the host, or `None` where there is none.
     pub fn host<'a>(origin: &OriginRef<'a>) -> Result<Option<&'a str>>
-        ensures read_back { (B host : list ℕ) → SlotHolds B origin.now.table 0 (holds_text host)
-            → IsUtf8 host → IsOkAnd result (λ found. IsSomeAnd found (λ text. text.now ≡ host)) }
+        ensures { IsTextField origin.now.table 0 (codes "Origin") (codes "host") result }
     {
-        laws::fields_read_back();
-        origin.table.access::<&str>(0, "Origin", "host")
+        text_field(&origin.table, 0, "Origin", "host")
     }
 
-    /// Returns the port, 0 where there is none. Where the origin holds a number as its port, it is
-    /// that number.
+    /// Returns the port, 0 where there is none.
     pub fn port(origin: &OriginRef<'_>) -> Result<u16>
-        ensures read_back { (B : list ℕ) (port : ℕ) → port < 65536
-            → SlotHolds B origin.now.table 1 (holds_u16 port) → IsOkAnd result (λ read. read ≡ port) }
+        ensures { IsPlainFieldOr u16_shape 0 origin.now.table 1 (codes "Origin") (codes "port") result }
     {
-        laws::fields_read_back();
-        Ok(
-            origin
-                .table
-                .access::<u16>(1, "Origin", "port")?
-                .unwrap_or(0),
-        )
+        plain_field_or(&origin.table, 1, 0, "Origin", "port")
     }
 }
 

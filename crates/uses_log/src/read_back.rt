@@ -1,16 +1,14 @@
 //! What was written is read back.
 
-ghost use Rattle.std.specs.Prelude.{◌≡◌, IfOk, IsSomeAnd, List as list, MatchOption, ℕ, map, ⊤};
+ghost use Rattle.std.specs.Prelude.{◌≡◌, IfOk, List as list, MatchOption, ℕ, ⊤};
 ghost use Rattle.planus_write.specs.InBuilder.{IsIn, AllIn};
-ghost use Rattle.planus_tables.specs.ReadVectors.{ItemsAreTexts, ItemsAreTables};
 ghost use Rattle.uses_log.specs.Reading.{IsRead, KeptTablesStandIn};
-ghost use Rattle.uses_log.specs.declared.entry.Entry.{Entry};
 
 use crate::cause::CauseRef;
 use crate::entry::{Entry, EntryFields, EntryRef};
 use crate::level::Level;
 use crate::origin::OriginRef;
-use planus::{BuildError, Builder, Error, Offset, Plain, ReadAsRoot, Vector};
+use planus::{BuildError, Builder, Error, Offset, Vector, read_root};
 use planus_tables::laws;
 
 /// Why an entry can't be written, or not be read.
@@ -53,12 +51,10 @@ pub fn text_read_back<'b>(
     requires parents { AllIn builder.old entry.parents.now }
     ensures { IfOk result (λ text. text.now ≡ entry.entry.text.now) }
 {
-    laws::finished_tables_stand::<Entry>();
-    laws::views_read_back::<Entry>();
     builder.has_a_past();
     let offset = Entry::create(builder, entry)?;
     let bytes = builder.finish(offset, None)?;
-    let root: EntryRef<'_> = ReadAsRoot::read_as_root(bytes)?;
+    let root: EntryRef<'_> = read_root(bytes)?;
     Ok(Entry::text(&root)?)
 }
 
@@ -87,20 +83,14 @@ pub fn all_read_back<'b>(
     requires cause { MatchOption entry.cause ⊤ (λ cause. IsIn builder.old cause.offset) }
     requires parents { AllIn builder.old entry.parents.now }
     ensures { IfOk result (λ read. (B : list ℕ) × KeptTablesStandIn B builder.old
-        × IsRead B entry.entry read
-        × IsSomeAnd read.tags (ItemsAreTexts ⟦<u32 as Plain>⟧
-        (map (λ tag. tag.now) entry.entry.tags.now))
-        × IsSomeAnd read.parents (ItemsAreTables ⟦<u32 as Plain>⟧ Entry B
-        (map (λ parent. parent.distance) entry.entry.parents.now))) }
+        × IsRead B entry.entry read) }
 {
     laws::kept_tables_stay();
     laws::finishes_keep_tables::<Entry, Offset<Entry>>();
-    laws::finished_tables_stand::<Entry>();
-    laws::views_read_back::<Entry>();
     builder.has_a_past();
     let offset = Entry::create(builder, entry)?;
     let bytes = builder.finish(offset, None)?;
-    let root: EntryRef<'_> = ReadAsRoot::read_as_root(bytes)?;
+    let root: EntryRef<'_> = read_root(bytes)?;
     let at = Entry::at(&root)?;
     let retries = Entry::retries(&root)?;
     let text = Entry::text(&root)?;

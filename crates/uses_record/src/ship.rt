@@ -4,29 +4,20 @@
 //! table Ship { name: string (required); hull: uint16 = 100; cargo: [uint32]; }
 //! ```
 
-ghost use Rattle.std.specs.Prelude.{◌≡◌, ◌<◌, ◌≤◌, ℕ, List as list, [], ◌∷◌, ◌==◌, length};
-ghost use Rattle.std.specs.Prelude.{None, codes, IfOk};
-ghost use Rattle.std.specs.Result.{IsOkAnd};
-ghost use Rattle.std.specs.Str.{IsUtf8};
-ghost use Rattle.std.specs.Int.{w16};
-ghost use Rattle.planus_read.specs.Clauses.{Answer, shown};
-ghost use Rattle.planus_read.specs.Located.{Located, Required, OrDefault as OrElse};
-ghost use Rattle.planus_read.specs.Reading.{vector_reading};
-ghost use Rattle.planus_read.specs.Tables.{FieldAnswer, table_start};
-ghost use Rattle.planus_view.specs.VectorView.{ShowsVector};
+ghost use Rattle.std.specs.Prelude.{◌≡◌, ◌≤◌, [], ◌∷◌, ◌==◌, length, codes, IfOk};
+ghost use Rattle.planus_read.specs.Shapes.{u16_shape};
 ghost use Rattle.planus_write.specs.State.{Grows};
-ghost use Rattle.planus_tables.specs.Contents.{WritesContents};
 ghost use Rattle.planus_fields.specs.Contents.{holds_if, unless};
+ghost use Rattle.planus_tables.specs.Accessors.{IsPlainVector, IsTextRequired};
+ghost use Rattle.planus_tables.specs.Contents.{WritesContents};
 ghost use Rattle.planus_tables.specs.Holds.{holds_text, holds_u16, holds_u32s};
-ghost use Rattle.planus_tables.specs.ReadBack.{SlotHolds};
-ghost use Rattle.planus_tables.specs.ReadKinds.{reads_text, reads_unsigned};
+ghost use Rattle.planus_tables.specs.ReadPlain.{IsPlainFieldOr};
 ghost use Rattle.uses_record.specs.Ships.{CreatesShip};
 
 use planus::{
     BuildError, Builder, List, Offset, OrDefault, Result, TableKind, TableRef, TableWriter, Text,
-    Vector, create_table, fields,
+    Vector, create_table, fields, plain_field_or, plain_vector, text_required,
 };
-use planus_tables::laws;
 
 /// The kind of a ship, and of an offset to one.
 pub struct Ship;
@@ -67,41 +58,25 @@ impl Ship {
         create_table::<Ship, _>(builder, fields)
     }
 
-    /// Returns the name. Its errors are those of a field `&str` that must be there. Where the ship
-    /// holds a text that is UTF-8 as its name, it is that text.
+    /// Returns the name. Its errors are those of a field `&str` that must be there.
     pub fn name<'a>(ship: &ShipRef<'a>) -> Result<&'a str>
-        ensures answer { Located (Required (FieldAnswer reads_text ship.now.table 0))
-            (codes "Ship") (codes "name") (table_start ship.now.table) result }
-        ensures read_back { (B name : list ℕ) → SlotHolds B ship.now.table 0 (holds_text name)
-            → IsUtf8 name → IsOkAnd result (λ text. text.now ≡ name) }
+        ensures { IsTextRequired ship.now.table 0 (codes "Ship") (codes "name") result }
     {
-        laws::fields_read_back();
-        ship.table.access_required::<&str>(0, "Ship", "name")
+        text_required(&ship.table, 0, "Ship", "name")
     }
 
-    /// Returns the hull, 100 where there is none. Its errors are those of a field `u16`. Where the
-    /// ship holds a number as its hull, it is that number.
+    /// Returns the hull, 100 where there is none. Its errors are those of a field `u16`.
     pub fn hull(ship: &ShipRef<'_>) -> Result<u16>
-        ensures answer { Located (OrElse 100 (FieldAnswer (reads_unsigned w16) ship.now.table 1))
-            (codes "Ship") (codes "hull") (table_start ship.now.table) result }
-        ensures read_back { (B : list ℕ) (hull : ℕ) → hull < 65536
-            → SlotHolds B ship.now.table 1 (holds_u16 hull) → IsOkAnd result (λ read. read ≡ hull) }
-        ensures left_out { (B : list ℕ) → SlotHolds B ship.now.table 1 None
-            → IsOkAnd result (λ read. read ≡ 100) }
+        ensures { IsPlainFieldOr u16_shape 100 ship.now.table 1 (codes "Ship") (codes "hull") result }
     {
-        laws::fields_read_back();
-        laws::absent_fields_read_back::<u16>();
-        Ok(ship.table.access::<u16>(1, "Ship", "hull")?.unwrap_or(100))
+        plain_field_or(&ship.table, 1, 100, "Ship", "hull")
     }
 
     /// Returns the cargo, or `None` where there is none. Its errors are those of a field `Vector`.
     pub fn cargo<'a>(ship: &ShipRef<'a>) -> Result<Option<Vector<'a, u32>>>
-        ensures { Located (FieldAnswer
-            (λ S start f r. Answer (shown (ShowsVector S start) (vector_reading S f 4)) r)
-            ship.now.table 2)
-            (codes "Ship") (codes "cargo") (table_start ship.now.table) result }
+        ensures { IsPlainVector ship.now.table 2 (codes "Ship") (codes "cargo") result }
     {
-        ship.table.access::<Vector<'a, u32>>(2, "Ship", "cargo")
+        plain_vector(&ship.table, 2, "Ship", "cargo")
     }
 }
 

@@ -9,7 +9,8 @@ ghost use Rattle.planus_write.specs.State.{Grows};
 ghost use Rattle.planus_fields.specs.Contents.{holds_if, unless};
 ghost use Rattle.planus_tables.specs.Contents.{WritesContents};
 ghost use Rattle.planus_tables.specs.Holds.{holds_plain, holds_plains};
-ghost use Rattle.planus_tables.specs.ReadPlain.{IsPlainField, IsPlainFieldOr, IsPlainVector};
+ghost use Rattle.planus_tables.specs.Accessors.{IsPlainVector};
+ghost use Rattle.planus_tables.specs.ReadPlain.{IsPlainField, IsPlainFieldOr};
 ghost use Rattle.uses_struct.specs.Levels.{level_shape};
 ghost use Rattle.uses_struct.specs.Structs.{fix_shape, reading_shape};
 ghost use Rattle.uses_struct.specs.declared.level.Level.TheVariants.{Mid};
@@ -61,14 +62,14 @@ impl Probe {
     pub fn level(probe: &TableRef<'_, Probe>) -> Result<Level>
         ensures { IsPlainFieldOr level_shape Mid probe.now.table 0 (codes "Probe") (codes "level") result }
     {
-        plain_field_or(probe, 0, Level::Mid, "Probe", "level")
+        plain_field_or(&probe.table, 0, Level::Mid, "Probe", "level")
     }
 
     /// Returns the reading, or `None` where there is none.
     pub fn reading(probe: &TableRef<'_, Probe>) -> Result<Option<Reading>>
         ensures { IsPlainField reading_shape probe.now.table 1 (codes "Probe") (codes "reading") result }
     {
-        plain_field(probe, 1, "Probe", "reading")
+        plain_field(&probe.table, 1, "Probe", "reading")
     }
 
     /// Returns the readings, or `None` where there are none. Each is read as a `Result`, since the
@@ -76,14 +77,14 @@ impl Probe {
     pub fn readings<'a>(probe: &TableRef<'a, Probe>) -> Result<Option<Vector<'a, Result<Reading>>>>
         ensures { IsPlainVector probe.now.table 2 (codes "Probe") (codes "readings") result }
     {
-        plain_vector(probe, 2, "Probe", "readings")
+        plain_vector(&probe.table, 2, "Probe", "readings")
     }
 
     /// Returns the fixes, or `None` where there are none.
     pub fn fixes<'a>(probe: &TableRef<'a, Probe>) -> Result<Option<Vector<'a, Result<Fix>>>>
         ensures { IsPlainVector probe.now.table 3 (codes "Probe") (codes "fixes") result }
     {
-        plain_vector(probe, 3, "Probe", "fixes")
+        plain_vector(&probe.table, 3, "Probe", "fixes")
     }
 }
 

@@ -3,8 +3,8 @@ ghost use Rattle.std.specs.Prelude.{◌≡◌, IfOk};
 
 use crate::pos::Pos;
 use crate::site::{Site, SiteFields};
-use planus_read::{Error, ReadAsRoot};
-use planus_tables::{TableRef, laws};
+use planus_read::Error;
+use planus_tables::{TableRef, read_root};
 use planus_write::{BuildError, Builder};
 
 /// Why a site can't be written, or not be read.
@@ -41,11 +41,9 @@ impl From<Error> for SiteError {
 pub fn home_read_back(builder: &mut Builder, site: SiteFields<'_>) -> Result<Option<Pos>, SiteError>
     ensures { IfOk result (λ home. home ≡ site.entry.home) }
 {
-    laws::finished_tables_stand::<Site>();
-    laws::views_read_back::<Site>();
     builder.has_a_past();
     let offset = Site::create(builder, site)?;
     let bytes = builder.finish(offset, None)?;
-    let root: TableRef<'_, Site> = ReadAsRoot::read_as_root(bytes)?;
+    let root: TableRef<'_, Site> = read_root(bytes)?;
     Ok(Site::home(&root)?)
 }

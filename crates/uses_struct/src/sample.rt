@@ -7,7 +7,8 @@ ghost use Rattle.planus_write.specs.State.{Grows};
 ghost use Rattle.planus_fields.specs.Contents.{unless};
 ghost use Rattle.planus_tables.specs.Contents.{WritesContents};
 ghost use Rattle.planus_tables.specs.Holds.{holds_plain, holds_plains};
-ghost use Rattle.planus_tables.specs.ReadPlain.{IsPlainFieldOr, IsPlainVector};
+ghost use Rattle.planus_tables.specs.Accessors.{IsPlainVector};
+ghost use Rattle.planus_tables.specs.ReadPlain.{IsPlainFieldOr};
 
 use planus_read::Result;
 use planus_tables::{
@@ -56,21 +57,21 @@ impl Sample {
     pub fn exact(sample: &TableRef<'_, Sample>) -> Result<f64>
         ensures { IsPlainFieldOr f64_shape USUAL sample.now.table 0 (codes "Sample") (codes "exact") result }
     {
-        plain_field_or(sample, 0, USUAL, "Sample", "exact")
+        plain_field_or(&sample.table, 0, USUAL, "Sample", "exact")
     }
 
     /// Returns what it is roughly, 0 where nothing is said of it.
     pub fn rough(sample: &TableRef<'_, Sample>) -> Result<f32>
         ensures { IsPlainFieldOr f32_shape ROUGHLY sample.now.table 1 (codes "Sample") (codes "rough") result }
     {
-        plain_field_or(sample, 1, ROUGHLY, "Sample", "rough")
+        plain_field_or(&sample.table, 1, ROUGHLY, "Sample", "rough")
     }
 
     /// Returns its series, or `None` where there is none.
     pub fn series<'a>(sample: &TableRef<'a, Sample>) -> Result<Option<Vector<'a, f64>>>
         ensures { IsPlainVector sample.now.table 2 (codes "Sample") (codes "series") result }
     {
-        plain_vector(sample, 2, "Sample", "series")
+        plain_vector(&sample.table, 2, "Sample", "series")
     }
 }
 

@@ -10,7 +10,8 @@ ghost use Rattle.std.specs.Prelude.{List as list};
 ghost use Rattle.planus_read.specs.Shapes.{f32_shape};
 ghost use Rattle.planus_write.specs.State.{Grows};
 ghost use Rattle.planus_tables.specs.Contents.{WritesContents};
-ghost use Rattle.planus_tables.specs.ReadPlain.{ArePlain, IsPlainField, IsPlainFieldOr, IsPlainVector};
+ghost use Rattle.planus_tables.specs.Accessors.{IsPlainVector};
+ghost use Rattle.planus_tables.specs.ReadPlain.{ArePlain, IsPlainField, IsPlainFieldOr};
 ghost use Rattle.uses_struct.specs.Structs.{pos_shape, fix_shape, leg_shape, features_shape};
 ghost use Rattle.uses_struct.specs.Kinds.{kind_shape};
 ghost use Rattle.uses_struct.specs.Sites.{site_contents, IsKnownOr};
@@ -81,28 +82,28 @@ impl Site {
     pub fn home(site: &TableRef<'_, Site>) -> Result<Option<Pos>>
         ensures { IsPlainField pos_shape site.now.table 0 (codes "Site") (codes "home") result }
     {
-        plain_field(site, 0, "Site", "home")
+        plain_field(&site.table, 0, "Site", "home")
     }
 
     /// Returns the track, or `None` where there is none.
     pub fn track<'a>(site: &TableRef<'a, Site>) -> Result<Option<Vector<'a, Pos>>>
         ensures { IsPlainVector site.now.table 1 (codes "Site") (codes "track") result }
     {
-        plain_vector(site, 1, "Site", "track")
+        plain_vector(&site.table, 1, "Site", "track")
     }
 
     /// Returns the fix, or `None` where there is none.
     pub fn fix(site: &TableRef<'_, Site>) -> Result<Option<Fix>>
         ensures { IsPlainField fix_shape site.now.table 2 (codes "Site") (codes "fix") result }
     {
-        plain_field(site, 2, "Site", "fix")
+        plain_field(&site.table, 2, "Site", "fix")
     }
 
     /// Returns the kind, `Bike` where there is none.
     pub fn kind(site: &TableRef<'_, Site>) -> Result<Kind>
         ensures { IsPlainFieldOr kind_shape Bike site.now.table 3 (codes "Site") (codes "kind") result }
     {
-        plain_field_or(site, 3, Kind::Bike, "Site", "kind")
+        plain_field_or(&site.table, 3, Kind::Bike, "Site", "kind")
     }
 
     /// Returns the kind, or another one in place of a number that is no kind's, as a later schema may
@@ -118,7 +119,7 @@ impl Site {
     pub fn heat(site: &TableRef<'_, Site>) -> Result<f32>
         ensures { IsPlainFieldOr f32_shape USUAL_HEAT site.now.table 4 (codes "Site") (codes "heat") result }
     {
-        plain_field_or(site, 4, USUAL_HEAT, "Site", "heat")
+        plain_field_or(&site.table, 4, USUAL_HEAT, "Site", "heat")
     }
 
     /// Returns the kinds, or `None` where there are none. Each is read as a `Result`, since its number
@@ -126,14 +127,14 @@ impl Site {
     pub fn kinds<'a>(site: &TableRef<'a, Site>) -> Result<Option<Vector<'a, Result<Kind>>>>
         ensures { IsPlainVector site.now.table 5 (codes "Site") (codes "kinds") result }
     {
-        plain_vector(site, 5, "Site", "kinds")
+        plain_vector(&site.table, 5, "Site", "kinds")
     }
 
     /// Returns the leg, or `None` where there is none.
     pub fn leg(site: &TableRef<'_, Site>) -> Result<Option<Leg>>
         ensures { IsPlainField leg_shape site.now.table 6 (codes "Site") (codes "leg") result }
     {
-        plain_field(site, 6, "Site", "leg")
+        plain_field(&site.table, 6, "Site", "leg")
     }
 
     /// Returns what it has, nothing where nothing is said of it.
@@ -141,7 +142,7 @@ impl Site {
         ensures { IsPlainFieldOr features_shape Features.NOTHING site.now.table 7 (codes "Site")
             (codes "features") result }
     {
-        plain_field_or(site, 7, Features::NOTHING, "Site", "features")
+        plain_field_or(&site.table, 7, Features::NOTHING, "Site", "features")
     }
 }
 

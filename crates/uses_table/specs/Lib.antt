@@ -1,1 +1,2 @@
 pub mod Voyages
+pub mod Owners

@@ -15,12 +15,13 @@ ghost use Rattle.planus_write.specs.lemmas.ContentLaws.{text_prepared};
 ghost use Rattle.planus_fields.specs.Fields.{AlwaysWritten};
 ghost use Rattle.planus_fields.specs.lemmas.FieldLaws.{left_out_is_lawful};
 ghost use Rattle.planus_fields.specs.lemmas.ContentLaws.{always_prepared};
+ghost use Rattle.planus_tables.specs.Accessors.{IsTextRequired};
 ghost use Rattle.planus_tables.specs.Contents.{WritesContents};
 ghost use Rattle.planus_tables.specs.Holds.{holds_text};
 
 use planus_fields::WriteAsOptional;
 use planus_read::Result;
-use planus_tables::{TableKind, TableRef, create_table, fields};
+use planus_tables::{TableKind, TableRef, create_table, fields, text_required};
 use planus_write::{BuildError, Builder, Offset, TableWriter, Text, WriteAsOffset};
 
 /// A callsign: it is written as a text, and always there.
@@ -71,8 +72,10 @@ impl Boat {
     }
 
     /// Returns the callsign of a boat that is read.
-    pub fn callsign<'a>(boat: &TableRef<'a, Boat>) -> Result<&'a str> {
-        boat.table.access_required::<&str>(0, "Boat", "callsign")
+    pub fn callsign<'a>(boat: &TableRef<'a, Boat>) -> Result<&'a str>
+        ensures { IsTextRequired boat.now.table 0 (codes "Boat") (codes "callsign") result }
+    {
+        text_required(&boat.table, 0, "Boat", "callsign")
     }
 }
 

@@ -10,10 +10,16 @@ ghost use Rattle.planus_write.specs.State.{Grows};
 ghost use Rattle.planus_tables.specs.Contents.{WritesContents};
 ghost use Rattle.planus_tables.specs.Holds.{holds_text, holds_u8, holds_variant_tags};
 ghost use Rattle.planus_tables.specs.Holds.{holds_variant_values};
+ghost use Rattle.planus_tables.specs.UnionAccessors.{IsUnionField, IsUnionVector};
+ghost use Rattle.planus_tables.specs.Unions.{ReadsVariants};
+ghost use Rattle.uses_table.specs.declared.owner.Owner.{Owner};
+ghost use Rattle.uses_table.specs.Owners.{owner_variants};
 
 use crate::owner::{Owner, OwnerRef};
 use planus_read::Result;
-use planus_tables::{TableKind, TableRef, Variant, create_table, fields, variant};
+use planus_tables::{
+    TableKind, TableRef, Variant, create_table, fields, union_field, union_vector, variant,
+};
 use planus_view::UnionVector;
 use planus_write::{BuildError, Builder, Offset, TableWriter, Text};
 
@@ -47,19 +53,20 @@ impl Fleet {
     }
 
     /// Returns the owner of a fleet that is read, or `None` where there is none.
-    pub fn owner<'a>(fleet: &TableRef<'a, Fleet>) -> Result<Option<OwnerRef<'a>>> {
-        fleet
-            .table
-            .access_union::<OwnerRef<'a>>(0, "Fleet", "owner")
+    pub fn owner<'a>(fleet: &TableRef<'a, Fleet>) -> Result<Option<OwnerRef<'a>>>
+        ensures { IsUnionField (ReadsVariants owner_variants) fleet.now.table 0 (codes "Fleet")
+            (codes "owner") Owner result }
+    {
+        union_field::<Owner, OwnerRef<'a>>(&fleet.table, 0, "Fleet", "owner")
     }
 
     /// Returns its captains, or `None` where nothing is said of them.
     pub fn captains<'a>(
         fleet: &TableRef<'a, Fleet>,
-    ) -> Result<Option<UnionVector<'a, OwnerRef<'a>>>> {
-        fleet
-            .table
-            .access_union_vector::<UnionVector<'a, OwnerRef<'a>>>(2, "Fleet", "captains")
+    ) -> Result<Option<UnionVector<'a, OwnerRef<'a>>>>
+        ensures { IsUnionVector fleet.now.table 2 (codes "Fleet") (codes "captains") result }
+    {
+        union_vector(&fleet.table, 2, "Fleet", "captains")
     }
 }
 

@@ -11,6 +11,6 @@ mod voyage;
 pub use boat::{Boat, Callsign};
 pub use fleet::{Fleet, Named};
 pub use owner::{Owner, OwnerRef};
-pub use port::{Port, PortFields};
-pub use ship::Ship;
+pub use port::{Port, PortFields, share_at, ship_at};
+pub use ship::{Ship, ShipRef};
 pub use voyage::{Voyage, VoyageFields};

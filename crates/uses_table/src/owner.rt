@@ -1,10 +1,12 @@
 //! Who owns a port, of the schema `union Owner { name: string, ship: Ship }`.
-ghost use Rattle.std.specs.Prelude.{◌≡◌, codes, ⊤};
+ghost use Rattle.std.specs.Prelude.{◌≡◌, codes};
+ghost use Rattle.planus_tables.specs.Unions.{ReadsVariants};
+ghost use Rattle.uses_table.specs.Owners.{owner_variants};
 
-use crate::ship::Ship;
+use crate::ship::ShipRef;
 use planus_read::errors::ErrorKind;
 use planus_read::{SliceWithStartOffset, TableRead, TableReadUnion, VectorReadUnion};
-use planus_tables::TableRef;
+use planus_tables::read_view;
 
 /// The kind of a union that is an owner: a name with tag 1, a ship with tag 2.
 pub struct Owner;
@@ -15,11 +17,11 @@ pub enum OwnerRef<'a> {
     /// A name.
     Name(&'a str),
     /// A ship.
-    Ship(TableRef<'a, Ship>),
+    Ship(ShipRef<'a>),
 }
 
 impl<'a> TableReadUnion<'a> for OwnerRef<'a> {
-    ghost reads = { λ S start tag f r. ⊤ };
+    ghost reads = { ReadsVariants owner_variants };
 
     fn from_buffer(
         buffer: SliceWithStartOffset<'a>,
@@ -28,7 +30,7 @@ impl<'a> TableReadUnion<'a> for OwnerRef<'a> {
     ) -> Result<OwnerRef<'a>, ErrorKind> {
         match tag {
             1 => Ok(OwnerRef::Name(TableRead::from_buffer(buffer, offset)?)),
-            2 => Ok(OwnerRef::Ship(TableRead::from_buffer(buffer, offset)?)),
+            2 => Ok(OwnerRef::Ship(read_view(buffer, offset)?)),
             _ => Err(ErrorKind::UnknownUnionTag { tag }),
         }
     }

@@ -8,18 +8,30 @@
 //! ```
 
 ghost use Rattle.std.specs.Prelude.{◌≤◌, [], ◌∷◌, length, negsuc, codes, IfOk, ◌≡◌, MatchOption, ⊤};
+ghost use Rattle.planus_read.specs.Shapes.{i16_shape};
 ghost use Rattle.planus_write.specs.State.{Grows};
 ghost use Rattle.planus_write.specs.InBuilder.{IsIn, AllIn, AllUnionsIn};
+ghost use Rattle.planus_tables.specs.Accessors.{IsTableVector};
 ghost use Rattle.planus_tables.specs.Contents.{WritesContents};
 ghost use Rattle.planus_fields.specs.Contents.{unless};
 ghost use Rattle.planus_tables.specs.Holds.{holds_any_union_tags, holds_any_union_values};
 ghost use Rattle.planus_tables.specs.Holds.{equals_i16, holds_bool, holds_i16, holds_offsets, holds_texts};
 ghost use Rattle.planus_tables.specs.Holds.{holds_u64, holds_union_tag, holds_union_value};
+ghost use Rattle.planus_tables.specs.ItemAccessors.{IsTableItem};
+ghost use Rattle.planus_tables.specs.ReadPlain.{IsPlainFieldOr};
+ghost use Rattle.planus_tables.specs.UnionAccessors.{IsUnionField, IsUnionItem, IsUnionVector};
+ghost use Rattle.planus_tables.specs.Unions.{ReadsVariants};
+ghost use Rattle.uses_table.specs.declared.owner.Owner.{Owner};
+ghost use Rattle.uses_table.specs.declared.ship.Ship.{Ship};
+ghost use Rattle.uses_table.specs.Owners.{owner_variants};
 
 use crate::owner::{Owner, OwnerRef};
-use crate::ship::Ship;
+use crate::ship::{Ship, ShipRef};
 use planus_read::Result;
-use planus_tables::{OrDefault, TableKind, TableRef, create_table, fields};
+use planus_tables::{
+    OrDefault, TableKind, TableRef, create_table, fields, plain_field_or, table_item, table_vector,
+    union_field, union_item, union_vector,
+};
 use planus_view::{UnionVector, Vector};
 use planus_write::{BuildError, Builder, List, Offset, TableWriter, Text, UnionOffset};
 
@@ -83,28 +95,56 @@ impl Port {
     }
 
     /// Returns the owner of a port that is read, or `None` where there is none.
-    pub fn owner<'a>(port: &TableRef<'a, Port>) -> Result<Option<OwnerRef<'a>>> {
-        port.table.access_union::<OwnerRef<'a>>(0, "Port", "owner")
+    pub fn owner<'a>(port: &TableRef<'a, Port>) -> Result<Option<OwnerRef<'a>>>
+        ensures { IsUnionField (ReadsVariants owner_variants) port.now.table 0 (codes "Port")
+            (codes "owner") Owner result }
+    {
+        union_field::<Owner, OwnerRef<'a>>(&port.table, 0, "Port", "owner")
     }
 
     /// Returns who has shares of it, or `None` where nothing is said of it.
-    pub fn shares<'a>(port: &TableRef<'a, Port>) -> Result<Option<UnionVector<'a, OwnerRef<'a>>>> {
-        port.table
-            .access_union_vector::<UnionVector<'a, OwnerRef<'a>>>(7, "Port", "shares")
+    pub fn shares<'a>(port: &TableRef<'a, Port>) -> Result<Option<UnionVector<'a, OwnerRef<'a>>>>
+        ensures { IsUnionVector port.now.table 7 (codes "Port") (codes "shares") result }
+    {
+        union_vector(&port.table, 7, "Port", "shares")
     }
 
     /// Returns its ships, or `None` where there are none.
     pub fn ships<'a>(
         port: &TableRef<'a, Port>,
-    ) -> Result<Option<Vector<'a, Result<TableRef<'a, Ship>>>>> {
-        port.table
-            .access::<Vector<'a, Result<TableRef<'a, Ship>>>>(2, "Port", "ships")
+    ) -> Result<Option<Vector<'a, Result<TableRef<'a, Ship>>>>>
+        ensures { IsTableVector Ship port.now.table 2 (codes "Port") (codes "ships") result }
+    {
+        table_vector(&port.table, 2, "Port", "ships")
     }
 
     /// Returns its depth, -5 where there is none.
-    pub fn depth(port: &TableRef<'_, Port>) -> Result<i16> {
-        Ok(port.table.access::<i16>(4, "Port", "depth")?.unwrap_or(-5))
+    pub fn depth(port: &TableRef<'_, Port>) -> Result<i16>
+        ensures { IsPlainFieldOr i16_shape (negsuc 4) port.now.table 4 (codes "Port")
+            (codes "depth") result }
+    {
+        plain_field_or(&port.table, 4, -5, "Port", "depth")
     }
+}
+
+/// Returns a ship of a port's, or `None` where the port doesn't have it.
+pub fn ship_at<'a>(
+    ships: &Vector<'a, Result<TableRef<'a, Ship>>>,
+    index: usize,
+) -> Option<Result<ShipRef<'a>>>
+    ensures { IsTableItem Ship (codes "[ShipRef]") (λ ship. ship.table) ships.now index result }
+{
+    table_item(ships.get(index))
+}
+
+/// Returns one who has shares, or `None` where there are fewer.
+pub fn share_at<'a>(
+    shares: &UnionVector<'a, OwnerRef<'a>>,
+    index: usize,
+) -> Option<Result<OwnerRef<'a>>>
+    ensures { IsUnionItem (ReadsVariants owner_variants) (codes "[Owner]") shares.now index result }
+{
+    union_item(shares, index)
 }
 
 impl TableKind for Port {

@@ -5,22 +5,24 @@
 //! ```
 
 ghost use Rattle.std.specs.Prelude.{◌≡◌, ◌≤◌, [], ◌∷◌, ◌==◌, length, codes, IfOk};
-ghost use Rattle.std.specs.Int.{w16};
-ghost use Rattle.planus_read.specs.Clauses.{Answer};
-ghost use Rattle.planus_read.specs.Located.{Located, OrDefault as OrElse};
-ghost use Rattle.planus_read.specs.Reading.{number_reading};
-ghost use Rattle.planus_read.specs.Tables.{FieldAnswer, table_start};
+ghost use Rattle.planus_read.specs.Shapes.{u16_shape};
 ghost use Rattle.planus_write.specs.State.{Grows};
+ghost use Rattle.planus_tables.specs.Accessors.{IsPlainVector, IsTextRequired};
 ghost use Rattle.planus_tables.specs.Contents.{WritesContents};
 ghost use Rattle.planus_fields.specs.Contents.{holds_if, unless};
 ghost use Rattle.planus_tables.specs.Holds.{holds_text, holds_u16, holds_u32s};
+ghost use Rattle.planus_tables.specs.ReadPlain.{IsPlainFieldOr};
 
 use planus_read::Result;
-use planus_tables::{OrDefault, TableKind, TableRef, create_table, fields};
+use planus_read::table_reader::Table;
+use planus_tables::{
+    OrDefault, TableKind, TableView, create_table, fields, plain_field_or, plain_vector,
+    text_required,
+};
 use planus_view::Vector;
 use planus_write::{BuildError, Builder, List, Offset, TableWriter, Text};
 
-/// The kind of an offset to a ship.
+/// The kind of a ship, and of an offset to one.
 pub struct Ship;
 
 impl Ship {
@@ -50,24 +52,44 @@ impl Ship {
         ];
         create_table::<Ship, _>(builder, fields)
     }
+}
 
-    /// Returns the name of a ship that is read.
-    pub fn name<'a>(ship: &TableRef<'a, Ship>) -> Result<&'a str> {
-        ship.table.access_required::<&str>(0, "Ship", "name")
+/// A ship in a buffer.
+#[derive(Clone, Copy)]
+pub struct ShipRef<'a> {
+    table: Table<'a>,
+}
+
+impl<'a> ShipRef<'a> {
+    /// Returns its name.
+    pub fn name(&self) -> Result<&'a str>
+        ensures { IsTextRequired self.now.table 0 (codes "Ship") (codes "name") result }
+    {
+        text_required(&self.table, 0, "Ship", "name")
     }
 
     /// Returns its hull, 100 where there is none.
-    pub fn hull(ship: &TableRef<'_, Ship>) -> Result<u16>
-        ensures { Located (OrElse 100 (FieldAnswer
-            (λ S start f r. Answer (number_reading S f w16) r) ship.now.table 1))
-            (codes "Ship") (codes "hull") (table_start ship.now.table) result }
+    pub fn hull(&self) -> Result<u16>
+        ensures { IsPlainFieldOr u16_shape 100 self.now.table 1 (codes "Ship") (codes "hull") result }
     {
-        Ok(ship.table.access::<u16>(1, "Ship", "hull")?.unwrap_or(100))
+        plain_field_or(&self.table, 1, 100, "Ship", "hull")
     }
 
     /// Returns its cargo, or `None` where there is none.
-    pub fn cargo<'a>(ship: &TableRef<'a, Ship>) -> Result<Option<Vector<'a, u32>>> {
-        ship.table.access::<Vector<'a, u32>>(2, "Ship", "cargo")
+    pub fn cargo(&self) -> Result<Option<Vector<'a, u32>>>
+        ensures { IsPlainVector self.now.table 2 (codes "Ship") (codes "cargo") result }
+    {
+        plain_vector(&self.table, 2, "Ship", "cargo")
+    }
+}
+
+impl<'a> TableView<'a> for ShipRef<'a> {
+    type Kind = Ship;
+
+    ghost table = { λ ship. ship.table };
+
+    fn of_table(read: Table<'a>) -> ShipRef<'a> {
+        ShipRef { table: read }
     }
 }
 

@@ -17,12 +17,18 @@ ghost use Rattle.std.specs.Prelude.{◌≡◌, ◌≤◌, length, codes, IfOk, M
 ghost use Rattle.planus_write.specs.State.{Grows};
 ghost use Rattle.planus_write.specs.InBuilder.{IsIn, AllIn, AllUnionsIn};
 ghost use Rattle.planus_tables.specs.Contents.{WritesContents};
+ghost use Rattle.planus_tables.specs.UnionAccessors.{IsUnionField, IsUnionVector};
+ghost use Rattle.planus_tables.specs.Unions.{ReadsVariants};
+ghost use Rattle.uses_table.specs.declared.owner.Owner.{Owner};
+ghost use Rattle.uses_table.specs.Owners.{owner_variants};
 ghost use Rattle.uses_table.specs.Voyages.{voyage_contents};
 
 use crate::owner::{Owner, OwnerRef};
 use crate::ship::Ship;
 use planus_read::Result;
-use planus_tables::{OrDefault, TableKind, TableRef, create_table, fields};
+use planus_tables::{
+    OrDefault, TableKind, TableRef, create_table, fields, union_field, union_vector,
+};
 use planus_view::UnionVector;
 use planus_write::{BuildError, Builder, List, Offset, TableWriter, Text, UnionOffset};
 
@@ -149,19 +155,20 @@ impl Voyage {
     }
 
     /// Returns the owner of a voyage that is read, or `None` where there is none.
-    pub fn owner<'a>(voyage: &TableRef<'a, Voyage>) -> Result<Option<OwnerRef<'a>>> {
-        voyage
-            .table
-            .access_union::<OwnerRef<'a>>(17, "Voyage", "owner")
+    pub fn owner<'a>(voyage: &TableRef<'a, Voyage>) -> Result<Option<OwnerRef<'a>>>
+        ensures { IsUnionField (ReadsVariants owner_variants) voyage.now.table 17 (codes "Voyage")
+            (codes "owner") Owner result }
+    {
+        union_field::<Owner, OwnerRef<'a>>(&voyage.table, 17, "Voyage", "owner")
     }
 
     /// Returns who has shares of it, or `None` where nothing is said of it.
     pub fn shares<'a>(
         voyage: &TableRef<'a, Voyage>,
-    ) -> Result<Option<UnionVector<'a, OwnerRef<'a>>>> {
-        voyage
-            .table
-            .access_union_vector::<UnionVector<'a, OwnerRef<'a>>>(19, "Voyage", "shares")
+    ) -> Result<Option<UnionVector<'a, OwnerRef<'a>>>>
+        ensures { IsUnionVector voyage.now.table 19 (codes "Voyage") (codes "shares") result }
+    {
+        union_vector(&voyage.table, 19, "Voyage", "shares")
     }
 }
 

@@ -3,18 +3,26 @@ ghost use Rattle.std.specs.Prelude.{◌≤◌};
 
 use super::in_builder;
 use planus_read::ReadAsRoot;
-use planus_tables::{TableRef, variant};
+use planus_read::errors::ErrorKind;
+use planus_tables::{
+    TableRef, bytes_field, bytes_required, plain_required, read_root, table_vector_required,
+    text_item, text_vector_required, union_required, union_vector_required, variant,
+};
+use planus_view::Vector;
 use planus_write::{BuildError, Builder, Text, UnionOffset};
-use uses_table::{Boat, Callsign, Fleet, Named, Owner, OwnerRef, Port, PortFields, Ship};
+use uses_table::{
+    Boat, Callsign, Fleet, Named, Owner, OwnerRef, Port, PortFields, Ship, ShipRef, share_at,
+    ship_at,
+};
 
 // Whether the root is a ship with this name and this hull, and this number of items as its cargo.
 fn is_ship(bytes: &[u8], name: &str, hull: u16, cargo: Option<usize>) -> bool {
-    let ship: Result<TableRef<'_, Ship>, _> = ReadAsRoot::read_as_root(bytes);
+    let ship: Result<ShipRef<'_>, _> = read_root(bytes);
     match ship {
         Ok(ship) => {
-            matches!(Ship::name(&ship), Ok(read) if read == name)
-                && matches!(Ship::hull(&ship), Ok(read) if read == hull)
-                && matches!(Ship::cargo(&ship), Ok(read) if read.map(|items| items.len()) == cargo)
+            matches!(ship.name(), Ok(read) if read == name)
+                && matches!(ship.hull(), Ok(read) if read == hull)
+                && matches!(ship.cargo(), Ok(read) if read.map(|items| items.len()) == cargo)
         }
         Err(_) => false,
     }
@@ -34,9 +42,9 @@ fn ships_are_read(builder: &mut Builder) -> Result<bool, BuildError> {
 // nobody has.
 fn has_shares(port: &TableRef<'_, Port>, count: usize) -> bool {
     match Port::shares(port) {
-        Ok(Some(shares)) => match shares.last() {
+        Ok(Some(shares)) => match share_at(&shares, 1) {
             Some(Ok(OwnerRef::Ship(ship))) => {
-                shares.len() == count && matches!(Ship::name(&ship), Ok("Argo"))
+                shares.len() == count && matches!(ship.name(), Ok("Argo"))
             }
             _ => false,
         },
@@ -45,15 +53,61 @@ fn has_shares(port: &TableRef<'_, Port>, count: usize) -> bool {
     }
 }
 
+// Whether so many ships are there, and the last one is the Argo.
+fn has_ships<'a>(
+    ships: &Vector<'a, planus_read::Result<TableRef<'a, Ship>>>,
+    count: usize,
+) -> bool {
+    let last = ship_at(ships, ships.len().saturating_sub(1));
+    ships.len() == count && matches!(last, Some(Ok(ship)) if matches!(ship.name(), Ok("Argo")))
+}
+
+// Whether Jason is the owner, read as one that must be there.
+fn is_jasons(port: &TableRef<'_, Port>) -> bool {
+    matches!(
+        union_required::<OwnerRef<'_>>(&port.table, 0, "Port", "owner"),
+        Ok(OwnerRef::Name("Jason"))
+    )
+}
+
+// Whether so many shares are read that must be there, or are missing where there are none.
+fn requires_shares(port: &TableRef<'_, Port>, count: usize) -> bool {
+    match union_vector_required::<OwnerRef<'_>>(&port.table, 7, "Port", "shares") {
+        Ok(shares) => shares.len() == count,
+        Err(error) => count == 0 && matches!(error.error_kind, ErrorKind::MissingRequired),
+    }
+}
+
+// Whether the berths are read that must be there.
+fn has_berths(port: &TableRef<'_, Port>) -> bool {
+    match text_vector_required(&port.table, 3, "Port", "berths") {
+        Ok(berths) => matches!(text_item(&berths, 1), Some(Ok("south"))),
+        Err(_) => false,
+    }
+}
+
+// Whether the accessors of fields that must be there read them.
+fn has_required(port: &TableRef<'_, Port>, shares: usize) -> bool {
+    is_jasons(port)
+        && requires_shares(port, shares)
+        && has_berths(port)
+        && matches!(
+            plain_required::<bool>(&port.table, 5, "Port", "open"),
+            Ok(true)
+        )
+        && table_vector_required::<Ship>(&port.table, 2, "Port", "ships").is_ok()
+}
+
 // Whether the root is a port with this depth, so many ships and shares, which Jason owns.
 fn is_port(bytes: &[u8], depth: i16, ships: usize, shares: usize) -> bool {
     let port: Result<TableRef<'_, Port>, _> = ReadAsRoot::read_as_root(bytes);
     match port {
         Ok(port) => {
             matches!(Port::depth(&port), Ok(read) if read == depth)
-                && matches!(Port::ships(&port), Ok(Some(read)) if read.len() == ships)
+                && matches!(Port::ships(&port), Ok(Some(read)) if has_ships(&read, ships))
                 && matches!(Port::owner(&port), Ok(Some(OwnerRef::Name("Jason"))))
                 && has_shares(&port, shares)
+                && has_required(&port, shares)
         }
         Err(_) => false,
     }
@@ -103,11 +157,22 @@ fn fleets_are_read(builder: &mut Builder) -> Result<bool, BuildError> {
     Ok(is_fleet(bytes, 2))
 }
 
+// Whether the callsign of a boat is J12, also read as bytes.
+fn is_boat(boat: &TableRef<'_, Boat>) -> bool {
+    let bytes = bytes_field(&boat.table, 0, "Boat", "callsign");
+    matches!(Boat::callsign(boat), Ok("J12"))
+        && matches!(bytes, Ok(Some(b"J12")))
+        && matches!(
+            bytes_required(&boat.table, 0, "Boat", "callsign"),
+            Ok(b"J12")
+        )
+}
+
 fn boats_are_read(builder: &mut Builder) -> Result<bool, BuildError> {
     let boat = Boat::create(builder, Callsign("J12"))?;
     let bytes = builder.finish(boat, None)?;
     let boat: Result<TableRef<'_, Boat>, _> = ReadAsRoot::read_as_root(bytes);
-    Ok(matches!(boat, Ok(boat) if matches!(Boat::callsign(&boat), Ok("J12"))))
+    Ok(matches!(boat, Ok(boat) if is_boat(&boat)))
 }
 
 #[test]

@@ -1,10 +1,11 @@
 //! Voyages, tables of forty fields, are written and read back.
 use super::in_builder;
 use planus_read::{ReadAsRoot, Result, TableRead};
-use planus_tables::TableRef;
-use planus_view::Vector;
+use planus_tables::{
+    TableRef, plain_vector, plain_vector_required, table_field, table_required, table_vector,
+};
 use planus_write::{BuildError, Builder, UnionOffset};
-use uses_table::{Owner, OwnerRef, Ship, Voyage, VoyageFields};
+use uses_table::{Owner, OwnerRef, Ship, ShipRef, Voyage, VoyageFields, ship_at};
 
 // Whether a slot is read as this.
 fn reads<'a, T: TableRead<'a> + PartialEq + Copy>(
@@ -60,34 +61,24 @@ fn has_texts(voyage: &TableRef<'_, Voyage>) -> bool {
         )
 }
 
-fn legs<'a>(voyage: &TableRef<'a, Voyage>) -> Result<Option<Vector<'a, u32>>> {
-    voyage.table.access::<Vector<'a, u32>>(8, "Voyage", "legs")
-}
-
-fn fares<'a>(voyage: &TableRef<'a, Voyage>) -> Result<Option<Vector<'a, u16>>> {
-    voyage
-        .table
-        .access::<Vector<'a, u16>>(13, "Voyage", "fares")
-}
-
 fn has_lists(voyage: &TableRef<'_, Voyage>) -> bool {
-    matches!(legs(voyage), Ok(Some(legs)) if legs.len() == 3)
-        && matches!(fares(voyage), Ok(Some(fares)) if fares.len() == 1)
+    let legs = plain_vector_required::<u32>(&voyage.table, 8, "Voyage", "legs");
+    let fares = plain_vector::<u16>(&voyage.table, 13, "Voyage", "fares");
+    matches!(legs, Ok(legs) if legs.len() == 3)
+        && matches!(fares, Ok(Some(fares)) if fares.len() == 1)
 }
 
-fn is_argo(ship: &TableRef<'_, Ship>) -> bool {
-    matches!(Ship::name(ship), Ok("Argo"))
+fn is_argo(ship: &ShipRef<'_>) -> bool {
+    matches!(ship.name(), Ok("Argo"))
 }
 
 fn has_ships(voyage: &TableRef<'_, Voyage>) -> bool {
-    let ship = voyage
-        .table
-        .access::<TableRef<'_, Ship>>(15, "Voyage", "ship");
-    let consorts = voyage
-        .table
-        .access::<Vector<'_, Result<TableRef<'_, Ship>>>>(16, "Voyage", "consorts");
+    let ship: Result<Option<ShipRef<'_>>> = table_field(&voyage.table, 15, "Voyage", "ship");
+    let same: Result<ShipRef<'_>> = table_required(&voyage.table, 15, "Voyage", "ship");
+    let consorts = table_vector::<Ship>(&voyage.table, 16, "Voyage", "consorts");
     matches!(ship, Ok(Some(ship)) if is_argo(&ship))
-        && matches!(consorts, Ok(Some(ships)) if matches!(ships.get(1), Some(Ok(ship)) if is_argo(&ship)))
+        && matches!(same, Ok(ship) if is_argo(&ship))
+        && matches!(consorts, Ok(Some(ships)) if matches!(ship_at(&ships, 1), Some(Ok(ship)) if is_argo(&ship)))
 }
 
 fn has_owners(voyage: &TableRef<'_, Voyage>) -> bool {
