@@ -15,36 +15,116 @@ mod table_body;
 mod version;
 mod written;
 
-pub use faults::{ReplayError, Why};
-pub use finishes::{Finished, StepPlace};
-pub use planus_back::{Fill, Overwrite};
-pub use planus_fields::{
-    DefaultValue, LeftOut, PlainField, WriteAs, WriteAsDefault, WriteAsDefaultUnionVector,
-    WriteAsOptional, WriteAsOptionalUnion, WriteAsOptionalUnionVector,
-};
-pub use planus_read::{
-    ArrayWithStartOffset, Error, Place, Plain, PlainTotal, ReadAsRoot, ReadError, ReadPieceAsRoot,
-    Result, SignedBytes, SignedItems, SliceWithStartOffset, Stride, TableRead, TableReadUnion,
-    TableReadUnionVector, TaggedPlace, VectorRead, VectorReadInner, VectorReadUnion, Void, errors,
-    has_identifier, known_or, located, put_fields, read_fields, read_size_prefixed, read_variant,
-    table_reader,
-};
-pub use planus_tables::{
-    OrDefault, Required, TableKind, TableRef, TableView, Variant, bytes_field, bytes_required,
-    create_table, fields, plain_field, plain_field_or, plain_item, plain_required, plain_vector,
-    plain_vector_required, read_root, read_view, table_field, table_item, table_required,
-    table_vector, table_vector_required, text_field, text_item, text_required, text_vector,
-    text_vector_required, union_field, union_item, union_required, union_vector,
-    union_vector_required, variant,
-};
-pub use planus_unions::{UnionVector, union_vectors};
-pub use planus_view::{CopyError, FromItem, Vector, vectors};
-pub use planus_write::{
-    BuildError, Builder, ByRef, ByteList, Caches, Initialized, List, ObjectFill, ObjectWriter,
-    Offset, Primitive, SignedList, TableWriter, Text, Uninitialized, UnionOffset,
-    UnionVectorOffset, VectorWrite, WriteAsOffset, WriteAsPrimitive, WriteAsUnion,
-    WriteAsUnionVector, table_writer,
-};
+pub use faults::ReplayError;
+pub use faults::Why;
+pub use finishes::Finished;
+pub use finishes::StepPlace;
+pub use planus_back::Fill;
+pub use planus_back::Overwrite;
+pub use planus_fields::DefaultValue;
+pub use planus_fields::LeftOut;
+pub use planus_fields::PlainField;
+pub use planus_fields::WriteAs;
+pub use planus_fields::WriteAsDefault;
+pub use planus_fields::WriteAsDefaultUnionVector;
+pub use planus_fields::WriteAsOptional;
+pub use planus_fields::WriteAsOptionalUnion;
+pub use planus_fields::WriteAsOptionalUnionVector;
+pub use planus_read::ArrayWithStartOffset;
+pub use planus_read::Error;
+pub use planus_read::Place;
+pub use planus_read::Plain;
+pub use planus_read::PlainTotal;
+pub use planus_read::ReadAsRoot;
+pub use planus_read::ReadError;
+pub use planus_read::ReadPieceAsRoot;
+pub use planus_read::Result;
+pub use planus_read::SignedBytes;
+pub use planus_read::SignedItems;
+pub use planus_read::SliceWithStartOffset;
+pub use planus_read::Stride;
+pub use planus_read::TableRead;
+pub use planus_read::TableReadUnion;
+pub use planus_read::TableReadUnionVector;
+pub use planus_read::TaggedPlace;
+pub use planus_read::VectorRead;
+pub use planus_read::VectorReadInner;
+pub use planus_read::VectorReadUnion;
+pub use planus_read::Void;
+pub use planus_read::errors;
+pub use planus_read::has_identifier;
+pub use planus_read::known_or;
+pub use planus_read::located;
+pub use planus_read::put_fields;
+pub use planus_read::read_fields;
+pub use planus_read::read_size_prefixed;
+pub use planus_read::read_variant;
+pub use planus_read::table_reader;
+pub use planus_tables::OrDefault;
+pub use planus_tables::Required;
+pub use planus_tables::TableKind;
+pub use planus_tables::TableRef;
+pub use planus_tables::TableView;
+pub use planus_tables::Variant;
+pub use planus_tables::bytes_field;
+pub use planus_tables::bytes_required;
+pub use planus_tables::create_table;
+pub use planus_tables::fields;
+pub use planus_tables::plain_field;
+pub use planus_tables::plain_field_or;
+pub use planus_tables::plain_item;
+pub use planus_tables::plain_required;
+pub use planus_tables::plain_vector;
+pub use planus_tables::plain_vector_required;
+pub use planus_tables::read_root;
+pub use planus_tables::read_view;
+pub use planus_tables::table_field;
+pub use planus_tables::table_item;
+pub use planus_tables::table_required;
+pub use planus_tables::table_vector;
+pub use planus_tables::table_vector_required;
+pub use planus_tables::text_field;
+pub use planus_tables::text_item;
+pub use planus_tables::text_required;
+pub use planus_tables::text_vector;
+pub use planus_tables::text_vector_required;
+pub use planus_tables::union_field;
+pub use planus_tables::union_item;
+pub use planus_tables::union_required;
+pub use planus_tables::union_vector;
+pub use planus_tables::union_vector_required;
+pub use planus_tables::variant;
+pub use planus_unions::UnionVector;
+pub use planus_unions::union_vectors;
+pub use planus_view::CopyError;
+pub use planus_view::FromItem;
+pub use planus_view::Vector;
+pub use planus_view::vectors;
+pub use planus_write::BuildError;
+pub use planus_write::Builder;
+pub use planus_write::ByRef;
+pub use planus_write::ByteList;
+pub use planus_write::Caches;
+pub use planus_write::Initialized;
+pub use planus_write::List;
+pub use planus_write::ObjectFill;
+pub use planus_write::ObjectWriter;
+pub use planus_write::Offset;
+pub use planus_write::Primitive;
+pub use planus_write::SignedList;
+pub use planus_write::TableWriter;
+pub use planus_write::Text;
+pub use planus_write::Uninitialized;
+pub use planus_write::UnionOffset;
+pub use planus_write::UnionVectorOffset;
+pub use planus_write::VectorWrite;
+pub use planus_write::WriteAsOffset;
+pub use planus_write::WriteAsPrimitive;
+pub use planus_write::WriteAsUnion;
+pub use planus_write::WriteAsUnionVector;
+pub use planus_write::table_writer;
 pub use run::replay;
-pub use steps::{Field, FieldValue, Step};
+pub use steps::Field;
+pub use steps::FieldValue;
+pub use steps::Step;
 pub use version::check_version_compatibility;
