@@ -87,8 +87,8 @@ fn states_met(alloc: Global, call: Call, all: &[Lengths]) -> Result<Option<usize
 // Calls, the lengths at which they may be refused, and at how many of them they are at least. Of a
 // list in a new builder no request comes between its two texts, for which the builder has room.
 // Behind another text there is room for the first of them alone, and the second is refused where
-// the builder has the 6 bytes of the first; then the list's count is. The room for the name of a
-// weapon is room for all of it.
+// the builder has the 6 bytes of the first; then the list's count is. A weapon asks for the memory
+// of its bytes alone, the first of which may be there in the room of a small block.
 const CALLS: &[(&str, Call, &[Lengths], usize)] = &[
     ("a list", Call::List, &[(0, 26), (6, 26), (14, 26)], 2),
     (
@@ -98,7 +98,7 @@ const CALLS: &[(&str, Call, &[Lengths], usize)] = &[
         3,
     ),
     ("unions", Call::Unions, &[(14, 34), (30, 50)], 2),
-    ("a weapon", Call::Weapon, &[(0, 28)], 1),
+    ("a weapon", Call::Weapon, &[(0, 28), (8, 28), (16, 28)], 1),
 ];
 
 #[test]

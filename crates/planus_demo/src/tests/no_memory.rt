@@ -249,17 +249,18 @@ fn states_met(
     Ok(Some(0))
 }
 
-// An axe is refused where there is nothing yet, since the room for its name is room for all of it;
-// and a run before the steps are there, or later.
+// An axe is refused where there is nothing yet, its name, or its vtable too; and a run before the
+// steps are there, or later. An axe asks for the memory of its bytes alone, the first of which may
+// be there in the room of a small block.
 #[test]
 fn one_refusal_after_the_other(rt: HostRuntime) -> Result<(), Fail> {
-    for (call, more, all) in [
-        (Call::Axe, 32, [0].as_slice()),
-        (Call::Run, 64, [0, 14].as_slice()),
+    for (name, call, more, all, least) in [
+        ("an axe", Call::Axe, 32, [0, 8, 16].as_slice(), 1usize),
+        ("a run", Call::Run, 64, [0, 14].as_slice(), 2),
     ] {
         let met = states_met(rt.alloc(), call, more, all)?;
-        let all_are = met.map(|states| states == all.len());
-        assert!(rt; holds_or_says(&rt, all_are)?, "{met:?}");
+        let enough = met.map(|states| states >= least);
+        assert!(rt; holds_or_says(&rt, enough)?, "{name}: {met:?}");
     }
     Ok(())
 }
