@@ -112,9 +112,7 @@ fn out_of_memory_is_printed(rt: HostRuntime) -> Result<(), Fail> {
     Ok(())
 }
 
-// How many bytes more there are at each turn, and how many turns there are at most.
-const STEP: usize = 32;
-
+// How many turns there are at most.
 const TURNS: usize = 1024;
 
 // A call that asks for memory several times.
