@@ -8,5 +8,4 @@ returns c =
     let holds = c.in_ok-root.ensures.written _ _ _ c.in_ok-offset.offset None c.has_a_past.ensures
     c.in_ok-offset.ensures.kept c.in_ok-offset.ensures.reached c.in_ok-bytes.ensures.bytes refl in
     let fits : MatchOption c.args.site.home ⊤ pos_shape.fits = search rules in
-    let read = c.home.ensures.read_back c.in_ok-bytes.bytes.now c.args.site.home (holds 0) fits in
-    let was = c.in_ok-home.was in cc
+    cc (c.home.ensures.read_back c.in_ok-bytes.bytes.now c.args.site.home (holds 0) fits, c.in_ok-home.was)
