@@ -25,16 +25,6 @@ same_words word other n m eight eight_too are are_too number number_too same =
 
 -- the front of both was compared, and is the same
 module _ (whole other_whole front left right : List ℕ) (is : whole ≡ front ++ left) (is_too : other_whole ≡ front ++ right) (long : length whole ≡ length other_whole) where
-  same_length : length left ≡ length right
-  same_length =
-      let a : length whole ≡ length front + length left = ap length is ∙ length-append front left in
-      let b : length other_whole ≡ length front + length right = ap length is_too ∙ length-append front right in
-      omega (arith, long)
-
-  -- neither has 8 bytes more that the other hasn't
-  pub both_have : 8 ≤ length left → 8 ≤ length right
-  both_have more = let e = same_length in omega (arith, more)
-
   -- fewer than 8 are left, and the last 8 are the same
   pub rest_same : length left < 8 → 8 ≤ length whole → drop (length whole - 8) whole ≡ drop (length other_whole - 8) other_whole → whole ≡ other_whole
   rest_same few eight last =

@@ -1,16 +1,15 @@
 -- What the definitions of what is held say of each other.
-use Rattle.std.proofs.Common.{◌≡◌, ℕ, ◌+◌, ◌<◌, List, [], ◌∷◌, ◌++◌, length, get_or, Option, Some, None, inl, inr, arith, refl, sym, ap, ◌∙◌, Bool, true, false, cond, Result, Ok, Err}
+use Rattle.std.proofs.Common.{◌≡◌, ℕ, ◌+◌, ◌<◌, List, [], ◌∷◌, ◌++◌, length, get_or, Some, None, inl, inr, arith, refl, sym, ap, ◌∙◌, Bool, true, false, cond, Result, Ok, Err}
 use Rattle.std.specs.Result.{OnOk}
 use Rattle.std.specs.declared.alloc.AllocError.{AllocError}
 use Rattle.std.proofs.lemmas.Grind.{common_steps}
 use Rattle.std.proofs.lemmas.Bool.{cases_lt}
 use Rattle.std.specs.Prelude.{◌↔◌, slice_index}
-use Rattle.planus_back.specs.Buckets.{FoundAmong}
 use Rattle.planus_back.specs.CacheKeys.{key_at}
 use Rattle.planus_back.specs.Caches.{Held, Has, Fits, IsEmpty, Adds, IsBucketOf, FitsWhereItsKeyStands}
 use Rattle.planus_back.specs.declared.bucket.Bucket.{Bucket}
 use Rattle.planus_back.proofs.Caches.{key_at-front, Fits-front, Fits-empty, Has-stands}
-use Rattle.planus_write.specs.Holding.{Holding, few, many, FindContents, Holds, HoldsNothing, HoldsMore, HoldingFits, FitsInFront, FindsHeld}
+use Rattle.planus_write.specs.Holding.{Holding, few, many, FindContents, Holds, HoldsNothing, HoldsMore, HoldingFits, FitsInFront}
 use Rattle.planus_write.specs.Sharing.{LooksIn, KeepsIf}
 
 -- it fits with bytes in front
@@ -28,16 +27,6 @@ holds-stands contents_in (many held) bytes distance fits x = Has-stands contents
 pub nothing-fits : (contents_in : FindContents) (holding : Holding) (bytes : List ℕ) → HoldsNothing holding → HoldingFits contents_in holding bytes
 nothing-fits contents_in (few distances) bytes nothing = λ i below. absurd (nothing (get_or distances i 0) (i, below, refl))
 nothing-fits contents_in (many held) bytes nothing = Fits-empty contents_in held bytes nothing
-
--- no distances are none that are held
-pub none-nothing : HoldsNothing (few [])
-none-nothing distance x = absurd (omega (arith, x.1))
-
--- what is found among the first is what is found
-pub found_among : (contents_in : FindContents) (distances bytes contents : List ℕ) (answer : Option ℕ) → FoundAmong contents_in distances bytes contents answer
-    → FindsHeld contents_in (few distances) bytes contents answer
-found_among contents_in distances bytes contents None none = λ distance x stands. none x.0 x.1 (rw x.2 stands)
-found_among contents_in distances bytes contents (Some distance) found = found
 
 -- one distance more among the first
 pub one_more : (distances : List ℕ) (distance : ℕ) → HoldsMore (few distances) distance (few (distances ++ distance ∷ []))
@@ -126,9 +115,3 @@ module _ (contents_in : FindContents) (bytes contents : List ℕ) (distance : �
   pub first_fit : (is_many : Bool) → LooksIn (held_if is_many) contents None → HoldingFits contents_in (held_if is_many) bytes → HoldingFits contents_in (few distances) bytes
   first_fit true looks fits = absurd looks
   first_fit false looks fits = fits
-
-  -- or has the cache have all of them
-  pub kept_spilled : (is_many : Bool) (new : Held) → LooksIn (held_if is_many) contents None → KeepsIf true contents_in bytes contents distance (few distances) (many new)
-      → KeepsIf true contents_in bytes contents distance (held_if is_many) (many new)
-  kept_spilled true new looks kept = absurd looks
-  kept_spilled false new looks kept = kept

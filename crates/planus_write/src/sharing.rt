@@ -3,7 +3,7 @@ ghost use Rattle.std.specs.Prelude.{◌≡◌, ◌+◌, ◌≤◌, ◌^◌, true
 ghost use Rattle.planus_back.specs.Caches.{IsEmpty};
 ghost use Rattle.planus_back.specs.Promises.{IsPowerOfTwo};
 ghost use Rattle.planus_write.specs.Holding.{few, many, HoldingFits, HoldsNothing, FindsHeld};
-ghost use Rattle.planus_write.specs.Sharing.{LooksIn, Finds, Keeps, KeepsIf, PlansShared};
+ghost use Rattle.planus_write.specs.Sharing.{LooksIn, KeepsIf, PlansShared};
 ghost use Rattle.planus_write.specs.Sharing.{FindsOrPlans};
 
 use crate::backing::{Backing, Plan};
@@ -100,18 +100,6 @@ impl<C: GetCacheKey> Sharing<C> {
             Some(bucket) => contents.find_in(bucket, &self.cache, serialized),
             None => contents.find_among::<C>(self.first.as_slice(), serialized),
         }
-    }
-
-    // The same, if equal contents are written once.
-    #[inline(always)]
-    pub(crate) fn find<L: ByteItems>(&self, serialized: &[u8], contents: &L) -> Option<u32>
-        requires { HoldingFits C.key_in self.now.holding serialized.now }
-        ensures { Finds C.key_in self.now serialized.now (L.bytes_of contents.now) result }
-    {
-        if !self.on {
-            return None;
-        }
-        self.find_in(self.bucket_of(contents), serialized, contents)
     }
 
     // The contents stand at the distance, or are about to. A refusal of memory changes nothing.
