@@ -1,4 +1,4 @@
-//! Tests of the examples that are libraries: `uses_laws`, `uses_log` and `uses_table`.
+//! Tests of the examples that are libraries: `uses_tables` and `uses_struct`.
 #![tactic(auto)]
 
 #[cfg(test)]

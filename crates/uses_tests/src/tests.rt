@@ -1,10 +1,12 @@
 //! What the examples write is read back.
 
 mod entries;
+mod names;
 mod numbers;
 mod probes;
 mod samples;
 mod sites;
+mod streams;
 mod tables;
 mod voyages;
 

@@ -1,12 +1,12 @@
 //! Entries of a log are written and read back.
 
 ghost use Rattle.std.specs.Prelude.{IfOk};
-ghost use Rattle.planus_write.specs.InBuilder.{IsIn};
-ghost use Rattle.planus_write.specs.State.{Grows};
+ghost use Rattle.planus.specs.write.InBuilder.{IsIn};
+ghost use Rattle.planus.specs.write.State.{Grows};
 
 use super::in_builder;
 use planus::{BuildError, Builder, Offset, ReadAsRoot, UnionOffset, has_identifier};
-use uses_log::{
+use uses_tables::{
     Cause, CauseRef, Entry, EntryFields, EntryRead, EntryRef, Level, Origin, OriginRef,
     all_read_back, text_read_back,
 };

@@ -2,7 +2,7 @@
 
 use super::in_builder;
 use planus::{BuildError, Builder};
-use uses_laws::create_numbers;
+use uses_tables::create_numbers;
 
 fn a_list_of_two_is_written(builder: &mut Builder) -> Result<bool, BuildError> {
     let list = create_numbers(builder, &[1, 2])?;

@@ -3,8 +3,7 @@
 
 use super::in_builder;
 use planus::errors::ErrorKind;
-use planus::{BuildError, Builder, Plain, ReadAsRoot};
-use planus_tables::TableRef;
+use planus::{BuildError, Builder, Plain, ReadAsRoot, TableRef};
 use uses_struct::{Fix, Kind, Level, Pos, Probe, Reading};
 
 const READING: Reading = Reading {

@@ -1,8 +1,7 @@
 //! Floats are written as their bits, and read back.
 
 use super::in_builder;
-use planus::{BuildError, Builder, ReadAsRoot};
-use planus_tables::TableRef;
+use planus::{BuildError, Builder, ReadAsRoot, TableRef};
 use std::num::{f32_to_bits_with_nan, f64_to_bits_with_nan};
 use uses_struct::Sample;
 

@@ -2,8 +2,9 @@
 
 use super::in_builder;
 use planus::errors::ErrorKind;
-use planus::{BuildError, Builder, Error, Plain, ReadAsRoot, SliceWithStartOffset, TableRead};
-use planus_tables::TableRef;
+use planus::{
+    BuildError, Builder, Error, Plain, ReadAsRoot, SliceWithStartOffset, TableRead, TableRef,
+};
 use uses_struct::{Features, Fix, Kind, Leg, Pos, Site, SiteFields, home_read_back, point};
 
 const PARIS: Pos = Pos {

@@ -2,15 +2,13 @@
 ghost use Rattle.std.specs.Prelude.{◌≤◌};
 
 use super::in_builder;
-use planus_read::ReadAsRoot;
-use planus_read::errors::ErrorKind;
-use planus_tables::{
-    TableRef, bytes_field, bytes_required, plain_required, read_root, table_vector_required,
-    text_item, text_vector_required, union_required, union_vector_required, variant,
+use planus::errors::ErrorKind;
+use planus::{
+    BuildError, Builder, ReadAsRoot, TableRef, Text, UnionOffset, Vector, bytes_field,
+    bytes_required, plain_required, read_root, table_vector_required, text_item,
+    text_vector_required, union_required, union_vector_required, variant,
 };
-use planus_view::Vector;
-use planus_write::{BuildError, Builder, Text, UnionOffset};
-use uses_table::{
+use uses_tables::{
     Boat, Callsign, Fleet, Named, Owner, OwnerRef, Port, PortFields, Ship, ShipRef, share_at,
     ship_at,
 };
@@ -54,10 +52,7 @@ fn has_shares(port: &TableRef<'_, Port>, count: usize) -> bool {
 }
 
 // Whether so many ships are there, and the last one is the Argo.
-fn has_ships<'a>(
-    ships: &Vector<'a, planus_read::Result<TableRef<'a, Ship>>>,
-    count: usize,
-) -> bool {
+fn has_ships<'a>(ships: &Vector<'a, planus::Result<TableRef<'a, Ship>>>, count: usize) -> bool {
     let last = ship_at(ships, ships.len().saturating_sub(1));
     ships.len() == count && matches!(last, Some(Ok(ship)) if matches!(ship.name(), Ok("Argo")))
 }

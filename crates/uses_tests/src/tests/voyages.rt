@@ -1,11 +1,10 @@
 //! Voyages, tables of forty fields, are written and read back.
 use super::in_builder;
-use planus_read::{ReadAsRoot, Result, TableRead};
-use planus_tables::{
-    TableRef, plain_vector, plain_vector_required, table_field, table_required, table_vector,
+use planus::{
+    BuildError, Builder, ReadAsRoot, Result, TableRead, TableRef, UnionOffset, plain_vector,
+    plain_vector_required, table_field, table_required, table_vector,
 };
-use planus_write::{BuildError, Builder, UnionOffset};
-use uses_table::{Owner, OwnerRef, Ship, ShipRef, Voyage, VoyageFields, ship_at};
+use uses_tables::{Owner, OwnerRef, Ship, ShipRef, Voyage, VoyageFields, ship_at};
 
 // Whether a slot is read as this.
 fn reads<'a, T: TableRead<'a> + PartialEq + Copy>(
