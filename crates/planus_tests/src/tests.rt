@@ -1,3 +1,4 @@
+mod examples;
 mod reading;
 mod writing;
 

@@ -16,8 +16,8 @@ use Rattle.planus.specs.Views.{ShowsView}
 use Rattle.planus.specs.declared.tables.table_ref.TableRef.{TableRef}
 use Rattle.planus.specs.view.Views.{View}
 use Rattle.uses_tables.specs.declared.ship.Ship.{Ship}
-use Rattle.uses_tables.specs.declared.names.NamesError.{NamesError}
-use Rattle.uses_tables.specs.declared.names.NamesError.TheVariants.{OutOfMemory}
+use Rattle.uses_tables.specs.declared.ship_names.NamesError.{NamesError}
+use Rattle.uses_tables.specs.declared.ship_names.NamesError.TheVariants.{OutOfMemory}
 
 -- A table that holds this text in slot 0 stands in B at the distance.
 pub record NamedTableStands (B : List ℕ) (distance : ℕ) (name : List ℕ) : Type 0 where

@@ -2,7 +2,7 @@ use Rattle.std.proofs.Common.{◌+◌, ◌*◌, codes, Ok, Err, subst}
 use Rattle.planus.specs.view.Views.{View}
 use Rattle.uses_tables.specs.Names.{ItemIs}
 use Rattle.planus.specs.ReadBack.{SlotHolds}
-use Rattle.uses_tables.proofs.names.name_at.Goals as goal
+use Rattle.uses_tables.proofs.ship_names.name_at.Goals as goal
 
 pub returns-in_err-ship : goal.returns-in_err-ship
 returns-in_err-ship c = λ B k count distance name same stands named.

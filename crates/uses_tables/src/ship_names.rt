@@ -23,7 +23,7 @@ pub enum NamesError {
 }
 
 impl From<AllocError> for NamesError {
-    ghost use Rattle.uses_tables.specs.declared.names.NamesError.TheVariants.{OutOfMemory};
+    ghost use Rattle.uses_tables.specs.declared.ship_names.NamesError.TheVariants.{OutOfMemory};
 
     ghost from_gives = { λ _ e. e ≡ OutOfMemory };
 
@@ -33,7 +33,7 @@ impl From<AllocError> for NamesError {
 }
 
 impl<T: Drop> From<AllocFailed<T>> for NamesError {
-    ghost use Rattle.uses_tables.specs.declared.names.NamesError.TheVariants.{OutOfMemory};
+    ghost use Rattle.uses_tables.specs.declared.ship_names.NamesError.TheVariants.{OutOfMemory};
 
     ghost from_gives = { λ _ e. e ≡ OutOfMemory };
 
@@ -43,7 +43,7 @@ impl<T: Drop> From<AllocFailed<T>> for NamesError {
 }
 
 impl From<Error> for NamesError {
-    ghost use Rattle.uses_tables.specs.declared.names.NamesError.TheVariants.{Read};
+    ghost use Rattle.uses_tables.specs.declared.ship_names.NamesError.TheVariants.{Read};
 
     ghost from_gives = { λ error e. e ≡ Read error };
 

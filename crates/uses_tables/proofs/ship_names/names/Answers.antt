@@ -4,7 +4,7 @@ use Rattle.planus.specs.view.Views.{View}
 use Rattle.planus.specs.view.VectorView.{count_of}
 use Rattle.std.proofs.lemmas.Option.{slice_get-get_or}
 use Rattle.uses_tables.proofs.ReadNames.{one_more_name}
-use Rattle.uses_tables.proofs.names.names.Goals as goal
+use Rattle.uses_tables.proofs.ship_names.names.Goals as goal
 
 pub returns-in_err-name_at : goal.returns-in_err-name_at
 returns-in_err-name_at c = λ B k distances names same stand.

@@ -1,7 +1,7 @@
 use Rattle.std.proofs.Common.{ℕ, List, refl, subst, Err}
 use Rattle.planus.specs.read.Clauses.{FirstBroken}
 use Rattle.planus.specs.read.Reading.{vector_reading}
-use Rattle.uses_tables.proofs.names.names_in.Goals as goal
+use Rattle.uses_tables.proofs.ship_names.names_in.Goals as goal
 
 pub returns-in-Err : goal.returns-in-Err
 returns-in-Err c = λ k distances names leads stand.

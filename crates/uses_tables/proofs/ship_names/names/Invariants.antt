@@ -1,7 +1,7 @@
 use Rattle.std.proofs.Common.{◌≡◌, ℕ, List, length, map, take}
 use Rattle.planus.specs.view.VectorView.{view_of}
 use Rattle.uses_tables.specs.Names.{items_view, NamedTablesStand}
-use Rattle.uses_tables.proofs.names.names.Given as goal
+use Rattle.uses_tables.proofs.ship_names.names.Given as goal
 
 abbrev pub invariant-loop-index : goal.invariant-loop-index
 invariant-loop-index l =
