@@ -19,15 +19,15 @@ use Rattle.planus.specs.Slots.{slot_fault, rising_fault, place_fault, alignment_
 use Rattle.planus.specs.Runs.{field_of, fields_of}
 use Rattle.planus.specs.TableChecks.{content_fault, field_fault, table_fault}
 use Rattle.planus_write.specs.Parts.{Named}
-use Rattle.planus.specs.declared.earlier.Earlier.{Earlier}
+use Rattle.planus.specs.declared.named_steps.NamedSteps.{NamedSteps}
 use Rattle.planus.specs.declared.prepared_field.PreparedField.{PreparedField}
-use Rattle.planus.specs.Prepared.{PreparesField}
-use Rattle.planus.specs.Names.{name_of, listed_from, IsReached}
-use Rattle.planus.specs.Replaying.{names, values_listed, name_fault, AreReached}
-use Rattle.planus.specs.Declaring.{slots_of}
+use Rattle.planus.specs.inner.Prepared.{PreparesField}
+use Rattle.planus.specs.inner.Names.{name_of, listed_from, IsReached}
+use Rattle.planus.specs.inner.Replaying.{names, values_listed, name_fault, AreReached}
+use Rattle.planus.specs.inner.Declaring.{slots_of}
 use Rattle.planus.specs.declared.faults.Why.{Why}
 use Rattle.planus.specs.declared.faults.Why.TheVariants.{SlotTooBig, SlotTwice, RisingAlignment}
-use Rattle.planus.specs.declared.progress.Progress.{Progress}
+use Rattle.planus.specs.declared.replay_state.ReplayState.{ReplayState}
 use Rattle.planus.specs.declared.written.Written.{Written}
 use Rattle.planus.proofs.FieldFaults.{last_alignment, field_behind, no_more}
 use Rattle.planus.proofs.Filling.{size_around}
@@ -43,7 +43,7 @@ reached_from bytes n (None ∷ since) reached = reached_from bytes (n + 1) since
 reached_from bytes n (Some name ∷ since) reached = (reached 0 name refl, reached_from bytes (n + 1) since (λ i d e. reached (suc i) d e))
 
 -- so do those of a replay
-pub values_reached : (replay : Progress) → AreReached replay → AllByRecursion (λ one. IsReached (length replay.builder.bytes) one.named) (values_listed replay)
+pub values_reached : (replay : ReplayState) → AreReached replay → AllByRecursion (λ one. IsReached (length replay.builder.bytes) one.named) (values_listed replay)
 values_reached replay reached = reached_from (length replay.builder.bytes) replay.first (names replay) reached
 
 -- what fields declare, with one more
@@ -92,7 +92,7 @@ module _ (fields : List code.Field) (slot : ℕ) (small : slot ≤ 255) where
   slot_is_free free = not_big ∙ ap (λ b. if b then Some SlotTwice else None) (any_slot fields slot ∙ sym free)
 
 -- A writer was told the fields so far, the last of which has this alignment.
-pub record Declares (replay : Progress) (fields : List (ℕ × FieldStep)) (writer : Writer) (before : ℕ) : Type 0 where
+pub record Declares (replay : ReplayState) (fields : List (ℕ × FieldStep)) (writer : Writer) (before : ℕ) : Type 0 where
   pub all : List (ℕ × Field)
   pub are : fields_of (values_listed replay) [] greatest_field fields ≡ Some all
   pub clean : table_fault (name_fault replay) fields ≡ None
@@ -101,14 +101,14 @@ pub record Declares (replay : Progress) (fields : List (ℕ × FieldStep)) (writ
   pub last : before ≡ last_alignment greatest_field fields
 
 -- what a replay prepares, by what its steps may name
-pub prepared_here : (replay : Progress) (earlier : Earlier) (content : FieldStep) (answer : Result PreparedField Why) → earlier.first ≡ replay.first → earlier.offsets.now ≡ replay.offsets.items
+pub prepared_here : (replay : ReplayState) (earlier : NamedSteps) (content : FieldStep) (answer : Result PreparedField Why) → earlier.first ≡ replay.first → earlier.offsets.now ≡ replay.offsets.items
     → PreparesField earlier.first (map name_of earlier.offsets.now) content answer → PreparesField replay.first (names replay) content answer
 prepared_here replay earlier content answer first offsets h =
     subst (λ (os : List (Option Written)). PreparesField replay.first (map name_of os) content answer) offsets
     (subst (λ n. PreparesField n (map name_of earlier.offsets.now) content answer) first h)
 
 -- the first fault of all fields is one of the field behind those so far
-module _ (replay : Progress) (all : List code.Field) (i : ℕ) (x : code.Field) (step : take (i + 1) all ≡ take i all ++ x ∷ []) (writer : Writer) (before : ℕ)
+module _ (replay : ReplayState) (all : List code.Field) (i : ℕ) (x : code.Field) (step : take (i + 1) all ≡ take i all ++ x ∷ []) (writer : Writer) (before : ℕ)
     (so_far : Declares replay (map bare_field (take i all)) writer before) where
   abbrev fields : List (ℕ × FieldStep)
   fields = map bare_field (take i all)
@@ -128,7 +128,7 @@ module _ (replay : Progress) (all : List code.Field) (i : ℕ) (x : code.Field) 
       ∙ ap (λ o. option_or o (rising_fault (last_alignment greatest_field fields) (alignment_of (content_of x.value)))) bad)
 
 -- one field more, nothing of which is wrong
-module _ (replay : Progress) (reached : AreReached replay) (fields : List (ℕ × FieldStep)) (writer : Writer) (before : ℕ) (so_far : Declares replay fields writer before)
+module _ (replay : ReplayState) (reached : AreReached replay) (fields : List (ℕ × FieldStep)) (writer : Writer) (before : ℕ) (so_far : Declares replay fields writer before)
     (x : ℕ × FieldStep) (field : Field) (slot_good : slot_fault (slots_of fields) x.0 ≡ None) (is : field_of (values_listed replay) x.1 ≡ Some field)
     (good : content_fault (name_fault replay) x.1 ≡ None) where
   size_known : HasSize (length replay.builder.bytes) (alignment_of x.1) field
@@ -200,7 +200,7 @@ module _ (replay : Progress) (reached : AreReached replay) (fields : List (ℕ �
         last_push n (z ∷ xs) y = last_push (alignment_of z.1) xs y
 
 -- the same, of the fields up to one more
-pub declared_next : (replay : Progress) (all : List code.Field) (i : ℕ) (x : code.Field) → take (i + 1) all ≡ take i all ++ x ∷ [] → (writer : Writer) (before alignment : ℕ) → before ≡ alignment
+pub declared_next : (replay : ReplayState) (all : List code.Field) (i : ℕ) (x : code.Field) → take (i + 1) all ≡ take i all ++ x ∷ [] → (writer : Writer) (before alignment : ℕ) → before ≡ alignment
     → Declares replay (map bare_field (take i all) ++ bare_field x ∷ []) writer alignment → Declares replay (map bare_field (take (i + 1) all)) writer before
 declared_next replay all i x step writer before alignment same so_far =
     subst (λ n. Declares replay (map bare_field (take (i + 1) all)) writer n) (sym same)

@@ -6,7 +6,7 @@ use Rattle.planus.specs.Steps.{FieldStep, number_field, ref_field, tags_field, v
 use Rattle.planus.specs.Kinds.{Kind, a_value, a_union_vector}
 use Rattle.planus.specs.Slots.{slot_fault, rising_fault, alignment_of}
 use Rattle.planus.specs.TableChecks.{content_fault, field_fault, fields_fault}
-use Rattle.planus.specs.Declaring.{slots_of}
+use Rattle.planus.specs.inner.Declaring.{slots_of}
 use Rattle.planus.specs.declared.faults.Why.{Why}
 
 -- the faults are the same by what is the same of each step that is named

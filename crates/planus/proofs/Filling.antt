@@ -14,10 +14,10 @@ use Rattle.planus.specs.Slots.{slot_fault, rising_fault, place_fault, alignment_
 use Rattle.planus.specs.Runs.{Listed, named_at, field_of, with_field, fields_of}
 use Rattle.planus.specs.TableChecks.{content_fault, field_fault, fields_fault, table_fault}
 use Rattle.planus.specs.Kinds.{Kind, a_value, a_union_vector, kind_named, naming_fault}
-use Rattle.planus.specs.Names.{name_of, listed_from, written_at, fault_since}
+use Rattle.planus.specs.inner.Names.{name_of, listed_from, written_at, fault_since}
 use Rattle.planus.specs.declared.faults.Why.{Why}
-use Rattle.planus.specs.Prepared.{field_reach}
-use Rattle.planus.specs.Filling.{listed_since, fields_or_none, fields_in, fields_reach}
+use Rattle.planus.specs.inner.Prepared.{field_reach}
+use Rattle.planus.specs.inner.Filling.{listed_since, fields_or_none, fields_in, fields_reach}
 use Rattle.planus.specs.declared.table_body.TableBody.{TableBody}
 use Rattle.planus.proofs.FieldFaults.{none_of}
 use Rattle.planus.proofs.Found.{around}

@@ -39,7 +39,7 @@ use Rattle.planus_write.specs.lemmas.StandingLaws.{finishes_are_identified, size
 use Rattle.planus.specs.Steps.{Step, text, bytes, numbers, refs, unions, table, finish, clear}
 use Rattle.planus.specs.Steps.{Front, root_first, size_first}
 use Rattle.planus.specs.Kinds.{Kind, kind_of, kind_named}
-use Rattle.planus.specs.Names.{IsReached}
+use Rattle.planus.specs.inner.Names.{IsReached}
 use Rattle.planus.specs.Runs.{Listed, Finish, State, nothing_written, Advances, LeadsTo, cleared}
 use Rattle.planus.specs.Runs.{named_at, value_of, finish_of, Writes, values_added, finishes_added}
 use Rattle.planus.specs.Runs.{value_distance, value_at, union_of, all_of, width_of, fields_of}

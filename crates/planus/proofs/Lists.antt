@@ -8,7 +8,7 @@ use Rattle.std.proofs.lemmas.Bool.Decides.{nat_tests}
 use Rattle.planus_write.specs.Parts.{Named}
 use Rattle.planus.specs.Runs.{Listed, named_at, value_distance, distance_at, value_at, with_one}
 use Rattle.planus.specs.Runs.{all_of, union_of}
-use Rattle.planus.specs.Names.{listed_from, written_at}
+use Rattle.planus.specs.inner.Names.{listed_from, written_at}
 
 pub all_weaker : {X : Type 0} (P Q : X → Type 0) → ((x : X) → P x → Q x) → (xs : List X) → AllByRecursion P xs → AllByRecursion Q xs
 all_weaker P Q weaker [] h = h

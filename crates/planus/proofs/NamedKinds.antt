@@ -12,7 +12,7 @@ use Rattle.planus_write.specs.Kept.{TagsReached}
 use Rattle.planus.specs.Steps.{Step, text, bytes, numbers, refs, unions, table, finish, clear}
 use Rattle.planus.specs.Slots.{greatest_field}
 use Rattle.planus.specs.Kinds.{Kind, a_value, a_union_vector, kind_of, kind_by_tags, kind_named}
-use Rattle.planus.specs.Names.{IsReached}
+use Rattle.planus.specs.inner.Names.{IsReached}
 use Rattle.planus.specs.Runs.{Listed, named_at, value_distance, tags_distance, references_distance}
 use Rattle.planus.specs.Runs.{distance_at, value_at, union_of, all_of, width_of, fits_width}
 use Rattle.planus.specs.Runs.{numbers_value, fields_of, value_of}

@@ -12,14 +12,14 @@ use Rattle.std.proofs.Math.Seq.{drop-length}
 use Rattle.planus_write.specs.Parts.{Named}
 use Rattle.planus.specs.Steps.{Step, text, bytes, numbers, refs, unions, table, finish, clear}
 use Rattle.planus.specs.Kinds.{Kind, a_value, kind_of, kind_named, naming_fault}
-use Rattle.planus.specs.Names.{name_of}
+use Rattle.planus.specs.inner.Names.{name_of}
 use Rattle.planus.specs.Replays.{is_clear, named_step, fault_of, first_fault, union_fault, check_by}
 use Rattle.planus.specs.Replays.{broken_check}
 use Rattle.planus.specs.Slots.{greatest_field}
-use Rattle.planus.specs.Replaying.{names, name_fault, Wrote}
-use Rattle.planus.specs.Replaying.{AllWrote, HasTaken}
+use Rattle.planus.specs.inner.Replaying.{names, name_fault, Wrote}
+use Rattle.planus.specs.inner.Replaying.{AllWrote, HasTaken}
 use Rattle.planus.specs.declared.faults.Why.TheVariants.{ZeroTag}
-use Rattle.planus.specs.declared.progress.Progress.{Progress}
+use Rattle.planus.specs.declared.replay_state.ReplayState.{ReplayState}
 use Rattle.planus.specs.declared.written.Written.{Written}
 use Rattle.planus.proofs.FieldFaults.{same_fields}
 use Rattle.planus.proofs.Lists.{get_push, get_last, drop_push}
@@ -164,7 +164,7 @@ drop_dropped (suc n) k [] = drop_none k (suc n + k)
 drop_dropped (suc n) k (x ∷ steps) = drop_dropped n k steps ∙ ap (λ m. drop m (x ∷ steps)) (let e : suc (n + k) ≡ suc n + k = omega arith in e)
 
 -- what is wrong with a number shows in what the replay has
-module _ (replay : Progress) (steps : List Step) (h : HasTaken replay steps) (kind : Kind) (root : ℕ) where
+module _ (replay : ReplayState) (steps : List Step) (h : HasTaken replay steps) (kind : Kind) (root : ℕ) where
   before : root + 1 ≤ replay.first → None ≡ named_step steps root
   before le = elim h.behind_clear as (λ _. None ≡ named_step steps root) [
     | inl none ↦ absurd (omega (arith, none, le))
@@ -209,7 +209,7 @@ same_check f g same (finish front root identifier) = same a_value root
 same_check f g same clear = refl
 
 -- what is wrong with a step shows in what the replay has
-pub checked : (replay : Progress) (steps : List Step) → HasTaken replay steps → (step : Step) → check_by (name_fault replay) step ≡ broken_check steps step
+pub checked : (replay : ReplayState) (steps : List Step) → HasTaken replay steps → (step : Step) → check_by (name_fault replay) step ≡ broken_check steps step
 checked replay steps h step = same_check (name_fault replay) (λ kind n. fault_of kind (named_step steps n)) (λ kind n. named_fault replay steps h kind n) step
 
 wrote_push : (steps : List Step) (ds : List (Option Named)) (step : Step) (d : Option Named) → Wrote step d → AllWrote steps ds → AllWrote (steps ++ step ∷ []) (ds ++ d ∷ [])
@@ -218,12 +218,12 @@ wrote_push (x ∷ steps) (e ∷ ds) step d new h = (h.0, wrote_push steps ds ste
 wrote_push [] (e ∷ ds) step d new h = absurd h
 wrote_push (x ∷ steps) [] step d new h = absurd h
 
-pub one_more : (old new : Progress) (offset : Option Written) → new.first ≡ old.first → new.offsets.items ≡ old.offsets.items ++ offset ∷ []
+pub one_more : (old new : ReplayState) (offset : Option Written) → new.first ≡ old.first → new.offsets.items ≡ old.offsets.items ++ offset ∷ []
     → new.first + length new.offsets.items ≡ old.first + length old.offsets.items + 1
 one_more old new offset first pushed = let longer : length new.offsets.items ≡ length old.offsets.items + 1 = ap length pushed ∙ length-append old.offsets.items (offset ∷ []) in omega (arith, first, longer)
 
 -- one step more, which is no clear
-pub took_one : (old new : Progress) (step : Step) (offset : Option Written) → Wrote step (name_of offset) → new.first ≡ old.first → new.offsets.items ≡ old.offsets.items ++ offset ∷ []
+pub took_one : (old new : ReplayState) (step : Step) (offset : Option Written) → Wrote step (name_of offset) → new.first ≡ old.first → new.offsets.items ≡ old.offsets.items ++ offset ∷ []
     → (steps : List Step) → HasTaken old steps → HasTaken new (steps ++ step ∷ [])
 took_one old new step offset wrote first pushed steps h =
     let counted : old.first + length old.offsets.items ≡ length steps = h.counted in
@@ -242,7 +242,7 @@ took_one old new step offset wrote first pushed steps h =
     }
 
 -- a clear
-pub took_clear : (old new : Progress) → new.first ≡ old.first + length old.offsets.items + 1 → new.offsets.items ≡ [] → (steps : List Step) → HasTaken old steps → HasTaken new (steps ++ clear ∷ [])
+pub took_clear : (old new : ReplayState) → new.first ≡ old.first + length old.offsets.items + 1 → new.offsets.items ≡ [] → (steps : List Step) → HasTaken old steps → HasTaken new (steps ++ clear ∷ [])
 took_clear old new first none steps h =
     let counted : old.first + length old.offsets.items ≡ length steps = h.counted in
     let empty : length new.offsets.items ≡ 0 = ap length none in

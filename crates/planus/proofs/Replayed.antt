@@ -11,11 +11,11 @@ use Rattle.planus.specs.Steps.{Step, bare_step}
 use Rattle.planus.specs.Runs.{nothing_written, LeadsTo, Advances, StepTooLarge}
 use Rattle.planus.specs.Replays.{first_bad, Replays, finish_given}
 use Rattle.planus.specs.Headline.{FinishHolds, AreFinishesOf, finishes_of}
-use Rattle.planus.specs.Replaying.{state_with, names, HasTaken, Takes, Stopped}
-use Rattle.planus.specs.Replaying.{AreReached}
-use Rattle.planus.specs.Names.{IsReached}
+use Rattle.planus.specs.inner.Replaying.{state_with, names, HasTaken, Takes, Stopped}
+use Rattle.planus.specs.inner.Replaying.{AreReached}
+use Rattle.planus.specs.inner.Names.{IsReached}
 use Rattle.planus.specs.declared.steps.Step as code
-use Rattle.planus.specs.declared.progress.Progress.{Progress}
+use Rattle.planus.specs.declared.replay_state.ReplayState.{ReplayState}
 use Rattle.planus.specs.declared.faults.ReplayError.{ReplayError}
 use Rattle.planus.specs.declared.faults.ReplayError.TheVariants.{OutOfMemory, TooLarge, BadStep}
 use Rattle.planus.proofs.FinishNumbers.{each_holds}
@@ -29,23 +29,23 @@ abbrev pub first_steps : List code.Step → ℕ → List Step
 first_steps steps i = map bare_step (take i steps)
 
 -- the replay is where the first i steps lead, and none of them is bad
-pub record Reaches (switches : Switches) (steps : List code.Step) (i : ℕ) (progress : Progress) : Type 0 where
+pub record Reaches (switches : Switches) (steps : List code.Step) (i : ℕ) (progress : ReplayState) : Type 0 where
   pub run : (past : Past) × IsPast progress.builder past × LeadsTo switches nothing_written (first_steps steps i) (state_with progress past)
   pub switched : progress.builder.switches ≡ switches
   pub clean : first_bad (first_steps steps i) ≡ None
   pub taken : HasTaken progress (first_steps steps i)
 
-pub are_reached : (switches : Switches) (steps : List code.Step) (i : ℕ) (progress : Progress) → Reaches switches steps i progress → AreReached progress
+pub are_reached : (switches : Switches) (steps : List code.Step) (i : ℕ) (progress : ReplayState) → Reaches switches steps i progress → AreReached progress
 are_reached switches steps i progress h step named e =
     let v = run_value switches (first_steps steps i) (state_with progress h.run.0) h.run.2 (progress.first + step) named
     (found_at progress.first (names progress) step named e) in
     subst (λ bytes. IsReached (length bytes) named) h.run.1.bytes (record { distance = v.kept.reached; tags = v.kept.tags_reached })
 
-pub number_is : (switches : Switches) (steps : List code.Step) (i : ℕ) (progress : Progress) → i ≤ length steps → Reaches switches steps i progress → progress.first + length progress.offsets.items ≡ i
+pub number_is : (switches : Switches) (steps : List code.Step) (i : ℕ) (progress : ReplayState) → i ≤ length steps → Reaches switches steps i progress → progress.first + length progress.offsets.items ≡ i
 number_is switches steps i progress within h =
     h.taken.counted ∙ length-map (take i steps) bare_step ∙ length-take-le i steps within
 
-module _ (switches : Switches) (steps : List code.Step) (i : ℕ) (item : code.Step) (inside : i < length steps) (there : item ≡ get_or steps i item) (progress : Progress) (h : Reaches switches steps i progress) where
+module _ (switches : Switches) (steps : List code.Step) (i : ℕ) (item : code.Step) (inside : i < length steps) (there : item ≡ get_or steps i item) (progress : ReplayState) (h : Reaches switches steps i progress) where
   whole : map bare_step steps ≡ first_steps steps i ++ bare_step item ∷ map bare_step (drop (suc i) steps)
   whole = ap (map bare_step) (sym (take-append-drop i steps) ∙ ap (λ xs. take i steps ++ xs) (drop-cons steps i item inside ∙ ap (λ x. x ∷ drop (suc i) steps) (sym there)))
       ∙ map-append bare_step (take i steps) (item ∷ drop (suc i) steps)
@@ -53,7 +53,7 @@ module _ (switches : Switches) (steps : List code.Step) (i : ℕ) (item : code.S
   next : first_steps steps (i + 1) ≡ first_steps steps i ++ bare_step item ∷ []
   next = ap (map bare_step) (take_more steps i item inside ∙ ap (λ x. take i steps ++ x ∷ []) (sym there)) ∙ map_push bare_step (take i steps) item
 
-  pub reaches_next : (after : Progress) → Takes progress (bare_step item) after → Reaches switches steps (i + 1) after
+  pub reaches_next : (after : ReplayState) → Takes progress (bare_step item) after → Reaches switches steps (i + 1) after
   reaches_next after advanced =
       let a = advanced.advances h.run.0 h.run.1 in
       let on : Advances switches (state_with progress h.run.0) (bare_step item) (state_with after a.0)
@@ -83,18 +83,18 @@ module _ (switches : Switches) (steps : List code.Step) (i : ℕ) (item : code.S
   pub stops : (error : ReplayError) → Stopped progress (bare_step item) error → Replays switches (map bare_step steps) (Err error)
   stops error stopped = stopped_at (bare_step item) refl error stopped
 
-pub ran : (switches : Switches) (steps : List code.Step) (i : ℕ) (progress : Progress) → length steps ≤ i → Reaches switches steps i progress → Replays switches (map bare_step steps) (Ok (map finish_given progress.finished.items))
+pub ran : (switches : Switches) (steps : List code.Step) (i : ℕ) (progress : ReplayState) → length steps ≤ i → Reaches switches steps i progress → Replays switches (map bare_step steps) (Ok (map finish_given progress.finished.items))
 ran switches steps i progress past h =
     let all : first_steps steps i ≡ map bare_step steps = ap (map bare_step) (take_all i steps past) in
     subst (λ cs. Replays switches cs (Ok (map finish_given progress.finished.items))) all (h.clean, (state_with progress h.run.0, h.run.2, refl))
 
-pub all_finished : (switches : Switches) (steps : List code.Step) (i : ℕ) (progress : Progress) → length steps ≤ i → Reaches switches steps i progress
+pub all_finished : (switches : Switches) (steps : List code.Step) (i : ℕ) (progress : ReplayState) → length steps ≤ i → Reaches switches steps i progress
     → AreFinishesOf switches (map bare_step steps) (finishes_of (map bare_step steps)) (map finish_given progress.finished.items)
 all_finished switches steps i progress past h =
     let all : first_steps steps i ≡ map bare_step steps = ap (map bare_step) (take_all i steps past) in
     subst (λ cs. AreFinishesOf switches cs (finishes_of cs) (map finish_given progress.finished.items)) all
     ((run_kept switches (first_steps steps i) (state_with progress h.run.0) h.run.2).finished (all_utf8 (take i steps)))
 
-pub all_hold : (switches : Switches) (steps : List code.Step) (i : ℕ) (progress : Progress) → length steps ≤ i → Reaches switches steps i progress → AllByRecursion (FinishHolds switches (map bare_step steps)) (map finish_given progress.finished.items)
+pub all_hold : (switches : Switches) (steps : List code.Step) (i : ℕ) (progress : ReplayState) → length steps ≤ i → Reaches switches steps i progress → AllByRecursion (FinishHolds switches (map bare_step steps)) (map finish_given progress.finished.items)
 all_hold switches steps i progress past h =
     each_holds switches (map bare_step steps) (finishes_of (map bare_step steps)) (map finish_given progress.finished.items) (all_finished switches steps i progress past h)

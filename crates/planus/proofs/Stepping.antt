@@ -44,11 +44,11 @@ use Rattle.planus.specs.Runs.{Listed, Finish, StepTooLarge, Writes, value_of, va
 use Rattle.planus.specs.declared.faults.ReplayError.{ReplayError}
 use Rattle.planus.specs.declared.faults.ReplayError.TheVariants.{OutOfMemory as ReplayOutOfMemory, TooLarge as ReplayTooLarge, BadStep}
 use Rattle.planus.specs.Replays.{finish_given, place_of, replay_error}
-use Rattle.planus.specs.Names.{offset_named, vector_named, written_named, name_of, listed_from, IsReached}
-use Rattle.planus.specs.Replaying.{names, values_listed, state_with, Advanced, Stopped, Noted}
-use Rattle.planus.specs.Replaying.{WritesValue, AreReached}
+use Rattle.planus.specs.inner.Names.{offset_named, vector_named, written_named, name_of, listed_from, IsReached}
+use Rattle.planus.specs.inner.Replaying.{names, values_listed, state_with, Advanced, Stopped, Noted}
+use Rattle.planus.specs.inner.Replaying.{WritesValue, AreReached}
 use Rattle.planus.specs.declared.finishes.Finished.{Finished}
-use Rattle.planus.specs.declared.progress.Progress.{Progress}
+use Rattle.planus.specs.declared.replay_state.ReplayState.{ReplayState}
 use Rattle.planus.specs.declared.written.Written.{Written}
 use Rattle.planus.proofs.Lists.{listed_push_some, listed_push_none, all_unmapped}
 use Rattle.planus.proofs.Declaring.{values_reached}
@@ -56,7 +56,7 @@ use Rattle.planus.proofs.WrittenValues.{value_behind, references_behind, unions_
 use Rattle.planus.proofs.Naming.{took_one, took_clear, one_more}
 
 -- what a finish of that value puts down
-finish_are : (old : Progress) (front : Front) (root distance : ℕ) (identifier : Option (List ℕ)) → value_at (values_listed old) root ≡ Some distance
+finish_are : (old : ReplayState) (front : Front) (root distance : ℕ) (identifier : Option (List ℕ)) → value_at (values_listed old) root ≡ Some distance
     → entries_put (values_listed old) (finish front root identifier) ≡ Some (finish_of front identifier distance)
 finish_are old front root distance identifier h = ap (option_map (finish_of front identifier)) h
 
@@ -90,13 +90,13 @@ all_put switches [] got past all after h = tt
 all_put switches (entry ∷ entries) got past all after h = inr (h.0, h.1, h.2, all_put switches entries (got ++ h.0 ∷ []) h.1 all after h.3)
 
 -- A value of a step, by an outcome that puts down its entries, or is refused where they are.
-module _ {A : Type 0} (name : A → Named) (outcome : Outcome A) (step : Step) (value : Value) (old : Progress)
+module _ {A : Type 0} (name : A → Named) (outcome : Outcome A) (step : Step) (value : Value) (old : ReplayState)
     (is_value : value_of (values_listed old) step ≡ Some value)
     (are : entries_put (values_listed old) step ≡ Some (entries_of value))
     (writes : (answer : A) (after : builder.State) → outcome old.builder (Ok answer) after
     → (got : List ℕ) × WritesEntries (entries_of value) [] old.builder (Ok got) after × (named_by value got ≡ name answer)) where
   -- it adds the value to the run
-  written : (new : Progress) (noted : Noted name outcome old new) (past after : Past) → finishes_added step (state_with old past) after ≡ []
+  written : (new : ReplayState) (noted : Noted name outcome old new) (past after : Past) → finishes_added step (state_with old past) after ≡ []
       → PutsAll old.builder.switches (entries_of value) [] past (writes noted.answer new.builder noted.done).0 after
       → Writes old.builder.switches (state_with old past) step (state_with new after)
   written new noted past after none puts =
@@ -118,14 +118,14 @@ module _ {A : Type 0} (name : A → Named) (outcome : Outcome A) (step : Step) (
             ∙ ap (λ (more : List Finish). map finish_given old.finished.items ++ more) (sym none);
       }
 
-  pub runs_on : (new : Progress) → Noted name outcome old new → ((past after : Past) → finishes_added step (state_with old past) after ≡ []) → (past : Past) → IsPast old.builder past
+  pub runs_on : (new : ReplayState) → Noted name outcome old new → ((past after : Past) → finishes_added step (state_with old past) after ≡ []) → (past : Past) → IsPast old.builder past
       → (after : Past) × IsPast new.builder after × Writes old.builder.switches (state_with old past) step (state_with new after)
   runs_on new noted none past is_past =
       let did = writes noted.answer new.builder noted.done in
       let put = puts_entries (entries_of value) [] old.builder did.0 new.builder past did.1 is_past in
       (put.0, put.2, written new noted past put.0 (none past put.0) put.1)
 
-  pub switches_stay : (new : Progress) → Noted name outcome old new → new.builder.switches ≡ old.builder.switches
+  pub switches_stay : (new : ReplayState) → Noted name outcome old new → new.builder.switches ≡ old.builder.switches
   switches_stay new noted =
       let did = writes noted.answer new.builder noted.done in
       (entries_grow (entries_of value) [] old.builder (Ok did.0) new.builder did.1).switches
@@ -134,7 +134,7 @@ module _ {A : Type 0} (name : A → Named) (outcome : Outcome A) (step : Step) (
   stops after refused = λ past is_past. record { entries = entries_of value; are = are; too_large = entries_too_large (entries_of value) [] old.builder after past refused is_past }
 
   pub lacks : ((after : builder.State) → outcome old.builder (Err OutOfMemory) after → WritesEntries (entries_of value) [] old.builder (Err OutOfMemory) after)
-      → (new : Progress) → WritesValue name outcome old (Err ReplayOutOfMemory) new → Stopped old step ReplayOutOfMemory
+      → (new : ReplayState) → WritesValue name outcome old (Err ReplayOutOfMemory) new → Stopped old step ReplayOutOfMemory
   lacks refused new (inl h) = λ past is_past. inr (
       record { entries = entries_of value; are = are; refused = entries_refused (entries_of value) [] old.builder h.0 past (refused h.0 h.1) is_past }
       )
@@ -144,7 +144,7 @@ module _ {A : Type 0} (name : A → Named) (outcome : Outcome A) (step : Step) (
       inr (record { entries = entries_of value; are = are; refused = all_put old.builder.switches (entries_of value) [] past did.0 put.0 put.1 })
 
 -- what a builder refused is refused
-pub value_refused : {A : Type 0} (name : A → Named) (outcome : Outcome A) (old new : Progress) (error : BuildError) (after : builder.State) → outcome old.builder (Err error) after
+pub value_refused : {A : Type 0} (name : A → Named) (outcome : Outcome A) (old new : ReplayState) (error : BuildError) (after : builder.State) → outcome old.builder (Err error) after
     → WritesValue name outcome old (Err (replay_error error)) new
 value_refused name outcome old new OutOfMemory after h = inl (after, h)
 value_refused name outcome old new TooLarge after h = (after, h)
@@ -159,7 +159,7 @@ by_entry : {T : Type 0} (entry : Entry) (before : builder.State) (offset : Offse
 by_entry entry before offset after put = (offset.distance ∷ [], (offset.distance, after, put, (refl, refl)), refl)
 
 -- a text advances the run, or stops it
-pub text_advanced : (content : List ℕ) (old : Progress) (answer : Result (Unit {0}) ReplayError) (new : Progress)
+pub text_advanced : (content : List ℕ) (old : ReplayState) (answer : Result (Unit {0}) ReplayError) (new : ReplayState)
     → WritesValue {A = Offset Text} offset_named (WritesText content) old answer new → Advanced old (text content) answer new
 text_advanced content old (Ok done) new noted = record {
   taken = took_one old new (text content) (Some noted.noted) (noted_kind noted.noted noted.answer noted.same) noted.first noted.pushed;
@@ -173,7 +173,7 @@ text_advanced content old (Err ReplayTooLarge) new h =
 text_advanced content old (Err (BadStep number why)) new h = absurd h
 
 -- a byte list
-pub bytes_advanced : (content : List ℕ) (old : Progress) (answer : Result (Unit {0}) ReplayError) (new : Progress)
+pub bytes_advanced : (content : List ℕ) (old : ReplayState) (answer : Result (Unit {0}) ReplayError) (new : ReplayState)
     → WritesValue {A = Offset (ListOf ℕ)} offset_named (WritesByteList content) old answer new → Advanced old (bytes content) answer new
 bytes_advanced content old (Ok done) new noted = record {
   taken = took_one old new (bytes content) (Some noted.noted) (noted_kind noted.noted noted.answer noted.same) noted.first noted.pushed;
@@ -187,7 +187,7 @@ bytes_advanced content old (Err ReplayTooLarge) new h =
 bytes_advanced content old (Err (BadStep number why)) new h = absurd h
 
 -- a list of items that are written as they are
-module _ {A : Type 0} (leaves : A → Item) (size alignment : ℕ) (xs : List A) (value : Value) (old : Progress)
+module _ {A : Type 0} (leaves : A → Item) (size alignment : ℕ) (xs : List A) (value : Value) (old : ReplayState)
     (entries : list_entries size alignment (map leaves xs) ≡ entries_of value) (one : (got : List ℕ) → named_by value got ≡ record { distance = last_of got; tags = None }) where
   list_writes : {T : Type 0} (offset : Offset T) (after : builder.State) → WritesList Answers leaves size alignment xs old.builder (Ok offset) after
       → (got : List ℕ) × WritesEntries (entries_of value) [] old.builder (Ok got) after × (named_by value got ≡ offset_named offset)
@@ -205,7 +205,7 @@ module _ {A : Type 0} (leaves : A → Item) (size alignment : ℕ) (xs : List A)
       (ready_list_is_refused T leaves size alignment xs old.builder error after refused)
 
 -- numbers that fit a known width
-module _ (width : ℕ) (w : Width) (items : List ℕ) (known : width_of width ≡ Some w) (fit : list_all (fits_width w) items ≡ true) (old : Progress) where
+module _ (width : ℕ) (w : Width) (items : List ℕ) (known : width_of width ≡ Some w) (fit : list_all (fits_width w) items ≡ true) (old : ReplayState) where
   abbrev number_list : Value
   number_list = value.plain_list (byte_len w) (byte_len w) (map (to_le_bytes w) items)
 
@@ -221,7 +221,7 @@ module _ (width : ℕ) (w : Width) (items : List ℕ) (known : width_of width �
   numbers_entries : list_entries (byte_len w) (byte_len w) (map leaves_number items) ≡ entries_of number_list
   numbers_entries = ap (list_entries (byte_len w) (byte_len w)) (plain_items_are (to_le_bytes w) items)
 
-  pub numbers_advanced : (T : Type 0) (answer : Result (Unit {0}) ReplayError) (new : Progress)
+  pub numbers_advanced : (T : Type 0) (answer : Result (Unit {0}) ReplayError) (new : ReplayState)
       → WritesValue {A = Offset T} offset_named (WritesList Answers leaves_number (byte_len w) (byte_len w) items) old answer new → Advanced old (numbers width items) answer new
   numbers_advanced T (Ok done) new noted = record {
     taken = took_one old new (numbers width items) (Some noted.noted) (noted_kind noted.noted noted.answer noted.same) noted.first noted.pushed;
@@ -241,7 +241,7 @@ module _ (width : ℕ) (w : Width) (items : List ℕ) (known : width_of width �
   numbers_advanced T (Err (BadStep number why)) new h = absurd h
 
 -- references to values that were found
-module _ (steps : List ℕ) (offsets : List (Offset (Unit {0}))) (old : Progress)
+module _ (steps : List ℕ) (offsets : List (Offset (Unit {0}))) (old : ReplayState)
     (found : all_of (value_at (values_listed old)) steps ≡ Some (map (λ (o : Offset (Unit {0})). o.distance) offsets)) where
   abbrev reference_list : Value
   reference_list = value.reference_list (map (λ (o : Offset (Unit {0})). o.distance) offsets)
@@ -258,7 +258,7 @@ module _ (steps : List ℕ) (offsets : List (Offset (Unit {0}))) (old : Progress
   refs_entries : list_entries 4 4 (map leaves_offset offsets) ≡ entries_of reference_list
   refs_entries = ap (list_entries 4 4) (reference_items_are (λ (o : Offset (Unit {0})). o.distance) offsets)
 
-  pub refs_advanced : (T : Type 0) (answer : Result (Unit {0}) ReplayError) (new : Progress)
+  pub refs_advanced : (T : Type 0) (answer : Result (Unit {0}) ReplayError) (new : ReplayState)
       → WritesValue {A = Offset T} offset_named (WritesList Answers leaves_offset 4 4 offsets) old answer new → Advanced old (refs steps) answer new
   refs_advanced T (Ok done) new noted = record {
     taken = took_one old new (refs steps) (Some noted.noted) (noted_kind noted.noted noted.answer noted.same) noted.first noted.pushed;
@@ -275,7 +275,7 @@ module _ (steps : List ℕ) (offsets : List (Offset (Unit {0}))) (old : Progress
   refs_advanced T (Err (BadStep number why)) new h = absurd h
 
 -- what was found lies in the builder
-pub found_reached : (old : Progress) → AreReached old → (steps : List ℕ) (offsets : List (Offset (Unit {0})))
+pub found_reached : (old : ReplayState) → AreReached old → (steps : List ℕ) (offsets : List (Offset (Unit {0})))
     → all_of (value_at (values_listed old)) steps ≡ Some (map (λ (o : Offset (Unit {0})). o.distance) offsets)
     → AllByRecursion (λ (o : Offset (Unit {0})). o.distance ≤ length old.builder.bytes) offsets
 found_reached old reached steps offsets h =
@@ -284,12 +284,12 @@ found_reached old reached steps offsets h =
     (map (λ (o : Offset (Unit {0})). o.distance) offsets) h)
 
 -- so does the value of one step
-pub value_inside : (old : Progress) → AreReached old → (step distance : ℕ) → value_at (values_listed old) step ≡ Some distance → distance ≤ length old.builder.bytes
+pub value_inside : (old : ReplayState) → AreReached old → (step distance : ℕ) → value_at (values_listed old) step ≡ Some distance → distance ≤ length old.builder.bytes
 value_inside old reached step distance h =
     value_behind (λ one. IsReached (length old.builder.bytes) one.named) (length old.builder.bytes) (λ one there. there) (values_listed old) (values_reached old reached) step distance h
 
 -- unions whose values were found
-module _ (items : List (ℕ × ℕ)) (offsets : List (UnionOffset (Unit {0}))) (old : Progress)
+module _ (items : List (ℕ × ℕ)) (offsets : List (UnionOffset (Unit {0}))) (old : ReplayState)
     (found : all_of (union_of (values_listed old)) items ≡ Some (map item_of offsets)) where
   abbrev unions_value : Value
   unions_value = value.union_vector (map item_of offsets)
@@ -318,7 +318,7 @@ module _ (items : List (ℕ × ℕ)) (offsets : List (UnionOffset (Unit {0}))) (
       ]
 
   -- they advance the run, or stop it
-  pub unions_advanced : (answer : Result (Unit {0}) ReplayError) (new : Progress)
+  pub unions_advanced : (answer : Result (Unit {0}) ReplayError) (new : ReplayState)
       → WritesValue vector_named (WritesUnionVector {T = Unit {0}} Answers offsets) old answer new → Advanced old (unions items) answer new
   unions_advanced (Ok done) new noted = record {
     taken = took_one old new (unions items) (Some noted.noted) (refl, ap (λ name. Some (kind_named name)) (sym noted.same)) noted.first noted.pushed;
@@ -331,7 +331,7 @@ module _ (items : List (ℕ × ℕ)) (offsets : List (UnionOffset (Unit {0}))) (
   unions_advanced (Err (BadStep number why)) new h = absurd h
 
 -- what they refer to lies in the builder
-pub unions_reached : (old : Progress) → AreReached old → (items : List (ℕ × ℕ)) (offsets : List (UnionOffset (Unit {0})))
+pub unions_reached : (old : ReplayState) → AreReached old → (items : List (ℕ × ℕ)) (offsets : List (UnionOffset (Unit {0})))
     → all_of (union_of (values_listed old)) items ≡ Some (map item_of offsets)
     → AllByRecursion (λ (u : UnionOffset (Unit {0})). union_reach u ≤ length old.builder.bytes) offsets
 unions_reached old reached items offsets h =
@@ -352,7 +352,7 @@ offset_finished offset entry old new answer lent ok leaves =
 
 module _ (front : Front) (root : ℕ) (identifier : Option (List ℕ)) (entry : ℕ → Entry) (is_entry : (distance : ℕ) → finish_of front identifier distance ≡ entry distance ∷ []) where
   -- a finish advances the run
-  pub finish_advances : (distance : ℕ) (old new : Progress) (given : Finished) (place : ℕ) → value_at (values_listed old) root ≡ Some distance
+  pub finish_advances : (distance : ℕ) (old new : ReplayState) (given : Finished) (place : ℕ) → value_at (values_listed old) root ≡ Some distance
       → PutsInFront (entry distance) old.builder place new.builder → new.first ≡ old.first → new.offsets.items ≡ old.offsets.items ++ None ∷ [] → new.finished.items ≡ old.finished.items ++ given ∷ []
       → given.bytes.items ≡ new.builder.bytes → map place_of given.places.items ≡ values_listed old → Advanced old (finish front root identifier) (Ok tt) new
   finish_advances distance old new given place found finishes first pushed gave whole listed_there = record {
@@ -379,7 +379,7 @@ module _ (front : Front) (root : ℕ) (identifier : Option (List ℕ)) (entry : 
   }
 
   -- a finish that was put down, and refused memory to be given
-  pub finish_not_given : (old : Progress) (offset : Offset (Unit {0})) → value_at (values_listed old) root ≡ Some offset.distance
+  pub finish_not_given : (old : ReplayState) (offset : Offset (Unit {0})) → value_at (values_listed old) root ≡ Some offset.distance
       → (answer : Result (Bor (List ℕ)) BuildError) (lent : Bor (List ℕ)) (new : builder.State) → answer ≡ Ok lent
       → FrontLeaves offset entry old.builder answer new → Stopped old (finish front root identifier) ReplayOutOfMemory
   finish_not_given old offset found answer lent new ok leaves = λ past is_past.
@@ -394,7 +394,7 @@ module _ (front : Front) (root : ℕ) (identifier : Option (List ℕ)) (entry : 
       )
 
   -- a finish that was refused
-  pub finish_stopped : (old : Progress) (offset : Offset (Unit {0})) → value_at (values_listed old) root ≡ Some offset.distance
+  pub finish_stopped : (old : ReplayState) (offset : Offset (Unit {0})) → value_at (values_listed old) root ≡ Some offset.distance
       → (answer : Result (Bor (List ℕ)) BuildError) (error : BuildError) (new : builder.State) → answer ≡ Err error
       → FrontLeaves offset entry old.builder answer new → Stopped old (finish front root identifier) (replay_error error)
   finish_stopped old offset found answer error new refused leaves = by_error error (subst (λ a. FrontLeaves offset entry old.builder a new) refused leaves)
@@ -426,7 +426,7 @@ module _ (front : Front) (root : ℕ) (identifier : Option (List ℕ)) (entry : 
       ]
 
 -- and a clear
-pub clear_advances : (old new : Progress) → IsPast new.builder no_past → new.builder.switches ≡ old.builder.switches → new.first ≡ old.first + length old.offsets.items + 1 → new.offsets.items ≡ []
+pub clear_advances : (old new : ReplayState) → IsPast new.builder no_past → new.builder.switches ≡ old.builder.switches → new.first ≡ old.first + length old.offsets.items + 1 → new.offsets.items ≡ []
     → new.finished ≡ old.finished → Advanced old clear (Ok tt) new
 clear_advances old new is_past switches first none same = record {
   taken = took_clear old new first none;

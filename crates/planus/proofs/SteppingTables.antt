@@ -22,15 +22,15 @@ use Rattle.planus_write.specs.declared.errors.BuildError.TheVariants as build
 use Rattle.planus_write.specs.Tables.{IsField, body_size}
 use Rattle.planus_write.specs.TableWriting.{Writer, WasTold}
 use Rattle.planus.specs.Replays.{replay_error}
-use Rattle.planus.specs.Prepared.{field_reach}
-use Rattle.planus.specs.Filling.{fields_or_none, fields_reach}
-use Rattle.planus.specs.Names.{offset_named, name_of, listed_from, IsReached}
-use Rattle.planus.specs.Replaying.{AreReached}
+use Rattle.planus.specs.inner.Prepared.{field_reach}
+use Rattle.planus.specs.inner.Filling.{fields_or_none, fields_reach}
+use Rattle.planus.specs.inner.Names.{offset_named, name_of, listed_from, IsReached}
+use Rattle.planus.specs.inner.Replaying.{AreReached}
 use Rattle.planus.specs.declared.faults.ReplayError.{ReplayError}
 use Rattle.planus.specs.declared.faults.ReplayError.TheVariants.{OutOfMemory as ReplayOutOfMemory, TooLarge as ReplayTooLarge, BadStep}
-use Rattle.planus.specs.declared.progress.Progress.{Progress}
+use Rattle.planus.specs.declared.replay_state.ReplayState.{ReplayState}
 use Rattle.planus.specs.declared.written.Written.{Written}
-use Rattle.planus.specs.Replaying.{values_listed, Advanced, WritesValue}
+use Rattle.planus.specs.inner.Replaying.{values_listed, Advanced, WritesValue}
 use Rattle.planus.proofs.Naming.{took_one}
 use Rattle.planus.proofs.Stepping.{runs_on, switches_stay, stops, lacks}
 use Rattle.planus.proofs.Declaring.{values_reached}
@@ -42,7 +42,7 @@ WritesTableAt all before (Ok offset) after = (got : List ℕ) × WritesEntries (
 WritesTableAt all before (Err error) after = WritesEntries (table_entries all) [] before (Err error) after
 
 -- a table advances the run, or stops it
-module _ (fields : List (ℕ × FieldStep)) (all : List (ℕ × Field)) (old : Progress) (made : fields_of (values_listed old) [] greatest_field fields ≡ Some all) where
+module _ (fields : List (ℕ × FieldStep)) (all : List (ℕ × Field)) (old : ReplayState) (made : fields_of (values_listed old) [] greatest_field fields ≡ Some all) where
   table_value_is : value_of (values_listed old) (table fields) ≡ Some (value.table all)
   table_value_is = ap (option_map value.table) made
 
@@ -53,7 +53,7 @@ module _ (fields : List (ℕ × FieldStep)) (all : List (ℕ × Field)) (old : P
       → (got : List ℕ) × WritesEntries (entries_of (value.table all)) [] old.builder (Ok got) after × (named_by (value.table all) got ≡ offset_named offset)
   table_writes offset after put = (put.0, put.1, ap (λ d. record { distance = d; tags = None }) put.2)
 
-  pub table_advanced : (T : Type 0) (answer : Result (Unit {0}) ReplayError) (new : Progress) → WritesValue {A = Offset T} offset_named (WritesTableAt all) old answer new → Advanced old (table fields) answer new
+  pub table_advanced : (T : Type 0) (answer : Result (Unit {0}) ReplayError) (new : ReplayState) → WritesValue {A = Offset T} offset_named (WritesTableAt all) old answer new → Advanced old (table fields) answer new
   table_advanced T (Ok done) new noted = record {
     taken = took_one old new (table fields) (Some noted.noted) (refl, ap (λ name. Some (kind_named name)) (sym noted.same)) noted.first noted.pushed;
     advances = runs_on offset_named (WritesTableAt all) (table fields) (value.table all) old table_value_is table_are table_writes new noted (λ past after. refl);
@@ -81,8 +81,8 @@ pub table_refused : (T : Type 0) (all : List (ℕ × Field)) (before after : bui
 table_refused T all before after error put = subst (λ n. WritesEntries (object_entries n (declared_of all) (λ place. body_bytes place all)) [] before (Err error) after) (slots_same all) put
 
 -- A table is refused, as the replay has it.
-pub table_stopped : (fields : List (ℕ × FieldStep)) (all : List (ℕ × Field)) (old : Progress) → fields_of (values_listed old) [] greatest_field fields ≡ Some all
-    → (error : BuildError) (new : Progress) → WritesTableAt {T = Unit {0}} all old.builder (Err error) new.builder → Advanced old (table fields) (Err (replay_error error)) new
+pub table_stopped : (fields : List (ℕ × FieldStep)) (all : List (ℕ × Field)) (old : ReplayState) → fields_of (values_listed old) [] greatest_field fields ≡ Some all
+    → (error : BuildError) (new : ReplayState) → WritesTableAt {T = Unit {0}} all old.builder (Err error) new.builder → Advanced old (table fields) (Err (replay_error error)) new
 table_stopped fields all old made build.OutOfMemory new h = table_advanced fields all old made (Unit {0}) (Err ReplayOutOfMemory) new (inl (new.builder, h))
 table_stopped fields all old made build.TooLarge new h = table_advanced fields all old made (Unit {0}) (Err ReplayTooLarge) new (new.builder, h)
 
@@ -99,7 +99,7 @@ reach_within bytes (entry ∷ all) fields =
     by_field (value.values distance) is = is
 
 -- a table that was declared, and its fields by these offsets
-module _ (old : Progress) (offsets : List (Option Written)) (are : offsets ≡ old.offsets.items) (fields : List (ℕ × FieldStep)) (all : List (ℕ × Field))
+module _ (old : ReplayState) (offsets : List (Option Written)) (are : offsets ≡ old.offsets.items) (fields : List (ℕ × FieldStep)) (all : List (ℕ × Field))
     (made : fields_of (values_listed old) [] greatest_field fields ≡ Some all) where
   abbrev these : List (ℕ × Field)
   these = fields_or_none (fields_of (listed_from old.first (map name_of offsets)) [] greatest_field fields)

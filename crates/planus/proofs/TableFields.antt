@@ -14,7 +14,7 @@ use Rattle.planus.specs.Runs.{Listed, tags_distance, references_distance, value_
 use Rattle.planus.specs.Runs.{value_at, field_width, fits_width, plain_field}
 use Rattle.planus.specs.Runs.{field_of, with_field, fields_of}
 use Rattle.planus.specs.TableChecks.{number_fault, content_fault, field_fault, fields_fault}
-use Rattle.planus.specs.Declaring.{slots_of}
+use Rattle.planus.specs.inner.Declaring.{slots_of}
 use Rattle.planus.specs.declared.faults.Why.{Why}
 use Rattle.planus.specs.declared.faults.Why.TheVariants.{ValueTooBig}
 use Rattle.planus.proofs.FieldFaults.{none_of, last_alignment}

@@ -16,7 +16,7 @@ use Rattle.planus_write.specs.Tables.{IsField, IsTable, Falling, SlotsOnce, fiel
 use Rattle.planus.specs.Steps.{FieldStep, number_field, ref_field, tags_field, values_field}
 use Rattle.planus.specs.Slots.{slot_fault, rising_fault, place_fault, alignment_of}
 use Rattle.planus.specs.Slots.{greatest_field}
-use Rattle.planus.specs.Names.{IsReached}
+use Rattle.planus.specs.inner.Names.{IsReached}
 use Rattle.planus.specs.Runs.{Listed, tags_distance, references_distance, distance_at, value_at}
 use Rattle.planus.specs.Runs.{width_of, field_width, fits_width, plain_field, field_of, fields_of}
 use Rattle.planus.specs.declared.faults.Why.TheVariants.{SlotTooBig, SlotTwice, RisingAlignment}

@@ -13,7 +13,7 @@ use Rattle.planus_read.specs.Values.{Value}
 use Rattle.planus_read.specs.ReadsBack.{WellFormed}
 use Rattle.planus_write.specs.Parts.{IsWritten, IsPlainList}
 use Rattle.planus_write.specs.Parts.{Named}
-use Rattle.planus.specs.Names.{IsReached}
+use Rattle.planus.specs.inner.Names.{IsReached}
 use Rattle.planus.specs.Runs.{Listed, named_at, value_distance, distance_at, value_at, union_of}
 use Rattle.planus.specs.Runs.{all_of, numbers_value, fits_width}
 use Rattle.planus.proofs.NamedKinds.{value_reached}

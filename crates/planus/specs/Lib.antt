@@ -22,17 +22,12 @@ pub mod Texts
 pub mod Slots
 pub mod Runs
 pub mod Kinds
-pub mod Names
 pub mod TableChecks
 pub mod Replays
 pub mod Headline
 pub mod Streams
 pub mod Once
 pub mod SameTrees
-pub mod Replaying
-pub mod Prepared
-pub mod Filling
-pub mod Declaring
 pub use Rattle.planus_back.specs as back
 pub use Rattle.planus_read.specs as read
 pub use Rattle.planus_view.specs as view

@@ -1,1 +1,6 @@
 pub mod PlainBodies
+pub mod Declaring
+pub mod Filling
+pub mod Names
+pub mod Prepared
+pub mod Replaying

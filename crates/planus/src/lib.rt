@@ -2,13 +2,13 @@
 //! fields in place, and [`replay`], which takes a list of steps to finished buffers.
 #![tactic(auto)]
 
-mod earlier;
 mod faults;
 mod finishes;
 pub mod laws;
+mod named_steps;
 mod plain_bodies;
 mod prepared_field;
-mod progress;
+mod replay_state;
 mod run;
 mod slots;
 mod steps;

@@ -6,7 +6,7 @@ ghost use Rattle.planus_write.specs.Tables.{Declared, field_item, field_size};
 ghost use Rattle.planus_write.specs.ObjectWriting.{body_of, wrote};
 ghost use Rattle.planus_write.specs.TableWriting.{WasTold, with_entry, slot_position};
 ghost use Rattle.planus.specs.Runs.{field_width};
-ghost use Rattle.planus.specs.Prepared.{field_is, field_reach, PreparesNumber};
+ghost use Rattle.planus.specs.inner.Prepared.{field_is, field_reach, PreparesNumber};
 
 use crate::faults::Why;
 use planus_write::{ObjectWriter, Offset, TableWriter};

@@ -8,7 +8,7 @@ ghost use Rattle.planus.specs.Headline.{FinishHolds, AreFinishesOf, finishes_of}
 
 use crate::faults::ReplayError;
 use crate::finishes::Finished;
-use crate::progress::Progress;
+use crate::replay_state::ReplayState;
 use crate::steps::Step;
 use planus_write::Caches;
 use std::alloc::Global;
@@ -31,10 +31,10 @@ pub fn replay(alloc: Global, caches: Caches, steps: &[Step]) -> Result<Vec<Finis
         (map bare_step steps.now) (finishes_of (map bare_step steps.now))
         (map finish_given finished.items)) }
 {
-    let mut progress = Progress::new(alloc, caches)?;
+    let mut progress = ReplayState::new(alloc, caches)?;
     for step in steps {
         progress.advance(alloc, step)?;
     }
-    let Progress { finished, .. } = progress;
+    let ReplayState { finished, .. } = progress;
     Ok(finished)
 }

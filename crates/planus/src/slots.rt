@@ -2,7 +2,7 @@
 ghost use Rattle.std.specs.Prelude.{◌≡◌, ◌==◌, map};
 ghost use Rattle.std.specs.List.{list_any};
 ghost use Rattle.planus.specs.Steps.{bare_field};
-ghost use Rattle.planus.specs.Declaring.{slots_of, ChecksSlot};
+ghost use Rattle.planus.specs.inner.Declaring.{slots_of, ChecksSlot};
 
 use crate::faults::Why;
 use crate::steps::Field;

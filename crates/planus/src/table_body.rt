@@ -3,16 +3,16 @@ ghost use Rattle.std.specs.Prelude.{◌≡◌, [], map, None};
 ghost use Rattle.planus.specs.Steps.{bare_field};
 ghost use Rattle.planus.specs.Slots.{greatest_field};
 ghost use Rattle.planus.specs.TableChecks.{table_fault};
-ghost use Rattle.planus.specs.Names.{name_of, fault_since};
+ghost use Rattle.planus.specs.inner.Names.{name_of, fault_since};
 
-use crate::earlier::Earlier;
+use crate::named_steps::NamedSteps;
 use crate::steps::Field;
 use planus_write::{ObjectFill, ObjectWriter};
 
 /// Writes the fields of a table, with none of which anything is wrong.
 #[derive(Drop)]
 pub(crate) struct TableBody<'a, 'b> {
-    pub(crate) earlier: Earlier<'a>,
+    pub(crate) earlier: NamedSteps<'a>,
     pub(crate) fields: &'b [Field],
     ghost good: { table_fault (fault_since earlier.first (map name_of earlier.offsets.now))
         (map bare_field fields.now) ≡ None },
@@ -20,7 +20,7 @@ pub(crate) struct TableBody<'a, 'b> {
 
 impl<'a, 'b> ObjectFill for TableBody<'a, 'b> {
     ghost use Rattle.planus_write.specs.Tables.{body_size, body_bytes};
-    ghost use Rattle.planus.specs.Filling.{fields_in, fields_reach};
+    ghost use Rattle.planus.specs.inner.Filling.{fields_in, fields_reach};
 
     ghost size = { λ body. body_size (fields_in body) };
 

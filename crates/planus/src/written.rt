@@ -11,7 +11,7 @@ pub(crate) enum Written {
 
 impl Written {
     ghost use Rattle.std.specs.Prelude.{◌≡◌};
-    ghost use Rattle.planus.specs.Names.{written_named};
+    ghost use Rattle.planus.specs.inner.Names.{written_named};
 
     /// Its distance; of a vector of unions that of its references.
     pub(crate) fn distance(&self) -> u32

@@ -15,10 +15,10 @@ use Rattle.planus_dump.specs.Seeing.{IsFound, found_events, IsUnionIn}
 use Rattle.planus_read.specs.declared.place.TaggedPlace.{TaggedPlace}
 use Rattle.planus_read.specs.Places.{place_bytes, place_offset, tagged_tag, tagged_place}
 use Rattle.planus_dump.specs.declared.readings.Found.{Found}
-use Rattle.planus_dump.specs.Shown.{begin, shown, Shown, step_at, step, feed}
-use Rattle.planus_dump.specs.declared.output.Stop.{Stop}
-use Rattle.planus_dump.specs.declared.output.Out.{Out}
-use Rattle.planus_dump.specs.declared.output.Stop.TheVariants.{Going, TooDeep, TooMany}
+use Rattle.planus_dump.specs.inner.Shown.{begin, shown, Shown, step_at, step, feed}
+use Rattle.planus_dump.specs.declared.line_sink.Stop.{Stop}
+use Rattle.planus_dump.specs.declared.line_sink.LineSink.{LineSink}
+use Rattle.planus_dump.specs.declared.line_sink.Stop.TheVariants.{Going, TooDeep, TooMany}
 use Rattle.planus_dump.specs.declared.schemas.Schema.{Schema}
 use Rattle.planus_dump.specs.declared.schemas.FieldSchema.{FieldSchema}
 use Rattle.planus_dump.specs.declared.schemas.Item.{Item}
@@ -182,13 +182,13 @@ answered (line l ∷ es) ls budget h =
     ] in by_test (length ls == budget) refl
 
 -- what a walk from no lines leaves
-pub walked : (es : List Event) (budget : ℕ) (out : Out) (stop : Stop) → shown out ≡ feed (begin budget) es → out.stop ≡ stop → Answered [] es budget (map string_bytes out.lines.items) stop
+pub walked : (es : List Event) (budget : ℕ) (out : LineSink) (stop : Stop) → shown out ≡ feed (begin budget) es → out.stop ≡ stop → Answered [] es budget (map string_bytes out.lines.items) stop
 walked es budget out stop fed is =
     let whole : After [] es budget (shown out) = subst (After [] es budget) (sym fed) (answered es [] budget (omega arith)) in
     subst (Answered [] es budget (map string_bytes out.lines.items)) is whole
 
 -- the lines, where the walk wasn't stopped
-pub all_lines : (es : List Event) (budget : ℕ) (out : Out) → Answered [] es budget (map string_bytes out.lines.items) Going → (es ≡ map line (map string_bytes out.lines.items) ++ []) × (length out.lines.items ≤ budget)
+pub all_lines : (es : List Event) (budget : ℕ) (out : LineSink) → Answered [] es budget (map string_bytes out.lines.items) Going → (es ≡ map line (map string_bytes out.lines.items) ++ []) × (length out.lines.items ≤ budget)
 all_lines es budget out (new, e, is, le) =
     (e ∙ ap (λ ls. map line ls ++ []) (sym is), subst (λ n. n ≤ budget) (length-map out.lines.items string_bytes) (subst (λ ls. length ls ≤ budget) (sym is) le))
 
@@ -198,7 +198,7 @@ pub union_unknown : (E : TableEvents) (o : Option (Vec (ℕ × ℕ) Global)) (va
 union_unknown E o variants tag S f path some none = ap (λ v. union_events E v tag S f path) some ∙ ap (variant_events E tag S f path) none
 
 -- the walk from the root of a buffer
-pub root_fed : (schema : Schema) (budget : ℕ) (bytes S : List ℕ) (f : ℕ) (path : List ℕ) (o r : Out) → S ≡ bytes → f ≡ 0 → shown o ≡ begin budget
+pub root_fed : (schema : Schema) (budget : ℕ) (bytes S : List ℕ) (f : ℕ) (path : List ℕ) (o r : LineSink) → S ≡ bytes → f ≡ 0 → shown o ≡ begin budget
     → shown r ≡ feed (shown o) (events schema 64 schema.root S f path) → shown r ≡ feed (begin budget) (events schema 64 schema.root bytes 0 path)
 root_fed schema budget bytes S f path o r same first empty fed =
     fed ∙ ap (λ s. feed s (events schema 64 schema.root S f path)) empty ∙ ap (λ xs. feed (begin budget) (events schema 64 schema.root xs f path)) same ∙ ap (λ k. feed (begin budget) (events schema 64 schema.root bytes k path)) first

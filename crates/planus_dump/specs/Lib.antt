@@ -5,7 +5,6 @@ pub mod Answers
 pub mod AsRead
 pub mod Events
 pub mod Seeing
-pub mod Shown
 pub mod Dumped
 pub mod FaultLines
 pub mod Describes
@@ -13,3 +12,4 @@ pub mod Laws
 pub mod Shapes
 pub mod Runs
 pub mod Texts
+pub mod inner

@@ -1,9 +1,9 @@
 //! A dump.
 ghost use Rattle.planus_dump.specs.Dumped.{Dumped};
 
-use crate::fits::is_good_schema;
-use crate::output::{Out, Stop};
+use crate::line_sink::{LineSink, Stop};
 use crate::schemas::Schema;
+use crate::validate::is_good_schema;
 use crate::walk::dump_table;
 use planus::{Place, SliceWithStartOffset, TableRead};
 use std::alloc::{AllocError, Global};
@@ -84,7 +84,7 @@ pub fn dump(
         Ok(place) => place,
         Err(_) => unreachable!(),
     };
-    let mut out = Out::new(alloc, budget);
+    let mut out = LineSink::new(alloc, budget);
     dump_table(schema, &mut out, GREATEST_DEPTH, "root", schema.root, root)?;
     match out.stop {
         Stop::Going => Ok(out.lines),

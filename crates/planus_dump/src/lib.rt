@@ -3,18 +3,19 @@
 #![tactic(auto)]
 
 mod dumps;
-mod fits;
 mod items;
 pub mod laws;
-mod output;
+mod line_sink;
+mod printed;
 mod readings;
 mod runs;
 mod schemas;
 mod unions;
+mod validate;
 mod values;
 mod walk;
 
 pub use dumps::{DumpError, dump};
-pub use output::push_hex;
+pub use printed::push_hex;
 pub use runs::{DumpRunError, dump_run};
 pub use schemas::{FieldSchema, Item, Kind, Schema, TableSchema};

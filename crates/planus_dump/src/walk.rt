@@ -8,11 +8,11 @@ ghost use Rattle.planus_dump.specs.Events.{events, kind_events, place_events, va
 ghost use Rattle.planus_dump.specs.Events.{union_events, unions_events, list_events, table_events};
 ghost use Rattle.planus_dump.specs.Seeing.{table_seen, found_events, unions_seen};
 ghost use Rattle.planus_dump.specs.Seeing.{items_seen, item_of};
-ghost use Rattle.planus_dump.specs.Shown.{shown, feed};
+ghost use Rattle.planus_dump.specs.inner.Shown.{shown, feed};
 ghost use Rattle.std.specs.Prelude.{Some, Ok};
 
 use crate::items::{Items, read_items};
-use crate::output::Out;
+use crate::line_sink::LineSink;
 use crate::readings::{Found, field_place, item_found, leaf_found, read_table, read_union};
 use crate::schemas::{FieldSchema, Kind, Schema, TableSchema};
 use crate::unions::{Unions, read_unions};
@@ -27,7 +27,7 @@ use std::alloc::AllocError;
 #[cycle(walk)]
 pub fn dump_table(
     schema: &Schema,
-    out: &mut Out,
+    out: &mut LineSink,
     left: usize,
     path: &str,
     index: usize,
@@ -51,7 +51,7 @@ pub fn dump_table(
 #[cycle(walk)]
 fn dump_shape(
     schema: &Schema,
-    out: &mut Out,
+    out: &mut LineSink,
     left: usize,
     path: &str,
     shape: &TableSchema,
@@ -79,7 +79,7 @@ fn dump_shape(
 #[cycle(walk)]
 fn dump_field(
     schema: &Schema,
-    out: &mut Out,
+    out: &mut LineSink,
     left: usize,
     path: &str,
     table: Table<'_>,
@@ -113,7 +113,7 @@ fn dump_field(
 #[cycle(walk)]
 fn dump_found(
     schema: &Schema,
-    out: &mut Out,
+    out: &mut LineSink,
     left: usize,
     path: &str,
     found: Found<'_>,
@@ -132,7 +132,7 @@ fn dump_found(
 #[cycle(walk)]
 fn dump_place(
     schema: &Schema,
-    out: &mut Out,
+    out: &mut LineSink,
     left: usize,
     path: &str,
     kind: Kind,
@@ -159,7 +159,7 @@ fn dump_place(
 #[cycle(walk)]
 fn dump_items(
     schema: &Schema,
-    out: &mut Out,
+    out: &mut LineSink,
     left: usize,
     path: &str,
     items: Items<'_>,
@@ -188,7 +188,7 @@ fn dump_items(
 #[cycle(walk)]
 fn dump_union(
     schema: &Schema,
-    out: &mut Out,
+    out: &mut LineSink,
     left: usize,
     path: &str,
     index: usize,
@@ -217,7 +217,7 @@ fn dump_union(
 #[cycle(walk)]
 fn dump_unions(
     schema: &Schema,
-    out: &mut Out,
+    out: &mut LineSink,
     left: usize,
     path: &str,
     index: usize,

@@ -7,7 +7,7 @@ use Rattle.planus.specs.declared.steps.Step as code
 use Rattle.planus_script.specs.Script.{command_of, command_of_words, is_skipped}
 use Rattle.planus_script.specs.Words.{words_of}
 use Rattle.planus_script.specs.Asking.{AsksForWords, AsksForLine, AsksForLines}
-use Rattle.planus_script.specs.Steps.{AnswersLine}
+use Rattle.planus_script.specs.inner.Steps.{AnswersLine}
 use Rattle.planus_script.specs.declared.script.ReadFault.{ReadFault}
 use Rattle.planus_script.specs.declared.script.LineError.{LineError}
 use Rattle.planus_script.specs.declared.script.LineError.TheVariants.{OutOfMemory, Fault}

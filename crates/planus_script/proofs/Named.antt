@@ -5,10 +5,10 @@ use Rattle.std.specs.declared.alloc.Global.{Global}
 use Rattle.planus.specs.Steps.{Step}
 use Rattle.planus_script.specs.Script.{Read, read_lines, then_read, onto_read, is_skipped, command_of, script_of, lines_of}
 use Rattle.planus.specs.Steps.{bare_step}
-use Rattle.planus_script.specs.Steps.{read_of}
+use Rattle.planus_script.specs.inner.Steps.{read_of}
 use Rattle.planus_write.specs.Shared.{Switches}
 use Rattle.planus.specs.Replays.{first_bad_after, first_bad_or, broken_check, Replays, given_by}
-use Rattle.planus_script.specs.Outputs.{NamesStep}
+use Rattle.planus_script.specs.inner.Outputs.{NamesStep}
 use Rattle.planus_script.specs.declared.script.ReadFault.{ReadFault}
 use Rattle.planus_script.specs.declared.script.Script.{Script}
 use Rattle.planus.specs.declared.steps.Step as code

@@ -3,9 +3,8 @@ pub mod Fields
 pub mod Unions
 pub mod Script
 pub mod Asking
-pub mod Steps
 pub mod Texts
 pub mod Printed
-pub mod Outputs
 pub mod Runner
 pub mod DumpRuns
+pub mod inner

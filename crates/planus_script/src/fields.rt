@@ -5,7 +5,7 @@ ghost use Rattle.planus_script.specs.Words.{words_behind};
 ghost use Rattle.planus_script.specs.Fields.{kind_of, slot_of, value_of, field_of, fields_of};
 ghost use Rattle.planus_script.specs.Script.{list_step, table_step};
 ghost use Rattle.planus_script.specs.Asking.{AsksForItems};
-ghost use Rattle.planus_script.specs.Steps.{AnswersLine};
+ghost use Rattle.planus_script.specs.inner.Steps.{AnswersLine};
 
 use crate::script::{FromWord, LineError, ReadFault, cut, items, number};
 use planus::{Field, FieldValue, Step};

@@ -5,7 +5,7 @@ ghost use Rattle.std.specs.List.{join_with_byte, flat_map};
 ghost use Rattle.std.specs.String.{string_bytes};
 ghost use Rattle.planus.specs.Replays.{finish_given, given_by};
 ghost use Rattle.planus_script.specs.Printed.{hex_line};
-ghost use Rattle.planus_script.specs.Outputs.{NamesStep, PrintsAnswerOr};
+ghost use Rattle.planus_script.specs.inner.Outputs.{NamesStep, PrintsAnswerOr};
 
 use planus::{Finished, ReplayError};
 use planus_dump::push_hex;

@@ -4,7 +4,7 @@ ghost use Rattle.std.specs.Prelude.{OnOk, OnErr};
 ghost use Rattle.std.specs.Io.{ReadsAtMost};
 ghost use Rattle.std.specs.Io.KnownBytes.{Appends, Consumes, IsAtEnd, Keeps};
 ghost use Rattle.planus_script.specs.Printed.{greatest_script, PrintedOrOutOfMemory};
-ghost use Rattle.planus_script.specs.Outputs.{is_clean, printed_text};
+ghost use Rattle.planus_script.specs.inner.Outputs.{is_clean, printed_text};
 ghost use Rattle.planus_script.specs.Runner.{WritesPrinted, LeavesUnwritten, StopsReading};
 ghost use Rattle.planus_script.specs.Runner.{status_of};
 

@@ -19,8 +19,8 @@ ghost use Rattle.planus_script.specs.Script.{step_by as step_by_lem};
 ghost use Rattle.planus_script.specs.Script.{is_skipped as is_skipped_lem};
 ghost use Rattle.planus_script.specs.Asking.{AsksForItems, AsksForBytes, AsksForStep};
 ghost use Rattle.planus_script.specs.Asking.{AsksForWords, AsksForLine, AsksForLines};
-ghost use Rattle.planus_script.specs.Steps.{AnswersCommand, AnswersLine, AnswersScript, read_of};
-ghost use Rattle.planus_script.specs.Steps.{AnswersList, bytes_or_fault};
+ghost use Rattle.planus_script.specs.inner.Steps.{AnswersCommand, AnswersLine, AnswersScript, read_of};
+ghost use Rattle.planus_script.specs.inner.Steps.{AnswersList, bytes_or_fault};
 ghost use Rattle.planus.specs.Steps as step;
 ghost use Rattle.planus.specs.Steps.{bare_step, front_of};
 

@@ -4,7 +4,7 @@ ghost use Rattle.std.specs.Option.{option_copied};
 ghost use Rattle.planus.specs.Steps as step;
 ghost use Rattle.planus_script.specs.Script.{list_step};
 ghost use Rattle.planus_script.specs.Asking.{AsksForItems};
-ghost use Rattle.planus_script.specs.Steps.{AnswersLine};
+ghost use Rattle.planus_script.specs.inner.Steps.{AnswersLine};
 ghost use Rattle.planus_script.specs.Unions.{union_of, unions_of};
 ghost use Rattle.planus_script.specs.Words.{words_behind};
 

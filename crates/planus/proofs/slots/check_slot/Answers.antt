@@ -4,7 +4,7 @@ use Rattle.std.specs.List.{list_any}
 use Rattle.std.proofs.lemmas.Bool.Decides.{nat_tests}
 use Rattle.planus.specs.Steps.{bare_field}
 use Rattle.planus.specs.Slots.{slot_fault}
-use Rattle.planus.specs.Declaring.{slots_of}
+use Rattle.planus.specs.inner.Declaring.{slots_of}
 use Rattle.planus.specs.declared.faults.Why.TheVariants.{SlotTooBig, SlotTwice}
 use Rattle.planus.proofs.Declaring.{slot_is_used, slot_is_free}
 use Rattle.planus.proofs.slots.check_slot.Goals as goal

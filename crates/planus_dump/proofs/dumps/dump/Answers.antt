@@ -2,8 +2,8 @@ use Rattle.std.proofs.Common.{◌≡◌, ◌∙◌, [], sym, true, codes, rules}
 use Rattle.planus_read.specs.Places.{place_bytes, place_offset}
 use Rattle.planus_dump.specs.Dumped.{events_of}
 use Rattle.planus_dump.specs.Schemas.{is_good}
-use Rattle.planus_dump.specs.Shown.{shown, feed, begin}
-use Rattle.planus_dump.specs.declared.output.Stop.TheVariants.{Going, TooDeep, TooMany}
+use Rattle.planus_dump.specs.inner.Shown.{shown, feed, begin}
+use Rattle.planus_dump.specs.declared.line_sink.Stop.TheVariants.{Going, TooDeep, TooMany}
 use Rattle.planus_dump.proofs.Feeds.{root_fed, walked, all_lines}
 use Rattle.planus_dump.proofs.FirstLine.{begins_with_line}
 use Rattle.planus_dump.proofs.dumps.dump.Goals as goal

@@ -8,7 +8,7 @@ use Rattle.planus_dump.specs.Lines.{table_line, list_line, unions_line}
 use Rattle.planus_dump.specs.Tests.{fault_text}
 use Rattle.planus_dump.specs.Events.{events, line, shape_events, items_events, union_items_events, fields_events, table_events, variant_of, fault_event}
 use Rattle.planus_dump.specs.Seeing.{items_view, item_of, unions_seen, table_seen}
-use Rattle.planus_dump.specs.Shown.{shown, feed, step}
+use Rattle.planus_dump.specs.inner.Shown.{shown, feed, step}
 use Rattle.planus_dump.proofs.Feeds.{events-more, events-none, stopped_done, all_done, items-none, union_items-none, fields-none, found_fed, field_fed, tagged_fed, union_unknown}
 use Rattle.planus_dump.proofs.walk.+walk.Goals as goal
 

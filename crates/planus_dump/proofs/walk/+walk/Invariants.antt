@@ -3,7 +3,7 @@ use Rattle.planus_read.specs.Places.{place_bytes, place_offset}
 use Rattle.planus_dump.specs.Answers.{table_at}
 use Rattle.planus_dump.specs.Events.{events, fields_events, items_events, union_items_events, list_events, unions_events, table_events}
 use Rattle.planus_dump.specs.Seeing.{items_view, items_seen, item_of, unions_seen, table_seen}
-use Rattle.planus_dump.specs.Shown.{shown, feed}
+use Rattle.planus_dump.specs.inner.Shown.{shown, feed}
 use Rattle.planus_dump.proofs.walk.+walk.Given as goal
 
 -- the depth that is left falls from a table to those of its fields; in between the calls lead on

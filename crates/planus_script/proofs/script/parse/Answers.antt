@@ -5,7 +5,7 @@ use Rattle.std.proofs.lemmas.List.{map-append}
 use Rattle.planus.specs.Steps.{bare_step}
 use Rattle.planus_script.specs.Asking.{AsksForLines}
 use Rattle.planus_script.specs.Script.{lines_of, read_lines, script_of, command_of, is_skipped}
-use Rattle.planus_script.specs.Steps.{read_of}
+use Rattle.planus_script.specs.inner.Steps.{read_of}
 use Rattle.planus_script.specs.declared.script.ReadFault.{ReadFault}
 use Rattle.planus_script.proofs.Asked.{asks_step}
 use Rattle.planus_script.proofs.ReadOn.{onto_front, onto_empty, and_then, lines_left, after_step, after_fault}

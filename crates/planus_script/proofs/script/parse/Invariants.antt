@@ -1,7 +1,7 @@
 use Rattle.std.proofs.Common.{◌≡◌, ◌+◌, ◌≤◌, length}
 use Rattle.planus_script.specs.Asking.{AsksForLines}
 use Rattle.planus_script.specs.Script.{script_of, read_lines, lines_of}
-use Rattle.planus_script.specs.Steps.{read_of}
+use Rattle.planus_script.specs.inner.Steps.{read_of}
 use Rattle.planus_script.proofs.ReadOn.{onto_front, lines_left, size_left}
 use Rattle.planus_script.proofs.script.parse.Given as goal
 

@@ -1,7 +1,7 @@
 use Rattle.std.proofs.Common.{subst}
 use Rattle.planus_script.specs.Asking.{AsksForWords}
 use Rattle.planus_script.specs.Script.{command_of_words}
-use Rattle.planus_script.specs.Steps.{AnswersLine}
+use Rattle.planus_script.specs.inner.Steps.{AnswersLine}
 use Rattle.planus_script.specs.Words.{words_of}
 use Rattle.planus_script.proofs.Asked.{answers_line}
 use Rattle.planus_script.proofs.Words.{not_utf8}

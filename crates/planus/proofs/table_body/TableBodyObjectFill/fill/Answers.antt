@@ -1,7 +1,7 @@
 use Rattle.std.proofs.Common.{slice_index_or}
 use Rattle.std.proofs.lemmas.List.{take_more}
 use Rattle.planus_write.specs.ObjectWriting.{body_of}
-use Rattle.planus.specs.Prepared.{field_is}
+use Rattle.planus.specs.inner.Prepared.{field_is}
 use Rattle.planus.specs.declared.steps.Field as code
 use Rattle.planus.specs.declared.steps.FieldValue.TheVariants.{Number}
 use Rattle.planus.proofs.Filling as proof

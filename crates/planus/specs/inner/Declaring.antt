@@ -1,0 +1,28 @@
+-- The fields of a table, as a replay checks and declares them.
+use Rattle.std.specs.Prelude.{◌≡◌, ℕ, List, [], map, Some, None, Result, Ok, Err}
+use Rattle.planus_read.specs.Values.{Field}
+use Rattle.planus_write.specs.Tables.{declared_of}
+use Rattle.planus_write.specs.TableWriting.{Writer, WasTold}
+use Rattle.planus.specs.Steps.{FieldStep}
+use Rattle.planus.specs.Slots.{slot_fault, greatest_field}
+use Rattle.planus.specs.Runs.{fields_of}
+use Rattle.planus.specs.TableChecks.{table_fault}
+use Rattle.planus.specs.inner.Replaying.{values_listed, name_fault}
+use Rattle.planus.specs.declared.faults.Why.{Why}
+use Rattle.planus.specs.declared.replay_state.ReplayState.{ReplayState}
+
+-- the slots of fields
+abbrev pub slots_of : List (ℕ × FieldStep) → List ℕ
+slots_of fields = map (λ entry. entry.0) fields
+
+-- nothing is wrong with a slot behind these, or this is
+abbrev pub ChecksSlot : List ℕ → ℕ → Result (Unit {0}) Why → Type 0
+ChecksSlot slots slot (Ok good) = slot_fault slots slot ≡ None
+ChecksSlot slots slot (Err why) = slot_fault slots slot ≡ Some why
+
+-- The fields of a table were declared, or this is wrong with the first of them that has a fault.
+abbrev pub DeclaresTable : ReplayState → List (ℕ × FieldStep) → Result Writer Why → Type 0
+DeclaresTable replay fields (Ok writer) = (all : List (ℕ × Field))
+    × (fields_of (values_listed replay) [] greatest_field fields ≡ Some all)
+    × WasTold writer (declared_of all) × (table_fault (name_fault replay) fields ≡ None)
+DeclaresTable replay fields (Err why) = table_fault (name_fault replay) fields ≡ Some why

@@ -1,0 +1,372 @@
+//! A replay on its way.
+ghost use Rattle.std.specs.Prelude.{◌≡◌, [], ◌+◌, ◌<◌, ◌^◌, vec_len, length, map, IfOk, IfErr, Ok};
+ghost use Rattle.planus_write.specs.View.{switches_of};
+ghost use Rattle.planus_write.specs.Past.{no_past};
+ghost use Rattle.planus_write.specs.State.{IsPast};
+ghost use Rattle.planus_write.specs.Preparing.{Answers};
+ghost use Rattle.planus_write.specs.Unions.{WritesUnionVector, union_reach};
+ghost use Rattle.std.specs.List.{AllByRecursion};
+ghost use Rattle.std.specs.Prelude.{◌≤◌};
+ghost use Rattle.planus.specs.Steps.{bare_step, bare_field, front_of};
+ghost use Rattle.planus.specs.Runs.{nothing_written};
+ghost use Rattle.planus.specs.Replays.{place_of};
+ghost use Rattle.planus.specs.Kinds.{a_value};
+ghost use Rattle.planus.specs.inner.Names.{name_of, offset_named, vector_named, listed_from, FindsNamed};
+ghost use Rattle.planus.specs.inner.Replaying.{names, state_with, FindsValues, FindsUnions, HasTaken};
+ghost use Rattle.planus.specs.inner.Replaying.{Advanced, AreReached, IsNarrowed, Narrowed, WritesValue};
+ghost use Rattle.planus.specs.inner.Prepared.{PreparesUnion};
+ghost use Rattle.planus.specs.inner.Declaring.{DeclaresTable};
+ghost use Rattle.planus.specs.declared.faults.ReplayError.TheVariants.{BadStep};
+ghost use Rattle.std.specs.Int.{Width, w16, w32, w64};
+ghost use Rattle.std.specs.List.{list_all};
+ghost use Rattle.std.specs.Prelude.{ℕ, true};
+ghost use Rattle.planus.specs.Runs.{fits_width};
+ghost use Rattle.planus.specs.Steps as step;
+
+use crate::faults::{ReplayError, Why};
+use crate::finishes::{Finished, StepPlace};
+use crate::named_steps::NamedSteps;
+use crate::prepared_field::VTABLE_SIZE;
+use crate::slots::check_slot;
+use crate::steps::{Field, Step};
+use crate::table_body::TableBody;
+use crate::written::Written;
+use planus_write::{
+    Builder, ByteList, Caches, Offset, TableWriter, UnionOffset, UnionVectorOffset, WriteAsOffset,
+    WriteAsUnionVector,
+};
+use std::alloc::{AllocError, Global};
+
+/// A replay on its way.
+#[derive(Drop)]
+pub(crate) struct ReplayState {
+    builder: Builder,
+    // The number of the first step behind the last clear.
+    first: usize,
+    // Of each step since, what it wrote, if it wrote a value.
+    offsets: Vec<Option<Written>>,
+    pub(crate) finished: Vec<Finished>,
+}
+
+/// The places of the values among these steps, which are numbered from `first` on.
+fn places_of(
+    alloc: Global,
+    first: usize,
+    offsets: &[Option<Written>],
+) -> Result<Vec<StepPlace>, AllocError>
+    requires { first + length offsets.now < 2 ^ 64 }
+    ensures { IfOk result (λ places. map place_of places.items ≡ listed_from first
+        (map name_of offsets.now)) }
+{
+    // Finishes are among the steps too, and can be most of them.
+    let values = offsets.iter().flatten().count();
+    let mut places = Vec::with_capacity(alloc, values)?;
+    for (index, offset) in offsets.iter().enumerate() {
+        if let Some(written) = offset {
+            places.push(StepPlace {
+                step: first + index,
+                distance: written.distance(),
+                tags: written.tags(),
+            })?;
+        }
+    }
+    Ok(places)
+}
+
+/// A number of 2 or 4 bytes, as a list of a step may have it.
+trait Narrow: Drop + Sized {
+    ghost width: { Width };
+
+    // Which number it is.
+    ghost number: { Self → ℕ };
+
+    /// The number in this width, if it fits.
+    fn narrow(wide: u64) -> Option<Self>
+        ensures { IsNarrowed number width wide result };
+}
+
+impl Narrow for u16 {
+    ghost width = { w16 };
+
+    ghost number = { λ n. n };
+
+    fn narrow(wide: u64) -> Option<u16> {
+        u16::try_from(wide).ok()
+    }
+}
+
+impl Narrow for u32 {
+    ghost width = { w32 };
+
+    ghost number = { λ n. n };
+
+    fn narrow(wide: u64) -> Option<u32> {
+        u32::try_from(wide).ok()
+    }
+}
+
+/// The numbers as narrower ones, if all of them fit.
+fn narrowed<T: Narrow>(alloc: Global, items: &[u64]) -> Result<Option<Vec<T>>, AllocError>
+    ensures { IfOk result (Narrowed T.number T.width items.now) }
+{
+    let mut numbers = Vec::with_capacity(alloc, items.len())?;
+    for item in items {
+        match T::narrow(*item) {
+            Some(number) => numbers.push(number)?,
+            None => return Ok(None),
+        }
+    }
+    Ok(Some(numbers))
+}
+
+impl ReplayState {
+    pub(crate) fn new(alloc: Global, caches: Caches) -> Result<ReplayState, ReplayError>
+        ensures past { IfOk result (λ replay. IsPast replay.builder no_past) }
+        ensures switches { IfOk result (λ replay. replay.builder.switches ≡ switches_of caches) }
+        ensures nothing { IfOk result (λ replay. state_with replay no_past ≡ nothing_written) }
+        ensures taken { IfOk result (λ replay. HasTaken replay []) }
+        ensures error { IfErr result (λ error. error ≡ ReplayError.OutOfMemory) }
+    {
+        Ok(ReplayState {
+            builder: Builder::with_caches(alloc, 0, caches)?,
+            first: 0,
+            offsets: Vec::new(alloc),
+            finished: Vec::new(alloc),
+        })
+    }
+
+    /// What this step may name.
+    fn earlier(&self) -> NamedSteps<'_>
+        ensures first { result.first ≡ self.now.first }
+        ensures offsets { result.offsets.now ≡ self.now.offsets.items }
+    {
+        NamedSteps {
+            first: self.first,
+            offsets: self.offsets.as_slice(),
+        }
+    }
+
+    /// The value of an earlier step, by its number.
+    fn value(&self, step: usize) -> Result<Offset<()>, Why>
+        ensures { FindsNamed a_value offset_named self.now.first (names self.now) step result }
+    {
+        self.earlier().value(step)
+    }
+
+    /// The values of earlier steps, by their numbers.
+    fn values(&self, alloc: Global, steps: &[usize]) -> Result<Vec<Offset<()>>, ReplayError>
+        requires { self.now.first + vec_len self.now.offsets < 2 ^ 64 }
+        ensures { FindsValues self.now steps.now result }
+    {
+        let mut offsets = Vec::with_capacity(alloc, steps.len())?;
+        for step in steps {
+            match self.value(*step) {
+                Ok(offset) => offsets.push(offset)?,
+                Err(why) => return Err(self.bad_step(why)),
+            }
+        }
+        Ok(offsets)
+    }
+
+    /// A union of the value of an earlier step.
+    fn union(&self, item: (u8, usize)) -> Result<UnionOffset<()>, Why>
+        ensures { PreparesUnion self.now.first (names self.now) item result }
+    {
+        self.earlier().union(item)
+    }
+
+    /// Unions of the values of earlier steps.
+    fn union_items(
+        &self,
+        alloc: Global,
+        items: &[(u8, usize)],
+    ) -> Result<Vec<UnionOffset<()>>, ReplayError>
+        requires { self.now.first + vec_len self.now.offsets < 2 ^ 64 }
+        ensures { FindsUnions self.now items.now result }
+    {
+        let mut unions = Vec::with_capacity(alloc, items.len())?;
+        for item in items {
+            match self.union(*item) {
+                Ok(union) => unions.push(union)?,
+                Err(why) => return Err(self.bad_step(why)),
+            }
+        }
+        Ok(unions)
+    }
+
+    /// What is wrong with this step.
+    fn bad_step(&self, why: Why) -> ReplayError
+        requires { self.now.first + vec_len self.now.offsets < 2 ^ 64 }
+        ensures { result ≡ BadStep (self.now.first + length self.now.offsets.items) why }
+    {
+        let step = self.first + self.offsets.len();
+        ReplayError::BadStep { step, why }
+    }
+
+    /// Writes a value.
+    fn write<T, X: WriteAsOffset<T>>(&mut self, value: &X) -> Result<(), ReplayError>
+        requires { X.may value.now self.old.builder }
+        ensures { WritesValue offset_named (X.outcome value.now) self.old result self.new }
+    {
+        let offset = value.prepare(&mut self.builder)?;
+        self.offsets.push(Some(Written::Value(offset.downcast())))?;
+        Ok(())
+    }
+
+    /// Writes numbers of `width` bytes each.
+    fn numbers(&mut self, alloc: Global, width: u8, items: &[u64]) -> Result<(), ReplayError>
+        requires { self.old.first + vec_len self.old.offsets < 2 ^ 64 }
+        ensures { Advanced self.old (step.numbers width items.now) result self.new }
+    {
+        match width {
+            2 => match narrowed::<u16>(alloc, items)? {
+                Some(items) => self.write(&items),
+                None => Err(self.bad_step(Why::ValueTooBig)),
+            },
+            4 => match narrowed::<u32>(alloc, items)? {
+                Some(items) => self.write(&items),
+                None => Err(self.bad_step(Why::ValueTooBig)),
+            },
+            8 => self.u64s(items),
+            _ => Err(self.bad_step(Why::WidthUnknown)),
+        }
+    }
+
+    /// Writes numbers of 8 bytes each, which all fit.
+    fn u64s(&mut self, items: &[u64]) -> Result<(), ReplayError>
+        requires { list_all (fits_width w64) items.now ≡ true }
+        ensures { Advanced self.old (step.numbers 8 items.now) result self.new }
+    {
+        self.write(&items)
+    }
+
+    /// Writes references to the values of earlier steps.
+    fn refs(&mut self, alloc: Global, steps: &[usize]) -> Result<(), ReplayError>
+        requires reached { AreReached self.old }
+        requires number { self.old.first + vec_len self.old.offsets < 2 ^ 64 }
+        ensures { Advanced self.old (step.refs steps.now) result self.new }
+    {
+        let offsets = self.values(alloc, steps)?;
+        self.write(&offsets)
+    }
+
+    /// Writes a vector of unions.
+    fn write_unions(&mut self, unions: &[UnionOffset<()>]) -> Result<(), ReplayError>
+        requires { AllByRecursion (λ union. union_reach union ≤ length self.old.builder.bytes)
+            unions.now }
+        ensures { WritesValue vector_named (WritesUnionVector Answers unions.now) self.old result
+            self.new }
+    {
+        let vector: UnionVectorOffset<()> = unions.prepare(&mut self.builder)?;
+        self.offsets.push(Some(Written::Unions(vector)))?;
+        Ok(())
+    }
+
+    /// Writes a vector of unions of the values of earlier steps.
+    fn unions(&mut self, alloc: Global, items: &[(u8, usize)]) -> Result<(), ReplayError>
+        requires reached { AreReached self.old }
+        requires number { self.old.first + vec_len self.old.offsets < 2 ^ 64 }
+        ensures { Advanced self.old (step.unions items.now) result self.new }
+    {
+        let unions = self.union_items(alloc, items)?;
+        self.write_unions(unions.as_slice())
+    }
+
+    /// Checks the fields of a table, and declares them.
+    fn declared(&self, fields: &[Field]) -> Result<TableWriter<VTABLE_SIZE>, Why>
+        requires { AreReached self.now }
+        ensures { DeclaresTable self.now (map bare_field fields.now) result }
+    {
+        let mut writer = TableWriter::default();
+        let mut before = 8;
+        for (index, field) in fields.iter().enumerate() {
+            check_slot(&fields[..index], field.slot)?;
+            let prepared = self.earlier().prepare(&field.value)?;
+            if before < prepared.alignment() {
+                return Err(Why::RisingAlignment);
+            }
+            before = prepared.alignment();
+            prepared.declare(&mut writer, field.slot as usize);
+        }
+        Ok(writer)
+    }
+
+    /// Writes a table.
+    fn table(&mut self, fields: &[Field]) -> Result<(), ReplayError>
+        requires reached { AreReached self.old }
+        requires number { self.old.first + vec_len self.old.offsets < 2 ^ 64 }
+        ensures { Advanced self.old (step.table (map bare_field fields.now)) result self.new }
+    {
+        let writer = match self.declared(fields) {
+            Ok(writer) => writer,
+            Err(why) => return Err(self.bad_step(why)),
+        };
+        let earlier = NamedSteps {
+            first: self.first,
+            offsets: self.offsets.as_slice(),
+        };
+        writer.finish(&mut self.builder, &TableBody { earlier, fields })?;
+        let table = self.builder.current_offset();
+        self.offsets.push(Some(Written::Value(table)))?;
+        Ok(())
+    }
+
+    /// Takes one step.
+    pub(crate) fn advance(&mut self, alloc: Global, step: &Step) -> Result<(), ReplayError>
+        requires reached { AreReached self.old }
+        requires number { self.old.first + vec_len self.old.offsets + 1 < 2 ^ 64 }
+        ensures { Advanced self.old (bare_step step.now) result self.new }
+    {
+        match step {
+            Step::Text(text) => self.write(&text.as_str()),
+            Step::Bytes(bytes) => self.write(&ByteList(bytes.as_slice())),
+            Step::Numbers { width, items } => self.numbers(alloc, *width, items.as_slice()),
+            Step::Refs(steps) => self.refs(alloc, steps.as_slice()),
+            Step::Unions(items) => self.unions(alloc, items.as_slice()),
+            Step::Table(fields) => self.table(fields.as_slice()),
+            Step::Finish { root, id } => self.finish(alloc, *root, *id, false),
+            Step::FinishSized { root, id } => self.finish(alloc, *root, *id, true),
+            Step::Clear => {
+                self.clear();
+                Ok(())
+            }
+        }
+    }
+
+    /// Takes all away that was written.
+    fn clear(&mut self)
+        requires { self.old.first + vec_len self.old.offsets + 1 < 2 ^ 64 }
+        ensures { Advanced self.old step.clear (Ok tt) self.new }
+    {
+        self.builder.clear();
+        self.first += self.offsets.len() + 1;
+        self.offsets.clear();
+    }
+
+    /// Finishes the value of an earlier step, with the size in front if that is asked for.
+    fn finish(
+        &mut self,
+        alloc: Global,
+        root: usize,
+        id: Option<[u8; 4]>,
+        sized: bool,
+    ) -> Result<(), ReplayError>
+        requires reached { AreReached self.old }
+        requires number { self.old.first + vec_len self.old.offsets < 2 ^ 64 }
+        ensures { Advanced self.old (step.finish (front_of sized) root id) result self.new }
+    {
+        let root = match self.value(root) {
+            Ok(root) => root,
+            Err(why) => return Err(self.bad_step(why)),
+        };
+        let bytes = if sized {
+            Vec::from_slice(alloc, self.builder.finish_size_prefixed(root, id)?)?
+        } else {
+            Vec::from_slice(alloc, self.builder.finish(root, id)?)?
+        };
+        let places = places_of(alloc, self.first, self.offsets.as_slice())?;
+        self.finished.push(Finished { bytes, places })?;
+        self.offsets.push(None)?;
+        Ok(())
+    }
+}

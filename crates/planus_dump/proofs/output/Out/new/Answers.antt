@@ -1,7 +1,0 @@
-use Rattle.std.proofs.Common.{ap, map}
-use Rattle.std.specs.String.{string_bytes}
-use Rattle.planus_dump.specs.declared.output.Stop.TheVariants.{Going}
-use Rattle.planus_dump.proofs.output.Out.new.Goals as goal
-
-pub returns : goal.returns
-returns c = ap (λ lines. record { lines = map string_bytes lines; budget = c.args.budget; stop = Going }) c.new.ensures.items
