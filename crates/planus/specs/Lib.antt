@@ -16,6 +16,7 @@ pub mod Unions
 pub mod UnionAccessors
 pub mod Variants
 pub mod lemmas
+pub mod inner
 pub mod Steps
 pub mod Texts
 pub mod Slots

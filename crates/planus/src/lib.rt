@@ -65,7 +65,6 @@ pub use planus_view::CopyError;
 pub use planus_view::FromItem;
 pub use planus_view::Vector;
 pub use planus_view::vectors;
-pub use planus_write as writing;
 pub use planus_write::BuildError;
 pub use planus_write::Builder;
 pub use planus_write::ByRef;

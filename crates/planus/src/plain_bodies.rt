@@ -1,5 +1,17 @@
 //! The bodies of [`Plain`](crate::Plain) of structs and enums.
 
+ghost use Rattle.std.specs.Prelude.{codes};
+ghost use Rattle.planus.specs.ReadPlain.{IsPlainFieldOr};
+ghost use Rattle.planus.specs.inner.PlainBodies.{choice_shape, padded_shape};
+ghost use Rattle.planus.specs.declared.plain_bodies.Choice.TheVariants.{Second};
+
+use crate::tables::plain_field_or;
+use crate::{put_fields, read_fields, read_variant};
+use planus_read::errors::ErrorKind;
+use planus_read::located::Error;
+use planus_read::table_reader::Table;
+use planus_read::{Plain, SliceWithStartOffset};
+
 /// Writes the fields of a struct over its bytes, in the body of [`Plain::put`](crate::Plain::put): each by its name and
 /// its size in bytes, and `_` with a number of bytes that are zero where there is padding.
 ///
@@ -54,4 +66,69 @@ macro_rules! read_variant {
             source: $crate::errors::UnknownEnumTagKind { tag: number as i128 },
         })
     }};
+}
+
+// What the macros write, of a struct with padding and an enum.
+
+/// A variant of three.
+#[derive(Clone, Copy)]
+enum Choice {
+    First = 0,
+    Second = 1,
+    Third = 2,
+}
+
+impl Plain for Choice {
+    ghost ALIGNMENT = { 1 };
+
+    ghost SIZE = { 1 };
+
+    ghost shape = { choice_shape };
+
+    const ALIGNMENT: usize = 1;
+
+    const SIZE: usize = 1;
+
+    fn put(&self, bytes: &mut [u8]) {
+        (*self as u8).put(bytes);
+    }
+
+    fn read(buffer: SliceWithStartOffset<'_>, offset: usize) -> Result<Choice, ErrorKind> {
+        read_variant!(u8, buffer, offset; Choice::First, Choice::Second, Choice::Third)
+    }
+}
+
+/// Two numbers, a choice, and a byte of padding.
+#[derive(Clone, Copy)]
+struct Padded {
+    left: i16,
+    right: i16,
+    choice: Choice,
+}
+
+impl Plain for Padded {
+    ghost ALIGNMENT = { 2 };
+
+    ghost SIZE = { 6 };
+
+    ghost shape = { padded_shape };
+
+    const ALIGNMENT: usize = 2;
+
+    const SIZE: usize = 6;
+
+    fn put(&self, bytes: &mut [u8]) {
+        put_fields!(self, bytes; left: 2, right: 2, choice: 1, _: 1);
+    }
+
+    fn read(buffer: SliceWithStartOffset<'_>, offset: usize) -> Result<Padded, ErrorKind> {
+        read_fields!(Padded, buffer, offset; left, right: 2, choice: 4)
+    }
+}
+
+/// A field with a default, as an accessor of a user's own reads it.
+fn row_choice<'n>(table: &Table<'_>) -> Result<Choice, Error<'n>>
+    ensures { IsPlainFieldOr choice_shape Second table.now 0 (codes "Row") (codes "choice") result }
+{
+    plain_field_or(table, 0, Choice::Second, "Row", "choice")
 }

@@ -1,3 +1,3 @@
 pub mod ReadNames
-pub mod Reading
+pub mod ReadStreams
 pub mod KeptList

@@ -8,3 +8,7 @@ pub mod Levels
 pub mod Ships
 pub mod Names
 pub mod Streams
+pub mod Kinds
+pub mod Heights
+pub mod Structs
+pub mod Sites

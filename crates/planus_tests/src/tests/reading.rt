@@ -6,6 +6,7 @@ mod tables;
 mod traits;
 mod views;
 
+use crate::tests::check;
 use planus_read::errors::ErrorKind;
 use planus_testing::plain;
 use std::alloc::Global;

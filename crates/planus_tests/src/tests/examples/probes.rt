@@ -4,7 +4,7 @@
 use super::in_builder;
 use planus::errors::ErrorKind;
 use planus::{BuildError, Builder, Plain, ReadAsRoot, TableRef};
-use uses_struct::{Fix, Kind, Level, Pos, Probe, Reading};
+use uses_tables::{Fix, Height, Kind, Pos, Probe, Reading};
 
 const READING: Reading = Reading {
     on: true,
@@ -14,7 +14,7 @@ const READING: Reading = Reading {
     total: -(1 << 40),
     rough: 1.5,
     exact: -0.125,
-    level: Level::High,
+    level: Height::High,
 };
 
 const LOW: Reading = Reading {
@@ -25,7 +25,7 @@ const LOW: Reading = Reading {
     total: 3,
     rough: -0.5,
     exact: 4.0,
-    level: Level::Low,
+    level: Height::Low,
 };
 
 const MID: Reading = Reading {
@@ -36,7 +36,7 @@ const MID: Reading = Reading {
     total: -7,
     rough: 0.25,
     exact: -8.0,
-    level: Level::Mid,
+    level: Height::Mid,
 };
 
 const FIX: Fix = Fix {
@@ -95,7 +95,7 @@ fn has_fixes(probe: &TableRef<'_, Probe>) -> bool {
 }
 
 // Whether the root is a probe with these values and this level.
-fn is_probe(bytes: &[u8], level: Level) -> bool {
+fn is_probe(bytes: &[u8], level: Height) -> bool {
     let probe: Result<TableRef<'_, Probe>, _> = ReadAsRoot::read_as_root(bytes);
     let Ok(probe) = probe else {
         return false;
@@ -107,21 +107,21 @@ fn is_probe(bytes: &[u8], level: Level) -> bool {
 }
 
 fn a_probe_is_read(builder: &mut Builder) -> Result<bool, BuildError> {
-    let probe = Probe::create(builder, Level::Low, Some(READING), &[LOW, MID], &[FIX])?;
+    let probe = Probe::create(builder, Height::Low, Some(READING), &[LOW, MID], &[FIX])?;
     let bytes = builder.finish(probe, None)?;
-    Ok(is_probe(bytes, Level::Low))
+    Ok(is_probe(bytes, Height::Low))
 }
 
 fn a_default_is_read(builder: &mut Builder) -> Result<bool, BuildError> {
-    let probe = Probe::create(builder, Level::Mid, Some(READING), &[LOW, MID], &[FIX])?;
+    let probe = Probe::create(builder, Height::Mid, Some(READING), &[LOW, MID], &[FIX])?;
     let bytes = builder.finish(probe, None)?;
-    Ok(is_probe(bytes, Level::Mid))
+    Ok(is_probe(bytes, Height::Mid))
 }
 
 #[test]
 fn probes_are_read_back(rt: HostRuntime) {
     assert!(rt; is_its_bytes(), "bytes");
-    assert!(rt; is_probe(&FLATC_PROBE, Level::Low), "another builder's");
+    assert!(rt; is_probe(&FLATC_PROBE, Height::Low), "another builder's");
     assert!(rt; in_builder(rt.alloc(), a_probe_is_read), "all");
     assert!(rt; in_builder(rt.alloc(), a_default_is_read), "default");
 }

@@ -3,7 +3,7 @@
 use super::in_builder;
 use planus::{BuildError, Builder, ReadAsRoot, TableRef};
 use std::num::{f32_to_bits_with_nan, f64_to_bits_with_nan};
-use uses_struct::Sample;
+use uses_tables::Sample;
 
 // A float of 8 bytes, its bits, whether it is written where 0.0 is the default, and what it is as one
 // of 4 bytes, and the bits of that.

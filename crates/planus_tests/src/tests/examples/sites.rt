@@ -5,7 +5,7 @@ use planus::errors::ErrorKind;
 use planus::{
     BuildError, Builder, Error, Plain, ReadAsRoot, SliceWithStartOffset, TableRead, TableRef,
 };
-use uses_struct::{Features, Fix, Kind, Leg, Pos, Site, SiteFields, home_read_back, point};
+use uses_tables::{Features, Fix, Kind, Leg, Pos, Site, SiteFields, home_read_back, point};
 
 const PARIS: Pos = Pos {
     lat: 48_856_600,

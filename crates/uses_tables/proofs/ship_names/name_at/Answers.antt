@@ -17,6 +17,6 @@ returns c = λ B k count distance name same stands named.
     named.stands stands (codes "[ShipRef]") (codes "get") (k + 4) (Ok c.in_ok-ship.ship)
     (subst (λ (view : View). ItemIs view c.args.index (Ok c.in_ok-ship.ship)) same
     c.in_ok-ship.ensures) in
-    c.name.ensures.read_back B name
+    c.text_required.ensures.read_back B name
     (subst (λ content. SlotHolds B c.in_ok-ship.ship.table 0 content) named.named (holds 0))
     named.is_utf8

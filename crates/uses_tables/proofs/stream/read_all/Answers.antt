@@ -2,7 +2,7 @@ use Rattle.std.proofs.Common.{◌≡◌, ◌∙◌, ◌++◌, ◌∷◌, [], Lis
 use Rattle.std.proofs.lemmas.List.{map_push}
 use Rattle.planus.specs.read.Pieces.{slice_bytes}
 use Rattle.uses_tables.specs.Streams.{BeginsWith}
-use Rattle.uses_tables.proofs.Reading.{one_more, no_fault}
+use Rattle.uses_tables.proofs.ReadStreams.{one_more, no_fault}
 use Rattle.uses_tables.proofs.stream.read_all.Goals as goal
 
 pub loop-rest-preserved-in-Ok : goal.loop-rest-preserved-in-Ok

@@ -1,7 +1,7 @@
 use Rattle.std.proofs.Common.{map}
 use Rattle.planus.specs.read.Pieces.{slice_bytes}
 use Rattle.uses_tables.specs.Streams.{BeginsWith}
-use Rattle.uses_tables.proofs.Reading.{FaultsFor, still_to_read}
+use Rattle.uses_tables.proofs.ReadStreams.{FaultsFor, still_to_read}
 use Rattle.uses_tables.proofs.stream.read_all.Given as goal
 
 -- the stream begins with what was read so far, and the rest is left

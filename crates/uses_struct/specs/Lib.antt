@@ -1,4 +1,0 @@
-pub mod Kinds
-pub mod Levels
-pub mod Structs
-pub mod Sites

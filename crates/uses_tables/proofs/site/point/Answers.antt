@@ -1,0 +1,4 @@
+use Rattle.uses_tables.proofs.site.point.Goals as goal
+
+pub returns : goal.returns
+returns c = c.plain_item.ensures.read_back

@@ -1,0 +1,60 @@
+//! What an instrument shows, of the schema
+//!
+//! ```text
+//! struct Reading (force_align: 16) { on: bool; tiny: int8; port: uint16; count: uint32; total: int64;
+//!     rough: float; exact: double; level: Level; }
+//! ```
+ghost use Rattle.uses_tables.specs.Structs.{reading_shape};
+
+use crate::height::Height;
+use planus::errors::ErrorKind;
+use planus::{Plain, PlainField, SliceWithStartOffset, Stride, put_fields, read_fields};
+
+/// What an instrument shows.
+#[derive(Clone, Copy, Debug, PartialEq)]
+pub struct Reading {
+    /// Whether it is on.
+    pub on: bool,
+    /// A small number.
+    pub tiny: i8,
+    /// Where it is plugged in.
+    pub port: u16,
+    /// How often it was read.
+    pub count: u32,
+    /// What it has counted.
+    pub total: i64,
+    /// What it shows roughly.
+    pub rough: f32,
+    /// What it shows exactly.
+    pub exact: f64,
+    /// How high that is.
+    pub level: Height,
+}
+
+impl Plain for Reading {
+    ghost ALIGNMENT = { 16 };
+
+    ghost SIZE = { 48 };
+
+    ghost shape = { reading_shape };
+
+    const ALIGNMENT: usize = 16;
+
+    const SIZE: usize = 48;
+
+    fn put(&self, bytes: &mut [u8]) {
+        put_fields!(self, bytes; on: 1, tiny: 1, port: 2, count: 4, total: 8, rough: 4, _: 4,
+            exact: 8, level: 2, _: 14);
+    }
+
+    fn read(buffer: SliceWithStartOffset<'_>, offset: usize) -> Result<Reading, ErrorKind> {
+        read_fields!(Reading, buffer, offset; on, tiny: 1, port: 2, count: 4, total: 8, rough: 16,
+            exact: 24, level: 32)
+    }
+}
+
+impl Stride for Reading {
+    type Stands = Reading;
+}
+
+impl PlainField for Reading {}

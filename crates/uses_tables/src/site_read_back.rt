@@ -1,0 +1,47 @@
+//! What was written is read back.
+ghost use Rattle.std.specs.Prelude.{◌≡◌, IfOk};
+
+use crate::pos::Pos;
+use crate::site::{Site, SiteFields};
+use planus::{BuildError, Builder, Error, TableRef, read_root};
+
+/// Why a site can't be written, or not be read.
+#[derive(Clone, Copy, Debug)]
+pub enum SiteError {
+    /// It can't be written.
+    Build(BuildError),
+    /// It can't be read.
+    Read(Error),
+}
+
+impl From<BuildError> for SiteError {
+    ghost use Rattle.uses_tables.specs.declared.site_read_back.SiteError.TheVariants.{Build};
+
+    ghost from_gives = { λ error e. e ≡ Build error };
+
+    fn from(error: BuildError) -> SiteError {
+        SiteError::Build(error)
+    }
+}
+
+impl From<Error> for SiteError {
+    ghost use Rattle.uses_tables.specs.declared.site_read_back.SiteError.TheVariants.{Read};
+
+    ghost from_gives = { λ error e. e ≡ Read error };
+
+    fn from(error: Error) -> SiteError {
+        SiteError::Read(error)
+    }
+}
+
+/// Writes a site as the root of a buffer, and reads its home. With `Ok` this is the home of the
+/// argument.
+pub fn home_read_back(builder: &mut Builder, site: SiteFields<'_>) -> Result<Option<Pos>, SiteError>
+    ensures { IfOk result (λ home. home ≡ site.entry.home) }
+{
+    builder.has_a_past();
+    let offset = Site::create(builder, site)?;
+    let bytes = builder.finish(offset, None)?;
+    let root: TableRef<'_, Site> = read_root(bytes)?;
+    Ok(Site::home(&root)?)
+}
