@@ -2,7 +2,8 @@
 use Rattle.std.proofs.Common.{ℕ, List, Bool, Option, Some, None}
 use Rattle.std.specs.Prelude.{Result, Ok, Err, IfOk, IfSome}
 use Rattle.planus_dump.specs.declared.schemas.Schema.{Schema}
-use Rattle.planus_dump.specs.Shapes.{HasShape, worked_tables, worked_unions}
+use Rattle.planus_dump.specs.Shapes.{HasShape}
+use Rattle.planus_demo.specs.WorkedSchemas.{worked_tables, worked_unions}
 use Rattle.planus_script.specs.DumpRuns.{WritesDump}
 use Rattle.planus_demo.specs.Programs.{DumpsRoot}
 

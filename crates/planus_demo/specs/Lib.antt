@@ -6,3 +6,4 @@ pub mod Monsters
 pub mod MonsterViews
 pub mod ModeWords
 pub mod Programs
+pub mod WorkedSchemas

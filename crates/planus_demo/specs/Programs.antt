@@ -3,7 +3,8 @@
 use Rattle.std.specs.Prelude.{◌≡◌, ℕ, List, [], ◌++◌, Bool, false, Option, Some, None, IfSome}
 use Rattle.std.specs.Prelude.{Result, Ok, Err, codes}
 use Rattle.std.specs.Io.KnownBytes.{Appends}
-use Rattle.planus_dump.specs.Shapes.{HasShape, worked_tables, worked_unions}
+use Rattle.planus_dump.specs.Shapes.{HasShape}
+use Rattle.planus_demo.specs.WorkedSchemas.{worked_tables, worked_unions}
 use Rattle.planus_dump.specs.declared.schemas.Schema.{Schema}
 use Rattle.planus_script.specs.declared.run.RunError.{RunError}
 use Rattle.planus_script.specs.declared.run.RunError.TheVariants.{OutOfMemory, Read, Write}

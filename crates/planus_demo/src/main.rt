@@ -6,6 +6,7 @@
 mod ending;
 mod equipment;
 mod equipment_ref;
+mod laws;
 mod mode;
 mod modes;
 mod monster;

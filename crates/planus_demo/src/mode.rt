@@ -2,8 +2,8 @@
 ghost use Rattle.std.specs.Prelude.{◌≡◌, ◌++◌, [], ◌∷◌, map, IfOk, OnOk};
 ghost use Rattle.std.specs.String.{string_bytes};
 ghost use Rattle.planus_dump.specs.Shapes.{field_shape, field_of, table_shape, HasShape};
-ghost use Rattle.planus_dump.specs.Shapes.{weapon_shape, monster_shape, worked_tables};
-ghost use Rattle.planus_dump.specs.Shapes.{worked_unions};
+ghost use Rattle.planus_demo.specs.WorkedSchemas.{weapon_shape, monster_shape, worked_tables};
+ghost use Rattle.planus_demo.specs.WorkedSchemas.{worked_unions};
 ghost use Rattle.planus_demo.specs.ModeWords.{IsMode};
 
 use crate::modes::Mode;

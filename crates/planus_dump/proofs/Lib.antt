@@ -7,5 +7,4 @@ mod Written
 mod Leaves
 mod NoFaults
 mod CleanDumps
-mod WorkedRows
 pub mod AsRead

@@ -2,7 +2,6 @@
 
 ghost use Rattle.std.specs.Prelude.{List, ℕ};
 ghost use Rattle.planus_dump.specs.FaultLines.{HasNoSpace};
-ghost use Rattle.planus_dump.specs.Shapes.{WorkedRowsFit};
 ghost use Rattle.planus_dump.specs.declared.schemas.Schema as schema;
 ghost use Rattle.planus_read.specs.declared.table_reader.Table as reader;
 ghost use Rattle.planus_dump.specs.AsRead.{ReadingsAreSaid, UnionsAreSaid, UnionVectorsAreSaid};
@@ -37,10 +36,4 @@ pub fn readings_are_said()
 pub fn unions_are_said()
     ensures unions { (table : reader.Table) (i : ℕ) → UnionsAreSaid table i }
     ensures vectors { (table : reader.Table) (i : ℕ) → UnionVectorsAreSaid table i }
-{}
-
-/// The schema of the worked rows fits the steps that write a weapon and a monster; that of weapons
-/// doesn't fit a weapon whose damage has 4 bytes, one whose name is a list of bytes, or that monster.
-pub fn worked_rows_fit()
-    ensures { (one : schema.Schema) → WorkedRowsFit one }
 {}

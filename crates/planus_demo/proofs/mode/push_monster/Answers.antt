@@ -1,5 +1,6 @@
 use Rattle.std.proofs.Common.{◌≡◌, map, OnOk, subst, take}
-use Rattle.planus_dump.specs.Shapes.{field_shape, monster_shape}
+use Rattle.planus_dump.specs.Shapes.{field_shape}
+use Rattle.planus_demo.specs.WorkedSchemas.{monster_shape}
 use Rattle.planus_demo.proofs.Fields.{behind, more}
 use Rattle.planus_demo.proofs.mode.push_monster.Goals as goal
 

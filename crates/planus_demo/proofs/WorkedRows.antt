@@ -9,7 +9,8 @@ use Rattle.planus.proofs.Lists.{made_of, all_unmapped}
 use Rattle.planus_dump.specs.Dumped.{greatest_depth}
 use Rattle.planus_dump.specs.Describes.{HasKind, IsTableOf, Describes, Fits, IsTagged, IsVariant}
 use Rattle.planus_dump.specs.Events.{variant_of}
-use Rattle.planus_dump.specs.Shapes.{FieldShape, field_shape, TableShape, table_shape, HasShape, weapon_shape, monster_shape, worked_tables, worked_unions, worked_steps, wide_steps, unnamed_steps, WorkedRowsFit}
+use Rattle.planus_dump.specs.Shapes.{FieldShape, field_shape, TableShape, table_shape, HasShape}
+use Rattle.planus_demo.specs.WorkedSchemas.{weapon_shape, monster_shape, worked_tables, worked_unions, worked_steps, wide_steps, unnamed_steps, WorkedRowsFit}
 use Rattle.planus_dump.specs.declared.schemas.Schema.{Schema}
 use Rattle.planus_dump.specs.declared.schemas.TableSchema.{TableSchema}
 use Rattle.planus_dump.specs.declared.schemas.Kind.TheVariants.{One}

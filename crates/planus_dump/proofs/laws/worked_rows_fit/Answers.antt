@@ -1,5 +1,0 @@
-use Rattle.planus_dump.proofs.WorkedRows.{worked_rows_fit}
-use Rattle.planus_dump.proofs.laws.worked_rows_fit.Goals as goal
-
-pub returns : goal.returns
-returns c = worked_rows_fit
