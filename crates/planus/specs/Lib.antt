@@ -1,3 +1,21 @@
+pub mod Contents
+pub mod TableFields
+pub mod TableRules
+pub mod Preparing
+pub mod Holds
+pub mod Views
+pub mod ReadBack
+pub mod ReadKinds
+pub mod ReadVectors
+pub mod ReadUnions
+pub mod ReadPlain
+pub mod Accessors
+pub mod ItemAccessors
+pub mod Roots
+pub mod Unions
+pub mod UnionAccessors
+pub mod Variants
+pub mod lemmas
 pub mod Steps
 pub mod Texts
 pub mod Slots
@@ -14,3 +32,9 @@ pub mod Replaying
 pub mod Prepared
 pub mod Filling
 pub mod Declaring
+pub use Rattle.planus_back.specs as back
+pub use Rattle.planus_read.specs as read
+pub use Rattle.planus_view.specs as view
+pub use Rattle.planus_unions.specs as unions
+pub use Rattle.planus_write.specs as write
+pub use Rattle.planus_fields.specs as fields

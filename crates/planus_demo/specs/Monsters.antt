@@ -8,9 +8,9 @@ use Rattle.planus_write.specs.declared.offset.Offset.{Offset}
 use Rattle.planus_write.specs.declared.union_offset.UnionOffset.{UnionOffset}
 use Rattle.planus_write.specs.declared.union_vector_offset.UnionVectorOffset.{UnionVectorOffset}
 use Rattle.planus_write.specs.Contents.{Content}
-use Rattle.planus_tables.specs.Contents.{tag_content, tags_content, value_content, values_content}
-use Rattle.planus_tables.specs.Preparing.{WritesFields}
-use Rattle.planus_tables.specs.TableFields.{field_in, list_tags_in, list_values_in, union_tag_in, union_value_in}
+use Rattle.planus.specs.Contents.{tag_content, tags_content, value_content, values_content}
+use Rattle.planus.specs.Preparing.{WritesFields}
+use Rattle.planus.specs.TableFields.{field_in, list_tags_in, list_values_in, union_tag_in, union_value_in}
 
 -- A monster was written, or refused: its fields are prepared in the order of their slots, the hit
 -- points first, and then its table is written, with the fields of these that are there: first the

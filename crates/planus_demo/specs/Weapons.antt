@@ -4,8 +4,8 @@ use Rattle.planus_read.specs.Values.{Field}
 use Rattle.planus_write.specs.Placing.{Outcome, then_does}
 use Rattle.planus_write.specs.Preparing.{Answers}
 use Rattle.planus_write.specs.declared.offset.Offset.{Offset}
-use Rattle.planus_tables.specs.Preparing.{WritesFields}
-use Rattle.planus_tables.specs.TableFields.{field_in}
+use Rattle.planus.specs.Preparing.{WritesFields}
+use Rattle.planus.specs.TableFields.{field_in}
 
 -- A weapon was written, or refused: its name is prepared, then its damage, and then its table is
 -- written, with the fields of these that are there, in this order.

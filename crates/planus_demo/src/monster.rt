@@ -18,7 +18,7 @@ ghost use Rattle.planus_read.specs.Reading.{vector_reading, union_vector_reading
 ghost use Rattle.planus_read.specs.Tables.{FieldAnswer, UnionAnswer, UnionVectorAnswer};
 ghost use Rattle.planus_read.specs.Tables.{table_start};
 ghost use Rattle.planus_write.specs.State.{Grows};
-ghost use Rattle.planus_tables.specs.Contents.{WritesContents};
+ghost use Rattle.planus.specs.Contents.{WritesContents};
 ghost use Rattle.planus_view.specs.VectorView.{ShowsVector};
 ghost use Rattle.planus_view.specs.UnionVectorView.{ShowsUnionVector};
 ghost use Rattle.planus_demo.specs.Equipments.{ReadsEquipment};

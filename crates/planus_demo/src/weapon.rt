@@ -12,7 +12,7 @@ ghost use Rattle.planus_read.specs.Pieces.{ShowsBytes};
 ghost use Rattle.planus_read.specs.Reading.{text_reading, signed_reading, table_reading};
 ghost use Rattle.planus_read.specs.Tables.{FieldAnswer, table_start};
 ghost use Rattle.planus_write.specs.State.{Grows};
-ghost use Rattle.planus_tables.specs.Contents.{WritesContents};
+ghost use Rattle.planus.specs.Contents.{WritesContents};
 ghost use Rattle.planus_demo.specs.Weapons.{WritesWeapon};
 ghost use Rattle.planus_demo.specs.WeaponViews.{weapon_table, ShowsWeapon};
 

@@ -58,43 +58,6 @@ pub trait PlainTotal: Plain + Stride<Stands = Self> {
         → FirstBroken ((Self.shape).clauses S f) e → ⊥ };
 }
 
-/// Writes the fields of a struct over its bytes, in the body of [`Plain::put`]: each by its name and
-/// its size in bytes, and `_` with a number of bytes that are zero where there is padding.
-///
-/// ```text
-/// put_fields!(self, bytes; lat: 4, lon: 4, alt: 2, _: 2);
-/// ```
-#[macro_export]
-macro_rules! put_fields {
-    ($value:ident, $bytes:ident; $(,)?) => {};
-    ($value:ident, $bytes:ident; _: $size:literal $(, $($rest:tt)*)?) => {
-        let (zeros, $bytes) = $bytes.split_at_mut($size);
-        zeros.copy_from_slice(&[0; $size]);
-        $crate::put_fields!($value, $bytes; $($($rest)*)?)
-    };
-    ($value:ident, $bytes:ident; $field:ident: $size:literal $(, $($rest:tt)*)?) => {
-        let (field, $bytes) = $bytes.split_at_mut($size);
-        $crate::Plain::put(&$value.$field, field);
-        $crate::put_fields!($value, $bytes; $($($rest)*)?)
-    };
-}
-
-/// Returns a struct that is read field by field, in the body of [`Plain::read`]: the first field by
-/// its name, and each other one with its offset in bytes from the first.
-///
-/// ```text
-/// read_fields!(Pos, buffer, offset; lat, lon: 4, alt: 8)
-/// ```
-#[macro_export]
-macro_rules! read_fields {
-    ($name:ident, $buffer:ident, $offset:ident; $first:ident $(, $field:ident: $at:literal)* $(,)?) => {
-        Ok($name {
-            $first: $crate::Plain::read($buffer, $offset)?,
-            $($field: $crate::Plain::read($buffer, $offset + $at)?,)*
-        })
-    };
-}
-
 impl<'buf, T: Plain> TableRead<'buf> for T {
     ghost reads = { λ S start f r. Answer (plain_reading T.shape S f) r };
 

@@ -134,8 +134,9 @@ pub trait ReadError {
     type Error;
 }
 
-/// What can be read as an item of a vector, and may fail. An item `&str` has the errors of a field
-/// `&str`, at the start of the piece under the names `[str]` and `get`.
+/// What can be read as an item of a vector, and may fail. An item has the errors of a field of its
+/// type, at the start of the piece: a `&str` under the names `[str]` and `get`, a value of a fixed
+/// layout under `[plain]` and `get`.
 pub trait VectorReadInner<'buf>: Stride + ReadError {
     /// What may be returned for a piece with these bytes and this start at this offset.
     ghost gives: { List ℕ → ℕ → ℕ → std_result Self Self.Error → Type 0 };

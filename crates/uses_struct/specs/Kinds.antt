@@ -1,8 +1,8 @@
 -- The numbers of the kinds.
 use Rattle.std.specs.Prelude.{nat_eq, [], ◌∷◌}
 use Rattle.std.proofs.Common.{refl}
-use Rattle.planus_read.specs.Enums.{Numbered, u8_enum}
-use Rattle.planus_read.specs.Plain.{Shape}
+use Rattle.planus.specs.read.Enums.{Numbered, u8_enum}
+use Rattle.planus.specs.read.Plain.{Shape}
 use Rattle.uses_struct.specs.declared.kind.Kind.{Kind}
 use Rattle.uses_struct.specs.declared.kind.Kind.TheVariants.{Car, Bike, Ship}
 

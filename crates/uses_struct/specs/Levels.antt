@@ -2,8 +2,8 @@
 use Rattle.std.specs.Prelude.{pos, negsuc, [], ◌∷◌}
 use Rattle.std.specs.Ordering.{int_eq}
 use Rattle.std.proofs.Common.{refl}
-use Rattle.planus_read.specs.Enums.{Numbered, i16_enum}
-use Rattle.planus_read.specs.Plain.{Shape}
+use Rattle.planus.specs.read.Enums.{Numbered, i16_enum}
+use Rattle.planus.specs.read.Plain.{Shape}
 use Rattle.uses_struct.specs.declared.level.Level.{Level}
 use Rattle.uses_struct.specs.declared.level.Level.TheVariants.{Low, Mid, High}
 

@@ -1,11 +1,11 @@
 -- What a site holds.
 use Rattle.std.specs.Prelude.{◌≡◌, ℕ, Bool, List, [], ◌∷◌, Option, Result}
-use Rattle.planus_read.specs.declared.located.Error.{Error}
-use Rattle.planus_read.specs.Enums.{known_or}
-use Rattle.planus_read.specs.Shapes.{f32_shape}
-use Rattle.planus_write.specs.Contents.{Content}
-use Rattle.planus_fields.specs.Contents.{holds_if, unless}
-use Rattle.planus_tables.specs.Holds.{holds_plain, holds_plains}
+use Rattle.planus.specs.read.declared.located.Error.{Error}
+use Rattle.planus.specs.read.Enums.{known_or}
+use Rattle.planus.specs.read.Shapes.{f32_shape}
+use Rattle.planus.specs.write.Contents.{Content}
+use Rattle.planus.specs.fields.Contents.{holds_if, unless}
+use Rattle.planus.specs.Holds.{holds_plain, holds_plains}
 use Rattle.uses_struct.specs.Structs.{pos_shape, fix_shape, leg_shape, features_shape}
 use Rattle.uses_struct.specs.Kinds.{kind_shape}
 use Rattle.uses_struct.specs.declared.kind.Kind.{Kind}

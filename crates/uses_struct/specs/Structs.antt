@@ -1,10 +1,10 @@
 -- The fields of structs.
 use Rattle.std.proofs.Common.{refl, lit≤, lit<}
-use Rattle.planus_read.specs.Plain.{Shape}
-use Rattle.planus_read.specs.Shapes.{u8_shape, u16_shape, u32_shape, u64_shape}
-use Rattle.planus_read.specs.Shapes.{i8_shape, i16_shape, i32_shape, i64_shape}
-use Rattle.planus_read.specs.Shapes.{bool_shape, f32_shape, f64_shape}
-use Rattle.planus_read.specs.Structs.{field, force_align, no_more, struct_layout, struct_shape}
+use Rattle.planus.specs.read.Plain.{Shape}
+use Rattle.planus.specs.read.Shapes.{u8_shape, u16_shape, u32_shape, u64_shape}
+use Rattle.planus.specs.read.Shapes.{i8_shape, i16_shape, i32_shape, i64_shape}
+use Rattle.planus.specs.read.Shapes.{bool_shape, f32_shape, f64_shape}
+use Rattle.planus.specs.read.Structs.{field, force_align, no_more, struct_layout, struct_shape}
 use Rattle.uses_struct.specs.Kinds.{kind_shape}
 use Rattle.uses_struct.specs.Levels.{level_shape}
 use Rattle.uses_struct.specs.declared.reading.Reading.{Reading}

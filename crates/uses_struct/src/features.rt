@@ -2,9 +2,8 @@
 ghost use Rattle.std.specs.Prelude.{◌≡◌, ◌==◌, bit_and, bit_or};
 ghost use Rattle.uses_struct.specs.Structs.{features_shape};
 
-use planus_fields::PlainField;
-use planus_read::errors::ErrorKind;
-use planus_read::{Plain, SliceWithStartOffset, put_fields, read_fields};
+use planus::errors::ErrorKind;
+use planus::{Plain, PlainField, SliceWithStartOffset, put_fields, read_fields};
 
 /// What a site has: any of these, each by a bit of its own. Bits that have no name are kept.
 #[derive(Clone, Copy, Debug, PartialEq)]

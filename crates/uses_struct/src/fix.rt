@@ -4,9 +4,8 @@ ghost use Rattle.uses_struct.specs.Structs.{fix_shape};
 
 use crate::kind::Kind;
 use crate::pos::Pos;
-use planus_fields::PlainField;
-use planus_read::errors::ErrorKind;
-use planus_read::{Plain, SliceWithStartOffset, Stride, put_fields, read_fields};
+use planus::errors::ErrorKind;
+use planus::{Plain, PlainField, SliceWithStartOffset, Stride, put_fields, read_fields};
 
 /// When something was where.
 #[derive(Clone, Copy, Debug, PartialEq)]

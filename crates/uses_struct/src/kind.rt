@@ -1,9 +1,8 @@
 //! What a site is, of the schema `enum Kind : uint8 { Car = 0, Bike = 1, Ship = 2 }`.
 ghost use Rattle.uses_struct.specs.Kinds.{kind_shape};
 
-use planus_fields::PlainField;
-use planus_read::errors::ErrorKind;
-use planus_read::{Plain, SliceWithStartOffset, Stride, read_variant};
+use planus::errors::ErrorKind;
+use planus::{Plain, PlainField, SliceWithStartOffset, Stride, read_variant};
 
 /// What a site is.
 #[derive(Clone, Copy, Debug, PartialEq)]

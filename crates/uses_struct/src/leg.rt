@@ -2,9 +2,8 @@
 ghost use Rattle.uses_struct.specs.Structs.{leg_shape};
 
 use crate::fix::Fix;
-use planus_fields::PlainField;
-use planus_read::errors::ErrorKind;
-use planus_read::{Plain, SliceWithStartOffset, put_fields, read_fields};
+use planus::errors::ErrorKind;
+use planus::{Plain, PlainField, SliceWithStartOffset, put_fields, read_fields};
 
 /// From where to where something went.
 #[derive(Clone, Copy, Debug, PartialEq)]

@@ -1,9 +1,8 @@
 //! How high something is, of the schema `enum Level : int16 { Low = -300, Mid = 0, High = 300 }`.
 ghost use Rattle.uses_struct.specs.Levels.{level_shape};
 
-use planus_fields::PlainField;
-use planus_read::errors::ErrorKind;
-use planus_read::{Plain, SliceWithStartOffset, read_variant};
+use planus::errors::ErrorKind;
+use planus::{Plain, PlainField, SliceWithStartOffset, read_variant};
 
 /// How high something is.
 #[derive(Clone, Copy, Debug, PartialEq)]

@@ -1,9 +1,10 @@
 //! Where something is, of the schema `struct Pos { lat: int32; lon: int32; alt: int16; }`.
 ghost use Rattle.uses_struct.specs.Structs.{pos_shape};
 
-use planus_fields::PlainField;
-use planus_read::errors::ErrorKind;
-use planus_read::{Plain, PlainTotal, SliceWithStartOffset, Stride, put_fields, read_fields};
+use planus::errors::ErrorKind;
+use planus::{
+    Plain, PlainField, PlainTotal, SliceWithStartOffset, Stride, put_fields, read_fields,
+};
 
 /// Where something is.
 #[derive(Clone, Copy, Debug, PartialEq)]

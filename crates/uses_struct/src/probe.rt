@@ -5,12 +5,12 @@
 //! ```
 
 ghost use Rattle.std.specs.Prelude.{◌≡◌, ◌≤◌, [], ◌∷◌, length, codes, IfOk};
-ghost use Rattle.planus_write.specs.State.{Grows};
-ghost use Rattle.planus_fields.specs.Contents.{holds_if, unless};
-ghost use Rattle.planus_tables.specs.Contents.{WritesContents};
-ghost use Rattle.planus_tables.specs.Holds.{holds_plain, holds_plains};
-ghost use Rattle.planus_tables.specs.Accessors.{IsPlainVector};
-ghost use Rattle.planus_tables.specs.ReadPlain.{IsPlainField, IsPlainFieldOr};
+ghost use Rattle.planus.specs.write.State.{Grows};
+ghost use Rattle.planus.specs.fields.Contents.{holds_if, unless};
+ghost use Rattle.planus.specs.Contents.{WritesContents};
+ghost use Rattle.planus.specs.Holds.{holds_plain, holds_plains};
+ghost use Rattle.planus.specs.Accessors.{IsPlainVector};
+ghost use Rattle.planus.specs.ReadPlain.{IsPlainField, IsPlainFieldOr};
 ghost use Rattle.uses_struct.specs.Levels.{level_shape};
 ghost use Rattle.uses_struct.specs.Structs.{fix_shape, reading_shape};
 ghost use Rattle.uses_struct.specs.declared.level.Level.TheVariants.{Mid};
@@ -18,12 +18,10 @@ ghost use Rattle.uses_struct.specs.declared.level.Level.TheVariants.{Mid};
 use crate::fix::Fix;
 use crate::level::Level;
 use crate::reading::Reading;
-use planus_read::Result;
-use planus_tables::{
-    OrDefault, TableKind, TableRef, create_table, fields, plain_field, plain_field_or, plain_vector,
+use planus::{
+    BuildError, Builder, List, Offset, OrDefault, Result, TableKind, TableRef, TableWriter, Vector,
+    create_table, fields, plain_field, plain_field_or, plain_vector,
 };
-use planus_view::Vector;
-use planus_write::{BuildError, Builder, List, Offset, TableWriter};
 
 /// The kind of an offset to a probe.
 pub struct Probe;

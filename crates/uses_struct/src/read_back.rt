@@ -3,9 +3,7 @@ ghost use Rattle.std.specs.Prelude.{◌≡◌, IfOk};
 
 use crate::pos::Pos;
 use crate::site::{Site, SiteFields};
-use planus_read::Error;
-use planus_tables::{TableRef, read_root};
-use planus_write::{BuildError, Builder};
+use planus::{BuildError, Builder, Error, TableRef, read_root};
 
 /// Why a site can't be written, or not be read.
 #[derive(Clone, Copy, Debug)]

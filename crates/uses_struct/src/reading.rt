@@ -7,9 +7,8 @@
 ghost use Rattle.uses_struct.specs.Structs.{reading_shape};
 
 use crate::level::Level;
-use planus_fields::PlainField;
-use planus_read::errors::ErrorKind;
-use planus_read::{Plain, SliceWithStartOffset, Stride, put_fields, read_fields};
+use planus::errors::ErrorKind;
+use planus::{Plain, PlainField, SliceWithStartOffset, Stride, put_fields, read_fields};
 
 /// What an instrument shows.
 #[derive(Clone, Copy, Debug, PartialEq)]

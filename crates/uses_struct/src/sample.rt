@@ -2,20 +2,18 @@
 
 ghost use Rattle.std.specs.Prelude.{◌≡◌, ◌≤◌, [], ◌∷◌, length, codes, IfOk};
 ghost use lib.Ieee.{eq as equal_floats};
-ghost use Rattle.planus_read.specs.Shapes.{f32_shape, f64_shape};
-ghost use Rattle.planus_write.specs.State.{Grows};
-ghost use Rattle.planus_fields.specs.Contents.{unless};
-ghost use Rattle.planus_tables.specs.Contents.{WritesContents};
-ghost use Rattle.planus_tables.specs.Holds.{holds_plain, holds_plains};
-ghost use Rattle.planus_tables.specs.Accessors.{IsPlainVector};
-ghost use Rattle.planus_tables.specs.ReadPlain.{IsPlainFieldOr};
+ghost use Rattle.planus.specs.read.Shapes.{f32_shape, f64_shape};
+ghost use Rattle.planus.specs.write.State.{Grows};
+ghost use Rattle.planus.specs.fields.Contents.{unless};
+ghost use Rattle.planus.specs.Contents.{WritesContents};
+ghost use Rattle.planus.specs.Holds.{holds_plain, holds_plains};
+ghost use Rattle.planus.specs.Accessors.{IsPlainVector};
+ghost use Rattle.planus.specs.ReadPlain.{IsPlainFieldOr};
 
-use planus_read::Result;
-use planus_tables::{
-    OrDefault, TableKind, TableRef, create_table, fields, plain_field_or, plain_vector,
+use planus::{
+    BuildError, Builder, List, Offset, OrDefault, Result, TableKind, TableRef, TableWriter, Vector,
+    create_table, fields, plain_field_or, plain_vector,
 };
-use planus_view::Vector;
-use planus_write::{BuildError, Builder, List, Offset, TableWriter};
 
 /// The kind of an offset to a sample.
 pub struct Sample;

@@ -7,11 +7,11 @@
 
 ghost use Rattle.std.specs.Prelude.{◌≡◌, ◌≤◌, length, codes, IfOk, Some, slice_get, ℕ};
 ghost use Rattle.std.specs.Prelude.{List as list};
-ghost use Rattle.planus_read.specs.Shapes.{f32_shape};
-ghost use Rattle.planus_write.specs.State.{Grows};
-ghost use Rattle.planus_tables.specs.Contents.{WritesContents};
-ghost use Rattle.planus_tables.specs.Accessors.{IsPlainVector};
-ghost use Rattle.planus_tables.specs.ReadPlain.{ArePlain, IsPlainField, IsPlainFieldOr};
+ghost use Rattle.planus.specs.read.Shapes.{f32_shape};
+ghost use Rattle.planus.specs.write.State.{Grows};
+ghost use Rattle.planus.specs.Contents.{WritesContents};
+ghost use Rattle.planus.specs.Accessors.{IsPlainVector};
+ghost use Rattle.planus.specs.ReadPlain.{ArePlain, IsPlainField, IsPlainFieldOr};
 ghost use Rattle.uses_struct.specs.Structs.{pos_shape, fix_shape, leg_shape, features_shape};
 ghost use Rattle.uses_struct.specs.Kinds.{kind_shape};
 ghost use Rattle.uses_struct.specs.Sites.{site_contents, IsKnownOr};
@@ -23,13 +23,10 @@ use crate::fix::Fix;
 use crate::kind::Kind;
 use crate::leg::Leg;
 use crate::pos::Pos;
-use planus_read::{Result, known_or};
-use planus_tables::{
-    OrDefault, TableKind, TableRef, create_table, fields, plain_field, plain_field_or, plain_item,
-    plain_vector,
+use planus::{
+    BuildError, Builder, List, Offset, OrDefault, Result, TableKind, TableRef, TableWriter, Vector,
+    create_table, fields, known_or, plain_field, plain_field_or, plain_item, plain_vector,
 };
-use planus_view::Vector;
-use planus_write::{BuildError, Builder, List, Offset, TableWriter};
 
 /// The kind of an offset to a site.
 pub struct Site;

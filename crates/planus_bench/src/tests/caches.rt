@@ -5,7 +5,7 @@ use super::settings::Switches;
 use super::tables::{ONE_VTABLE, TWO_VTABLES, put};
 use crate::tests::check;
 use planus::{BuildError, Builder, ByteList, Caches, FieldValue, Step, replay};
-use planus_exhaust::{exhaust, holds_or_says};
+use planus_testing::{exhaust, holds_or_says};
 use std::alloc::{AllocError, Global};
 use std::test::Fail;
 

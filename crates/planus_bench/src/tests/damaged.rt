@@ -5,9 +5,9 @@ use super::agreement::same_number;
 use super::found::{lists_agree, tables_agree};
 use super::plain_reader::{head, number, signed, unsigned};
 use planus::{SliceWithStartOffset, TableRead};
-use planus_exhaust::exhaust;
 use planus_read::array_from_buffer;
 use planus_read::errors::ErrorKind;
+use planus_testing::exhaust;
 use std::alloc::{AllocError, Global};
 use std::test::Fail;
 

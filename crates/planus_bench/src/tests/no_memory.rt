@@ -7,7 +7,7 @@ use super::settings::Switches;
 use crate::tests::check;
 use planus::{BuildError, Builder, Caches, Offset, ReplayError, Step, Text, replay};
 use planus_back::{ByteVec, Cache};
-use planus_exhaust::{exhaust, holds_or_says};
+use planus_testing::{exhaust, holds_or_says};
 use std::alloc::{AllocError, Global};
 use std::test::Fail;
 

@@ -10,7 +10,7 @@ use super::refused_copies::{
 use super::runs::weapon;
 use super::{check, new_builder};
 use planus::{BuildError, Builder, Step};
-use planus_exhaust::{exhaust_all_but, holds_or_says};
+use planus_testing::{exhaust_all_but, holds_or_says};
 use std::alloc::{AllocError, Global};
 use std::test::Fail;
 

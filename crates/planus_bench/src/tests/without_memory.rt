@@ -15,8 +15,8 @@ use planus::{
     check_version_compatibility,
 };
 use planus_back::{BackVec, ByteVec, Cache, GetCacheKey, Promises, TooLarge, VTable, laws};
-use planus_exhaust::{exhaust, holds_or_says};
 use planus_read::errors::ErrorKind;
+use planus_testing::{exhaust, holds_or_says};
 use std::alloc::{AllocError, Global};
 use std::test::Fail;
 

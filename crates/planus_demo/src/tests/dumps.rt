@@ -6,8 +6,8 @@ use super::no_memory::gives_without_memory;
 use crate::mode::{field, schema};
 use crate::tests::check;
 use planus_dump::{FieldSchema, Item, Kind, Schema, TableSchema};
-use planus_exhaust::holds_or_says;
 use planus_script::run::RunError;
+use planus_testing::holds_or_says;
 use std::alloc::{AllocError, Global};
 use std::test::Fail;
 

@@ -8,8 +8,8 @@ use crate::tests::check;
 use crate::weapon::WeaponRef;
 use planus::{BuildError, Builder, ReadAsRoot};
 use planus_dump::Schema;
-use planus_exhaust::{exhaust, exhaust_all_but, holds_or_says};
 use planus_script::run::{RunError, status};
+use planus_testing::{exhaust, exhaust_all_but, holds_or_says};
 use std::alloc::{AllocError, Global};
 use std::test::Fail;
 

@@ -1,0 +1,15 @@
+use Rattle.std.proofs.Common.{[], ◌++◌, subst, ap, ◌∙◌}
+use Rattle.std.specs.Prelude.{IfOk}
+use Rattle.std.proofs.lemmas.List.{append-nil}
+use Rattle.planus.specs.Contents.{WritesContents}
+use Rattle.planus.proofs.FieldSteps.{if_ok}
+use Rattle.planus.proofs.tables.create.create_table.Goals as goal
+
+pub returns-clause-kept : goal.returns-clause-kept
+returns-clause-kept g c =
+    let some = g.F.Fields.contents c.args.fields in
+    let last = g.F.Fields.last_contents c.args.fields in
+    subst (λ contents. IfOk c.write.result
+    (λ offset. WritesContents contents c.args.builder.now offset.distance c.write.new.builder))
+    (ap (λ all. all ++ (last ++ [])) (append-nil some) ∙ ap (λ all. some ++ all) (append-nil last))
+    (if_ok c.write.result (λ offset writes past is_past. writes past [] [] is_past tt tt) c.write.ensures.kept)

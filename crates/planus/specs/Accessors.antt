@@ -1,0 +1,201 @@
+-- What accessors return: over any bytes what stands there, or the error of the first thing that is
+-- wrong; and of a slot that was written what it holds.
+use Rattle.std.specs.Prelude.{◌≡◌, ℕ, List, map, Option, Some, None, Result, Ok, IsOkAnd, IsSomeAnd}
+use Rattle.std.specs.Prelude.{MatchOption, ⊤}
+use Rattle.std.specs.Borrow.{Bor}
+use Rattle.std.specs.Str.{IsUtf8}
+use Rattle.planus_read.specs.declared.located.Error.{Error}
+use Rattle.planus_read.specs.declared.plain.Plain.{Ghosts as PlainGhosts}
+use Rattle.planus_read.specs.declared.table_reader.Table.{Table}
+use Rattle.planus_read.specs.Located.{Located, Required, IsMissing}
+use Rattle.planus_read.specs.Plain.{Shape}
+use Rattle.planus_read.specs.Tables.{Reads, FieldAnswer, table_start}
+use Rattle.planus_read.specs.Values.{text, byte_list, plain_list, reference_list}
+use Rattle.planus_view.specs.declared.vector.SliceView.{SliceView}
+use Rattle.planus_view.specs.declared.vector_of.VectorOf.{VectorOf}
+use Rattle.planus_write.specs.Contents.{Content, value, values, written}
+use Rattle.planus_write.specs.declared.byte_lists.ByteList.{ByteList}
+use Rattle.planus_write.specs.declared.offset.Offset.{Offset}
+use Rattle.planus_fields.specs.Contents.{holds_if}
+use Rattle.planus.specs.ReadBack.{SlotHolds, TableStands, TableHolds}
+use Rattle.planus.specs.ReadKinds.{reads_text, reads_bytes}
+use Rattle.planus.specs.ReadPlain.{reads_plain, plain_content, ArePlain}
+use Rattle.planus.specs.ReadVectors.{reads_vector, ItemsAreTexts, ItemsAreTables}
+use Rattle.planus.specs.Views.{reads_as}
+
+-- A kind of fields: how one is read, what it may hold, and what is read of that. Where it may be
+-- absent, what it is given is a G, of which it holds a part.
+pub record FieldKind (X G T : Type 0) : Type 1 where
+  pub reads : Reads T
+  pub May : List ℕ → X → Type 0
+  pub content : X → Content
+  pub part : G → X
+  pub IsRead : List ℕ → X → T → Type 0
+
+-- nothing was found where nothing was given, else what was found is this of what was given
+abbrev pub SameIf : {G T : Type 0} → (G → T → Type 0) → Option G → Option T → Type 0
+SameIf IsRead None found = found ≡ None
+SameIf IsRead (Some given) found = IsSomeAnd found (IsRead given)
+
+module _ {X G T : Type 0} (kind : FieldKind X G T) (table : Table) (slot : ℕ) (type_ method : List ℕ)
+  where
+    -- What a call returns for the field in a slot that may be absent. The names are those of an error's
+    -- location.
+    pub record IsField (r : Result (Option T) Error) : Type 0 where
+      pub answer : Located (FieldAnswer kind.reads table slot) type_ method (table_start table) r
+      pub read_back :
+          (B : List ℕ) (x : X) → SlotHolds B table slot (Some (kind.content x)) → kind.May B x
+          → IsOkAnd r (λ found. IsSomeAnd found (kind.IsRead B x))
+      pub left_out : (B : List ℕ) → SlotHolds B table slot None → r ≡ Ok None
+      pub read_back_if :
+          (B : List ℕ) (given : Option G)
+          → SlotHolds B table slot (holds_if (λ g. Some (kind.content (kind.part g))) given)
+          → MatchOption given ⊤ (λ g. kind.May B (kind.part g))
+          → IsOkAnd r (SameIf (λ g. kind.IsRead B (kind.part g)) given)
+
+    -- The same of one that must be there.
+    pub record IsRequired (r : Result T Error) : Type 0 where
+      pub answer :
+          Located (Required (FieldAnswer kind.reads table slot)) type_ method (table_start table) r
+      pub read_back :
+          (B : List ℕ) (x : X) → SlotHolds B table slot (Some (kind.content x)) → kind.May B x
+          → IsOkAnd r (kind.IsRead B x)
+      pub missing :
+          (B : List ℕ) → SlotHolds B table slot None → IsMissing type_ method (table_start table) r
+
+-- a value of a fixed layout
+abbrev pub plain_kind :
+    {T : Type 0} {size alignment : ℕ} → Shape T size alignment → FieldKind T T T
+plain_kind shape = record {
+  reads = reads_plain shape;
+  May = λ B x. shape.fits x;
+  content = plain_content shape;
+  part = λ x. x;
+  IsRead = λ B x found. found ≡ x;
+}
+
+abbrev pub IsPlainRequired :
+    {T : Type 0} {size alignment : ℕ} → Shape T size alignment → Table → ℕ → List ℕ → List ℕ
+    → Result T Error → Type 0
+IsPlainRequired shape = IsRequired (plain_kind shape)
+
+-- a text, which is read where it is UTF-8
+abbrev pub text_kind : FieldKind (List ℕ) (Bor (List ℕ)) (Bor (List ℕ))
+text_kind = record {
+  reads = reads_text;
+  May = λ B bytes. IsUtf8 bytes;
+  content = λ bytes. value (text bytes);
+  part = λ given. given.now;
+  IsRead = λ B bytes found. found.now ≡ bytes;
+}
+
+abbrev pub IsTextField : Table → ℕ → List ℕ → List ℕ → Result (Option (Bor (List ℕ))) Error → Type 0
+IsTextField = IsField text_kind
+
+abbrev pub IsTextRequired : Table → ℕ → List ℕ → List ℕ → Result (Bor (List ℕ)) Error → Type 0
+IsTextRequired = IsRequired text_kind
+
+-- a byte list
+abbrev pub bytes_kind : FieldKind (List ℕ) ByteList (Bor (List ℕ))
+bytes_kind = record {
+  reads = reads_bytes;
+  May = λ B bytes. ⊤;
+  content = λ bytes. value (byte_list bytes);
+  part = λ given. given.0.now;
+  IsRead = λ B bytes found. found.now ≡ bytes;
+}
+
+abbrev pub IsBytesField : Table → ℕ → List ℕ → List ℕ → Result (Option (Bor (List ℕ))) Error → Type 0
+IsBytesField = IsField bytes_kind
+
+abbrev pub IsBytesRequired : Table → ℕ → List ℕ → List ℕ → Result (Bor (List ℕ)) Error → Type 0
+IsBytesRequired = IsRequired bytes_kind
+
+-- T is the type of the items of a vector, and R that of what stands for them.
+module _ {T R : Type 0} {kind : PlainGhosts R} where
+  -- a list of values of a fixed layout, which is read as the vector of these
+  abbrev pub plains_kind : FieldKind (List R) (Bor (List R)) (VectorOf (SliceView T R kind))
+  plains_kind = record {
+    reads = reads_vector T kind;
+    May = λ B xs. ⊤;
+    content = λ xs. value (plain_list kind.SIZE kind.ALIGNMENT (map kind.shape.encoded xs));
+    part = λ given. given.now;
+    IsRead = λ B xs vector. ArePlain B xs vector;
+  }
+
+  abbrev pub IsPlainVector :
+      Table → ℕ → List ℕ → List ℕ → Result (Option (VectorOf (SliceView T R kind))) Error → Type 0
+  IsPlainVector = IsField plains_kind
+
+  abbrev pub IsPlainVectorRequired :
+      Table → ℕ → List ℕ → List ℕ → Result (VectorOf (SliceView T R kind)) Error → Type 0
+  IsPlainVectorRequired = IsRequired plains_kind
+
+  -- a list of texts
+  abbrev pub texts_kind :
+      FieldKind (List (Bor (List ℕ))) (Bor (List (Bor (List ℕ)))) (VectorOf (SliceView T R kind))
+  texts_kind = record {
+    reads = reads_vector T kind;
+    May = λ B texts. ⊤;
+    content = λ texts. values (map (λ one. text one.now) texts);
+    part = λ given. given.now;
+    IsRead = λ B texts vector. ItemsAreTexts kind (map (λ one. one.now) texts) vector;
+  }
+
+  abbrev pub IsTextVector :
+      Table → ℕ → List ℕ → List ℕ → Result (Option (VectorOf (SliceView T R kind))) Error → Type 0
+  IsTextVector = IsField texts_kind
+
+  abbrev pub IsTextVectorRequired :
+      Table → ℕ → List ℕ → List ℕ → Result (VectorOf (SliceView T R kind)) Error → Type 0
+  IsTextVectorRequired = IsRequired texts_kind
+
+  -- a list of tables of kind K, which were written before
+  abbrev pub tables_kind :
+      (K : Type 0) → FieldKind (List (Offset K)) (Bor (List (Offset K))) (VectorOf (SliceView T R kind))
+  tables_kind K = record {
+    reads = reads_vector T kind;
+    May = λ B offsets. ⊤;
+    content = λ offsets. value (reference_list (map (λ offset. offset.distance) offsets));
+    part = λ given. given.now;
+    IsRead = λ B offsets vector.
+        ItemsAreTables kind K B (map (λ offset. offset.distance) offsets) vector;
+  }
+
+  abbrev pub IsTableVector :
+      Type 0 → Table → ℕ → List ℕ → List ℕ → Result (Option (VectorOf (SliceView T R kind))) Error
+      → Type 0
+  IsTableVector K = IsField (tables_kind K)
+
+  abbrev pub IsTableVectorRequired :
+      Type 0 → Table → ℕ → List ℕ → List ℕ → Result (VectorOf (SliceView T R kind)) Error → Type 0
+  IsTableVectorRequired K = IsRequired (tables_kind K)
+
+-- a table with some contents stands in B at the distance
+abbrev pub TableIsThere : List ℕ → ℕ → Type 0
+TableIsThere B distance = (contents : List (ℕ × Option Content)) × TableStands B contents distance
+
+-- T is the type of a view, whose table is given: it is that of the table at the distance, with all
+-- its contents.
+abbrev pub IsViewOf : {T : Type 0} → (T → Table) → List ℕ → ℕ → T → Type 0
+IsViewOf table_of B distance view =
+    (contents : List (ℕ × Option Content)) → TableStands B contents distance
+    → TableHolds B contents (table_of view)
+
+-- a table of kind K that was written before
+abbrev pub table_kind : {T : Type 0} → (K : Type 0) → (T → Table) → FieldKind ℕ (Offset K) T
+table_kind K table_of = record {
+  reads = reads_as table_of;
+  May = TableIsThere;
+  content = written;
+  part = λ offset. offset.distance;
+  IsRead = IsViewOf table_of;
+}
+
+abbrev pub IsTableField : {T : Type 0} → (K : Type 0) → (T → Table) → Table → ℕ → List ℕ → List ℕ
+    → Result (Option T) Error → Type 0
+IsTableField K table_of = IsField (table_kind K table_of)
+
+abbrev pub IsTableRequired : {T : Type 0} → (K : Type 0) → (T → Table) → Table → ℕ → List ℕ → List ℕ
+    → Result T Error → Type 0
+IsTableRequired K table_of = IsRequired (table_kind K table_of)

@@ -1,0 +1,58 @@
+-- What is returned for the items of vectors.
+use Rattle.std.specs.Prelude.{◌≡◌, ℕ, ◌*◌, List, Option, Some, Result, IsOkAnd, IsSomeAnd, slice_get}
+use Rattle.std.specs.Borrow.{Bor}
+use Rattle.std.specs.Str.{IsUtf8}
+use Rattle.planus_read.specs.declared.located.Error.{Error}
+use Rattle.planus_read.specs.declared.plain.Plain.{Ghosts as PlainGhosts}
+use Rattle.planus_read.specs.declared.table_reader.Table.{Table}
+use Rattle.planus_read.specs.Converted.{Converted}
+use Rattle.planus_read.specs.Items.{item_method, texts_name}
+use Rattle.planus_read.specs.Located.{Located}
+use Rattle.planus_read.specs.Tables.{Reads}
+use Rattle.planus_view.specs.Indexes.{GetsItem}
+use Rattle.planus_view.specs.VectorView.{count_of, view_of}
+use Rattle.planus_view.specs.declared.vector.SliceView.{SliceView}
+use Rattle.planus_view.specs.declared.vector_of.VectorOf.{VectorOf}
+use Rattle.planus.specs.Accessors.{TableIsThere, IsViewOf}
+use Rattle.planus.specs.ReadKinds.{reads_text, reads_view}
+use Rattle.planus.specs.ReadVectors.{ItemsAreTexts, ItemsAreTables}
+use Rattle.planus.specs.Views.{reads_as}
+use Rattle.planus.specs.declared.tables.table_ref.TableRef.{TableRef}
+
+module _ {T R A : Type 0} {kind : PlainGhosts R} (reads : Reads A) (name : List ℕ) where
+  -- What such a type answers for the item at a position of a vector, its error at the start of the
+  -- items.
+  abbrev pub IsItemRead : VectorOf (SliceView T R kind) → ℕ → Result A Error → Type 0
+  IsItemRead vector i =
+      Located (reads (view_of vector).bytes (view_of vector).start (i * kind.SIZE)) name item_method
+      (view_of vector).start
+
+-- A text, and none where the vector doesn't have the position. Of the vector of some texts it is the
+-- text at this position, where that is UTF-8.
+pub record IsTextItem {T R : Type 0} {kind : PlainGhosts R} (vector : VectorOf (SliceView T R kind))
+    (index : ℕ) (r : Option (Result (Bor (List ℕ)) Error)) : Type 0 where
+  pub answer : GetsItem (λ v. count_of v) (IsItemRead reads_text texts_name) vector index r
+  pub read_back :
+      (texts : List (List ℕ)) (bytes : List ℕ) → ItemsAreTexts kind texts vector
+      → slice_get texts index ≡ Some bytes → IsUtf8 bytes
+      → IsSomeAnd r (λ item. IsOkAnd item (λ found. found.now ≡ bytes))
+
+-- what the call of a vector of tables returns
+abbrev pub GetsTable : {T R : Type 0} {kind : PlainGhosts R} → (K : Type 0) → List ℕ
+    → VectorOf (SliceView T R kind) → ℕ → Option (Result (TableRef K) Error) → Type 0
+GetsTable {T} {R} {kind} K name =
+    GetsItem (λ (v : VectorOf (SliceView T R kind)). count_of v)
+    (λ v i item. Converted
+    (Located (reads_view K (view_of v).bytes (view_of v).start (i * kind.SIZE)) name item_method
+    (view_of v).start)
+    (λ (e f : Error). f ≡ e) item)
+
+-- The view of a table. Of the vector of some tables it is that of the one at this position.
+pub record IsTableItem {T R V : Type 0} {kind : PlainGhosts R} (K : Type 0) (name : List ℕ)
+    (table_of : V → Table) (vector : VectorOf (SliceView T R kind)) (index : ℕ)
+    (r : Option (Result V Error)) : Type 0 where
+  pub answer : GetsItem (λ v. count_of v) (IsItemRead (reads_as table_of) name) vector index r
+  pub read_back :
+      (B distances : List ℕ) (distance : ℕ) → ItemsAreTables kind K B distances vector
+      → slice_get distances index ≡ Some distance → TableIsThere B distance
+      → IsSomeAnd r (λ item. IsOkAnd item (IsViewOf table_of B distance))

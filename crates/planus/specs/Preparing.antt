@@ -1,0 +1,16 @@
+-- How the fields of a list are prepared, and their table is written.
+use Rattle.std.specs.Prelude.{ℕ, List}
+use Rattle.planus_read.specs.Values.{Field}
+use Rattle.planus_write.specs.Placing.{Outcome}
+use Rattle.planus.specs.TableFields.{all_of}
+use Rattle.planus_write.specs.Tables.{body_bytes, declared_of}
+use Rattle.planus_write.specs.TableWriting.{AnswersTable}
+use Rattle.planus_write.specs.declared.offset.Offset.{Offset}
+
+-- The table of these fields was written, and its distance is answered; or it was refused.
+abbrev pub AnswersFields : {T : Type 0} → List (ℕ × Field) → Outcome (Offset T)
+AnswersFields fields = AnswersTable (declared_of fields) (λ place. body_bytes place fields)
+
+-- The same of fields, one by one, each there or not.
+abbrev pub WritesFields : {T : Type 0} → List (List (ℕ × Field)) → Outcome (Offset T)
+WritesFields fields = AnswersFields (all_of fields)

@@ -1,0 +1,112 @@
+-- Unions as they are read: each variant is a table or a text.
+use Rattle.std.specs.Prelude.{◌≡◌, ◌≢◌, ℕ, ◌<◌, List, [], ◌∷◌, Option, Result, Ok, Err}
+use Rattle.std.specs.Prelude.{◌⊎◌, IsSomeAnd, ⊤}
+use Rattle.std.specs.Borrow.{Bor}
+use Rattle.std.specs.Str.{IsUtf8}
+use Rattle.planus_read.specs.declared.errors.ErrorKind.{ErrorKind}
+use Rattle.planus_read.specs.declared.errors.ErrorKind.TheVariants.{UnknownUnionTag}
+use Rattle.planus_read.specs.declared.table_reader.Table.{Table}
+use Rattle.planus_read.specs.Bytes.{position_of}
+use Rattle.planus_read.specs.Stands.{Stands, at}
+use Rattle.planus_read.specs.Tables.{Reads, ReadsBoth}
+use Rattle.planus_read.specs.Values.{text}
+use Rattle.planus_write.specs.Contents.{Content, value, written}
+use Rattle.planus.specs.ReadBack.{TableStands, TableHolds}
+use Rattle.planus.specs.ReadKinds.{reads_text}
+use Rattle.planus.specs.Views.{reads_as}
+
+-- A variant of a union, by its tag: a table or a text, which a union of this variant has.
+pub data UnionVariant (U : Type 0) : Type 0 where
+  table_variant : ℕ → (U → Option Table) → UnionVariant U
+  text_variant : ℕ → (U → Option (Bor (List ℕ))) → UnionVariant U
+
+abbrev pub tag_of : {U : Type 0} → UnionVariant U → ℕ
+tag_of (table_variant tag table_of) = tag
+tag_of (text_variant tag text_of) = tag
+
+-- The reference to a union's value leads to this table, which was written before; or to this text, which
+-- was written with the union or before.
+abbrev pub IsTable : List ℕ → Content → List (ℕ × Option Content) → Type 0
+IsTable B (written distance) contents = TableStands B contents distance
+IsTable B _ contents = ⊥
+
+abbrev pub IsText : List ℕ → Content → List ℕ → Type 0
+IsText B (value content) bytes = content ≡ text bytes
+IsText B (written distance) bytes = Stands B (at (position_of B distance)) (text bytes)
+IsText B _ bytes = ⊥
+
+module _ {U : Type 0} where
+  -- what a variant is answered with
+  abbrev pub ReadsVariant : UnionVariant U → Reads U
+  ReadsVariant (table_variant tag table_of) S start f (Ok union) =
+      IsSomeAnd (table_of union) (λ table. reads_as (λ (table : Table). table) S start f (Ok table))
+  ReadsVariant (table_variant tag table_of) S start f (Err e) =
+      reads_as (λ (table : Table). table) S start f (Err e)
+  ReadsVariant (text_variant tag text_of) S start f (Ok union) =
+      IsSomeAnd (text_of union) (λ lent. reads_text S start f (Ok lent))
+  ReadsVariant (text_variant tag text_of) S start f (Err e) = reads_text S start f (Err e)
+
+  -- what the variant with this tag is answered with
+  abbrev pub ReadsTagged : List (UnionVariant U) → ReadsBoth U
+  ReadsTagged [] S start tag f r = ⊥
+  ReadsTagged (variant ∷ variants) S start tag f r =
+      ((tag ≡ tag_of variant) × ReadsVariant variant S start f r) ⊎ ReadsTagged variants S start tag f r
+
+  -- no variant has the tag, or one does
+  abbrev pub IsUnknown : List (UnionVariant U) → ℕ → Type 0
+  IsUnknown [] tag = ⊤
+  IsUnknown (variant ∷ variants) tag = (tag ≢ tag_of variant) × IsUnknown variants tag
+
+  abbrev pub IsKnown : List (UnionVariant U) → ℕ → Type 0
+  IsKnown [] tag = ⊥
+  IsKnown (variant ∷ variants) tag = (tag ≡ tag_of variant) ⊎ IsKnown variants tag
+
+  -- What a union of these variants is answered with: the variant with the tag, or that the tag is
+  -- unknown.
+  abbrev pub ReadsVariants : List (UnionVariant U) → ReadsBoth U
+  ReadsVariants variants S start tag f (Ok union) = ReadsTagged variants S start tag f (Ok union)
+  ReadsVariants variants S start tag f (Err e) =
+      ReadsTagged variants S start tag f (Err e)
+      ⊎ (IsUnknown variants tag × (e ≡ UnknownUnionTag tag))
+
+  -- a type that is read so has these variants
+  abbrev pub HasVariants : ReadsBoth U → List (UnionVariant U) → Type 0
+  HasVariants reads variants =
+      (S : List ℕ) (start tag f : ℕ) (r : Result U ErrorKind) → reads S start tag f r
+      → ReadsVariants variants S start tag f r
+
+  -- the value of a union of this variant stands in B
+  abbrev pub VariantStands : UnionVariant U → List ℕ → Content → Type 0
+  VariantStands (table_variant tag table_of) B content =
+      (contents : List (ℕ × Option Content)) × IsTable B content contents
+  VariantStands (text_variant tag text_of) B content =
+      (bytes : List ℕ) × IsUtf8 bytes × IsText B content bytes
+
+  abbrev pub EachStands : List (UnionVariant U) → List ℕ → ℕ → Content → Type 0
+  EachStands [] B tag content = ⊤
+  EachStands (variant ∷ variants) B tag content =
+      (tag ≡ tag_of variant → VariantStands variant B content) × EachStands variants B tag content
+
+  -- A union with this tag, which one of the variants has, refers to a value that stands in B.
+  pub record UnionStands
+      (variants : List (UnionVariant U)) (B : List ℕ) (tag : ℕ) (content : Content) : Type 0 where
+    pub known : IsKnown variants tag
+    pub above : tag ≢ 0
+    pub below : tag < 256
+    pub each : EachStands variants B tag content
+
+  -- what was read is of this variant, and has the table with these contents, or this text
+  abbrev pub IsVariant : UnionVariant U → List ℕ → Content → U → Type 0
+  IsVariant (table_variant tag table_of) B content union =
+      IsSomeAnd (table_of union)
+      (λ table. (contents : List (ℕ × Option Content)) → IsTable B content contents
+      → TableHolds B contents table)
+  IsVariant (text_variant tag text_of) B content union =
+      IsSomeAnd (text_of union)
+      (λ lent. (bytes : List ℕ) → IsUtf8 bytes → IsText B content bytes → lent.now ≡ bytes)
+
+  -- what was read is the union with this tag
+  abbrev pub IsUnion : List (UnionVariant U) → List ℕ → ℕ → Content → U → Type 0
+  IsUnion [] B tag content union = ⊥
+  IsUnion (variant ∷ variants) B tag content union =
+      ((tag ≡ tag_of variant) × IsVariant variant B content union) ⊎ IsUnion variants B tag content union

@@ -1,0 +1,31 @@
+-- What a list of one field holds.
+use Rattle.std.specs.Prelude.{ℕ, [], ◌∷◌, Option, Some, None, List}
+use Rattle.std.proofs.Common.{refl}
+use Rattle.planus_read.specs.Values.{Field}
+use Rattle.planus_write.specs.Past.{Past}
+use Rattle.planus_write.specs.Contents.{Content}
+use Rattle.planus_fields.specs.Contents.{HoldsIf}
+use Rattle.planus.specs.Contents.{FieldsAre, there_of}
+use Rattle.planus.specs.TableFields.{field_in}
+use Rattle.planus_write.specs.State.{Extends}
+use Rattle.planus_write.specs.lemmas.ContentLaws.{field_stays}
+
+pub fields_stay : (before after : Past) (contents : List (ℕ × Content)) (fields : List (ℕ × Field))
+    → Extends before after → FieldsAre before contents fields → FieldsAre after contents fields
+fields_stay before after [] [] extends are = tt
+fields_stay before after (content ∷ contents) (field ∷ fields) extends are = (
+  are.0,
+  field_stays before after content.1 field.1 extends are.1,
+  fields_stay before after contents fields extends are.2,
+)
+fields_stay before after [] (field ∷ fields) extends are = are
+fields_stay before after (content ∷ contents) [] extends are = are
+
+-- what one field holds, of a list of one
+pub only_field : {A : Type 0} (past : Past) (slot : ℕ) (content : Option Content) (field : A → Field)
+    (prepared : Option A) → HoldsIf past content field prepared
+    → FieldsAre past (there_of ((slot, content) ∷ [])) (field_in slot field prepared)
+only_field past slot None field None holds = tt
+only_field past slot (Some content) field (Some prepared) holds = (refl, holds, tt)
+only_field past slot None field (Some prepared) holds = elim holds [ ]
+only_field past slot (Some content) field None holds = elim holds [ ]

@@ -1,0 +1,94 @@
+//! A table is written from its fields.
+ghost use Rattle.std.specs.Prelude.{◌≤◌, [], ◌++◌, max, length, IfOk, IsTrue};
+ghost use Rattle.planus_write.specs.State.{Grows};
+ghost use Rattle.planus_write.specs.Tables.{body_size, body_bytes};
+ghost use Rattle.planus.specs.TableRules.{are_neighbours, can_hold};
+ghost use Rattle.planus.specs.Preparing.{AnswersFields, WritesFields};
+ghost use Rattle.planus_write.specs.Placing.{then_does};
+ghost use Rattle.planus_write.specs.Preparing.{Answers};
+ghost use Rattle.planus.specs.Contents.{WritesContents, WritesRest};
+
+use crate::tables::fields::Fields;
+use crate::tables::prepared_fields::PreparedFields;
+use crate::tables::table_kind::TableKind;
+use crate::tables::table_write::TableWrite;
+use planus_write::{BuildError, Builder, ObjectFill, ObjectWriter, Offset};
+
+/// What writes the body of a table.
+#[derive(Drop)]
+struct Body<'a, F: PreparedFields, L: PreparedFields> {
+    fields: &'a F,
+    last: &'a L,
+}
+
+impl<'a, F: PreparedFields, L: PreparedFields> ObjectFill for Body<'a, F, L> {
+    ghost size = { λ body. body_size (F.there body.fields.now ++ L.there body.last.now) };
+
+    ghost reach = { λ body. max (F.reach body.fields.now) (L.reach body.last.now) };
+
+    ghost leaves = { λ body place.
+        body_bytes place (F.there body.fields.now ++ L.there body.last.now) };
+
+    #[inline(always)]
+    fn fill(&self, writer: &mut ObjectWriter<'_>) {
+        self.fields.write(writer);
+        self.last.write(writer);
+    }
+}
+
+/// Writes the table of prepared fields, and after them those that come last.
+#[inline(always)]
+pub(crate) fn write_table<T, W: TableWrite, F: PreparedFields, L: PreparedFields>(
+    builder: &mut Builder,
+    fields: &F,
+    last: &L,
+) -> Result<Offset<T>, BuildError>
+    requires rules { IsTrue (can_hold W.room (F.all ++ L.all)) }
+    requires fields { F.reach fields.now ≤ length builder.old.bytes }
+    requires last { L.reach last.now ≤ length builder.old.bytes }
+    ensures written { AnswersFields (F.there fields.now ++ L.there last.now)
+        builder.old result builder.new }
+    ensures kept { IfOk result (λ offset. WritesRest (F.there fields.now) (L.there last.now)
+        [] [] builder.old offset.distance builder.new) }
+    ensures reached { IfOk result (λ offset. offset.distance ≤ length builder.new.bytes) }
+    ensures grows { Grows builder.old builder.new }
+{
+    let mut writer = W::start();
+    fields.declare::<W>(&mut writer);
+    last.declare::<W>(&mut writer);
+    writer.close(builder, &Body { fields, last })?;
+    Ok(builder.current_offset())
+}
+
+/// Writes a table: prepares its fields in order, and then writes the table of those that are there,
+/// with exactly these fields. Returns its offset. With `Ok`, whatever was written before, the table
+/// is kept and the values to which it refers, and all that was kept before still is.
+///
+/// The kind says how many bytes its vtable may have ([`TableKind::Writer`]). The fields come by
+/// falling alignment: numbers of eight bytes first, then references, unions and numbers of four
+/// bytes, those of two, and those of one. They are prepared in the same order; one that is marked
+/// `last` is written after all that aren't, as the tags of unions are. No slot is used twice or lies
+/// outside the vtable, the two slots of a union are neighbours, and with all fields the table is at
+/// most 65535 bytes without its vtable. All this is computed of the types of the fields.
+///
+/// A refusal is that of the first field that is refused, or else that of the table:
+/// [`BuildError::TooLarge`] where a part's place would be above 2147483647 bytes from the end, and
+/// [`BuildError::OutOfMemory`] where memory is refused. What was written before it stays.
+#[inline]
+pub fn create_table<K: TableKind, F: Fields + Drop>(
+    builder: &mut Builder,
+    fields: F,
+) -> Result<Offset<K>, BuildError>
+    requires may { F.may fields builder.old }
+    requires rules { IsTrue (can_hold K.Writer.room (F.all ++ F.all_last)) }
+    requires unions { IsTrue (are_neighbours F.unions) }
+    ensures written { then_does (F.in_turn fields (λ ts ls. Answers (ts ++ ls)) [] []) WritesFields
+        builder.old result builder.new }
+    ensures kept { IfOk result (λ offset. WritesContents
+        (F.contents fields ++ F.last_contents fields)
+        builder.old offset.distance builder.new) }
+    ensures reached { IfOk result (λ offset. offset.distance ≤ length builder.new.bytes) }
+    ensures grows { Grows builder.old builder.new }
+{
+    fields.write::<K, K::Writer, (), (), ()>(&(), builder, &(), &())
+}

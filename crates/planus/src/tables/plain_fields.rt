@@ -1,0 +1,91 @@
+//! Fields of a fixed layout, and lists of these, read back.
+ghost use Rattle.std.specs.Prelude.{◌≡◌, ◌*◌, ℕ, List, Some, slice_get};
+ghost use Rattle.planus_view.specs.Indexes.{GetsItem};
+ghost use Rattle.planus_view.specs.VectorView.{count_of, view_of};
+ghost use Rattle.planus.specs.Accessors.{IsPlainRequired, IsPlainVector};
+ghost use Rattle.planus.specs.Accessors.{IsPlainVectorRequired};
+ghost use Rattle.planus.specs.ReadPlain.{ArePlain, IsPlainField, IsPlainFieldOr};
+
+use planus_read::located::Error;
+use planus_read::table_reader::Table;
+use planus_read::{Plain, PlainTotal, Stride};
+use planus_view::Vector;
+
+/// Returns the field in a slot that has a fixed layout: a number, a truth value, a float, an enum or a
+/// struct; `None` where it is absent. It is `Table::access`, and says in its contract what is read
+/// back: of a slot that was written, what it holds. So an accessor that calls it says so in one clause
+/// and with no proof file. The names are those of the type and of the accessor, for errors.
+pub fn plain_field<'n, T: Plain>(
+    table: &Table<'_>,
+    slot: usize,
+    type_: &'n str,
+    method: &'n str,
+) -> Result<Option<T>, Error<'n>>
+    ensures { IsPlainField T.shape table.now slot type_.now method.now result }
+{
+    table.access::<T>(slot, type_, method)
+}
+
+/// Returns the same field, or the default where it is absent.
+pub fn plain_field_or<'n, T: Plain>(
+    table: &Table<'_>,
+    slot: usize,
+    default: T,
+    type_: &'n str,
+    method: &'n str,
+) -> Result<T, Error<'n>>
+    ensures { IsPlainFieldOr T.shape default table.now slot type_.now method.now result }
+{
+    match table.access::<T>(slot, type_, method) {
+        Ok(found) => Ok(found.unwrap_or(default)),
+        Err(error) => Err(error),
+    }
+}
+
+/// Returns the same field, which must be there.
+pub fn plain_required<'n, T: Plain>(
+    table: &Table<'_>,
+    slot: usize,
+    type_: &'n str,
+    method: &'n str,
+) -> Result<T, Error<'n>>
+    ensures { IsPlainRequired T.shape table.now slot type_.now method.now result }
+{
+    table.access_required::<T>(slot, type_, method)
+}
+
+/// Returns the vector in a slot that refers to a list of values of a fixed layout, or `None` where
+/// the field is absent. `T` is such a value, or a `Result` of one whose read may fail.
+pub fn plain_vector<'a, 'n, T: Stride + 'a>(
+    table: &Table<'a>,
+    slot: usize,
+    type_: &'n str,
+    method: &'n str,
+) -> Result<Option<Vector<'a, T>>, Error<'n>>
+    ensures { IsPlainVector table.now slot type_.now method.now result }
+{
+    table.access::<Vector<'a, T>>(slot, type_, method)
+}
+
+/// Returns the same vector, which must be there.
+pub fn plain_vector_required<'a, 'n, T: Stride + 'a>(
+    table: &Table<'a>,
+    slot: usize,
+    type_: &'n str,
+    method: &'n str,
+) -> Result<Vector<'a, T>, Error<'n>>
+    ensures { IsPlainVectorRequired table.now slot type_.now method.now result }
+{
+    table.access_required::<Vector<'a, T>>(slot, type_, method)
+}
+
+/// Returns the item at a position of a vector of values of a fixed layout, or `None` where the vector
+/// doesn't have it. Of the vector of some values it is the value at this position.
+pub fn plain_item<T: PlainTotal>(vector: &Vector<'_, T>, index: usize) -> Option<T>
+    ensures item { GetsItem (λ v. count_of v) (λ v i x. (T.shape).There (view_of v).bytes (i * T.SIZE) x)
+        vector.now index result }
+    ensures read_back { (B : List ℕ) (xs : List T) (x : T) → ArePlain B xs vector.now
+        → slice_get xs index ≡ Some x → (T.shape).fits x → result ≡ Some x }
+{
+    vector.get(index)
+}

@@ -1,0 +1,75 @@
+//! The fields of a table, prepared.
+ghost use Rattle.std.specs.Prelude.{◌≡◌, ◌≤◌, ◌+◌, ℕ, List, [], ◌++◌, IsTrue};
+ghost use Rattle.std.specs.List.{AllByRecursion};
+ghost use Rattle.planus_read.specs.Values.{Field};
+ghost use Rattle.planus_write.specs.ObjectWriting.{body_of, wrote};
+ghost use Rattle.planus_write.specs.Tables.{Declared, IsField, declared_of, body_size};
+ghost use Rattle.planus_write.specs.Tables.{body_bytes, total_size};
+ghost use Rattle.planus_write.specs.TableWriting.{WasTold};
+ghost use Rattle.planus.specs.TableFields.{IsUnused};
+ghost use Rattle.planus.specs.TableRules.{Among, has_slots, is_apart};
+
+use crate::tables::table_write::TableWrite;
+use planus_write::ObjectWriter;
+
+/// The fields of a table, prepared: `()`, or a
+/// [`FieldChain`](crate::FieldChain), one field behind the others.
+///
+/// The ghost member `all` has the entries of all fields that may be there, and `there` the fields
+/// that are, in order, each with its slot. `reach` is how far from the end of the buffer they
+/// refer, in bytes.
+pub trait PreparedFields {
+    ghost all: { List Declared };
+
+    ghost there: { Self → List (ℕ × Field) };
+
+    ghost reach: { Self → ℕ };
+
+    /// Declares the fields that are there. The slots of all that may be there lie in the vtable,
+    /// are apart, and nothing is declared for them yet; with all of them the object is at most
+    /// 65535 bytes. For any other slot nothing is declared.
+    fn declare<W: TableWrite>(&self, writer: &mut W)
+        requires small { W.room ≤ 65534 }
+        requires slots { IsTrue (has_slots W.room all) }
+        requires unused { AllByRecursion (λ one. IsUnused (W.at writer.old) one.slot) all }
+        requires fits { (W.at writer.old).object_size + total_size all ≤ 65535 }
+        ensures told { (fields : List (ℕ × Field)) → WasTold (W.at writer.old) (declared_of fields)
+            → WasTold (W.at writer.new) (declared_of (fields ++ there self.now)) }
+        ensures others { (other : ℕ) → IsTrue (is_apart other all) → IsUnused (W.at writer.old) other
+            → IsUnused (W.at writer.new) other }
+        ensures size { (W.at writer.new).object_size ≤ (W.at writer.old).object_size + total_size all };
+
+    /// Writes the fields that are there, behind what is written. So many bytes remain, and what the
+    /// fields refer to lies behind them.
+    fn write(&self, writer: &mut ObjectWriter<'_>)
+        requires room { body_size (there self.now) ≤ (body_of writer.old).remaining }
+        requires reach { reach self.now + body_size (there self.now) ≤ (body_of writer.old).place }
+        ensures { body_of writer.new ≡ wrote (body_size (there self.now))
+            (λ place. body_bytes place (there self.now)) (body_of writer.old) };
+
+    /// The fields that are there are fields of the format, where what they refer to lies in the
+    /// bytes before.
+    ghost stand: { (fields : Self) (before : ℕ) → reach fields ≤ before
+        → AllByRecursion (λ entry. IsField before entry.1) (there fields) };
+
+    /// Their entries are among all, in order.
+    ghost among: { (fields : Self) → Among (declared_of (there fields)) all };
+}
+
+impl PreparedFields for () {
+    ghost all = { [] };
+
+    ghost there = { λ fields. [] };
+
+    ghost reach = { λ fields. 0 };
+
+    #[inline(always)]
+    fn declare<W: TableWrite>(&self, _writer: &mut W) {}
+
+    #[inline(always)]
+    fn write(&self, _writer: &mut ObjectWriter<'_>) {}
+
+    ghost stand = { λ fields before reached. tt };
+
+    ghost among = { λ fields. tt };
+}

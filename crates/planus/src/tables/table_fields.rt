@@ -1,0 +1,129 @@
+//! Tables and lists of tables, read back.
+ghost use Rattle.std.specs.Prelude.{ℕ, Result as std_result};
+ghost use Rattle.planus_read.specs.declared.located.Error.{Error};
+ghost use Rattle.planus_read.specs.Pieces.{slice_bytes, slice_start};
+ghost use Rattle.planus.specs.Accessors.{IsTableField, IsTableRequired};
+ghost use Rattle.planus.specs.Accessors.{IsTableVector, IsTableVectorRequired};
+ghost use Rattle.planus.specs.ItemAccessors.{GetsTable, IsTableItem};
+ghost use Rattle.planus.specs.Roots.{IsRoot};
+ghost use Rattle.planus.specs.declared.tables.table_ref.TableRef.{TableRef};
+ghost use Rattle.planus_view.specs.declared.vector.SliceView.{SliceView};
+ghost use Rattle.planus_view.specs.declared.vector_of.VectorOf.{VectorOf};
+ghost use Rattle.planus.specs.Views.{reads_as, IsSameView};
+
+use crate::tables::table_kind::TableKind;
+use crate::tables::table_ref::TableRef;
+use crate::tables::table_view::TableView;
+use planus_read::errors::ErrorKind;
+use planus_read::located::Error;
+use planus_read::table_reader::Table;
+use planus_read::{Plain, ReadAsRoot, SliceWithStartOffset};
+use planus_view::Vector;
+
+/// Returns the view of the table in a slot, or `None` where the field is absent. The view is a
+/// [`TableRef`], or one of a user's own. Its contract says what is read back, as that of
+/// [`plain_field`](crate::plain_field): the view of the table that was written, with all its
+/// contents.
+pub fn table_field<'a, 'n, V: TableView<'a>>(
+    table: &Table<'a>,
+    slot: usize,
+    type_: &'n str,
+    method: &'n str,
+) -> Result<Option<V>, Error<'n>>
+    ensures { IsTableField V.Kind V.table table.now slot type_.now method.now result }
+{
+    match table.access::<Table<'a>>(slot, type_, method) {
+        Ok(Some(found)) => Ok(Some(V::of_table(found))),
+        Ok(None) => Ok(None),
+        Err(error) => Err(error),
+    }
+}
+
+/// Returns the view of the same table, which must be there.
+pub fn table_required<'a, 'n, V: TableView<'a>>(
+    table: &Table<'a>,
+    slot: usize,
+    type_: &'n str,
+    method: &'n str,
+) -> Result<V, Error<'n>>
+    ensures { IsTableRequired V.Kind V.table table.now slot type_.now method.now result }
+{
+    match table.access_required::<Table<'a>>(slot, type_, method) {
+        Ok(found) => Ok(V::of_table(found)),
+        Err(error) => Err(error),
+    }
+}
+
+/// Returns the vector in a slot that refers to a list of tables of kind `K`, or `None` where the
+/// field is absent.
+pub fn table_vector<'a, 'n, K: TableKind + 'a>(
+    table: &Table<'a>,
+    slot: usize,
+    type_: &'n str,
+    method: &'n str,
+) -> Result<Option<Vector<'a, planus_read::Result<TableRef<'a, K>>>>, Error<'n>>
+    ensures { IsTableVector K table.now slot type_.now method.now result }
+{
+    table.access::<Vector<'a, planus_read::Result<TableRef<'a, K>>>>(slot, type_, method)
+}
+
+/// Returns the same vector, which must be there.
+pub fn table_vector_required<'a, 'n, K: TableKind + 'a>(
+    table: &Table<'a>,
+    slot: usize,
+    type_: &'n str,
+    method: &'n str,
+) -> Result<Vector<'a, planus_read::Result<TableRef<'a, K>>>, Error<'n>>
+    ensures { IsTableVectorRequired K table.now slot type_.now method.now result }
+{
+    table.access_required::<Vector<'a, planus_read::Result<TableRef<'a, K>>>>(slot, type_, method)
+}
+
+// Returns a table that was read, as a view of the user's own.
+fn viewed<'a, 'n, V: TableView<'a>>(
+    read: Result<TableRef<'a, V::Kind>, Error<'n>>,
+) -> Result<V, Error<'n>>
+    ensures { IsSameView V.table read.entry result }
+{
+    match read {
+        Ok(found) => Ok(V::of_table(found.table)),
+        Err(error) => Err(error),
+    }
+}
+
+/// Returns the view of an item that a vector of tables returned, as `vector.get(index)`. Of the
+/// vector of some tables it is the view of the one at this position, with all its contents.
+pub fn table_item<'a, 'n, V: TableView<'a>>(
+    item: Option<Result<TableRef<'a, V::Kind>, Error<'n>>>,
+) -> Option<Result<V, Error<'n>>>
+    ensures { (vector : VectorOf (SliceView (std_result (TableRef V.Kind) Error) ℕ ⟦<u32 as Plain>⟧))
+        (index : ℕ) → GetsTable V.Kind V.Kind.name vector index item.entry
+        → IsTableItem V.Kind V.Kind.name V.table vector index result }
+{
+    match item {
+        Some(read) => Some(viewed(read)),
+        None => None,
+    }
+}
+
+/// Returns the view of the root of these bytes, the whole bytes of a buffer. Where they are those
+/// that a finish gave whose root is a table, it is the view of this table, with all its contents.
+pub fn read_root<'a, 'n, V: TableView<'a>>(bytes: &'a [u8]) -> Result<V, Error<'n>>
+    ensures { IsRoot V.Kind V.Kind.name V.table bytes.entry.now result }
+{
+    viewed(<TableRef<'a, V::Kind> as ReadAsRoot<'a>>::read_as_root(bytes))
+}
+
+/// Returns the view of the table to which the reference at an offset leads, as the variant of a
+/// union.
+pub fn read_view<'a, V: TableView<'a>>(
+    buffer: SliceWithStartOffset<'a>,
+    offset: usize,
+) -> Result<V, ErrorKind>
+    ensures { reads_as V.table (slice_bytes buffer.entry) (slice_start buffer.entry) offset result }
+{
+    match Table::from_buffer(buffer, offset) {
+        Ok(found) => Ok(V::of_table(found)),
+        Err(kind) => Err(kind),
+    }
+}

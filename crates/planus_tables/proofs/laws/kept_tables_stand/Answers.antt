@@ -1,5 +1,0 @@
-use Rattle.planus_tables.proofs.ReadBack.{kept_tables_stand}
-use Rattle.planus_tables.proofs.laws.kept_tables_stand.Goals as goal
-
-pub returns : goal.returns
-returns c = kept_tables_stand

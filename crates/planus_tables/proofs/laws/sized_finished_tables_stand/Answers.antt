@@ -1,5 +1,0 @@
-use Rattle.planus_tables.proofs.Finished.{sized_finished_tables_stand}
-use Rattle.planus_tables.proofs.laws.sized_finished_tables_stand.Goals as goal
-
-pub returns : goal.returns
-returns g c = sized_finished_tables_stand

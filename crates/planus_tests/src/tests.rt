@@ -1,0 +1,11 @@
+mod examples;
+mod reading;
+mod writing;
+
+use std::process::Abort;
+
+// Fails a test, with these words, where something doesn't hold. An assertion is dear to prove, so
+// this is the one of most tests.
+fn check(rt: &impl Abort, holds: bool, what: &str) {
+    assert!(rt; holds, "{what}");
+}

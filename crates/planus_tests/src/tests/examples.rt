@@ -1,0 +1,25 @@
+//! What the examples write is read back.
+
+mod entries;
+mod names;
+mod numbers;
+mod probes;
+mod samples;
+mod sites;
+mod streams;
+mod tables;
+mod voyages;
+
+use planus::{BuildError, Builder};
+use std::alloc::Global;
+
+// Whether these calls are all made of a new builder, and give what they should. A function that owns
+// a builder is proved slowly, so this is the one that does.
+fn in_builder<F: FnOnce(&mut Builder) -> Result<bool, BuildError>>(alloc: Global, calls: F) -> bool
+    requires { F.IsAlwaysCallable calls }
+{
+    match Builder::new(alloc) {
+        Ok(mut builder) => matches!(calls(&mut builder), Ok(true)),
+        Err(_) => false,
+    }
+}

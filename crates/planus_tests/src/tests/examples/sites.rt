@@ -1,0 +1,279 @@
+//! Structs, enums and floats are written and read back.
+
+use super::in_builder;
+use planus::errors::ErrorKind;
+use planus::{
+    BuildError, Builder, Error, Plain, ReadAsRoot, SliceWithStartOffset, TableRead, TableRef,
+};
+use uses_struct::{Features, Fix, Kind, Leg, Pos, Site, SiteFields, home_read_back, point};
+
+const PARIS: Pos = Pos {
+    lat: 48_856_600,
+    lon: 2_352_200,
+    alt: 35,
+};
+
+const SANTIAGO: Pos = Pos {
+    lat: -33_448_900,
+    lon: -70_669_300,
+    alt: -1,
+};
+
+const FIX: Fix = Fix {
+    when: 1 << 40,
+    at: SANTIAGO,
+    kind: Kind::Ship,
+};
+
+const LEG: Leg = Leg {
+    from: Fix {
+        when: 1,
+        at: Pos {
+            lat: 2,
+            lon: -3,
+            alt: 4,
+        },
+        kind: Kind::Car,
+    },
+    to: Fix {
+        when: 5,
+        at: Pos {
+            lat: -6,
+            lon: 7,
+            alt: -8,
+        },
+        kind: Kind::Bike,
+    },
+};
+
+// As struct.pack('<Qiih2xB3x', 1 << 40, -33448900, -70669300, -1, 2) of Python has it.
+const FIX_BYTES: [u8; 24] = [
+    0, 0, 0, 0, 0, 1, 0, 0, 60, 156, 1, 254, 12, 172, 201, 251, 255, 255, 0, 0, 2, 0, 0, 0,
+];
+
+// What flatc 2.0.8 writes of a site with these values, the kind Ship, heat -1.5, the kinds Ship and
+// Car, water and a road.
+const FLATC_SITE: [u8; 168] = [
+    0x18, 0x00, 0x00, 0x00, 0x14, 0x00, 0x68, 0x00, 0x08, 0x00, 0x14, 0x00, 0x18, 0x00, 0x06, 0x00,
+    0x30, 0x00, 0x34, 0x00, 0x38, 0x00, 0x07, 0x00, 0x14, 0x00, 0x00, 0x00, 0x00, 0x00, 0x02, 0x05,
+    0x18, 0x7e, 0xe9, 0x02, 0x48, 0xe4, 0x23, 0x00, 0x23, 0x00, 0x00, 0x00, 0x60, 0x00, 0x00, 0x00,
+    0x00, 0x00, 0x00, 0x00, 0x00, 0x01, 0x00, 0x00, 0x3c, 0x9c, 0x01, 0xfe, 0x0c, 0xac, 0xc9, 0xfb,
+    0xff, 0xff, 0x00, 0x00, 0x02, 0x00, 0x00, 0x00, 0x00, 0x00, 0xc0, 0xbf, 0x34, 0x00, 0x00, 0x00,
+    0x01, 0x00, 0x00, 0x00, 0x00, 0x00, 0x00, 0x00, 0x02, 0x00, 0x00, 0x00, 0xfd, 0xff, 0xff, 0xff,
+    0x04, 0x00, 0x00, 0x00, 0x00, 0x00, 0x00, 0x00, 0x05, 0x00, 0x00, 0x00, 0x00, 0x00, 0x00, 0x00,
+    0xfa, 0xff, 0xff, 0xff, 0x07, 0x00, 0x00, 0x00, 0xf8, 0xff, 0x00, 0x00, 0x01, 0x00, 0x00, 0x00,
+    0x02, 0x00, 0x00, 0x00, 0x02, 0x00, 0x00, 0x00, 0x00, 0x00, 0x00, 0x00, 0x02, 0x00, 0x00, 0x00,
+    0x18, 0x7e, 0xe9, 0x02, 0x48, 0xe4, 0x23, 0x00, 0x23, 0x00, 0x00, 0x00, 0x3c, 0x9c, 0x01, 0xfe,
+    0x0c, 0xac, 0xc9, 0xfb, 0xff, 0xff, 0x00, 0x00,
+];
+
+fn fix_at(bytes: &[u8], offset: usize) -> Result<Fix, ErrorKind> {
+    TableRead::from_buffer(SliceWithStartOffset::new(bytes, 0), offset)
+}
+
+// Whether a fix is its bytes, and is read from them, and from no others.
+fn is_its_bytes() -> bool {
+    let mut bytes = [7; 24];
+    FIX.put(&mut bytes);
+    bytes == FIX_BYTES
+        && matches!(fix_at(&FIX_BYTES, 0), Ok(fix) if fix == FIX)
+        && matches!(fix_at(&FIX_BYTES, 1), Err(ErrorKind::InvalidOffset))
+}
+
+// Whether a number that is no kind's is an error that tells it.
+fn is_unknown() -> bool {
+    let mut bytes = FIX_BYTES;
+    bytes[20] = 3;
+    matches!(
+        fix_at(&bytes, 0),
+        Err(ErrorKind::UnknownEnumTag { source }) if source.tag == 3
+    )
+}
+
+#[test]
+fn structs_are_their_bytes(rt: HostRuntime) {
+    assert!(rt; is_its_bytes(), "bytes");
+    assert!(rt; is_unknown(), "unknown");
+}
+
+fn has_track(site: &TableRef<'_, Site>) -> bool {
+    match Site::track(site) {
+        Ok(Some(track)) => {
+            track.len() == 2
+                && matches!(point(&track, 0), Some(pos) if pos == PARIS)
+                && matches!(point(&track, 1), Some(pos) if pos == SANTIAGO)
+                && point(&track, 2).is_none()
+        }
+        _ => false,
+    }
+}
+
+fn has_kinds(site: &TableRef<'_, Site>) -> bool {
+    match Site::kinds(site) {
+        Ok(Some(kinds)) => {
+            kinds.len() == 2
+                && matches!(kinds.get(0), Some(Ok(Kind::Ship)))
+                && matches!(kinds.get(1), Some(Ok(Kind::Car)))
+        }
+        _ => false,
+    }
+}
+
+fn has_features(site: &TableRef<'_, Site>) -> bool {
+    match Site::features(site) {
+        Ok(features) => {
+            features.bits == 5
+                && features.has(Features::ROAD)
+                && !features.has(Features::POWER.with(Features::ROAD))
+        }
+        Err(_) => false,
+    }
+}
+
+// Whether the root is a site with these values, with this kind and this heat.
+fn is_site(bytes: &[u8], kind: Kind, heat: f32) -> bool {
+    let site: Result<TableRef<'_, Site>, _> = ReadAsRoot::read_as_root(bytes);
+    let Ok(site) = site else {
+        return false;
+    };
+    matches!(Site::home(&site), Ok(Some(home)) if home == PARIS)
+        && matches!(Site::fix(&site), Ok(Some(fix)) if fix == FIX)
+        && matches!(Site::leg(&site), Ok(Some(leg)) if leg == LEG)
+        && matches!(Site::kind(&site), Ok(read) if read == kind)
+        && matches!(Site::heat(&site), Ok(read) if read == heat)
+        && has_track(&site)
+        && has_kinds(&site)
+        && has_features(&site)
+}
+
+fn fields(kind: Kind, heat: f32) -> SiteFields<'static> {
+    SiteFields {
+        home: Some(PARIS),
+        track: &[PARIS, SANTIAGO],
+        fix: FIX,
+        kind,
+        heat,
+        kinds: &[Kind::Ship, Kind::Car],
+        leg: Some(LEG),
+        features: Features::WATER.with(Features::ROAD),
+    }
+}
+
+fn a_site_is_read(builder: &mut Builder) -> Result<bool, BuildError> {
+    let site = Site::create(builder, fields(Kind::Ship, -1.5))?;
+    let bytes = builder.finish(site, None)?;
+    Ok(is_site(bytes, Kind::Ship, -1.5))
+}
+
+fn a_default_is_read(builder: &mut Builder) -> Result<bool, BuildError> {
+    let site = Site::create(builder, fields(Kind::Bike, 1.0e30))?;
+    let bytes = builder.finish(site, None)?;
+    Ok(is_site(bytes, Kind::Bike, 1.0e30))
+}
+
+fn a_home_is_read(builder: &mut Builder) -> Result<bool, BuildError> {
+    Ok(matches!(
+        home_read_back(builder, fields(Kind::Car, 0.0)),
+        Ok(Some(home)) if home == PARIS
+    ))
+}
+
+#[test]
+fn sites_are_read_back(rt: HostRuntime) {
+    assert!(rt; is_site(&FLATC_SITE, Kind::Ship, -1.5), "another builder's");
+    assert!(rt; in_builder(rt.alloc(), a_site_is_read), "all");
+    assert!(rt; in_builder(rt.alloc(), a_default_is_read), "default");
+    assert!(rt; in_builder(rt.alloc(), a_home_is_read), "home");
+}
+
+// Whether a kind that is unknown is an error with the location of the call.
+fn is_unknown_kind(site: &TableRef<'_, Site>) -> bool {
+    match Site::kind(site) {
+        Err(
+            Error {
+                source_location,
+                error_kind: ErrorKind::UnknownEnumTag { source },
+            },
+        ) => {
+            source.tag == 9
+                && source_location.type_ == "Site"
+                && source_location.method == "kind"
+                && source_location.byte_offset == 24
+        }
+        _ => false,
+    }
+}
+
+#[test]
+fn unknown_kinds_are_errors(rt: HostRuntime) {
+    let mut bytes = FLATC_SITE;
+    bytes[30] = 9;
+    let site: Result<TableRef<'_, Site>, _> = ReadAsRoot::read_as_root(&bytes);
+    let Ok(site) = site else {
+        assert!(rt; false, "root");
+        return;
+    };
+    assert!(rt; is_unknown_kind(&site), "kind 9");
+    assert!(rt;
+        matches!(Site::kind_or(&site, Kind::Car), Ok(Kind::Car)),
+        "another in its place"
+    );
+}
+
+// Whether this is an error that a damaged field may have, with the accessor's name.
+fn is_named(error: Error, method: &str) -> bool {
+    error.source_location.type_ == "Site"
+        && error.source_location.method == method
+        && matches!(
+            error.error_kind,
+            ErrorKind::InvalidOffset | ErrorKind::InvalidLength | ErrorKind::UnknownEnumTag { .. }
+        )
+}
+
+// Whether a read gives a value or such an error.
+macro_rules! is_answered {
+    ($site:ident, $accessor:ident, $name:literal) => {
+        match Site::$accessor(&$site) {
+            Ok(_) => true,
+            Err(error) => is_named(error, $name),
+        }
+    };
+}
+
+// Whether each accessor of the root, if there is one, answers so.
+fn is_answered(bytes: &[u8]) -> bool {
+    let site: Result<TableRef<'_, Site>, _> = ReadAsRoot::read_as_root(bytes);
+    let Ok(site) = site else {
+        return true;
+    };
+    is_answered!(site, home, "home")
+        && is_answered!(site, track, "track")
+        && is_answered!(site, fix, "fix")
+        && is_answered!(site, kind, "kind")
+        && is_answered!(site, heat, "heat")
+        && is_answered!(site, kinds, "kinds")
+        && is_answered!(site, leg, "leg")
+        && is_answered!(site, features, "features")
+}
+
+// Whether a site of which one byte is another is answered so, and one that is cut off there.
+fn damage_is_answered() -> bool {
+    for i in 0..FLATC_SITE.len() {
+        for other in [0, 1, 2, 0x7f, 0xff] {
+            let mut bytes = FLATC_SITE;
+            bytes[i] = other;
+            if !is_answered(&bytes) {
+                return false;
+            }
+        }
+        if !is_answered(&FLATC_SITE[..i]) {
+            return false;
+        }
+    }
+    true
+}
+
+#[test]
+fn damaged_sites_are_answered(rt: HostRuntime) {
+    assert!(rt; damage_is_answered(), "every byte");
+}

@@ -1,0 +1,112 @@
+ghost use Rattle.std.specs.Prelude.{◌≡◌};
+ghost use Rattle.std.specs.Int.{w32, to_le_bytes};
+
+mod back;
+mod caches;
+mod fields;
+mod lists;
+mod primitives;
+mod sized;
+mod tables;
+mod texts;
+mod unions;
+mod without_memory;
+mod writes;
+
+use planus_back::{Fill, Overwrite};
+use planus_write::{BuildError, Builder, Caches, Offset, WriteAsOffset};
+use std::alloc::Global;
+
+// The tests hand functions of their own to `in_builder` and `calls_in_builder`, which lend them a
+// builder: a function that owns one is proved slowly, and those two are proved once.
+
+// Whether the calls were all made, and gave what they should.
+fn holds(found: Result<bool, BuildError>) -> bool {
+    matches!(found, Ok(true))
+}
+
+// Whether a value stands at this distance, and the builder has so many bytes.
+fn stands_at<T>(builder: &Builder, value: Offset<T>, distance: u32, len: usize) -> bool {
+    value.distance() == distance && builder.len() == len
+}
+
+// Whether a finish with a value of before, which the builder still has, gives these bytes.
+fn finishes<T>(
+    builder: &mut Builder,
+    root: Offset<T>,
+    identifier: Option<[u8; 4]>,
+    want: &[u8],
+) -> bool {
+    if root.distance() as usize > builder.len() {
+        return false;
+    }
+    match builder.finish(root, identifier) {
+        Ok(bytes) => bytes == want,
+        Err(_) => false,
+    }
+}
+
+// Prepares a value, of which only the bound is known.
+fn prepared<T, X: WriteAsOffset<T>>(
+    builder: &mut Builder,
+    value: &X,
+) -> Result<Offset<T>, BuildError>
+    requires { X.may value.now builder.old }
+{
+    value.prepare(builder)
+}
+
+// Writes its place, all four bytes of it, into its 4 bytes.
+struct PlaceWord;
+
+impl Fill for PlaceWord {
+    ghost fits = { λ _ place n. n ≡ 4 };
+
+    ghost leaves = { λ _ place n. to_le_bytes w32 place };
+
+    fn fill(&self, place: u32, bytes: &mut [u8]) {
+        bytes.copy_from_slice(&place.to_le_bytes());
+    }
+}
+
+impl Overwrite for PlaceWord {
+    ghost fits = { λ _ place n. n ≡ 4 };
+
+    ghost leaves = { λ _ place n. to_le_bytes w32 place };
+
+    fn overwrite(&self, place: u32, bytes: &mut [u8]) {
+        bytes.copy_from_slice(&place.to_le_bytes());
+    }
+}
+
+// The switches of a builder that writes equal contents each time.
+const NO_CACHES: Caches = Caches {
+    vtables: false,
+    texts: false,
+    bytes: false,
+    hash_mask: 0,
+};
+
+// Whether this holds of a new builder.
+fn in_builder<F: FnOnce(&mut Builder) -> bool>(alloc: Global, caches: Caches, of_it: F) -> bool
+    requires { F.IsAlwaysCallable of_it }
+{
+    match Builder::with_caches(alloc, 0, caches) {
+        Ok(mut builder) => of_it(&mut builder),
+        Err(_) => false,
+    }
+}
+
+// Whether these calls are all made of a new builder, and give what they should.
+fn calls_in_builder<E: Drop, F: FnOnce(&mut Builder) -> Result<bool, E>>(
+    alloc: Global,
+    caches: Caches,
+    calls: F,
+) -> bool
+    requires { F.IsAlwaysCallable calls }
+{
+    match Builder::with_caches(alloc, 0, caches) {
+        Ok(mut builder) => matches!(calls(&mut builder), Ok(true)),
+        Err(_) => false,
+    }
+}

@@ -1,0 +1,125 @@
+//! Bytes that a filler or a writer leaves, and what a builder tells of itself.
+
+ghost use Rattle.std.specs.Prelude.{replicate, ⊤};
+
+use super::{calls_in_builder, holds};
+use crate::tests::check;
+use crate::tests::writing::PlaceWord;
+use planus_back::{Fill, Overwrite};
+use planus_write::{BuildError, Builder, Caches, Text};
+use std::alloc::Global;
+
+// Leaves one byte over and over, as often as there is room.
+#[derive(Drop)]
+struct Repeated {
+    byte: u8,
+}
+
+impl Fill for Repeated {
+    ghost fits = { λ _ _ _. ⊤ };
+
+    ghost leaves = { λ filler _ n. replicate n filler.byte };
+
+    fn fill(&self, _place: u32, bytes: &mut [u8]) {
+        bytes.fill(self.byte);
+    }
+}
+
+impl Overwrite for Repeated {
+    ghost fits = { λ _ _ _. ⊤ };
+
+    ghost leaves = { λ writer _ n. replicate n writer.byte };
+
+    fn overwrite(&self, _place: u32, bytes: &mut [u8]) {
+        bytes.fill(self.byte);
+    }
+}
+
+// Whether the builder has so many bytes, and room for so many.
+fn lengths_are(builder: &Builder, len: usize, room: usize) -> bool {
+    builder.len() == len && builder.is_empty() == (len == 0) && builder.room() == room
+}
+
+fn lengths(builder: &mut Builder) -> Result<bool, BuildError> {
+    let before = lengths_are(builder, 0, 64);
+    builder.write_with(5, 0, &Repeated { byte: 9 })?;
+    let after = lengths_are(builder, 5, 59);
+    builder.clear();
+    Ok(before && after && lengths_are(builder, 0, 64))
+}
+
+// Whether the builder's text begins with its bytes.
+fn shows_bytes(alloc: Global, builder: &Builder) -> bool {
+    let text = "Builder { backing: Backing { inner: [7, 7, 7, 7, 7]";
+    match format!(in alloc; "{builder:?}") {
+        Ok(shown) => shown.as_str().starts_with(text),
+        Err(_) => false,
+    }
+}
+
+// Where other bytes stood before.
+fn what_is_last(alloc: Global, builder: &mut Builder) -> Result<bool, BuildError> {
+    builder.write_over(5, 0, &Repeated { byte: 7 })?;
+    let last = builder.current_offset::<Text>();
+    let cloned = matches!(last.clone(), Ok(copy) if copy.distance() == 5);
+    Ok(
+        cloned
+            && last.distance() == 5
+            && last.downcast().distance() == 5
+            && builder.as_slice() == [7; 5].as_slice()
+            && shows_bytes(alloc, builder),
+    )
+}
+
+// Whether the builder's first word is its length, all four bytes of it.
+fn begins_with_its_length(builder: &Builder) -> bool {
+    let front = builder.current_offset::<Text>();
+    builder
+        .as_slice()
+        .starts_with(&front.distance().to_le_bytes())
+}
+
+// A filler and a writer, with more bytes behind them than two bytes count.
+fn places(builder: &mut Builder) -> Result<bool, BuildError> {
+    builder.write_with(70001, 0, &Repeated { byte: 9 })?;
+    builder.write_with(4, 0, &PlaceWord)?;
+    let filled = begins_with_its_length(builder);
+    builder.write_over(4, 0, &PlaceWord)?;
+    Ok(filled && begins_with_its_length(builder) && builder.len() == 70009)
+}
+
+// Lengths and what is last, in a builder with room for 64 bytes.
+fn written_in_64_bytes(alloc: Global) -> bool {
+    match Builder::with_capacity(alloc, 64) {
+        Ok(mut builder) => {
+            let lengths = holds(lengths(&mut builder));
+            builder.clear();
+            lengths && holds(what_is_last(alloc, &mut builder))
+        }
+        Err(_) => false,
+    }
+}
+
+#[test]
+fn writes(rt: HostRuntime) {
+    check(
+        &rt,
+        written_in_64_bytes(rt.alloc()),
+        "lengths and what is last",
+    );
+    let places = calls_in_builder(rt.alloc(), Caches::all(), places);
+    check(&rt, places, "places");
+}
+
+// Whether a builder can be made with room for so many bytes.
+fn has_room(alloc: Global, room: usize) -> bool {
+    match Builder::with_capacity(alloc, room) {
+        Ok(builder) => builder.room() >= room,
+        Err(_) => false,
+    }
+}
+
+#[test]
+fn more_than_16_mebibytes_of_room(rt: HostRuntime) {
+    check(&rt, has_room(rt.alloc(), 16777259), "room");
+}

@@ -1,2 +1,0 @@
-pub mod Ships
-pub mod Names

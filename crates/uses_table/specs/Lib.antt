@@ -1,2 +1,0 @@
-pub mod Voyages
-pub mod Owners

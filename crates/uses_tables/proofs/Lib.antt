@@ -1,0 +1,3 @@
+pub mod ReadNames
+pub mod Reading
+pub mod KeptList

@@ -1,0 +1,15 @@
+use Rattle.std.proofs.Common.{map}
+use Rattle.planus.specs.read.Pieces.{slice_bytes}
+use Rattle.uses_tables.specs.Streams.{BeginsWith}
+use Rattle.uses_tables.proofs.Reading.{FaultsFor, still_to_read}
+use Rattle.uses_tables.proofs.stream.read_all.Given as goal
+
+-- the stream begins with what was read so far, and the rest is left
+abbrev pub invariant-loop-rest : goal.invariant-loop-rest
+invariant-loop-rest l = record {
+  begins : BeginsWith l.stream (map slice_bytes l.pieces.items) l.rest;
+  faults : FaultsFor l.fault l.rest;
+}
+
+abbrev pub decreases-loop-rest : goal.decreases-loop-rest
+decreases-loop-rest l = still_to_read l.fault l.rest

@@ -1,0 +1,10 @@
+pub mod Voyages
+pub mod Owners
+pub mod Origins
+pub mod Entries
+pub mod Causes
+pub mod Reading
+pub mod Levels
+pub mod Ships
+pub mod Names
+pub mod Streams

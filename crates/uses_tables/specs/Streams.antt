@@ -1,0 +1,40 @@
+-- Streams of buffers with their sizes in front, one behind another.
+use Rattle.std.specs.Prelude.{◌≡◌, ℕ, ◌<◌, List, [], ◌∷◌, ◌++◌, length, map, Option, Some, None}
+use Rattle.planus.specs.read.declared.errors.ErrorKind.{ErrorKind}
+use Rattle.planus.specs.read.Clauses.{FirstBroken}
+use Rattle.planus.specs.read.Pieces.{slice_bytes}
+use Rattle.planus.specs.read.SizePrefixed.{PrefixedThere, IsPrefixed, prefixed_clauses}
+use Rattle.planus.specs.write.declared.offset.Text.{Text}
+use Rattle.planus.specs.write.Past.{no_past}
+use Rattle.planus.specs.write.State.{State, IsPast}
+use Rattle.planus.specs.write.Preparing.{WritesText}
+use Rattle.planus.specs.write.Finishing.{SizedFinishGives}
+use Rattle.uses_tables.specs.declared.stream.Records.{Records}
+
+-- What a builder of which nothing was written gives for a finish of this text with the size in front
+-- was put behind a stream.
+pub record IsAppended (text old new : List ℕ) : Type 0 where
+  pub builder : State
+  pub past : IsPast builder no_past
+  pub buffer : List ℕ
+  pub given : SizedFinishGives {T = Text} (WritesText text) None builder buffer
+  pub size : IsPrefixed buffer
+  pub behind : new ≡ old ++ buffer
+
+-- The stream begins with buffers that have these contents behind their sizes, in order, and then
+-- the rest is left.
+abbrev pub BeginsWith : List ℕ → List (List ℕ) → List ℕ → Type 0
+BeginsWith stream [] rest = stream ≡ rest
+BeginsWith stream (content ∷ contents) rest =
+    (next : List ℕ) × PrefixedThere stream content next × BeginsWith next contents rest
+
+-- Why no more is read: nothing is left; or what is left can't be read, for this reason.
+abbrev pub EndsFor : Option ErrorKind → List ℕ → Type 0
+EndsFor None rest = rest ≡ []
+EndsFor (Some error) rest = (0 < length rest) × FirstBroken (prefixed_clauses rest) error
+
+-- All buffers of the stream are read, up to its end or to the first that can't be read.
+pub record ReadsAll (stream : List ℕ) (records : Records) : Type 0 where
+  pub rest : List ℕ
+  pub begins : BeginsWith stream (map slice_bytes records.pieces.items) rest
+  pub ends : EndsFor records.fault rest

@@ -1,0 +1,41 @@
+//! How grave an entry is.
+ghost use Rattle.uses_tables.specs.Levels.{level_shape};
+
+use planus::errors::ErrorKind;
+use planus::{Plain, PlainField, SliceWithStartOffset};
+
+/// How grave an entry is, of the schema `enum Level : uint8 { Info, Warning, Fault }`, by its
+/// number.
+#[derive(Clone, Copy, Debug, PartialEq)]
+pub struct Level(pub u8);
+
+impl Level {
+    /// A word for those who read along.
+    pub const INFO: Level = Level(0);
+    /// Something that is worth a look.
+    pub const WARNING: Level = Level(1);
+    /// Something that is broken.
+    pub const FAULT: Level = Level(2);
+}
+
+impl Plain for Level {
+    ghost ALIGNMENT = { 1 };
+
+    ghost SIZE = { 1 };
+
+    ghost shape = { level_shape };
+
+    const ALIGNMENT: usize = 1;
+
+    const SIZE: usize = 1;
+
+    fn put(&self, bytes: &mut [u8]) {
+        self.0.put(bytes);
+    }
+
+    fn read(buffer: SliceWithStartOffset<'_>, offset: usize) -> Result<Level, ErrorKind> {
+        Ok(Level(<u8 as Plain>::read(buffer, offset)?))
+    }
+}
+
+impl PlainField for Level {}

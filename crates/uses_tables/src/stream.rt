@@ -1,0 +1,47 @@
+//! A stream of buffers with their sizes in front, one behind another.
+
+ghost use Rattle.std.specs.Prelude.{IfOk};
+ghost use Rattle.uses_tables.specs.Streams.{IsAppended, ReadsAll};
+
+use planus::errors::ErrorKind;
+use planus::{BuildError, Builder, SliceWithStartOffset, read_size_prefixed};
+use std::alloc::{AllocError, Global};
+
+/// What is read of a stream.
+#[derive(Drop)]
+pub struct Records<'a> {
+    /// The buffers without their sizes, in order.
+    pub pieces: Vec<SliceWithStartOffset<'a>>,
+    /// What is wrong with what follows them, if anything does.
+    pub fault: Option<ErrorKind>,
+}
+
+/// Writes a text as a buffer with its size in front, behind what the stream has.
+pub fn append(stream: &mut Vec<u8>, builder: &mut Builder, text: &str) -> Result<(), BuildError>
+    ensures { IfOk result (λ done. IsAppended text.now stream.old.items stream.new.items) }
+{
+    builder.clear();
+    let bytes = builder.finish_size_prefixed(text, None)?;
+    stream.extend_from_slice(bytes)?;
+    Ok(())
+}
+
+/// Reads the buffers of a stream one by one: all up to its end, or up to the first that can't be
+/// read, as where the stream was cut.
+pub fn read_all<'a>(alloc: Global, stream: &'a [u8]) -> Result<Records<'a>, AllocError>
+    ensures { IfOk result (ReadsAll stream.now) }
+{
+    let mut pieces = Vec::new(alloc);
+    let mut rest = stream;
+    let mut fault = None;
+    while fault.is_none() && !rest.is_empty() {
+        match read_size_prefixed(rest) {
+            Ok((piece, behind)) => {
+                pieces.push(piece)?;
+                rest = behind;
+            }
+            Err(error) => fault = Some(error),
+        }
+    }
+    Ok(Records { pieces, fault })
+}
