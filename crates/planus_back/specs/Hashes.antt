@@ -1,7 +1,7 @@
 -- The hash of a key, step by step as the code of `keys` computes it. The contracts there cite this,
 -- so that a hash is known to be a function of the key, and so does `number_of`.
-use Rattle.std.specs.Prelude.{◌≡◌, ℕ, zero, suc, ◌+◌, ◌*◌, ◌/◌, ◌%◌, ◌^◌, ◌-◌, List, [], ◌∷◌, length}
-use Rattle.std.specs.Prelude.{take, drop, nat_le, if◌then◌else◌, bit_xor}
+use Rattle.std.specs.Prelude.{◌≡◌, ℕ, zero, suc, ◌+◌, ◌*◌, ◌/◌, ◌%◌, ◌^◌, ◌-◌, List, [], ◌∷◌}
+use Rattle.std.specs.Prelude.{length, take, drop, nat_le, if◌then◌else◌, bit_xor}
 use Rattle.std.specs.Int.{w64, from_le_bytes}
 
 -- the two halves of a product, as one number
