@@ -24,7 +24,7 @@ abbrev pub next_for : Delay → ℕ → ℕ → Delay
 next_for delay size asked = record { delayed = ahead delay size - padding_for delay size asked; mask = max delay.mask asked }
 
 -- a mask takes the rest by one more than itself
-and_below : (n mask : ℕ) → IsPowerOfTwo (mask + 1) → bit_and n mask ≡ n % (mask + 1)
+pub and_below : (n mask : ℕ) → IsPowerOfTwo (mask + 1) → bit_and n mask ≡ n % (mask + 1)
 and_below n mask (k, u) =
     let e : mask ≡ 2 ^ k - 1 = omega (arith, u, pow_pos k) in
     ap (λ x. bit_and n x) e ∙ and_mask n k ∙ ap (λ x. n % x) (sym u)

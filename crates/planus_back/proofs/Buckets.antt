@@ -1,50 +1,97 @@
 -- Maps from the numbers of buckets to distances, as lists.
-use Rattle.std.proofs.Common.{◌≡◌, ℕ, ◌++◌, List, [], ◌∷◌, Option, Some, None, subst, nat_eq, Bool, true, false, cond, refl, ap, sym, ◌∙◌, Result, Ok, Err}
+use Rattle.std.proofs.Common.{◌≡◌, ℕ, ◌+◌, ◌-◌, ◌++◌, List, [], ◌∷◌, Option, Some, None, subst, nat_eq, Bool, true, false, cond, refl, ap, sym, ◌∙◌, Result, Ok, Err, Vec, length, get_or, inl, inr, arith}
+use Rattle.std.proofs.lemmas.Grind.{common_steps}
+use Rattle.std.proofs.lemmas.Bool.{cases_lt}
+use Rattle.std.proofs.lemmas.Bool.Decides.{eqb_tells}
+use Rattle.std.specs.declared.alloc.Global.{Global}
 use Rattle.std.specs.Result.{OnErr, OnOk}
 use Rattle.std.specs.Option.{option_map, unwrap_or, MatchOption}
 use Rattle.std.specs.Map.{lookup, set_value}
-use Rattle.planus_back.specs.declared.distances.Distances.{Distances}
 use Rattle.std.proofs.lemmas.Map.Made.{lookup-map_values}
 use Rattle.std.proofs.lemmas.Map.Steps.{set_value_same}
-use Rattle.planus_back.specs.Buckets.{distances_in, lists_of, AddsAt}
+use Rattle.planus_back.specs.Buckets.{lists_of, listed_at, distances_at, AddsAt, FoundAmong}
 
-pub lookup-listed : (test : ℕ → Bool) (es : List (ℕ × Distances)) → lookup test (lists_of es) ≡ option_map distances_in (lookup test es)
-lookup-listed test es = lookup-map_values distances_in test es
+-- a list of distances, without how it lies in memory
+abbrev pub items_of : Vec ℕ Global → List ℕ
+items_of distances = distances.items
 
-pub listed-set : (test : ℕ → Bool) (es : List (ℕ × Distances)) (w : Distances) → lists_of (set_value test es w) ≡ set_value test (lists_of es) (distances_in w)
+pub lookup-listed : (test : ℕ → Bool) (es : List (ℕ × Vec ℕ Global)) → lookup test (lists_of es) ≡ option_map items_of (lookup test es)
+lookup-listed test es = lookup-map_values items_of test es
+
+listed-set : (test : ℕ → Bool) (es : List (ℕ × Vec ℕ Global)) (w : Vec ℕ Global) → lists_of (set_value test es w) ≡ set_value test (lists_of es) (items_of w)
 listed-set test [] w = refl
 listed-set test (e ∷ es) w =
-    elim (test e.0) as (λ b. lists_of (cond b ((e.0, w) ∷ es) (e ∷ set_value test es w)) ≡ cond b ((e.0, distances_in w) ∷ lists_of es) ((e.0, distances_in e.1) ∷ set_value test (lists_of es) (distances_in w))) [
+    elim (test e.0) as (λ b. lists_of (cond b ((e.0, w) ∷ es) (e ∷ set_value test es w)) ≡ cond b ((e.0, items_of w) ∷ lists_of es) ((e.0, items_of e.1) ∷ set_value test (lists_of es) (items_of w))) [
       | true ↦ refl
-      | false ↦ ap (λ fs. (e.0, distances_in e.1) ∷ fs) (listed-set test es w)
+      | false ↦ ap (λ fs. (e.0, items_of e.1) ∷ fs) (listed-set test es w)
     ]
 
 -- the same distances, written back, change nothing
-pub listed_same : (test : ℕ → Bool) (es fs : List (ℕ × Distances)) (v w : Distances) → fs ≡ set_value test es w → lookup test es ≡ Some v → distances_in w ≡ distances_in v
+pub listed_same : (test : ℕ → Bool) (es fs : List (ℕ × Vec ℕ Global)) (v w : Vec ℕ Global) → fs ≡ set_value test es w → lookup test es ≡ Some v → items_of w ≡ items_of v
     → lists_of fs ≡ lists_of es
 listed_same test es fs v w e found same =
-    rw e (listed-set test es w ∙ set_value_same test (lists_of es) (distances_in w) (lookup-listed test es ∙ ap (option_map distances_in) found ∙ ap Some (sym same)))
+    rw e (listed-set test es w ∙ set_value_same test (lists_of es) (items_of w) (lookup-listed test es ∙ ap (option_map items_of) found ∙ ap Some (sym same)))
 
-chosen : (b : Bool) (w : Distances) (o : Option Distances) → option_map distances_in (cond b (Some w) o) ≡ cond b (Some (distances_in w)) (option_map distances_in o)
+pub at_listed : (h : ℕ) (es : List (ℕ × Vec ℕ Global)) (o : Option (Vec ℕ Global)) → lookup (nat_eq h) es ≡ o → listed_at (lists_of es) h ≡ unwrap_or (option_map items_of o) []
+at_listed h es o e = ap (λ x. unwrap_or x []) (lookup-listed (nat_eq h) es ∙ ap (option_map items_of) e)
+
+chosen : (b : Bool) (w : Vec ℕ Global) (o : Option (Vec ℕ Global)) → unwrap_or (option_map items_of (cond b (Some w) o)) [] ≡ cond b (items_of w) (unwrap_or (option_map items_of o) [])
 chosen true w o = refl
 chosen false w o = refl
 
--- an entry that is put at h, with d behind what was there
-pub adds_at : (h d : ℕ) (es fs : List (ℕ × Distances)) (o : Option Distances) (w : Distances)
+-- a list that is put at h, with d behind what was there
+pub adds_aside : (h d : ℕ) (es fs : List (ℕ × Vec ℕ Global)) (o : Option (Vec ℕ Global)) (w : Vec ℕ Global)
     → ((q : ℕ) → lookup (nat_eq q) fs ≡ cond (nat_eq h q) (Some w) (lookup (nat_eq q) es)) → lookup (nat_eq h) es ≡ o
-    → distances_in w ≡ unwrap_or (option_map distances_in o) [] ++ d ∷ [] → AddsAt (lists_of es) h d (lists_of fs)
-adds_at h d es fs o w puts was is q =
-    rw (lookup-listed (nat_eq h) es, was, ← is) (lookup-listed (nat_eq q) fs ∙ ap (option_map distances_in) (puts q) ∙ chosen (nat_eq h q) w (lookup (nat_eq q) es) ∙ ap (cond (nat_eq h q) (Some (distances_in w))) (sym (lookup-listed (nat_eq q) es)))
+    → items_of w ≡ unwrap_or (option_map items_of o) [] ++ d ∷ [] → AddsAt (listed_at (lists_of es)) h d (listed_at (lists_of fs))
+adds_aside h d es fs o w puts was is q =
+    at_listed q fs _ (puts q) ∙ chosen (nat_eq h q) w (lookup (nat_eq q) es) ∙ ap (cond (nat_eq h q) (items_of w)) (sym (at_listed q es _ refl))
+    ∙ ap (λ there. cond (nat_eq h q) there (listed_at (lists_of es) q)) (is ∙ ap (λ there. there ++ d ∷ []) (sym (at_listed h es o was)))
 
-pub on_ok : {T E P Q : Type 0} (r : Result T E) → (P → Q) → OnOk r P → OnOk r Q
-on_ok (Ok x) f p = f p
-on_ok (Err e) f p = tt
+module _ (h d : ℕ) (ls ms : List (ℕ × ℕ)) (puts : (q : ℕ) → lookup (nat_eq q) ms ≡ cond (nat_eq h q) (Some d) (lookup (nat_eq q) ls)) where
+  none_behind : (xs : List ℕ) → xs ++ d ∷ [] ≡ (xs ++ []) ++ d ∷ []
+  none_behind xs = grind (arith, common_steps)
+
+  -- a distance where there was none
+  pub adds_first : (es : List (ℕ × List ℕ)) → lookup (nat_eq h) ls ≡ None → AddsAt (distances_at ls es) h d (distances_at ms es)
+  adds_first es none q = elim (eqb_tells h q) [
+    | inl w ↦ rw (puts q, w.0, none, ← w.1) (none_behind (listed_at es h))
+    | inr w ↦ rw (puts q, w.0) refl
+  ]
+
+  -- a distance in the place of one that is put aside
+  pub adds_behind : (es fs : List (ℕ × List ℕ)) (b : ℕ) → lookup (nat_eq h) ls ≡ Some b → AddsAt (listed_at es) h b (listed_at fs) → AddsAt (distances_at ls es) h d (distances_at ms fs)
+  adds_behind es fs b some adds q = elim (eqb_tells h q) [
+    | inl w ↦ rw (adds q, puts q, w.0, some) refl
+    | inr w ↦ rw (adds q, puts q, w.0) refl
+  ]
+
+pub both_ok : {T E P Q R : Type 0} (r : Result T E) → (P → Q → R) → OnOk r P → OnOk r Q → OnOk r R
+both_ok (Ok x) f p q = f p q
+both_ok (Err e) f p q = tt
 
 pub on_err : {T E P Q : Type 0} (r : Result T E) → (P → Q) → OnErr r P → OnErr r Q
 on_err (Ok x) f p = tt
 on_err (Err e) f p = f p
 
+pub on_refusal : {T E P : Type 0} (r : Result T E) → P → OnErr r P
+on_refusal (Ok x) p = tt
+on_refusal (Err e) p = p
+
 -- what holds of an option that is there
 pub if_some : {X : Type 0} (o : Option X) (x : X) (P : Type 0) (Q : X → Type 0) → o ≡ Some x → MatchOption o P Q → Q x
 if_some None x P Q is h = (cc)
 if_some (Some y) x P Q is h = let same : y ≡ x = cc in subst Q same h
+
+module _ (key_in : List ℕ → Option (List ℕ)) (bytes key xs ys : List ℕ) where
+  -- what is found among the last distances is found among all
+  pub found_last : (d : ℕ) → FoundAmong key_in ys bytes key (Some d) → FoundAmong key_in (xs ++ ys) bytes key (Some d)
+  found_last d found = ((length xs + found.0.0, grind (arith, common_steps, found.0.1), grind (arith, common_steps, found.0.1, found.0.2)), found.1)
+
+  -- where nothing is found among the last, what is found among those before is what is found
+  pub found_before : (r : Option ℕ) → FoundAmong key_in ys bytes key None → FoundAmong key_in xs bytes key r → FoundAmong key_in (xs ++ ys) bytes key r
+  found_before None none found = λ i below stands.
+      elim (cases_lt i (length xs)) [
+        | inl lt ↦ (let e : get_or (xs ++ ys) i 0 ≡ get_or xs i 0 = grind (arith, common_steps, lt) in found i lt (rw (← e) stands))
+        | inr le ↦ (let e : get_or (xs ++ ys) i 0 ≡ get_or ys (i - length xs) 0 = grind (arith, common_steps, le) in none (i - length xs) (grind (arith, common_steps, below, le)) (rw (← e) stands))
+      ]
+  found_before (Some d) none found = ((found.0.0, grind (arith, common_steps, found.0.1), grind (arith, common_steps, found.0.1, found.0.2)), found.1)

@@ -1,34 +1,37 @@
 -- How a hash takes more bytes.
-use Rattle.std.proofs.Common.{◌≡◌, ℕ, ℤ, zero, suc, ◌+◌, ◌<◌, ◌≤◌, List, [], ◌∷◌, ◌++◌, length, take, drop, map, refl, sym, ap, arith, get_or}
+use Rattle.std.proofs.Common.{◌≡◌, ℕ, ℤ, zero, suc, ◌+◌, ◌/◌, ◌<◌, ◌≤◌, List, [], ◌∷◌, ◌++◌, length, take, drop, map, refl, sym, ap, ◌∙◌, arith, get_or, bit_xor}
 use Rattle.std.proofs.lemmas.Grind.{common_steps}
-use Rattle.std.proofs.lemmas.List.{take-append-drop, drop_more}
+use Rattle.std.proofs.lemmas.List.{take-append-drop, drop_more, drop-map, length-map}
 use Rattle.std.specs.Int.{w64, from_le_bytes}
-use Rattle.planus_back.specs.Hashes.{number_with, number_on, hash_with, hash_on}
+use Rattle.planus_back.specs.Hashes.{number_with, number_on, fold_of, word, first_number, Splits, hash_on}
 
--- eight bytes at once
-pub word_more : (one two three four last : ℕ) (word rest : List ℕ) → length word ≡ 8 → hash_on one two three four last (word ++ rest) ≡ hash_on two three four (hash_with one (from_le_bytes w64 word)) last rest
-word_more one two three four last (a ∷ b ∷ c ∷ d ∷ e ∷ f ∷ g ∷ h ∷ []) rest eight = refl
-word_more one two three four last (a ∷ b ∷ c ∷ d ∷ e ∷ f ∷ g ∷ h ∷ i ∷ more) rest eight = absurd (omega (arith, eight))
-word_more one two three four last [] rest eight = absurd (omega (arith, eight))
-word_more one two three four last (a ∷ []) rest eight = absurd (omega (arith, eight))
-word_more one two three four last (a ∷ b ∷ []) rest eight = absurd (omega (arith, eight))
-word_more one two three four last (a ∷ b ∷ c ∷ []) rest eight = absurd (omega (arith, eight))
-word_more one two three four last (a ∷ b ∷ c ∷ d ∷ []) rest eight = absurd (omega (arith, eight))
-word_more one two three four last (a ∷ b ∷ c ∷ d ∷ e ∷ []) rest eight = absurd (omega (arith, eight))
-word_more one two three four last (a ∷ b ∷ c ∷ d ∷ e ∷ f ∷ []) rest eight = absurd (omega (arith, eight))
-word_more one two three four last (a ∷ b ∷ c ∷ d ∷ e ∷ f ∷ g ∷ []) rest eight = absurd (omega (arith, eight))
+-- a pair of words more
+pub pair_more : (one two last first second : ℕ) (bytes behind : List ℕ) → Splits bytes first second behind
+    → hash_on (length behind / 16) two (fold_of (bit_xor one first) (bit_xor 4983270260364809079 second)) last behind ≡ hash_on (length bytes / 16) one two last bytes
+pair_more one two last first second bytes behind split =
+    let pairs : length bytes / 16 ≡ suc (length behind / 16) = omega (arith, split.enough) in
+    rw (pairs, split.is_first, split.is_second) (ap (λ rest. hash_on (length behind / 16) two (fold_of (bit_xor one (word bytes)) (bit_xor 4983270260364809079 (word (drop 8 bytes)))) last rest) split.is_behind)
 
--- the rest, which are fewer than eight
-pub few_more : (one two three four last : ℕ) (rest : List ℕ) → length rest < 8 → hash_on one two three four last rest ≡ hash_with (hash_with (hash_with two three) one) (hash_with four last)
-few_more one two three four last [] few = refl
-few_more one two three four last (a ∷ []) few = refl
-few_more one two three four last (a ∷ b ∷ []) few = refl
-few_more one two three four last (a ∷ b ∷ c ∷ []) few = refl
-few_more one two three four last (a ∷ b ∷ c ∷ d ∷ []) few = refl
-few_more one two three four last (a ∷ b ∷ c ∷ d ∷ e ∷ []) few = refl
-few_more one two three four last (a ∷ b ∷ c ∷ d ∷ e ∷ f ∷ []) few = refl
-few_more one two three four last (a ∷ b ∷ c ∷ d ∷ e ∷ f ∷ g ∷ []) few = refl
-few_more one two three four last (a ∷ b ∷ c ∷ d ∷ e ∷ f ∷ g ∷ h ∷ more) few = absurd (omega (arith, few))
+take_map : {A : Type 0} (byte : A → ℕ) (n : ℕ) (xs : List A) → map byte (take n xs) ≡ take n (map byte xs)
+take_map byte zero xs = refl
+take_map byte (suc n) [] = refl
+take_map byte (suc n) (x ∷ xs) = ap (λ ys. byte x ∷ ys) (take_map byte n xs)
+
+-- a pair of words and what is behind it, of items that are bytes in another form
+pub splits_map : {A : Type 0} (byte : A → ℕ) (items one rest two behind : List A) (first second : ℕ)
+    → (one ≡ take 8 items) × (rest ≡ drop 8 items) × (length rest + 8 ≡ length items) → (two ≡ take 8 rest) × (behind ≡ drop 8 rest) × (length behind + 8 ≡ length rest)
+    → first ≡ from_le_bytes w64 (map byte one) → second ≡ from_le_bytes w64 (map byte two) → Splits (map byte items) first second (map byte behind)
+splits_map byte items one rest two behind first second whole half is_one is_two =
+    let rest_is : map byte rest ≡ drop 8 (map byte items) = ap (map byte) whole.1 ∙ sym (drop-map byte 8 items) in record {
+      is_first = is_one ∙ ap (λ xs. from_le_bytes w64 (map byte xs)) whole.0 ∙ ap (from_le_bytes w64) (take_map byte 8 items);
+      is_second = is_two ∙ ap (λ xs. from_le_bytes w64 (map byte xs)) half.0 ∙ ap (from_le_bytes w64) (take_map byte 8 rest) ∙ ap word rest_is;
+      is_behind = ap (map byte) half.1 ∙ sym (drop-map byte 8 rest) ∙ ap (drop 8) rest_is;
+      enough = (let a = length-map behind byte in let b = length-map items byte in omega (arith, a, b, whole.2, half.2));
+    }
+
+-- the rest, which is less than a pair of words
+pub rest_more : (one two last : ℕ) (rest : List ℕ) → length rest < 16 → hash_on (length rest / 16) one two last rest ≡ fold_of (bit_xor one (first_number rest)) (bit_xor two last)
+rest_more one two last rest few = let pairs : length rest / 16 ≡ 0 = omega (arith, few) in rw pairs refl
 
 -- the next byte of a number
 pub byte_taken : (number i : ℕ) (bytes : List ℕ) → i < length bytes → number_on number (drop i bytes) ≡ number_on (number_with number (get_or bytes i 0)) (drop (i + 1) bytes)

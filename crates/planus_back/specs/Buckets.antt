@@ -1,27 +1,28 @@
 -- What a cache does with the distances in its buckets.
 use Rattle.std.specs.Prelude.{◌≡◌, ℕ, ◌<◌, ◌++◌, List, [], ◌∷◌, map, length, slice_index, Option}
-use Rattle.std.specs.Prelude.{Some, MatchOption, box_value, nat_eq, cond, unwrap_or}
+use Rattle.std.specs.Prelude.{Some, MatchOption, nat_eq, cond, unwrap_or, option_to_list, Vec}
 use Rattle.std.specs.Map.{lookup}
+use Rattle.std.specs.declared.alloc.Global.{Global}
 use mathlib.Core.Logic.{◌≢◌}
 use Rattle.planus_back.specs.CacheKeys.{key_at}
-use Rattle.planus_back.specs.declared.distances.Distances.{Distances}
-use Rattle.planus_back.specs.declared.distances.Distances.TheVariants.{One, More}
-
--- the distances, one or more
-abbrev pub distances_in : Distances → List ℕ
-distances_in (One distance) = distance ∷ []
-distances_in (More distances) = (box_value distances).items
 
 -- a map, without how its lists lie in memory
-abbrev pub lists_of : List (ℕ × Distances) → List (ℕ × List ℕ)
-lists_of entries = map (λ entry. (entry.0, distances_in entry.1)) entries
+abbrev pub lists_of : List (ℕ × Vec ℕ Global) → List (ℕ × List ℕ)
+lists_of entries = map (λ entry. (entry.0, entry.1.items)) entries
 
--- the distance is added at the end of those in the bucket of this number, and nothing else changes
-abbrev pub AddsAt : List (ℕ × List ℕ) → ℕ → ℕ → List (ℕ × List ℕ) → Type 0
+-- the list at this number, which is empty where there is none
+abbrev pub listed_at : List (ℕ × List ℕ) → ℕ → List ℕ
+listed_at lists number = unwrap_or (lookup (nat_eq number) lists) []
+
+-- the distances at this number: those before the last, and the last
+abbrev pub distances_at : List (ℕ × ℕ) → List (ℕ × List ℕ) → ℕ → List ℕ
+distances_at last earlier number =
+    listed_at earlier number ++ option_to_list (lookup (nat_eq number) last)
+
+-- the distance is added at the end of those at this number, and nothing else changes
+abbrev pub AddsAt : (ℕ → List ℕ) → ℕ → ℕ → (ℕ → List ℕ) → Type 0
 AddsAt old number distance new =
-    (other : ℕ) → lookup (nat_eq other) new
-    ≡ cond (nat_eq number other) (Some (unwrap_or (lookup (nat_eq number) old) [] ++ distance ∷ []))
-    (lookup (nat_eq other) old)
+    (other : ℕ) → new other ≡ cond (nat_eq number other) (old number ++ distance ∷ []) (old other)
 
 -- one of the distances, at which the key stands, or none where there is none
 abbrev pub FoundAmong : (List ℕ → Option (List ℕ)) → List ℕ → List ℕ → List ℕ → Option ℕ → Type 0

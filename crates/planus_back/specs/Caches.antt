@@ -1,38 +1,39 @@
 -- A cache as a set of distances that fits some bytes, and what its calls do.
 use Rattle.std.specs.Prelude.{◌≡◌, ℕ, ◌<◌, List, length, slice_index, Option, Some}
-use Rattle.std.specs.Prelude.{nat_eq, ◌↔◌, ◌⊎◌, MatchOption}
-use Rattle.std.specs.Map.{lookup}
+use Rattle.std.specs.Prelude.{◌↔◌, ◌⊎◌, MatchOption}
 use mathlib.Core.Logic.{◌≢◌}
 use Rattle.planus_back.specs.CacheKeys.{key_at}
+use Rattle.planus_back.specs.Buckets.{distances_at}
 use Rattle.planus_back.specs.Numbers.{number_of}
 use Rattle.planus_back.specs.declared.bucket.Bucket.{Bucket}
 
--- What a cache holds: the distances in its buckets, by the buckets' numbers, and which function
--- tells the number of a key's bucket. It is read through `Has`, `Fits` and `IsBucketOf` alone.
+-- What a cache holds: the last distance in each of its buckets and those before it, by the buckets'
+-- numbers, and which function tells the number of a key's bucket. It is read through `Has`, `Fits`
+-- and `IsBucketOf` alone.
 pub record Held : Type 0 where
   pub choice : ℕ
-  pub buckets : List (ℕ × List ℕ)
+  pub last : List (ℕ × ℕ)
+  pub earlier : List (ℕ × List ℕ)
 
 -- where the cache has the distances of a key, or would have them
 unfoldable pub IsBucketOf : Held → List ℕ → Bucket → Type 0
 IsBucketOf held key bucket = bucket.number ≡ number_of held.choice key
 
 -- the distances in the bucket of this number
-abbrev pub bucket : Held → ℕ → Option (List ℕ)
-bucket held number = lookup (nat_eq number) held.buckets
+abbrev pub bucket : Held → ℕ → List ℕ
+bucket held number = distances_at held.last held.earlier number
 
 -- the cache has the distance
 unfoldable pub Has : Held → ℕ → Type 0
-Has held distance = (number : ℕ) × (distances : List ℕ) × (bucket held number ≡ Some distances)
-    × (i : ℕ) × (i < length distances) × (slice_index distances i ≡ distance)
+Has held distance = (number i : ℕ) × (i < length (bucket held number))
+    × (slice_index (bucket held number) i ≡ distance)
 
 -- The cache fits the bytes by any function from keys to the numbers of buckets: at each of its
 -- distances a key stands, which belongs in the bucket that the distance is in.
 abbrev pub FitsBy : (List ℕ → ℕ) → (List ℕ → Option (List ℕ)) → Held → List ℕ → Type 0
 FitsBy number_of_key key_in held bytes =
-    (number : ℕ) (distances : List ℕ) → bucket held number ≡ Some distances
-    → (i : ℕ) → i < length distances
-    → (key : List ℕ) × (key_at key_in bytes (slice_index distances i) ≡ Some key)
+    (number i : ℕ) → i < length (bucket held number)
+    → (key : List ℕ) × (key_at key_in bytes (slice_index (bucket held number) i) ≡ Some key)
     × (number_of_key key ≡ number)
 
 -- the cache fits the bytes, by the function that it uses

@@ -1,13 +1,12 @@
 -- The hash of a key, step by step as the code of `keys` computes it. The contracts there cite this,
 -- so that a hash is known to be a function of the key, and so does `number_of`.
-use Rattle.std.specs.Prelude.{ℕ, ◌+◌, ◌*◌, ◌/◌, ◌%◌, ◌^◌, ◌-◌, List, [], ◌∷◌, length, drop}
-use Rattle.std.specs.Prelude.{nat_le, if◌then◌else◌, bit_xor}
+use Rattle.std.specs.Prelude.{◌≡◌, ℕ, zero, suc, ◌+◌, ◌*◌, ◌/◌, ◌%◌, ◌^◌, ◌-◌, List, [], ◌∷◌}
+use Rattle.std.specs.Prelude.{length, take, drop, nat_le, if◌then◌else◌, bit_xor}
 use Rattle.std.specs.Int.{w64, from_le_bytes}
 
--- a number more of a hash
-abbrev pub hash_with : ℕ → ℕ → ℕ
-hash_with hash number =
-    (bit_xor (bit_xor hash number) (bit_xor hash number / 2 ^ 32) * 11400714819323198485) % 2 ^ 64
+-- the two halves of a product, as one number
+abbrev pub fold_of : ℕ → ℕ → ℕ
+fold_of left right = bit_xor (left * right % 2 ^ 64) (left * right / 2 ^ 64)
 
 -- one byte more of a number, the first of its bytes being the highest
 abbrev pub number_with : ℕ → ℕ → ℕ
@@ -23,18 +22,34 @@ abbrev pub last_number : List ℕ → ℕ
 last_number key =
     if nat_le 8 (length key) then from_le_bytes w64 (drop (length key - 8) key) else number_on 0 key
 
--- some bytes more of four hashes, which take turns: 8 at a time; and then, in place of the rest,
--- which are fewer than 8, the last number
-abbrev pub hash_on : ℕ → ℕ → ℕ → ℕ → ℕ → List ℕ → ℕ
-hash_on one two three four last (a ∷ b ∷ c ∷ d ∷ e ∷ f ∷ g ∷ h ∷ rest) =
-    let word = from_le_bytes w64 (a ∷ b ∷ c ∷ d ∷ e ∷ f ∷ g ∷ h ∷ []) in
-    hash_on two three four (hash_with one word) last rest
-hash_on one two three four last rest =
-    hash_with (hash_with (hash_with two three) one) (hash_with four last)
+-- the first 8 bytes as a number
+abbrev pub word : List ℕ → ℕ
+word bytes = from_le_bytes w64 (take 8 bytes)
 
--- The hash of a key. The four begin with numbers that have nothing in common, so that keys whose
--- words stand in another order have other hashes: the length, and multiples of the factor of `mix`.
+-- the same, and 0 where they are fewer
+abbrev pub first_number : List ℕ → ℕ
+first_number bytes = if nat_le 8 (length bytes) then word bytes else 0
+
+-- The first two words of some bytes, and what is behind them.
+pub record Splits (bytes : List ℕ) (first second : ℕ) (behind : List ℕ) : Type 0 where
+  pub is_first : first ≡ word bytes
+  pub is_second : second ≡ word (drop 8 bytes)
+  pub is_behind : behind ≡ drop 8 (drop 8 bytes)
+  pub enough : length behind + 16 ≡ length bytes
+
+-- So many pairs of words more of two hashes, which take turns; and then the first word of the rest,
+-- which is less than a pair, and the last number.
+abbrev pub hash_on : ℕ → ℕ → ℕ → ℕ → List ℕ → ℕ
+hash_on zero one two last bytes =
+    fold_of (bit_xor one (first_number bytes)) (bit_xor two last)
+hash_on (suc pairs) one two last bytes =
+    hash_on pairs two
+    (fold_of (bit_xor one (word bytes)) (bit_xor 4983270260364809079 (word (drop 8 bytes))))
+    last (drop 8 (drop 8 bytes))
+
+-- The hash of a key. The two begin with numbers that have nothing in common, so that keys whose
+-- words stand in another order have other hashes.
 abbrev pub hash_of : List ℕ → ℕ
 hash_of key =
-    hash_on (length key) 11400714819323198485 4354685564936845354 15755400384260043839
-    (last_number key) key
+    hash_on (length key / 16) (bit_xor 2611923443488327891 (length key))
+    (bit_xor 589684135938649225 (length key)) (last_number key) key

@@ -1,13 +1,13 @@
 //! A cache of what stands in bytes that grow at their front.
-ghost use Rattle.std.specs.Prelude.{◌≡◌, map, OnOk, OnErr, IfOk};
+ghost use Rattle.std.specs.Prelude.{◌≡◌, map, OnOk, OnErr, IfOk, nat_eq, option_to_list};
+ghost use Rattle.std.specs.Map.{lookup};
 ghost use Rattle.std.specs.Int.{w8, cast_unsigned};
-ghost use Rattle.planus_back.specs.Buckets.{distances_in, lists_of, AddsAt, FoundAmong};
+ghost use Rattle.planus_back.specs.Buckets.{lists_of, listed_at, distances_at, AddsAt, FoundAmong};
 ghost use Rattle.planus_back.specs.Caches.{Fits, IsEmpty, IsBucketOf, IsFound, Adds};
 ghost use Rattle.planus_back.specs.Caches.{FitsWhereKeyStands, FitsWhereItsKeyStands};
 
 use crate::bucket::Bucket;
 use crate::cache_keys::GetCacheKey;
-use crate::distances::Distances;
 use crate::handed::Handed;
 use crate::keys::{Bytes, Key, Signed};
 use std::alloc::{AllocError, Global};
@@ -22,8 +22,10 @@ use std::marker::{Model, PhantomData};
 /// answer depends on.
 #[derive(Drop)]
 pub struct Cache<C> {
-    // The distances at which keys stand, by the hashes of these, cut by the mask.
-    buckets: HashMap<u64, Distances, Handed>,
+    // The last distance at which a key stands, by the key's hash, cut by the mask.
+    last: HashMap<u64, u32, Handed>,
+    // The distances before it. Mostly there are none, and then they take no memory.
+    earlier: HashMap<u64, Vec<u32>, Handed>,
     hash_mask: u64,
     alloc: Global,
     _marker: PhantomData<C>,
@@ -35,18 +37,11 @@ impl<C> Model for Cache<C> {
 
     ghost Value = { Held };
 
-    ghost view = { λ a. record { choice = a.hash_mask; buckets = lists_of a.buckets.entries } };
-}
-
-/// The first of the distances at which the key stands.
-fn find<C: GetCacheKey, K: Key>(distances: &Distances, serialized: &[u8], key: &K) -> Option<u32>
-    ensures { FoundAmong C.key_in (distances_in distances.now) serialized.now (K.bytes_of key.now)
-        result }
-{
-    match distances {
-        Distances::One(distance) => find_among::<C, K>(&[*distance], serialized, key),
-        Distances::More(more) => find_among::<C, K>(more.as_slice(), serialized, key),
-    }
+    ghost view = { λ a. record {
+      choice = a.hash_mask;
+      last = a.last.entries;
+      earlier = lists_of a.earlier.entries;
+    } };
 }
 
 /// The first of these distances at which the key stands.
@@ -85,21 +80,74 @@ pub fn find_signed_key<C: GetCacheKey>(
     find_among::<C, Signed<'_>>(distances, serialized, &Signed(key))
 }
 
-/// Adds a distance to those at a hash. A refusal changes nothing.
-fn add(
-    buckets: &mut HashMap<u64, Distances, Handed>,
+/// Adds a distance to those that are not the last at a hash. A refusal changes nothing.
+fn put_aside(
+    earlier: &mut HashMap<u64, Vec<u32>, Handed>,
     alloc: Global,
     hash: u64,
     distance: u32,
 ) -> Result<(), AllocError>
-    ensures ok { OnOk result (AddsAt (lists_of buckets.old.entries) hash distance
-        (lists_of buckets.new.entries)) }
-    ensures err { OnErr result (lists_of buckets.new.entries ≡ lists_of buckets.old.entries) }
+    ensures ok { OnOk result (AddsAt (listed_at (lists_of earlier.old.entries)) hash distance
+        (listed_at (lists_of earlier.new.entries))) }
+    ensures err { OnErr result (lists_of earlier.new.entries ≡ lists_of earlier.old.entries) }
 {
-    match buckets.entry(hash) {
-        Ok(Entry::Occupied(mut entry)) => entry.get_mut().push(alloc, distance),
+    match earlier.entry(hash) {
+        Ok(Entry::Occupied(mut entry)) => entry.get_mut().push(distance)?,
         Ok(Entry::Vacant(entry)) => {
-            entry.insert(Distances::One(distance));
+            let mut distances = Vec::new(alloc);
+            distances.push(distance)?;
+            entry.insert(distances);
+        }
+        Err(_) => return Err(AllocError),
+    }
+    Ok(())
+}
+
+/// Puts a distance in the place of the last one at a hash, which is put aside. A refusal changes
+/// nothing.
+#[cold]
+#[inline(never)]
+fn replace_last(
+    last: &mut u32,
+    earlier: &mut HashMap<u64, Vec<u32>, Handed>,
+    alloc: Global,
+    hash: u64,
+    distance: u32,
+) -> Result<(), AllocError>
+    ensures replaced { OnOk result (last.new ≡ distance) }
+    ensures ok { OnOk result (AddsAt (listed_at (lists_of earlier.old.entries)) hash last.old
+        (listed_at (lists_of earlier.new.entries))) }
+    ensures last { OnErr result (last.new ≡ last.old) }
+    ensures earlier { OnErr result
+        (lists_of earlier.new.entries ≡ lists_of earlier.old.entries) }
+{
+    put_aside(earlier, alloc, hash, *last)?;
+    *last = distance;
+    Ok(())
+}
+
+/// Adds a distance to those at a hash. A refusal changes nothing.
+#[inline]
+fn add(
+    last: &mut HashMap<u64, u32, Handed>,
+    earlier: &mut HashMap<u64, Vec<u32>, Handed>,
+    alloc: Global,
+    hash: u64,
+    distance: u32,
+) -> Result<(), AllocError>
+    ensures ok { OnOk result (AddsAt
+        (distances_at last.old.entries (lists_of earlier.old.entries)) hash distance
+        (distances_at last.new.entries (lists_of earlier.new.entries))) }
+    ensures last { OnErr result (last.new.entries ≡ last.old.entries) }
+    ensures earlier { OnErr result
+        (lists_of earlier.new.entries ≡ lists_of earlier.old.entries) }
+{
+    match last.entry(hash) {
+        Ok(Entry::Occupied(mut entry)) => {
+            replace_last(entry.get_mut(), earlier, alloc, hash, distance)
+        }
+        Ok(Entry::Vacant(entry)) => {
+            entry.insert(distance);
             Ok(())
         }
         Err(_) => Err(AllocError),
@@ -113,7 +161,8 @@ impl<C: GetCacheKey> Cache<C> {
         ensures { IfOk result IsEmpty }
     {
         Ok(Cache {
-            buckets: HashMap::with_hasher(alloc, Handed::new()),
+            last: HashMap::with_hasher(alloc, Handed::new()),
+            earlier: HashMap::with_hasher(alloc, Handed::new()),
             hash_mask,
             alloc,
             _marker: PhantomData,
@@ -125,7 +174,7 @@ impl<C: GetCacheKey> Cache<C> {
     pub fn clear(&mut self)
         ensures { IsEmpty self.new }
     {
-        if self.buckets.is_empty() {
+        if self.last.is_empty() && self.earlier.is_empty() {
             return;
         }
         self.clear_all();
@@ -136,11 +185,12 @@ impl<C: GetCacheKey> Cache<C> {
     fn clear_all(&mut self)
         ensures { IsEmpty self.new }
     {
+        self.earlier = HashMap::with_hasher(self.alloc, Handed::new());
         // A clear of a map takes time by its capacity, however few entries it has.
-        if self.buckets.len() < self.buckets.capacity() / 32 {
-            self.buckets = HashMap::with_hasher(self.alloc, Handed::new());
+        if self.last.len() < self.last.capacity() / 32 {
+            self.last = HashMap::with_hasher(self.alloc, Handed::new());
         } else {
-            self.buckets.clear();
+            self.last.clear();
         }
     }
 
@@ -154,6 +204,31 @@ impl<C: GetCacheKey> Cache<C> {
         }
     }
 
+    // The last distance in a bucket, if the key stands there.
+    #[inline(always)]
+    fn last_in<K: Key>(&self, bucket: Bucket, serialized: &[u8], key: &K) -> Option<u32>
+        ensures { FoundAmong C.key_in
+            (option_to_list (lookup (nat_eq bucket.number) self.now.last)) serialized.now
+            (K.bytes_of key.now) result }
+    {
+        match self.last.get(&bucket.number) {
+            Some(last) => find_among::<C, K>(&[*last], serialized, key),
+            None => None,
+        }
+    }
+
+    // The first of the distances before it at which the key stands.
+    #[inline(always)]
+    fn earlier_in<K: Key>(&self, bucket: Bucket, serialized: &[u8], key: &K) -> Option<u32>
+        ensures { FoundAmong C.key_in (listed_at self.now.earlier bucket.number) serialized.now
+            (K.bytes_of key.now) result }
+    {
+        match self.earlier.get(&bucket.number) {
+            Some(earlier) => find_among::<C, K>(earlier.as_slice(), serialized, key),
+            None => None,
+        }
+    }
+
     // What `get_in` answers for a key in whatever form.
     #[inline(never)]
     fn get_by<K: Key>(&self, bucket: Bucket, serialized: &[u8], key: &K) -> Option<u32>
@@ -161,9 +236,9 @@ impl<C: GetCacheKey> Cache<C> {
         requires bucket { IsBucketOf self.now (K.bytes_of key.now) bucket }
         ensures { IsFound C.key_in self.now serialized.now (K.bytes_of key.now) result }
     {
-        match self.buckets.get(&bucket.number) {
-            Some(distances) => find::<C, K>(distances, serialized, key),
-            None => None,
+        match self.last_in(bucket, serialized, key) {
+            Some(last) => Some(last),
+            None => self.earlier_in(bucket, serialized, key),
         }
     }
 
@@ -230,6 +305,12 @@ impl<C: GetCacheKey> Cache<C> {
             (FitsWhereItsKeyStands C.key_in self.old bucket distance self.new) }
         ensures err { OnErr result (self.new ≡ self.old) }
     {
-        add(&mut self.buckets, self.alloc, bucket.number, distance)
+        add(
+            &mut self.last,
+            &mut self.earlier,
+            self.alloc,
+            bucket.number,
+            distance,
+        )
     }
 }

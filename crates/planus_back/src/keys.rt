@@ -1,23 +1,25 @@
 //! What is looked for in a cache: bytes, as they are or as signed numbers.
-ghost use Rattle.std.specs.Prelude.{◌≡◌, ◌↔◌, ℕ, List, length, map, IsTrue};
+ghost use Rattle.std.specs.Prelude.{◌≡◌, ◌↔◌, ℕ, ◌<◌, List, length, map, IsTrue, MatchOption};
 ghost use Rattle.std.specs.Int.{w8, w64, cast_unsigned, from_le_bytes};
 ghost use Rattle.planus_back.specs.Bytes.{AreBytes};
-ghost use Rattle.planus_back.specs.Hashes.{number_with, hash_with, last_number, hash_of};
+ghost use Rattle.planus_back.specs.Hashes.{fold_of, number_with, last_number, first_number, Splits};
+ghost use Rattle.planus_back.specs.Hashes.{hash_of};
 
-/// What a hash is multiplied by: an odd number whose bits have no order.
-const FACTOR: u64 = 11400714819323198485;
+/// What the first of the two hashes of a key begins with. This and the next two are digits of pi:
+/// odd numbers of which none is near a multiple of another.
+const FIRST: u64 = 2611923443488327891;
 
-/// Twice the factor, without what is carried.
-const TWO_FACTORS: u64 = 4354685564936845354;
+/// What the second of them begins with.
+const SECOND: u64 = 589684135938649225;
 
-/// Three times the factor, without what is carried.
-const THREE_FACTORS: u64 = 15755400384260043839;
+/// What the second word of a pair is mixed with.
+const MIXED: u64 = 4983270260364809079;
 
 /// Bytes, in whatever form, that can be hashed and compared.
 pub(crate) trait Key {
     ghost bytes_of: { Self → List ℕ };
 
-    // The hash of the bytes: 8 at a time by four hashes in turn, so that none waits for another,
+    // The hash of the bytes: 16 at a time by two hashes in turn, so that none waits for the other,
     // and then the last 8, some of which may have been among these.
     fn hash(&self) -> u64
         ensures { result ≡ hash_of (bytes_of self.now) };
@@ -35,14 +37,13 @@ pub(crate) struct Bytes<'a>(pub(crate) &'a [u8]);
 #[derive(Drop)]
 pub(crate) struct Signed<'a>(pub(crate) &'a [i8]);
 
-// A number more of a hash. The upper half of the bits goes into the lower one too, since a product
-// carries upwards alone.
-#[inline]
-fn mix(hash: u64, number: u64) -> u64
-    ensures { result ≡ hash_with hash number }
+// The two halves of a product, as one number: each bit of it depends on all bits of both numbers.
+#[inline(always)]
+fn fold(left: u64, right: u64) -> u64
+    ensures { result ≡ fold_of left right }
 {
-    let both = hash ^ number;
-    (both ^ (both >> 32)).wrapping_mul(FACTOR)
+    let (low, high) = left.carrying_mul(right, 0);
+    low ^ high
 }
 
 // One byte more of a number.
@@ -66,6 +67,29 @@ fn last_of(bytes: &[u8]) -> u64
         number = join(number, *byte);
     }
     number
+}
+
+// The first 8 bytes as a number, 0 where they are fewer.
+#[inline(always)]
+fn first_of(bytes: &[u8]) -> u64
+    ensures { result ≡ first_number bytes.now }
+{
+    match bytes.first_chunk::<8>() {
+        Some(word) => u64::from_le_bytes(*word),
+        None => 0,
+    }
+}
+
+// The first two words and what is behind them, if there are 16 bytes.
+#[inline(always)]
+fn split_words(bytes: &[u8]) -> Option<(u64, u64, &[u8])>
+    ensures { MatchOption result (length bytes.now < 16)
+        (λ split. Splits bytes.now split.0 split.1 split.2.now) }
+{
+    let (first, behind) = bytes.split_first_chunk::<8>()?;
+    let (second, behind) = behind.split_first_chunk::<8>()?;
+    let (first, second) = (u64::from_le_bytes(*first), u64::from_le_bytes(*second));
+    Some((first, second, behind))
 }
 
 // The byte of a signed number.
@@ -106,6 +130,29 @@ fn last_of_signed(numbers: &[i8]) -> u64
         joined = join(joined, byte_of(*number));
     }
     joined
+}
+
+// The number of the first 8 bytes which are signed numbers, 0 where they are fewer.
+#[inline(always)]
+fn first_of_signed(numbers: &[i8]) -> u64
+    ensures { result ≡ first_number (map (λ number. cast_unsigned w8 number) numbers.now) }
+{
+    match numbers.first_chunk::<8>() {
+        Some(word) => word_of(word),
+        None => 0,
+    }
+}
+
+// The first two words of bytes which are signed numbers, and what is behind them, if there are 16.
+#[inline(always)]
+fn split_signed_words(numbers: &[i8]) -> Option<(u64, u64, &[i8])>
+    ensures { MatchOption result (length numbers.now < 16)
+        (λ split. Splits (map (λ number. cast_unsigned w8 number) numbers.now) split.0 split.1
+        (map (λ number. cast_unsigned w8 number) split.2.now)) }
+{
+    let (first, behind) = numbers.split_first_chunk::<8>()?;
+    let (second, behind) = behind.split_first_chunk::<8>()?;
+    Some((word_of(first), word_of(second), behind))
 }
 
 // Whether these are the same bytes.
@@ -153,14 +200,14 @@ impl<'a> Key for Bytes<'a> {
     #[inline]
     fn hash(&self) -> u64 {
         let last = last_of(self.0);
-        let mut one = self.0.len() as u64;
-        let (mut two, mut three, mut four) = (FACTOR, TWO_FACTORS, THREE_FACTORS);
+        let count = self.0.len() as u64;
+        let (mut one, mut two) = (FIRST ^ count, SECOND ^ count);
         let mut rest = self.0;
-        while let Some((word, behind)) = rest.split_first_chunk::<8>() {
-            (one, two, three, four) = (two, three, four, mix(one, u64::from_le_bytes(*word)));
+        while let Some((first, second, behind)) = split_words(rest) {
+            (one, two) = (two, fold(one ^ first, MIXED ^ second));
             rest = behind;
         }
-        mix(mix(mix(two, three), one), mix(four, last))
+        fold(one ^ first_of(rest), two ^ last)
     }
 
     #[inline]
@@ -175,14 +222,14 @@ impl<'a> Key for Signed<'a> {
     #[inline]
     fn hash(&self) -> u64 {
         let last = last_of_signed(self.0);
-        let mut one = self.0.len() as u64;
-        let (mut two, mut three, mut four) = (FACTOR, TWO_FACTORS, THREE_FACTORS);
+        let count = self.0.len() as u64;
+        let (mut one, mut two) = (FIRST ^ count, SECOND ^ count);
         let mut rest = self.0;
-        while let Some((word, behind)) = rest.split_first_chunk::<8>() {
-            (one, two, three, four) = (two, three, four, mix(one, word_of(word)));
+        while let Some((first, second, behind)) = split_signed_words(rest) {
+            (one, two) = (two, fold(one ^ first, MIXED ^ second));
             rest = behind;
         }
-        mix(mix(mix(two, three), one), mix(four, last))
+        fold(one ^ first_of_signed(rest), two ^ last)
     }
 
     #[inline]

@@ -17,7 +17,6 @@ pub mod cache;
 pub mod cache_keys;
 #[doc(hidden)]
 pub mod cells;
-mod distances;
 pub mod fill;
 mod handed;
 mod keys;

@@ -133,14 +133,14 @@ impl Promises {
     {
         let ahead = self.delayed.wrapping_sub(size) & self.mask;
         let padding = ahead & mask;
-        // A size above `usize::MAX` less the rest counts as that.
-        let place = (len + padding).saturating_add(size);
-        if place > GREATEST_PLACE {
+        // The size is compared first, so that the sum doesn't pass the greatest `usize`.
+        if size > GREATEST_PLACE || len + padding + size > GREATEST_PLACE {
             return Err(TooLarge);
         }
         let next = Promises {
             delayed: ahead - padding,
-            mask: self.mask.max(mask),
+            // The greater one, since each is one less than a power of two.
+            mask: self.mask | mask,
         };
         Ok((next, padding))
     }

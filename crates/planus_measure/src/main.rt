@@ -7,33 +7,17 @@ mod reads;
 mod tables;
 mod works;
 
+use reads::Walk;
 use std::time::Instant;
 use std::{env, io};
 use works::{OPERATIONS, Work, Works};
 
-/// All works and their names, in the order of the table.
-const ALL: &[(&str, Work)] = &[
+/// The works without caches and their names, in the order of the table.
+const PLAIN: &[(&str, Work)] = &[
     ("texts of 3 bytes", Work::Texts(3, 3)),
     ("texts of 100 bytes", Work::Texts(100, 100)),
     ("texts of 0 to 60 bytes", Work::Texts(0, 60)),
     ("texts of 100 bytes, builder grows", Work::GrowingTexts),
-    (
-        "different texts of 20 bytes, with caches",
-        Work::NewTexts(20),
-    ),
-    (
-        "different texts of 100 bytes, with caches",
-        Work::NewTexts(100),
-    ),
-    ("equal texts of 20 bytes, with caches", Work::FoundTexts(20)),
-    (
-        "equal texts of 100 bytes, with caches",
-        Work::FoundTexts(100),
-    ),
-    ("clear, text, finish", Work::AfterTexts(0)),
-    ("the same after 1000 texts", Work::AfterTexts(1000)),
-    ("the same after 10000 texts", Work::AfterTexts(10000)),
-    ("the same after 100000 texts", Work::AfterTexts(100000)),
     ("lists of 64 texts", Work::TextLists),
     ("byte lists of 100 bytes", Work::ByteLists(100)),
     ("byte lists of 64 KiB", Work::ByteLists(65536)),
@@ -54,7 +38,42 @@ const ALL: &[(&str, Work)] = &[
     ("read 2 of 8 fields", Work::ReadFields(2)),
     ("read 8 of 8 fields", Work::ReadFields(8)),
     ("read a monster", Work::ReadMonsters),
-    ("read 16 numbers of a list", Work::ReadChunks),
+    ("read 16 numbers", Work::ReadNumbers(Walk::Each)),
+    (
+        "read 16 numbers by their positions",
+        Work::ReadNumbers(Walk::Positions),
+    ),
+    (
+        "read a piece of 16 numbers",
+        Work::ReadNumbers(Walk::Chunks),
+    ),
+    (
+        "read 16 windows of 4 numbers",
+        Work::ReadNumbers(Walk::Windows),
+    ),
+    ("read a text of a list", Work::ReadTexts),
+];
+
+/// The works with caches and their names, in the order of the table.
+const CACHED: &[(&str, Work)] = &[
+    ("cached: different texts of 20 bytes", Work::NewTexts(20)),
+    ("cached: different texts of 100 bytes", Work::NewTexts(100)),
+    ("cached: equal texts of 20 bytes", Work::Texts(20, 20)),
+    ("cached: equal texts of 100 bytes", Work::Texts(100, 100)),
+    ("cached: texts of 20 bytes, some often", Work::OftenTexts),
+    ("cached: lists of 64 texts", Work::TextLists),
+    (
+        "cached: different byte lists of 100 bytes",
+        Work::NewByteLists(100),
+    ),
+    ("cached: equal byte lists of 64 KiB", Work::ByteLists(65536)),
+    ("cached: tables of 2 fields", Work::TwoFields),
+    ("cached: tables of 8 fields", Work::EightFields),
+    ("cached: clear, weapon, finish", Work::Weapons),
+    ("cached: clear, text, finish", Work::AfterTexts(0)),
+    ("the same after 1000 texts", Work::AfterTexts(1000)),
+    ("the same after 10000 texts", Work::AfterTexts(10000)),
+    ("the same after 100000 texts", Work::AfterTexts(100000)),
 ];
 
 /// The number of rounds that was asked for, 0 where none was.
@@ -74,9 +93,10 @@ fn measure(
     works: &mut Works,
     name: &str,
     work: Work,
+    with_caches: bool,
     rounds: u64,
 ) -> io::Result<()> {
-    let Some(done) = works.first_round(work) else {
+    let Some(done) = works.first_round(work, with_caches) else {
         return println!(rt; "{name:<42} refused");
     };
     if rounds == 0 {
@@ -84,7 +104,7 @@ fn measure(
     }
     let start = Instant::now(rt)?;
     for _ in 0..rounds {
-        if works.round(work) != Some(done) {
+        if works.round(work, with_caches) != Some(done) {
             return println!(rt; "{name:<42} {done:>8} differs");
         }
     }
@@ -100,8 +120,11 @@ fn measure_all(rt: &HostRuntime, works: &mut Works, rounds: u64) -> io::Result<(
         "{:<42} {:>8} {:>10}",
         "a thousand times", "done", "ns each"
     )?;
-    for (name, work) in ALL {
-        measure(rt, works, name, *work, rounds)?;
+    for (name, work) in PLAIN {
+        measure(rt, works, name, *work, false, rounds)?;
+    }
+    for (name, work) in CACHED {
+        measure(rt, works, name, *work, true, rounds)?;
     }
     Ok(())
 }

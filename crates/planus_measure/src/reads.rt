@@ -25,6 +25,19 @@ pub const MONSTER: [u8; 84] = [
     101, 0,
 ];
 
+/// How the numbers of a vector are reached.
+#[derive(Clone, Copy)]
+pub enum Walk {
+    /// By an iterator over all.
+    Each,
+    /// By their positions.
+    Positions,
+    /// By pieces of 16.
+    Chunks,
+    /// By windows of 4.
+    Windows,
+}
+
 /// The root of a finished table.
 fn root(buffer: &[u8]) -> Result<Table<'_>, Error> {
     let piece = SliceWithStartOffset::new(buffer, 0);
@@ -97,13 +110,58 @@ fn sum_of(numbers: Vector<'_, u32>) -> usize {
     sum
 }
 
-/// Reads a finished list by pieces of 16 numbers, and returns the sum.
-pub fn chunks(buffer: &[u8]) -> Result<usize, ErrorKind> {
-    let piece = SliceWithStartOffset::new(buffer, 0);
-    let list = <Vector<'_, u32> as TableRead<'_>>::from_buffer(piece, 0)?;
+/// The sum of some numbers, each reached by its position.
+fn sum_by_positions(numbers: Vector<'_, u32>) -> usize {
     let mut sum: usize = 0;
-    for chunk in list.chunks(16) {
+    for at in 0..numbers.len() {
+        sum = sum.wrapping_add(numbers.get(at).unwrap_or(0) as usize);
+    }
+    sum
+}
+
+/// The sum of some numbers, by pieces of 16.
+fn sum_by_chunks(numbers: Vector<'_, u32>) -> usize {
+    let mut sum: usize = 0;
+    for chunk in numbers.chunks(16) {
         sum = sum.wrapping_add(sum_of(chunk));
     }
+    sum
+}
+
+/// The sum of all windows of 4 numbers.
+fn sum_by_windows(numbers: Vector<'_, u32>) -> usize {
+    let mut sum: usize = 0;
+    for window in numbers.windows(4) {
+        sum = sum.wrapping_add(sum_of(window));
+    }
+    sum
+}
+
+/// Reads a finished list of numbers, and returns the sum.
+pub fn walked(buffer: &[u8], walk: Walk) -> Result<usize, ErrorKind> {
+    let piece = SliceWithStartOffset::new(buffer, 0);
+    let list = <Vector<'_, u32> as TableRead<'_>>::from_buffer(piece, 0)?;
+    Ok(match walk {
+        Walk::Each => sum_of(list),
+        Walk::Positions => sum_by_positions(list),
+        Walk::Chunks => sum_by_chunks(list),
+        Walk::Windows => sum_by_windows(list),
+    })
+}
+
+/// Reads a finished list of texts, and returns the sum of their lengths.
+pub fn texts(buffer: &[u8]) -> Result<usize, Error> {
+    let mut sum: usize = 0;
+    for text in texts_in(buffer)? {
+        sum = sum.wrapping_add(text?.len());
+    }
     Ok(sum)
+}
+
+/// The texts of a finished list.
+fn texts_in(buffer: &[u8]) -> Result<Vector<'_, Result<&str, Error>>, Error> {
+    let piece = SliceWithStartOffset::new(buffer, 0);
+    <Vector<'_, Result<&str, Error>> as TableRead<'_>>::from_buffer(piece, 0).map_err(
+        |kind| kind.with_error_location("Texts", "root", 0),
+    )
 }

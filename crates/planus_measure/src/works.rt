@@ -2,7 +2,7 @@
 
 ghost use Rattle.std.specs.Prelude.{◌≡◌, length};
 
-use crate::reads::{self, MONSTER, NUMBERS, WEAPON};
+use crate::reads::{self, MONSTER, NUMBERS, WEAPON, Walk};
 use crate::tables;
 use planus::{BuildError, Builder, ByteList, Caches, Fill, Offset, Text};
 use planus_back::Promises;
@@ -23,24 +23,26 @@ const NO_CACHES: Caches = Caches {
     hash_mask: 0,
 };
 
-/// One kind of operation. Sizes are in bytes. Where nothing else is said, the builder has no
-/// caches, and room for what is written.
+/// One kind of operation. Sizes are in bytes. Where nothing else is said, the builder has room for
+/// what is written. One with caches finds equal contents and writes them once.
 #[derive(Clone, Copy)]
 pub enum Work {
     /// Texts whose sizes go round from the first number up to the second.
     Texts(usize, usize),
     /// Texts of 100 bytes, in a new builder that grows.
     GrowingTexts,
-    /// Different texts of this size, of at least 7, in a builder with caches, which finds none.
+    /// Different texts of this size, of at least 7.
     NewTexts(usize),
-    /// Equal texts of this size in a builder with caches, which finds them.
-    FoundTexts(usize),
-    /// A clear, a text and a finish, by a builder with caches that had so many texts before.
+    /// Texts of 20 bytes, of which few stand often and many once or twice.
+    OftenTexts,
+    /// A clear, a text and a finish, by a new builder with caches that had so many texts before.
     AfterTexts(usize),
     /// Lists of 64 texts, of 0 to 63 bytes.
     TextLists,
-    /// Byte lists of this size.
+    /// Equal byte lists of this size.
     ByteLists(usize),
+    /// Different byte lists of this size, of at least 7.
+    NewByteLists(usize),
     /// Lists of so many numbers of 4 bytes.
     NumberLists(usize),
     /// Parts of this size.
@@ -61,8 +63,10 @@ pub enum Work {
     ReadFields(usize),
     /// A table of five fields from its buffer, with a list and a union, and all of them.
     ReadMonsters,
-    /// Pieces of 16 numbers of 4 bytes of a vector, each of them read.
-    ReadChunks,
+    /// Numbers of 4 bytes of a vector, 16 an operation, reached in this way.
+    ReadNumbers(Walk),
+    /// Texts of 20 bytes of a vector.
+    ReadTexts,
 }
 
 /// A filler of equal bytes.
@@ -136,14 +140,28 @@ fn push_different_texts(
     Ok(())
 }
 
+/// Adds texts of 20 bytes, of which few stand often: in an order that has nothing to do with how
+/// often they do.
+fn push_often_texts(alloc: Global, texts: &mut Vec<String>) -> Result<(), AllocError> {
+    let letters = LETTERS.get(..13).unwrap_or("");
+    for at in 0..OPERATIONS {
+        let rank = at * 389 % OPERATIONS + 1;
+        texts.push(different_text(alloc, OPERATIONS / rank, letters)?)?;
+    }
+    Ok(())
+}
+
 /// Adds the texts of a kind of operation, none where it needs none.
 fn push_texts_of(alloc: Global, texts: &mut Vec<String>, work: Work) -> Result<(), AllocError> {
     match work {
         Work::Texts(least, most) => push_texts(alloc, texts, OPERATIONS, least, most),
         Work::GrowingTexts => push_texts(alloc, texts, OPERATIONS, 100, 100),
-        Work::FoundTexts(len) => push_texts(alloc, texts, OPERATIONS, len, len),
+        Work::OftenTexts => push_often_texts(alloc, texts),
+        Work::ReadTexts => push_texts(alloc, texts, OPERATIONS, 20, 20),
         Work::TextLists => push_texts(alloc, texts, 64, 0, 63),
-        Work::NewTexts(len) => push_different_texts(alloc, texts, OPERATIONS, len),
+        Work::NewTexts(len) | Work::NewByteLists(len) => {
+            push_different_texts(alloc, texts, OPERATIONS, len)
+        }
         Work::AfterTexts(count) => push_different_texts(alloc, texts, count, 20),
         _ => Ok(()),
     }
@@ -153,7 +171,7 @@ fn push_texts_of(alloc: Global, texts: &mut Vec<String>, work: Work) -> Result<(
 fn numbers_of(alloc: Global, work: Work) -> Result<Vec<u32>, AllocError> {
     match work {
         Work::NumberLists(len) => equal_numbers(alloc, len),
-        Work::ReadChunks => equal_numbers(alloc, 16 * OPERATIONS),
+        Work::ReadNumbers(_) => equal_numbers(alloc, 16 * OPERATIONS),
         _ => Ok(Vec::new(alloc)),
     }
 }
@@ -193,6 +211,17 @@ fn finished_list(
     Ok(Vec::from_slice(alloc, builder.finish(numbers, None)?)?)
 }
 
+/// A finished list of these texts.
+fn finished_texts(
+    alloc: Global,
+    builder: &mut Builder,
+    texts: &[String],
+) -> Result<Vec<u8>, BuildError> {
+    builder.clear();
+    let list = builder.create_vector::<Offset<Text>, &[String]>(texts)?;
+    Ok(Vec::from_slice(alloc, builder.finish(list, None)?)?)
+}
+
 /// Writes each text, and returns the length of all.
 fn write_texts(builder: &mut Builder, texts: &[String]) -> Result<usize, BuildError> {
     builder.clear();
@@ -226,6 +255,15 @@ fn write_byte_lists(builder: &mut Builder, bytes: &[u8]) -> Result<usize, BuildE
     builder.clear();
     for _ in 0..OPERATIONS {
         builder.create_vector(ByteList(bytes))?;
+    }
+    Ok(builder.len())
+}
+
+/// Writes the bytes of each text as a list, and returns the length of all.
+fn write_texts_as_bytes(builder: &mut Builder, texts: &[String]) -> Result<usize, BuildError> {
+    builder.clear();
+    for text in texts {
+        builder.create_vector(ByteList(text.as_bytes()))?;
     }
     Ok(builder.len())
 }
@@ -311,7 +349,8 @@ impl Works {
         self.bytes = bytes_of(self.alloc, work)?;
         match work {
             Work::AfterTexts(_) => self.write_before(),
-            Work::ReadChunks => self.finish_numbers(),
+            Work::ReadNumbers(_) => self.finish_numbers(),
+            Work::ReadTexts => self.finish_texts(),
             _ => Ok(()),
         }
     }
@@ -329,36 +368,61 @@ impl Works {
         Ok(())
     }
 
-    /// The first round of a kind of operation, as [`Works::round`] is.
-    pub fn first_round(&mut self, work: Work) -> Option<usize> {
-        self.prepare(work).ok()?;
-        self.round(work)
+    /// Finishes a list of the texts, to be read.
+    fn finish_texts(&mut self) -> Result<(), BuildError> {
+        self.bytes = finished_texts(self.alloc, &mut self.builder, self.texts.as_slice())?;
+        Ok(())
     }
 
-    /// One round of a kind of operation. Returns the number of bytes that were written, or the sum
-    /// of what was read; `None` where it was refused.
-    pub fn round(&mut self, work: Work) -> Option<usize> {
-        let builder = &mut self.builder;
+    /// The first round of a kind of operation, as [`Works::round`] is.
+    pub fn first_round(&mut self, work: Work, with_caches: bool) -> Option<usize> {
+        self.prepare(work).ok()?;
+        self.round(work, with_caches)
+    }
+
+    /// One round of a kind of operation, by the builder with caches or the other one. Returns the
+    /// number of bytes that were written, or the sum of what was read; `None` where it was refused.
+    pub fn round(&mut self, work: Work, with_caches: bool) -> Option<usize> {
         let texts = self.texts.as_slice();
         let bytes = self.bytes.as_slice();
-        match work {
-            Work::Texts(_, _) => write_texts(builder, texts).ok(),
-            Work::GrowingTexts => write_growing_texts(self.alloc, texts).ok(),
-            Work::NewTexts(_) | Work::FoundTexts(_) => write_texts(&mut self.caching, texts).ok(),
-            Work::AfterTexts(_) => write_messages(&mut self.caching).ok(),
-            Work::TextLists => write_text_lists(builder, texts).ok(),
-            Work::ByteLists(_) => write_byte_lists(builder, bytes).ok(),
-            Work::NumberLists(_) => write_number_lists(builder, &self.numbers).ok(),
-            Work::Parts(size) => write_parts(builder, size).ok(),
-            Work::GrowingParts(size) => write_growing_parts(self.alloc, size).ok(),
-            Work::TwoFields => tables::write_two(builder).ok(),
-            Work::EightFields => tables::write_eight(builder).ok(),
-            Work::Weapons => tables::write_weapons(builder).ok(),
-            Work::Requests => request_padding(),
-            Work::ReadWeapons => reads::weapons(bytes).ok(),
-            Work::ReadFields(count) => reads::fields(bytes, count).ok(),
-            Work::ReadMonsters => reads::monsters(bytes).ok(),
-            Work::ReadChunks => reads::chunks(bytes).ok(),
+        let numbers = self.numbers.as_slice();
+        if with_caches {
+            round_by(&mut self.caching, self.alloc, texts, bytes, numbers, work)
+        } else {
+            round_by(&mut self.builder, self.alloc, texts, bytes, numbers, work)
         }
+    }
+}
+
+/// One round of a kind of operation by a builder.
+fn round_by(
+    builder: &mut Builder,
+    alloc: Global,
+    texts: &[String],
+    bytes: &[u8],
+    numbers: &[u32],
+    work: Work,
+) -> Option<usize> {
+    match work {
+        Work::Texts(_, _) | Work::NewTexts(_) | Work::OftenTexts => {
+            write_texts(builder, texts).ok()
+        }
+        Work::GrowingTexts => write_growing_texts(alloc, texts).ok(),
+        Work::AfterTexts(_) => write_messages(builder).ok(),
+        Work::TextLists => write_text_lists(builder, texts).ok(),
+        Work::ByteLists(_) => write_byte_lists(builder, bytes).ok(),
+        Work::NewByteLists(_) => write_texts_as_bytes(builder, texts).ok(),
+        Work::NumberLists(_) => write_number_lists(builder, numbers).ok(),
+        Work::Parts(size) => write_parts(builder, size).ok(),
+        Work::GrowingParts(size) => write_growing_parts(alloc, size).ok(),
+        Work::TwoFields => tables::write_two(builder).ok(),
+        Work::EightFields => tables::write_eight(builder).ok(),
+        Work::Weapons => tables::write_weapons(builder).ok(),
+        Work::Requests => request_padding(),
+        Work::ReadWeapons => reads::weapons(bytes).ok(),
+        Work::ReadFields(count) => reads::fields(bytes, count).ok(),
+        Work::ReadMonsters => reads::monsters(bytes).ok(),
+        Work::ReadNumbers(walk) => reads::walked(bytes, walk).ok(),
+        Work::ReadTexts => reads::texts(bytes).ok(),
     }
 }

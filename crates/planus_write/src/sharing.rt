@@ -103,7 +103,7 @@ impl<C: GetCacheKey> Sharing<C> {
     }
 
     // The contents stand at the distance, or are about to. A refusal of memory changes nothing.
-    #[inline(never)]
+    #[inline(always)]
     fn keep_in<L: ByteItems>(
         &mut self,
         bucket: Option<Bucket>,
@@ -195,7 +195,7 @@ fn fill<C: GetCacheKey, L: ByteItems>(
 
 // Makes room for a part of `size` bytes whose contents aren't found, in this order: it may be too
 // large; the memory of padding and part; that of the cache.
-#[inline]
+#[inline(always)]
 pub(crate) fn plan_shared<C: GetCacheKey, L: ByteItems>(
     backing: &mut Backing,
     sharing: &mut Sharing<C>,
