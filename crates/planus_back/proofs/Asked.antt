@@ -6,7 +6,7 @@ use Rattle.std.proofs.Math.Nat.{mod-lt, mod-mod_of_dvd}
 use Rattle.planus_back.specs.Promises.{Promise, IsPowerOfTwo}
 use Rattle.planus_back.specs.Padding.{promise_of, IsLeast, IsLeastPadding}
 use Rattle.planus_back.specs.Requests.{Delay, LeavesSome, DescribesThose, DescribesAll}
-use Rattle.planus_back.specs.Sound.{IsSound}
+use Rattle.planus_back.specs.inner.Sound.{IsSound}
 use Rattle.planus_back.proofs.Multiples.{multiple_of_divides}
 use Rattle.planus_back.proofs.Lengths.{Combined, combined, least_of_request, those_of_request}
 use Rattle.planus_back.proofs.Lists.{power_divides, least_padding_of, described_after}

@@ -5,8 +5,8 @@ use Rattle.std.proofs.lemmas.List.{append_assoc, length-append, length-take, len
 use Rattle.core.specs.Mem.Slots.Ownership.{Filled, SameOutside}
 use Rattle.core.specs.Mem.Slots.{slots_items, slots_filled, slots_len}
 use Rattle.core.specs.declared.slots.Slots.{Slots}
-use Rattle.planus_back.specs.Cells.{slots_with_run}
-use Rattle.planus_back.specs.Blocks.{HoldsFrom, Puts, Readies, bytes_from, capacity_of}
+use Rattle.planus_back.specs.inner.Cells.{slots_with_run}
+use Rattle.planus_back.specs.inner.Blocks.{HoldsFrom, Puts, Readies, bytes_from, capacity_of}
 use Rattle.planus_back.specs.declared.block.Block.{Block}
 
 -- some zeros more behind others

@@ -23,7 +23,7 @@ impl Model for BackVec {
 
     ghost Value = { BackBytes };
 
-    ghost use Rattle.planus_back.specs.BackView.{back_bytes, BeginsAtStart};
+    ghost use Rattle.planus_back.specs.inner.BackView.{back_bytes, BeginsAtStart};
 
     ghost view = { back_bytes };
 

@@ -3,8 +3,8 @@ ghost use Rattle.std.specs.Prelude.{◌≡◌, ◌+◌, ◌≤◌, ℕ, ◌++◌
 ghost use Rattle.std.specs.Prelude.{false};
 ghost use Rattle.core.specs.Mem.Slots.Ownership.{Filled, SameOutside};
 ghost use Rattle.core.specs.Mem.Slots.{SamePlaces, slots_filled, slots_items, slots_len};
-ghost use Rattle.planus_back.specs.Blocks.{HoldsFrom, IsBlock, Puts, Readies, bytes_from};
-ghost use Rattle.planus_back.specs.Blocks.{capacity_of};
+ghost use Rattle.planus_back.specs.inner.Blocks.{HoldsFrom, IsBlock, Puts, Readies, bytes_from};
+ghost use Rattle.planus_back.specs.inner.Blocks.{capacity_of};
 
 use crate::cells::{Deed, allocate, deallocate, lend, lend_mut};
 use crate::fill::{Fill, Overwrite};

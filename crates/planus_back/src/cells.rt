@@ -7,7 +7,7 @@ ghost use Rattle.std.specs.Vec.Ownership.{FitsInBlock};
 ghost use Rattle.core.specs.Mem.Slots.Ownership.{leased, Filled};
 ghost use Rattle.core.specs.Mem.Slots.{slots_items, slots_filled, slots_ptr, slots_len};
 ghost use base.Fml.{ftrue};
-ghost use Rattle.planus_back.specs.Cells.{lends_run};
+ghost use Rattle.planus_back.specs.inner.Cells.{lends_run};
 ghost use denote.RawPtr.{Ptr, InBlock};
 
 use core::slots::Slots;

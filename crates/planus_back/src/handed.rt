@@ -16,7 +16,7 @@ impl Handed {
 }
 
 impl Hasher for Handed {
-    ghost use Rattle.planus_back.specs.Handing.{handed};
+    ghost use Rattle.planus_back.specs.inner.Handing.{handed};
 
     ghost write = { handed };
 

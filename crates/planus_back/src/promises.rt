@@ -44,7 +44,7 @@ pub struct Promises {
 
 impl Model for Promises {
     ghost use Rattle.planus_back.specs.Requests.{Delay};
-    ghost use Rattle.planus_back.specs.Sound.{IsSound};
+    ghost use Rattle.planus_back.specs.inner.Sound.{IsSound};
 
     ghost Value = { Delay };
 

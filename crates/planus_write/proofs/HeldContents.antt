@@ -10,7 +10,7 @@ use Rattle.planus_back.specs.Caches.{Held, Has, Fits, IsEmpty, Adds, IsBucketOf,
 use Rattle.planus_back.specs.declared.bucket.Bucket.{Bucket}
 use Rattle.planus_back.proofs.Caches.{key_at-front, Fits-front, Fits-empty, Has-stands}
 use Rattle.planus_write.specs.Holding.{Holding, few, many, FindContents, Holds, HoldsNothing, HoldsMore, HoldingFits, FitsInFront}
-use Rattle.planus_write.specs.Sharing.{LooksIn, KeepsIf}
+use Rattle.planus_write.specs.inner.Sharing.{LooksIn, KeepsIf}
 
 -- it fits with bytes in front
 pub holding_fits-front : (contents_in : FindContents) (holding : Holding) (front bytes : List ℕ) → HoldingFits contents_in holding bytes → HoldingFits contents_in holding (front ++ bytes)

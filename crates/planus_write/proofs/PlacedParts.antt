@@ -15,9 +15,9 @@ use Rattle.planus_write.specs.Shared.{shared_as, earlier_distance, distance_seen
 use Rattle.planus_write.specs.Past.{Past, Entry, unshared_entry, part_after, Adds, PutsAfter, Puts}
 use Rattle.planus_write.specs.Past.{found_before, no_past}
 use Rattle.planus_write.specs.Parts.{front_part, front_entry, root_words, sized_words, sized_finish_entry, identifier_bytes}
-use Rattle.planus_write.specs.Backed.{Backed, DescribedBy, Pads, PutsBytes, MakesRoom, LacksRoom}
+use Rattle.planus_write.specs.inner.Backed.{Backed, DescribedBy, Pads, PutsBytes, MakesRoom, LacksRoom}
 use Rattle.planus_write.specs.Holding.{Holding, HoldsNothing, HoldsMore, FitsInFront}
-use Rattle.planus_write.specs.Sharing.{Shares, FindsIf, Finds, KeepsIf, Keeps, LacksSharedRoom, FindsOrPlans}
+use Rattle.planus_write.specs.inner.Sharing.{Shares, FindsIf, Finds, KeepsIf, Keeps, LacksSharedRoom, FindsOrPlans}
 use Rattle.planus_write.specs.Kept.{AllSeenKept}
 use Rattle.planus_write.specs.State.{State, IsPast, FindsSeen, Holdings, holding_of, contents_in}
 use Rattle.planus_write.specs.Placing.{PutsDown, MayLackMemory}

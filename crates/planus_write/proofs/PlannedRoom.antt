@@ -3,8 +3,8 @@ use Rattle.std.proofs.Common.{◌≡◌, ℕ, ◌+◌, ◌-◌, ◌<◌, Bool, t
 use Rattle.planus_back.specs.Descriptions.{Describes}
 use Rattle.planus_back.specs.Padding.{promise_of}
 use Rattle.planus_back.specs.Promises.{Promise}
-use Rattle.planus_write.specs.Backed.{Backed, DescribedBy, Plans, Enlarges, Pads, MakesRoom, LacksRoom}
-use Rattle.planus_write.specs.Sharing.{LacksSharedRoom}
+use Rattle.planus_write.specs.inner.Backed.{Backed, DescribedBy, Plans, Enlarges, Pads, MakesRoom, LacksRoom}
+use Rattle.planus_write.specs.inner.Sharing.{LacksSharedRoom}
 use Rattle.planus_write.specs.declared.backing.Plan.{Plan}
 use Rattle.planus_write.specs.declared.errors.BuildError.{BuildError}
 use Rattle.planus_write.specs.declared.errors.BuildError.TheVariants.{OutOfMemory, TooLarge}

@@ -5,15 +5,15 @@ use Rattle.std.proofs.lemmas.List.{length-replicate}
 use Rattle.std.specs.Int.{w32, to_le_bytes, cast_unsigned}
 use Rattle.planus_back.specs.CacheKeys.{vtable_in}
 use Rattle.planus_back.specs.Parts.{Part}
-use Rattle.planus_write.specs.Backed.{Backed, Plans}
+use Rattle.planus_write.specs.inner.Backed.{Backed, Plans}
 use Rattle.planus_write.specs.Past.{Past, unshared_entry}
 use Rattle.planus_write.specs.Placing.{PutsDown}
 use Rattle.planus_write.specs.Shared.{vtables}
-use Rattle.planus_write.specs.Sharing.{FindsIf, KeepsIf}
+use Rattle.planus_write.specs.inner.Sharing.{FindsIf, KeepsIf}
 use Rattle.planus_write.specs.State.{State, IsPast}
 use Rattle.planus_write.specs.Tables.{vtable_part, vtable_entry, word_part}
 use Rattle.planus_write.specs.View.{state_of}
-use Rattle.planus_write.specs.WholeTables.{PutsPart, PutsParts, PutsPartsIf, PutsTable, PutsTableIf}
+use Rattle.planus_write.specs.inner.WholeTables.{PutsPart, PutsParts, PutsPartsIf, PutsTable, PutsTableIf}
 use Rattle.planus_write.specs.declared.backing.Plan.{Plan}
 use Rattle.planus_write.specs.declared.builder.Builder.TheInside.{Inside}
 use Rattle.planus_write.specs.lemmas.KeptTables.{new_vtables}

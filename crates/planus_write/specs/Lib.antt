@@ -5,13 +5,10 @@ pub mod Tables
 pub mod Parts
 pub mod Kept
 pub mod Limits
-pub mod Backed
 pub mod Holding
 pub mod State
 pub mod InBuilder
-pub mod Sharing
 pub mod Placing
-pub mod WholeTables
 pub mod ObjectWriting
 pub mod View
 pub mod Preparing
@@ -25,3 +22,4 @@ pub mod ListContents
 pub mod lemmas
 pub mod Texts
 pub mod IoErrors
+pub mod inner

@@ -2,7 +2,7 @@
 use Rattle.std.specs.Prelude.{ℕ, ◌+◌, ◌≤◌, ◌^◌, List, length}
 use Rattle.planus_back.specs.Padding.{greatest_place}
 use Rattle.planus_write.specs.Shared.{Switches}
-use Rattle.planus_write.specs.Backed.{Backed}
+use Rattle.planus_write.specs.inner.Backed.{Backed}
 use Rattle.planus_write.specs.State.{State, Holdings, IsPast}
 use Rattle.planus_write.specs.Past.{Past}
 use Rattle.planus_write.specs.declared.backing.Backing.TheInside as backing

@@ -4,7 +4,7 @@ ghost use Rattle.std.specs.Prelude.{pos, ◌-◌, ◌-ℤ◌};
 ghost use Rattle.std.specs.Int.{w32, to_le_bytes, cast_unsigned};
 ghost use Rattle.planus_back.specs.Promises.{Promise, IsPowerOfTwo, greatest_alignment};
 ghost use Rattle.planus_back.specs.Padding.{greatest_place};
-ghost use Rattle.planus_write.specs.Backed.{Backed, PlansPart};
+ghost use Rattle.planus_write.specs.inner.Backed.{Backed, PlansPart};
 
 use crate::errors::BuildError;
 use planus_back::{BackVec, Fill, Overwrite, Promises};
@@ -32,7 +32,7 @@ pub(crate) struct Backing {
 }
 
 impl Model for Backing {
-    ghost use Rattle.planus_write.specs.Backed.{Backed};
+    ghost use Rattle.planus_write.specs.inner.Backed.{Backed};
 
     ghost Value = { Backed };
 
@@ -44,11 +44,11 @@ impl Model for Backing {
 }
 
 impl Backing {
-    ghost use Rattle.planus_write.specs.Backed.{DescribedBy, PutsBytes, Reserves};
-    ghost use Rattle.planus_write.specs.Backed.{Pads, Begins};
+    ghost use Rattle.planus_write.specs.inner.Backed.{DescribedBy, PutsBytes, Reserves};
+    ghost use Rattle.planus_write.specs.inner.Backed.{Pads, Begins};
     ghost use Rattle.planus_write.specs.Parts.{filled_part};
-    ghost use Rattle.planus_write.specs.Backed.{PlansRoom};
-    ghost use Rattle.planus_write.specs.WholeTables.{PutsPartsIf};
+    ghost use Rattle.planus_write.specs.inner.Backed.{PlansRoom};
+    ghost use Rattle.planus_write.specs.inner.WholeTables.{PutsPartsIf};
 
     // No bytes, and room for so many.
     pub(crate) fn with_capacity(alloc: Global, capacity: usize) -> Result<Backing, AllocError>

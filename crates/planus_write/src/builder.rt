@@ -59,7 +59,7 @@ impl Builder {
     ghost use Rattle.planus_write.specs.InBuilder.{IsIn};
     ghost use Rattle.planus_write.specs.View.{switches_of};
     ghost use Rattle.planus_write.specs.Placing.{WritesEntry, WritesPart};
-    ghost use Rattle.planus_write.specs.WholeTables.{PutsTableIf};
+    ghost use Rattle.planus_write.specs.inner.WholeTables.{PutsTableIf};
     ghost use Rattle.planus_write.specs.Preparing.{WritesText, WritesByteList};
     ghost use Rattle.planus_write.specs.Finishing.{EndsAs, FinishGives, FinishLeaves, WritesRoot};
     ghost use Rattle.planus_write.specs.Finishing.{SizedFinishGives, SizedFinishLeaves};

@@ -3,8 +3,8 @@ ghost use Rattle.std.specs.Prelude.{◌≡◌, ◌+◌, ◌≤◌, ◌^◌, true
 ghost use Rattle.planus_back.specs.Caches.{IsEmpty};
 ghost use Rattle.planus_back.specs.Promises.{IsPowerOfTwo};
 ghost use Rattle.planus_write.specs.Holding.{few, many, HoldingFits, HoldsNothing, FindsHeld};
-ghost use Rattle.planus_write.specs.Sharing.{LooksIn, KeepsIf, PlansShared};
-ghost use Rattle.planus_write.specs.Sharing.{FindsOrPlans};
+ghost use Rattle.planus_write.specs.inner.Sharing.{LooksIn, KeepsIf, PlansShared};
+ghost use Rattle.planus_write.specs.inner.Sharing.{FindsOrPlans};
 
 use crate::backing::{Backing, Plan};
 use crate::byte_lists::ByteItems;
@@ -38,7 +38,7 @@ impl<C> Model for Sharing<C> {
     ghost use Rattle.std.specs.Prelude.{◌≡◌, cond, false};
     ghost use Rattle.planus_back.specs.Caches.{IsEmpty};
     ghost use Rattle.planus_write.specs.Holding.{few, many};
-    ghost use Rattle.planus_write.specs.Sharing.{Shares};
+    ghost use Rattle.planus_write.specs.inner.Sharing.{Shares};
 
     ghost Value = { Shares };
 

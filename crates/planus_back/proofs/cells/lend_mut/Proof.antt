@@ -51,7 +51,7 @@ use Rattle.core.proofs.slots.Leases.{uncapped}
 use Rattle.core.proofs.slots.Places.{sz}
 use Rattle.core.proofs.slots.Opens.{Sr, el_d, row_val, row_made, row_opens}
 use Rattle.core.proofs.slots.Runs.{run, spliced, unspliced, in_run, run_long, spliced_long, Around, run_out, run_in}
-use Rattle.planus_back.specs.Cells.{slots_with_run}
+use Rattle.planus_back.specs.inner.Cells.{slots_with_run}
 use Rattle.planus_back.proofs.Runs.{to_cells, of_cells}
 use Rattle.planus_back.specs.contracts.cells.lend_mut as F
 use Rattle.planus_back.specs.contracts.cells.lend_mut.Key.{name as #self}

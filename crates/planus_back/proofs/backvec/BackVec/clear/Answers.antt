@@ -2,7 +2,7 @@ use Rattle.std.proofs.Common.{◌+◌, length, ap, subst, arith, length-drop}
 use Rattle.std.proofs.lemmas.List.{drop_all}
 use Rattle.core.specs.Mem.Slots.{slots_counts, slots_items}
 use Rattle.planus_back.specs.BackBytes.{BackBytes}
-use Rattle.planus_back.specs.Blocks.{HoldsFrom}
+use Rattle.planus_back.specs.inner.Blocks.{HoldsFrom}
 use Rattle.planus_back.proofs.backvec.BackVec.clear.Goals as goal
 
 pub invariant_of-self : goal.invariant_of-self

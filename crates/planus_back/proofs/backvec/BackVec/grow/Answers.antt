@@ -1,7 +1,7 @@
 use Rattle.std.proofs.Common.{ℕ, ◌+◌, ◌-◌, ◌++◌, length, Result, Ok, Err, OnErr, refl, ap, subst, ◌∙◌, arith}
 use Rattle.std.proofs.lemmas.List.{append-nil, drop_all}
 use Rattle.core.specs.Mem.Slots.{slots_counts, slots_items}
-use Rattle.planus_back.specs.Blocks.{HoldsFrom, bytes_from}
+use Rattle.planus_back.specs.inner.Blocks.{HoldsFrom, bytes_from}
 use Rattle.planus_back.proofs.backvec.BackVec.grow.Goals as goal
 
 on_refusal : {T E P : Type 0} (r : Result T E) → P → OnErr r P

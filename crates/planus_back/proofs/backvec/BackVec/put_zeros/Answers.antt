@@ -1,7 +1,7 @@
 use Rattle.std.proofs.Common.{ℕ, ◌++◌, replicate, ap, ◌∙◌, arith}
 use Rattle.std.proofs.lemmas.List.{length-replicate}
 use Rattle.planus_back.specs.BackBytes.{BackBytes}
-use Rattle.planus_back.specs.Blocks.{bytes_from}
+use Rattle.planus_back.specs.inner.Blocks.{bytes_from}
 use Rattle.planus_back.proofs.backvec.BackVec.put_zeros.Goals as goal
 
 pub invariant_of-self : goal.invariant_of-self

@@ -1,5 +1,5 @@
 use Rattle.std.proofs.Common.{◌≡◌, ◌+◌, ◌-◌, arith, sym, subst}
-use Rattle.planus_back.specs.Blocks.{HoldsFrom}
+use Rattle.planus_back.specs.inner.Blocks.{HoldsFrom}
 use Rattle.planus_back.proofs.Blocks.{holds_from_lesser, made_ready}
 use Rattle.planus_back.proofs.block.Block.fill_fresh.Goals as goal
 

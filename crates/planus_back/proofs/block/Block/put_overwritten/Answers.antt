@@ -1,7 +1,7 @@
 use Rattle.std.proofs.Common.{◌≡◌, ◌+◌, ℕ, List, arith, length, drop, length-take, length-drop, ap, ◌∙◌, subst}
 use Rattle.core.specs.Mem.Slots.{slots_items}
-use Rattle.planus_back.specs.Blocks.{Puts}
-use Rattle.planus_back.specs.Cells.{slots_with_run}
+use Rattle.planus_back.specs.inner.Blocks.{Puts}
+use Rattle.planus_back.specs.inner.Cells.{slots_with_run}
 use Rattle.planus_back.proofs.Blocks.{put_lent, put_ready}
 use Rattle.planus_back.proofs.block.Block.put_overwritten.Goals as goal
 

@@ -2,7 +2,7 @@ use Rattle.std.proofs.Common.{◌≡◌, ◌+◌, false, ◌∙◌, sym}
 use Rattle.planus_back.specs.Parts.{Part}
 use Rattle.planus_write.specs.Parts.{filled_part}
 use Rattle.planus_write.specs.View.{state_of}
-use Rattle.planus_write.specs.WholeTables.{PutsTableIf}
+use Rattle.planus_write.specs.inner.WholeTables.{PutsTableIf}
 use Rattle.planus_write.proofs.WholeTables.{puts_table_if, table_sound}
 use Rattle.planus_write.proofs.builder.Builder.put_table.Given as given
 use Rattle.planus_write.proofs.builder.Builder.put_table.Goals as goal

@@ -2,11 +2,11 @@ use Rattle.std.proofs.Common.{◌≡◌, ◌+◌, ◌++◌, [], length, replicat
 use Rattle.std.specs.Int.{w32, to_le_bytes}
 use Rattle.std.proofs.lemmas.Result.{err_from_is_err_and}
 use Rattle.planus_back.specs.CacheKeys.{bytes_in}
-use Rattle.planus_write.specs.Backed.{PutsBytes}
+use Rattle.planus_write.specs.inner.Backed.{PutsBytes}
 use Rattle.planus_write.specs.Parts.{byte_list_entry, byte_list_part}
 use Rattle.planus_write.specs.Placing.{PutsDown, Refuses}
 use Rattle.planus_write.specs.Shared.{byte_lists}
-use Rattle.planus_write.specs.Sharing.{FindsOrPlans}
+use Rattle.planus_write.specs.inner.Sharing.{FindsOrPlans}
 use Rattle.planus_write.specs.View.{state_of}
 use Rattle.planus_write.specs.declared.sharing.Lookup.{Lookup}
 use Rattle.planus_write.specs.declared.sharing.Lookup.TheVariants.{Found, Planned}

@@ -2,7 +2,7 @@ use Rattle.std.proofs.Common.{[], refl, subst}
 use Rattle.std.proofs.lemmas.Result.{err_from_is_err_and}
 use Rattle.planus_write.specs.Past.{unshared_entry}
 use Rattle.planus_write.specs.Parts.{count_part}
-use Rattle.planus_write.specs.Backed.{PutsBytes}
+use Rattle.planus_write.specs.inner.Backed.{PutsBytes}
 use Rattle.planus_write.specs.Placing.{PutsDown, Refuses}
 use Rattle.planus_write.specs.View.{state_of}
 use Rattle.planus_write.proofs.PlacedParts.{part_put, unshared_refused, still_sound, left_sound}

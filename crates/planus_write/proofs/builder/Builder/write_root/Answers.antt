@@ -1,7 +1,7 @@
 use Rattle.std.proofs.Common.{[], ◌+◌, length, subst}
 use Rattle.std.proofs.lemmas.Result.{err_from_is_err_and}
 use Rattle.planus_write.specs.Parts.{identifier_bytes, root_words, finish_entry}
-use Rattle.planus_write.specs.Backed.{MakesRoom, PutsBytes, LacksRoom}
+use Rattle.planus_write.specs.inner.Backed.{MakesRoom, PutsBytes, LacksRoom}
 use Rattle.planus_write.specs.Finishing.{Finishes}
 use Rattle.planus_write.specs.Placing.{Refuses}
 use Rattle.planus_write.specs.View.{state_of}

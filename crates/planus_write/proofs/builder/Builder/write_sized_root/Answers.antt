@@ -2,7 +2,7 @@ use Rattle.std.proofs.Common.{◌≡◌, ◌+◌, ◌-◌, [], ◌++◌, length,
 use Rattle.std.proofs.lemmas.Result.{err_from_is_err_and}
 use Rattle.std.specs.Int.{w32, to_le_bytes}
 use Rattle.planus_write.specs.Parts.{identifier_bytes, sized_words, sized_finish_entry}
-use Rattle.planus_write.specs.Backed.{MakesRoom, PutsBytes, LacksRoom}
+use Rattle.planus_write.specs.inner.Backed.{MakesRoom, PutsBytes, LacksRoom}
 use Rattle.planus_write.specs.Finishing.{PutsInFront}
 use Rattle.planus_write.specs.Placing.{Refuses}
 use Rattle.planus_write.specs.View.{state_of}

@@ -4,7 +4,7 @@ use Rattle.planus_back.specs.CacheKeys.{bytes_in}
 use Rattle.planus_write.specs.Parts.{text_entry, text_part}
 use Rattle.planus_write.specs.Placing.{PutsDown, Refuses}
 use Rattle.planus_write.specs.Shared.{texts}
-use Rattle.planus_write.specs.Sharing.{FindsOrPlans}
+use Rattle.planus_write.specs.inner.Sharing.{FindsOrPlans}
 use Rattle.planus_write.specs.View.{state_of}
 use Rattle.planus_write.specs.declared.sharing.Lookup.{Lookup}
 use Rattle.planus_write.specs.declared.sharing.Lookup.TheVariants.{Found, Planned}

@@ -5,7 +5,7 @@ use Rattle.planus_back.specs.CacheKeys.{vtable_in}
 use Rattle.planus_write.specs.Tables.{vtable_entry, vtable_part}
 use Rattle.planus_write.specs.Placing.{PutsDown, Refuses}
 use Rattle.planus_write.specs.Shared.{vtables}
-use Rattle.planus_write.specs.Sharing.{FindsOrPlans}
+use Rattle.planus_write.specs.inner.Sharing.{FindsOrPlans}
 use Rattle.planus_write.specs.View.{state_of}
 use Rattle.planus_write.specs.declared.sharing.Lookup.{Lookup}
 use Rattle.planus_write.specs.declared.sharing.Lookup.TheVariants.{Found, Planned}

@@ -1,7 +1,7 @@
 -- How the three parts of a table are put down at once.
 use Rattle.std.specs.Prelude.{◌≡◌, ℕ, List, [], Bool, true, false, length}
 use Rattle.planus_back.specs.Parts.{Part}
-use Rattle.planus_write.specs.Backed.{Backed, MakesRoom, PutsBytes}
+use Rattle.planus_write.specs.inner.Backed.{Backed, MakesRoom, PutsBytes}
 use Rattle.planus_write.specs.Past.{unshared_entry}
 use Rattle.planus_write.specs.Placing.{PutsDown}
 use Rattle.planus_write.specs.State.{State}

@@ -1,6 +1,6 @@
 -- How the bytes of a back vector are kept: as the end of a block, from a start on.
 use Rattle.planus_back.specs.BackBytes.{BackBytes}
-use Rattle.planus_back.specs.Blocks.{HoldsFrom, bytes_from}
+use Rattle.planus_back.specs.inner.Blocks.{HoldsFrom, bytes_from}
 use Rattle.planus_back.specs.declared.backvec.BackVec.TheInside.{Inside}
 
 -- the block's bytes from the start on, and the room in front of them

@@ -4,7 +4,7 @@ use Rattle.std.specs.Prelude.{ℕ, Err, length}
 use Rattle.planus_back.specs.Caches.{IsBucketOf}
 use Rattle.planus_back.specs.Padding.{greatest_place}
 use Rattle.planus_back.specs.declared.bucket.Bucket.{Bucket}
-use Rattle.planus_write.specs.Backed.{Backed, Plans, Enlarges, HasPlace, LacksRoom}
+use Rattle.planus_write.specs.inner.Backed.{Backed, Plans, Enlarges, HasPlace, LacksRoom}
 use Rattle.planus_write.specs.Holding.{Holding, few, many, FindContents, FindsHeld, HoldsMore}
 use Rattle.planus_write.specs.Holding.{FitsInFront}
 use Rattle.planus_write.specs.declared.backing.Plan.{Plan}
