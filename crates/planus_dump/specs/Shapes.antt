@@ -1,4 +1,4 @@
--- Schemas without where their names and lists lie in memory, and those of the worked rows.
+-- Schemas without their location in memory, and those of the worked rows.
 use Rattle.std.specs.Prelude.{◌≡◌, ℕ, List, [], ◌∷◌, map, codes, None}
 use Rattle.std.specs.String.{string_bytes}
 use Rattle.planus.specs.Steps.{Step, text, bytes, refs, unions, table, finish, root_first}
@@ -42,7 +42,7 @@ pub record HasShape
 abbrev pub field_of : ℕ → List ℕ → Kind → FieldShape
 field_of slot name kind = record { slot = slot; name = name; kind = kind }
 
--- weapons and monsters; what a monster has equipped, and its loot, are weapons, with tag 1
+-- weapons and monsters; a monster's equipment and loot are weapons, with tag 1
 abbrev pub weapon_shape : TableShape
 weapon_shape =
     record {
@@ -66,8 +66,8 @@ worked_tables = weapon_shape ∷ monster_shape ∷ []
 abbrev pub worked_unions : List (List (ℕ × ℕ))
 worked_unions = ((1, 0) ∷ []) ∷ []
 
--- The steps of a monster with an axe in hand, in its list of weapons and in its loot. Step 1 is the
--- axe, and step 6 the monster.
+-- The steps of a monster with an axe in hand, in its vector of weapons and in its loot. Step 1 is
+-- the axe, step 6 the monster.
 abbrev pub worked_steps : List Step
 worked_steps =
     text (codes "Axe") ∷ table ((0, ref_field 0) ∷ (1, number_field 2 24) ∷ [])
@@ -77,7 +77,7 @@ worked_steps =
     ∷ (4, number_field 1 1) ∷ [])
     ∷ finish root_first 6 None ∷ []
 
--- a weapon whose damage has four bytes, and one whose name is a list of bytes
+-- a weapon whose damage has four bytes, and one whose name is a byte vector
 abbrev pub wide_steps : List Step
 wide_steps =
     text (codes "Axe") ∷ table ((0, ref_field 0) ∷ (1, number_field 4 24) ∷ []) ∷ []
@@ -86,8 +86,7 @@ abbrev pub unnamed_steps : List Step
 unnamed_steps =
     bytes (codes "Axe") ∷ table ((0, ref_field 0) ∷ (1, number_field 2 24) ∷ []) ∷ []
 
--- The schema of weapons fits the axe, and that of monsters the monster. That of weapons fits neither
--- of the other two, nor the monster.
+-- The schema of weapons fits the axe alone, and that of monsters the monster.
 pub record WorkedRowsFit (schema : Schema) : Type 0 where
   pub weapon : HasShape schema worked_tables worked_unions 0 → Fits schema worked_steps 1
   pub monster : HasShape schema worked_tables worked_unions 1 → Fits schema worked_steps 6

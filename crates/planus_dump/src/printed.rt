@@ -1,4 +1,4 @@
-//! Bytes in hexadecimal digits, and texts in quotes.
+//! Hexadecimal digits, and strings in quotes.
 ghost use Rattle.std.specs.Prelude.{◌≡◌, ◌<◌, ◌++◌, OnOk, IfOk};
 ghost use Rattle.std.specs.Char.{digit_char};
 ghost use Rattle.std.specs.String.{string_bytes};
@@ -27,7 +27,7 @@ pub fn push_hex(text: &mut String, byte: u8) -> Result<(), AllocError>
     Ok(())
 }
 
-/// Returns the text of a byte list.
+/// Returns a printed byte vector.
 pub(crate) fn hex_text(alloc: Global, bytes: &[u8]) -> Result<String, AllocError>
     ensures { IfOk result (λ text. string_bytes text ≡ bytes_text bytes.now) }
 {
@@ -41,7 +41,7 @@ pub(crate) fn hex_text(alloc: Global, bytes: &[u8]) -> Result<String, AllocError
     Ok(text)
 }
 
-/// Adds a character as it stands within quotes.
+/// Adds a character as it is written within quotes.
 fn push_escaped(text: &mut String, c: char) -> Result<(), AllocError>
     ensures { OnOk result (string_bytes text.new ≡ string_bytes text.old ++ escaped c) }
 {
@@ -55,7 +55,7 @@ fn push_escaped(text: &mut String, c: char) -> Result<(), AllocError>
     text.push(c)
 }
 
-/// Returns a text within quotes.
+/// Returns a string within quotes.
 pub(crate) fn quoted_text(alloc: Global, text: &str) -> Result<String, AllocError>
     ensures { IfOk result (λ quotation. string_bytes quotation ≡ quoted text.now) }
 {

@@ -22,8 +22,7 @@ use planus::table_reader::Table;
 use planus::{Place, TaggedPlace};
 use std::alloc::AllocError;
 
-/// Dumps the table to which the reference at a place leads, below which there may be `left - 1`
-/// further ones.
+/// Dumps the table to which the reference at a place leads, with up to `left - 1` levels below it.
 #[cycle(walk)]
 pub fn dump_table(
     schema: &Schema,
@@ -47,7 +46,7 @@ pub fn dump_table(
     }
 }
 
-/// Dumps a table of this schema, in which there may be `left` further tables.
+/// Dumps a table of this schema, with up to `left` levels below it.
 #[cycle(walk)]
 fn dump_shape(
     schema: &Schema,
@@ -75,7 +74,7 @@ fn dump_shape(
     Ok(())
 }
 
-/// Dumps a field of a table, in which there may be `left` further tables.
+/// Dumps a field of a table, with up to `left` levels below it.
 #[cycle(walk)]
 fn dump_field(
     schema: &Schema,
@@ -128,7 +127,7 @@ fn dump_found(
     }
 }
 
-/// Dumps a field that has one place, all but a union or a vector of unions.
+/// Dumps a field that has one place: all but a union or a union vector.
 #[cycle(walk)]
 fn dump_place(
     schema: &Schema,
@@ -213,7 +212,7 @@ fn dump_union(
     }
 }
 
-/// Dumps a vector of unions.
+/// Dumps a union vector.
 #[cycle(walk)]
 fn dump_unions(
     schema: &Schema,
