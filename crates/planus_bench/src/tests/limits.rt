@@ -22,7 +22,7 @@ use std::alloc::Global;
 use std::marker::PhantomData;
 use std::test::Fail;
 
-// As large as the only field of an object can be.
+// The largest only field of an object.
 struct Largest;
 
 impl Primitive for Largest {
@@ -43,7 +43,6 @@ impl Primitive for Largest {
     const SIZE: usize = 65531;
 }
 
-// The bytes of one.
 #[derive(Clone, Copy)]
 struct Bytes<'a> {
     bytes: &'a [u8],
@@ -78,7 +77,7 @@ fn put_largest<'b>(builder: &'b mut Builder, field: Bytes<'_>) -> Result<&'b [u8
     builder.finish(root, None)
 }
 
-// Whether it stands behind the root word and the word of the table, and its vtable at the end.
+// Whether it is after the root word and the table's word, with its vtable at the end.
 fn stands_largest(bytes: &[u8], item: &[u8]) -> bool {
     bytes.len() == 65546
         && bytes.starts_with(b"\x04\0\0\0\0\0\xff\xff")
@@ -96,7 +95,6 @@ fn the_largest_object_is_written(builder: &mut Builder, item: &[u8]) -> bool {
     }
 }
 
-// The same in a new builder.
 fn the_largest_object_is_written_in(alloc: Global, item: &[u8]) -> bool {
     match new_builder(alloc) {
         Ok(mut builder) => the_largest_object_is_written(&mut builder, item),
@@ -128,7 +126,6 @@ fn put_greatest_slot(builder: &mut Builder) -> Result<&[u8], BuildError> {
     builder.finish(root, None)
 }
 
-// Whether the number is read in its slot, and none behind it.
 fn reads_greatest_slot(bytes: &[u8]) -> bool {
     match Table::from_buffer(SliceWithStartOffset::new(bytes, 0), 0) {
         Ok(table) => { slot_has(table, 32764, Some(5u8)) && slot_has::<u8>(table, 32765, None) }
@@ -147,7 +144,6 @@ fn the_greatest_slot_is_written(builder: &mut Builder) -> bool {
     }
 }
 
-// The same in a new builder.
 fn the_greatest_slot_is_written_in(alloc: Global) -> bool {
     match new_builder(alloc) {
         Ok(mut builder) => the_greatest_slot_is_written(&mut builder),
@@ -176,7 +172,7 @@ fn slot_is_none(table: Table<'_>, slot: usize) -> bool {
         )
 }
 
-// Whether slot 0 has its number, and a slot far behind it none.
+// Whether slot 0 has its number, and a slot far after it none.
 fn far_slot_is_none(slot: usize) -> bool {
     match Table::from_buffer(SliceWithStartOffset::new(&NUMBER, 0), 0) {
         Ok(table) => slot_has(table, 0, Some(24u16)) && slot_is_none(table, slot),
@@ -192,7 +188,7 @@ fn slots_far_behind_a_vtable(rt: HostRuntime) {
     check(&rt, far_slot_is_none(half + 1), "half of it and one");
 }
 
-// At the greatest place there is room for no byte more.
+// At the greatest place there is no room for one more byte.
 #[test]
 fn promises_at_the_greatest_place(rt: HostRuntime) {
     let promises = Promises::new();
@@ -202,7 +198,7 @@ fn promises_at_the_greatest_place(rt: HostRuntime) {
     check(&rt, matches!(one, Err(TooLarge)), "one byte");
 }
 
-// The weapon with the name `Axe` and a damage of 24, of which one byte is another.
+// The weapon with the name `Axe` and a damage of 24, with one byte changed.
 fn weapon(at: usize, byte: u8) -> [u8; 32] {
     let mut bytes = *b"\x04\0\0\0\xf4\xff\xff\xff\x10\0\0\0\x18\0\0\0\
         \x08\0\x0a\0\x04\0\x08\0\x03\0\0\0Axe\0";
@@ -236,7 +232,6 @@ fn damaged_roots_of_a_weapon(rt: HostRuntime) {
     }
 }
 
-// Whether the vtable's second slot is no longer there.
 fn has_a_name_alone(bytes: &[u8]) -> bool {
     match Table::from_buffer(SliceWithStartOffset::new(bytes, 0), 0) {
         Ok(weapon) => { slot_has(weapon, 0, Some("Axe")) && slot_has::<i16>(weapon, 1, None) }
