@@ -11,7 +11,6 @@ use uses_tables::{
     all_read_back, text_read_back,
 };
 
-// Writes an entry with this text alone.
 fn note(builder: &mut Builder, text: &str) -> Result<Offset<Entry>, BuildError>
     ensures reached { IfOk result (λ offset. IsIn builder.new offset) }
     ensures grows { Grows builder.old builder.new }

@@ -1,5 +1,4 @@
-//! All that takes no memory: every call of a reader, a piece and an error's constructor, with all
-//! memory taken.
+//! Every call of a reader, a slice and an error's constructor, without memory.
 
 use super::{pieces, size_prefixed, tables, traits};
 use crate::tests::check;
@@ -48,7 +47,7 @@ fn pieces_answer() -> bool {
     pieces::pieces_advance() && pieces::pieces_give_arrays() && pieces::arrays_give_arrays()
 }
 
-// Of each kind of calls, whether they answer as they should.
+// Whether the calls of each kind give the expected results.
 #[derive(Clone, Copy)]
 struct Answers {
     rows: bool,
@@ -58,7 +57,7 @@ struct Answers {
     errors: bool,
 }
 
-// Makes all calls with all memory taken. Tells whether it was.
+// Makes all calls without memory. Returns whether it was taken.
 fn answers_without_memory(alloc: Global) -> Result<(bool, Answers), AllocError> {
     let mut held: Vec<Vec<u8>> = Vec::with_capacity(alloc, 262144)?;
     let exhausted = exhaust(alloc, &mut held)?;
