@@ -22,7 +22,6 @@ pub(crate) struct NamedSteps<'a> {
 }
 
 impl<'a> NamedSteps<'a> {
-    /// Returns the value of a step, by its number.
     pub(crate) fn value(&self, step: usize) -> Result<Offset<()>, Why>
         ensures { FindsNamed a_value offset_named self.now.first (map name_of self.now.offsets.now)
             step result }
@@ -34,7 +33,6 @@ impl<'a> NamedSteps<'a> {
         }
     }
 
-    /// Returns the union vector of a step, by its number.
     fn unions(&self, step: usize) -> Result<UnionVectorOffset<()>, Why>
         ensures { FindsNamed a_union_vector vector_named self.now.first
             (map name_of self.now.offsets.now) step result }
@@ -46,7 +44,6 @@ impl<'a> NamedSteps<'a> {
         }
     }
 
-    /// Returns what a step wrote, by its number.
     fn written(&self, step: usize) -> Option<Option<Written>>
         ensures { option_map name_of result
             ≡ written_at self.now.first (map name_of self.now.offsets.now) step }
@@ -58,7 +55,6 @@ impl<'a> NamedSteps<'a> {
         offsets.get(step - self.first).copied()
     }
 
-    /// Returns a union by its tag and the step of its value.
     pub(crate) fn union(&self, item: (u8, usize)) -> Result<UnionOffset<()>, Why>
         ensures { PreparesUnion self.now.first (map name_of self.now.offsets.now) item result }
     {
@@ -69,7 +65,6 @@ impl<'a> NamedSteps<'a> {
         Ok(UnionOffset::new(tag, self.value(step)?))
     }
 
-    /// Returns a field's content, ready to be written.
     pub(crate) fn prepare(&self, value: &FieldValue) -> Result<PreparedField, Why>
         ensures { PreparesField self.now.first (map name_of self.now.offsets.now)
             (content_of value.now) result }

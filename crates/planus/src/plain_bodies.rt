@@ -70,7 +70,6 @@ macro_rules! read_variant {
 
 // What the macros write for a struct with padding and an enum.
 
-/// An enum of three variants.
 #[derive(Clone, Copy)]
 enum Choice {
     First = 0,
@@ -98,7 +97,6 @@ impl Plain for Choice {
     }
 }
 
-/// Two numbers, a choice, and a byte of padding.
 #[derive(Clone, Copy)]
 struct Padded {
     left: i16,

@@ -28,7 +28,6 @@ pub(crate) enum PreparedField {
 }
 
 impl PreparedField {
-    /// Returns a number of `width` bytes.
     pub(crate) fn number(width: u8, value: u64) -> Result<PreparedField, Why>
         ensures { PreparesNumber (field_width width) value result }
     {
@@ -42,7 +41,6 @@ impl PreparedField {
         number.ok_or(Why::ValueTooBig)
     }
 
-    /// Returns the alignment in bytes.
     pub(crate) fn alignment(&self) -> usize
         ensures { result ≡ field_alignment (field_is self.now) }
     {
@@ -55,7 +53,6 @@ impl PreparedField {
         }
     }
 
-    /// Declares the field for a slot.
     pub(crate) fn declare(&self, writer: &mut TableWriter<VTABLE_SIZE>, slot: usize)
         requires small { slot ≤ 255 }
         requires unused { BytesStand writer.old.vtable (slot_position slot) (0 ∷ 0 ∷ []) }
@@ -83,7 +80,6 @@ impl PreparedField {
         }
     }
 
-    /// Writes the field after what is written.
     pub(crate) fn write(&self, writer: &mut ObjectWriter<'_>)
         requires room { field_size (field_is self.now) ≤ (body_of writer.old).remaining }
         requires reach { field_reach (field_is self.now) ≤ (body_of writer.old).place }

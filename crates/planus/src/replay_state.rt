@@ -37,7 +37,6 @@ use planus_write::{
 };
 use std::alloc::{AllocError, Global};
 
-/// The state of a replay.
 #[derive(Drop)]
 pub(crate) struct ReplayState {
     builder: Builder,
@@ -104,7 +103,6 @@ impl Narrow for u32 {
     }
 }
 
-/// Returns the numbers in a smaller width, if all of them fit.
 fn narrowed<T: Narrow>(alloc: Global, items: &[u64]) -> Result<Option<Vec<T>>, AllocError>
     ensures { IfOk result (Narrowed T.number T.width items.now) }
 {
@@ -134,7 +132,6 @@ impl ReplayState {
         })
     }
 
-    /// Returns what this step may name.
     fn earlier(&self) -> NamedSteps<'_>
         ensures first { result.first ≡ self.now.first }
         ensures offsets { result.offsets.now ≡ self.now.offsets.items }
@@ -145,14 +142,12 @@ impl ReplayState {
         }
     }
 
-    /// Returns the value of an earlier step, by its number.
     fn value(&self, step: usize) -> Result<Offset<()>, Why>
         ensures { FindsNamed a_value offset_named self.now.first (names self.now) step result }
     {
         self.earlier().value(step)
     }
 
-    /// Returns the values of earlier steps, by their numbers.
     fn values(&self, alloc: Global, steps: &[usize]) -> Result<Vec<Offset<()>>, ReplayError>
         requires { self.now.first + vec_len self.now.offsets < 2 ^ 64 }
         ensures { FindsValues self.now steps.now result }
@@ -167,7 +162,6 @@ impl ReplayState {
         Ok(offsets)
     }
 
-    /// Returns a union of the value of an earlier step.
     fn union(&self, item: (u8, usize)) -> Result<UnionOffset<()>, Why>
         ensures { PreparesUnion self.now.first (names self.now) item result }
     {
@@ -193,7 +187,6 @@ impl ReplayState {
         Ok(unions)
     }
 
-    /// Returns the error of this step.
     fn bad_step(&self, why: Why) -> ReplayError
         requires { self.now.first + vec_len self.now.offsets < 2 ^ 64 }
         ensures { result ≡ BadStep (self.now.first + length self.now.offsets.items) why }
@@ -202,7 +195,6 @@ impl ReplayState {
         ReplayError::BadStep { step, why }
     }
 
-    /// Writes a value.
     fn write<T, X: WriteAsOffset<T>>(&mut self, value: &X) -> Result<(), ReplayError>
         requires { X.may value.now self.old.builder }
         ensures { WritesValue offset_named (X.outcome value.now) self.old result self.new }
@@ -212,7 +204,6 @@ impl ReplayState {
         Ok(())
     }
 
-    /// Writes numbers of `width` bytes each.
     fn numbers(&mut self, alloc: Global, width: u8, items: &[u64]) -> Result<(), ReplayError>
         requires { self.old.first + vec_len self.old.offsets < 2 ^ 64 }
         ensures { Advanced self.old (step.numbers width items.now) result self.new }
@@ -239,7 +230,6 @@ impl ReplayState {
         self.write(&items)
     }
 
-    /// Writes references to the values of earlier steps.
     fn refs(&mut self, alloc: Global, steps: &[usize]) -> Result<(), ReplayError>
         requires reached { AreReached self.old }
         requires number { self.old.first + vec_len self.old.offsets < 2 ^ 64 }
@@ -249,7 +239,6 @@ impl ReplayState {
         self.write(&offsets)
     }
 
-    /// Writes a union vector.
     fn write_unions(&mut self, unions: &[UnionOffset<()>]) -> Result<(), ReplayError>
         requires { AllByRecursion (λ union. union_reach union ≤ length self.old.builder.bytes)
             unions.now }
@@ -261,7 +250,6 @@ impl ReplayState {
         Ok(())
     }
 
-    /// Writes a union vector of the values of earlier steps.
     fn unions(&mut self, alloc: Global, items: &[(u8, usize)]) -> Result<(), ReplayError>
         requires reached { AreReached self.old }
         requires number { self.old.first + vec_len self.old.offsets < 2 ^ 64 }
@@ -271,7 +259,6 @@ impl ReplayState {
         self.write_unions(unions.as_slice())
     }
 
-    /// Checks the fields of a table, and declares them.
     fn declared(&self, fields: &[Field]) -> Result<TableWriter<VTABLE_SIZE>, Why>
         requires { AreReached self.now }
         ensures { DeclaresTable self.now (map bare_field fields.now) result }
@@ -290,7 +277,6 @@ impl ReplayState {
         Ok(writer)
     }
 
-    /// Writes a table.
     fn table(&mut self, fields: &[Field]) -> Result<(), ReplayError>
         requires reached { AreReached self.old }
         requires number { self.old.first + vec_len self.old.offsets < 2 ^ 64 }
@@ -310,7 +296,6 @@ impl ReplayState {
         Ok(())
     }
 
-    /// Takes one step.
     pub(crate) fn advance(&mut self, alloc: Global, step: &Step) -> Result<(), ReplayError>
         requires reached { AreReached self.old }
         requires number { self.old.first + vec_len self.old.offsets + 1 < 2 ^ 64 }
@@ -332,7 +317,6 @@ impl ReplayState {
         }
     }
 
-    /// Discards all that was written.
     fn clear(&mut self)
         requires { self.old.first + vec_len self.old.offsets + 1 < 2 ^ 64 }
         ensures { Advanced self.old step.clear (Ok tt) self.new }

@@ -7,7 +7,6 @@ ghost use Rattle.planus.specs.inner.Declaring.{slots_of, ChecksSlot};
 use crate::faults::Why;
 use crate::steps::Field;
 
-/// Returns whether one of the fields has the slot.
 fn is_used(fields: &[Field], slot: u16) -> bool
     ensures { result ≡ list_any (λ field. field.slot == slot) fields.now }
 {

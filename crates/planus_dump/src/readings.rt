@@ -28,7 +28,6 @@ pub enum Found<'buf> {
     Table(usize, Place<'buf>),
 }
 
-/// Returns the string at a place.
 fn text_at<'buf>(place: Place<'buf>) -> Result<Value<'buf>, ErrorKind>
     ensures { answer_seen value_text result
         ≡ leaf_at Leaf.Text (place_bytes place.entry) (place_offset place.entry) }
@@ -39,7 +38,6 @@ fn text_at<'buf>(place: Place<'buf>) -> Result<Value<'buf>, ErrorKind>
     }
 }
 
-/// Returns the value at a place.
 fn value_at<'buf>(place: Place<'buf>, leaf: Leaf) -> Result<Value<'buf>, ErrorKind>
     ensures { answer_seen value_text result
         ≡ leaf_at leaf (place_bytes place.entry) (place_offset place.entry) }

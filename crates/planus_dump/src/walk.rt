@@ -74,7 +74,6 @@ fn dump_shape(
     Ok(())
 }
 
-/// Dumps a field of a table, with up to `left` levels below it.
 #[cycle(walk)]
 fn dump_field(
     schema: &Schema,
@@ -108,7 +107,6 @@ fn dump_field(
     }
 }
 
-/// Dumps what is found at a path.
 #[cycle(walk)]
 fn dump_found(
     schema: &Schema,
@@ -154,7 +152,6 @@ fn dump_place(
     }
 }
 
-/// Dumps a vector.
 #[cycle(walk)]
 fn dump_items(
     schema: &Schema,
@@ -183,7 +180,6 @@ fn dump_items(
     Ok(())
 }
 
-/// Dumps a union.
 #[cycle(walk)]
 fn dump_union(
     schema: &Schema,
@@ -212,7 +208,6 @@ fn dump_union(
     }
 }
 
-/// Dumps a union vector.
 #[cycle(walk)]
 fn dump_unions(
     schema: &Schema,
@@ -242,7 +237,6 @@ fn dump_unions(
     Ok(())
 }
 
-/// Returns the table of the variant with a tag, or `None` where no variant has it.
 fn variant_table(variants: &[(u8, usize)], tag: u8) -> Option<usize>
     ensures { result ≡ variant_of variants.now tag }
 {

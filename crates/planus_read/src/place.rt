@@ -7,7 +7,6 @@ use crate::errors::ErrorKind;
 use crate::slice_helpers::SliceWithStartOffset;
 use crate::traits::{Stride, TableRead, TableReadUnion, VectorRead, VectorReadUnion};
 
-// The name of a vector of such unions.
 const VECTOR_NAME: &str = "[union]";
 
 /// Where a field, or an item of 4 bytes such as a reference, is encoded: a slice of a buffer and an

@@ -13,7 +13,6 @@ use crate::located::ITEM_METHOD;
 use crate::slice_helpers::SliceWithStartOffset;
 use crate::traits::{ReadError, Stride, TableRead, VectorRead, VectorReadInner};
 
-// The name of a vector of such values, in an item's error.
 const VECTOR_NAME: &str = "[plain]";
 
 /// A value of a fixed layout, which a table or a vector holds in place: a number, a bool, a float,

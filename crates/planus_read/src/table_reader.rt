@@ -24,7 +24,6 @@ pub struct Table<'buf> {
     ghost small: { length vtable.now + 4 < 2 ^ 16 },
 }
 
-// Returns the offset of the object's vtable.
 fn vtable_offset(buffer: SliceWithStartOffset<'_>, object_offset: usize) -> Result<usize, ErrorKind>
     ensures offset { IfOk result (λ t. t ≡ vtable_at (slice_bytes buffer.entry) object_offset) }
     ensures holds { IfOk result (λ _.
@@ -43,7 +42,6 @@ fn vtable_offset(buffer: SliceWithStartOffset<'_>, object_offset: usize) -> Resu
     Ok(object_offset - relative)
 }
 
-// Returns the slots of the object's vtable.
 fn vtable_of<'buf>(
     buffer: SliceWithStartOffset<'buf>,
     object_offset: usize,
@@ -99,7 +97,6 @@ impl<'buf> Table<'buf> {
         Ok(Table { object, vtable })
     }
 
-    // Returns the number in a slot that is in the vtable.
     #[inline]
     fn slot_inside(&self, slot: usize) -> usize
         requires { 2 * slot + 2 ≤ length (table_slots self.now) }
@@ -139,7 +136,6 @@ impl<'buf> Table<'buf> {
         Some((self.slot_inside(slot), self.slot_inside(slot + 1)))
     }
 
-    // Gives an error the location of this table.
     #[inline]
     fn located<'n, A>(
         &self,
@@ -160,7 +156,6 @@ impl<'buf> Table<'buf> {
         }
     }
 
-    // Returns the field of a slot; its error has no location.
     fn field<T: TableRead<'buf>>(&self, slot: usize) -> Result<Option<T>, ErrorKind>
         ensures { FieldAnswer T.reads self.now slot result }
     {
@@ -197,7 +192,6 @@ impl<'buf> Table<'buf> {
         Ok(Some((tag, value_offset)))
     }
 
-    // Returns the union of a slot and the next; its error has no location.
     fn union_field<T: TableReadUnion<'buf>>(&self, slot: usize) -> Result<Option<T>, ErrorKind>
         ensures { UnionAnswer T.reads self.now slot result }
     {
@@ -207,7 +201,6 @@ impl<'buf> Table<'buf> {
         Ok(Some(T::from_buffer(self.object, tag, offset)?))
     }
 
-    // Returns the union vector of a slot and the next; its error has no location.
     fn union_vector_field<T: TableReadUnionVector<'buf>>(
         &self,
         slot: usize,

@@ -44,7 +44,6 @@ fn spaced(alloc: Global, line: &[u8]) -> Result<Option<Vec<u8>>, AllocError>
     Ok(Some(bytes))
 }
 
-/// Returns the bytes of an input, or `None` where it is no line of bytes.
 fn bytes_of_input(alloc: Global, input: &[u8]) -> Result<Option<Vec<u8>>, AllocError>
     ensures { IfOk result (λ bytes. vec_bytes bytes ≡ input_bytes input.now) }
 {
@@ -58,7 +57,6 @@ fn bytes_of_input(alloc: Global, input: &[u8]) -> Result<Option<Vec<u8>>, AllocE
     spaced(alloc, line)
 }
 
-/// Returns what is printed in place of a dump.
 fn fault(alloc: Global, words: &str) -> Result<Output, AllocError>
     ensures { IfOk result (λ output. IsFault words.now (is_clean output) (printed_text output)) }
 {
@@ -84,7 +82,6 @@ fn lines_text(alloc: Global, lines: &[String]) -> Result<String, AllocError>
     Ok(text)
 }
 
-/// Returns what is printed for a dump's result.
 fn answer_of_dump(
     alloc: Global,
     answer: &Result<Vec<String>, DumpError>,
@@ -104,7 +101,6 @@ fn answer_of_dump(
     }
 }
 
-/// Returns what is printed for an input.
 fn output_of_dump(alloc: Global, schema: &Schema, input: &[u8]) -> Result<Output, AllocError>
     ensures { IfOk result (λ output. PrintsDump schema.now input.now
         (is_clean output) (printed_text output)) }

@@ -11,7 +11,6 @@ use crate::script::{FromWord, LineError, ReadFault, cut, items, number};
 use planus::{Field, FieldValue, Step};
 use std::alloc::Global;
 
-/// The kind of what a field holds.
 #[derive(Clone, Copy)]
 enum FieldKind {
     /// A number of `width` bytes.
@@ -24,7 +23,6 @@ enum FieldKind {
     Values,
 }
 
-/// Returns the kind of this name.
 fn kind(word: &str) -> Option<FieldKind>
     ensures { result ≡ kind_of word.now }
 {
@@ -54,7 +52,6 @@ fn slot(number: u64) -> u16
     u16::try_from(number).unwrap_or(u16::MAX)
 }
 
-/// Returns what a field of this kind holds.
 fn value(kind: FieldKind, number: u64) -> FieldValue
     ensures { result ≡ value_of kind number }
 {

@@ -11,7 +11,6 @@ use planus::{Finished, ReplayError};
 use planus_dump::push_hex;
 use std::alloc::{AllocError, Global};
 
-/// Adds a line of bytes, with one space between them.
 fn push_line(text: &mut String, bytes: &[u8]) -> Result<(), AllocError>
     ensures { OnOk result (string_bytes text.new ≡ string_bytes text.old ++ hex_line bytes.now) }
 {
@@ -26,7 +25,6 @@ fn push_line(text: &mut String, bytes: &[u8]) -> Result<(), AllocError>
     Ok(())
 }
 
-/// Returns a line for each finish.
 fn finished_text(alloc: Global, finished: &[Finished]) -> Result<String, AllocError>
     ensures { IfOk result (λ text. string_bytes text ≡ flat_map (λ finish. hex_line finish.bytes)
         (map finish_given finished.now)) }

@@ -107,7 +107,6 @@ pub fn read_script<R: Read>(alloc: Global, reader: &mut R) -> std::result::Resul
     Ok(input)
 }
 
-/// Returns what is printed for an input. Equal contents are written once.
 fn output_of(alloc: Global, input: &[u8]) -> std::result::Result<Output, AllocError>
     ensures { IfOk result (λ output. PrintedOrOutOfMemory input.now (is_clean output)
         (printed_text output)) }

@@ -191,7 +191,6 @@ fn is_digits(word: &str) -> bool
     word.bytes().all(|byte| byte.is_ascii_digit())
 }
 
-/// Returns a number of one to twenty decimal digits.
 pub(crate) fn number(word: &str) -> std::result::Result<u64, ReadFault>
     ensures { result ≡ number_of word.now }
 {
@@ -300,7 +299,6 @@ pub fn byte_of(high: u8, low: u8) -> Option<u8>
     Some((high * 16 + low) as u8)
 }
 
-/// Returns the bytes of an even number of hexadecimal digits.
 fn hex_bytes(alloc: Global, digits: &[u8]) -> std::result::Result<Vec<u8>, LineError>
     ensures { AnswersList result (bytes_or_fault (hex_bytes_lem digits.now))
         (2 ≤ length digits.now) }
@@ -320,7 +318,6 @@ fn hex_bytes(alloc: Global, digits: &[u8]) -> std::result::Result<Vec<u8>, LineE
     }
 }
 
-/// Returns the step of `bytes` or `bytes HEX`, by the words after the first.
 fn bytes(alloc: Global, words: Option<&str>) -> std::result::Result<Step, LineError>
     ensures { let words = words_behind (option_copied words.entry) in
         AnswersLine result (bytes_of words) (AsksForBytes words) }
@@ -335,7 +332,6 @@ fn bytes(alloc: Global, words: Option<&str>) -> std::result::Result<Step, LineEr
     }
 }
 
-/// Returns the step of a word with digits.
 fn bytes_in(alloc: Global, digits: &str) -> std::result::Result<Step, LineError>
     ensures { AnswersLine result (bytes_step (bytes_in_lem digits.now)) (2 ≤ length digits.now) }
 {
@@ -381,7 +377,6 @@ pub(crate) fn items<T: FromWord>(
     Ok(items)
 }
 
-/// Converts numbers to those of steps.
 fn indexes(alloc: Global, numbers: &[u64]) -> std::result::Result<Vec<usize>, AllocError>
     ensures ok { IfOk result (λ indexes. indexes.items ≡ numbers.now) }
     ensures err { OnErr result (0 < length numbers.now) }
@@ -413,7 +408,6 @@ fn refs(alloc: Global, words: Option<&str>) -> std::result::Result<Step, LineErr
     Ok(Step::Refs(indexes(alloc, items.as_slice())?))
 }
 
-/// Returns the step of `clear`, by the words after the first.
 fn clear(words: Option<&str>) -> std::result::Result<Step, ReadFault>
     ensures { AnswersCommand result (clear_of (words_behind (option_copied words.entry))) }
 {
@@ -423,7 +417,6 @@ fn clear(words: Option<&str>) -> std::result::Result<Step, ReadFault>
     }
 }
 
-/// Returns whether a line is empty or a comment.
 fn is_skipped(line: &[u8]) -> bool
     ensures { result ≡ is_skipped_lem line.now }
 {
@@ -494,7 +487,6 @@ fn of_steps(word: &str) -> Option<Command>
     }
 }
 
-/// Returns the command of this name.
 fn named(word: &str) -> Option<Command>
     ensures { result ≡ command_named word.now }
 {
@@ -504,7 +496,6 @@ fn named(word: &str) -> Option<Command>
     }
 }
 
-/// Returns the step of a command, by what is after it.
 fn step_by(
     alloc: Global,
     command: Command,
@@ -556,7 +547,6 @@ impl Script {
         }
     }
 
-    /// Adds a step from the line of this number.
     fn push(&mut self, number: usize, step: Step) -> std::result::Result<(), AllocError>
         ensures ok { OnOk result (read_of self.new ≡ record {
           numbers = self.old.numbers.items ++ number ∷ [];

@@ -27,7 +27,6 @@ impl FromWord for (u8, usize) {
     }
 }
 
-/// Returns a union vector by the words after the first.
 pub(crate) fn unions(alloc: Global, words: Option<&str>) -> Result<Step, LineError>
     ensures { let words = words_behind (option_copied words.entry) in
         AnswersLine result (list_step step.unions (unions_of words))

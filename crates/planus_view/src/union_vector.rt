@@ -29,7 +29,6 @@ pub struct UnionSliceView<'buf, T, E> {
     ghost values_inside: { count * 4 ≤ length (slice_bytes values) },
 }
 
-// The size of a reference in bytes.
 const REFERENCE_SIZE: usize = 4;
 
 impl<'buf, T, E> Clone for UnionSliceView<'buf, T, E> {

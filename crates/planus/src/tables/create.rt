@@ -14,7 +14,6 @@ use crate::tables::table_kind::TableKind;
 use crate::tables::table_write::TableWrite;
 use planus_write::{BuildError, Builder, ObjectFill, ObjectWriter, Offset};
 
-/// What writes the body of a table.
 #[derive(Drop)]
 struct Body<'a, F: PreparedFields, L: PreparedFields> {
     fields: &'a F,

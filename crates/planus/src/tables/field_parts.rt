@@ -10,7 +10,6 @@ ghost use Rattle.planus.specs.TableFields.{field_in, size_if, item_if, IsUnused}
 use crate::tables::table_write::TableWrite;
 use planus_write::{ObjectWriter, Primitive, WriteAsPrimitive};
 
-/// Declares a field for a slot.
 #[inline(always)]
 fn declare<P: Primitive, A: WriteAsPrimitive<P>, W: TableWrite>(
     writer: &mut W,
@@ -30,7 +29,6 @@ fn declare<P: Primitive, A: WriteAsPrimitive<P>, W: TableWrite>(
     writer.enter::<P>(slot);
 }
 
-/// Declares a field for a slot, if present.
 #[inline(always)]
 pub(crate) fn declare_if<P: Primitive, A: WriteAsPrimitive<P>, W: TableWrite>(
     writer: &mut W,
@@ -53,7 +51,6 @@ pub(crate) fn declare_if<P: Primitive, A: WriteAsPrimitive<P>, W: TableWrite>(
     }
 }
 
-/// Writes a field after what is written, if present.
 #[inline(always)]
 pub(crate) fn write_if<P: Primitive, A: WriteAsPrimitive<P>>(
     writer: &mut ObjectWriter<'_>,

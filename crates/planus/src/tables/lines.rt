@@ -25,7 +25,6 @@ type FourKinds = (
     ),
 );
 
-/// Nine lines, with each kind of line among them.
 fn nine_lines(
     first: u64,
     second: u32,
@@ -60,19 +59,16 @@ fn nine_lines(
     ]
 }
 
-/// One line alone.
 fn one_line(value: u16) -> FieldAt<4, u16, u16>
     ensures { result.value ≡ value }
 {
     fields![4: u16 = value]
 }
 
-/// No line.
 fn no_line() {
     fields![]
 }
 
-/// A union with its value.
 fn one_variant(value: Offset<()>) -> Variant<3, (), Offset<()>>
     ensures { result.value ≡ value }
 {

@@ -77,7 +77,6 @@ pub fn table_vector_required<'a, 'n, K: TableKind + 'a>(
     table.access_required::<Vector<'a, planus_read::Result<TableRef<'a, K>>>>(slot, type_, method)
 }
 
-// Returns a table as a user's own view.
 fn viewed<'a, 'n, V: TableView<'a>>(
     read: Result<TableRef<'a, V::Kind>, Error<'n>>,
 ) -> Result<V, Error<'n>>

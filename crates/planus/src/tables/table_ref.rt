@@ -42,7 +42,6 @@ impl<'a, K> Clone for TableRef<'a, K> {
 impl<'a, K> Copy for TableRef<'a, K> {}
 
 impl<'a, K> TableRef<'a, K> {
-    // The table, as one of this kind.
     fn new(table: Table<'a>) -> TableRef<'a, K>
         ensures { result.table ≡ table.entry }
     {

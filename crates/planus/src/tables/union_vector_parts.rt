@@ -45,7 +45,6 @@ impl WriteAsPrimitive<Offset<List<Offset<()>>>> for ValuesField {
     ghost is_item = { λ field. values_are_item field.0.distance };
 }
 
-/// Returns the field of the tags of a union vector, if there is one.
 #[inline(always)]
 pub(crate) fn tags_of<T>(vector: &Option<UnionVectorOffset<T>>) -> Option<TagsField>
     ensures { result ≡ option_map (λ vector. record { 0 = vector.tags }) vector.now }
@@ -56,7 +55,6 @@ pub(crate) fn tags_of<T>(vector: &Option<UnionVectorOffset<T>>) -> Option<TagsFi
     }
 }
 
-/// Returns the field of the values of a union vector, if there is one.
 #[inline(always)]
 pub(crate) fn values_of<T>(vector: &Option<UnionVectorOffset<T>>) -> Option<ValuesField>
     ensures { result ≡ option_map (λ vector. record { 0 = vector.values }) vector.now }

@@ -87,7 +87,6 @@ pub fn same_number<T: Into<i128>>(read: Answer<T>, plain: Option<i128>) -> bool 
     }
 }
 
-// A field of a table.
 pub trait Field: Copy {
     fn agrees(read: Answer<Self>, spot: Spot<'_>) -> bool;
 }
@@ -174,7 +173,6 @@ impl<'a, T: VectorRead<'a> + Item> Field for Vector<'a, T> {
     }
 }
 
-// An item of a vector.
 pub trait Item: Copy {
     fn is_at(&self, tag: i128, spot: Spot<'_>) -> bool;
 }
@@ -262,8 +260,8 @@ impl<'a> PlainItems<'a> {
     }
 }
 
-// Whether the item is that of the plain vector by its position, from the front and from the back.
-// An item from the front is read in the slice that begins with it.
+// Whether the item by position, from the front and from the back is that of the plain vector. An
+// item from the front is read in the slice that begins with it.
 fn three_agree<V: ReadView>(
     vector: VectorOf<V>,
     front: &mut Items<VectorOf<V>>,
@@ -297,7 +295,6 @@ where
     len as u64 == plain.list.count && vector.get(len).is_none()
 }
 
-// Whether the items are those of the plain vector by position, from the front, and from the back.
 fn items_agree<V: ReadView>(vector: VectorOf<V>, plain: PlainItems<'_>) -> bool
 where
     V::Item: Item,
@@ -309,7 +306,6 @@ where
         && back.next_back().is_none()
 }
 
-// A union field of a table, or an item of a union vector.
 pub trait Union: Copy {
     fn agrees(read: Answer<Self>, tag: u8, spot: Spot<'_>) -> bool;
 
@@ -357,7 +353,6 @@ fn union_is<T: Union>(item: Result<T, Error>, tag: i128, spot: Spot<'_>) -> bool
     }
 }
 
-// A field of two slots.
 pub trait UnionField: Copy {
     fn agrees(read: Answer<Self>, tags: i128, spot: Spot<'_>) -> bool;
 }

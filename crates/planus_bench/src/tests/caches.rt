@@ -28,7 +28,6 @@ fn push_equal_tables(alloc: Global, steps: &mut Vec<Step>) -> Result<(), AllocEr
     add_finish(steps, 1)
 }
 
-// Whether their vtable is written once with a cache, else twice.
 fn vtables_are_shared(alloc: Global, steps: &[Step]) -> bool {
     replays_to(alloc, Switches::of(7).caches(u64::MAX), steps, ONE_VTABLE)
         && replays_to(alloc, Switches::of(6).caches(u64::MAX), steps, TWO_VTABLES)
@@ -106,7 +105,6 @@ const OTHERS: [&str; 15] = [
     "abcdefghijklmn",
 ];
 
-// Whether the others are written as strings and as byte vectors, or found, in this length.
 fn have_others(builder: &mut Builder, len: usize) -> bool {
     for letters in OTHERS {
         if text_at(builder, letters).is_err() || bytes_at(builder, letters).is_err() {
@@ -131,7 +129,6 @@ fn only_equal_contents_are_found(builder: &mut Builder, before: &[u8]) -> bool {
         && are_at(write_three(builder, "Axe", false), [8, 16, 432])
 }
 
-// Whether that holds without memory; `None` where memory was left.
 fn found_without_memory(
     alloc: Global,
     builder: &mut Builder,

@@ -11,7 +11,6 @@ use planus::{
 };
 use planus_read::errors::ErrorKind;
 
-// A table as its reader and the plain reader find it, in bytes that start here.
 #[derive(Clone, Copy)]
 pub struct Found<'a> {
     pub table: Table<'a>,
@@ -19,7 +18,7 @@ pub struct Found<'a> {
     pub start: i128,
 }
 
-// The results of an accessor and of its required form, without the location of this table.
+// The results of an accessor and of its required form.
 #[derive(Clone, Copy)]
 struct Both<T> {
     read: Answer<Option<T>>,

@@ -7,10 +7,8 @@ use planus::{BuildError, Builder};
 use std::alloc::Global;
 use std::test::Fail;
 
-// The greatest number of bytes of a builder.
 const GREATEST: usize = 2147483647;
 
-// Writes all bytes but those of a finish, and finishes.
 fn fills(builder: &mut Builder) -> bool {
     builder
         .write_with(GREATEST - 4, 0, &Repeated { byte: 7 })
@@ -42,7 +40,6 @@ fn is_filled(builder: &mut Builder) -> bool {
     full && text_at(builder, "Axe") == Ok(8) && builder.room() == GREATEST - 8
 }
 
-// Whether that holds for a new builder; `None` without memory for it.
 fn new_is_filled(alloc: Global) -> Option<bool> {
     match Builder::with_capacity(alloc, GREATEST) {
         Ok(mut builder) => Some(is_filled(&mut builder)),

@@ -1,5 +1,4 @@
-//! Each iterator over a vector and a union vector beside a plain program, which lists the ranges of
-//! positions and takes them from both ends.
+//! Each iterator over a vector and a union vector beside a plain program, which lists ranges.
 
 ghost use Rattle.std.specs.Prelude.{◌<◌};
 
@@ -42,7 +41,6 @@ impl<'a> Numbered for UnionVector<'a, TaggedPlace<'a>> {
     }
 }
 
-// The ways to cut positions.
 #[derive(Clone, Copy)]
 enum Way {
     Items,
@@ -53,7 +51,6 @@ enum Way {
     Windows,
 }
 
-// A range goes from its first position up to its second.
 type Positions = (i128, i128);
 
 // Range i of n positions for the size c.

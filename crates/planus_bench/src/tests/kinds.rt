@@ -42,7 +42,6 @@ pub fn slot_has<'a, T: TableRead<'a> + PartialEq + Drop>(
     }
 }
 
-// The two places of a union vector.
 #[derive(Clone, Copy)]
 pub struct Pair<'buf> {
     pub tags: Place<'buf>,
@@ -64,7 +63,6 @@ impl<'buf> TableReadUnionVector<'buf> for Pair<'buf> {
     }
 }
 
-// A table as an item of a vector.
 #[derive(Clone, Copy)]
 pub struct Row<'buf>(pub Table<'buf>);
 

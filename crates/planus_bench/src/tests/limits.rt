@@ -67,7 +67,6 @@ impl<'a> WriteAsPrimitive<Largest> for Bytes<'a> {
     }) };
 }
 
-// Writes a table of this field alone in slot 0, and finishes it.
 fn put_largest<'b>(builder: &'b mut Builder, field: Bytes<'_>) -> Result<&'b [u8], BuildError> {
     let mut writer: TableWriter<6> = TableWriter::default();
     writer.write_entry::<Largest>(0);
@@ -77,7 +76,6 @@ fn put_largest<'b>(builder: &'b mut Builder, field: Bytes<'_>) -> Result<&'b [u8
     builder.finish(root, None)
 }
 
-// Whether it is after the root word and the table's word, with its vtable at the end.
 fn stands_largest(bytes: &[u8], item: &[u8]) -> bool {
     bytes.len() == 65546
         && bytes.starts_with(b"\x04\0\0\0\0\0\xff\xff")
@@ -110,7 +108,6 @@ fn the_largest_object(rt: HostRuntime) -> Result<(), Fail> {
     Ok(())
 }
 
-// Writes a table of the number 5 alone in the greatest slot, and finishes it.
 fn put_greatest_slot(builder: &mut Builder) -> Result<&[u8], BuildError> {
     let mut writer: TableWriter<65534> = TableWriter::default();
     writer.write_entry::<u8>(32764);
@@ -157,7 +154,6 @@ fn the_greatest_slot(rt: HostRuntime) {
     check(&rt, written, "the greatest slot is written");
 }
 
-// A table with the number 24 of two bytes in slot 0.
 const NUMBER: [u8; 16] = [4, 0, 0, 0, 0xfa, 0xff, 0xff, 0xff, 24, 0, 6, 0, 6, 0, 4, 0];
 
 fn slot_is_none(table: Table<'_>, slot: usize) -> bool {
@@ -172,7 +168,6 @@ fn slot_is_none(table: Table<'_>, slot: usize) -> bool {
         )
 }
 
-// Whether slot 0 has its number, and a slot far after it none.
 fn far_slot_is_none(slot: usize) -> bool {
     match Table::from_buffer(SliceWithStartOffset::new(&NUMBER, 0), 0) {
         Ok(table) => slot_has(table, 0, Some(24u16)) && slot_is_none(table, slot),
@@ -198,7 +193,7 @@ fn promises_at_the_greatest_place(rt: HostRuntime) {
     check(&rt, matches!(one, Err(TooLarge)), "one byte");
 }
 
-// The weapon with the name `Axe` and a damage of 24, with one byte changed.
+// The weapon Axe with one byte changed.
 fn weapon(at: usize, byte: u8) -> [u8; 32] {
     let mut bytes = *b"\x04\0\0\0\xf4\xff\xff\xff\x10\0\0\0\x18\0\0\0\
         \x08\0\x0a\0\x04\0\x08\0\x03\0\0\0Axe\0";
@@ -208,7 +203,6 @@ fn weapon(at: usize, byte: u8) -> [u8; 32] {
     bytes
 }
 
-// Whether a table's root fails with this error.
 fn root_fails(bytes: &[u8], kind: ErrorKind) -> bool {
     match Table::from_buffer(SliceWithStartOffset::new(bytes, 0), 0) {
         Ok(_) => false,

@@ -35,7 +35,6 @@ fn push_values(alloc: Global, steps: &mut Vec<Step>, count: usize) -> Result<(),
     Ok(())
 }
 
-// Adds a number of one byte for each of these slots.
 fn add_numbers(fields: &mut Vec<Field>, first: u16, end: u16) -> Result<(), AllocError> {
     for slot in first..end {
         let value = FieldValue::Number {
@@ -47,7 +46,6 @@ fn add_numbers(fields: &mut Vec<Field>, first: u16, end: u16) -> Result<(), Allo
     Ok(())
 }
 
-// Adds a field for each of the 256 slots.
 fn add_all_slots(fields: &mut Vec<Field>, named: Named) -> Result<(), AllocError> {
     let [first, second] = two_references(named);
     add_field(fields, 255, FieldValue::Ref(named.root))?;
@@ -134,7 +132,6 @@ fn replays_agree(alloc: Global, steps: &[Step]) -> Result<bool, Fail> {
     Ok(true)
 }
 
-// Whether a replay fails at the last step alone, which names a missing step.
 fn stops_at_the_last(alloc: Global, steps: &[Step], last: usize) -> bool {
     match replay(alloc, Caches::all(), steps) {
         Err(error) => {
@@ -152,8 +149,6 @@ fn push_bad_finish(steps: &mut Vec<Step>) -> Result<(), AllocError> {
     add_finish(steps, usize::MAX)
 }
 
-// Whether there are enough steps of each kind, replays agree, and one with a bad step at the end
-// fails there.
 fn long_replays_agree(alloc: Global, steps: &mut Vec<Step>) -> Result<[bool; 3], Fail> {
     let counted = steps.len() == 20010 && counts(steps.as_slice()) == (300, 300, 7, 1);
     let agree = replays_agree(alloc, steps.as_slice())?;

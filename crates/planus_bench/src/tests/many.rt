@@ -14,7 +14,6 @@ fn letters(alloc: Global, number: usize) -> Result<String, AllocError> {
     Ok(format!(in alloc; "{number}")?)
 }
 
-// A vector of eight bytes, different for each number.
 fn bytes(alloc: Global, number: usize) -> Result<Step, AllocError> {
     Ok(Step::Bytes(Vec::from_slice(alloc, &(number as u64).to_le_bytes())?))
 }
@@ -85,7 +84,6 @@ fn stand(places: &[StepPlace], (first, apart): Stands) -> bool {
     true
 }
 
-// Whether values are there when first written, and when written again.
 fn all_stand(places: &[StepPlace], count: usize, want: [Stands; 2]) -> bool {
     let [first, second] = want;
     match (places.get(..count), places.get(count..)) {
@@ -166,7 +164,6 @@ fn letters_are_at(alloc: Global, builder: &mut Builder, number: usize, distance:
     }
 }
 
-// Whether n strings follow one another up to the end.
 fn texts_stand(alloc: Global, builder: &mut Builder, count: usize) -> bool {
     for number in 0..count {
         let distance = number.saturating_add(1).saturating_mul(12);
@@ -177,7 +174,6 @@ fn texts_stand(alloc: Global, builder: &mut Builder, count: usize) -> bool {
     true
 }
 
-// Whether they are written so in an empty builder, and found when they are written again.
 fn texts_are_found(alloc: Global, builder: &mut Builder, count: usize) -> bool {
     builder.clear();
     texts_stand(alloc, builder, count) && texts_stand(alloc, builder, count)
@@ -193,7 +189,6 @@ fn first_count_that_fails(alloc: Global, builder: &mut Builder) -> Option<usize>
     None
 }
 
-// The same in a new builder.
 fn first_count_in(alloc: Global) -> Option<usize> {
     match new_builder(alloc) {
         Ok(mut builder) => first_count_that_fails(alloc, &mut builder),

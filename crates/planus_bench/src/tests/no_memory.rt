@@ -25,13 +25,12 @@ fn list_is_at(builder: &mut Builder) -> Result<u32, BuildError> {
     }
 }
 
-// Whether the four writes and their finish take only their bytes.
 fn writes_in_its_room(builder: &mut Builder) -> bool {
     puts_four(builder) && last_is(builder, FOUR_WRITES) && builder.room() == 37
 }
 
-// Whether a builder writes and finishes in its room, and fails for a string that doesn't fit, and
-// for a vector that fits, whose prepared items need memory.
+// A string that doesn't fit the room fails, and so does a vector that fits, whose prepared items
+// need memory.
 fn goes_on_in_its_room(alloc: Global, builder: &mut Builder) -> bool {
     let all = b"\x04\0\0\0\x03\0\0\0Axe\0\x05\0\0\0\x000123456ABCDEFGHIJKLMNO".as_slice();
     new_is_refused(alloc)
@@ -99,7 +98,6 @@ fn replay_without_memory(alloc: Global, steps: &[Step]) -> Result<Option<bool>, 
     Ok(if exhausted { Some(refused) } else { None })
 }
 
-// Whether a replay fails, and works once there is memory; `None` where memory was left.
 fn replay_goes_on(alloc: Global, steps: &[Step]) -> Result<Option<bool>, AllocError> {
     match replay_without_memory(alloc, steps)? {
         Some(refused) => {
@@ -134,7 +132,6 @@ fn entry_without_memory(
     Ok(if exhausted { Some(refused) } else { None })
 }
 
-// Whether a cache entry fails, and works once there is memory; `None` where memory was left.
 fn cache_goes_on(alloc: Global) -> Result<Option<bool>, AllocError> {
     let mut cache: Cache<ByteVec> = Cache::new(alloc, u64::MAX)?;
     match entry_without_memory(alloc, &mut cache)? {

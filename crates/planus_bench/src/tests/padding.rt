@@ -28,7 +28,6 @@ fn request(
     }
 }
 
-// The product of the alignments, if it is small enough for the plain program.
 fn checked_period(len: usize, promises: &[(usize, usize)]) -> Option<usize>
     ensures { IfSome result (λ p. AlignmentsAboveZero promises.now × DistancesWithin len
         promises.now × (p ≡ period promises.now)) }
@@ -45,7 +44,6 @@ fn checked_period(len: usize, promises: &[(usize, usize)]) -> Option<usize>
     }
 }
 
-// The plain program's result, if the numbers are small enough.
 fn plainly(
     len: usize,
     promises: &[(usize, usize)],
@@ -60,8 +58,7 @@ fn plainly(
     least_padding(len, promises, size, alignment)
 }
 
-// The paddings of parts, each a size and an alignment, one after another; `None` where the two
-// programs differ.
+// `None` where the two programs differ.
 fn paddings(alloc: Global, parts: &[(usize, usize)]) -> Result<Option<Vec<usize>>, AllocError> {
     let mut paddings = Vec::with_capacity(alloc, parts.len())?;
     let mut pairs: Vec<(usize, usize)> = Vec::with_capacity(alloc, parts.len())?;
@@ -118,7 +115,6 @@ fn worked_rows(rt: HostRuntime) -> Result<(), Fail> {
     Ok(())
 }
 
-// Whether parts, one after another, get these paddings, remainders and masks.
 fn values_are(rows: &[[usize; 6]]) -> bool {
     let mut promises = Promises::new();
     for [len, size, alignment, padding, delayed, mask] in rows {
@@ -145,7 +141,6 @@ fn values_after_each_part(rt: HostRuntime) {
     check(&rt, values_are(&rows), "values are");
 }
 
-// A part of 0 to 5 bytes with an alignment of 1, 2, 4 or 8.
 fn part(number: usize) -> (usize, usize) {
     (number / 4, 1 << (number % 4))
 }

@@ -83,7 +83,6 @@ pub fn puts_four(builder: &mut Builder) -> bool {
         && put(builder, b"0123456", 1).is_ok()
 }
 
-// Finishes with the part that was written last as the root.
 pub fn finish_last(builder: &mut Builder) -> Result<&[u8], BuildError> {
     let root = builder.current_offset::<()>();
     builder.finish(root, None)
@@ -177,7 +176,6 @@ fn request(promises: Promises, len: usize, size: usize, alignment: usize) -> Opt
     }
 }
 
-// Whether parts, one after another, have these remainders.
 fn delays_are(rows: &[(usize, usize, usize, usize)]) -> bool {
     let mut promises = Promises::new();
     for (len, size, alignment, delayed) in rows {
@@ -220,7 +218,6 @@ fn are_all(bytes: &[u8], byte: u8) -> bool {
     bytes.iter().all(|b| *b == byte)
 }
 
-// Whether the part is aligned in the finished bytes.
 fn stands(bytes: &[u8], part: Written) -> bool {
     let Some(start) = bytes.len().checked_sub(part.distance) else {
         return false;
@@ -249,7 +246,6 @@ fn write_part(builder: &mut Builder, numbers: &mut Numbers, byte: u8) -> Result<
     })
 }
 
-// Writes 49 parts of random sizes and alignments, and adds them.
 fn write_parts(
     builder: &mut Builder,
     numbers: &mut Numbers,
@@ -261,8 +257,7 @@ fn write_parts(
     Ok(())
 }
 
-// Writes a part of a random alignment and a random size of at least four. Returns whether its
-// filler was called at the length with it.
+// A random size of at least four. Returns whether the filler was called at the length with it.
 fn a_filler_knows_its_place(builder: &mut Builder, numbers: &mut Numbers) -> bool {
     let size = (numbers.draw() % 128) as usize + 4;
     let mask = mask_of(1 << (numbers.draw() % 5));
@@ -307,7 +302,6 @@ fn all_stand(bytes: &[u8], parts: &[Written], root: &[u8], distance: usize) -> b
         && front.starts_with(&(start as u64).to_le_bytes()[..4])
 }
 
-// Writes a root, and returns whether it and the parts are in the finished bytes.
 fn root_stands(builder: &mut Builder, parts: &[Written], root: &[u8]) -> bool {
     if put(builder, root, 2).is_err() {
         return false;

@@ -10,7 +10,6 @@ struct Part {
     mask: usize,
 }
 
-// A part of 0 to 3 bytes with an alignment of 1, 2, 4 or 8.
 fn part_of(number: usize) -> Part {
     Part {
         size: number / 4,
@@ -43,7 +42,6 @@ fn is_kept(parts: &[Part; 3], places: Places) -> bool {
     false
 }
 
-// The place of a part before this number of bytes.
 fn request(promises: Promises, len: usize, part: Part) -> Option<(Promises, usize)> {
     if len > 2147483647 {
         return None;
@@ -54,7 +52,6 @@ fn request(promises: Promises, len: usize, part: Part) -> Option<(Promises, usiz
     }
 }
 
-// The places of three parts by `Promises`.
 fn promised(parts: &[Part; 3]) -> Option<Places> {
     let mut places = [0; 3];
     let (mut promises, mut len) = (Promises::new(), 0);

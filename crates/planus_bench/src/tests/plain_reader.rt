@@ -39,7 +39,6 @@ pub fn unsigned(bytes: &[u8], at: i128, width: u8) -> Option<i128> {
     }
 }
 
-// The same bytes in two's complement.
 pub fn signed(bytes: &[u8], at: i128, width: u8) -> Option<i128> {
     let value = number(bytes, at, width)? as i128;
     let all: i128 = match width {
@@ -69,7 +68,6 @@ pub struct PlainList {
 }
 
 impl PlainList {
-    // Whether its items of this size are in the bytes.
     fn fits(&self, bytes: &[u8], stride: i128) -> bool {
         let size = (self.count as i128).wrapping_mul(stride);
         self.items.wrapping_add(size) <= bytes.len() as i128
@@ -114,7 +112,6 @@ pub fn text(bytes: &[u8], f: i128) -> Answer<&str> {
     }
 }
 
-// A vector of items of this size.
 pub fn vector(bytes: &[u8], f: i128, stride: i128) -> Answer<PlainList> {
     match head(bytes, f) {
         Some(list) if list.fits(bytes, stride) => Ok(list),
@@ -123,7 +120,6 @@ pub fn vector(bytes: &[u8], f: i128, stride: i128) -> Answer<PlainList> {
     }
 }
 
-// The tags of a union vector, and its references.
 pub fn union_vector(bytes: &[u8], f: i128, g: i128) -> Answer<(PlainList, PlainList)> {
     let (Some(tags), Some(values)) = (head(bytes, f), head(bytes, g)) else {
         return Err(ErrorKind::InvalidOffset);
@@ -180,12 +176,10 @@ pub fn table(bytes: &[u8], from: i128, f: i128) -> Answer<PlainTable<'_>> {
 }
 
 impl<'a> PlainTable<'a> {
-    // Whether this number of slots from this one on is in the vtable.
     fn has_slots(&self, slot: usize, count: u8) -> bool {
         4 + 2 * (slot as i128 + count as i128) <= self.size as i128
     }
 
-    // The distance in a slot, 0 if absent.
     fn slot(&self, slot: usize) -> i128 {
         if !self.has_slots(slot, 1) {
             return 0;
@@ -194,7 +188,6 @@ impl<'a> PlainTable<'a> {
         number(self.bytes, at, 2).unwrap_or(0) as i128
     }
 
-    // The position of a slot's field.
     pub fn field(&self, slot: usize) -> Option<i128> {
         match self.slot(slot) {
             0 => None,
@@ -202,13 +195,11 @@ impl<'a> PlainTable<'a> {
         }
     }
 
-    // The tag of the union of a slot, if its byte is there.
     fn tag(&self, slot: usize) -> Option<u8> {
         let at = self.object.wrapping_add(self.slot(slot));
         Some((number(self.bytes, at, 1)? % 256) as u8)
     }
 
-    // The tag of the union of a slot and the next, and the position of its reference.
     pub fn union(&self, slot: usize) -> Answer<Option<(u8, i128)>> {
         if !self.has_slots(slot, 2) {
             return if self.size as i128 <= 4 + 2 * slot as i128 {
@@ -226,7 +217,6 @@ impl<'a> PlainTable<'a> {
         }
     }
 
-    // The positions of the two references of the union vector of a slot and the next.
     pub fn union_vector(&self, slot: usize) -> Answer<Option<(i128, i128)>> {
         if !self.has_slots(slot, 2) {
             return Ok(None);

@@ -6,7 +6,6 @@ use planus::{Field, FieldValue, Finished, Step, StepPlace};
 use std::alloc::{AllocError, Global};
 use std::test::Fail;
 
-// Contents of a kind, and their distance.
 #[derive(Drop)]
 struct Shared {
     kind: Kind,
@@ -14,7 +13,6 @@ struct Shared {
     distance: usize,
 }
 
-// What was written since the last clear.
 #[derive(Drop)]
 struct Written {
     // The bytes, the last one first.
@@ -43,7 +41,6 @@ fn size_of_all(fields: &[Field]) -> usize {
     size
 }
 
-// The greatest alignment of these fields, at least 4.
 fn alignment_of(fields: &[Field]) -> usize {
     let mut alignment = 4;
     for field in fields {
@@ -77,7 +74,6 @@ fn push_number(bytes: &mut Vec<u8>, number: usize) -> Result<(), AllocError> {
     bytes.extend_from_slice(&(number as u64).to_le_bytes()[..2])
 }
 
-// Adds the bytes of a vtable: its size, the object's, and the offsets of the fields.
 fn push_vtable(bytes: &mut Vec<u8>, fields: &[Field]) -> Result<(), AllocError> {
     let slots = slots_of(fields);
     push_number(bytes, slots.wrapping_mul(2).wrapping_add(4))?;
@@ -100,7 +96,6 @@ impl Written {
         }
     }
 
-    // Whether all parts are aligned in this length.
     fn keeps(&self, length: usize) -> bool {
         for (distance, alignment) in &self.parts {
             if length.wrapping_sub(*distance).checked_rem(*alignment) != Some(0) {
@@ -136,7 +131,6 @@ impl Written {
         Ok(distance)
     }
 
-    // The greatest alignment so far, at least 4.
     fn greatest(&self) -> usize {
         for (_, alignment) in &self.parts {
             if *alignment == 8 {
@@ -240,7 +234,6 @@ impl Written {
         self.add(step)
     }
 
-    // The references of unions and their count. Returns the distance.
     fn union_references(&mut self, items: &[(u8, usize)]) -> Result<u32, Fail> {
         self.pad(items.len().wrapping_mul(4), 4)?;
         let len = items.len();
@@ -261,7 +254,6 @@ impl Written {
         Ok(u32::try_from(self.reversed.len())?)
     }
 
-    // The references, and before them the tags.
     fn unions(&mut self, step: usize, items: &[(u8, usize)]) -> Result<(), Fail> {
         let distance = self.union_references(items)?;
         let tags = Some(self.union_tags(items)?);
@@ -273,7 +265,6 @@ impl Written {
         Ok(())
     }
 
-    // A vtable. Returns the distance.
     fn vtable(&mut self, fields: &[Field]) -> Result<usize, AllocError> {
         let mut vtable = Vec::new(self.alloc);
         push_vtable(&mut vtable, fields)?;
@@ -290,7 +281,6 @@ impl Written {
         Ok(self.reversed.len())
     }
 
-    // The first `width` bytes of a number.
     fn put_number(&mut self, width: u8, value: u64) -> Result<(), AllocError> {
         let bytes = value.to_le_bytes();
         match width {
@@ -444,7 +434,6 @@ fn take_steps(
     Ok(())
 }
 
-// What each finish of the steps gives.
 pub fn plain_run(alloc: Global, switches: Switches, steps: &[Step]) -> Result<Vec<Finished>, Fail> {
     let mut finished = Vec::new(alloc);
     take_steps(alloc, switches, steps, &mut finished)?;

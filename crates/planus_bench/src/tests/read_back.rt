@@ -66,12 +66,10 @@ fn has_tags(place: Place<'_>, unions: &[(u8, usize)]) -> Result<bool, Fail> {
     Ok(tags.len() == unions.len())
 }
 
-// Finished bytes that are read.
 #[derive(Drop)]
 struct Reading<'a> {
     steps: &'a [Step],
     finished: &'a Finished,
-    // The values still to be read.
     later: Vec<Value<'a>>,
 }
 
@@ -100,7 +98,6 @@ impl<'a> Reading<'a> {
         }
     }
 
-    // Whether these are references, each to a value that is read later.
     fn has_references(&mut self, place: Place<'a>, steps: &[usize]) -> Result<bool, Fail> {
         let list = place.read::<Vector<'a, Place<'a>>>()?;
         for i in 0..steps.len() {
@@ -142,7 +139,6 @@ impl<'a> Reading<'a> {
         Ok(true)
     }
 
-    // Whether the value that the step wrote is there.
     fn has_value(&mut self, place: Place<'a>, step: usize) -> Result<bool, Fail> {
         match self.steps.get(step) {
             Some(Step::Text(text)) => has_text(place, text.as_str()),

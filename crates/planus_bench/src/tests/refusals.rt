@@ -32,7 +32,6 @@ fn is_refused(
     Ok(if exhausted { Some(refused) } else { None })
 }
 
-// The outcome of a call with little memory, and with all of it if that fails.
 fn outcome_in(
     alloc: Global,
     builder: &mut Builder,
@@ -52,7 +51,6 @@ fn outcome_with(alloc: Global, call: Call, spare: usize) -> Result<Option<Outcom
     outcome_in(alloc, &mut builder, call, spare)
 }
 
-// The length when the call fails, and in the end.
 type Lengths = (usize, usize);
 
 // Records that a call failed at these lengths. Returns whether they are among these.
@@ -81,10 +79,10 @@ fn states_met(alloc: Global, call: Call, all: &[Lengths]) -> Result<Option<usize
     Ok(Some(0))
 }
 
-// Calls, the lengths at which they may fail, and the least number of them. A vector in a new
-// builder allocates nothing between its two strings. After another string there is room for the
-// first of them alone: the second may fail at its 6 bytes, and then the vector's count. A weapon
-// allocates its bytes alone, the first of which may fit a small block.
+// Calls, the lengths at which they may fail, and the least number of them. Two strings need no
+// allocation between them in a new builder. After another string there is room for the first alone:
+// the second may fail at its 6 bytes, and then the vector's count. A weapon allocates its bytes
+// alone.
 const CALLS: &[(&str, Call, &[Lengths], usize)] = &[
     ("a list", Call::List, &[(0, 26), (6, 26), (14, 26)], 2),
     (
@@ -134,7 +132,6 @@ fn other_beside(
     Ok((exhausted, other_is_made(alloc, other, steps)))
 }
 
-// The same, and memory is there again after it.
 fn other_with(
     alloc: Global,
     other: Other,
@@ -168,9 +165,8 @@ fn refusals_of(
     Ok(Some(0))
 }
 
-// Calls, the additional bytes at each turn, and the least number of turns at which they fail. The
-// copies of numbers take 10 bytes, the vector of five strings 120, so more than four turns fail at
-// the strings.
+// Calls, the additional bytes at each turn, and the least number of failing turns: numbers take 10
+// bytes, five strings 120, so more than four turns fail at the strings.
 const OTHERS: &[(&str, Other, usize, usize)] = &[
     ("numbers", Other::Numbers, STEP, 1),
     ("texts", Other::Texts, STEP, 5),
@@ -188,7 +184,6 @@ fn calls_on_no_builder(rt: HostRuntime) -> Result<(), Fail> {
     Ok(())
 }
 
-// Whether a call in its own builder has an expected outcome, where one allocation fails or none.
 fn is_mended(alloc: Global, call: Call, all: &[Lengths]) -> bool {
     match outcome_of(alloc, call) {
         Outcome::NotBegun => true,

@@ -24,14 +24,12 @@ pub enum Call {
     Weapon,
 }
 
-/// The outcome of a call.
 #[derive(Clone, Copy)]
 pub enum Outcome {
     /// An allocation before the call failed.
     NotBegun,
     /// No allocation failed.
     Made {
-        /// The length in bytes.
         len: usize,
     },
     /// An allocation failed, and none when the call was made again.
@@ -45,7 +43,6 @@ pub enum Outcome {
     Wrong,
 }
 
-/// The kind of an offset to a weapon.
 struct Weapon;
 
 impl TableKind for Weapon {
@@ -108,7 +105,6 @@ fn write_unions_of(
     }
 }
 
-/// Writes the union vector of two strings, which are found.
 fn write_unions(builder: &mut Builder) -> Result<Written, BuildError> {
     let [a, b] = write_texts(builder)?;
     let first = UnionOffset::new(1, a.downcast());
@@ -124,7 +120,6 @@ fn write_weapon(builder: &mut Builder) -> Result<Written, BuildError> {
     })
 }
 
-/// Writes what is there before the call.
 pub fn prepare(builder: &mut Builder, call: Call) -> Result<(), BuildError> {
     match call {
         Call::Unions => {
@@ -197,7 +192,6 @@ fn reads_back(builder: &mut Builder, call: Call, written: Written) -> bool {
         }
 }
 
-/// Whether a string is written, or found, in these bytes.
 fn text_stands(builder: &mut Builder, letters: &str, serialized: &[u8]) -> bool {
     match builder.create_string(letters) {
         Ok(text) => match builder.len().checked_sub(text.distance() as usize) {
@@ -233,8 +227,7 @@ fn is_behind(bytes: &[u8]) -> bool {
     bytes.ends_with(BEHIND) || BEHIND.ends_with(bytes) && bytes.len() >= 10
 }
 
-/// Whether what was there before the call is still the end of the bytes, and the vector's own
-/// strings that were written, too.
+/// Whether what was there before the call is still the end of the bytes.
 fn keeps_what_was_there(builder: &Builder, call: Call) -> bool {
     match call {
         Call::Unions => builder.as_slice().ends_with(TEXTS),
@@ -253,7 +246,6 @@ fn axe_is_read(builder: &mut Builder) -> bool {
     }
 }
 
-/// The outcome of a failed call when it is made again with memory.
 pub fn make_again(builder: &mut Builder, call: Call) -> Outcome {
     let refused = builder.len();
     if !keeps_what_was_there(builder, call) || !texts_stand(builder, call) {

@@ -8,7 +8,6 @@ use planus::{
 };
 use std::alloc::Global;
 
-/// The outcome of a call.
 #[derive(Clone, Copy)]
 pub enum Copied {
     /// An allocation before the call failed.
@@ -17,12 +16,10 @@ pub enum Copied {
     Made,
     /// An allocation failed, and none when the call was made again.
     MadeAgain,
-    /// Any other outcome.
     Wrong,
 }
 
 impl Copied {
-    /// The outcome of a failed call when it is made again with memory.
     fn again(copied: Option<bool>) -> Copied {
         match copied {
             Some(true) => Copied::MadeAgain,
@@ -31,7 +28,6 @@ impl Copied {
     }
 }
 
-/// A vector of the numbers 1 to 5.
 const NUMBERS: [u8; 18] = [4, 0, 0, 0, 5, 0, 0, 0, 1, 0, 2, 0, 3, 0, 4, 0, 5, 0];
 
 /// A vector of five references to one string `Axe`.

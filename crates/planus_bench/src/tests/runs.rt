@@ -128,7 +128,6 @@ fn one_of(numbers: &[usize], draw: usize) -> Option<usize> {
     numbers.get(index).copied()
 }
 
-// Pseudo-random steps.
 #[derive(Drop)]
 struct Mixed {
     alloc: Global,
@@ -147,7 +146,6 @@ impl Mixed {
         table(self.alloc, Named { root, unions }, shape % 7, apart)
     }
 
-    // A step of this kind, which names this step, if it can.
     fn step(&mut self, kind: usize, root: Option<usize>) -> Result<Step, AllocError> {
         let alloc = self.alloc;
         match (kind, root) {
@@ -174,7 +172,6 @@ impl Mixed {
         }
     }
 
-    // Records what later steps may name of the last step.
     fn note_last(&mut self, number: usize) -> Result<(), AllocError> {
         match self.steps.last() {
             Some(Step::Clear) => {
@@ -250,7 +247,6 @@ pub fn add_field(fields: &mut Vec<Field>, slot: u16, value: FieldValue) -> Resul
     Ok(())
 }
 
-// A table with a reference in slot 0 and the number 24 of two bytes in slot 1.
 fn with_name(alloc: Global, name: usize) -> Result<Step, AllocError> {
     let mut fields = Vec::new(alloc);
     let number = FieldValue::Number {
@@ -266,7 +262,7 @@ fn word_bytes(alloc: Global, letters: &str) -> Result<Step, AllocError> {
     Ok(Step::Bytes(Vec::from_slice(alloc, letters.as_bytes())?))
 }
 
-// Adds a string and a byte vector of this word, a table that refers to step `first`, and a vector.
+// A string and a byte vector of this word, a table that refers to step `first`, and a vector.
 fn push_values(
     alloc: Global,
     steps: &mut Vec<Step>,
@@ -279,7 +275,6 @@ fn push_values(
     add(steps, list(alloc, 2, letters.len()))
 }
 
-// References to all steps from this one on.
 fn refs_from(alloc: Global, first: usize, end: usize) -> Result<Step, AllocError> {
     let mut all = Vec::new(alloc);
     for step in first..end {
@@ -288,8 +283,7 @@ fn refs_from(alloc: Global, first: usize, end: usize) -> Result<Step, AllocError
     Ok(Step::Refs(all))
 }
 
-// Adds the same strings, byte vectors and tables twice, with one between that differs, a finish,
-// and a clear.
+// The same values twice, each with one between that differs, a finish, and a clear.
 fn push_repeated(alloc: Global, steps: &mut Vec<Step>) -> Result<(), AllocError> {
     let first = steps.len();
     push_values(alloc, steps, first, "Hi")?;
@@ -301,7 +295,6 @@ fn push_repeated(alloc: Global, steps: &mut Vec<Step>) -> Result<(), AllocError>
     add(steps, Ok(Step::Clear))
 }
 
-// These, written, finished, cleared, and written again.
 fn push_repeated_twice(alloc: Global, steps: &mut Vec<Step>) -> Result<(), AllocError> {
     push_repeated(alloc, steps)?;
     push_repeated(alloc, steps)
@@ -313,7 +306,6 @@ fn repeated(alloc: Global) -> Result<Vec<Step>, AllocError> {
     Ok(steps)
 }
 
-// The root of a finish, and whether it is size-prefixed.
 fn root_of(step: &Step) -> Option<(usize, bool)> {
     match step {
         Step::Finish { root, .. } => Some((*root, false)),
@@ -336,7 +328,7 @@ pub fn are_same(got: &[Finished], want: &[Finished]) -> bool {
     got.len() == want.len()
 }
 
-// Whether there is one for each finish of the steps, and its root reads back.
+// Whether each finish's root reads back.
 fn are_read_back(alloc: Global, steps: &[Step], finished: &[Finished]) -> Result<bool, Fail> {
     let mut count: usize = 0;
     for step in steps {
@@ -351,7 +343,6 @@ fn are_read_back(alloc: Global, steps: &[Step], finished: &[Finished]) -> Result
     Ok(count == finished.len())
 }
 
-// Whether a replay with these caches gives the same bytes and places, and each root reads back.
 fn gives(alloc: Global, caches: Caches, steps: &[Step], want: &[Finished]) -> Result<bool, Fail> {
     let got = replay(alloc, caches, steps)?;
     Ok(are_same(got.as_slice(), want) && are_read_back(alloc, steps, got.as_slice())?)
@@ -373,7 +364,6 @@ fn replays_agree_in(
     Ok(())
 }
 
-// The same under all cache settings.
 fn replays_agree(rt: &impl Abort, alloc: Global, steps: &[Step]) -> Result<(), Fail> {
     for number in 0..8 {
         replays_agree_in(rt, alloc, Switches::of(number), steps)?;
@@ -381,7 +371,6 @@ fn replays_agree(rt: &impl Abort, alloc: Global, steps: &[Step]) -> Result<(), F
     Ok(())
 }
 
-// The same for steps that are passed by value, if there was memory for them.
 fn replays_of(
     rt: &impl Abort,
     alloc: Global,
@@ -395,7 +384,6 @@ fn are_mixed(steps: &[Step]) -> bool {
     steps.len() == 300 && counts(steps) == (14, 65, 50, 22)
 }
 
-// The same for mixed steps, enough of each kind.
 fn mixed_replays(rt: &impl Abort, alloc: Global) -> Result<(), Fail> {
     let mixed = mixed_steps(alloc, 300)?;
     check(rt, are_mixed(mixed.as_slice()), "mixed steps");

@@ -63,7 +63,6 @@ fn push_behind_a_text(
     add(steps, odd_width(alloc, in_table))
 }
 
-// Whether a replay fails for the width in its second step.
 fn is_refused(alloc: Global, steps: &[Step]) -> bool {
     let why = Why::WidthUnknown;
     match replay(alloc, Caches::all(), steps) {
@@ -92,7 +91,6 @@ fn a_width_that_numbers_cannot_have(rt: HostRuntime) {
     check(&rt, prints_its_words(alloc, Why::WidthUnknown), "its words");
 }
 
-// Whether a copy of a step is equal to it, and another one isn't.
 fn is_copied(alloc: Global, step: &Step) -> Result<bool, AllocError> {
     let copy = step.clone()?;
     Ok(copy == *step && copy != odd_width(alloc, false)?)
@@ -105,7 +103,6 @@ fn finishes_are_copied(finished: &[Finished]) -> Result<bool, AllocError> {
     }
 }
 
-// The same for a string that is finished twice.
 fn a_replay_is_copied(alloc: Global, steps: &mut Vec<Step>) -> Result<bool, AllocError> {
     add(steps, word(alloc, "Axe"))?;
     add_finish(steps, 0)?;

@@ -31,7 +31,6 @@ impl<P: Primitive, T: WriteAsPrimitive<P>> ObjectFill for One<P, T> {
     }
 }
 
-// Writes a table with one field in slot 1.
 pub fn put<P: Primitive, T: WriteAsPrimitive<P> + Drop>(
     builder: &mut Builder,
     field: T,
@@ -189,7 +188,6 @@ fn a_table_with_a_free_slot_between(rt: HostRuntime) {
     check(&rt, a_free_slot_is_none(bytes), "a free slot is none");
 }
 
-// Writes a table with one number in slot 0.
 pub fn put_number(builder: &mut Builder, field: u16) -> Result<(), BuildError> {
     let mut writer: TableWriter<6> = TableWriter::default();
     writer.write_entry::<u16>(0);

@@ -16,7 +16,6 @@ const TWO_TEXTS: [u8; 58] = [
     b'A', 0,
 ];
 
-// A table of the tags and the references of a step's union vector.
 fn tags_and_values(alloc: Global, unions: usize) -> Result<Step, AllocError> {
     let mut fields = Vec::new(alloc);
     add_field(&mut fields, 0, FieldValue::Tags(unions))?;
@@ -24,12 +23,10 @@ fn tags_and_values(alloc: Global, unions: usize) -> Result<Step, AllocError> {
     Ok(Step::Table(fields))
 }
 
-// The union vector of the first two steps, of tags 1 and 2.
 fn two_unions(alloc: Global) -> Result<Step, AllocError> {
     Ok(Step::Unions(Vec::from_slice(alloc, &[(1, 0), (2, 1)])?))
 }
 
-// Adds the two strings, a union vector of them, a table of it, and a finish.
 fn push_steps(alloc: Global, steps: &mut Vec<Step>) -> Result<(), AllocError> {
     add(steps, word(alloc, "A"))?;
     add(steps, word(alloc, "B"))?;
@@ -44,7 +41,6 @@ pub fn two_texts(alloc: Global) -> Result<Vec<Step>, AllocError> {
     Ok(steps)
 }
 
-// Whether a run gave one finish, of these bytes, with the unions of step 2.
 fn is_two_texts(run: &[Finished]) -> bool {
     let unions = StepPlace {
         step: 2,

@@ -1,5 +1,4 @@
-//! The calls of builders and of written types that take no memory, each by its name, without
-//! memory. Those of readers, vectors and their iterators are tested beside their crates.
+//! The calls of builders and of written types that take no memory, each by its name.
 
 ghost use Rattle.std.specs.Prelude.{◌≡◌, ◌≤◌, length, IsTrue};
 
@@ -173,7 +172,6 @@ fn a_builder_is_cleared(builder: &mut Builder) -> bool {
 // Some calls, and whether their results are right.
 type Row = (&'static str, bool);
 
-// The first with a wrong result.
 fn first_wrong(rows: &[Row]) -> Option<&'static str> {
     for (name, holds) in rows {
         if !*holds {
@@ -227,7 +225,6 @@ fn first_wrong_of_values(alloc: Global) -> Option<&'static str> {
     ])
 }
 
-// The same for all of them.
 fn first_wrong_call(
     alloc: Global,
     builder: &mut Builder,
@@ -239,7 +236,6 @@ fn first_wrong_call(
         .or(first_wrong_of_values(alloc))
 }
 
-// The same without memory, and whether it was taken.
 fn first_wrong_beside(
     alloc: Global,
     held: &mut Vec<Vec<u8>>,
@@ -261,7 +257,6 @@ fn first_wrong_without_memory(
     first_wrong_beside(alloc, &mut held, builder, back, cache)
 }
 
-// The same with these three bytes in the back vector, and an empty cache.
 fn first_wrong_with(
     alloc: Global,
     builder: &mut Builder,

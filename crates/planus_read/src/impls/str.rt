@@ -13,7 +13,6 @@ use crate::located::ITEM_METHOD;
 use crate::slice_helpers::SliceWithStartOffset;
 use crate::traits::{ReadError, Stride, TableRead, VectorReadInner};
 
-// The name of a vector of strings, in an item's error.
 const VECTOR_NAME: &str = "[str]";
 
 // Returns the string of the first count items, if a zero byte follows.
