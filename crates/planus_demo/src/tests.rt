@@ -26,8 +26,7 @@ use std::fmt::Display;
 use std::io::{Read, Write};
 use std::process::Abort;
 
-// A function that owns a builder or a vector is proved slowly, so most tests lend these to
-// functions that return what they found, and `in_builder` is the one that owns a builder.
+// A function that owns a builder or a vector is proved slowly, so most tests lend these to others.
 
 // Fails a test with this message. An assertion is slow to prove, so this is the one of most tests.
 fn check(rt: &impl Abort, holds: bool, what: &str) {
@@ -53,8 +52,7 @@ fn ran(alloc: Global, script: &[u8], printed: &mut Vec<u8>) -> (Result<bool, Run
     (answer, reader.len())
 }
 
-// Whether a run leaves this number of bytes unread, prints this, and its result and exit status
-// agree.
+// Also tests the exit status.
 fn prints(alloc: Global, script: &[u8], unread: usize, printed: &[u8], clean: bool) -> bool {
     let mut writer = Vec::new(alloc);
     let (answer, left) = ran(alloc, script, &mut writer);
@@ -62,7 +60,6 @@ fn prints(alloc: Global, script: &[u8], unread: usize, printed: &[u8], clean: bo
     answer == Ok(clean) && status(&answer) == exit && left == unread && writer.as_slice() == printed
 }
 
-// Whether these calls of a new builder give the expected results.
 fn in_builder<F: FnOnce(&mut Builder) -> Result<bool, BuildError>>(
     alloc: Global,
     caches: Caches,
@@ -80,7 +77,6 @@ fn holds(found: Result<bool, BuildError>) -> bool {
     matches!(found, Ok(true))
 }
 
-// Finishes with an earlier value.
 fn finish_with<T>(builder: &mut Builder, root: Offset<T>) -> Result<&[u8], BuildError> {
     if root.distance() as usize > builder.len() {
         return Err(BuildError::TooLarge);

@@ -75,7 +75,6 @@ fn push_fields(alloc: Global, fields: &mut Vec<FieldSchema>) -> Result<(), Alloc
     Ok(())
 }
 
-// The schema of a table with the next one, and names.
 fn nodes(alloc: Global) -> Result<Schema, AllocError> {
     let mut fields = Vec::new(alloc);
     push_fields(alloc, &mut fields)?;
@@ -89,8 +88,7 @@ fn nodes(alloc: Global) -> Result<Schema, AllocError> {
     })
 }
 
-// Adds the line of a chain of n tables of 8 bytes, followed by the vtable, to which the last refers
-// as its next one.
+// A chain of n tables of 8 bytes, followed by the vtable, to which the last refers as its next one.
 fn push_chain(input: &mut Vec<u8>, tables: u32) -> Result<(), AllocError> {
     push_word(input, 4)?;
     for i in 0..tables {
@@ -102,7 +100,6 @@ fn push_chain(input: &mut Vec<u8>, tables: u32) -> Result<(), AllocError> {
     end_line(input)
 }
 
-// Adds the line of a table with n names, each the same string.
 fn push_names(input: &mut Vec<u8>, names: usize, letters: usize) -> Result<(), AllocError> {
     push_bytes(
         input,
@@ -145,7 +142,6 @@ fn is_begun(printed: &[u8], (len, first): (usize, &[u8])) -> bool {
     printed.len() == len && printed.starts_with(first)
 }
 
-// Whether the dump of an input prints this number of bytes, and begins with these.
 fn begins(alloc: Global, schema: &Schema, input: &[u8], clean: bool, want: (usize, &[u8])) -> bool {
     let mut printed = Vec::new(alloc);
     let answer = dumped(alloc, schema, input, &mut printed);
@@ -183,8 +179,7 @@ fn limits(rt: HostRuntime) {
     }
 }
 
-// Without memory nothing is read; where the lines don't fit in 4 MiB, `out of memory` is printed;
-// then all lines are. `None` where memory was left.
+// Nothing is read without memory; where the lines don't fit in 4 MiB, `out of memory` is printed.
 fn is_refused(alloc: Global, schema: &Schema, input: &[u8]) -> Result<Option<bool>, AllocError> {
     for (spare, want, text) in [
         (0, (Err(RunError::OutOfMemory), 2), ""),

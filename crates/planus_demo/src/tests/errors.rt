@@ -24,7 +24,6 @@ fn refusals_print_their_texts(rt: HostRuntime) {
     );
 }
 
-// An error of the builder as an `io::Error`, as `?` makes it.
 fn refused(error: BuildError) -> io::Result<()> {
     Err(error)?;
     Ok(())

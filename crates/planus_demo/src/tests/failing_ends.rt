@@ -45,7 +45,6 @@ pub struct OddReader<'a> {
 }
 
 impl OddReader<'_> {
-    /// A reader of a weapon's script whose k-th read fails; none does for k of 0.
     pub fn failing(k: usize) -> OddReader<'static> {
         OddReader {
             bytes: SCRIPT,
@@ -74,7 +73,6 @@ impl<'a> Read for OddReader<'a> {
     }
 }
 
-// A weapon's run, or with a schema its dump, whose k-th read is odd.
 fn ran_oddly(
     alloc: Global,
     schema: Option<&Schema>,
@@ -94,7 +92,6 @@ fn is_clean(alloc: Global, k: usize, odd: Odd) -> bool {
     ran_oddly(alloc, None, (k, odd), &mut printed) == Ok(true) && printed.as_slice() == PRINTED
 }
 
-// Whether the k-th read's error is returned, and nothing is written.
 fn reading_fails(alloc: Global, schema: Option<&Schema>, k: usize) -> bool {
     let mut printed = Vec::new(alloc);
     let answer = ran_oddly(alloc, schema, (k, Odd::Fails), &mut printed);
@@ -117,8 +114,6 @@ fn read_in_turn(alloc: Global, k: usize) -> [bool; 3] {
     ]
 }
 
-// Whether a script that is a byte too long gives this result and prints this, where the k-th read
-// fails.
 fn too_long(
     alloc: Global,
     k: usize,
@@ -197,8 +192,6 @@ impl Write for OddWriter {
     }
 }
 
-// Whether a run, or dump, whose k-th write is odd gives this result, and writes this number of
-// bytes.
 fn writes(
     alloc: Global,
     schema: Option<&Schema>,
@@ -220,7 +213,6 @@ fn writes(
     answer == want && printed.get(..count) == Some(writer.taken.as_slice())
 }
 
-// Whether the k-th write's error is returned, and the bytes before are written.
 fn writing_fails(alloc: Global, k: usize, odd: Odd) -> bool {
     let (fails, before) = (Err(RunError::Write), k.wrapping_sub(1));
     writes(alloc, None, (k, odd), fails, before) && status(&fails) == 2
@@ -238,7 +230,6 @@ fn write_in_turn(alloc: Global, k: usize) -> [bool; 3] {
     ]
 }
 
-// Whether the error of flushing is returned.
 fn handing_on_fails(alloc: Global, script: &[u8], count: usize) -> bool {
     let mut reader = script;
     let mut writer = OddWriter {

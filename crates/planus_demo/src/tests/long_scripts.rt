@@ -5,7 +5,6 @@ use crate::tests::check;
 use std::alloc::{AllocError, Global};
 use std::test::Fail;
 
-// The letters from `a` to `z`, over and over.
 fn letter(index: usize) -> u8 {
     b'a'.wrapping_add((index % 26) as u8)
 }
@@ -34,7 +33,6 @@ pub fn push_bytes(printed: &mut Vec<u8>, bytes: &[u8]) -> Result<(), AllocError>
     Ok(())
 }
 
-// Ends a line of bytes, without a space at its end.
 pub fn end_line(printed: &mut Vec<u8>) -> Result<(), AllocError> {
     printed.pop();
     printed.extend_from_slice(b"\n")
@@ -52,7 +50,6 @@ pub fn push_references(printed: &mut Vec<u8>, count: usize) -> Result<(), AllocE
     Ok(())
 }
 
-// Adds the bytes of a string, which end a finish.
 pub fn push_text(printed: &mut Vec<u8>, count: usize) -> Result<(), AllocError> {
     push_word(printed, count)?;
     for index in 0..count {
@@ -84,7 +81,6 @@ fn push_field(alloc: Global, script: &mut Vec<u8>, slot: usize) -> Result<(), Al
     script.extend_from_slice(field.as_bytes())
 }
 
-// Adds a table of a byte in each of its 256 slots, and a finish with it.
 fn push_full_table(alloc: Global, script: &mut Vec<u8>) -> Result<(), AllocError> {
     script.extend_from_slice(b"table")?;
     for slot in 0..256 {
@@ -158,12 +154,10 @@ fn text(number: usize) -> [u8; 43] {
     text
 }
 
-// The items of the last stretch.
 #[derive(Clone, Copy)]
 enum Item {
     Text,
     Number,
-    // A reference to a string of the last stretch.
     Reference,
     Union,
     // A field of a table after the first four.
@@ -216,7 +210,6 @@ fn push_items(
     Ok(())
 }
 
-// Adds 300 stretches of 48 strings, each with a finish and a clear.
 fn push_stretches(alloc: Global, script: &mut Vec<u8>) -> Result<(), AllocError> {
     for stretch in 0..300usize {
         push_items(alloc, script, Item::Text, 48)?;
@@ -243,7 +236,7 @@ const ITEMS: &[(&str, Item, usize)] = &[
     (TABLE, Item::Field, 252),
 ];
 
-// Adds a stretch of 5003 values, the last of them a table that refers to vectors of numbers, of
+// A stretch of 5003 values, the last of them a table that refers to vectors of numbers, of
 // references and of unions, and seven finishes.
 fn push_last_stretch(alloc: Global, script: &mut Vec<u8>) -> Result<(), AllocError> {
     for (before, item, count) in ITEMS {
@@ -256,7 +249,6 @@ fn push_last_stretch(alloc: Global, script: &mut Vec<u8>) -> Result<(), AllocErr
     script.extend_from_slice(b"\n")
 }
 
-// The parts of a finish.
 #[derive(Clone, Copy)]
 enum Part {
     // The strings, the last one first.
@@ -310,7 +302,6 @@ const PARTS: &[(&[u8], Part, usize)] = &[
     (b"\0\0", Part::Text { last: 4998 }, 4999),
 ];
 
-// Adds what the n-th finish of the last stretch prints.
 fn push_last_line(printed: &mut Vec<u8>, finishes: usize) -> Result<(), AllocError> {
     push_references(printed, finishes)?;
     push_bytes(printed, REFERENCES)?;
@@ -340,8 +331,6 @@ fn lines_are_printed(alloc: Global, script: &[u8]) -> Result<bool, AllocError> {
     Ok(prints(alloc, script, 0, want.as_slice(), true))
 }
 
-// Whether the script is near the longest one, its finishes are printed, and a bad step after them
-// is.
 fn long_script_is_printed(alloc: Global, script: &mut Vec<u8>) -> Result<[bool; 3], AllocError> {
     push_stretches(alloc, script)?;
     push_last_stretch(alloc, script)?;

@@ -16,7 +16,7 @@ use planus::{
 };
 use std::alloc::Global;
 
-// An orc with 80 hit points and one weapon, an axe with a damage of 24, which it has equipped.
+// An orc with 80 hit points and an axe with a damage of 24, which it has equipped.
 const ORC: [u8; 84] = [
     0x04, 0x00, 0x00, 0x00, 0xec, 0xff, 0xff, 0xff, 0x28, 0x00, 0x00, 0x00, 0x1c, 0x00, 0x00, 0x00,
     0x28, 0x00, 0x00, 0x00, 0x50, 0x00, 0x01, 0x00, 0x10, 0x00, 0x13, 0x00, 0x10, 0x00, 0x04, 0x00,
@@ -47,7 +47,6 @@ fn orc(builder: &mut Builder) -> Result<Offset<Monster>, BuildError> {
     Monster::create(builder, 80i16, "Orc", (), [axe], equipped, ())
 }
 
-// Writes an elf with 7 hit points, three bytes of inventory, and an axe and a bow as its loot.
 fn elf(builder: &mut Builder) -> Result<Offset<Monster>, BuildError> {
     let axe = weapon(builder, "Axe", 24)?;
     let bow = weapon(builder, "Bow", 12)?;

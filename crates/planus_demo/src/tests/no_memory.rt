@@ -20,8 +20,6 @@ fn exhaust_but(alloc: Global, held: &mut Vec<Vec<u8>>, spare: usize) -> Result<b
     Ok(exhausted)
 }
 
-// Runs a script, or with a schema dumps bytes, with little memory. Returns whether the memory was
-// taken, and the result.
 fn ran_without_memory(
     alloc: Global,
     schema: Option<&Schema>,
@@ -37,8 +35,6 @@ fn ran_without_memory(
     Ok((exhausted, answer))
 }
 
-// Whether such a run gives this result and exit status, and prints this; `None` where memory was
-// left.
 pub fn gives_without_memory(
     alloc: Global,
     schema: Option<&Schema>,
@@ -66,7 +62,6 @@ fn refused_memory(rt: HostRuntime) -> Result<(), Fail> {
     Ok(())
 }
 
-// Adds a string of 50003 bytes and 100 finishes with it.
 fn push_finishes(script: &mut Vec<u8>) -> Result<(), AllocError> {
     push_text_step(script, 50003)?;
     for _ in 0..100usize {
@@ -89,8 +84,7 @@ fn prints_finishes(alloc: Global, script: &[u8]) -> Result<bool, AllocError> {
     Ok(prints(alloc, script, 0, want.as_slice(), true))
 }
 
-// Whether `out of memory` is printed where the finishes don't fit in 4 MiB, and then all finishes
-// are; `None` where memory was left.
+// Where the finishes don't fit in 4 MiB, `out of memory` is printed.
 fn is_refused(alloc: Global, script: &[u8]) -> Result<Option<bool>, AllocError> {
     let (text, want) = ("out of memory\n", (Ok(false), 1));
     let refused = gives_without_memory(alloc, None, script, 4194304, want, text)?;
@@ -109,10 +103,8 @@ fn out_of_memory_is_printed(rt: HostRuntime) -> Result<(), Fail> {
     Ok(())
 }
 
-// The greatest number of turns.
 const TURNS: usize = 1024;
 
-// A call that allocates several times.
 #[derive(Clone, Copy)]
 enum Call {
     Axe,
@@ -131,7 +123,6 @@ enum Turn {
     Wrong,
 }
 
-// Writes an axe with little memory. Returns whether that failed; `None` where memory was left.
 fn axe_is_refused(
     alloc: Global,
     builder: &mut Builder,
@@ -144,7 +135,6 @@ fn axe_is_refused(
     Ok(if exhausted { Some(refused) } else { None })
 }
 
-// Whether an axe is written in 28 bytes, and read back.
 fn axe_is_written(builder: &mut Builder) -> Result<bool, BuildError> {
     let axe = weapon(builder, "Axe", 24)?;
     let there = axe.distance() == 28;
@@ -212,8 +202,7 @@ fn note(met: &mut [bool; 3], all: &[usize], left: usize) -> bool {
     false
 }
 
-// The number of different states that a failing call leaves, with more memory at each turn until it
-// works; `None` where memory was left.
+// The number of different states that a failing call leaves, with more memory at each turn.
 fn states_met(
     alloc: Global,
     call: Call,

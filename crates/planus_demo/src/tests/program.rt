@@ -37,7 +37,6 @@ impl<'a> Env for Words<'a> {
     }
 }
 
-// Also returns the number of bytes of the input that are left unread.
 fn ran(
     alloc: Global,
     words: &[&[u8]],
@@ -50,8 +49,7 @@ fn ran(
     (ending, reader.len())
 }
 
-// Arguments, an input, what is printed, what is printed on standard error, the exit status, and the
-// number of bytes that are left unread.
+// Arguments, an input, both outputs, the exit status, and the number of bytes that are left unread.
 #[derive(Clone, Copy)]
 struct Row {
     words: &'static [&'static [u8]],
@@ -149,7 +147,6 @@ fn fails_saying(ending: &Ending, error: RunError, told: &[u8], words: &[u8]) -> 
     ending.answer == Err(error) && status(&ending.answer) == 2 && ending.told && told == words
 }
 
-// The same without an argument where the k-th read fails.
 fn an_end_fails(
     alloc: Global,
     k: usize,

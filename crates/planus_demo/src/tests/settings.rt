@@ -18,8 +18,6 @@ pub fn setting(number: usize, hash_mask: u64) -> Caches {
     }
 }
 
-// Writes a monster that has everything: an axe, which it has equipped, and a bow, both also as
-// loot.
 fn armed(
     builder: &mut Builder,
     name: &str,
@@ -76,7 +74,6 @@ fn are_same(builder: &mut Builder, want: &[u8]) -> Result<bool, BuildError> {
     Ok(three(builder)? == want)
 }
 
-// Whether the length is the same for every mask, and the last monster is read back.
 fn masks_agree(alloc: Global, number: usize, length: usize) -> bool {
     let mut bytes = Vec::new(alloc);
     let all = setting(number, u64::MAX);

@@ -18,7 +18,7 @@ use std::fmt::Debug;
 // A weapon: its name and its damage.
 pub type WeaponRow = (Option<&'static str>, i16);
 
-// A weapon with the name `Axe` and a damage of 24, finished.
+// The weapon Axe with a damage of 24, finished.
 const AXE: &[u8] =
     b"\x04\0\0\0\xf4\xff\xff\xff\x10\0\0\0\x18\0\0\0\x08\0\x0a\0\x04\0\x08\0\x03\0\0\0Axe\0";
 
@@ -61,7 +61,6 @@ pub fn are_weapons<'a>(
     items.next().is_none() && weapons.len() == want.len()
 }
 
-// Whether a finish with the weapon gives these bytes, and reads back.
 fn finishes(
     builder: &mut Builder,
     root: Offset<Weapon>,
@@ -155,7 +154,6 @@ const SIZED: &[u8] =
 
 const NO_ROOT: &[u8] = b"\x03\0\0\0\0\0\0";
 
-// The weapon after a size.
 fn sized_weapon(bytes: &[u8]) -> Option<planus::Result<TableRef<'_, Weapon>>> {
     match read_size_prefixed(bytes) {
         Ok((piece, _rest)) => Some(ReadPieceAsRoot::read_piece_as_root(piece)),
@@ -243,7 +241,7 @@ fn a_list_of_weapons(rt: HostRuntime) {
     );
 }
 
-// Knows of a writer that it was handed that it was told some list of entries.
+// A writer was told some list of entries.
 fn was_told(writer: &TableWriter<8>)
     ensures { (declared : List Declared) × WasTold writer.now declared }
 {

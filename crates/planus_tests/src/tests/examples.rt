@@ -13,8 +13,7 @@ mod voyages;
 use planus::{BuildError, Builder};
 use std::alloc::Global;
 
-// Whether these calls of a new builder give the expected results. A function that owns a builder is
-// proved slowly, so this is the one that does.
+// A function that owns a builder is proved slowly, so this is the one that does.
 fn in_builder<F: FnOnce(&mut Builder) -> Result<bool, BuildError>>(alloc: Global, calls: F) -> bool
     requires { F.IsAlwaysCallable calls }
 {

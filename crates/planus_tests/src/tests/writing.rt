@@ -43,7 +43,6 @@ fn finishes<T>(
     }
 }
 
-// Prepares a value by its bound alone.
 fn prepared<T, X: WriteAsOffset<T>>(
     builder: &mut Builder,
     value: &X,

@@ -18,8 +18,8 @@ const NODES: SchemaParts<'static> = (&[("Node", NODE)], &[]);
 
 const TWINS: SchemaParts<'static> = (&[("Twin", TWIN)], &[]);
 
-// The end of a buffer: a vtable of 8 bytes for tables of 12 with fields at 4 and at 8, and a vtable
-// without slots, for the last table.
+// A vtable of 8 bytes for tables of 12 with fields at 4 and at 8, and one without slots for the
+// last.
 const VTABLES: &[u8] = b"\x08\0\x0c\0\x04\0\x08\0\x04\0\x04\0";
 
 // A buffer of n + 1 tables: in each but the last, both fields lead to the next one.

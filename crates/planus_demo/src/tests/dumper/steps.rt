@@ -6,7 +6,6 @@ use planus::{Caches, Field, FieldValue, ReplayError, Step, Why};
 use planus_dump::{DumpError, DumpRunError, dump_run};
 use std::alloc::{AllocError, Global};
 
-// The steps of a weapon with the name `Axe` and a damage of 24, and n finishes of it.
 fn weapon(alloc: Global, finishes: usize) -> Result<Vec<Step>, AllocError> {
     let mut steps = Vec::new(alloc);
     steps.push(Step::Text(String::from_str(alloc, "Axe")?))?;

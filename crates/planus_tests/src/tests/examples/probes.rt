@@ -67,7 +67,6 @@ const FLATC_PROBE: [u8; 224] = [
     0x00, 0x00, 0x00, 0x00, 0x00, 0x00, 0x00, 0x00, 0x00, 0x00, 0x00, 0x00, 0x00, 0x00, 0x00, 0x00,
 ];
 
-// Whether a reading is its bytes: those from 32 on, at a multiple of 16.
 fn is_its_bytes() -> bool {
     let mut bytes = [7; 48];
     READING.put(&mut bytes);
@@ -125,7 +124,6 @@ fn probes_are_read_back(rt: HostRuntime) {
     assert!(rt; in_builder(rt.alloc(), a_default_is_read), "default");
 }
 
-// Whether the second reading is an error for its level, in a vector, and the first is unchanged.
 fn is_unknown_level(probe: &TableRef<'_, Probe>) -> bool {
     let Ok(Some(readings)) = Probe::readings(probe) else {
         return false;

@@ -71,7 +71,6 @@ fn fix_at(bytes: &[u8], offset: usize) -> Result<Fix, ErrorKind> {
     TableRead::from_buffer(SliceWithStartOffset::new(bytes, 0), offset)
 }
 
-// Whether a fix is its bytes, and is read from them, and from no others.
 fn is_its_bytes() -> bool {
     let mut bytes = [7; 24];
     FIX.put(&mut bytes);
@@ -80,7 +79,6 @@ fn is_its_bytes() -> bool {
         && matches!(fix_at(&FIX_BYTES, 1), Err(ErrorKind::InvalidOffset))
 }
 
-// Whether the error of an unknown kind has its number.
 fn is_unknown() -> bool {
     let mut bytes = FIX_BYTES;
     bytes[20] = 3;
@@ -185,7 +183,6 @@ fn sites_are_read_back(rt: HostRuntime) {
     assert!(rt; in_builder(rt.alloc(), a_home_is_read), "home");
 }
 
-// Whether an unknown kind is an error with the location of the call.
 fn is_unknown_kind(site: &TableRef<'_, Site>) -> bool {
     match Site::kind(site) {
         Err(
@@ -229,7 +226,6 @@ fn is_named(error: Error, method: &str) -> bool {
         )
 }
 
-// Whether a read gives a value or such an error.
 macro_rules! is_answered {
     ($site:ident, $accessor:ident, $name:literal) => {
         match Site::$accessor(&$site) {
@@ -239,7 +235,6 @@ macro_rules! is_answered {
     };
 }
 
-// Whether each accessor of the root does.
 fn is_answered(bytes: &[u8]) -> bool {
     let site: Result<TableRef<'_, Site>, _> = ReadAsRoot::read_as_root(bytes);
     let Ok(site) = site else {
@@ -255,7 +250,6 @@ fn is_answered(bytes: &[u8]) -> bool {
         && is_answered!(site, features, "features")
 }
 
-// Whether it does with one byte changed, and cut off there.
 fn damage_is_answered() -> bool {
     for i in 0..FLATC_SITE.len() {
         for other in [0, 1, 2, 0x7f, 0xff] {

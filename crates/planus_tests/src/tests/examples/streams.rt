@@ -14,8 +14,6 @@ fn are_texts(pieces: &[SliceWithStartOffset<'_>]) -> bool {
     })
 }
 
-// Whether this number of strings is read from a stream that is cut there, and then this error is
-// returned.
 fn is_read(
     alloc: Global,
     stream: &[u8],

@@ -35,7 +35,6 @@ fn ships_are_read(builder: &mut Builder) -> Result<bool, BuildError> {
     Ok(full && is_ship(bytes, "Argo", 100, None))
 }
 
-// Whether there are this many shares, the last one the ship Argo's.
 fn has_shares(port: &TableRef<'_, Port>, count: usize) -> bool {
     match Port::shares(port) {
         Ok(Some(shares)) => match share_at(&shares, 1) {

@@ -40,7 +40,6 @@ fn kinds_print_their_texts(rt: HostRuntime) {
     }
 }
 
-// Whether a UTF-8 error prints this, which ends with std's own message.
 fn fault_prints(alloc: Global, bytes: &[u8], text: &str) -> bool {
     let Err(source) = std::str::from_utf8(bytes) else {
         return false;

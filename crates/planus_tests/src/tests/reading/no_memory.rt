@@ -47,7 +47,6 @@ fn pieces_answer() -> bool {
     pieces::pieces_advance() && pieces::pieces_give_arrays() && pieces::arrays_give_arrays()
 }
 
-// Whether the calls of each kind give the expected results.
 #[derive(Clone, Copy)]
 struct Answers {
     rows: bool,
@@ -57,7 +56,6 @@ struct Answers {
     errors: bool,
 }
 
-// Makes all calls without memory. Returns whether it was taken.
 fn answers_without_memory(alloc: Global) -> Result<(bool, Answers), AllocError> {
     let mut held: Vec<Vec<u8>> = Vec::with_capacity(alloc, 262144)?;
     let exhausted = exhaust(alloc, &mut held)?;

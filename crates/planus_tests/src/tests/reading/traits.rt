@@ -19,7 +19,6 @@ pub fn field<'buf, T: TableRead<'buf>>(bytes: &'buf [u8], offset: usize) -> Resu
     T::from_buffer(SliceWithStartOffset::new(bytes, 0), offset)
 }
 
-// The item at an offset, where all of it is there.
 fn item<'buf, T: VectorRead<'buf>>(bytes: &'buf [u8], offset: usize) -> Option<T> {
     let stride = T::stride();
     if offset > bytes.len() || bytes.len() - offset < stride {
@@ -140,7 +139,6 @@ fn is_minus_one(list: SignedBytes<'_>) -> bool {
 // A reference to a vector of three bytes.
 const THREE_BYTES: [u8; 11] = [4, 0, 0, 0, 3, 0, 0, 0, 0xff, 2, 0x80];
 
-// The numbers of the vector, by a loop and one by one.
 fn are_three(list: SignedBytes<'_>) -> bool {
     let mut seen: usize = 0;
     for number in &list {
@@ -276,7 +274,6 @@ pub fn roots_are_read() -> bool {
         && matches!(nested.access_required::<u8>(0, "Root", "n"), Ok(24))
 }
 
-// Whether a string's error is that of a vector's item.
 fn item_fails(alloc: Global) -> bool {
     match item::<Result<&str, Error>>(&TEXTS, 4) {
         Some(text) => fails_printing(alloc, text, "In <[str]@0>::get(): Invalid offset"),

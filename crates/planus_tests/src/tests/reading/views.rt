@@ -15,7 +15,6 @@ fn shows<T: Debug>(alloc: Global, parts: &T) -> bool {
     }
 }
 
-// Adds the numbers below 5003, two bytes each, with these bytes after every one.
 fn push_numbers(bytes: &mut Vec<u8>, behind: &[u8]) -> Result<(), AllocError> {
     for number in 0..5003u16 {
         bytes.extend_from_slice(&number.to_le_bytes())?;

@@ -113,7 +113,6 @@ fn puts_into_its_room(rt: HostRuntime) -> Result<(), Fail> {
     Ok(())
 }
 
-// Whether growths beyond all memory fail, and change nothing.
 fn refusals_change_nothing(bytes: &mut BackVec) -> Result<bool, AllocError> {
     bytes.extend_from_slice(b"end")?;
     Ok(
@@ -181,7 +180,6 @@ fn keys_lie_wholly_in_the_bytes(rt: HostRuntime) {
     check(&rt, has_keys::<VTable>(&vtables), "vtables");
 }
 
-// Adds the distance of a key in the bytes.
 fn add(cache: &mut Cache<ByteVec>, bytes: &[u8], key: &[u8], distance: u32) -> Result<(), Fail>
     requires { Fits bytes_in cache.old bytes.now }
     ensures { OnOk result (Fits bytes_in cache.new bytes.now) }
@@ -197,7 +195,6 @@ fn add(cache: &mut Cache<ByteVec>, bytes: &[u8], key: &[u8], distance: u32) -> R
 // The signed numbers of the key `H\xfe`.
 const SIGNED: [i8; 2] = [72, -2];
 
-// The same of that key.
 fn add_signed(cache: &mut Cache<ByteVec>, bytes: &[u8], distance: u32) -> Result<(), Fail>
     requires { Fits bytes_in cache.old bytes.now }
     ensures { OnOk result (Fits bytes_in cache.new bytes.now) }
@@ -233,7 +230,6 @@ fn finds_signed(cache: &Cache<ByteVec>, bytes: &[u8], key: &[i8], want: Option<u
 
 const TWO_KEYS: &[u8] = b"\x02\0\0\0H\xfe\x02\0\0\0Hi";
 
-// Adds the two keys, and returns whether lookups are right before and after each.
 fn keys_are_found(cache: &mut Cache<ByteVec>, bytes: &[u8]) -> Result<bool, Fail>
     requires { Fits bytes_in cache.old bytes.now }
 {

@@ -4,7 +4,6 @@ use super::{calls_in_builder, holds, in_builder, prepared, stands_at};
 use crate::tests::check;
 use planus_write::{BuildError, Builder, ByteList, Caches, SignedList, Text};
 
-// Writes a string twice, with a cache or without.
 fn a_text_twice_in(builder: &mut Builder, on: bool) -> Result<bool, BuildError> {
     let first = prepared::<Text, &str>(builder, &"Hi")?;
     let after_first = stands_at(builder, first, 7, 7);
@@ -13,7 +12,6 @@ fn a_text_twice_in(builder: &mut Builder, on: bool) -> Result<bool, BuildError> 
     Ok(after_first && stands_at(builder, second, distance, len))
 }
 
-// The same with another string between the two.
 fn a_text_after_another(builder: &mut Builder, on: bool) -> Result<bool, BuildError> {
     builder.create_string("Hi")?;
     let other = builder.create_string("Ho")?;

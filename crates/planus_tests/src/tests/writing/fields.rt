@@ -18,8 +18,6 @@ use std::alloc::{AllocError, Global};
 // A kind of unions.
 pub struct Drinks;
 
-// Prepares a field that is always present by its bound alone; returns whether it is prepared as
-// this.
 pub fn always<P: Primitive, T: WriteAs<P>>(
     builder: &mut Builder,
     field: &T,
@@ -32,7 +30,6 @@ where
     matches!(field.prepare(builder), Ok(prepared) if prepared == want)
 }
 
-// The same for one that is written; returns whether it is at this distance.
 pub fn written<K, T: WriteAs<Offset<K>, Prepared = Offset<K>>>(
     builder: &mut Builder,
     field: &T,
@@ -43,7 +40,6 @@ pub fn written<K, T: WriteAs<Offset<K>, Prepared = Offset<K>>>(
     matches!(field.prepare(builder), Ok(offset) if offset.distance() == distance)
 }
 
-// The results for an optional field.
 #[derive(Clone, Copy, PartialEq)]
 pub enum Answer {
     There,
@@ -51,7 +47,6 @@ pub enum Answer {
     Refused,
 }
 
-// Prepares an optional field.
 pub fn optional<P: Primitive, T: WriteAsOptional<P>>(builder: &mut Builder, field: &T) -> Answer
     requires { T.may field.now builder.old }
 {
@@ -62,7 +57,6 @@ pub fn optional<P: Primitive, T: WriteAsOptional<P>>(builder: &mut Builder, fiel
     }
 }
 
-// Prepares a field with a default.
 pub fn defaulted<P: Primitive, D, T: WriteAsDefault<P, D>>(
     builder: &mut Builder,
     field: &T,
@@ -85,7 +79,6 @@ pub fn is_left_out(answer: Answer) -> bool {
     answer == Answer::LeftOut
 }
 
-// Prepares an optional union; returns whether it has this tag and is at distance 6, or is absent.
 pub fn drink_is<X: WriteAsOptionalUnion<Drinks>>(
     builder: &mut Builder,
     field: &X,
@@ -100,7 +93,6 @@ pub fn drink_is<X: WriteAsOptionalUnion<Drinks>>(
     }
 }
 
-// Whether a union vector has its values and its tags at these distances, or is absent.
 fn stands(prepared: Option<UnionVectorOffset<Drinks>>, want: Option<(u32, u32)>) -> bool {
     match (prepared, want) {
         (None, None) => true,
@@ -111,7 +103,6 @@ fn stands(prepared: Option<UnionVectorOffset<Drinks>>, want: Option<(u32, u32)>)
     }
 }
 
-// Prepares a union vector that is left out where it is empty.
 fn order_is<X: WriteAsDefaultUnionVector<Drinks>>(
     builder: &mut Builder,
     field: &X,
@@ -125,7 +116,6 @@ fn order_is<X: WriteAsDefaultUnionVector<Drinks>>(
     }
 }
 
-// Prepares an optional union vector.
 fn optional_order_is<X: WriteAsOptionalUnionVector<Drinks>>(
     builder: &mut Builder,
     field: &X,

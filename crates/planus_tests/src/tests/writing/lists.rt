@@ -10,8 +10,7 @@ use std::alloc::{AllocError, Global};
 use std::fmt;
 use std::test::Fail;
 
-// Whether a vector of the items, by their bound alone, is finished as these bytes. The builder is
-// empty afterwards.
+// The builder is empty afterwards.
 fn list_is<P: Primitive, T: VectorWrite<P>>(builder: &mut Builder, items: &[T], want: &[u8]) -> bool
     requires { T.all_may items.now builder.old }
 {
@@ -84,7 +83,6 @@ fn lists(rt: HostRuntime) {
     );
 }
 
-// The numbers below 100003, and the finished bytes of their vector.
 fn many_numbers(alloc: Global) -> Result<(Vec<u32>, Vec<u8>), AllocError> {
     let mut items: Vec<u32> = Vec::new(alloc);
     let mut want: Vec<u8> = Vec::from_slice(alloc, b"\x04\0\0\0\xa3\x86\x01\0")?;

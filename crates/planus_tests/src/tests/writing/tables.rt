@@ -67,7 +67,7 @@ impl ObjectFill for Nothing {
     }
 }
 
-// Whether a finish of the last value gives these bytes. The builder is empty afterwards.
+// The builder is empty afterwards.
 fn last_is(builder: &mut Builder, want: &[u8]) -> bool {
     let root = builder.current_offset::<()>();
     let same = match builder.finish(root, None) {

@@ -16,8 +16,6 @@ fn tagged(builder: &mut Builder, tag: u8, text: &str) -> Result<UnionOffset<()>,
     Ok(UnionOffset::new(tag, text.downcast()))
 }
 
-// Whether a union vector, by its bound alone, is at these distances, its references' first, in
-// these bytes.
 fn list_stands<X: WriteAsUnionVector<()> + Drop>(
     builder: &mut Builder,
     list: X,
@@ -45,7 +43,6 @@ fn are_written(builder: &Builder, first: UnionOffset<()>, second: UnionOffset<()
         && second.offset().distance() as usize <= builder.len()
 }
 
-// The unions of the tags 1 and 2 and the strings `A` and `B`, which the builder has.
 fn two_unions(builder: &mut Builder) -> Result<[UnionOffset<()>; 2], BuildError>
     ensures { IfOk result (λ unions.
         AllMay (λ union old. union_reach union ≤ length old.bytes) unions builder.new) }
@@ -120,7 +117,6 @@ fn lists_of_unions(rt: HostRuntime) {
     );
 }
 
-// Whether a union, by its bound alone, has tag 7 and is at distance 6.
 pub fn union_stands<T, X: WriteAsUnion<T>>(builder: &mut Builder, value: &X) -> bool
     requires { X.may value.now builder.old }
 {

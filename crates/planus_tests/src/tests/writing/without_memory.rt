@@ -100,10 +100,8 @@ fn boxed_unions_are_there(builder: &mut Builder, values: &Values) -> bool {
     drink_is(builder, &values.union, Some(7))
 }
 
-// Calls, and whether their results are right.
 type Row = (&'static str, bool);
 
-// The first with a wrong result.
 fn first_wrong_of(rows: &[Row]) -> Option<&'static str> {
     for (name, holds) in rows {
         if !*holds {
@@ -113,7 +111,6 @@ fn first_wrong_of(rows: &[Row]) -> Option<&'static str> {
     None
 }
 
-// The same for an empty builder with room for 64 bytes.
 fn first_wrong(builder: &mut Builder, values: &Values) -> Option<&'static str> {
     first_wrong_of(&[
         ("numbers", numbers_are_prepared(builder)),
@@ -143,7 +140,6 @@ fn first_wrong(builder: &mut Builder, values: &Values) -> Option<&'static str> {
     ])
 }
 
-// The same without memory, and whether it was taken.
 fn first_wrong_without_memory(
     alloc: Global,
     builder: &mut Builder,
@@ -156,7 +152,6 @@ fn first_wrong_without_memory(
     Ok((exhausted, wrong))
 }
 
-// The same for values that are made before.
 fn first_wrong_of_values(
     alloc: Global,
     builder: &mut Builder,

@@ -47,7 +47,6 @@ fn lengths(builder: &mut Builder) -> Result<bool, BuildError> {
     Ok(before && after && lengths_are(builder, 0, 64))
 }
 
-// Whether the builder's Debug output begins with its bytes.
 fn shows_bytes(alloc: Global, builder: &Builder) -> bool {
     let text = "Builder { backing: Backing { inner: [7, 7, 7, 7, 7]";
     match format!(in alloc; "{builder:?}") {
@@ -70,7 +69,6 @@ fn what_is_last(alloc: Global, builder: &mut Builder) -> Result<bool, BuildError
     )
 }
 
-// Whether the builder's first word is its length.
 fn begins_with_its_length(builder: &Builder) -> bool {
     let front = builder.current_offset::<Text>();
     builder
@@ -87,7 +85,6 @@ fn places(builder: &mut Builder) -> Result<bool, BuildError> {
     Ok(filled && begins_with_its_length(builder) && builder.len() == 70009)
 }
 
-// Lengths and the last part, in a builder with room for 64 bytes.
 fn written_in_64_bytes(alloc: Global) -> bool {
     match Builder::with_capacity(alloc, 64) {
         Ok(mut builder) => {

@@ -20,7 +20,6 @@ where
     items
 }
 
-// Whether the calls of the items agree with `len` items.
 pub fn item_calls_agree<V: ReadView>(v: VectorOf<V>, len: usize) -> bool
 where
     V::Item: Drop,
@@ -45,7 +44,6 @@ fn parts_are<V: View>(parts: (VectorOf<V>, VectorOf<V>), want: (usize, usize)) -
     front.len() == want.0 && back.len() == want.1
 }
 
-// The number of items in the sub-vectors, by a copy of the iterator.
 pub fn taken<V: View, C: Cut>(parts: SubViews<VectorOf<V>, C>) -> usize {
     let mut items: usize = 0;
     for part in parts.clone().unwrap() {
@@ -54,7 +52,6 @@ pub fn taken<V: View, C: Cut>(parts: SubViews<VectorOf<V>, C>) -> usize {
     items
 }
 
-// Whether the calls of sub-vectors agree with `len` items, where the parts are of two.
 pub fn part_calls_agree<V: View>(v: VectorOf<V>, len: usize) -> bool {
     let rest = len.saturating_sub(1);
     let even = len - len % 2;

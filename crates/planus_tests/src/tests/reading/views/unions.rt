@@ -42,7 +42,6 @@ impl<'buf> VectorReadUnion<'buf> for Choice<'buf> {
     }
 }
 
-// A union vector by its two references.
 fn unions<'a, T>(
     bytes: &'a [u8],
     tags: usize,

@@ -13,7 +13,6 @@ fn numbers(bytes: &[u8]) -> Result<Vector<'_, u16>, ErrorKind> {
     Vector::from_buffer(SliceWithStartOffset::new(bytes, 0), 0)
 }
 
-// The vector of the numbers 1 to 5, or an empty one where it can't be read.
 fn five() -> Vector<'static, u16> {
     match numbers(&FIVE) {
         Ok(five) => five,

@@ -4,7 +4,6 @@ use planus_back::BackVec;
 use std::alloc::{AllocError, Global};
 use std::test::Fail;
 
-// The state of the draws.
 #[derive(Drop)]
 struct Draws {
     last: u32,
@@ -23,7 +22,6 @@ impl Draws {
     }
 }
 
-// An empty vector of a drawn capacity.
 fn new(alloc: Global, draws: &mut Draws) -> Result<BackVec, AllocError> {
     BackVec::with_capacity(alloc, (draws.draw() % 64) as usize)
 }
@@ -34,7 +32,6 @@ fn has_in_front(bytes: &BackVec, front: &[u8], before: &[u8]) -> bool {
         && bytes.as_slice().ends_with(before)
 }
 
-// Prepends drawn bytes or zeros, and returns whether they are there.
 fn grows(alloc: Global, bytes: &mut BackVec, draws: &mut Draws) -> Result<bool, AllocError> {
     let before = Vec::from_slice(alloc, bytes.as_slice())?;
     let mut front = [0; 50];
@@ -49,7 +46,6 @@ fn grows(alloc: Global, bytes: &mut BackVec, draws: &mut Draws) -> Result<bool, 
     Ok(has_in_front(bytes, front, before.as_slice()))
 }
 
-// A random step, and whether it did what it should.
 fn step(alloc: Global, bytes: &mut BackVec, draws: &mut Draws) -> Result<bool, AllocError> {
     match draws.draw() % 20 {
         0 | 1 => bytes.clear(),

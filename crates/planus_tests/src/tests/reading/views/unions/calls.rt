@@ -135,7 +135,6 @@ fn five_are_copied(alloc: Global) -> bool {
     }
 }
 
-// Whether the error is that of the second item, at the start of the references from there on.
 fn damaged_are_refused(alloc: Global) -> bool {
     match copies_of(alloc, &DAMAGED) {
         Err(CopyError::Read(error)) => match error.to_string(alloc) {
@@ -146,7 +145,6 @@ fn damaged_are_refused(alloc: Global) -> bool {
     }
 }
 
-// Unions of the numbers below 5003.
 fn many_unions(alloc: Global) -> Result<Vec<u8>, AllocError> {
     let mut bytes = Vec::from_slice(alloc, b"\x08\0\0\0\x94\x13\0\0\x8b\x13\0\0")?;
     let tags = vec![in alloc; 2; 5003]?;

@@ -9,8 +9,7 @@ use planus_unions::UnionVector;
 use std::alloc::Global;
 use std::test::Fail;
 
-// A table whose slots 0 and 1 hold the tags 1 and 2 and the strings `A` and `B`: the tags are at 24
-// and the references at 32.
+// Slots 0 and 1 hold the tags 1 and 2, at 24, and the strings `A` and `B`, with references at 32.
 const UNIONS: &[u8] = b"\x04\0\0\0\xf4\xff\xff\xff\x10\0\0\0\x14\0\0\0\x08\0\x0c\0\x04\0\x08\0\
     \x02\0\0\0\x01\x02\0\0\x02\0\0\0\x10\0\0\0\x04\0\0\0\x01\0\0\0B\0\0\0\x01\0\0\0A\0";
 
@@ -116,7 +115,7 @@ fn prints(alloc: Global, item: Option<Result<Choice<'_>, Error>>, text: &str) ->
     }
 }
 
-// Whether the error of an item has the start of the references of the vector that it was read from.
+// The error of an item has the start of the references of the vector that it was read from.
 fn errors_have_starts<'a>(alloc: Global, choices: UnionVector<'a, Choice<'a>>) -> bool {
     let whole = "In <[Choice]@24>::get(): Unknown union (tag = 9)";
     let rest = "In <[Choice]@28>::get(): Unknown union (tag = 9)";

@@ -38,7 +38,6 @@ pub fn numbers_are_copied(alloc: Global) -> bool {
     }
 }
 
-// Whether the first four are copied, and the fifth fails by its conversion.
 fn small_numbers_are_copied(alloc: Global) -> bool {
     let Some(four) = five().get(..4) else {
         return false;
@@ -97,7 +96,6 @@ fn items_are_copied(rt: HostRuntime) {
     );
 }
 
-// A vector of the numbers below 5003.
 fn many_numbers(alloc: Global) -> Result<Vec<u8>, AllocError> {
     let mut bytes = Vec::from_slice(alloc, b"\x04\0\0\0\x8b\x13\0\0")?;
     push_numbers(&mut bytes, b"")?;

@@ -80,7 +80,6 @@ fn five_u16(rt: HostRuntime) {
     check(&rt, five().split_at(6).is_none(), "a split past the end");
 }
 
-// Whether there are this many sub-vectors, the first is this one, and there is none far after it.
 fn are<C: Cut>(
     mut parts: SubViews<Vector<'_, u16>, C>,
     count: usize,
@@ -90,7 +89,6 @@ fn are<C: Cut>(
     all.count() == count && same(parts.next(), first) && parts.nth(usize::MAX).is_none()
 }
 
-// Whether sub-vectors of a size above five hold all five numbers, or are none.
 fn are_at_the_limits(five: Vector<'_, u16>, size: usize) -> bool
     requires { 0 < size }
 {
@@ -102,7 +100,6 @@ fn are_at_the_limits(five: Vector<'_, u16>, size: usize) -> bool
         && has(five.chunks_exact(size).remainder(), &ALL)
 }
 
-// The same for sub-vectors of two, where a step of the greatest length leads to none.
 fn are_of_two(five: Vector<'_, u16>) -> bool {
     are(five.chunks(2), 3, Some(&[1, 2]))
         && are(five.rchunks(2), 3, Some(&[4, 5]))
@@ -132,7 +129,6 @@ fn five_u16_at_the_limits(rt: HostRuntime) {
     check(&rt, are_of_two(five()), "are of two");
 }
 
-// Whether each kind of range gives its numbers, or none.
 fn ranges_agree(five: Vector<'_, u16>, max: usize) -> bool {
     some_has(five.get(1..3), &[2, 3])
         && some_has(five.get(3..), &[4, 5])
