@@ -23,8 +23,8 @@ use Rattle.planus.specs.ReadPlain.{reads_plain, plain_content, ArePlain}
 use Rattle.planus.specs.ReadVectors.{reads_vector, ItemsAreTexts, ItemsAreTables}
 use Rattle.planus.specs.Views.{reads_as}
 
--- A kind of fields: how one is read, what it may hold, and what is read back. An optional field of
--- it is given a G and holds a part of that.
+-- A kind of fields: how one is read, what it may hold, and what is read back. An optional field is
+-- given a G, and holds a part of it.
 pub record FieldKind (X G T : Type 0) : Type 1 where
   pub reads : Reads T
   pub May : List ℕ → X → Type 0

@@ -51,7 +51,7 @@ pub record ValueInPiece (steps : List Step) (places : List Listed) (piece : List
   pub stands : Stands piece (position_in piece one.named) value
   pub reads_back : ReadsBack piece (position_in piece one.named) value
 
--- A size-prefixed finish: the size is the number of bytes that follow. A reader returns these as a
+-- A size-prefixed finish: the size is the number of bytes that follow, which a reader returns as a
 -- slice that starts at 4. Its reference leads to the root's value, the identifier follows, and each
 -- value holds in it, except for its alignment, which counts from the size.
 pub record SizedHolds (steps : List Step) (root : ℕ) (identifier : Option (List ℕ)) (given : Finish)
@@ -67,10 +67,9 @@ abbrev pub HoldsBySize : Front → List Step → ℕ → Option (List ℕ) → F
 HoldsBySize root_first steps root identifier given = ⊤
 HoldsBySize size_first steps root identifier given = SizedHolds steps root identifier given
 
--- What the finish of one step gives: it lists every value since the last clear, and each holds in
--- its bytes; the reference to the root leads to the value of the root's step, and the identifier
--- follows; its length keeps every alignment constraint since the last clear; and its bytes are the
--- fewest.
+-- What the finish of one step gives: each value since the last clear is listed and holds; the first
+-- reference leads to the root's value, followed by the identifier; the length keeps every alignment
+-- constraint since the last clear; and the bytes are the fewest.
 -- The format: a buffer begins with a reference to its root; four bytes that identify the file may
 -- follow.
 pub record FinishHolds (switches : Switches) (steps : List Step) (given : Finish) : Type 0 where

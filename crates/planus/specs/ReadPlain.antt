@@ -34,8 +34,7 @@ module _ {T : Type 0} {size alignment : ℕ} (shape : Shape T size alignment) wh
   PlainReadBack =
       ContentsReadBack reads_plain (λ B x. shape.fits x) plain_content (λ B x found. found ≡ x)
 
-  -- What a call returns for the optional field of a slot: for any bytes the value that is there, or
-  -- the first error; for a slot that was written, what it holds. The names are those of an error's
+  -- What a call returns for the optional field of a slot; the names are those of an error's
   -- location.
   pub record IsPlainField
       (table : Table) (slot : ℕ) (type_ method : List ℕ) (r : Result (Option T) Error) : Type 0 where

@@ -97,9 +97,9 @@ abbrev pub finish_given : Finished → Finish
 finish_given finished =
     record { bytes = finished.bytes.items; places = map place_of finished.places.items }
 
--- The result is that of the run: its finishes where no step is bad; the first bad step, if the run
--- comes to it; or a part that is too large, if that is first. Out of memory is always allowed,
--- since memory is taken before the first step; `StepRefused` says when a step may return it.
+-- The result is that of the run: its finishes, the first bad step, or a part that is too large,
+-- whichever the run comes to. Out of memory is always allowed, since memory is taken before the
+-- first step; `StepRefused` says when a step may return it.
 abbrev pub Replays : Switches → List Step → Result (List Finish) ReplayError → Type 0
 Replays switches steps (Ok finished) = (first_bad steps ≡ None) × Runs switches steps finished
 Replays switches steps (Err (BadStep step why)) =

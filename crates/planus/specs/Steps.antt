@@ -8,8 +8,8 @@ use Rattle.planus.specs.declared.steps.Field.{Field}
 use Rattle.planus.specs.declared.steps.FieldValue.{FieldValue}
 use Rattle.planus.specs.declared.steps.FieldValue.TheVariants.{Number, Ref, Tags, Values}
 
--- What a field holds: a number and its width in bytes; a reference to the value of an earlier step,
--- by its number; references to the tags and to the references of a step's union vector.
+-- What a field holds: a number and its width in bytes; a reference to an earlier step's value;
+-- references to the tags and to the references of a step's union vector.
 pub data FieldStep : Type 0 where
   number_field : (width : ℕ) → ℕ → FieldStep
   ref_field : ℕ → FieldStep
@@ -26,10 +26,9 @@ abbrev pub front_of : Bool → Front
 front_of true = size_first
 front_of false = root_first
 
--- A string; a byte vector; numbers and their width in bytes; references to the values of earlier
--- steps, by number; a union vector, by tags and numbers of steps; a table of fields with their
--- slots; a finish, by its front, the number of its root's step and its optional file identifier; a
--- clear.
+-- A string; a byte vector; numbers and their width in bytes; references to earlier steps' values; a
+-- union vector, by tags and steps; a table of fields with their slots; a finish, by its front, its
+-- root's step and its optional file identifier; a clear.
 pub data Step : Type 0 where
   text : List ℕ → Step
   bytes : List ℕ → Step

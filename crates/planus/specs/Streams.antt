@@ -8,9 +8,8 @@ use Rattle.planus.specs.Steps.{Step, size_first}
 use Rattle.planus.specs.Runs.{Finish}
 use Rattle.planus.specs.Headline.{FinishHolds, SizedHolds}
 
--- From the bytes of a size-prefixed finish, whatever follows, exactly its bytes after the size are
--- read. In that slice the first reference leads to the root, the identifier follows, and every
--- value is encoded and reads back.
+-- A size-prefixed finish is read with exactly its bytes after the size, whatever follows. In that
+-- slice the first reference leads to the root, the identifier follows, and every value reads back.
 abbrev pub SizedFinishesAreRead : Type 0
 SizedFinishesAreRead =
     (switches : Switches) (steps : List Step) (given : Finish)

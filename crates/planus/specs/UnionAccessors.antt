@@ -69,8 +69,8 @@ module _ {T E : Type 0} where
   AreAnyUnions B (union ∷ unions) found = IsSomeAnd found (AreUnionsOf B (union ∷ unions))
 
   module _ (table : Table) (slot : ℕ) (type_ method : List ℕ) where
-    -- What a call returns for the optional union vector of a slot and the next: one written with
-    -- its table, one left out where it is empty, and one written before.
+    -- What a call returns for the optional union vector of a slot and the next: written with its
+    -- table, left out where empty, or written before.
     pub record IsUnionVector (r : Result (Option (VectorOf (UnionSliceView T E))) Error) : Type 0 where
       pub answer :
           Located (UnionVectorAnswer reads_unions table slot) type_ method (table_start table) r

@@ -75,9 +75,9 @@ pub fn an_answer_is_there()
     ensures { AnAnswerIsThere }
 {}
 
-/// Every finish of every run names strings of equal bytes by one distance where equal strings are
-/// written once, and likewise byte vectors. Equal contents of every kind, vtables too, get one
-/// distance from one clear to the next.
+/// Every finish of every run names equal strings by one distance where these are written once, and
+/// likewise byte vectors. Equal contents of every kind, vtables too, get one distance from one
+/// clear to the next.
 pub fn equal_contents_have_one_distance()
     ensures places { EqualContentsHaveOneDistance }
     ensures entries { EqualEntriesGetOneDistance }
@@ -90,9 +90,9 @@ pub fn trees_are_the_same()
     ensures { TreesAreTheSame }
 {}
 
-/// A size-prefixed finish is read with exactly its bytes, whatever follows, and every value of the
-/// run reads back in the slice returned, the root by its first reference. So such finishes, one
-/// after another, are read one by one.
+/// A size-prefixed finish is read with exactly its bytes, whatever follows, and every value reads
+/// back in the slice returned, the root by its first reference. So a stream of finishes is read one
+/// by one.
 pub fn sized_finishes_are_read()
     ensures one { SizedFinishesAreRead }
     ensures stream { SizedStreamsAreRead }

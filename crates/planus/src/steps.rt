@@ -11,9 +11,9 @@ pub enum Step {
     Numbers { width: u8, items: Vec<u64> },
     /// A vector of references to the values of earlier steps, by their numbers from 0.
     Refs(Vec<usize>),
-    /// A union vector: for each union the tag of its variant, which is above 0, and the number from
-    /// 0 of the earlier step that is its value. In the format it is two vectors, of tags and of
-    /// references, so only [`FieldValue::Tags`] and [`FieldValue::Values`] name it.
+    /// A union vector: for each union the tag of its variant, above 0, and the number from 0 of the
+    /// earlier step that is its value. Only [`FieldValue::Tags`] and [`FieldValue::Values`] name
+    /// it, since in the format it is two vectors, of tags and of references.
     Unions(Vec<(u8, usize)>),
     /// A table of fields, in the order in which they are declared and written. No alignment may be
     /// above that of the field before.

@@ -25,6 +25,7 @@ pub fn mode(words: &[String]) -> Option<Mode>
     }
 }
 
+/// Returns a field of a schema.
 pub fn field(alloc: Global, slot: usize, name: &str, kind: Kind) -> Result<FieldSchema, AllocError>
     ensures { IfOk result (λ field. field_shape field ≡ field_of slot name.now kind) }
 {

@@ -1,5 +1,5 @@
--- When a schema describes the steps of a run: what it states about a table's slots holds for the
--- fields of a step, and of the steps these refer to.
+-- When a schema describes the steps of a run: a step's fields, and the steps these refer to, are as
+-- it states.
 use Rattle.std.specs.Prelude.{◌≡◌, ℕ, zero, suc, ◌+◌, ◌==◌, List, [], ◌∷◌, Vec, ⊤}
 use Rattle.std.specs.Prelude.{Option, Some, None, slice_get, if◌then◌else◌}
 use Rattle.std.specs.List.{AllByRecursion}

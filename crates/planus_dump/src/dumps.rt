@@ -60,8 +60,8 @@ impl From<AllocError> for DumpError {
 /// Returns the lines of the tables that are reached from the root of a buffer, which begins with
 /// the reference to it. The path of the root is `root`. An error in the bytes is a line of its own.
 ///
-/// Time and memory are linear in the budget and the bytes, however often a table is referred to.
-/// The contract states neither; a test has a table named twice by each of 40 above it.
+/// Time and memory are linear in the budget and the bytes, however often a table is referred to; a
+/// test shows that, no contract.
 pub fn dump(
     alloc: Global,
     schema: &Schema,

@@ -16,17 +16,16 @@ pub fn fault_lines_are_told()
     ensures paths { PathsHaveNoSpace }
 {}
 
-/// What a run finished dumps without an error line, if the schema fits what its root's step wrote:
-/// each field of the schema is absent, or a number of its size, or refers to what its kind says,
-/// and so on. For a size-prefixed finish this holds for the bytes after the size.
+/// What a run finished dumps without an error line, if the schema fits what its root's step wrote,
+/// and so on for what that refers to. For a size-prefixed finish this holds for the bytes after the
+/// size.
 pub fn finishes_have_no_fault()
     ensures events { FinishesHaveNoFault }
     ensures lines { DumpsHaveNoFault }
 {}
 
-/// What a dump prints for a number, a bool, a string, a byte vector, a vector, a union vector or a
-/// table is what `planus_read`'s readers return: the value exactly where one is encoded, else the
-/// message of the first clause that fails.
+/// What a dump prints for a reading is what `planus_read`'s readers return: the value exactly where
+/// one is encoded, else the message of the first clause that fails.
 pub fn readings_are_said()
     ensures { (S : List ℕ) (f : ℕ) → ReadingsAreSaid S f }
 {}

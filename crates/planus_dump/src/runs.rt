@@ -36,8 +36,8 @@ impl fmt::Display for DumpRunError {
 
 impl Error for DumpRunError {}
 
-/// Runs steps, and returns the lines of what the first of their finishes gave, or `None` where they
-/// have none. There are no more lines than the budget.
+/// Runs steps, and returns the lines of their first finish, at most the budget, or `None` where
+/// they have none.
 ///
 /// If the schema fits what the root's step wrote, no line states an error, unless the finish is
 /// size-prefixed: its bytes are dumped from the size on.

@@ -1,4 +1,4 @@
--- That the positions of a value meet its alignments.
+-- The alignment of encoded values.
 -- The format: a number is at a multiple of its size from the buffer's start, and so are counts and
 -- references.
 use Rattle.std.specs.Prelude.{◌≡◌, ℕ, ◌+◌, ◌*◌, ◌≤◌, List, Some, None, Option, ⊤, pos, ◌-ℤ◌}

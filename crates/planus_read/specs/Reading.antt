@@ -181,7 +181,7 @@ union_vector_reading S f g =
       clauses = union_vector_clauses S f g;
     }
 
--- A table: where its object begins, and where its vtable of this size in bytes.
+-- A table: its object, and its vtable of this size in bytes.
 -- The format: a table begins with a signed number of 4 bytes, its own position less that of its
 -- vtable. A vtable is its own size in bytes, the object's size, and slots of two bytes each.
 pub record TableThere (S : List ℕ) (f object vtable size : ℕ) : Type 0 where

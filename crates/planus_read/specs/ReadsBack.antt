@@ -1,5 +1,4 @@
--- That a value reads back: the results of readers over each slice of the bytes, by each reference
--- to it.
+-- That a value reads back, in each slice of the bytes, by each reference to it.
 use Rattle.std.specs.Prelude.{◌≡◌, ℕ, ◌+◌, ◌*◌, ◌==◌, not, List, [], ◌∷◌}
 use Rattle.std.specs.Prelude.{length, drop, slice_get, Some, ⊤, Result, IsOkAnd}
 use Rattle.std.specs.Int.{Width, w8, byte_len, from_le_bytes, cast_signed}
@@ -64,8 +63,7 @@ FieldsReadBack =
     (B : List ℕ) (start f : ℕ) (field : Field) → FieldStands B (start + f) field
     → FieldReads B start f field
 
--- The vector at k, read at f of the slice of B from start on: it has the count and the item size,
--- and each item reads back.
+-- the vector at k, read at f of the slice of B from start on: its count, its item size, its items
 pub record ListReads
     {X : Type 0} (ItemReads : ℕ → ℕ → X → Type 0) (B : List ℕ) (k start f size : ℕ) (items : List X)
     : Type 0 where
@@ -77,8 +75,7 @@ pub record ListReads
   pub each :
       (i : ℕ) (item : X) → slice_get items i ≡ Some item → ItemReads (k + 4) (i * size) item
 
--- The union vector at kt and kv, read at f and g of the slice of B from start on: it has the count,
--- and each tag and each reference reads back.
+-- the union vector at kt and kv, read at f and g of that slice: its count, its tags, its references
 pub record UnionVectorReads (B : List ℕ) (kt kv start f g : ℕ) (items : List (ℕ × ℕ)) : Type 0 where
   pub tags_position : ℕ
   pub references_position : ℕ
@@ -94,8 +91,7 @@ pub record UnionVectorReads (B : List ℕ) (kt kv start f g : ℕ) (items : List
       (i : ℕ) (item : ℕ × ℕ) → slice_get items i ≡ Some item
       → ReferenceReads B (kv + 4) (i * 4) item.1
 
--- The table at k, read at f of the slice of B from start on: it is the only result, and each
--- `Table` returned has its fields.
+-- the table at k, read at f of that slice: it is the only result, and has its fields
 pub record TableReads (B : List ℕ) (k start f : ℕ) (entries : List (ℕ × Field)) : Type 0 where
   pub layout : TableLayout
   pub answered : IsAnswered (table_reading (drop start B) f) layout

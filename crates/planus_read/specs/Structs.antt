@@ -12,9 +12,8 @@ use Rattle.planus_read.specs.lemmas.StructLaws.{parts_stand, behind, both_are, b
 abbrev pub gap : ℕ → ℕ → ℕ
 gap k alignment = (alignment - k % alignment) % alignment
 
--- The fields of a struct from an offset on: their bytes, which values are encoded, the clauses of a
--- read, and the law that where the bytes of some values are no clause fails and no others are
--- encoded.
+-- The fields of a struct from an offset on: their bytes, the encoded values, the clauses of a read,
+-- and the law that no clause fails, and no others are encoded, where the bytes of some are.
 pub record Fields (A : Type 0) : Type 1 where
   pub size : ℕ → ℕ
   pub alignment : ℕ

@@ -19,9 +19,9 @@ pub type UnknownEnumTag = located::UnknownEnumTag<'static>;
 /// What can be wrong with bytes that are read.
 #[derive(Clone, Copy, Debug, PartialEq, Eq)]
 pub enum ErrorKind {
-    /// A reference leads past the end of the slice that is read, a number isn't wholly in it, or a
-    /// table's vtable would begin before it. Also where exactly one of the two slots of a union
-    /// vector holds 0.
+    /// A reference leads past the end of the slice that is read, a number isn't wholly in the
+    /// slice, or a vtable would begin before it. Also where exactly one slot of a union vector
+    /// holds 0.
     InvalidOffset,
     /// The items of a vector, or the slots of a vtable, pass the end of the slice that is read.
     /// Also where a size-prefixed buffer is shorter than its size.
@@ -68,7 +68,7 @@ pub struct UnknownEnumTagKind {
 }
 
 // The numbers of a `Utf8Error`: valid bytes before it, and invalid bytes, none where the string
-// ends within a character. They print as std prints the error, whose own Display has no contract.
+// ends within a character. They print like the error, whose own Display has no contract.
 #[derive(Clone, Copy)]
 struct Utf8Fault {
     valid_len: usize,

@@ -54,8 +54,8 @@ pub fn stands_alone()
     ensures reference { LeadsAlone }
 {}
 
-/// All clauses of a reading hold exactly where a value of its kind is encoded, and then it is the
-/// only value and the only result; an error means that none is.
+/// All clauses of a reading hold exactly where a value of its kind is encoded, which is then the
+/// only value and result; an error means that there is none; and there is at most one result.
 pub fn readings_are_lawful()
     ensures number { (S : List ℕ) (f : ℕ) (width : Width) → IsLawful (number_reading S f width) }
     ensures signed { (S : List ℕ) (f : ℕ) (width : Width) → IsLawful (signed_reading S f width) }
@@ -80,8 +80,8 @@ pub fn readers_show_values()
     ensures size_prefixed { (B : List ℕ) → IsShown (prefixed_reading B) ShowsPrefixed }
 {}
 
-/// A size-prefixed buffer is read with exactly its bytes, and the rest is what follows it, so a
-/// stream of such buffers is read one by one. A buffer cut off after its size fails with
+/// A stream of size-prefixed buffers is read one by one, each with exactly its bytes. A buffer cut
+/// off after its size fails with
 /// [`ErrorKind::InvalidLength`](crate::errors::ErrorKind::InvalidLength).
 pub fn streams_are_read()
     ensures first { BuffersAreRead }
@@ -90,7 +90,7 @@ pub fn streams_are_read()
 {}
 
 /// An encoded reference leads to the position of its distance. In each slice of the bytes that
-/// begins no further on, it leads there too, and fields and values are encoded as in the bytes.
+/// begins no further on, so it does, and fields and values are encoded as in the bytes.
 pub fn pieces_keep_what_stands()
     ensures reference { ReferencesLead }
     ensures leads { LeadsInPieces }
@@ -107,8 +107,8 @@ pub fn items_stand()
 {}
 
 /// An encoded field is read as its value, in each slice of the bytes that begins no further on: a
-/// plain item as the number, signed number or bool of its bytes, a reference as the place from
-/// which reading goes on at its distance.
+/// plain item as the number or bool of its bytes, a reference as the place from which reading goes
+/// on.
 pub fn fields_read_back()
     ensures { FieldsReadBack }
 {}
@@ -133,9 +133,7 @@ pub fn unions_are_answered<'buf, T: TableReadUnion<'buf>>()
     ensures { UnionsRead T.reads }
 {}
 
-/// `access_union_vector` and `access_union_vector_required` return the union vectors of a table
-/// that was written: what `T` returns where both references are encoded, and for two unused slots
-/// `None` and `MissingRequired`.
+/// `access_union_vector` and `access_union_vector_required` do the same for union vectors.
 pub fn union_vectors_are_answered<'buf, T: TableReadUnionVector<'buf>>()
     ensures { UnionVectorsRead T.reads }
 {}

@@ -30,7 +30,13 @@ pub trait Plain: Copy {
 
     ghost shape: { Shape Self SIZE ALIGNMENT };
 
-    /// The alignment in bytes, from the start of a buffer.
+    /// A value of a fixed layout, which a table or a vector holds in place: a number, a bool, a
+    /// float, an enum or a struct. In the format the fields of a struct follow one another, each at
+    /// a multiple of its own alignment, with zeros between and after them.
+    ///
+    /// The ghost member `shape` names the bytes of each value, which values the type has, which one
+    /// is encoded at an offset, and what a read tests there. For a struct it is `struct_shape` of
+    /// `specs/Structs.antt` over the list of its fields, without a proof.
     const ALIGNMENT: usize;
 
     /// The size in bytes.

@@ -15,8 +15,7 @@ use crate::traits::{TableRead, TableReadUnion, TableReadUnionVector};
 
 /// A view of a table: its bytes from its first on, and the slots of its vtable. In the format a
 /// table begins with a signed number of 4 bytes that leads to its vtable, which has a slot of 2
-/// bytes for each field: the field's distance from the table's first byte, or 0 for an absent
-/// field.
+/// bytes for each field: its distance from the table's first byte, 0 for an absent field.
 #[derive(Clone, Copy, Debug)]
 pub struct Table<'buf> {
     object: SliceWithStartOffset<'buf>,

@@ -54,8 +54,7 @@ pub trait TableRead<'buf>: Sized {
     /// The results for a slice of these bytes and this start, at this offset.
     ghost reads: { List ℕ → ℕ → ℕ → std_result Self ErrorKind → Type 0 };
 
-    /// Returns the field at the offset, in bytes from the start of the slice, or the error of the
-    /// first thing that is wrong there.
+    /// Returns the field at the offset, in bytes from the start of the slice, or its first error.
     fn from_buffer(
         buffer: SliceWithStartOffset<'buf>,
         offset: usize,
@@ -70,8 +69,8 @@ pub trait TableReadUnion<'buf>: Sized {
     /// The results for a slice of these bytes and this start, with this tag at this offset.
     ghost reads: { List ℕ → ℕ → ℕ → ℕ → std_result Self ErrorKind → Type 0 };
 
-    /// Returns the union with this tag whose reference is at the offset, in bytes from the start of
-    /// the slice.
+    /// Returns the union with this tag whose reference is at the offset, in bytes from the slice's
+    /// start.
     fn from_buffer(
         buffer: SliceWithStartOffset<'buf>,
         tag: u8,
@@ -86,8 +85,8 @@ pub trait TableReadUnionVector<'buf>: Sized {
     /// The results for a slice of these bytes and this start, at these two offsets.
     ghost reads: { List ℕ → ℕ → ℕ → ℕ → std_result Self ErrorKind → Type 0 };
 
-    /// Returns the union vector whose references to tags and values are at the offsets, in bytes
-    /// from the start of the slice.
+    /// Returns the union vector whose references are at the offsets, in bytes from the slice's
+    /// start.
     fn from_buffer(
         buffer: SliceWithStartOffset<'buf>,
         tags_offset: usize,
@@ -117,8 +116,7 @@ pub trait VectorRead<'buf>: Stride {
     /// The results for a slice of these bytes and this start, at this offset.
     ghost gives: { List ℕ → ℕ → ℕ → Self → Type 0 };
 
-    /// Returns the item at the offset, in bytes from the start of the slice. Requires all of it to
-    /// be in the slice.
+    /// Returns the item at the offset, in bytes from the start of the slice, which has all of it.
     fn from_buffer(buffer: SliceWithStartOffset<'buf>, offset: usize) -> Self
         requires { offset + Self.Stands.SIZE ≤ length (slice_bytes buffer) }
         ensures { gives (slice_bytes buffer.entry) (slice_start buffer.entry) offset result };
@@ -130,15 +128,15 @@ pub trait ReadError {
     type Error;
 }
 
-/// What can be read as an item of a vector, and may fail. An item has the errors of a field of its
+/// What can be read as an item of a vector, and may fail. Its errors are those of a field of its
 /// type, at the start of the slice: a `&str` under the names `[str]` and `get`, a value of a fixed
 /// layout under `[plain]` and `get`.
 pub trait VectorReadInner<'buf>: Stride + ReadError {
     /// The results for a slice of these bytes and this start, at this offset.
     ghost gives: { List ℕ → ℕ → ℕ → std_result Self Self.Error → Type 0 };
 
-    /// Returns the item at the offset, in bytes from the start of the slice. Requires its own
-    /// bytes, not those that it refers to, to be in the slice.
+    /// Returns the item at the offset, in bytes from the start of the slice, which has all of it,
+    /// but not necessarily what it refers to.
     fn from_buffer(
         buffer: SliceWithStartOffset<'buf>,
         offset: usize,
@@ -156,9 +154,9 @@ pub trait VectorReadUnion<'buf>: TableReadUnion<'buf> {
     fn vector_name() -> &'static str
         ensures { result.now ≡ name };
 
-    /// Returns the union with this tag whose reference is at the offset, in bytes from the start of
-    /// the slice. The errors are those of the [`TableReadUnion`], at the start of the slice under
-    /// the vector's name and the method `get`.
+    /// Returns the union with this tag whose reference is at the offset, in bytes from the slice's
+    /// start. Its errors are those of the [`TableReadUnion`], at the slice's start under the
+    /// vector's name and `get`.
     final fn from_buffer<'n>(
         buffer: SliceWithStartOffset<'buf>,
         tag: u8,

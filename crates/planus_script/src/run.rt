@@ -165,8 +165,8 @@ pub fn run<R: Read, W: Write>(
     Ok(output.clean)
 }
 
-/// Returns the exit status: 0 for a clean script, 1 after a printed error, 2 where reading, writing
-/// or an allocation failed.
+/// Returns the exit status: 0 for a clean script, 1 after a printed error, 2 where reading or
+/// writing failed, or memory for the script ran out.
 pub fn status(answer: &std::result::Result<bool, RunError>) -> u8
     ensures { result ≡ status_of answer.now }
 {

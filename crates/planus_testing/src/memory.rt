@@ -10,9 +10,9 @@ const SPARE: usize = 1 << 25;
 /// room for them: 262144 is enough. Returns whether this worked.
 ///
 /// It relies on Linux, where a program has 47 bits of addresses, and on the C library's malloc,
-/// which fails when they are used up. A sanitizer's malloc keeps small blocks back, and then a test
-/// without memory shows nothing; it is recognised by its keeping freed blocks back, too. Where
-/// another malloc leaves memory, that is an error, so that the test fails.
+/// which fails when they are used up. A sanitizer's malloc keeps small blocks back, so a test
+/// without memory shows nothing; it is recognised by its keeping freed blocks, too. Where another
+/// malloc leaves memory, that is an error, so that the test fails.
 pub fn exhaust(alloc: Global, held: &mut Vec<Vec<u8>>) -> Result<bool, AllocError> {
     let spare: Vec<u8> = Vec::with_capacity(alloc, SPARE)?;
     if take_all(alloc, held) {

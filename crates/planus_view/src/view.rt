@@ -34,7 +34,7 @@ pub trait ReadView: View {
     /// What an item is read as.
     type Item;
 
-    /// What its items are converted from when they are copied.
+    /// How its items are converted when they are copied.
     type Copied;
 
     /// The results for the item at a position.

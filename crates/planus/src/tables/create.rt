@@ -62,12 +62,11 @@ pub(crate) fn write_table<T, W: TableWrite, F: PreparedFields, L: PreparedFields
 /// Writes a table with exactly the fields that are present, and returns its offset. With `Ok` the
 /// table is stored, with the values it refers to, and all that was stored before still is.
 ///
-/// The fields come by falling alignment: numbers of eight bytes first, then references, unions and
-/// numbers of four bytes, those of two, and those of one. They are prepared in order; one that is
-/// marked `last` is written after all that aren't, as the tags of unions are. No slot may be used
-/// twice or be outside the vtable of [`TableKind::Writer`], the two slots of a union are
-/// neighbours, and with all fields the table has at most 65535 bytes without its vtable. All this
-/// is computed from the types.
+/// The fields come by falling alignment: numbers of eight bytes, then references, unions and
+/// numbers of four bytes, then numbers of two, then of one. They are prepared in order; the tags of
+/// unions and fields marked `last` are written after the others. Each slot is used once and is in
+/// the vtable of [`TableKind::Writer`], a union's two slots are neighbours, and with all fields the
+/// table has at most 65535 bytes without its vtable. All this is computed from the types.
 ///
 /// The error is that of the first field that fails, or else that of the table:
 /// [`BuildError::TooLarge`] where a part would begin more than 2147483647 bytes from the end, and

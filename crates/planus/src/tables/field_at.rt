@@ -12,10 +12,12 @@ pub struct FieldAt<const SLOT: usize, P, V> {
     pub _marker: PhantomData<P>,
 }
 
-/// Lists the fields of a table, each as `SLOT: KIND = VALUE`, by its slot, the type as which it is
-/// encoded, and its value; `SLOT: last KIND = VALUE` is a [`TrailingField`](crate::TrailingField).
-/// A union is `(TAG, VALUE): union KIND = VALUE`, a union vector `(TAGS, VALUES): unions KIND =
-/// VALUE`, with their two slots. The result is `()`, one line, or pairs of pairs of lines.
+/// Lists the fields of a table, in one of four forms: `SLOT: KIND = VALUE`, where the value is
+/// encoded as the type `KIND`; `SLOT: last KIND = VALUE`, a
+/// [`TrailingField`](crate::TrailingField);
+/// `(TAG, VALUE): union KIND = VALUE`, a union by its two slots; and
+/// `(TAGS, VALUES): unions KIND = VALUE`, a union vector. The result is `()`, one line, or pairs of
+/// pairs of lines.
 #[macro_export]
 macro_rules! fields {
     // A field, by its type.

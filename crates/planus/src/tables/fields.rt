@@ -32,8 +32,8 @@ use std::marker::PhantomData;
 /// others, in the same order.
 ///
 /// `fields` nests its lines as pairs of pairs, so that the depth of the type is logarithmic in
-/// their number. No pair has a constant among its parameters: else the cost of proving a caller
-/// would double with each field.
+/// their number. No pair has a constant parameter, which would double a caller's cost of proof per
+/// field.
 ///
 /// The ghost members `all` and `all_last` have the entries of all fields, and of those that come
 /// last. `may` is the precondition, as in [`planus_write::WriteAsOffset`].

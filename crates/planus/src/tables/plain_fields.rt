@@ -11,10 +11,9 @@ use planus_read::table_reader::Table;
 use planus_read::{Plain, PlainTotal, Stride};
 use planus_view::Vector;
 
-/// Returns the field of a fixed layout in a slot, or `None` where it is absent. It is
-/// `Table::access` with a contract that states what is read back, so an accessor that calls it
-/// needs one clause and no proof file. The names are those of the type and of the accessor, for
-/// errors.
+/// Returns the field of a fixed layout in a slot, or `None` where it is absent: `Table::access`,
+/// with a contract that states what is read back, so that an accessor needs one clause and no proof
+/// file. The names are those of the type and of the accessor, for errors.
 pub fn plain_field<'n, T: Plain>(
     table: &Table<'_>,
     slot: usize,

@@ -86,7 +86,7 @@ fn are_at(three: Three, want: [u32; 3]) -> bool {
         && matches!(table, Ok(at) if at == want[2])
 }
 
-// One more of a kind fills a cache.
+// With one more of a kind, its cache is used.
 const OTHERS: [&str; 15] = [
     "",
     "a",
