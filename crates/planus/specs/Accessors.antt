@@ -39,8 +39,7 @@ SameIf IsRead (Some given) found = IsSomeAnd found (IsRead given)
 
 module _ {X G T : Type 0} (kind : FieldKind X G T) (table : Table) (slot : ℕ) (type_ method : List ℕ)
   where
-    -- What a call returns for the optional field of a slot. The names are those of an error's
-    -- location.
+    -- What a call returns for a slot's optional field, under the names in an error's location.
     pub record IsField (r : Result (Option T) Error) : Type 0 where
       pub answer : Located (FieldAnswer kind.reads table slot) type_ method (table_start table) r
       pub read_back :
@@ -111,7 +110,7 @@ IsBytesField = IsField bytes_kind
 abbrev pub IsBytesRequired : Table → ℕ → List ℕ → List ℕ → Result (Bor (List ℕ)) Error → Type 0
 IsBytesRequired = IsRequired bytes_kind
 
--- T is the type of a vector's items, R that of what the vector holds for them.
+-- T is the type of a vector's items, R what the vector holds for them.
 module _ {T R : Type 0} {kind : PlainGhosts R} where
   -- a vector of values of a fixed layout
   abbrev pub plains_kind : FieldKind (List R) (Bor (List R)) (VectorOf (SliceView T R kind))
@@ -175,7 +174,7 @@ module _ {T R : Type 0} {kind : PlainGhosts R} where
 abbrev pub TableIsThere : List ℕ → ℕ → Type 0
 TableIsThere B distance = (contents : List (ℕ × Option Content)) × TableStands B contents distance
 
--- a view is that of the table at the distance, with all its contents
+-- a view of the table at the distance, with all its contents
 abbrev pub IsViewOf : {T : Type 0} → (T → Table) → List ℕ → ℕ → T → Type 0
 IsViewOf table_of B distance view =
     (contents : List (ℕ × Option Content)) → TableStands B contents distance

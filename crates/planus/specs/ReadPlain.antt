@@ -34,8 +34,7 @@ module _ {T : Type 0} {size alignment : ℕ} (shape : Shape T size alignment) wh
   PlainReadBack =
       ContentsReadBack reads_plain (λ B x. shape.fits x) plain_content (λ B x found. found ≡ x)
 
-  -- What a call returns for the optional field of a slot; the names are those of an error's
-  -- location.
+  -- What a call returns for a slot's optional field, under the names in an error's location.
   pub record IsPlainField
       (table : Table) (slot : ℕ) (type_ method : List ℕ) (r : Result (Option T) Error) : Type 0 where
     pub answer : Located (FieldAnswer reads_plain table slot) type_ method (table_start table) r
@@ -59,7 +58,7 @@ module _ {T : Type 0} {size alignment : ℕ} (shape : Shape T size alignment) wh
           → SlotHolds B table slot (unless is_default (holds_plain shape x))
           → (IsTrue is_default → x ≡ default) → shape.fits x → r ≡ Ok x
 
--- T is the type of a vector's items, R that of what the vector holds for them.
+-- T is the type of a vector's items, R what the vector holds for them.
 module _ {T R : Type 0} {kind : PlainGhosts R} where
   -- the vector of these values, encoded in B
   abbrev pub ArePlain : List ℕ → List R → VectorOf (SliceView T R kind) → Type 0

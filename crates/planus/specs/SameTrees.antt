@@ -10,7 +10,7 @@ use Rattle.planus.specs.Headline.{root_at}
 use Rattle.planus.specs.Runs.{Finish, Listed, Runs, value_of, distance_at, value_distance}
 use Rattle.planus.specs.Runs.{tags_distance, references_distance}
 
--- two lists of equal length are related item by item
+-- two lists of equal length, related item by item
 abbrev pub AllPairs : {X Y : Type 0} → (X → Y → Type 0) → List X → List Y → Type 0
 AllPairs R [] [] = ⊤
 AllPairs R (x ∷ xs) (y ∷ ys) = R x y × AllPairs R xs ys

@@ -5,11 +5,11 @@
 pub struct StepPlace {
     /// The step's number, from 0.
     pub step: usize,
-    /// The distance in bytes from the end of the finished bytes to the value's first byte. For a
-    /// union vector, that of its vector of references.
+    /// The distance in bytes from the end of the finished bytes to the value's first byte. A union
+    /// vector's is the distance to its vector of references.
     pub distance: u32,
-    /// For a union vector, the distance in bytes from the end to the first byte of its vector of
-    /// tags, that of their count.
+    /// A union vector's distance in bytes from the end to the first byte of its vector of tags, the
+    /// count.
     pub tags: Option<u32>,
 }
 

@@ -57,8 +57,8 @@ pub fn views_read_back<K>()
     ensures reference { ReferencesReadBack K }
 {}
 
-/// An item of a vector whose read may fail is, as `get` returns it, the value at its index, if the
-/// vector is that of some values of a fixed layout.
+/// An item of a vector of values of a fixed layout, whose read may fail, is returned by `get` as
+/// the value at its index.
 pub fn plain_values_read_back<T: Plain>()
     ensures { PlainResultsReadBack T.Plain }
 {}

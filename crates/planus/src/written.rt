@@ -13,7 +13,7 @@ impl Written {
     ghost use Rattle.std.specs.Prelude.{◌≡◌};
     ghost use Rattle.planus.specs.inner.Names.{written_named};
 
-    /// Returns the distance; for a union vector, that of its references.
+    /// Returns the distance; for a union vector, the distance of its references.
     pub(crate) fn distance(&self) -> u32
         ensures { result ≡ (written_named self.now).distance }
     {

@@ -11,7 +11,7 @@ ghost use Rattle.planus_demo.specs.Variants.{WritesVariant};
 use crate::weapon::Weapon;
 use planus::{BuildError, Builder, UnionOffset, WriteAsOffset};
 
-/// The kind of a union that is a piece of equipment.
+/// The kind of a union of equipment.
 pub struct Equipment;
 
 impl Equipment {

@@ -20,8 +20,8 @@ use Rattle.planus_dump.specs.Answers.{SeenUnions, some_of}
 use Rattle.planus_dump.specs.Seeing.{answer_seen, table_seen}
 use Rattle.planus_dump.specs.declared.values.Leaf.TheVariants.{Bool, Text, Bytes}
 
--- The result of the dump is that of the reading: the encoded value, as it is seen, only where there
--- is one, or the message of an error, only where a clause fails.
+-- A dump has the reading's result: the encoded value only where there is one, or the message of an
+-- error only where a clause fails.
 pub record SaysAsRead {A B : Type 0} (reading : Reading A) (sees : A → B)
     (said : Result B (List ℕ)) : Type 0 where
   pub answer : (r : Result A ErrorKind) → Answer reading r → said ≡ answer_seen sees r

@@ -9,7 +9,7 @@ use Rattle.planus_dump.specs.declared.values.Value.{Value}
 use Rattle.planus_dump.specs.declared.values.Value.TheVariants.{Unsigned, Signed, Truth, Text}
 use Rattle.planus_dump.specs.declared.values.Value.TheVariants.{Bytes}
 
--- the path of a field, and that of an item
+-- the path of a field, and the path of an item
 abbrev pub field_path : List ℕ → List ℕ → List ℕ
 field_path path name = path ++ (codes "." ++ name)
 

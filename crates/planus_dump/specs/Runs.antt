@@ -26,7 +26,7 @@ pub record DumpsFirst
   pub run : Replays switches steps (Ok (given ∷ others))
   pub dumped : Dumped schema given.bytes budget answer
 
--- The first finish is that of the first finishing step, and no line of its dump is an error, if the
+-- The first finishing step gives the first finish, and no line of its dump is an error, if the
 -- schema fits what the root's step wrote.
 pub record DumpsFit
     (switches : Switches) (steps : List Step) (schema : Schema) (budget : ℕ)

@@ -86,7 +86,7 @@ abbrev pub unnamed_steps : List Step
 unnamed_steps =
     bytes (codes "Axe") ∷ table ((0, ref_field 0) ∷ (1, number_field 2 24) ∷ []) ∷ []
 
--- The schema of weapons fits the axe alone, and that of monsters the monster.
+-- The schema of weapons fits the axe alone, the schema of monsters the monster.
 pub record WorkedRowsFit (schema : Schema) : Type 0 where
   pub weapon : HasShape schema worked_tables worked_unions 0 → Fits schema worked_steps 1
   pub monster : HasShape schema worked_tables worked_unions 1 → Fits schema worked_steps 6

@@ -36,8 +36,9 @@ pub fn unions_are_said()
     ensures vectors { (table : reader.Table) (i : ℕ) → UnionVectorsAreSaid table i }
 {}
 
-/// The schema of the worked rows fits the steps that write a weapon and a monster; that of weapons
-/// doesn't fit a weapon whose damage has 4 bytes, one whose name is a byte vector, or that monster.
+/// The schema of the worked rows fits the steps that write a weapon and a monster; the schema of
+/// weapons doesn't fit a weapon whose damage has 4 bytes, one whose name is a byte vector, or that
+/// monster.
 pub fn worked_rows_fit()
     ensures { (one : schema.Schema) → WorkedRowsFit one }
 {}

@@ -11,7 +11,7 @@ use Rattle.planus_read.specs.Tables.{table_object, table_start, table_slots, slo
 use Rattle.planus_read.specs.Tables.{Reads, ReadsBoth}
 use Rattle.planus_read.specs.Tables.{FieldAnswer, UnionAnswer, UnionVectorAnswer}
 
--- The distance read from a slot of the table at k: 0 for an absent field, else that of the field.
+-- The distance read from a slot of the table at k: the field's, or 0 for an absent field.
 abbrev pub SlotReads : List ℕ → ℕ → ℕ → Option Field → Type 0
 SlotReads B k q None = q ≡ 0
 SlotReads B k q (Some field) = (4 ≤ q) × FieldStands B (k + q) field
@@ -33,8 +33,8 @@ SomeOf answers (Ok None) = ⊥
 SomeOf answers (Ok (Some x)) = answers (Ok x)
 SomeOf answers (Err e) = answers (Err e)
 
--- The result for a field of the table at k: none for an absent field, else that of the field's type
--- where the field is encoded.
+-- The result for a field of the table at k: none for an absent field, else its type's result where
+-- it is encoded.
 abbrev pub FieldRead :
     {T : Type 0} → Reads T → List ℕ → ℕ → Option Field → Result (Option T) ErrorKind → Type 0
 FieldRead reads B k None r = r ≡ Ok None
@@ -60,7 +60,7 @@ HoldUnion entries i (Some union) =
     × ((item : Plain) × (field_at entries i ≡ Some (plain item)) × (item.bytes ≡ union.0 ∷ []))
     × (field_at entries (i + 1) ≡ Some (reference union.1))
 
--- The result for a union: none where there is none, else that of its type for the tag where the
+-- The result for a union: none where there is none, else its type's result for the tag where the
 -- reference is encoded.
 abbrev pub UnionRead :
     {T : Type 0} → ReadsBoth T → List ℕ → ℕ → Option (ℕ × ℕ) → Result (Option T) ErrorKind → Type 0
@@ -85,7 +85,7 @@ HoldUnionVector entries i None = (field_at entries i ≡ None) × (field_at entr
 HoldUnionVector entries i (Some both) =
     (field_at entries i ≡ Some (tags both.0)) × (field_at entries (i + 1) ≡ Some (values both.1))
 
--- The result for a union vector: none where there is none, else that of its type where both
+-- The result for a union vector: none where there is none, else its type's result where both
 -- references are encoded.
 abbrev pub UnionVectorRead :
     {T : Type 0} → ReadsBoth T → List ℕ → ℕ → Option (ℕ × ℕ) → Result (Option T) ErrorKind → Type 0

@@ -45,7 +45,7 @@ Slot V i = unwrap_or (Num V (2 * i) w16) 0
 abbrev pub slot_of : Table → ℕ → ℕ
 slot_of table i = Slot (table_slots table) i
 
--- The result for the field of a slot: none where it is absent, else that of its type.
+-- The result for the field of a slot: none where it is absent, else its type's result.
 abbrev pub FieldAnswer : {T : Type 0} → Reads T → Table → ℕ → Result (Option T) ErrorKind → Type 0
 FieldAnswer reads table i (Ok None) = slot_of table i ≡ 0
 FieldAnswer reads table i (Ok (Some x)) =
@@ -90,7 +90,7 @@ union_of reads table i tag r =
     reads (table_object table) (table_start table) tag (slot_of table (i + 1)) r
 
 -- The result for the union of slots i and i + 1: none where there is no union, an error where its
--- slots are damaged, else that of its type.
+-- slots are damaged, else its type's result.
 abbrev pub UnionAnswer :
     {T : Type 0} → ReadsBoth T → Table → ℕ → Result (Option T) ErrorKind → Type 0
 UnionAnswer reads table i (Ok None) = UnionAbsent table i
@@ -120,7 +120,7 @@ union_vector_of reads table i r =
     reads (table_object table) (table_start table) (slot_of table i) (slot_of table (i + 1)) r
 
 -- The result for the union vector of slots i and i + 1: none where both slots hold 0 or aren't both
--- in the vtable, an error where exactly one holds 0, else that of its type.
+-- in the vtable, an error where exactly one holds 0, else its type's result.
 abbrev pub UnionVectorAnswer :
     {T : Type 0} → ReadsBoth T → Table → ℕ → Result (Option T) ErrorKind → Type 0
 UnionVectorAnswer reads table i (Ok None) =

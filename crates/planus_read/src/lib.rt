@@ -32,6 +32,6 @@ pub use traits::{
 /// The result of a read that names its location.
 pub type Result<T> = std::result::Result<T, Error>;
 
-/// A type that has no value, kept for code that names it.
+/// A type that has no value, for code that names it.
 #[derive(Clone, Copy)]
 pub enum Void {}

@@ -27,9 +27,8 @@ pub struct ErrorLocation<'n> {
     pub type_: &'n str,
     /// The name of the method that read it.
     pub method: &'n str,
-    /// The offset in bytes from the buffer's start, `usize::MAX` where there is none. For a table's
-    /// field it is that of the table's first byte; for an item, the start of the slice of the
-    /// items.
+    /// The offset in bytes from the buffer's start, `usize::MAX` where there is none: of a table's
+    /// first byte for its fields, and of the slice of the items for an item.
     pub byte_offset: usize,
 }
 

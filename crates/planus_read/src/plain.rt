@@ -19,10 +19,9 @@ const VECTOR_NAME: &str = "[plain]";
 /// an enum or a struct. In the format the fields of a struct follow one another, each at a multiple
 /// of its own alignment, with zeros between and after them.
 ///
-/// The ghost member `shape` names the bytes of each value, which values the type has (in a
-/// definition a number may be any), which value is encoded at an offset, and what a read tests
-/// there. A struct's shape is `struct_shape` of `specs/Structs.antt` over the list of its fields,
-/// without a proof.
+/// The ghost member `shape` names the bytes of each value, which values the type has, which one is
+/// encoded at an offset, and what a read tests there. For a struct it is `struct_shape` of
+/// `specs/Structs.antt` over the list of its fields, without a proof.
 pub trait Plain: Copy {
     ghost ALIGNMENT: { ℕ };
 
@@ -30,13 +29,7 @@ pub trait Plain: Copy {
 
     ghost shape: { Shape Self SIZE ALIGNMENT };
 
-    /// A value of a fixed layout, which a table or a vector holds in place: a number, a bool, a
-    /// float, an enum or a struct. In the format the fields of a struct follow one another, each at
-    /// a multiple of its own alignment, with zeros between and after them.
-    ///
-    /// The ghost member `shape` names the bytes of each value, which values the type has, which one
-    /// is encoded at an offset, and what a read tests there. For a struct it is `struct_shape` of
-    /// `specs/Structs.antt` over the list of its fields, without a proof.
+    /// The alignment in bytes, from the start of a buffer.
     const ALIGNMENT: usize;
 
     /// The size in bytes.
@@ -48,8 +41,8 @@ pub trait Plain: Copy {
         ensures encoded { bytes.new ≡ (shape).encoded self.now }
         ensures fits { (shape).fits self.now };
 
-    /// Returns the value at the offset, in bytes from the start of the slice, or the error of the
-    /// first thing that is wrong there. Requires all of its bytes to be in the slice.
+    /// Returns the value at the offset, in bytes from the start of the slice, or its first error.
+    /// Requires all of its bytes to be in the slice.
     fn read(buffer: SliceWithStartOffset<'_>, offset: usize) -> Result<Self, ErrorKind>
         requires { offset + SIZE ≤ length (slice_bytes buffer) }
         ensures answer { Answer (own_reading shape (slice_bytes buffer.entry) offset) result }

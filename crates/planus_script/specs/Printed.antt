@@ -23,7 +23,7 @@ greatest_script = 1048576
 abbrev pub hex_line : List ℕ → List ℕ
 hex_line bytes = join_with_byte 32 (map hex_of bytes) ++ 10 ∷ []
 
--- a line of this text
+-- a string and a line feed
 abbrev pub line_of : List ℕ → List ℕ
 line_of words = words ++ 10 ∷ []
 

@@ -7,7 +7,7 @@ pub fn printed_is_one()
     ensures { PrintedIsOne }
 {}
 
-/// For each input something is printed, so exactly one text, out of memory aside.
+/// For each input something is printed, and so only one thing, out of memory aside.
 pub fn a_text_is_printed()
     ensures { ATextIsPrinted }
 {}

@@ -13,7 +13,7 @@ use Rattle.planus_view.specs.UnionVectorView.{view_of, ShowsUnionVector}
 
 module _ (T E : Type 0) where
   -- The vector of these unions at kt and kv of B: its tags and its references begin after the
-  -- counts, it has as many items, and each has its tag, and its reference, from which reading goes
+  -- counts, it has their count, and each has its tag, and its reference, from which reading goes
   -- on.
   pub record IsUnionVectorOf
       (B : List ℕ) (kt kv : ℕ) (items : List (ℕ × ℕ)) (v : VectorOf (UnionSliceView T E)) : Type 0

@@ -22,7 +22,7 @@ module _
       pub count : length out ≡ n
       pub converted : AreFirstConverted v n out
 
-    -- The first error: no memory for the vector, or that of an item after converted ones.
+    -- The first error: no memory for the vector, or an item's after converted ones.
     abbrev pub IsRefusal : V → ℕ → CopyError → Type 0
     IsRefusal v n e =
         (e ≡ OutOfMemory)

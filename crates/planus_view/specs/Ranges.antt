@@ -33,14 +33,14 @@ chunks_exact n c = ranges_where n (λ i. nat_le ((i + 1) * c) n) (exact_chunk n 
 abbrev pub rchunks_exact : ℕ → ℕ → List (ℕ × ℕ)
 rchunks_exact n c = ranges_where n (λ i. nat_le ((i + 1) * c) n) (rchunk n c)
 
--- Windows: c positions from each position on that has as many.
+-- Windows: c positions from each position on, while they are positions.
 abbrev pub window : ℕ → ℕ → ℕ → ℕ × ℕ
 window n c i = (i, i + c)
 
 abbrev pub windows : ℕ → ℕ → List (ℕ × ℕ)
 windows n c = ranges_where n (λ i. nat_le (i + c) n) (window n c)
 
--- What is left of a list after a items are taken at the front and b at the back.
+-- What is left after a items are taken at the front and b at the back.
 abbrev pub ends : {X : Type 0} → List X → ℕ → ℕ → List X
 ends R a b = take (length R - (a + b)) (drop a R)
 

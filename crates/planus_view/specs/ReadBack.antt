@@ -13,7 +13,7 @@ use Rattle.planus_view.specs.declared.vector_of.VectorOf.{VectorOf}
 use Rattle.planus_view.specs.VectorView.{view_of, ShowsVector}
 
 module _ {T S : Type 0} (kind : PlainGhosts S) where
-  -- The vector of these items at k of B: it begins after the count, has as many items, and returns
+  -- The vector of these items at k of B: it begins after the count, has their count, and returns
   -- each.
   pub record IsVectorOf
       {X : Type 0} (ItemReads : ℕ → ℕ → X → Type 0) (B : List ℕ) (k : ℕ) (items : List X)

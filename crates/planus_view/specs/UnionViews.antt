@@ -40,7 +40,7 @@ twice v lo hi a b h =
     let start : v.start + lo * 4 + a * 4 ≡ v.start + (lo + a) * 4 = omega arith in
     let count : b - a ≡ lo + b - (lo + a) = omega arith in cc
 
--- a sub-view's count is that of its positions
+-- a sub-view has an item for each position
 pub sub_view_count :
     (v u : UnionView) (lo hi : ℕ) → IsSubView v lo hi u → u.count ≡ hi - lo
 sub_view_count v u lo hi h = ap (λ (s : UnionView). s.count) h.same

@@ -115,7 +115,7 @@ impl<V: View> VectorOf<V> {
         Some(self.split_at_unchecked(mid))
     }
 
-    /// Returns the sub-vectors of the first `mid` items and of the others. Requires as many items.
+    /// Returns the sub-vectors of the first `mid` items and of the others. Requires `mid` items.
     #[inline]
     #[must_use]
     pub fn split_at_unchecked(&self, mid: usize) -> (VectorOf<V>, VectorOf<V>)
@@ -249,9 +249,9 @@ where
     ghost use Rattle.planus_view.specs.Copies.{AreAllConverted, IsRefusal};
     ghost use Rattle.planus_view.specs.Vectors.{count_in, IsSubVector, IsItemIn};
 
-    /// Returns all items, converted in order, or the first error: that of a conversion, or, in a
-    /// union vector, [`CopyError::Read`] for an item that can't be read. Memory is allocated once,
-    /// before the first read: [`CopyError::OutOfMemory`] where that fails.
+    /// Returns all items, converted in order, or the first error: of a conversion, or, in a union
+    /// vector, [`CopyError::Read`] for an item that can't be read. Memory is allocated once, before
+    /// the first read: [`CopyError::OutOfMemory`] where that fails.
     pub fn to_vec<'n, O: Drop>(&self, alloc: Global) -> Result<Vec<O>, CopyError<'n>>
     where
         V::Copied: Conversion<V::Item, O>,

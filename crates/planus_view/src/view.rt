@@ -21,7 +21,7 @@ pub trait View: Copy {
         requires inside { hi ≤ count self.now }
         ensures { is_sub_view self.now lo hi result };
 
-    /// A sub-view's count is that of its positions.
+    /// A sub-view has an item for each position.
     ghost sub_view_count: { (v u : Self) (lo hi : ℕ) → is_sub_view v lo hi u → count u ≡ hi - lo };
 
     /// A sub-view of a sub-view is one of the whole.

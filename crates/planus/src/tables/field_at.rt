@@ -12,11 +12,10 @@ pub struct FieldAt<const SLOT: usize, P, V> {
     pub _marker: PhantomData<P>,
 }
 
-/// Lists the fields of a table, in one of four forms: `SLOT: KIND = VALUE`, where the value is
-/// encoded as the type `KIND`; `SLOT: last KIND = VALUE`, a
-/// [`TrailingField`](crate::TrailingField);
-/// `(TAG, VALUE): union KIND = VALUE`, a union by its two slots; and
-/// `(TAGS, VALUES): unions KIND = VALUE`, a union vector. The result is `()`, one line, or pairs of
+/// Lists the fields of a table. `SLOT: KIND = VALUE` is a value encoded as the type `KIND`, and
+/// `SLOT: last KIND = VALUE` a [`TrailingField`](crate::TrailingField);
+/// `(TAG, VALUE): union KIND = VALUE` is a union by its two slots, and
+/// `(TAGS, VALUES): unions KIND = VALUE` a union vector. The result is `()`, one line, or pairs of
 /// pairs of lines.
 #[macro_export]
 macro_rules! fields {
