@@ -1,5 +1,4 @@
--- What accessors return: for any bytes the value that is there, or the first error; for a slot that
--- was written, what it holds.
+-- What accessors return, for any bytes and for slots that were written.
 use Rattle.std.specs.Prelude.{◌≡◌, ℕ, List, map, Option, Some, None, Result, Ok, IsOkAnd, IsSomeAnd}
 use Rattle.std.specs.Prelude.{MatchOption, ⊤}
 use Rattle.std.specs.Borrow.{Bor}
@@ -23,8 +22,7 @@ use Rattle.planus.specs.ReadPlain.{reads_plain, plain_content, ArePlain}
 use Rattle.planus.specs.ReadVectors.{reads_vector, ItemsAreTexts, ItemsAreTables}
 use Rattle.planus.specs.Views.{reads_as}
 
--- A kind of fields: how one is read, what it may hold, and what is read back. An optional field is
--- given a G, and holds a part of it.
+-- a kind of fields: how one is read, what it may hold, and what is read back
 pub record FieldKind (X G T : Type 0) : Type 1 where
   pub reads : Reads T
   pub May : List ℕ → X → Type 0

@@ -30,8 +30,7 @@ FieldsAre past (content ∷ contents) (field ∷ fields) =
 FieldsAre past [] (field ∷ fields) = ⊥
 FieldsAre past (content ∷ contents) [] = ⊥
 
--- A table with exactly these contents is stored at the distance, and so are the values it refers
--- to.
+-- a table with exactly these contents is stored at the distance, with the values it refers to
 pub record TableIsKept (past : Past) (contents : List (ℕ × Option Content)) (distance : ℕ) : Type 0 where
   pub fields : List (ℕ × Field)
   pub are : FieldsAre past (there_of contents) fields
@@ -42,8 +41,7 @@ abbrev pub StillKept : Past → Past → Type 0
 StillKept before after =
     (one : Value) (named : Named) → IsKept before one named → IsKept after one named
 
--- Whatever was written before, a table with these contents is stored at the distance, all earlier
--- bytes are still there, and all that was stored still is.
+-- for any history, a table with these contents is stored at the distance, and nothing is lost
 abbrev pub WritesContents : List (ℕ × Option Content) → State → ℕ → State → Type 0
 WritesContents contents old distance new =
     (past : Past) → IsPast old past

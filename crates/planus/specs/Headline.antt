@@ -29,8 +29,7 @@ pub record ValueHolds (steps : List Step) (given : Finish) (one : Listed) : Type
   pub aligned : AlignedAt given.bytes (position_in given.bytes one.named) value
   pub reads_back : ReadsBack given.bytes (position_in given.bytes one.named) value
 
--- The fewest bytes: no other placing of the parts since the last clear has a smaller place for any
--- of them, and the last part's place is the length.
+-- no other placing of the parts since the last clear has a smaller place for any of them
 pub record IsFewest (parts : List Part) (places : List ℕ) (bytes : List ℕ) : Type 0 where
   pub placing : IsPlacing parts places
   pub whole : (earlier : List ℕ) × (places ≡ earlier ++ length bytes ∷ [])
@@ -53,7 +52,7 @@ pub record ValueInPiece (steps : List Step) (places : List Listed) (piece : List
 
 -- A size-prefixed finish: the size is the number of bytes that follow, which a reader returns as a
 -- slice that starts at 4. Its reference leads to the root's value, the identifier follows, and each
--- value holds in it, except for its alignment, which counts from the size.
+-- value holds in it, except for its alignment.
 pub record SizedHolds (steps : List Step) (root : ℕ) (identifier : Option (List ℕ)) (given : Finish)
     : Type 0 where
   pub size : IsPrefixed given.bytes

@@ -27,8 +27,7 @@ holds_u32 number = Some (item (record { bytes = to_le_bytes w32 number; alignmen
 abbrev pub holds_u64 : ℕ → Option Content
 holds_u64 number = Some (item (record { bytes = to_le_bytes w64 number; alignment = 8 }))
 
--- A signed number as code of this width has it: itself, where it fits. A contract in this form can
--- state a number that is passed by value.
+-- a signed number as code of this width has it, in a form for numbers passed by value
 abbrev pub as_signed : Width → ℤ → ℤ
 as_signed w number = cast_signed w (cast_unsigned w number)
 

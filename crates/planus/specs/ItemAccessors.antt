@@ -26,8 +26,7 @@ module _ {T R A : Type 0} {kind : PlainGhosts R} (reads : Reads A) (name : List 
       Located (reads (view_of vector).bytes (view_of vector).start (i * kind.SIZE)) name item_method
       (view_of vector).start
 
--- A string, none for an index out of bounds. For a vector of strings that was written, it is the
--- string at this index, where that is UTF-8.
+-- a string, none out of bounds; of a vector that was written, the string at this index
 pub record IsTextItem {T R : Type 0} {kind : PlainGhosts R} (vector : VectorOf (SliceView T R kind))
     (index : ℕ) (r : Option (Result (Bor (List ℕ)) Error)) : Type 0 where
   pub answer : GetsItem (λ v. count_of v) (IsItemRead reads_text texts_name) vector index r
@@ -46,8 +45,7 @@ GetsTable {T} {R} {kind} K name =
     (view_of v).start)
     (λ (e f : Error). f ≡ e) item)
 
--- The view of a table. For a vector of tables that was written, it is that of the table at this
--- index.
+-- the view of a table; of a vector that was written, of the table at this index
 pub record IsTableItem {T R V : Type 0} {kind : PlainGhosts R} (K : Type 0) (name : List ℕ)
     (table_of : V → Table) (vector : VectorOf (SliceView T R kind)) (index : ℕ)
     (r : Option (Result V Error)) : Type 0 where

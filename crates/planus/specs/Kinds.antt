@@ -5,8 +5,7 @@ use Rattle.planus.specs.Steps.{Step, unions, finish, clear}
 use Rattle.planus.specs.declared.faults.Why.{Why}
 use Rattle.planus.specs.declared.faults.Why.TheVariants.{NoSuchStep, WrongKind}
 
--- A value has one distance, to which references lead; a union vector has two, of its tags and of
--- its references.
+-- a value has one distance; a union vector has two, of its tags and of its references
 pub data Kind : Type 0 where
   a_value : Kind
   a_union_vector : Kind

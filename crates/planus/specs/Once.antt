@@ -25,8 +25,8 @@ AreOnce switches steps listed =
     → contents_at steps i ≡ Some contents → contents_at steps j ≡ Some contents
     → value_at listed i ≡ Some d → value_at listed j ≡ Some e → d ≡ e
 
--- Every finish of every run names strings of equal bytes by one distance, if equal strings are
--- written once, and likewise byte vectors.
+-- Every finish of every run names equal strings by one distance, if their cache is on; so for
+-- bytes.
 abbrev pub EqualContentsHaveOneDistance : Type 0
 EqualContentsHaveOneDistance =
     (switches : Switches) (steps : List Step) (finished : List Finish) → Runs switches steps finished
@@ -37,8 +37,7 @@ abbrev pub Gets : Contents → List Entry → List ℕ → ℕ → Type 0
 Gets contents entries got distance = (n : ℕ) × (entry : Entry) × (slice_get entries n ≡ Some entry)
     × (entry.contents ≡ Some contents) × (slice_get got n ≡ Some distance)
 
--- In every run entries of equal contents, vtables too, get one distance where the cache of their
--- kind is on and no clear is between them.
+-- In every run equal contents get one distance, if their cache is on, from one clear to the next.
 abbrev pub EqualEntriesGetOneDistance : Type 0
 EqualEntriesGetOneDistance =
     (switches : Switches) (before between next after : State) (step later : Step)

@@ -110,8 +110,7 @@ pub record SlotHolds (B : List ℕ) (read : Table) (slot : ℕ) (content : Optio
   pub fields : HasFields B position entries read
   pub holds : FieldHoldsIf B content (field_at entries slot)
 
--- The table that was read has these contents: each slot, also past the vtable's end, holds its
--- content or nothing.
+-- each slot of the table, also past the vtable's end, holds its content or nothing
 abbrev pub TableHolds : List ℕ → List (ℕ × Option Content) → Table → Type 0
 TableHolds B contents read = (slot : ℕ) → SlotHolds B read slot (content_at contents slot)
 
@@ -148,8 +147,7 @@ SizedFinishesKeepTables {X} may outcome =
     → SizedFinishGives (outcome root) identifier state bytes
     → TableStands bytes contents distance × TableStands (drop 4 bytes) contents distance
 
--- A table that is the root of a finish is encoded in its bytes, and the first reference leads to
--- it.
+-- A finish's root table is encoded in its bytes, and the first reference leads to it.
 abbrev pub FinishedTablesStand : Type 0 → Type 0
 FinishedTablesStand T =
     (contents : List (ℕ × Option Content)) (past : Past) (state : State) (offset : Offset T)
@@ -197,8 +195,7 @@ ItemsReadBack K =
     type_ method offset r
     → IsOkAnd r (λ view. TableHolds B contents view.table)
 
--- What the calls of a table return at a slot with such content, by the results of the type: an
--- optional field, a required one, and one with a default.
+-- what the calls of a table return at a slot with such content, for each kind of accessor
 pub record ContentsReadBack {X T : Type 0} (reads : Reads T) (May : List ℕ → X → Type 0)
     (content : X → Content) (IsRead : List ℕ → X → T → Type 0) : Type 0 where
   pub optional :
@@ -220,8 +217,7 @@ pub record ContentsReadBack {X T : Type 0} (reads : Reads T) (May : List ℕ →
       → Located (OrDefault default (FieldAnswer reads read slot)) type_ method offset r
       → IsOkAnd r (IsRead B x)
 
--- What they return at an empty slot: none, the error `MissingRequired` at the call's location, or
--- the default.
+-- what they return at an empty slot: none, the error `MissingRequired`, or the default
 pub record AbsentFieldsReadBack {T : Type 0} (reads : Reads T) : Type 0 where
   pub optional :
       (B : List ℕ) (read : Table) (slot : ℕ) → SlotHolds B read slot None

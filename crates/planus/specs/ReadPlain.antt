@@ -64,8 +64,7 @@ module _ {T R : Type 0} {kind : PlainGhosts R} where
   abbrev pub ArePlain : List ℕ → List R → VectorOf (SliceView T R kind) → Type 0
   ArePlain B xs vector = ArePlainItems kind B (map kind.shape.encoded xs) vector
 
--- The result for an item of such a vector: the value there, or the first error, at the start of the
--- items.
+-- the result for an item of such a vector, an error being at the start of the items
 abbrev pub IsPlainResult :
     {T : Type 0} {kind : PlainGhosts T} → VectorOf (SliceView (Result T Error) T kind) → ℕ
     → Result T Error → Type 0

@@ -1,5 +1,4 @@
--- What is read from the unions and union vectors of a table that was written, by what their slots
--- hold.
+-- What is read from the unions and union vectors of a table that was written.
 use Rattle.std.specs.Prelude.{◌≡◌, ◌≢◌, ℕ, ◌+◌, ◌<◌, List, drop, Option, Some, None, Result, Ok}
 use Rattle.std.specs.Prelude.{IsOkAnd, IsSomeAnd, ⊤}
 use Rattle.planus_read.specs.declared.errors.ErrorKind.{ErrorKind}
@@ -37,8 +36,7 @@ ReadsUnion reads B tag content r =
     (start f distance : ℕ) × FieldHolds B content (reference distance)
     × ReferenceStands B (start + f) distance × reads (drop start B) start tag f r
 
--- What the calls of a table return at two neighbouring slots: for a union's tag, above 0, and its
--- value, and for two empty slots.
+-- what the calls of a table return at the two slots of a union, and at two empty slots
 pub record UnionsReadBack {T : Type 0} (reads : ReadsBoth T) : Type 0 where
   pub optional :
       (B : List ℕ) (read : Table) (slot tag : ℕ) (content : Content) → tag ≢ 0 → tag < 256
@@ -83,8 +81,7 @@ abbrev pub AreNewUnions :
 AreNewUnions B contents vector =
     (unions : List (ℕ × ℕ)) × UnionsHold B contents unions × AreUnions B unions vector
 
--- What the calls of a table return at two neighbouring slots that refer to the tags and to the
--- values of a union vector.
+-- what the calls of a table return at the two slots of a union vector
 pub record UnionVectorSlotsReadBack (T E : Type 0) {X : Type 0} (May : List ℕ → X → Type 0)
     (tags_of values_of : X → Content)
     (IsRead : List ℕ → X → VectorOf (UnionSliceView T E) → Type 0) : Type 0 where

@@ -26,8 +26,7 @@ abbrev pub item_offset : {R : Type 0} → PlainGhosts R → ℕ → ℕ
 item_offset kind i = i * kind.SIZE
 
 module _ {T R : Type 0} (kind : PlainGhosts R) where
-  -- the vector of plain items of these bytes, or of references to these distances, wherever they
-  -- are in B
+  -- the vector of plain items of these bytes, or of references to these distances, anywhere in B
   abbrev pub ArePlainItems : List ℕ → List (List ℕ) → VectorOf (SliceView T R kind) → Type 0
   ArePlainItems B items vector =
       (k : ℕ) × IsVectorOf kind (λ start f item. PlainReads (drop start B) f item) B k items vector
@@ -40,8 +39,7 @@ module _ {T R : Type 0} (kind : PlainGhosts R) where
   abbrev pub item_bytes : VectorOf (SliceView T R kind) → List ℕ
   item_bytes vector = (view_of vector).bytes
 
-  -- The vector has the count of these strings, and each that is UTF-8 is read as the item at its
-  -- index, whatever location an error would have.
+  -- the vector has the count of these strings, and each that is UTF-8 is read at its index
   pub record ItemsAreTexts (texts : List (List ℕ)) (vector : VectorOf (SliceView T R kind)) : Type 0
     where
       pub count : count_of vector ≡ length texts
@@ -52,8 +50,7 @@ module _ {T R : Type 0} (kind : PlainGhosts R) where
           type_ method offset r
           → IsOkAnd r (λ found. found.now ≡ bytes)
 
-  -- The vector has the count of these distances, and where a table is at one of them, the item at
-  -- its index is read as a view with its contents.
+  -- the vector has the count of these distances, and each table there is read at its index
   pub record ItemsAreTables (K : Type 0) (B distances : List ℕ) (vector : VectorOf (SliceView T R kind))
       : Type 0 where
     pub count : count_of vector ≡ length distances
@@ -72,8 +69,7 @@ module _ (T : Type 0) {R : Type 0} (kind : PlainGhosts R) where
   reads_vector S start f r =
       Answer (shown (ShowsVector S start) (vector_reading S f kind.SIZE)) r
 
-  -- A slot with a vector of plain items of the element type's size, by their alignment and bytes,
-  -- is read as the vector of these items.
+  -- A slot with a vector of plain items of the element type's size is read as their vector.
   abbrev pub PlainVectorsReadBack : Type 0
   PlainVectorsReadBack =
       ContentsReadBack {X = ℕ × List (List ℕ)} reads_vector (λ B list. ⊤)

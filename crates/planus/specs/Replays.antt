@@ -53,8 +53,8 @@ numbers_fault None items = Some WidthUnknown
 numbers_fault (Some width) items =
     if list_all (fits_width width) items then None else Some ValueTooBig
 
--- The first failed check of a step, by the errors of naming steps: numbers have a known width and
--- fit it; references and roots name a value; unions have tags above 0; the checks of a table.
+-- the first failed check of a step: widths and numbers, named values, tags above 0, a table's
+-- checks
 abbrev pub check_by : (Kind → ℕ → Option Why) → Step → Option Why
 check_by fault (numbers width items) = numbers_fault (width_of width) items
 check_by fault (refs steps) = first_fault (fault a_value) steps
@@ -97,9 +97,8 @@ abbrev pub finish_given : Finished → Finish
 finish_given finished =
     record { bytes = finished.bytes.items; places = map place_of finished.places.items }
 
--- The result is that of the run: its finishes, the first bad step, or a part that is too large,
--- whichever the run comes to. Out of memory is always allowed, since memory is taken before the
--- first step; `StepRefused` says when a step may return it.
+-- The result is that of the run: its finishes, the first bad step, or a part that is too large. Out
+-- of memory is always allowed; `StepRefused` says when a step may return it.
 abbrev pub Replays : Switches → List Step → Result (List Finish) ReplayError → Type 0
 Replays switches steps (Ok finished) = (first_bad steps ≡ None) × Runs switches steps finished
 Replays switches steps (Err (BadStep step why)) =
@@ -136,7 +135,6 @@ abbrev pub IsAnswered : Switches → List Step → Type 0
 IsAnswered switches steps = (answer : Result (List Finish) ReplayError)
     × Replays switches steps answer × (IsOutOfMemory answer → ⊥)
 
--- Every list of steps has such a result: a step that isn't bad can be taken, or has a part that is
--- too large.
+-- Every list of steps has such a result, since a good step can be taken, or has too large a part.
 abbrev pub AnAnswerIsThere : Type 0
 AnAnswerIsThere = (switches : Switches) (steps : List Step) → IsAnswered switches steps

@@ -150,8 +150,7 @@ pub record Finish : Type 0 where
   pub bytes : List ℕ
   pub places : List Listed
 
--- The state of a run: what was written since the last clear, and its values; the number of the next
--- step; and what each finish gave.
+-- what was written since the last clear, its values, the next step's number, and the finishes
 pub record State : Type 0 where
   pub past : Past
   pub listed : List Listed
@@ -235,8 +234,7 @@ pub record AsksForMemory (switches : Switches) (entry : Entry) (got : List ℕ)
   pub is_new : found_before switches entry before ≡ None
   pub fits : IsNotTooLarge (part_after entry got before) before.written
 
--- Memory may run out while these entries are written: for one of them, or after the last. No part
--- up to there is too large.
+-- memory may run out for one of these entries, or after the last; no part up to there is too large
 abbrev pub ComesToRefusedEntry : Switches → List Entry → List ℕ → Past → Type 0
 ComesToRefusedEntry switches [] got before = ⊤
 ComesToRefusedEntry switches (entry ∷ entries) got before =

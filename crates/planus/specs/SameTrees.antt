@@ -65,8 +65,8 @@ pub record SamePlace (steps : List Step) (ones others : List Listed) (one other 
   pub is_other : value_of others step ≡ Some other_value
   pub same : SameValue ones others value other_value
 
--- Two finishes of one step: their first references lead to the value of one step, and they list the
--- same values in the same order.
+-- two finishes of one step lead to the value of one step, and list the same values in the same
+-- order
 pub record SameTrees (steps : List Step) (one other : Finish) : Type 0 where
   pub number : ℕ
   pub front : Front

@@ -1,5 +1,4 @@
--- Rules for the fields of a table: each in a slot of its own, and none with a greater alignment
--- than the one before it.
+-- Rules for the fields of a table: slots of their own, and alignments that don't rise.
 use Rattle.std.specs.Prelude.{ℕ, List, Option, Some, None, nat_lt, ◌==◌, if◌then◌else◌}
 use Rattle.std.specs.List.{list_any}
 use Rattle.std.specs.Option.{option_or}

@@ -8,8 +8,8 @@ use Rattle.planus.specs.declared.steps.Field.{Field}
 use Rattle.planus.specs.declared.steps.FieldValue.{FieldValue}
 use Rattle.planus.specs.declared.steps.FieldValue.TheVariants.{Number, Ref, Tags, Values}
 
--- What a field holds: a number and its width in bytes; a reference to an earlier step's value;
--- references to the tags and to the references of a step's union vector.
+-- What a field holds: a number and its width in bytes, or a reference to a step's value, to its
+-- tags or to its references.
 pub data FieldStep : Type 0 where
   number_field : (width : ℕ) → ℕ → FieldStep
   ref_field : ℕ → FieldStep
@@ -26,9 +26,8 @@ abbrev pub front_of : Bool → Front
 front_of true = size_first
 front_of false = root_first
 
--- A string; a byte vector; numbers and their width in bytes; references to earlier steps' values; a
--- union vector, by tags and steps; a table of fields with their slots; a finish, by its front, its
--- root's step and its optional file identifier; a clear.
+-- A step: a string, a byte vector, numbers and their width in bytes, references to earlier steps, a
+-- union vector, a table, a finish, or a clear.
 pub data Step : Type 0 where
   text : List ℕ → Step
   bytes : List ℕ → Step

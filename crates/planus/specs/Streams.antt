@@ -8,8 +8,7 @@ use Rattle.planus.specs.Steps.{Step, size_first}
 use Rattle.planus.specs.Runs.{Finish}
 use Rattle.planus.specs.Headline.{FinishHolds, SizedHolds}
 
--- A size-prefixed finish is read with exactly its bytes after the size, whatever follows. In that
--- slice the first reference leads to the root, the identifier follows, and every value reads back.
+-- A size-prefixed finish is read with exactly its bytes after the size, and every value reads back.
 abbrev pub SizedFinishesAreRead : Type 0
 SizedFinishesAreRead =
     (switches : Switches) (steps : List Step) (given : Finish)

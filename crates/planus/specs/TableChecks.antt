@@ -15,16 +15,14 @@ number_fault None number = Some WidthUnknown
 number_fault (Some width) number =
     if fits_width width number then None else Some ValueTooBig
 
--- The error of a field's content, by the errors of naming steps: a reference names a value, tags
--- and values a union vector.
+-- the error of a field's content: a reference names a value, tags and values a union vector
 abbrev pub content_fault : (Kind → ℕ → Option Why) → FieldStep → Option Why
 content_fault fault (number_field width number) = number_fault (field_width width) number
 content_fault fault (ref_field step) = fault a_value step
 content_fault fault (tags_field step) = fault a_union_vector step
 content_fault fault (values_field step) = fault a_union_vector step
 
--- The first failed check of a field after those of these slots, the last of which has this
--- alignment: its slot, its content, its alignment.
+-- the first failed check of a field: of its slot, its content, its alignment
 abbrev pub field_fault : (Kind → ℕ → Option Why) → List ℕ → ℕ → ℕ × FieldStep → Option Why
 field_fault fault slots before entry =
     option_or (slot_fault slots entry.0)

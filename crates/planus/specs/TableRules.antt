@@ -21,8 +21,7 @@ is_falling bound [] = true
 is_falling bound (one ∷ declared) =
     leb one.alignment bound && is_falling one.alignment declared
 
--- A table can be declared with n bytes of vtable: its slots fit, once each, its object has at most
--- 65535 bytes, and its fields come by falling alignment.
+-- slots fit in n bytes of vtable, objects in 65535 bytes, and fields come by falling alignment
 abbrev pub can_hold : ℕ → List Declared → Bool
 can_hold n declared =
     leb 4 n && (leb n 65534 && (leb (4 + total_size declared) 65535

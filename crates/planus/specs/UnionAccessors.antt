@@ -22,8 +22,7 @@ use Rattle.planus.specs.ReadUnions.{UnionsStand}
 use Rattle.planus.specs.Unions.{UnionVariant, HasVariants, UnionStands, IsUnion}
 
 module _ {U : Type 0} (reads : ReadsBoth U) (table : Table) (slot : ℕ) (type_ method : List ℕ) where
-  -- What a call returns for the optional union of a slot and the next: for one that was written,
-  -- also one of kind K written before, its variant.
+  -- what a call returns for the optional union of a slot and the next
   pub record IsUnionField (K : Type 0) (r : Result (Option U) Error) : Type 0 where
     pub answer : Located (UnionAnswer reads table slot) type_ method (table_start table) r
     pub read_back :
@@ -69,8 +68,7 @@ module _ {T E : Type 0} where
   AreAnyUnions B (union ∷ unions) found = IsSomeAnd found (AreUnionsOf B (union ∷ unions))
 
   module _ (table : Table) (slot : ℕ) (type_ method : List ℕ) where
-    -- What a call returns for the optional union vector of a slot and the next: written with its
-    -- table, left out where empty, or written before.
+    -- what a call returns for the optional union vector of a slot and the next
     pub record IsUnionVector (r : Result (Option (VectorOf (UnionSliceView T E))) Error) : Type 0 where
       pub answer :
           Located (UnionVectorAnswer reads_unions table slot) type_ method (table_start table) r
@@ -110,8 +108,7 @@ module _ {T E : Type 0} where
           → SlotHolds B table (slot + 1) (Some (written_values unions.values_at))
           → UnionsStand B unions → IsOkAnd r (AreUnionsOf B (map written_item unions.items))
 
-  -- What is returned for an item of such a vector, none for an index out of bounds; for a union
-  -- vector that was written, the union at this index.
+  -- what is returned for an item of such a vector, none out of bounds
   pub record IsUnionItem {U : Type 0} (reads : ReadsBoth U) (name : List ℕ)
       (vector : VectorOf (UnionSliceView T E)) (index : ℕ) (r : Option (Result U Error)) : Type 0 where
     pub answer :

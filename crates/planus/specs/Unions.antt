@@ -24,8 +24,7 @@ abbrev pub tag_of : {U : Type 0} → UnionVariant U → ℕ
 tag_of (table_variant tag table_of) = tag
 tag_of (text_variant tag text_of) = tag
 
--- The reference to a union's value leads to this table, written before; or to this string, written
--- with the union or before.
+-- a union's value is this table, written before, or this string, written with it or before
 abbrev pub IsTable : List ℕ → Content → List (ℕ × Option Content) → Type 0
 IsTable B (written distance) contents = TableStands B contents distance
 IsTable B _ contents = ⊥

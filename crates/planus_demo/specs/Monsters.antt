@@ -12,9 +12,8 @@ use Rattle.planus.specs.Contents.{tag_content, tags_content, value_content, valu
 use Rattle.planus.specs.Preparing.{WritesFields}
 use Rattle.planus.specs.TableFields.{field_in, list_tags_in, list_values_in, union_tag_in, union_value_in}
 
--- A monster was written, or there is an error: its fields are prepared in the order of their slots,
--- the hit points first, and then its table is written: first the references, the name's always,
--- then the hit points and the tag of the equipment.
+-- a monster was written, its fields being prepared in the order of their slots, or there is an
+-- error
 abbrev pub WritesMonster : {H N I W K T : Type 0} → Outcome (Option H) → (H → Field) → Outcome N
     → (N → Field) → Outcome (Option I) → (I → Field) → Outcome (Option W) → (W → Field)
     → Outcome (Option (UnionOffset K)) → Outcome (Option (UnionVectorOffset K))

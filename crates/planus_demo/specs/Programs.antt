@@ -22,8 +22,7 @@ abbrev pub SaysUnknown : Bool → Option (List ℕ) → Option (List ℕ) → Ty
 SaysUnknown clean before after =
     (clean ≡ false) × Appends before after (line_of (codes "unknown argument"))
 
--- The output of a script was written, or a dump as a weapon or as a monster, or without a mode the
--- message.
+-- the output of a script or of a dump was written, or without a mode the message
 abbrev pub DoesMode :
     Option Mode → Option (List ℕ) → Bool → Option (List ℕ) → Option (List ℕ) → Type 0
 DoesMode (Some Script) input clean before after =

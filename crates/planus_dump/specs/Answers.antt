@@ -89,8 +89,7 @@ tagged_union table i (Some tag) =
     if tag == 0 || Slot table.slots i == 0 || Slot table.slots (i + 1) == 0 then Ok None
     else Ok (Some (record { tag = tag; offset = Slot table.slots (i + 1) }))
 
--- The union of slots i and i + 1: none where the vtable ends before both, an error where it ends
--- between them.
+-- the union of slots i and i + 1: none where the vtable ends before both, an error between them
 abbrev pub union_at : Seen → ℕ → Result (Option SeenUnion) (List ℕ)
 union_at table i =
     if nat_le (length table.slots) (2 * i) then Ok None

@@ -20,8 +20,7 @@ use Rattle.planus_dump.specs.Answers.{SeenUnions, some_of}
 use Rattle.planus_dump.specs.Seeing.{answer_seen, table_seen}
 use Rattle.planus_dump.specs.declared.values.Leaf.TheVariants.{Bool, Text, Bytes}
 
--- A dump has the reading's result: the encoded value only where there is one, or the message of an
--- error only where a clause fails.
+-- a dump has the reading's result: the value if one is encoded, else the message of an error
 pub record SaysAsRead {A B : Type 0} (reading : Reading A) (sees : A → B)
     (said : Result B (List ℕ)) : Type 0 where
   pub answer : (r : Result A ErrorKind) → Answer reading r → said ≡ answer_seen sees r

@@ -1,5 +1,4 @@
--- When a schema describes the steps of a run: a step's fields, and the steps these refer to, are as
--- it states.
+-- When a schema describes the steps of a run: their fields, and what these refer to.
 use Rattle.std.specs.Prelude.{◌≡◌, ℕ, zero, suc, ◌+◌, ◌==◌, List, [], ◌∷◌, Vec, ⊤}
 use Rattle.std.specs.Prelude.{Option, Some, None, slice_get, if◌then◌else◌}
 use Rattle.std.specs.List.{AllByRecursion}
@@ -130,8 +129,7 @@ module _ (steps : List Step) (IsTable : ℕ → ℕ → Type 0) where
         AllByRecursion (λ field. HasKind fields field.slot field.kind) shape.fields.items
     IsTableOf _ _ = ⊥
 
--- The schema's table with this index describes the step of this number, down to this depth; nothing
--- is stated of what is deeper.
+-- the schema's table with this index describes the step of this number, down to this depth
 unfoldable pub Describes : Schema → List Step → ℕ → ℕ → ℕ → Type 0
 Describes schema steps zero index n = ⊤
 Describes schema steps (suc left) index n =

@@ -36,8 +36,7 @@ Answers es budget (Err TooManyLines) =
 Answers es budget (Err BadSchema) = ⊥
 Answers es budget (Err OutOfMemory) = 0 < budget
 
--- The result of a dump: `BadSchema` exactly for a schema that isn't good, else that of the events,
--- or out of memory.
+-- The result of a dump: `BadSchema` exactly for a bad schema, else the result for the events.
 abbrev pub Dumped : Schema → List ℕ → ℕ → Result (Vec (String Global) Global) DumpError → Type 0
 Dumped schema bytes budget (Err BadSchema) = is_good schema ≡ false
 Dumped schema bytes budget result =

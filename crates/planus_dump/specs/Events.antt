@@ -63,8 +63,7 @@ abbrev pub variant_of : List (ℕ × ℕ) → ℕ → Option ℕ
 variant_of [] tag = None
 variant_of (variant ∷ rest) tag = if variant.0 == tag then Some variant.1 else variant_of rest tag
 
--- The events of a table: by its index in the schema, some bytes, the offset of the reference to it,
--- and its path.
+-- a table's events, by its index in the schema, bytes, its reference's offset, and its path
 abbrev pub TableEvents : Type 0
 TableEvents = ℕ → List ℕ → ℕ → List ℕ → List Event
 
@@ -170,8 +169,7 @@ module _ (E : TableEvents) where
     shape_events None S f path = []
     shape_events (Some shape) S f path = table_events shape path (table_at S f)
 
--- The events of a table, with up to left - 1 levels of tables below it. They are finitely many,
--- since left falls from a table to those of its fields.
+-- the events of a table, with up to left - 1 levels of tables below it, so finitely many
 unfoldable pub events : Schema → ℕ → TableEvents
 events schema zero index S f path = deep ∷ []
 events schema (suc left) index S f path =

@@ -24,8 +24,7 @@ pub record FaultLinesAreTold (path : List ℕ) : Type 0 where
   pub union : (tag : ℕ) → is_fault_line (union_line path tag) ≡ false
   pub unions : (count : ℕ) → is_fault_line (unions_line path count) ≡ false
 
--- The path of the root has no space, nor has a path of an item or of a field of a good schema,
--- where the path before it has none.
+-- no path of a good schema has a space
 pub record PathsHaveNoSpace : Type 0 where
   pub root : HasNoSpace (codes "root")
   pub field :

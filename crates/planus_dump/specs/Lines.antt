@@ -20,8 +20,7 @@ item_path path i = path ++ (codes "[" ++ (decimal i ++ codes "]"))
 abbrev pub hex_of : ℕ → List ℕ
 hex_of byte = digit_char (byte / 16) ∷ digit_char (byte % 16) ∷ []
 
--- A character within quotes: `\` comes before a quote and before itself, and a character below
--- U+0020 is `\x` and two digits.
+-- a character within quotes: `\` before a quote and `\`, `\x` and two digits below U+0020
 abbrev pub escaped : ℕ → List ℕ
 escaped c =
     if nat_lt c 32 then 92 ∷ 120 ∷ hex_of c

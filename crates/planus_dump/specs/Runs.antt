@@ -26,8 +26,7 @@ pub record DumpsFirst
   pub run : Replays switches steps (Ok (given ∷ others))
   pub dumped : Dumped schema given.bytes budget answer
 
--- The first finishing step gives the first finish, and no line of its dump is an error, if the
--- schema fits what the root's step wrote.
+-- the first finish has no error line in its dump, if the schema fits its root's step
 pub record DumpsFit
     (switches : Switches) (steps : List Step) (schema : Schema) (budget : ℕ)
     (lines : Vec (String Global) Global) : Type 0 where
@@ -38,8 +37,7 @@ pub record DumpsFit
       holds.front ≡ root_first → Fits schema steps holds.root
       → AllByRecursion (λ line. is_fault_line (string_bytes line) ≡ false) lines.items
 
--- The result for steps: the error of their run, none where nothing is finished, or the result of
--- the first finish.
+-- the result for steps: the error of their run, none without a finish, or the first finish's result
 abbrev pub DumpsRun :
     Switches → List Step → Schema → ℕ
     → Result (Option (Vec (String Global) Global)) DumpRunError → Type 0

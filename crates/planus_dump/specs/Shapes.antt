@@ -66,8 +66,7 @@ worked_tables = weapon_shape ∷ monster_shape ∷ []
 abbrev pub worked_unions : List (List (ℕ × ℕ))
 worked_unions = ((1, 0) ∷ []) ∷ []
 
--- The steps of a monster with an axe in hand, in its vector of weapons and in its loot. Step 1 is
--- the axe, step 6 the monster.
+-- a monster with an axe in hand, in its vector of weapons and in its loot; the axe is step 1
 abbrev pub worked_steps : List Step
 worked_steps =
     text (codes "Axe") ∷ table ((0, ref_field 0) ∷ (1, number_field 2 24) ∷ [])

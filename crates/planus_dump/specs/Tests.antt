@@ -1,5 +1,4 @@
--- What a reader tests, in order, and the message where a test fails: the clauses of `planus_read`,
--- each with its test.
+-- What a reader tests, in order, with the messages: the clauses of `planus_read`.
 use Rattle.std.specs.Prelude.{ℕ, ◌+◌, ◌*◌, ◌%◌, nat_lt, nat_le, ◌==◌, int_le, pos}
 use Rattle.std.specs.Prelude.{List, [], ◌∷◌, length, take, drop, slice_index, codes}
 use Rattle.std.specs.Prelude.{Bool, ◌&&◌, if◌then◌else◌, Result, Ok, Err}

@@ -22,8 +22,7 @@ SlotAligned B k s None = ⊤
 SlotAligned B k s (Some field) =
     (q : ℕ) × (Num B s w16 ≡ Some q) × (field_alignment field ∣ (k + q))
 
--- The table at k is at a multiple of 4, its vtable at a multiple of 2, and each present field at a
--- multiple of its own alignment.
+-- the table at k is at a multiple of 4, its vtable of 2, and each field of its own alignment
 pub record TableAligned (B : List ℕ) (k : ℕ) (entries : List (ℕ × Field)) : Type 0 where
   pub table : 4 ∣ k
   pub vtable : ℕ

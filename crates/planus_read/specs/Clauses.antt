@@ -1,5 +1,4 @@
--- The result of a reader: a value where all its clauses hold, else the error of the first that
--- fails.
+-- The result of a reader: a value if all clauses hold, else the error of the first that fails.
 use Rattle.std.specs.Prelude.{◌≡◌, List, [], ◌∷◌, ◌⊎◌, ⊤, Result, Ok, Err}
 use Rattle.planus_read.specs.declared.errors.ErrorKind.{ErrorKind}
 

@@ -27,8 +27,7 @@ pub record Numbered {E N : Type 0} (equal : N → N → Bool) (variants : List (
   pub number : N
   pub found : variant_in equal variants number ≡ Some x
 
--- The shape of an enum: a variant is encoded as its number, `bits` of it, and read as `read_as`. A
--- number without a variant is an error that names it.
+-- an enum's shape: a variant is encoded as its number, `bits` of it, and read as `read_as`
 abbrev pub enum_shape :
     {E N : Type 0} (width : Width) → AreBytes width → IsLayout (byte_len width) (byte_len width)
     → (bits : N → ℕ) (read_as : ℕ → N) (Fits : N → Type 0)

@@ -20,8 +20,7 @@ ReferenceItemsStand =
     → (i distance : ℕ) → slice_get distances i ≡ Some distance
     → ReferenceStands B (k + 4 + i * 4) distance
 
--- Tag i of a union vector follows the count of tags and i tags; its reference follows the count of
--- references and i references.
+-- Tag i of a union vector follows the count and i tags, its reference the count and i references.
 abbrev pub UnionItemsStand : Type 0
 UnionItemsStand =
     (B : List ℕ) (kt kv : ℕ) (items : List (ℕ × ℕ)) → Stands B (at_both kt kv) (union_vector items)

@@ -41,8 +41,7 @@ place_reading S start f = record { There = IsPlace S start f; clauses = [] }
 abbrev pub tagged_place_reading : List ℕ → ℕ → ℕ → ℕ → Reading TaggedPlace
 tagged_place_reading S start tag f = record { There = IsTaggedPlace S start tag f; clauses = [] }
 
--- Reading goes on from the place at position k of B: its slice is B from the slice's start on, and
--- its reference leads to k.
+-- the place leads on to position k of B: its slice is a rest of B, and its reference leads to k
 pub record LeadsOn (B : List ℕ) (k : ℕ) (place : Place) : Type 0 where
   pub piece : place_bytes place ≡ drop (place_start place) B
   pub leads : Leads B (place_start place + place_offset place) k

@@ -6,8 +6,7 @@ use Rattle.planus_read.specs.declared.errors.ErrorKind.TheVariants.{InvalidOffse
 use Rattle.planus_read.specs.Bytes.{BytesStand}
 use Rattle.planus_read.specs.Clauses.{Clause, clause, AllHold, Reading}
 
--- The layout of a primitive: the alignment is a power of two up to 2^30, the size a positive
--- multiple of it, in bytes.
+-- the alignment is a power of two up to 2^30, the size a positive multiple of it, in bytes
 pub record IsLayout (size alignment : ℕ) : Type 0 where
   pub power : (k : ℕ) × (k ≤ 30) × (alignment ≡ 2 ^ k)
   pub positive : 0 < size

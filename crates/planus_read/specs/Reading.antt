@@ -1,5 +1,5 @@
--- The values encoded at a field, kind by kind, and the clauses that a reader tests there in order.
--- S is the bytes, f the field's offset in them.
+-- The values encoded at offset f of the bytes S, kind by kind, and the clauses of a reader in
+-- order.
 use Rattle.std.specs.Prelude.{◌≡◌, ℕ, ◌+◌, ◌*◌, ◌%◌, ◌<◌, ◌≤◌, ◌≤ℤ◌, ◌-ℤ◌, ℤ, pos, unsigned_abs}
 use Rattle.std.specs.Prelude.{List, [], ◌∷◌, length, take, drop, slice_index, Some, Bool, not, ◌==◌}
 use Rattle.std.specs.Option.{option_map}

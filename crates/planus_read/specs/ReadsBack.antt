@@ -27,8 +27,7 @@ abbrev pub WellFormed : Value → Type 0
 WellFormed (text bytes) = IsUtf8 bytes
 WellFormed _ = ⊤
 
--- The bytes of a plain item at f of S as a reader returns them: as a number or signed number of
--- that many bytes, and one byte as a bool.
+-- a plain item at f of S reads back: as a number or signed number, and one byte as a bool
 pub record PlainReads (S : List ℕ) (f : ℕ) (bytes : List ℕ) : Type 0 where
   pub stands : BytesStand S f bytes
   pub number :
@@ -39,8 +38,7 @@ pub record PlainReads (S : List ℕ) (f : ℕ) (bytes : List ℕ) : Type 0 where
       → IsAnswered (signed_reading S f width) (cast_signed width (from_le_bytes width bytes))
   pub truth : (byte : ℕ) → bytes ≡ byte ∷ [] → IsAnswered (truth_reading S f) (not (byte == 0))
 
--- The reference at f of the slice of B from start on leads to its distance, and reading goes on
--- there from the `Place` that is returned, also with the tag of a union.
+-- the reference at f leads to its distance, and so does the `Place` returned for it
 pub record ReferenceReads (B : List ℕ) (start f distance : ℕ) : Type 0 where
   pub leads : Leads B (start + f) (position_of B distance)
   pub place :
@@ -100,13 +98,11 @@ pub record TableReads (B : List ℕ) (k start f : ℕ) (entries : List (ℕ × F
       → Answer (shown (ShowsTable (drop start B) start) (table_reading (drop start B) f)) r
       → IsOkAnd r (HasFields B k entries)
 
--- This holds for each reference that leads to k, in each slice of B that begins no further on than
--- the reference: at f of the slice from start on.
+-- this holds for each reference to k, in each slice of B that begins no further on than it
 abbrev pub ByReferences : List ℕ → ℕ → (ℕ → ℕ → Type 0) → Type 0
 ByReferences B k Answered = (start f : ℕ) → Leads B (start + f) k → Answered start f
 
--- The value at this position reads back: by each such reference it is the only result. Its own
--- references are returned as places from which reading goes on.
+-- the value here is the only result of each reference to it; its references are returned as places
 abbrev pub ReadsBack : List ℕ → Position → Value → Type 0
 ReadsBack B (at k) (text bytes) =
     ByReferences B k (λ start f. IsAnswered (text_reading (drop start B) f) bytes)

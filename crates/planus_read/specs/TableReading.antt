@@ -16,8 +16,7 @@ abbrev pub SlotReads : List ℕ → ℕ → ℕ → Option Field → Type 0
 SlotReads B k q None = q ≡ 0
 SlotReads B k q (Some field) = (4 ≤ q) × FieldStands B (k + q) field
 
--- A `Table` that has the fields of the table at k of B: its bytes are those from k on, and each
--- slot, also past the vtable's end, reads as its field.
+-- a `Table` of the bytes from k on, in which each slot, also past the vtable's end, is its field
 pub record HasFields
     (B : List ℕ) (k : ℕ) (entries : List (ℕ × Field)) (table : Table) : Type 0 where
   pub object : table_object table ≡ drop k B
@@ -33,8 +32,7 @@ SomeOf answers (Ok None) = ⊥
 SomeOf answers (Ok (Some x)) = answers (Ok x)
 SomeOf answers (Err e) = answers (Err e)
 
--- The result for a field of the table at k: none for an absent field, else its type's result where
--- it is encoded.
+-- the result for a field of the table at k: none if absent, else its type's result
 abbrev pub FieldRead :
     {T : Type 0} → Reads T → List ℕ → ℕ → Option Field → Result (Option T) ErrorKind → Type 0
 FieldRead reads B k None r = r ≡ Ok None
@@ -51,8 +49,7 @@ FieldsRead {T} reads =
     × ((r : Result T ErrorKind) → Required (FieldAnswer reads table i) r
     → Required (FieldRead reads B k (field_at entries i)) r)
 
--- Slots i and i + 1 hold a union, a tag above 0 and a reference to this distance, or both are
--- unused.
+-- slots i and i + 1 hold a union of a tag above 0 and a reference to this distance, or nothing
 abbrev pub HoldUnion : List (ℕ × Field) → ℕ → Option (ℕ × ℕ) → Type 0
 HoldUnion entries i None = (field_at entries i ≡ None) × (field_at entries (i + 1) ≡ None)
 HoldUnion entries i (Some union) =
@@ -60,8 +57,7 @@ HoldUnion entries i (Some union) =
     × ((item : Plain) × (field_at entries i ≡ Some (plain item)) × (item.bytes ≡ union.0 ∷ []))
     × (field_at entries (i + 1) ≡ Some (reference union.1))
 
--- The result for a union: none where there is none, else its type's result for the tag where the
--- reference is encoded.
+-- the result for a union: none if absent, else its type's result for the tag and the reference
 abbrev pub UnionRead :
     {T : Type 0} → ReadsBoth T → List ℕ → ℕ → Option (ℕ × ℕ) → Result (Option T) ErrorKind → Type 0
 UnionRead reads B k None r = r ≡ Ok None
@@ -78,15 +74,13 @@ UnionsRead {T} reads =
     × ((r : Result T ErrorKind) → Required (UnionAnswer reads table i) r
     → Required (UnionRead reads B k union) r)
 
--- Slots i and i + 1 hold the tags and values of a union vector at these distances, or both are
--- unused.
+-- slots i and i + 1 hold the tags and values of a union vector at these distances, or nothing
 abbrev pub HoldUnionVector : List (ℕ × Field) → ℕ → Option (ℕ × ℕ) → Type 0
 HoldUnionVector entries i None = (field_at entries i ≡ None) × (field_at entries (i + 1) ≡ None)
 HoldUnionVector entries i (Some both) =
     (field_at entries i ≡ Some (tags both.0)) × (field_at entries (i + 1) ≡ Some (values both.1))
 
--- The result for a union vector: none where there is none, else its type's result where both
--- references are encoded.
+-- the result for a union vector: none if absent, else its type's result for both references
 abbrev pub UnionVectorRead :
     {T : Type 0} → ReadsBoth T → List ℕ → ℕ → Option (ℕ × ℕ) → Result (Option T) ErrorKind → Type 0
 UnionVectorRead reads B k None r = r ≡ Ok None

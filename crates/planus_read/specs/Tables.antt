@@ -29,8 +29,7 @@ table_start table = slice_start table.object
 abbrev pub table_slots : Table → List ℕ
 table_slots table = table.vtable.now
 
--- A table in the slice S: the slice from its first byte on, and its vtable after the first four
--- bytes.
+-- a table in the slice S: its bytes from the first on, and its vtable's slots
 pub record ShowsTable (S : List ℕ) (start : ℕ) (layout : TableLayout) (table : Table) : Type 0 where
   pub object_bytes : table_object table ≡ drop layout.object S
   pub object_start : table_start table ≡ start + layout.object
@@ -89,8 +88,7 @@ abbrev pub union_of : {T : Type 0} → ReadsBoth T → Table → ℕ → ℕ →
 union_of reads table i tag r =
     reads (table_object table) (table_start table) tag (slot_of table (i + 1)) r
 
--- The result for the union of slots i and i + 1: none where there is no union, an error where its
--- slots are damaged, else its type's result.
+-- the result for the union of slots i and i + 1: none, an error of damaged slots, or its type's
 abbrev pub UnionAnswer :
     {T : Type 0} → ReadsBoth T → Table → ℕ → Result (Option T) ErrorKind → Type 0
 UnionAnswer reads table i (Ok None) = UnionAbsent table i
@@ -119,8 +117,8 @@ abbrev pub union_vector_of : {T : Type 0} → ReadsBoth T → Table → ℕ → 
 union_vector_of reads table i r =
     reads (table_object table) (table_start table) (slot_of table i) (slot_of table (i + 1)) r
 
--- The result for the union vector of slots i and i + 1: none where both slots hold 0 or aren't both
--- in the vtable, an error where exactly one holds 0, else its type's result.
+-- The result for the union vector of slots i and i + 1: none where both hold 0 or aren't both in
+-- the vtable, an error where exactly one holds 0, else its type's result.
 abbrev pub UnionVectorAnswer :
     {T : Type 0} → ReadsBoth T → Table → ℕ → Result (Option T) ErrorKind → Type 0
 UnionVectorAnswer reads table i (Ok None) =

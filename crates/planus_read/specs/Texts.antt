@@ -20,8 +20,7 @@ use Rattle.planus_read.specs.declared.located.UnknownEnumTag.{UnknownEnumTag}
 abbrev pub unknown_tag_text : UnknownEnumTagKind → List ℕ
 unknown_tag_text kind = codes "Unknown enum (tag = " ++ signed_decimal kind.tag ++ codes ")"
 
--- The string of a UTF-8 error, by the number of valid bytes before it and the number of invalid
--- bytes, none where the input ends within a character.
+-- the string of a UTF-8 error, by the numbers of valid bytes before it and of invalid ones, if any
 abbrev pub utf8_text : ℕ → Option ℕ → List ℕ
 utf8_text valid_len (Some fault_len) =
     codes "invalid utf-8 sequence of "

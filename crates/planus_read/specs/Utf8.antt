@@ -7,8 +7,7 @@ use Rattle.planus_read.specs.declared.errors.ErrorKind.{ErrorKind}
 use Rattle.planus_read.specs.declared.errors.ErrorKind.TheVariants.{InvalidUtf8}
 use Rattle.planus_read.specs.Clauses.{Clause}
 
--- The first UTF-8 error of the bytes, after their longest valid prefix: the number of bytes that
--- can't begin a character, or none where the bytes end within one.
+-- the first UTF-8 error, after the longest valid prefix: its invalid bytes, none at the end
 pub record IsFirstFault (bytes : List ℕ) (fault : Utf8Error) : Type 0 where
   pub valid_len : valid_up_to fault ≡ utf8_valid_len bytes
   pub fault_len : error_len fault ≡ utf8_error_len (drop (utf8_valid_len bytes) bytes)

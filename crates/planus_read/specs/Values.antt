@@ -1,10 +1,8 @@
--- The values of the format, one at a time. A reference in a value is the distance of an earlier
--- value from the end of the bytes.
+-- The values of the format. A reference is the distance of an earlier value from the end.
 use Rattle.std.specs.Prelude.{ℕ, ◌+◌, ◌*◌, ◌==◌, max, List, [], ◌∷◌}
 use Rattle.std.specs.Prelude.{Option, Some, None, if◌then◌else◌}
 
--- A plain item: the bytes of a number or a bool, and its alignment. A number of n bytes has
--- alignment n.
+-- a plain item: its bytes and its alignment; a number of n bytes has alignment n
 pub record Plain : Type 0 where
   pub bytes : List ℕ
   pub alignment : ℕ

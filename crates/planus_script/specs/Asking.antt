@@ -1,5 +1,4 @@
--- Which lines take memory: a step holds its string, its bytes or its items, and items are held
--- before an error after them is found.
+-- Which lines take memory: for a step's string, bytes or items, also before an error after them.
 use Rattle.std.specs.Prelude.{ℕ, ◌≤◌, List, [], ◌∷◌, length, ⊤, ◌⊎◌, Option, Some, None, Result}
 use Rattle.std.specs.Prelude.{IsOk, IsTrue}
 use Rattle.std.specs.Bool.{MatchBool}

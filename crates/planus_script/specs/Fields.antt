@@ -11,8 +11,7 @@ use Rattle.planus_script.specs.declared.fields.FieldKind.TheVariants.{Number, Re
 use Rattle.planus_script.specs.declared.script.ReadFault.{ReadFault}
 use Rattle.planus_script.specs.declared.script.ReadFault.TheVariants.{BadField}
 
--- the kind of a field: numbers of 1, 2, 4 or 8 bytes, references, and the tags and the references
--- of union vectors
+-- the kind of this name: numbers of 1, 2, 4 or 8 bytes, references, a union vector's two parts
 abbrev pub kind_of : List ℕ → Option FieldKind
 kind_of word =
     if bytes_eq word (codes "u8") then Some (Number 1)
@@ -57,8 +56,7 @@ abbrev pub field_cut : Option (List ℕ × List ℕ) → Result Field ReadFault
 field_cut None = Err BadField
 field_cut (Some parts) = field_behind parts.0 (cut_at 58 parts.1)
 
--- The field of a word such as `3=u16:24` or `0=ref:1`, or the first error: of its form, of the
--- slot's number, of the number after its `:`.
+-- the field of a word such as `3=u16:24` or `0=ref:1`, or the first error of its parts
 abbrev pub field_of : List ℕ → Result Field ReadFault
 field_of word = field_cut (cut_at 61 word)
 

@@ -17,8 +17,7 @@ LeavesUnwritten Write before after = ⊤
 LeavesUnwritten Read before after = Keeps before after
 LeavesUnwritten OutOfMemory before after = Keeps before after
 
--- The number of bytes read before this error. No read can fail after one byte more than the longest
--- script, and memory is taken for bytes that were read.
+-- the number of bytes read before this error, at most one more than the longest script
 abbrev pub FailsAt : RunError → ℕ → Type 0
 FailsAt Read count = count ≤ greatest_script
 FailsAt OutOfMemory count = (0 < count) × (count ≤ greatest_script + 1)

@@ -20,8 +20,7 @@ abbrev pub union_cut : Option (List ℕ × List ℕ) → Result (ℕ × ℕ) Rea
 union_cut None = Err BadField
 union_cut (Some parts) = union_tagged (number_of parts.0) parts.1
 
--- The union of a word such as `1:0`: its tag, and the number of its value's step. Or the first
--- error: of its form, of the tag, of the number after its `:`.
+-- the union of a word such as `1:0`, its tag and its value's step, or the first error
 abbrev pub union_of : List ℕ → Result (ℕ × ℕ) ReadFault
 union_of word = union_cut (cut_at 58 word)
 

@@ -14,8 +14,7 @@ pub record AreRanges (R : List (ℕ × ℕ)) (Holds : ℕ → Type 0) (range : �
   pub there : (i : ℕ) → Holds i → slice_get R i ≡ Some (range i)
   pub no_other : (i : ℕ) (r : ℕ × ℕ) → slice_get R i ≡ Some r → Holds i
 
--- The ranges of n positions for a size c above 0, by the table: for each kind, the condition of
--- range i and range i.
+-- the table, for n positions and a size c above 0: each kind's condition of range i, and range i
 pub record RangesOfTable (n c : ℕ) : Type 0 where
   pub chunks_are : AreRanges (chunks n c) (λ i. i * c < n) (chunk n c)
   pub rchunks_are : AreRanges (rchunks n c) (λ i. i * c < n) (rchunk n c)
@@ -35,8 +34,7 @@ abbrev pub EndsAddUp : Type 0
 EndsAddUp =
     (R : List (ℕ × ℕ)) (a b c d : ℕ) → ends (ends R a b) c d ≡ ends R (a + c) (b + d)
 
--- What is left of R after a steps from the front and b from the back: at first all of it; each step
--- takes the first or last range left; and some may be dropped at either end.
+-- what is left of R after a steps from the front and b from the back, step by step
 pub record StepsOfEnds (R : List (ℕ × ℕ)) (a b : ℕ) : Type 0 where
   pub all : ends R 0 0 ≡ R
   pub first :
@@ -52,8 +50,7 @@ pub record StepsOfEnds (R : List (ℕ × ℕ)) (a b : ℕ) : Type 0 where
 abbrev pub EndsStep : Type 0
 EndsStep = (R : List (ℕ × ℕ)) (a b : ℕ) → StepsOfEnds R a b
 
--- The same number, signed number and bool is at f of S and at g of R, or none at both; a string is
--- read alike at both, or with errors of the same kind.
+-- the same numbers and bools are at f of S and at g of R, and the same string or kind of error
 pub record SameItems (S : List ℕ) (f : ℕ) (R : List ℕ) (g : ℕ) : Type 0 where
   pub numbers : (width : Width) (x : ℕ) → NumberThere S f width x ↔ NumberThere R g width x
   pub signed : (width : Width) (x : ℤ) → SignedThere S f width x ↔ SignedThere R g width x

@@ -1,5 +1,4 @@
--- The ranges into which n positions are cut for a size c above 0, each from its first position up
--- to its second.
+-- The ranges, first position up to second, into which n positions are cut for a size c above 0.
 use Rattle.std.specs.Prelude.{ℕ, ◌+◌, ◌-◌, ◌*◌, ◌%◌, min, Bool, nat_lt, nat_le}
 use Rattle.std.specs.Prelude.{List, map, length, take, drop}
 use Rattle.std.specs.List.{filter, range_with_len}

@@ -33,8 +33,7 @@ module _ {V C : Type 0} {view : ViewGhosts V} {cut : CutGhosts C} where
     pub whole : whole_of t ≡ whole_of s
     pub size : size_of t ≡ size_of s
 
-  -- A step from the front takes the sub-view at the first range left; with none left nothing
-  -- changes.
+  -- a step from the front takes the sub-view at the first range left, if any
   abbrev pub TakesFirst : SubViews V C view cut → Option V → SubViews V C view cut → Type 0
   TakesFirst s None t = (left_of s ≡ []) × (t ≡ s)
   TakesFirst s (Some u) t =

@@ -13,8 +13,7 @@ use Rattle.planus_view.specs.declared.vector_of.VectorOf.{VectorOf}
 use Rattle.planus_view.specs.VectorView.{view_of, ShowsVector}
 
 module _ {T S : Type 0} (kind : PlainGhosts S) where
-  -- The vector of these items at k of B: it begins after the count, has their count, and returns
-  -- each.
+  -- the vector of these items at k of B: it begins after the count, and returns each
   pub record IsVectorOf
       {X : Type 0} (ItemReads : ℕ → ℕ → X → Type 0) (B : List ℕ) (k : ℕ) (items : List X)
       (v : VectorOf (SliceView T S kind)) : Type 0 where
@@ -25,8 +24,7 @@ module _ {T S : Type 0} (kind : PlainGhosts S) where
         → ItemReads (k + 4) (i * kind.SIZE) item
 
 module _ (T : Type 0) {S : Type 0} (kind : PlainGhosts S) where
-  -- The value at k of B is returned as its vector by each reference to it, in each slice of B that
-  -- begins no further on than the reference.
+  -- the value at k of B is returned as its vector by each reference to it, in each slice with that
   abbrev pub IsReturnedAsVector :
       {X : Type 0} → (List ℕ → ℕ → ℕ → X → Type 0) → (List X → Value) → Type 0
   IsReturnedAsVector {X} ItemReads list =

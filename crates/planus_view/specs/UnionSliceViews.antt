@@ -1,5 +1,4 @@
--- Views of unions whose tags follow one another in one slice of a buffer, and their references in
--- another.
+-- Views of unions, with tags in one slice of a buffer and references in another.
 use Rattle.std.specs.Prelude.{ℕ, ◌*◌, List, slice_index, Result}
 use Rattle.planus_read.specs.Converted.{Converted}
 use Rattle.planus_read.specs.Located.{Located}
@@ -26,8 +25,7 @@ union_count v = (union_view v).count
 abbrev pub IsSubUnions : {T E : _} → UnionSliceView T E → ℕ → ℕ → UnionSliceView T E → Type 0
 IsSubUnions v lo hi u = IsSubView (union_view v) lo hi (union_view u)
 
--- r may be returned for the item at the position: a result of the union's type for its tag and
--- reference, the error at the start of the references, under these names, as it is returned
+-- r may be returned for the item at the position, an error being at the start of the references
 abbrev pub IsUnionOf :
     {T E : _} {A B : Type 0} → (List ℕ → ℕ → ℕ → ℕ → Result A ErrorKind → Type 0) → List ℕ
     → List ℕ → (Error → B → Type 0) → UnionSliceView T E → ℕ → Result A B → Type 0

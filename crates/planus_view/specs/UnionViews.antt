@@ -1,5 +1,5 @@
--- A view of unions: the tags from the first item on, one byte each; the references, 4 bytes each,
--- and their start in the buffer; and the count.
+-- A view of unions: tags of one byte, references of 4 bytes with their start in the buffer, the
+-- count.
 use Rattle.std.specs.Prelude.{◌≡◌, ℕ, ◌+◌, ◌-◌, ◌*◌, ◌≤◌, List, drop}
 use Rattle.std.proofs.Common.{arith, ap, refl, ◌∙◌}
 use Rattle.std.proofs.lemmas.List.{drop-drop}
@@ -11,8 +11,7 @@ pub record UnionView : Type 0 where
   pub start : ℕ
   pub count : ℕ
 
--- The positions lo up to hi of a view of unions: its tags begin at tag lo and its references at
--- reference lo, and both go on to the end.
+-- the positions lo up to hi of a view of unions: from tag lo and reference lo on to the end
 abbrev pub sub_view : UnionView → ℕ → ℕ → UnionView
 sub_view v lo hi =
     record {

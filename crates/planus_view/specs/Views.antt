@@ -6,8 +6,7 @@ pub record View : Type 0 where
   pub start : ℕ
   pub count : ℕ
 
--- The positions lo up to hi of a view of items of this stride: its bytes begin at item lo, and go
--- on to the end.
+-- the positions lo up to hi of a view of items of this stride: from item lo on to the end
 abbrev pub sub_view : ℕ → View → ℕ → ℕ → View
 sub_view stride v lo hi =
     record {

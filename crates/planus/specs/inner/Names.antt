@@ -37,8 +37,7 @@ listed_from n (None ∷ rest) = listed_from (n + 1) rest
 listed_from n (Some named ∷ rest) =
     record { step = n; named = named } ∷ listed_from (n + 1) rest
 
--- what the step of a number wrote, if after the last clear; steps since are numbered from `first`
--- on
+-- what the step of a number wrote, by what the steps from `first`, the last clear, on wrote
 abbrev pub written_at : ℕ → List (Option Named) → ℕ → Option (Option Named)
 written_at first since step = if nat_lt step first then None else slice_get since (step - first)
 

@@ -125,8 +125,7 @@ AllWrote (step ∷ steps) (name ∷ rest) = Wrote step name × AllWrote steps re
 AllWrote [] (name ∷ rest) = ⊥
 AllWrote (step ∷ steps) [] = ⊥
 
--- The replay has taken these steps: it counts from the last clear, and knows what each step since
--- then wrote.
+-- the replay has taken these steps: what each since the last clear wrote
 pub record HasTaken (replay : ReplayState) (steps : List Step) : Type 0 where
   pub counted : replay.first + length replay.offsets.items ≡ length steps
   pub behind_clear : (replay.first ≡ 0) ⊎ (slice_get steps (replay.first - 1) ≡ Some clear)
