@@ -30,9 +30,8 @@ pub fn kept_tables_stay()
     ensures { KeptTablesStay }
 {}
 
-/// A stored table is encoded in what any finish gives, whatever its root. For a size-prefixed
-/// finish that is all bytes, and those after the size, which
-/// [`read_size_prefixed`](planus_read::read_size_prefixed) returns.
+/// A stored table is encoded in what any finish gives, whatever its root; for a size-prefixed
+/// finish, also in the bytes after the size.
 pub fn finishes_keep_tables<T, X: WriteAsOffset<T>>()
     ensures root_first { FinishesKeepTables X.may X.outcome }
     ensures size_first { SizedFinishesKeepTables X.may X.outcome }
@@ -49,16 +48,15 @@ pub fn sized_finished_tables_stand<T>()
     ensures { SizedFinishedTablesStand T }
 {}
 
-/// An encoded table is read by any reference to it, as the root, as an item of a vector or as a
-/// union, with all its contents: each slot holds its content, or nothing.
+/// An encoded table is read by any reference to it, as the root, an item or a union, with all its
+/// contents.
 pub fn views_read_back<K>()
     ensures root { RootsReadBack K }
     ensures item { ItemsReadBack K }
     ensures reference { ReferencesReadBack K }
 {}
 
-/// An item of a vector of values of a fixed layout, whose read may fail, is returned by `get` as
-/// the value at its index.
+/// An item of a fixed layout, whose read may fail, is returned by `get` as the value at its index.
 pub fn plain_values_read_back<T: Plain>()
     ensures { PlainResultsReadBack T.Plain }
 {}
@@ -75,24 +73,21 @@ pub fn an_answer_is_there()
     ensures { AnAnswerIsThere }
 {}
 
-/// Every finish of every run names equal strings by one distance where these are written once, and
-/// likewise byte vectors. Equal contents of every kind, vtables too, get one distance from one
-/// clear to the next.
+/// Every finish of every run names equal strings by one distance where these are written once; so
+/// for byte vectors. Equal contents of every kind get one distance from one clear to the next.
 pub fn equal_contents_have_one_distance()
     ensures places { EqualContentsHaveOneDistance }
     ensures entries { EqualEntriesGetOneDistance }
 {}
 
 /// Two runs of the same steps have the same trees in their finishes, whatever their cache settings:
-/// they list the values of the same steps, in the same order, equal but for their distances, which
-/// lead to the same steps.
+/// the same values in the same order, equal but for their distances, which lead to the same steps.
 pub fn trees_are_the_same()
     ensures { TreesAreTheSame }
 {}
 
 /// A size-prefixed finish is read with exactly its bytes, whatever follows, and every value reads
-/// back in the slice returned, the root by its first reference. So a stream of finishes is read one
-/// by one.
+/// back. So a stream of finishes is read one by one.
 pub fn sized_finishes_are_read()
     ensures one { SizedFinishesAreRead }
     ensures stream { SizedStreamsAreRead }

@@ -11,9 +11,8 @@ pub enum Step {
     Numbers { width: u8, items: Vec<u64> },
     /// A vector of references to the values of earlier steps, by their numbers from 0.
     Refs(Vec<usize>),
-    /// A union vector: for each union the tag of its variant, above 0, and the number from 0 of the
-    /// earlier step that is its value. Only [`FieldValue::Tags`] and [`FieldValue::Values`] name
-    /// it, since in the format it is two vectors, of tags and of references.
+    /// A union vector: for each union its tag, above 0, and the number from 0 of the earlier step
+    /// that is its value. Only [`FieldValue::Tags`] and [`FieldValue::Values`] name it.
     Unions(Vec<(u8, usize)>),
     /// A table of fields, in the order in which they are declared and written. No alignment may be
     /// above that of the field before.
@@ -21,8 +20,7 @@ pub enum Step {
     /// A finish of the buffer: its root is the value of an earlier step, by its number from 0; `id`
     /// is the file identifier.
     Finish { root: usize, id: Option<[u8; 4]> },
-    /// The same, size-prefixed: a number of 4 bytes before the buffer, the number of bytes that
-    /// follow.
+    /// The same, size-prefixed: before the buffer, the number of its bytes in 4 bytes.
     FinishSized { root: usize, id: Option<[u8; 4]> },
     /// Discards all that was written; later steps can't name what came before.
     Clear,

@@ -118,9 +118,8 @@ fn tell<W: Write>(errors: &mut W, words: &str) -> bool
     words.is_empty() || write_out(errors, words.as_bytes()).is_ok()
 }
 
-/// Runs in the mode of the program's arguments, as [`run_mode`]; nothing is read before they are
-/// known. [`RunError::OutOfMemory`] also where there is no memory for them. Then prints the error,
-/// or the usage for unknown arguments, to `errors`.
+/// Runs in the mode of the program's arguments, as [`run_mode`], and prints an error, or the usage
+/// for unknown arguments, to `errors`. Without memory for the arguments nothing is read.
 pub fn run_program<E: Env + AllocGlobal, R: Read, W: Write, X: Write>(
     env: &E,
     reader: &mut R,

@@ -60,8 +60,7 @@ impl From<AllocError> for DumpError {
 /// Returns the lines of the tables that are reached from the root of a buffer, which begins with
 /// the reference to it. The path of the root is `root`. An error in the bytes is a line of its own.
 ///
-/// Time and memory are linear in the budget and the bytes, however often a table is referred to; a
-/// test shows that, no contract.
+/// Time and memory are linear in the budget and the bytes, as a test shows.
 pub fn dump(
     alloc: Global,
     schema: &Schema,

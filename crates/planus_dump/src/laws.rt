@@ -16,9 +16,8 @@ pub fn fault_lines_are_told()
     ensures paths { PathsHaveNoSpace }
 {}
 
-/// What a run finished dumps without an error line, if the schema fits what its root's step wrote,
-/// and so on for what that refers to. For a size-prefixed finish this holds for the bytes after the
-/// size.
+/// What a run finished dumps without an error line, if the schema fits what its root's step wrote;
+/// for a size-prefixed finish, the bytes after the size do.
 pub fn finishes_have_no_fault()
     ensures events { FinishesHaveNoFault }
     ensures lines { DumpsHaveNoFault }
@@ -36,9 +35,8 @@ pub fn unions_are_said()
     ensures vectors { (table : reader.Table) (i : ℕ) → UnionVectorsAreSaid table i }
 {}
 
-/// The schema of the worked rows fits the steps that write a weapon and a monster; the schema of
-/// weapons doesn't fit a weapon whose damage has 4 bytes, one whose name is a byte vector, or that
-/// monster.
+/// The schema of the worked rows fits the steps of a weapon and a monster; the schema of weapons
+/// doesn't fit a damage of 4 bytes, a name that is a byte vector, or that monster.
 pub fn worked_rows_fit()
     ensures { (one : schema.Schema) → WorkedRowsFit one }
 {}

@@ -19,9 +19,8 @@ pub type UnknownEnumTag = located::UnknownEnumTag<'static>;
 /// What can be wrong with bytes that are read.
 #[derive(Clone, Copy, Debug, PartialEq, Eq)]
 pub enum ErrorKind {
-    /// A reference leads past the end of the slice that is read, a number isn't wholly in the
-    /// slice, or a vtable would begin before it. Also where exactly one slot of a union vector
-    /// holds 0.
+    /// A reference leads past the end of the slice, a number isn't wholly in the slice, or a vtable
+    /// would begin before it. Also where exactly one slot of a union vector holds 0.
     InvalidOffset,
     /// The items of a vector, or the slots of a vtable, pass the end of the slice that is read.
     /// Also where a size-prefixed buffer is shorter than its size.

@@ -10,9 +10,8 @@ use crate::errors::ErrorKind;
 use crate::slice_helpers::SliceWithStartOffset;
 use crate::traits::TableRead;
 
-/// Returns the bytes from the first item on of the vector to which the reference at the offset
-/// leads, and its count. The items aren't tested. [`ErrorKind::InvalidOffset`] where the reference,
-/// its target or the count isn't in the slice.
+/// Returns the bytes from the first item on of the vector at a reference, and its count.
+/// [`ErrorKind::InvalidOffset`] where the reference, its target or the count isn't in the slice.
 pub fn array_from_buffer<'buf>(
     buffer: SliceWithStartOffset<'buf>,
     offset: usize,

@@ -80,9 +80,8 @@ pub fn readers_show_values()
     ensures size_prefixed { (B : List ℕ) → IsShown (prefixed_reading B) ShowsPrefixed }
 {}
 
-/// A stream of size-prefixed buffers is read one by one, each with exactly its bytes. A buffer cut
-/// off after its size fails with
-/// [`ErrorKind::InvalidLength`](crate::errors::ErrorKind::InvalidLength).
+/// A stream of size-prefixed buffers is read one by one, each with exactly its bytes. One that is
+/// cut off after its size fails with [`InvalidLength`](crate::errors::ErrorKind::InvalidLength).
 pub fn streams_are_read()
     ensures first { BuffersAreRead }
     ensures read { StreamsRead }
@@ -106,9 +105,8 @@ pub fn items_stand()
     ensures unions { UnionItemsStand }
 {}
 
-/// An encoded field is read as its value, in each slice of the bytes that begins no further on: a
-/// plain item as the number or bool of its bytes, a reference as the place from which reading goes
-/// on.
+/// An encoded field is read as its value, in each slice that begins no further on: a plain item as
+/// the number or bool of its bytes, a reference as the place from which reading goes on.
 pub fn fields_read_back()
     ensures { FieldsReadBack }
 {}
@@ -119,16 +117,14 @@ pub fn what_stands_reads_back()
     ensures { WhatStandsReadsBack }
 {}
 
-/// `access` and `access_required` return the fields of a table that was written: what `T` returns
-/// where the slot's field is encoded, else `None` and `MissingRequired`, also past the vtable's
-/// end.
+/// `access` and `access_required` return the fields of a table that was written: what `T` returns,
+/// or for an absent field, also past the vtable's end, `None` and `MissingRequired`.
 pub fn fields_are_answered<'buf, T: TableRead<'buf>>()
     ensures { FieldsRead T.reads }
 {}
 
 /// `access_union` and `access_union_required` return the unions of a table that was written: what
-/// `T` returns for the tag where the reference is encoded, and for two unused slots `None` and
-/// `MissingRequired`.
+/// `T` returns for the tag, or for two unused slots `None` and `MissingRequired`.
 pub fn unions_are_answered<'buf, T: TableReadUnion<'buf>>()
     ensures { UnionsRead T.reads }
 {}

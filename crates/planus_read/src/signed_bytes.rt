@@ -36,7 +36,7 @@ impl<'buf> SignedBytes<'buf> {
         self.bytes.is_empty()
     }
 
-    /// Returns the signed byte at an index, or `None` for an index out of bounds.
+    /// Returns the signed byte at an index, or `None` out of bounds.
     #[inline]
     pub fn get(&self, index: usize) -> Option<i8>
         ensures { result ≡ signed_item (signed_bytes self.now) index }

@@ -9,9 +9,8 @@ use crate::errors::ErrorKind;
 use crate::slice_helpers::SliceWithStartOffset;
 use crate::traits::TableRead;
 
-/// Returns the first of these size-prefixed buffers, and the bytes after it. A buffer is preceded
-/// by its size, a number of 4 bytes; the slice returned starts at 4, with the reference to the
-/// root.
+/// Returns the first of these size-prefixed buffers, and the bytes after it. Before each buffer is
+/// its size in 4 bytes; the slice returned starts at 4, with the reference to the root.
 ///
 /// [`ErrorKind::InvalidOffset`] where there are fewer than 4 bytes, then
 /// [`ErrorKind::InvalidLength`] where fewer bytes than the size follow.

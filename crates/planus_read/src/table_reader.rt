@@ -80,10 +80,10 @@ impl<'buf> Table<'buf> {
     ghost use Rattle.planus_read.specs.Tables.{FieldAnswer, UnionAnswer, UnionVectorAnswer};
     ghost use Rattle.planus_read.specs.Tables.{UnionThere, UnionAbsent, UnionBroken};
 
-    /// Returns the table to which the reference at the offset leads, in bytes from the start of the
-    /// slice. Its vtable may be anywhere in the slice. [`ErrorKind::InvalidOffset`] where a number
+    /// Returns the table to which the reference at the offset leads, in bytes from the slice's
+    /// start. Its vtable may be anywhere in the slice. [`ErrorKind::InvalidOffset`] where a number
     /// or the table is outside, or the vtable would begin before the slice;
-    /// [`ErrorKind::InvalidVtableLength`] for a vtable whose size is odd or below 4;
+    /// [`ErrorKind::InvalidVtableLength`] for an odd size of the vtable or one below 4;
     /// [`ErrorKind::InvalidLength`] where the vtable passes the end.
     pub fn from_buffer(buffer: SliceWithStartOffset<'buf>, offset: usize) -> Result<Self, ErrorKind>
         ensures { let S = slice_bytes buffer.entry in let start = slice_start buffer.entry in
@@ -247,11 +247,11 @@ impl<'buf> Table<'buf> {
         self.located(answer, type_, method)
     }
 
-    /// Returns the union whose tag is at the distance in a slot and whose reference at that in the
-    /// next, or `None` where the tag or a slot is 0 or the vtable ends before both. The tag is read
-    /// first: [`ErrorKind::InvalidOffset`] where it isn't in the buffer.
-    /// [`ErrorKind::InvalidVtableLength`] where the vtable ends between the two slots. Then the
-    /// errors of `T`. Every error has the location of this table under these names.
+    /// Returns the union of a slot, for its tag, and the next, for its reference, or `None` where
+    /// the tag or a slot is 0 or the vtable ends before both. [`ErrorKind::InvalidOffset`] where
+    /// the tag, which is read first, isn't in the buffer; [`ErrorKind::InvalidVtableLength`] where
+    /// the vtable ends between the two slots; then the errors of `T`. All are at the location of
+    /// this table under these names.
     pub fn access_union<'n, T: TableReadUnion<'buf>>(
         &self,
         slot: usize,
@@ -279,10 +279,10 @@ impl<'buf> Table<'buf> {
         self.located(answer, type_, method)
     }
 
-    /// Returns the union vector whose reference to its tags is at the distance in a slot and whose
-    /// reference to its values at that in the next, or `None` where both slots are 0 or aren't both
-    /// in the vtable. [`ErrorKind::InvalidOffset`] where exactly one of them is 0, then the errors
-    /// of `T`. Every error has the location of this table under these names.
+    /// Returns the union vector of a slot, for its tags, and the next, for its values, or `None`
+    /// where both slots are 0 or aren't both in the vtable. [`ErrorKind::InvalidOffset`] where
+    /// exactly one is 0; then the errors of `T`. All are at the location of this table under these
+    /// names.
     pub fn access_union_vector<'n, T: TableReadUnionVector<'buf>>(
         &self,
         slot: usize,

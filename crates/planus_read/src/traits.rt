@@ -62,9 +62,8 @@ pub trait TableRead<'buf>: Sized {
         ensures { reads (slice_bytes buffer.entry) (slice_start buffer.entry) offset result };
 }
 
-/// What can be read as a union field of a table. The errors are those of the variants' own reads,
-/// and [`ErrorKind::UnknownUnionTag`] for an unknown tag; [`crate::TaggedPlace`] takes every tag
-/// and has no error.
+/// What can be read as a union field of a table. The errors are those of the variants, and
+/// [`ErrorKind::UnknownUnionTag`] for an unknown tag; [`crate::TaggedPlace`] takes every tag.
 pub trait TableReadUnion<'buf>: Sized {
     /// The results for a slice of these bytes and this start, with this tag at this offset.
     ghost reads: { List ℕ → ℕ → ℕ → ℕ → std_result Self ErrorKind → Type 0 };
@@ -116,7 +115,8 @@ pub trait VectorRead<'buf>: Stride {
     /// The results for a slice of these bytes and this start, at this offset.
     ghost gives: { List ℕ → ℕ → ℕ → Self → Type 0 };
 
-    /// Returns the item at the offset, in bytes from the start of the slice, which has all of it.
+    /// Returns the item at the offset, in bytes from the start of the slice, which must have all of
+    /// it.
     fn from_buffer(buffer: SliceWithStartOffset<'buf>, offset: usize) -> Self
         requires { offset + Self.Stands.SIZE ≤ length (slice_bytes buffer) }
         ensures { gives (slice_bytes buffer.entry) (slice_start buffer.entry) offset result };
@@ -129,14 +129,14 @@ pub trait ReadError {
 }
 
 /// What can be read as an item of a vector, and may fail. Its errors are those of a field of its
-/// type, at the start of the slice: a `&str` under the names `[str]` and `get`, a value of a fixed
-/// layout under `[plain]` and `get`.
+/// type, at the slice's start, for a `&str` under the names `[str]` and `get`, for a fixed layout
+/// under `[plain]`.
 pub trait VectorReadInner<'buf>: Stride + ReadError {
     /// The results for a slice of these bytes and this start, at this offset.
     ghost gives: { List ℕ → ℕ → ℕ → std_result Self Self.Error → Type 0 };
 
-    /// Returns the item at the offset, in bytes from the start of the slice, which has all of it,
-    /// but not necessarily what it refers to.
+    /// Returns the item at the offset, in bytes from the start of the slice, which must have all of
+    /// it, but not what it refers to.
     fn from_buffer(
         buffer: SliceWithStartOffset<'buf>,
         offset: usize,
@@ -155,8 +155,8 @@ pub trait VectorReadUnion<'buf>: TableReadUnion<'buf> {
         ensures { result.now ≡ name };
 
     /// Returns the union with this tag whose reference is at the offset, in bytes from the slice's
-    /// start. Its errors are those of the [`TableReadUnion`], at the slice's start under the
-    /// vector's name and `get`.
+    /// start. The errors of [`TableReadUnion`] are at the slice's start under the vector's name and
+    /// `get`.
     final fn from_buffer<'n>(
         buffer: SliceWithStartOffset<'buf>,
         tag: u8,

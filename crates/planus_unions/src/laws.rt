@@ -2,9 +2,8 @@
 
 ghost use Rattle.planus_unions.specs.ReadBack.{UnionVectorsReadBack};
 
-/// A union vector to which two references lead is returned with its items, in each slice of the
-/// bytes that begins no further on than the references: each item has its tag, and its reference,
-/// from which reading goes on.
+/// A union vector to which two references lead is returned with its items, in each slice with both:
+/// each has its tag, and its reference, from which reading goes on.
 pub fn union_vectors_read_back<T, E>()
     ensures { UnionVectorsReadBack T E }
 {}

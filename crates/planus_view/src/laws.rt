@@ -19,16 +19,14 @@ pub fn ends_add_up()
     ensures steps { EndsStep }
 {}
 
-/// Item i of a sub-view from `lo` on is item `lo + i` of the view, for numbers, bools and strings;
-/// the errors of a string have equal kinds. So `get(i)` returns item i of `iter`, except for the
-/// offset in an error.
+/// Item i of a sub-view from `lo` on is item `lo + i` of the view, for numbers, bools and strings, up
+/// to the offset in an error. So `get(i)` returns item i of `iter`.
 pub fn sub_views_have_the_items()
     ensures { ItemsOfSubViews }
 {}
 
 /// An encoded vector to which a reference leads is returned as the vector of its items, in each
-/// slice of the bytes that begins no further on than the reference: plain items, or references,
-/// each of which reads back.
+/// slice with the reference: plain items, or references, each of which reads back.
 pub fn lists_read_back<T: Stride>()
     ensures plain { PlainListsReadBack T T.Stands.Plain }
     ensures references { ReferenceListsReadBack T T.Stands.Plain }

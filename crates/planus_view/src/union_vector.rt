@@ -13,9 +13,9 @@ use planus_read::{SliceWithStartOffset, TableReadUnionVector, VectorReadUnion, a
 use std::alloc::AllocError;
 use std::marker::PhantomData;
 
-/// A view of the items of a union vector, which are read when they are asked for; each is a
-/// [`planus_read::Result`]. In the format it is two vectors of equal count: tags of one byte, and
-/// references of 4 bytes.
+/// A view of the items of a union vector, each a [`planus_read::Result`], read when they are asked
+/// for. In the format it is two vectors of equal count: tags of one byte, and references of 4
+/// bytes.
 pub type UnionVector<'buf, T> = VectorOf<UnionSliceView<'buf, T, AsRead>>;
 
 /// A view of unions whose tags follow one another in one slice of a buffer, and their references in

@@ -141,9 +141,9 @@ impl<'buf, T: VectorReadInner<'buf> + Drop, E: From<T::Error> + Into<Error> + Dr
     ghost use Rattle.planus_view.specs.VectorView.{count_of};
     ghost use Rattle.planus_view.specs.Vectors.{IsSubVector, IsItemIn};
 
-    /// Returns the values of all items, converted in order, or the first error: of a conversion, or
-    /// [`CopyError::Read`] for an item that can't be read. Memory is allocated once, before the
-    /// first read: [`CopyError::OutOfMemory`] where that fails.
+    /// Returns the values of all items, converted in order, or the first error: of a conversion,
+    /// [`CopyError::Read`] for an item, or [`CopyError::OutOfMemory`]. Memory is allocated once,
+    /// first.
     pub fn to_vec_result<'n, O: FromItem<T> + Drop>(
         &self,
         alloc: Global,

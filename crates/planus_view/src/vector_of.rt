@@ -249,9 +249,9 @@ where
     ghost use Rattle.planus_view.specs.Copies.{AreAllConverted, IsRefusal};
     ghost use Rattle.planus_view.specs.Vectors.{count_in, IsSubVector, IsItemIn};
 
-    /// Returns all items, converted in order, or the first error: of a conversion, or, in a union
-    /// vector, [`CopyError::Read`] for an item that can't be read. Memory is allocated once, before
-    /// the first read: [`CopyError::OutOfMemory`] where that fails.
+    /// Returns all items, converted in order, or the first error: of a conversion, in a union
+    /// vector [`CopyError::Read`] for an item, or [`CopyError::OutOfMemory`]. Memory is allocated
+    /// once, first.
     pub fn to_vec<'n, O: Drop>(&self, alloc: Global) -> Result<Vec<O>, CopyError<'n>>
     where
         V::Copied: Conversion<V::Item, O>,

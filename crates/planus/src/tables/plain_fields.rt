@@ -12,8 +12,7 @@ use planus_read::{Plain, PlainTotal, Stride};
 use planus_view::Vector;
 
 /// Returns the field of a fixed layout in a slot, or `None` where it is absent: `Table::access`,
-/// with a contract that states what is read back, so that an accessor needs one clause and no proof
-/// file. The names are those of the type and of the accessor, for errors.
+/// with a contract for accessors, which then need no proof file. The names are those in errors.
 pub fn plain_field<'n, T: Plain>(
     table: &Table<'_>,
     slot: usize,
@@ -78,8 +77,7 @@ pub fn plain_vector_required<'a, 'n, T: Stride + 'a>(
     table.access_required::<Vector<'a, T>>(slot, type_, method)
 }
 
-/// Returns the item at an index of a vector of values of a fixed layout, or `None` for an index out
-/// of bounds.
+/// Returns the item at an index of a vector of values of a fixed layout, or `None` out of bounds.
 pub fn plain_item<T: PlainTotal>(vector: &Vector<'_, T>, index: usize) -> Option<T>
     ensures item { GetsItem (λ v. count_of v) (λ v i x. (T.shape).There (view_of v).bytes (i * T.SIZE) x)
         vector.now index result }

@@ -25,9 +25,8 @@ pub trait PreparedFields {
 
     ghost reach: { Self → ℕ };
 
-    /// Declares the fields that are present, and nothing for any other slot. Requires that the
-    /// slots of all fields are in the vtable, apart and unused, and that the object has at most
-    /// 65535 bytes with all.
+    /// Declares the fields that are present, and no others. Requires that all slots are in the
+    /// vtable, apart and unused, and that the object has at most 65535 bytes with all fields.
     fn declare<W: TableWrite>(&self, writer: &mut W)
         requires small { W.room ≤ 65534 }
         requires slots { IsTrue (has_slots W.room all) }

@@ -39,9 +39,8 @@ pub trait Rest {
 
     ghost may: { Self → State → Type 0 };
 
-    /// Prepares the fields, one after another, and then writes the table of the fields prepared
-    /// before, of these, and of those that come last. The error is that of the first field that
-    /// fails, or else that of the table.
+    /// Prepares the fields, one after another, and then writes the table of all. The error is that
+    /// of the first field that fails, or else that of the table.
     fn write<T, W: TableWrite, B: PreparedFields, L: PreparedFields>(
         &self,
         builder: &mut Builder,

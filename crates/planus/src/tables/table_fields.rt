@@ -21,8 +21,7 @@ use planus_read::{Plain, ReadAsRoot, SliceWithStartOffset};
 use planus_view::Vector;
 
 /// Returns the view of the table in a slot, or `None` where it is absent: a [`TableRef`], or a
-/// user's own view. The contract states what is read back: the table that was written, with all its
-/// contents.
+/// user's own view. It has all contents of the table that was written.
 pub fn table_field<'a, 'n, V: TableView<'a>>(
     table: &Table<'a>,
     slot: usize,
@@ -88,8 +87,7 @@ fn viewed<'a, 'n, V: TableView<'a>>(
     }
 }
 
-/// Returns the view of an item that a vector of tables returned, as in `vector.get(index)`, with
-/// all its contents.
+/// Returns the view of an item, as `vector.get(index)` returned it, with all its contents.
 pub fn table_item<'a, 'n, V: TableView<'a>>(
     item: Option<Result<TableRef<'a, V::Kind>, Error<'n>>>,
 ) -> Option<Result<V, Error<'n>>>
@@ -103,8 +101,7 @@ pub fn table_item<'a, 'n, V: TableView<'a>>(
     }
 }
 
-/// Returns the view of the root of a whole buffer. If a finish gave it with a table as the root, it
-/// is the view of this table, with all its contents.
+/// Returns the view of the root of a whole buffer, with all contents of the table that was written.
 pub fn read_root<'a, 'n, V: TableView<'a>>(bytes: &'a [u8]) -> Result<V, Error<'n>>
     ensures { IsRoot V.Kind V.Kind.name V.table bytes.entry.now result }
 {

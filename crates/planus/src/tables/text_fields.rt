@@ -81,7 +81,7 @@ pub fn text_vector_required<'a, 'n>(
     table.access_required::<Vector<'a, planus_read::Result<&'a str>>>(slot, type_, method)
 }
 
-/// Returns the item at an index of a vector of strings, or `None` for an index out of bounds.
+/// Returns the item at an index of a vector of strings, or `None` out of bounds.
 pub fn text_item<'a>(
     vector: &Vector<'a, planus_read::Result<&'a str>>,
     index: usize,

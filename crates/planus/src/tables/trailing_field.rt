@@ -3,8 +3,8 @@
 use std::marker::PhantomData;
 
 /// A field like [`FieldAt`](crate::FieldAt), prepared in its order in the list but written after
-/// the fields of other types, with the tags of unions. So fields may be prepared in the order of
-/// their slots and yet come by falling alignment.
+/// the others, with the tags of unions. So fields in the order of their slots can come by falling
+/// alignment.
 #[derive(Drop)]
 pub struct TrailingField<const SLOT: usize, P, V> {
     /// The value that is written.

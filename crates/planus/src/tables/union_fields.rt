@@ -8,9 +8,8 @@ use planus_read::table_reader::Table;
 use planus_read::{TableReadUnion, VectorReadUnion};
 use planus_view::UnionVector;
 
-/// Returns the union whose tag is in a slot and whose value is in the next, or `None` where it is
-/// absent. `K` is the kind of its offsets. The contract states what is read back: the variant that
-/// was written.
+/// Returns the union, of offset kind `K`, whose tag is in a slot and whose value is in the next, or
+/// `None` where it is absent. It is the variant that was written.
 pub fn union_field<'a, 'n, K, U: TableReadUnion<'a>>(
     table: &Table<'a>,
     slot: usize,
@@ -59,7 +58,7 @@ pub fn union_vector_required<'a, 'n, U: 'a>(
     table.access_union_vector_required::<UnionVector<'a, U>>(slot, type_, method)
 }
 
-/// Returns the item at an index of a union vector, or `None` for an index out of bounds.
+/// Returns the item at an index of a union vector, or `None` out of bounds.
 pub fn union_item<'a, 'n, U: VectorReadUnion<'a>>(
     vector: &UnionVector<'a, U>,
     index: usize,

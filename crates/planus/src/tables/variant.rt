@@ -10,8 +10,8 @@ use planus_fields::{WriteAs, WriteAsOptionalUnion};
 use planus_write::{BuildError, Builder, Offset, UnionOffset, WriteAsUnion};
 use std::marker::PhantomData;
 
-/// A union with the tag `TAG`, which is above 0, and a value encoded as a `K`, which is written
-/// with the union unless it was written before. [`variant`](crate::variant) creates one.
+/// A union with the tag `TAG`, above 0, and a value encoded as a `K`, which is written with it
+/// unless it was written before. [`variant`](crate::variant) creates one.
 #[derive(Drop)]
 #[derive_where(Debug; V)]
 pub struct Variant<const TAG: u8, K, V> {
@@ -24,8 +24,7 @@ pub struct Variant<const TAG: u8, K, V> {
     ghost is_tagged: { 0 < TAG },
 }
 
-/// Creates a [`Variant`] from `TAG: KIND = VALUE`: its tag, the type as which its value is encoded,
-/// and the value.
+/// Creates a [`Variant`] from `TAG: KIND = VALUE`, where the value is encoded as the type `KIND`.
 #[macro_export]
 macro_rules! variant {
     ($tag:literal: $kind:ty = $value:expr) => {
