@@ -47,7 +47,7 @@ WritesContents contents old distance new =
     (past : Past) → IsPast old past
     → Comes past new (λ after. StillKept past after × TableIsKept after contents distance)
 
--- the contents of a union's tag field
+-- the contents of a union vector's two fields, tags and values
 abbrev pub tags_content : Option (Content × Content) → Option Content
 tags_content None = None
 tags_content (Some contents) = Some contents.0

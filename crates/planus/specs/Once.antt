@@ -25,8 +25,7 @@ AreOnce switches steps listed =
     → contents_at steps i ≡ Some contents → contents_at steps j ≡ Some contents
     → value_at listed i ≡ Some d → value_at listed j ≡ Some e → d ≡ e
 
--- Every finish of every run names equal strings by one distance, if their cache is on; so for
--- bytes.
+-- Every finish of every run names equal strings, or byte vectors, by one distance, if cached.
 abbrev pub EqualContentsHaveOneDistance : Type 0
 EqualContentsHaveOneDistance =
     (switches : Switches) (steps : List Step) (finished : List Finish) → Runs switches steps finished

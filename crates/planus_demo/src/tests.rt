@@ -45,14 +45,14 @@ fn answers<R: Read, W: Write>(
     }
 }
 
-// Also returns the number of bytes of the script that are left unread.
+// Returns the result, and the number of bytes of the script that are left unread.
 fn ran(alloc: Global, script: &[u8], printed: &mut Vec<u8>) -> (Result<bool, RunError>, usize) {
     let mut reader = script;
     let answer = run(alloc, &mut reader, printed);
     (answer, reader.len())
 }
 
-// Also tests the exit status.
+// Tests the exit status, too.
 fn prints(alloc: Global, script: &[u8], unread: usize, printed: &[u8], clean: bool) -> bool {
     let mut writer = Vec::new(alloc);
     let (answer, left) = ran(alloc, script, &mut writer);

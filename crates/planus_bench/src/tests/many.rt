@@ -127,7 +127,7 @@ fn are_found_again(
     }
 }
 
-// The same with all bits of a hash, and with none, so that all contents are compared.
+// With all bits of a hash, and with none, so that all contents are compared.
 fn each_mask_finds(rt: &impl Abort, alloc: Global, kind: Kind, want: [Stands; 2]) {
     for mask in [u64::MAX, 0] {
         let found = are_found_again(alloc, kind, mask, 5003, want);

@@ -118,7 +118,7 @@ enum Turn {
     NotApplied,
     // The call works.
     Made,
-    // It fails, leaves this number of bytes, and then works.
+    // The call fails, leaves this number of bytes, and then works.
     Refused(usize),
     Wrong,
 }
