@@ -19,8 +19,8 @@ pub fn ends_add_up()
     ensures steps { EndsStep }
 {}
 
-/// Item i of a sub-view from `lo` on is item `lo + i` of the view, for numbers, bools and strings, up
-/// to the offset in an error. So `get(i)` returns item i of `iter`.
+/// Item i of a sub-view from `lo` on is item `lo + i` of the view, for numbers, bools and strings,
+/// up to the offset in an error. So `get(i)` returns item i of `iter`.
 pub fn sub_views_have_the_items()
     ensures { ItemsOfSubViews }
 {}
