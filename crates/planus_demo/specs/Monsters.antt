@@ -12,8 +12,7 @@ use Rattle.planus.specs.Contents.{tag_content, tags_content, value_content, valu
 use Rattle.planus.specs.Preparing.{WritesFields}
 use Rattle.planus.specs.TableFields.{field_in, list_tags_in, list_values_in, union_tag_in, union_value_in}
 
--- a monster was written, its fields being prepared in the order of their slots, or there is an
--- error
+-- a monster was written, its fields being prepared by slot, or there is an error
 abbrev pub WritesMonster : {H N I W K T : Type 0} → Outcome (Option H) → (H → Field) → Outcome N
     → (N → Field) → Outcome (Option I) → (I → Field) → Outcome (Option W) → (W → Field)
     → Outcome (Option (UnionOffset K)) → Outcome (Option (UnionVectorOffset K))

@@ -35,7 +35,6 @@ impl<'a> Spot<'a> {
         self.start.wrapping_add(self.at)
     }
 
-    // Whether an error is of this kind, with these names and the start of the slice.
     pub fn is_error(&self, error: Located<'_>, kind: ErrorKind, names: (&str, &str)) -> bool {
         let location = error.source_location;
         same_kind(error.error_kind, kind)

@@ -45,7 +45,6 @@ fn equal_vtables(rt: HostRuntime) -> Result<(), Fail> {
     Ok(())
 }
 
-// The distances of a string, a byte vector and a table, or their errors.
 type Three = [Result<u32, BuildError>; 3];
 
 pub fn text_at(builder: &mut Builder, letters: &str) -> Result<u32, BuildError> {
@@ -118,7 +117,7 @@ fn is_refused(at: Result<u32, BuildError>) -> bool {
     at == Err(BuildError::OutOfMemory)
 }
 
-// Whether contents that would need memory for a cache fail, and earlier ones are found.
+// Contents that would need memory for a cache fail, and earlier ones are found.
 fn only_equal_contents_are_found(builder: &mut Builder, before: &[u8]) -> bool {
     let room = builder.room();
     is_refused(text_at(builder, "Hi"))
@@ -147,7 +146,6 @@ const IN_FRONT: &[u8] = b"\xf8\xff\xff\xff\x07\0\0\0\x08\0\x08\0\0\0\x04\0\
     \x02\0\0\0Hi\0\0\x02\0\0\0Hi\0\0\
     \x68\xfe\xff\xff\x07\0\0\0";
 
-// Whether what failed is written once there is memory, and then found.
 fn written_again(builder: &mut Builder, before: &[u8]) -> bool {
     are_at(write_three(builder, "Hi", true), [440, 448, 464])
         && have_others(builder, 464)

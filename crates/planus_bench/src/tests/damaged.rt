@@ -138,7 +138,6 @@ fn prefixes_agree(bytes: &[u8], slots: &[usize]) -> Result<(), (usize, usize)> {
     Ok(())
 }
 
-// The first byte and its new value at which readers disagree.
 fn changes_agree(bytes: &mut [u8], slots: &[usize]) -> Result<(), (usize, usize)> {
     for at in 0..bytes.len() {
         let byte = bytes[at];

@@ -18,7 +18,6 @@ pub struct Found<'a> {
     pub start: i128,
 }
 
-// The results of an accessor and of its required form.
 #[derive(Clone, Copy)]
 struct Both<T> {
     read: Answer<Option<T>>,
@@ -59,7 +58,6 @@ impl<'a> Found<'a> {
         }
     }
 
-    // A result without its error's location, where that is the table's.
     fn unlocated<T>(&self, read: Result<T, Located<'_>>) -> Option<Answer<T>> {
         match read {
             Ok(value) => Some(Ok(value)),

@@ -172,7 +172,6 @@ fn sub_view_agrees<V: Numbered, C: Cut>(
     is_taken(got, want) && ours.size_hint() == (after.len(), Some(after.len()))
 }
 
-// Whether five steps, each of one of four kinds, and the last one agree.
 fn sub_views_agree<V: Numbered, C: Cut>(
     mut ours: SubViews<V, C>,
     mut left: Left,
@@ -218,7 +217,6 @@ fn is_number<V: Numbered>(item: Option<V::Item>, range: Option<Positions>) -> bo
     }
 }
 
-// Whether all words of five steps agree, and the count of ranges.
 fn cuts_agree<V: Numbered, C: Cut>(view: V, way: Way, size: usize) -> bool
     requires { 0 < size }
 {

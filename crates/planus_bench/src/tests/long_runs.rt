@@ -120,7 +120,6 @@ fn gives(alloc: Global, caches: Caches, steps: &[Step], want: &[Finished]) -> bo
     }
 }
 
-// Whether replays with none, some or all bits of a hash give what a plain run gives.
 fn replays_agree(alloc: Global, steps: &[Step]) -> Result<bool, Fail> {
     let switches = Switches::of(7);
     let want = plain_run(alloc, switches, steps)?;

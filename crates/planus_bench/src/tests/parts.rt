@@ -286,7 +286,6 @@ fn random_bytes(alloc: Global, numbers: &mut Numbers) -> Result<Vec<u8>, AllocEr
     Ok(bytes)
 }
 
-// Whether the parts and the root are in the finished bytes, and the root's word leads to it.
 fn all_stand(bytes: &[u8], parts: &[Written], root: &[u8], distance: usize) -> bool {
     for part in parts {
         if !stands(bytes, *part) {

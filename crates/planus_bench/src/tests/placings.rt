@@ -19,7 +19,6 @@ fn part_of(number: usize) -> Part {
 
 type Places = [usize; 3];
 
-// The places of three parts, one before another, with these paddings after them.
 fn places(parts: &[Part; 3], paddings: [usize; 3]) -> Places {
     let mut places = [0; 3];
     let mut len: usize = 0;

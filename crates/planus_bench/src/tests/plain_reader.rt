@@ -60,7 +60,6 @@ fn target(bytes: &[u8], f: i128) -> Option<i128> {
     }
 }
 
-// The items after a count: where they begin, and how many there are.
 #[derive(Clone, Copy)]
 pub struct PlainList {
     pub items: i128,
@@ -136,7 +135,6 @@ pub fn union_vector(bytes: &[u8], f: i128, g: i128) -> Answer<(PlainList, PlainL
     Ok((tags, values))
 }
 
-// A table, by its position, its vtable's, and the vtable's size.
 #[derive(Clone, Copy)]
 pub struct PlainTable<'a> {
     pub bytes: &'a [u8],

@@ -20,7 +20,6 @@ struct Written {
     // The distance of each part from the end, and its alignment: 2, 4 or 8.
     parts: Vec<(usize, usize)>,
     values: Vec<StepPlace>,
-    // The contents that were written, of the kinds with a cache.
     shared: Vec<Shared>,
     switches: Switches,
     alloc: Global,
@@ -161,7 +160,6 @@ impl Written {
         Ok(())
     }
 
-    // The value of this step begins at the first byte.
     fn add(&mut self, step: usize) -> Result<(), Fail> {
         let distance = self.reversed.len();
         self.add_at(step, distance)
@@ -392,7 +390,6 @@ impl Written {
         }
     }
 
-    // Takes a step. What a finish gives is added at the end.
     fn step(
         &mut self,
         number: usize,

@@ -74,7 +74,6 @@ struct Reading<'a> {
 }
 
 impl<'a> Reading<'a> {
-    // The distance from the end to which the reference leads.
     fn distance(&self, place: Place<'a>) -> Result<usize, Fail> {
         let target = position(place).wrapping_add(place.read::<u32>()? as usize);
         Ok(self.finished.bytes.len().wrapping_sub(target))
@@ -87,7 +86,6 @@ impl<'a> Reading<'a> {
         }
     }
 
-    // Whether there is such a place, at which the step's value is read later.
     fn reads_later(&mut self, place: Option<Place<'a>>, step: usize) -> Result<bool, Fail> {
         match place {
             Some(place) => {

@@ -18,7 +18,7 @@ const STEP: usize = 32;
 
 const TURNS: usize = 64;
 
-// Makes a call with little memory. Returns whether it failed; `None` where memory was left.
+// Returns whether the call failed; `None` where memory was left.
 fn is_refused(
     alloc: Global,
     builder: &mut Builder,
@@ -53,7 +53,6 @@ fn outcome_with(alloc: Global, call: Call, spare: usize) -> Result<Option<Outcom
 
 type Lengths = (usize, usize);
 
-// Records that a call failed at these lengths. Returns whether they are among these.
 fn note(met: &mut [bool; 3], all: &[Lengths], lengths: Lengths) -> bool {
     for at in 0..all.len() {
         if all[at] == lengths && at < 3 {
@@ -142,7 +141,7 @@ fn other_with(
     other_beside(alloc, &mut held, other, steps, spare)
 }
 
-// The number of turns at which such a call fails before it works; `None` where memory was left.
+// The number of turns at which such a call fails before it works.
 fn refusals_of(
     alloc: Global,
     other: Other,

@@ -213,7 +213,6 @@ fn a_and_b_stand(builder: &mut Builder) -> bool {
     text_stands(builder, "A", b"\x01\0\0\0A\0") && text_stands(builder, "B", b"\x01\0\0\0B\0")
 }
 
-/// Whether the strings of a call are found only where they were written.
 fn texts_stand(builder: &mut Builder, call: Call) -> bool {
     match call {
         Call::Weapon => axe_stands(builder),

@@ -75,7 +75,6 @@ pub struct Named {
     pub unions: Option<usize>,
 }
 
-// References to the tags and to the references of a union vector, or else to one value.
 pub fn two_references(named: Named) -> [FieldValue; 2] {
     match named.unions {
         Some(unions) => [FieldValue::Tags(unions), FieldValue::Values(unions)],
@@ -212,8 +211,6 @@ fn mixed_steps(alloc: Global, count: usize) -> Result<Vec<Step>, AllocError> {
     Ok(steps)
 }
 
-// The numbers of clears, of finishes without an identifier, of those with one, and of union
-// vectors.
 pub fn counts(steps: &[Step]) -> (usize, usize, usize, usize) {
     let mut counts: (usize, usize, usize, usize) = (0, 0, 0, 0);
     for step in steps {
@@ -348,7 +345,6 @@ fn gives(alloc: Global, caches: Caches, steps: &[Step], want: &[Finished]) -> Re
     Ok(are_same(got.as_slice(), want) && are_read_back(alloc, steps, got.as_slice())?)
 }
 
-// Compares replays with none, some or all bits of a hash with a plain run.
 fn replays_agree_in(
     rt: &impl Abort,
     alloc: Global,

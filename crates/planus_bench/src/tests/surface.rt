@@ -43,7 +43,6 @@ fn a_text_is_written_and_read_back(rt: HostRuntime) {
     check(&rt, read, "a text is read back");
 }
 
-// A vector, or a table, of a number of 3 bytes.
 fn odd_width(alloc: Global, in_table: bool) -> Result<Step, AllocError> {
     if in_table {
         let mut fields = Vec::new(alloc);

@@ -98,7 +98,6 @@ fn reading_fails(alloc: Global, schema: Option<&Schema>, k: usize) -> bool {
     answer == Err(RunError::Read) && status(&answer) == 2 && printed.is_empty()
 }
 
-// Whether the script ends early, where the k-th read gives none.
 fn ends_early(alloc: Global, k: usize) -> bool {
     let (mut printed, mut want) = (Vec::new(alloc), Vec::new(alloc));
     let answer = ran_oddly(alloc, None, (k, Odd::GivesNothing), &mut printed);

@@ -111,7 +111,6 @@ enum Call {
     Run,
 }
 
-// The results of a call with little memory, and then with all of it.
 #[derive(Clone, Copy)]
 enum Turn {
     // Memory was left where none should have been.
@@ -191,7 +190,6 @@ fn run_with(alloc: Global, spare: usize) -> Result<Turn, BuildError> {
     })
 }
 
-// Records that a call left this number of bytes. Returns whether that is among these.
 fn note(met: &mut [bool; 3], all: &[usize], left: usize) -> bool {
     for (at, known) in all.iter().enumerate() {
         if *known == left && at < 3 {

@@ -8,7 +8,6 @@ use crate::monster::Monster;
 use planus::{BuildError, Builder, ByteList, Caches, Offset, UnionOffset};
 use std::alloc::Global;
 
-// Returns cache settings by a number from 0 to 7, with this mask for hashes.
 pub fn setting(number: usize, hash_mask: u64) -> Caches {
     Caches {
         vtables: number & 1 != 0,
