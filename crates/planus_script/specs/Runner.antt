@@ -17,7 +17,7 @@ LeavesUnwritten Write before after = ⊤
 LeavesUnwritten Read before after = Keeps before after
 LeavesUnwritten OutOfMemory before after = Keeps before after
 
--- the number of bytes read before this error, at most one more than the longest script
+-- how many bytes can have been read before this error
 abbrev pub FailsAt : RunError → ℕ → Type 0
 FailsAt Read count = count ≤ greatest_script
 FailsAt OutOfMemory count = (0 < count) × (count ≤ greatest_script + 1)

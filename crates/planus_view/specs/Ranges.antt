@@ -32,7 +32,7 @@ chunks_exact n c = ranges_where n (λ i. nat_le ((i + 1) * c) n) (exact_chunk n 
 abbrev pub rchunks_exact : ℕ → ℕ → List (ℕ × ℕ)
 rchunks_exact n c = ranges_where n (λ i. nat_le ((i + 1) * c) n) (rchunk n c)
 
--- Windows: c positions from each position on, while they are positions.
+-- Windows: c positions from each position on, where all of them exist.
 abbrev pub window : ℕ → ℕ → ℕ → ℕ × ℕ
 window n c i = (i, i + c)
 
