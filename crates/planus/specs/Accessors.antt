@@ -1,5 +1,4 @@
--- What accessors return: over any bytes what stands there, or the error of the first thing that is
--- wrong; and of a slot that was written what it holds.
+-- What accessors return, for any bytes and for slots that were written.
 use Rattle.std.specs.Prelude.{◌≡◌, ℕ, List, map, Option, Some, None, Result, Ok, IsOkAnd, IsSomeAnd}
 use Rattle.std.specs.Prelude.{MatchOption, ⊤}
 use Rattle.std.specs.Borrow.{Bor}
@@ -23,8 +22,7 @@ use Rattle.planus.specs.ReadPlain.{reads_plain, plain_content, ArePlain}
 use Rattle.planus.specs.ReadVectors.{reads_vector, ItemsAreTexts, ItemsAreTables}
 use Rattle.planus.specs.Views.{reads_as}
 
--- A kind of fields: how one is read, what it may hold, and what is read of that. Where it may be
--- absent, what it is given is a G, of which it holds a part.
+-- a kind of fields: how one is read, what it may hold, and what is read back
 pub record FieldKind (X G T : Type 0) : Type 1 where
   pub reads : Reads T
   pub May : List ℕ → X → Type 0
@@ -32,15 +30,14 @@ pub record FieldKind (X G T : Type 0) : Type 1 where
   pub part : G → X
   pub IsRead : List ℕ → X → T → Type 0
 
--- nothing was found where nothing was given, else what was found is this of what was given
+-- both are none, or what was found is this of what was given
 abbrev pub SameIf : {G T : Type 0} → (G → T → Type 0) → Option G → Option T → Type 0
 SameIf IsRead None found = found ≡ None
 SameIf IsRead (Some given) found = IsSomeAnd found (IsRead given)
 
 module _ {X G T : Type 0} (kind : FieldKind X G T) (table : Table) (slot : ℕ) (type_ method : List ℕ)
   where
-    -- What a call returns for the field in a slot that may be absent. The names are those of an error's
-    -- location.
+    -- What a call returns for a slot's optional field, under the names in an error's location.
     pub record IsField (r : Result (Option T) Error) : Type 0 where
       pub answer : Located (FieldAnswer kind.reads table slot) type_ method (table_start table) r
       pub read_back :
@@ -53,7 +50,7 @@ module _ {X G T : Type 0} (kind : FieldKind X G T) (table : Table) (slot : ℕ) 
           → MatchOption given ⊤ (λ g. kind.May B (kind.part g))
           → IsOkAnd r (SameIf (λ g. kind.IsRead B (kind.part g)) given)
 
-    -- The same of one that must be there.
+    -- the same for a required field
     pub record IsRequired (r : Result T Error) : Type 0 where
       pub answer :
           Located (Required (FieldAnswer kind.reads table slot)) type_ method (table_start table) r
@@ -79,7 +76,7 @@ abbrev pub IsPlainRequired :
     → Result T Error → Type 0
 IsPlainRequired shape = IsRequired (plain_kind shape)
 
--- a text, which is read where it is UTF-8
+-- a string, read where it is UTF-8
 abbrev pub text_kind : FieldKind (List ℕ) (Bor (List ℕ)) (Bor (List ℕ))
 text_kind = record {
   reads = reads_text;
@@ -95,7 +92,7 @@ IsTextField = IsField text_kind
 abbrev pub IsTextRequired : Table → ℕ → List ℕ → List ℕ → Result (Bor (List ℕ)) Error → Type 0
 IsTextRequired = IsRequired text_kind
 
--- a byte list
+-- a byte vector
 abbrev pub bytes_kind : FieldKind (List ℕ) ByteList (Bor (List ℕ))
 bytes_kind = record {
   reads = reads_bytes;
@@ -111,9 +108,9 @@ IsBytesField = IsField bytes_kind
 abbrev pub IsBytesRequired : Table → ℕ → List ℕ → List ℕ → Result (Bor (List ℕ)) Error → Type 0
 IsBytesRequired = IsRequired bytes_kind
 
--- T is the type of the items of a vector, and R that of what stands for them.
+-- T is the type of a vector's items, R what the vector holds for them.
 module _ {T R : Type 0} {kind : PlainGhosts R} where
-  -- a list of values of a fixed layout, which is read as the vector of these
+  -- a vector of values of a fixed layout
   abbrev pub plains_kind : FieldKind (List R) (Bor (List R)) (VectorOf (SliceView T R kind))
   plains_kind = record {
     reads = reads_vector T kind;
@@ -131,7 +128,7 @@ module _ {T R : Type 0} {kind : PlainGhosts R} where
       Table → ℕ → List ℕ → List ℕ → Result (VectorOf (SliceView T R kind)) Error → Type 0
   IsPlainVectorRequired = IsRequired plains_kind
 
-  -- a list of texts
+  -- a vector of strings
   abbrev pub texts_kind :
       FieldKind (List (Bor (List ℕ))) (Bor (List (Bor (List ℕ)))) (VectorOf (SliceView T R kind))
   texts_kind = record {
@@ -150,7 +147,7 @@ module _ {T R : Type 0} {kind : PlainGhosts R} where
       Table → ℕ → List ℕ → List ℕ → Result (VectorOf (SliceView T R kind)) Error → Type 0
   IsTextVectorRequired = IsRequired texts_kind
 
-  -- a list of tables of kind K, which were written before
+  -- a vector of tables of kind K that were written before
   abbrev pub tables_kind :
       (K : Type 0) → FieldKind (List (Offset K)) (Bor (List (Offset K))) (VectorOf (SliceView T R kind))
   tables_kind K = record {
@@ -171,12 +168,11 @@ module _ {T R : Type 0} {kind : PlainGhosts R} where
       Type 0 → Table → ℕ → List ℕ → List ℕ → Result (VectorOf (SliceView T R kind)) Error → Type 0
   IsTableVectorRequired K = IsRequired (tables_kind K)
 
--- a table with some contents stands in B at the distance
+-- a table with some contents is at this distance in B
 abbrev pub TableIsThere : List ℕ → ℕ → Type 0
 TableIsThere B distance = (contents : List (ℕ × Option Content)) × TableStands B contents distance
 
--- T is the type of a view, whose table is given: it is that of the table at the distance, with all
--- its contents.
+-- a view of the table at the distance, with all its contents
 abbrev pub IsViewOf : {T : Type 0} → (T → Table) → List ℕ → ℕ → T → Type 0
 IsViewOf table_of B distance view =
     (contents : List (ℕ × Option Content)) → TableStands B contents distance

@@ -17,7 +17,7 @@ abbrev pub content_in : ℕ → Option Content → List (ℕ × Content)
 content_in slot None = []
 content_in slot (Some content) = (slot, content) ∷ []
 
--- those of some slots that hold anything
+-- the contents of those slots that hold anything
 abbrev pub there_of : List (ℕ × Option Content) → List (ℕ × Content)
 there_of [] = []
 there_of (content ∷ contents) = content_in content.0 content.1 ++ there_of contents
@@ -30,26 +30,24 @@ FieldsAre past (content ∷ contents) (field ∷ fields) =
 FieldsAre past [] (field ∷ fields) = ⊥
 FieldsAre past (content ∷ contents) [] = ⊥
 
--- A table is kept at the distance that has exactly the fields that hold these contents, and so are
--- the values to which it refers.
+-- a table with exactly these contents is stored at the distance, with the values it refers to
 pub record TableIsKept (past : Past) (contents : List (ℕ × Option Content)) (distance : ℕ) : Type 0 where
   pub fields : List (ℕ × Field)
   pub are : FieldsAre past (there_of contents) fields
   pub table_kept : IsKept past (table fields) (named_at distance)
 
--- what was kept before is still kept
+-- what was stored before is still stored
 abbrev pub StillKept : Past → Past → Type 0
 StillKept before after =
     (one : Value) (named : Named) → IsKept before one named → IsKept after one named
 
--- Whatever was written before, a table with these contents is kept at the distance; all that was
--- written before is still there, and all that was kept still is.
+-- for any history, a table with these contents is stored at the distance, and nothing is lost
 abbrev pub WritesContents : List (ℕ × Option Content) → State → ℕ → State → Type 0
 WritesContents contents old distance new =
     (past : Past) → IsPast old past
     → Comes past new (λ after. StillKept past after × TableIsKept after contents distance)
 
--- what each of its fields holds
+-- the contents of a union vector's two fields, tags and values
 abbrev pub tags_content : Option (Content × Content) → Option Content
 tags_content None = None
 tags_content (Some contents) = Some contents.0
@@ -58,7 +56,7 @@ abbrev pub values_content : Option (Content × Content) → Option Content
 values_content None = None
 values_content (Some contents) = Some contents.1
 
--- what the two fields of a union hold: a reference to its value, and its tag
+-- the contents of a union's value field, and of its tag field
 abbrev pub value_content : Option (ℕ × Content) → Option Content
 value_content None = None
 value_content (Some content) = Some content.1
@@ -68,9 +66,7 @@ tag_content None = None
 tag_content (Some content) =
     Some (item (record { bytes = to_le_bytes w8 content.0; alignment = 1 }))
 
--- The same of a table whose first fields are prepared already, and those that come last, where these
--- hold some contents: the table has these too, in front of the others and of the others that come
--- last.
+-- The same after some fields are prepared: the table has the contents of these before the others.
 abbrev pub WritesRest :
     (there last : List (ℕ × Field)) (contents last_contents : List (ℕ × Option Content)) → State → ℕ
     → State → Type 0

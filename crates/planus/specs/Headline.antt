@@ -1,4 +1,4 @@
--- What is true of every finish of every run.
+-- What holds of every finish of every run.
 use Rattle.std.specs.Prelude.{◌≡◌, ℕ, ◌+◌, ◌≤◌, List, [], ◌∷◌, ◌++◌, length, take, drop}
 use Rattle.std.specs.Prelude.{slice_get, Option, Some, ⊤, Bool, true, false, if◌then◌else◌}
 use Rattle.std.specs.List.{AllByRecursion}
@@ -17,7 +17,7 @@ use Rattle.planus_write.specs.Kept.{TagsReached}
 use Rattle.planus.specs.Steps.{Step, Front, root_first, size_first, finish}
 use Rattle.planus.specs.Runs.{Finish, Listed, State, nothing_written, LeadsTo, value_at, value_of}
 
--- The value of a step stands aligned in the bytes, at what it is named by, and reads back.
+-- The value of a step is at its distances in the bytes, aligned, and reads back.
 pub record ValueHolds (steps : List Step) (given : Finish) (one : Listed) : Type 0 where
   pub step : Step
   pub value : Value
@@ -29,19 +29,18 @@ pub record ValueHolds (steps : List Step) (given : Finish) (one : Listed) : Type
   pub aligned : AlignedAt given.bytes (position_in given.bytes one.named) value
   pub reads_back : ReadsBack given.bytes (position_in given.bytes one.named) value
 
--- The fewest bytes: among the placings of the parts since the last clear, none has a smaller place
--- for any of them than this one, and the last one's place is the length of the bytes.
+-- no other placing of the parts since the last clear has a smaller place for any of them
 pub record IsFewest (parts : List Part) (places : List ℕ) (bytes : List ℕ) : Type 0 where
   pub placing : IsPlacing parts places
   pub whole : (earlier : List ℕ) × (places ≡ earlier ++ length bytes ∷ [])
   pub least : (others : List ℕ) → IsPlacing parts others → NoneIsGreater places others
 
--- where the reference to the root stands
+-- where the reference to the root is
 abbrev pub root_at : Front → ℕ
 root_at root_first = 0
 root_at size_first = 4
 
--- The value of a step stands in the bytes behind the size, at what it is named by, and reads back.
+-- The value of a step is in the bytes after the size, at its distances, and reads back.
 pub record ValueInPiece (steps : List Step) (places : List Listed) (piece : List ℕ) (one : Listed)
     : Type 0 where
   pub step : Step
@@ -51,10 +50,9 @@ pub record ValueInPiece (steps : List Step) (places : List Listed) (piece : List
   pub stands : Stands piece (position_in piece one.named) value
   pub reads_back : ReadsBack piece (position_in piece one.named) value
 
--- What is given with the size in front: the size says how many bytes follow it. These are the piece
--- that a reader of such buffers answers, with 4 as its start: the reference at its front leads to the
--- value of the root's step, and reading goes on there; the identifier stands behind that; and each
--- value holds in it, but for its alignment, which is counted from the size.
+-- A size-prefixed finish: the size is the number of bytes that follow, which a reader returns as a
+-- slice that starts at 4. Its reference leads to the root's value, the identifier follows, and each
+-- value holds in it, except for its alignment.
 pub record SizedHolds (steps : List Step) (root : ℕ) (identifier : Option (List ℕ)) (given : Finish)
     : Type 0 where
   pub size : IsPrefixed given.bytes
@@ -63,15 +61,14 @@ pub record SizedHolds (steps : List Step) (root : ℕ) (identifier : Option (Lis
   pub identified : BytesStand (drop 4 given.bytes) 4 (identifier_bytes identifier)
   pub values : AllByRecursion (ValueInPiece steps given.places (drop 4 given.bytes)) given.places
 
--- the same of what is given with either word at the front
+-- the same for both fronts
 abbrev pub HoldsBySize : Front → List Step → ℕ → Option (List ℕ) → Finish → Type 0
 HoldsBySize root_first steps root identifier given = ⊤
 HoldsBySize size_first steps root identifier given = SizedHolds steps root identifier given
 
--- What is given by the finish of one step, to which the steps with it lead: it lists every value
--- since the last clear, and each holds in its bytes; the reference at their front, or behind the
--- size, leads to the value of its root's step, and its identifier stands behind that; its length
--- keeps every promise that was made of a part since the last clear; and its bytes are the fewest.
+-- What the finish of one step gives: each value since the last clear is listed and holds; the first
+-- reference leads to the root's value, followed by the identifier; the length keeps every alignment
+-- constraint since the last clear; and the bytes are the fewest.
 -- The format: a buffer begins with a reference to its root; four bytes that identify the file may
 -- follow.
 pub record FinishHolds (switches : Switches) (steps : List Step) (given : Finish) : Type 0 where
@@ -97,7 +94,7 @@ abbrev pub is_finish : Step → Bool
 is_finish (finish front root identifier) = true
 is_finish _ = false
 
--- the numbers of the finishes among these steps, in order, where the first step has this number
+-- the numbers of the finishes among these steps, in order, counting from this number
 abbrev pub finishes_from : ℕ → List Step → List ℕ
 finishes_from n [] = []
 finishes_from n (step ∷ steps) =
@@ -107,13 +104,13 @@ finishes_from n (step ∷ steps) =
 abbrev pub finishes_of : List Step → List ℕ
 finishes_of steps = finishes_from 0 steps
 
--- What is given by the finish of the step of this number.
+-- what the finish with this number gives
 pub record IsFinishOf (switches : Switches) (steps : List Step) (number : ℕ)
     (given : Finish) : Type 0 where
   pub holds : FinishHolds switches steps given
   pub of_step : holds.number ≡ number
 
--- Each is given by the finish of the step of its number, and there are as many as numbers.
+-- one finish for each number, in order
 abbrev pub AreFinishesOf : Switches → List Step → List ℕ → List Finish → Type 0
 AreFinishesOf switches steps [] [] = ⊤
 AreFinishesOf switches steps (number ∷ numbers) (given ∷ finished) =

@@ -14,7 +14,7 @@ use Rattle.planus_fields.specs.Contents.{any_unions_hold}
 use Rattle.planus.specs.Contents.{tags_content}
 use Rattle.planus.specs.Contents.{values_content}
 
--- a number without a sign
+-- an unsigned number
 abbrev pub holds_u8 : ℕ → Option Content
 holds_u8 number = Some (item (record { bytes = to_le_bytes w8 number; alignment = 1 }))
 
@@ -27,12 +27,11 @@ holds_u32 number = Some (item (record { bytes = to_le_bytes w32 number; alignmen
 abbrev pub holds_u64 : ℕ → Option Content
 holds_u64 number = Some (item (record { bytes = to_le_bytes w64 number; alignment = 8 }))
 
--- A number with a sign as code of this width has it: itself, where it fits. In this form what is said of
--- a number that is handed over by value is what the call says of it.
+-- a signed number as code of this width has it, in a form for numbers passed by value
 abbrev pub as_signed : Width → ℤ → ℤ
 as_signed w number = cast_signed w (cast_unsigned w number)
 
--- a number with a sign
+-- a signed number
 abbrev pub holds_i8 : ℤ → Option Content
 holds_i8 number =
     Some (item (record { bytes = cast_unsigned w8 (as_signed w8 number) ∷ []; alignment = 1 }))
@@ -52,7 +51,7 @@ holds_i64 number =
     Some
     (item (record { bytes = to_le_bytes w64 (cast_unsigned w64 (as_signed w64 number)); alignment = 8 }))
 
--- a number with a sign is this one, such as its default
+-- a signed number equals another, such as its default
 abbrev pub equals_i8 : ℤ → ℤ → Bool
 equals_i8 number default = int_eq (as_signed w8 number) default
 
@@ -65,11 +64,11 @@ equals_i32 number default = int_eq (as_signed w32 number) default
 abbrev pub equals_i64 : ℤ → ℤ → Bool
 equals_i64 number default = int_eq (as_signed w64 number) default
 
--- a truth value
+-- a bool
 abbrev pub holds_bool : Bool → Option Content
 holds_bool truth = Some (item (record { bytes = from_bool truth ∷ []; alignment = 1 }))
 
--- a text, of these bytes
+-- a string, of these bytes
 abbrev pub holds_text : List ℕ → Option Content
 holds_text bytes = Some (value (text bytes))
 
@@ -79,17 +78,17 @@ abbrev pub holds_plain :
 holds_plain {A} {size} {alignment} shape x =
     Some (item (record { bytes = shape.encoded x; alignment = alignment }))
 
--- a list of these
+-- a vector of these
 abbrev pub holds_plains :
     {A : Type 0} {size alignment : ℕ} → Shape A size alignment → List A → Option Content
 holds_plains {A} {size} {alignment} shape xs =
     Some (value (plain_list size alignment (map shape.encoded xs)))
 
--- a byte list
+-- a byte vector
 abbrev pub holds_bytes : List ℕ → Option Content
 holds_bytes bytes = Some (value (byte_list bytes))
 
--- a list of numbers without a sign
+-- a vector of unsigned numbers
 abbrev pub holds_u16s : List ℕ → Option Content
 holds_u16s numbers = Some (value (plain_list 2 2 (map (λ number. to_le_bytes w16 number) numbers)))
 
@@ -99,33 +98,33 @@ holds_u32s numbers = Some (value (plain_list 4 4 (map (λ number. to_le_bytes w3
 abbrev pub holds_u64s : List ℕ → Option Content
 holds_u64s numbers = Some (value (plain_list 8 8 (map (λ number. to_le_bytes w64 number) numbers)))
 
--- a list of texts, each of these bytes
+-- a vector of strings, each of these bytes
 abbrev pub holds_texts : {X : Type 0} → (X → List ℕ) → List X → Option Content
 holds_texts bytes texts = Some (values (map (λ one. text (bytes one)) texts))
 
--- a list of references to what was written before
+-- a vector of references to values written before
 abbrev pub holds_offsets : {T : Type 0} → List (Offset T) → Option Content
 holds_offsets offsets = Some (value (reference_list (map (λ offset. offset.distance) offsets)))
 
--- a reference to what was written before, at this distance
+-- a reference to a value written before, at this distance
 abbrev pub holds_offset : ℕ → Option Content
 holds_offset distance = Some (written distance)
 
--- the value and the tag of a union that was written before, if there is one
+-- the value and the tag of a union written before, if there is one
 abbrev pub holds_union_value : {T : Type 0} → Option (UnionOffset T) → Option Content
 holds_union_value union = value_content (union_if (λ union. Some (written_union union)) union)
 
 abbrev pub holds_union_tag : {T : Type 0} → Option (UnionOffset T) → Option Content
 holds_union_tag union = tag_content (union_if (λ union. Some (written_union union)) union)
 
--- the tags and the values of a vector of unions, by the tag of each and what its value holds
+-- the tags and the values of a union vector, by each union's tag and content
 abbrev pub holds_tags_of : List (ℕ × Content) → Option Content
 holds_tags_of unions = tags_content (Some (unions_hold unions))
 
 abbrev pub holds_values_of : List (ℕ × Content) → Option Content
 holds_values_of unions = values_content (Some (unions_hold unions))
 
--- the same of unions with one tag, each with its value
+-- the same for unions with one tag, each with its value
 abbrev pub holds_variant_tags : {X : Type 0} → ℕ → (X → Value) → List X → Option Content
 holds_variant_tags tag content unions =
     holds_tags_of (map (λ union. (tag, value (content union))) unions)
@@ -134,14 +133,14 @@ abbrev pub holds_variant_values : {X : Type 0} → ℕ → (X → Value) → Lis
 holds_variant_values tag content unions =
     holds_values_of (map (λ union. (tag, value (content union))) unions)
 
--- the same of unions that were written before
+-- the same for unions written before
 abbrev pub holds_union_tags : {T : Type 0} → List (UnionOffset T) → Option Content
 holds_union_tags unions = holds_tags_of (map written_union unions)
 
 abbrev pub holds_union_values : {T : Type 0} → List (UnionOffset T) → Option Content
 holds_union_values unions = holds_values_of (map written_union unions)
 
--- the same of a vector that is left out where it is empty
+-- the same for a union vector that is left out where it is empty
 abbrev pub holds_any_union_tags : {T : Type 0} → List (UnionOffset T) → Option Content
 holds_any_union_tags unions = tags_content (any_unions_hold (map written_union unions))
 

@@ -20,15 +20,13 @@ use Rattle.planus.specs.Views.{reads_as}
 use Rattle.planus.specs.declared.tables.table_ref.TableRef.{TableRef}
 
 module _ {T R A : Type 0} {kind : PlainGhosts R} (reads : Reads A) (name : List ℕ) where
-  -- What such a type answers for the item at a position of a vector, its error at the start of the
-  -- items.
+  -- what a type's read returns for an item of a vector, its error at the start of the items
   abbrev pub IsItemRead : VectorOf (SliceView T R kind) → ℕ → Result A Error → Type 0
   IsItemRead vector i =
       Located (reads (view_of vector).bytes (view_of vector).start (i * kind.SIZE)) name item_method
       (view_of vector).start
 
--- A text, and none where the vector doesn't have the position. Of the vector of some texts it is the
--- text at this position, where that is UTF-8.
+-- a string, none out of bounds; of a vector that was written, the string at this index
 pub record IsTextItem {T R : Type 0} {kind : PlainGhosts R} (vector : VectorOf (SliceView T R kind))
     (index : ℕ) (r : Option (Result (Bor (List ℕ)) Error)) : Type 0 where
   pub answer : GetsItem (λ v. count_of v) (IsItemRead reads_text texts_name) vector index r
@@ -37,7 +35,7 @@ pub record IsTextItem {T R : Type 0} {kind : PlainGhosts R} (vector : VectorOf (
       → slice_get texts index ≡ Some bytes → IsUtf8 bytes
       → IsSomeAnd r (λ item. IsOkAnd item (λ found. found.now ≡ bytes))
 
--- what the call of a vector of tables returns
+-- what `get` of a vector of tables returns
 abbrev pub GetsTable : {T R : Type 0} {kind : PlainGhosts R} → (K : Type 0) → List ℕ
     → VectorOf (SliceView T R kind) → ℕ → Option (Result (TableRef K) Error) → Type 0
 GetsTable {T} {R} {kind} K name =
@@ -47,7 +45,7 @@ GetsTable {T} {R} {kind} K name =
     (view_of v).start)
     (λ (e f : Error). f ≡ e) item)
 
--- The view of a table. Of the vector of some tables it is that of the one at this position.
+-- the view of a table; of a vector that was written, of the table at this index
 pub record IsTableItem {T R V : Type 0} {kind : PlainGhosts R} (K : Type 0) (name : List ℕ)
     (table_of : V → Table) (vector : VectorOf (SliceView T R kind)) (index : ℕ)
     (r : Option (Result V Error)) : Type 0 where

@@ -7,10 +7,10 @@ use Rattle.planus_write.specs.Tables.{body_bytes, declared_of}
 use Rattle.planus_write.specs.TableWriting.{AnswersTable}
 use Rattle.planus_write.specs.declared.offset.Offset.{Offset}
 
--- The table of these fields was written, and its distance is answered; or it was refused.
+-- the table of these fields was written, and its distance is returned; or there is an error
 abbrev pub AnswersFields : {T : Type 0} → List (ℕ × Field) → Outcome (Offset T)
 AnswersFields fields = AnswersTable (declared_of fields) (λ place. body_bytes place fields)
 
--- The same of fields, one by one, each there or not.
+-- the same for fields one by one, each present or not
 abbrev pub WritesFields : {T : Type 0} → List (List (ℕ × Field)) → Outcome (Offset T)
 WritesFields fields = AnswersFields (all_of fields)

@@ -1,4 +1,4 @@
--- What is read of the fields of a table that was written, in the words of what they hold.
+-- What is read from a table that was written, by what its fields hold.
 use Rattle.std.specs.Prelude.{◌≡◌, ℕ, ◌+◌, ◌≤◌, ◌==◌, List, [], ◌∷◌, length, drop, Bool, true, not, ◌&&◌, if◌then◌else◌}
 use Rattle.std.specs.Prelude.{Option, Some, None, Result, Ok, IsOkAnd, IsSomeAnd, IsTrue, ⊤}
 use Rattle.planus_read.specs.declared.errors.ErrorKind.{ErrorKind}
@@ -27,7 +27,7 @@ use Rattle.planus.specs.Contents.{TableIsKept}
 use Rattle.planus.specs.Views.{ShowsView}
 use Rattle.planus.specs.declared.tables.table_ref.TableRef.{TableRef}
 
--- the values stand in B at these distances, one by one
+-- the values are encoded in B at these distances, one by one
 abbrev pub AllStand : List ℕ → List Value → List ℕ → Type 0
 AllStand B [] [] = ⊤
 AllStand B (one ∷ others) (distance ∷ distances) =
@@ -36,8 +36,7 @@ AllStand B [] (distance ∷ distances) = ⊥
 AllStand B (one ∷ others) [] = ⊥
 
 abbrev mutual
-  -- The field holds this in B. What it refers to stands there; of what was written before that is the
-  -- caller's to know.
+  -- The field holds this in B, and what was written with it is encoded there.
   pub FieldHolds : List ℕ → Content → Field → Type 0
   FieldHolds B (item content) field = field ≡ plain content
   FieldHolds B (value content) field =
@@ -60,8 +59,7 @@ abbrev mutual
   FieldHolds B (written_tags distance) field = field ≡ tags distance
   FieldHolds B (written_values distance) field = field ≡ values_field distance
 
-  -- Unions, each a tag and a distance, have these tags, and the references to their values hold these
-  -- in B.
+  -- Unions, each a tag and a distance, have these tags, and their values hold these in B.
   pub UnionsHold : List ℕ → Unions → List (ℕ × ℕ) → Type 0
   UnionsHold B no_unions [] = ⊤
   UnionsHold B (union_and tag content others) (union ∷ unions) =
@@ -69,7 +67,7 @@ abbrev mutual
   UnionsHold B no_unions (union ∷ unions) = ⊥
   UnionsHold B (union_and tag content others) [] = ⊥
 
--- a field that may be absent holds this in B, or it is absent
+-- an optional field holds this in B, or both are absent
 abbrev pub FieldHoldsIf : List ℕ → Option Content → Option Field → Type 0
 FieldHoldsIf B None None = ⊤
 FieldHoldsIf B (Some content) (Some field) = FieldHolds B content field
@@ -84,7 +82,7 @@ FieldsHold B (content ∷ contents) (field ∷ fields) =
 FieldsHold B [] (field ∷ fields) = ⊥
 FieldsHold B (content ∷ contents) [] = ⊥
 
--- none of these is of the slot; and no slot has two of them
+-- no entry has the slot; and no slot has two entries
 abbrev pub is_other : ℕ → List (ℕ × Option Content) → Bool
 is_other slot [] = true
 is_other slot (one ∷ contents) = not (one.0 == slot) && is_other slot contents
@@ -98,41 +96,39 @@ abbrev pub content_at : List (ℕ × Option Content) → ℕ → Option Content
 content_at [] slot = None
 content_at (one ∷ contents) slot = if one.0 == slot then one.1 else content_at contents slot
 
--- A table with exactly these contents stands in B at the distance, and what it refers to too.
+-- A table with exactly these contents is encoded in B at the distance, with what it refers to.
 pub record TableStands (B : List ℕ) (contents : List (ℕ × Option Content)) (distance : ℕ) : Type 0 where
   pub fields : List (ℕ × Field)
   pub hold : FieldsHold B (there_of contents) fields
   pub apart : IsTrue (are_apart contents)
   pub stands : Stands B (at (position_of B distance)) (table fields)
 
--- The table that was read is one of B, and the slot holds this, or nothing.
+-- The table that was read is in B, and the slot holds this, or nothing.
 pub record SlotHolds (B : List ℕ) (read : Table) (slot : ℕ) (content : Option Content) : Type 0 where
   pub position : ℕ
   pub entries : List (ℕ × Field)
   pub fields : HasFields B position entries read
   pub holds : FieldHoldsIf B content (field_at entries slot)
 
--- The table that was read has these contents: each slot, also past the vtable's end, holds what is
--- said of it, or nothing.
+-- each slot of the table, also past the vtable's end, holds its content or nothing
 abbrev pub TableHolds : List ℕ → List (ℕ × Option Content) → Table → Type 0
 TableHolds B contents read = (slot : ℕ) → SlotHolds B read slot (content_at contents slot)
 
--- A table that is kept stands in what was written.
+-- A stored table is encoded in what was written.
 abbrev pub KeptTablesStand : Type 0
 KeptTablesStand =
     (past : Past) (contents : List (ℕ × Option Content)) (distance : ℕ)
     → TableIsKept past contents distance → IsTrue (are_apart contents)
     → TableStands past.written.bytes contents distance
 
--- One that is kept stays so, whatever the builder writes later.
+-- A stored table stays so, whatever the builder writes later.
 abbrev pub KeptTablesStay : Type 0
 KeptTablesStay =
     (before after : Past) (contents : List (ℕ × Option Content)) (distance : ℕ)
     → Extends before after → TableIsKept before contents distance
     → TableIsKept after contents distance
 
--- It stands in the bytes that a finish gives, whatever the root of that is: one that may be prepared
--- so, and is by this outcome.
+-- A stored table is encoded in the bytes of any finish, whatever the root.
 abbrev pub FinishesKeepTables : {X T : Type 0} → (X → State → Type 0) → (X → Outcome (Offset T))
     → Type 0
 FinishesKeepTables {X} may outcome =
@@ -141,7 +137,7 @@ FinishesKeepTables {X} may outcome =
     → TableIsKept past contents distance → IsTrue (are_apart contents) → may root state
     → FinishGives (outcome root) identifier state bytes → TableStands bytes contents distance
 
--- So it does in the bytes that a finish with the size in front gives, and in those behind the size.
+-- So it is in the bytes of a size-prefixed finish, and in those after the size.
 abbrev pub SizedFinishesKeepTables : {X T : Type 0} → (X → State → Type 0)
     → (X → Outcome (Offset T)) → Type 0
 SizedFinishesKeepTables {X} may outcome =
@@ -151,7 +147,7 @@ SizedFinishesKeepTables {X} may outcome =
     → SizedFinishGives (outcome root) identifier state bytes
     → TableStands bytes contents distance × TableStands (drop 4 bytes) contents distance
 
--- A table that is the root of a finish stands in the bytes, and the reference at the front leads to it.
+-- A finish's root table is encoded in its bytes, and the first reference leads to it.
 abbrev pub FinishedTablesStand : Type 0 → Type 0
 FinishedTablesStand T =
     (contents : List (ℕ × Option Content)) (past : Past) (state : State) (offset : Offset T)
@@ -160,8 +156,7 @@ FinishedTablesStand T =
     → offset.distance ≤ length state.bytes → FinishGives (IsPrepared offset) identifier state bytes
     → TableStands bytes contents offset.distance × ReferenceStands bytes 0 offset.distance
 
--- One that is the root of a finish with the size in front stands in the bytes behind the size, and the
--- reference at the front of these leads to it.
+-- So it is in the bytes after the size of a size-prefixed finish.
 abbrev pub SizedFinishedTablesStand : Type 0 → Type 0
 SizedFinishedTablesStand T =
     (contents : List (ℕ × Option Content)) (past : Past) (state : State) (offset : Offset T)
@@ -172,7 +167,7 @@ SizedFinishedTablesStand T =
     → TableStands (drop 4 bytes) contents offset.distance
     × ReferenceStands (drop 4 bytes) 0 offset.distance
 
--- A table is read by each reference that leads to it, with all its contents.
+-- A table reads back by each reference to it, with all its contents.
 abbrev pub ReferencesReadBack : Type 0 → Type 0
 ReferencesReadBack K =
     (B : List ℕ) (start f : ℕ) (contents : List (ℕ × Option Content)) (distance : ℕ)
@@ -181,7 +176,7 @@ ReferencesReadBack K =
     → Answer (shown (ShowsView (drop start B) start) (table_reading (drop start B) f)) r
     → IsOkAnd r (λ view. TableHolds B contents view.table)
 
--- It is read as the root, where the reference at the front leads to it, with all its contents.
+-- It reads back as the root, where the first reference leads to it.
 abbrev pub RootsReadBack : Type 0 → Type 0
 RootsReadBack K =
     (B : List ℕ) (contents : List (ℕ × Option Content)) (distance : ℕ)
@@ -190,8 +185,7 @@ RootsReadBack K =
     → Located (Answer (shown (ShowsView B 0) (table_reading B 0))) type_ method offset r
     → IsOkAnd r (λ view. TableHolds B contents view.table)
 
--- It is read as an item of a vector, whose piece begins at start, where the reference there leads to
--- it.
+-- It reads back as an item of a vector whose slice begins at start.
 abbrev pub ItemsReadBack : Type 0 → Type 0
 ItemsReadBack K =
     (B : List ℕ) (start f : ℕ) (contents : List (ℕ × Option Content)) (distance : ℕ)
@@ -201,8 +195,7 @@ ItemsReadBack K =
     type_ method offset r
     → IsOkAnd r (λ view. TableHolds B contents view.table)
 
--- What the calls of a table return at a slot that holds such content, where reads is what the type
--- answers: a field that may be absent, one that must be there, and one with a default.
+-- what the calls of a table return at a slot with such content, for each kind of accessor
 pub record ContentsReadBack {X T : Type 0} (reads : Reads T) (May : List ℕ → X → Type 0)
     (content : X → Content) (IsRead : List ℕ → X → T → Type 0) : Type 0 where
   pub optional :
@@ -224,8 +217,7 @@ pub record ContentsReadBack {X T : Type 0} (reads : Reads T) (May : List ℕ →
       → Located (OrDefault default (FieldAnswer reads read slot)) type_ method offset r
       → IsOkAnd r (IsRead B x)
 
--- What they return at a slot that holds nothing: none, the error that a required field is missing, at
--- the location of the call, or the default.
+-- what they return at an empty slot: none, the error `MissingRequired`, or the default
 pub record AbsentFieldsReadBack {T : Type 0} (reads : Reads T) : Type 0 where
   pub optional :
       (B : List ℕ) (read : Table) (slot : ℕ) → SlotHolds B read slot None

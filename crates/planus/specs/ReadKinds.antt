@@ -12,7 +12,7 @@ use Rattle.planus.specs.ReadBack.{ContentsReadBack}
 use Rattle.planus.specs.Views.{ShowsView}
 use Rattle.planus.specs.declared.tables.table_ref.TableRef.{TableRef}
 
--- what a text, a byte list and a view are answered with
+-- the results of reading a string, a byte vector and a view
 abbrev pub reads_text : Reads (Bor (List ℕ))
 reads_text S start f r = Answer (shown ShowsBytes (text_reading S f)) r
 
@@ -22,7 +22,7 @@ reads_bytes S start f r = Answer (shown ShowsBytes (byte_list_reading S f)) r
 abbrev pub reads_view : (K : Type 0) → Reads (TableRef K)
 reads_view K S start f r = Answer (shown (ShowsView S start) (table_reading S f)) r
 
--- A field that holds a text that is UTF-8 is read as this text; a byte list is read as it is.
+-- A field that holds a UTF-8 string is read as it; a byte vector is read as it is.
 abbrev pub TextsReadBack : Type 0
 TextsReadBack =
     ContentsReadBack reads_text (λ B bytes. IsUtf8 bytes) (λ bytes. value (text bytes))

@@ -1,4 +1,4 @@
--- What is read of a field or of an item that is a value of a fixed layout.
+-- What is read from a field or an item of a fixed layout.
 use Rattle.std.specs.Prelude.{◌≡◌, ℕ, ◌*◌, List, map, Bool, Option, None, Result, Ok}
 use Rattle.std.specs.Prelude.{MatchOption, ⊤, slice_get, Some, IsTrue}
 use Rattle.planus_read.specs.declared.located.Error.{Error}
@@ -21,22 +21,20 @@ use Rattle.planus.specs.ReadBack.{ContentsReadBack, SlotHolds}
 use Rattle.planus.specs.ReadVectors.{ArePlainItems}
 
 module _ {T : Type 0} {size alignment : ℕ} (shape : Shape T size alignment) where
-  -- what it is answered with
+  -- the results of its read
   abbrev pub reads_plain : Reads T
   reads_plain S start f r = Answer (plain_reading shape S f) r
 
-  -- what a field holds that is one
+  -- what a field holds for it
   abbrev pub plain_content : T → Content
   plain_content x = item (record { bytes = shape.encoded x; alignment = alignment })
 
-  -- A field that holds such a value is read as this value.
+  -- A field with such a value is read as it.
   abbrev pub PlainReadBack : Type 0
   PlainReadBack =
       ContentsReadBack reads_plain (λ B x. shape.fits x) plain_content (λ B x found. found ≡ x)
 
-  -- What a call returns for the field in a slot of a table that may be absent: over any bytes what
-  -- stands there, or the error of the first thing that is wrong; and of a slot that was written what
-  -- it holds. The names are those of an error's location.
+  -- What a call returns for a slot's optional field, under the names in an error's location.
   pub record IsPlainField
       (table : Table) (slot : ℕ) (type_ method : List ℕ) (r : Result (Option T) Error) : Type 0 where
     pub answer : Located (FieldAnswer reads_plain table slot) type_ method (table_start table) r
@@ -44,7 +42,7 @@ module _ {T : Type 0} {size alignment : ℕ} (shape : Shape T size alignment) wh
         (B : List ℕ) (x : Option T) → SlotHolds B table slot (holds_if (holds_plain shape) x)
         → MatchOption x ⊤ shape.fits → r ≡ Ok x
 
-  -- The same of a field with a default.
+  -- the same for a field with a default
   pub record IsPlainFieldOr
       (default : T) (table : Table) (slot : ℕ) (type_ method : List ℕ) (r : Result T Error) : Type 0
     where
@@ -60,14 +58,13 @@ module _ {T : Type 0} {size alignment : ℕ} (shape : Shape T size alignment) wh
           → SlotHolds B table slot (unless is_default (holds_plain shape x))
           → (IsTrue is_default → x ≡ default) → shape.fits x → r ≡ Ok x
 
--- T is the type of the items of a vector, and R that of what stands for them.
+-- T is the type of a vector's items, R what the vector holds for them.
 module _ {T R : Type 0} {kind : PlainGhosts R} where
-  -- The vector is that of these values, which stand in B.
+  -- the vector of these values, encoded in B
   abbrev pub ArePlain : List ℕ → List R → VectorOf (SliceView T R kind) → Type 0
   ArePlain B xs vector = ArePlainItems kind B (map kind.shape.encoded xs) vector
 
--- What such a vector answers for the item at a position: the value that stands there, or the error of
--- the first thing that is wrong, at the start of the items.
+-- the result for an item of such a vector, an error being at the start of the items
 abbrev pub IsPlainResult :
     {T : Type 0} {kind : PlainGhosts T} → VectorOf (SliceView (Result T Error) T kind) → ℕ
     → Result T Error → Type 0
@@ -75,7 +72,7 @@ IsPlainResult {T} {kind} vector i r =
     Converted (Located (Answer (plain_reading kind.shape (view_of vector).bytes (i * kind.SIZE)))
     plain_name item_method (view_of vector).start) (λ (e f : Error). f ≡ e) r
 
--- An item of the vector of some values whose reads may fail is read as the value at its position.
+-- An item whose read may fail is read as the value at its index.
 abbrev pub PlainResultsReadBack : {T : Type 0} → PlainGhosts T → Type 0
 PlainResultsReadBack {T} kind =
     (B : List ℕ) (xs : List T) (x : T) (vector : VectorOf (SliceView (Result T Error) T kind)) (i : ℕ)

@@ -1,5 +1,4 @@
--- What is read of the unions and of the vectors of unions of a table that was written, in the words
--- of what their slots hold.
+-- What is read from the unions and union vectors of a table that was written.
 use Rattle.std.specs.Prelude.{◌≡◌, ◌≢◌, ℕ, ◌+◌, ◌<◌, List, drop, Option, Some, None, Result, Ok}
 use Rattle.std.specs.Prelude.{IsOkAnd, IsSomeAnd, ⊤}
 use Rattle.planus_read.specs.declared.errors.ErrorKind.{ErrorKind}
@@ -30,16 +29,14 @@ IsReference (values contents) = ⊤
 IsReference (written distance) = ⊤
 IsReference _ = ⊥
 
--- What the type of a union, which reads it so, answers for its tag, where a reference stands that
--- holds its content.
+-- the union type's result for its tag, where a reference that holds its content is encoded
 abbrev pub ReadsUnion :
     {T : Type 0} → ReadsBoth T → List ℕ → ℕ → Content → Result T ErrorKind → Type 0
 ReadsUnion reads B tag content r =
     (start f distance : ℕ) × FieldHolds B content (reference distance)
     × ReferenceStands B (start + f) distance × reads (drop start B) start tag f r
 
--- What the calls of a table return at two neighbouring slots: of a union, the first of which holds
--- its tag, above 0, and the second what its value is, and of two slots that hold nothing.
+-- what the calls of a table return at the two slots of a union, and at two empty slots
 pub record UnionsReadBack {T : Type 0} (reads : ReadsBoth T) : Type 0 where
   pub optional :
       (B : List ℕ) (read : Table) (slot tag : ℕ) (content : Content) → tag ≢ 0 → tag < 256
@@ -69,23 +66,22 @@ pub record UnionsReadBack {T : Type 0} (reads : ReadsBoth T) : Type 0 where
       → Located (Required (UnionAnswer reads read slot)) type_ method offset r
       → IsMissing type_ method offset r
 
--- what a vector of unions is answered with
+-- the results of reading a union vector
 abbrev pub reads_unions : {T E : Type 0} → ReadsBoth (VectorOf (UnionSliceView T E))
 reads_unions S start f g r =
     Answer (shown (ShowsUnionVector S start) (union_vector_reading S f g)) r
 
--- it is the vector of these items, wherever they stand in B
+-- the union vector of these items, wherever they are in B
 abbrev pub AreUnions : {T E : Type 0} → List ℕ → List (ℕ × ℕ) → VectorOf (UnionSliceView T E) → Type 0
 AreUnions {T} {E} B items vector = (kt kv : ℕ) × IsUnionVectorOf T E B kt kv items vector
 
--- it is the vector of unions that have these tags, and the references to whose values hold these in B
+-- the union vector with these tags, whose values hold these in B
 abbrev pub AreNewUnions :
     {T E : Type 0} → List ℕ → Unions → VectorOf (UnionSliceView T E) → Type 0
 AreNewUnions B contents vector =
     (unions : List (ℕ × ℕ)) × UnionsHold B contents unions × AreUnions B unions vector
 
--- What the calls of a table return at two neighbouring slots, the first of which refers to the tags
--- of a vector of unions and the second to its values.
+-- what the calls of a table return at the two slots of a union vector
 pub record UnionVectorSlotsReadBack (T E : Type 0) {X : Type 0} (May : List ℕ → X → Type 0)
     (tags_of values_of : X → Content)
     (IsRead : List ℕ → X → VectorOf (UnionSliceView T E) → Type 0) : Type 0 where
@@ -102,13 +98,12 @@ pub record UnionVectorSlotsReadBack (T E : Type 0) {X : Type 0} (May : List ℕ 
       → Located (Required (UnionVectorAnswer reads_unions read slot)) type_ method offset r
       → IsOkAnd r (IsRead B x)
 
--- So they do of one that was written with its table, and of one that was written before, where it
--- stands.
+-- So they do for one written with its table, and for one written before.
 abbrev pub NewUnionVectorsReadBack : (T E : Type 0) → Type 0
 NewUnionVectorsReadBack T E =
     UnionVectorSlotsReadBack T E (λ B contents. ⊤) union_tags union_values AreNewUnions
 
--- a vector of unions that stands in B: its items, and the distances of its tags and of its values
+-- a union vector in B: its items, and the distances of its tags and of its values
 pub record WrittenUnions : Type 0 where
   pub items : List (ℕ × ℕ)
   pub tags_at : ℕ
@@ -124,7 +119,7 @@ WrittenUnionVectorsReadBack T E =
     UnionVectorSlotsReadBack T E UnionsStand (λ unions. written_tags unions.tags_at)
     (λ unions. written_values unions.values_at) (λ B unions. AreUnions B unions.items)
 
--- Of two neighbouring slots that hold nothing they return none.
+-- Two empty slots return none.
 abbrev pub AbsentUnionVectorsReadBack : (T E : Type 0) → Type 0
 AbsentUnionVectorsReadBack T E =
     (B : List ℕ) (read : Table) (slot : ℕ) → SlotHolds B read slot None
@@ -132,7 +127,7 @@ AbsentUnionVectorsReadBack T E =
     → (type_ method : List ℕ) (offset : ℕ) (r : Result (Option (VectorOf (UnionSliceView T E))) Error)
     → Located (UnionVectorAnswer reads_unions read slot) type_ method offset r → r ≡ Ok None
 
--- One that must be there is missing then.
+-- A required union vector is missing then.
 abbrev pub MissingUnionVectorsAreErrors : (T E : Type 0) → Type 0
 MissingUnionVectorsAreErrors T E =
     (B : List ℕ) (read : Table) (slot : ℕ) → SlotHolds B read slot None

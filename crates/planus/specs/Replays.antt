@@ -1,4 +1,4 @@
--- What a replay of steps answers.
+-- The result of a replay of steps.
 use Rattle.std.specs.Prelude.{◌≡◌, ℕ, ◌+◌, ◌==◌, List, [], ◌∷◌, ◌++◌, length, take, drop}
 use Rattle.std.specs.Prelude.{slice_get, map}
 use Rattle.std.specs.Prelude.{Bool, true, false, if◌then◌else◌, Option, Some, None, Result, Ok, Err}
@@ -29,34 +29,32 @@ abbrev pub is_clear : Step → Bool
 is_clear clear = true
 is_clear _ = false
 
--- the step that a number names: an earlier one, with no clear from it on
+-- the step that a number names: an earlier one, after the last clear
 abbrev pub named_step : List Step → ℕ → Option Step
 named_step earlier number =
     if list_any is_clear (drop number earlier) then None else slice_get earlier number
 
--- what is wrong with naming it as one of a kind
+-- the error of naming it as one of a kind
 abbrev pub fault_of : Kind → Option Step → Option Why
 fault_of kind step = naming_fault kind (option_map kind_of step)
 
--- the fault of the first of these that has one
+-- the first error of these
 abbrev pub first_fault : {X : Type 0} → (X → Option Why) → List X → Option Why
 first_fault fault [] = None
 first_fault fault (x ∷ xs) = option_or (fault x) (first_fault fault xs)
 
--- what is wrong with a union of a list, if this is what is wrong with naming each step as a value:
--- its tag is 0, which is that of no variant; or its value can't be named
+-- the error of a union, by the errors of naming steps: its tag is 0, or its value can't be named
 abbrev pub union_fault : (ℕ → Option Why) → ℕ × ℕ → Option Why
 union_fault fault item = if item.0 == 0 then Some ZeroTag else fault item.1
 
--- what is wrong with numbers of a width, or of none that is known
+-- the error of numbers of a width, or of an unknown one
 abbrev pub numbers_fault : Option Width → List ℕ → Option Why
 numbers_fault None items = Some WidthUnknown
 numbers_fault (Some width) items =
     if list_all (fits_width width) items then None else Some ValueTooBig
 
--- the first broken check of a step, if this is what is wrong with naming each step: numbers have a
--- known width and fit it; what is referred to, and a root, can be named as a value; unions have tags
--- above 0; the checks of a table
+-- the first failed check of a step: widths and numbers, named values, tags above 0, a table's
+-- checks
 abbrev pub check_by : (Kind → ℕ → Option Why) → Step → Option Why
 check_by fault (numbers width items) = numbers_fault (width_of width) items
 check_by fault (refs steps) = first_fault (fault a_value) steps
@@ -65,18 +63,17 @@ check_by fault (table fields) = table_fault fault fields
 check_by fault (finish front root identifier) = fault a_value root
 check_by fault _ = None
 
--- the first broken check of a step, by the steps before it: what it names is an earlier step behind
--- the last clear, and wrote what it is named as
+-- the first failed check of a step, by the steps before it
 abbrev pub broken_check : List Step → Step → Option Why
 broken_check earlier step =
     check_by (λ kind number. fault_of kind (named_step earlier number)) step
 
--- the step of this number with its broken check, if it has one, or else a later one
+-- the step of this number with its failed check, if it has one, or else a later one
 abbrev pub first_bad_or : ℕ → Option Why → Option (ℕ × Why) → Option (ℕ × Why)
 first_bad_or n (Some why) later = Some (n, why)
 first_bad_or n None later = later
 
--- FirstBad: the first step with a broken check, and that check; it looks at the steps alone.
+-- the first step with a failed check, and that check; it depends on the steps alone
 abbrev pub first_bad_after : List Step → List Step → Option (ℕ × Why)
 first_bad_after earlier [] = None
 first_bad_after earlier (step ∷ steps) =
@@ -87,7 +84,7 @@ first_bad_after earlier (step ∷ steps) =
 abbrev pub first_bad : List Step → Option (ℕ × Why)
 first_bad steps = first_bad_after [] steps
 
--- a value's place: the number of its step, and the distances by which it is named
+-- a value's number of step, and its distances
 abbrev pub place_of : StepPlace → Listed
 place_of place = record {
   step = place.step;
@@ -95,15 +92,13 @@ place_of place = record {
       { distance = place.distance; tags = place.tags };
 }
 
--- a finish, without where it lies in memory
+-- a finish, without its location in memory
 abbrev pub finish_given : Finished → Finish
 finish_given finished =
     record { bytes = finished.bytes.items; places = map place_of finished.places.items }
 
--- The answer is that of the run: what each finish gives where no step is bad; the first bad step,
--- if the run comes to it; a part that is too large, if the run comes to that before. Of a refusal of
--- memory nothing is said: memory is asked for before the first step, so whatever the steps are, it
--- may be the answer. When it may be that of one step is `StepRefused`.
+-- The result is that of the run: its finishes, the first bad step, or a part that is too large. Out
+-- of memory is always allowed; `StepRefused` says when a step may return it.
 abbrev pub Replays : Switches → List Step → Result (List Finish) ReplayError → Type 0
 Replays switches steps (Ok finished) = (first_bad steps ≡ None) × Runs switches steps finished
 Replays switches steps (Err (BadStep step why)) =
@@ -113,34 +108,33 @@ Replays switches steps (Err TooLarge) = (n : ℕ) × (first_bad (take (n + 1) st
     × ComesToTooLarge switches steps n
 Replays switches steps (Err OutOfMemory) = ⊤
 
--- a refused write, as a replay's error
+-- an error of the builder, as a replay's error
 abbrev pub replay_error : BuildError → ReplayError
 replay_error build.OutOfMemory = OutOfMemory
 replay_error build.TooLarge = TooLarge
 
--- the answer, without where its finishes lie in memory
+-- the result, without the location of its finishes in memory
 abbrev pub given_by : Result (Vec Finished Global) ReplayError → Result (List Finish) ReplayError
 given_by (Ok finished) = Ok (map finish_given finished.items)
 given_by (Err error) = Err error
 
--- a refusal of memory, of which nothing is said
+-- out of memory, on which no clause depends
 abbrev pub IsOutOfMemory : Result (List Finish) ReplayError → Type 0
 IsOutOfMemory (Err OutOfMemory) = ⊤
 IsOutOfMemory _ = ⊥
 
--- A refusal of memory aside, there is one answer to a list of steps.
+-- Out of memory aside, a list of steps has one result.
 abbrev pub AnswersAreOne : Type 0
 AnswersAreOne =
     (switches : Switches) (steps : List Step) (a b : Result (List Finish) ReplayError)
     → Replays switches steps a → Replays switches steps b
     → IsOutOfMemory a ⊎ IsOutOfMemory b ⊎ (a ≡ b)
 
--- an answer that isn't a refusal of memory
+-- a result other than out of memory
 abbrev pub IsAnswered : Switches → List Step → Type 0
 IsAnswered switches steps = (answer : Result (List Finish) ReplayError)
     × Replays switches steps answer × (IsOutOfMemory answer → ⊥)
 
--- There is one to every list of steps: a step that isn't bad can be taken, or comes to a part that
--- is too large.
+-- Every list of steps has such a result, since a good step can be taken, or has too large a part.
 abbrev pub AnAnswerIsThere : Type 0
 AnAnswerIsThere = (switches : Switches) (steps : List Step) → IsAnswered switches steps

@@ -1,4 +1,4 @@
--- What is read of the root of a buffer.
+-- What is read from the root of a buffer.
 use Rattle.std.specs.Prelude.{ℕ, ◌≤◌, List, codes, length, Option, Result, IsOkAnd, IsTrue}
 use Rattle.planus_read.specs.declared.located.Error.{Error}
 use Rattle.planus_read.specs.declared.table_reader.Table.{Table}
@@ -14,9 +14,7 @@ use Rattle.planus.specs.Contents.{WritesContents}
 use Rattle.planus.specs.ReadBack.{are_apart, TableStands, TableHolds}
 use Rattle.planus.specs.Views.{reads_as}
 
--- The view of the root of a buffer with these bytes. Where the reference at the front leads to a
--- table, it has its contents; and so it has those with which a table of kind K was written and
--- finished.
+-- the view of a buffer's root has the contents with which its table was written
 pub record IsRoot {V : Type 0} (K : Type 0) (name : List ℕ) (table_of : V → Table) (bytes : List ℕ)
     (r : Result V Error) : Type 0 where
   pub answer : Located (reads_as table_of bytes 0 0) name (codes "read_as_root") 0 r

@@ -1,4 +1,4 @@
--- Runs: what steps come to, by the definitions of entries and of how they are put down alone.
+-- Runs: the meaning of steps, by the definitions of entries and of how they are written alone.
 use Rattle.std.specs.Prelude.{◌≡◌, ℕ, ◌+◌, ◌==◌, ◌||◌, List, [], ◌∷◌, ◌++◌, take, slice_get, Option, Some}
 use Rattle.std.specs.Prelude.{None, if◌then◌else◌, Bool, true, false, nat_lt, ◌^◌, map, length, ⊤}
 use Rattle.std.specs.Prelude.{◌⊎◌}
@@ -20,36 +20,36 @@ use Rattle.planus.specs.Steps.{Front, root_first, size_first}
 use Rattle.planus.specs.Slots.{place_fault, alignment_of, greatest_field}
 use Rattle.planus.specs.declared.faults.Why.{Why}
 
--- a value by the number of its step, and what it is named by
+-- a value's number of step, and its distances
 pub record Listed : Type 0 where
   pub step : ℕ
   pub named : Named
 
--- what the value of a step is named by, if that step is listed
+-- the distances of a step's value, if listed
 abbrev pub named_at : List Listed → ℕ → Option Named
 named_at [] step = None
 named_at (one ∷ rest) step = if one.step == step then Some one.named else named_at rest step
 
--- the distance of a value, to which a reference leads; a vector of unions has none that is its own
+-- the distance of a value; a union vector has none
 abbrev pub value_distance : Named → Option ℕ
 value_distance named = if is_none named.tags then Some named.distance else None
 
--- the distances of a vector of unions, that of its tags and that of its references; a value has neither
+-- the distances of a union vector's tags and of its references; a value has none
 abbrev pub tags_distance : Named → Option ℕ
 tags_distance named = named.tags
 
 abbrev pub references_distance : Named → Option ℕ
 references_distance named = option_map (λ tags. named.distance) named.tags
 
--- such a distance of what a step wrote, if that step is listed, and there is one
+-- such a distance of a step, if listed
 abbrev pub distance_at : (Named → Option ℕ) → List Listed → ℕ → Option ℕ
 distance_at which listed step = option_and_then which (named_at listed step)
 
--- the distance of the value of a step, if it is listed, and a value
+-- the distance of a step's value, if listed
 abbrev pub value_at : List Listed → ℕ → Option ℕ
 value_at listed step = distance_at value_distance listed step
 
--- the width of numbers of so many bytes, if they can be the items of a list
+-- the width of n bytes, for items of a vector
 abbrev pub width_of : ℕ → Option Width
 width_of size =
     if size == 2 then Some w16
@@ -59,7 +59,7 @@ width_of size =
 abbrev pub fits_width : Width → ℕ → Bool
 fits_width width number = nat_lt number (256 ^ byte_len width)
 
--- the list of numbers of a width, if there is such a width, and all of them fit it
+-- the vector of numbers of a known width that all fit it
 -- The format: numbers are little-endian.
 abbrev pub numbers_value : Option Width → List ℕ → Option Value
 numbers_value None items = None
@@ -68,27 +68,27 @@ numbers_value (Some width) items =
     then Some (value.plain_list (byte_len width) (byte_len width) (map (to_le_bytes width) items))
     else None
 
--- one more in front, if it is there and the others are
+-- both in one list, if both are there
 abbrev pub with_one : {Y : Type 0} → Option Y → Option (List Y) → Option (List Y)
 with_one None others = None
 with_one (Some one) others = option_map (λ rest. one ∷ rest) others
 
--- what each of these gives, if all of them give something
+-- the results for all items, if all have one
 abbrev pub all_of : {X Y : Type 0} → (X → Option Y) → List X → Option (List Y)
 all_of gives [] = Some []
 all_of gives (x ∷ xs) = with_one (gives x) (all_of gives xs)
 
--- a union of a list, if it is one: its tag, which is above 0, and the distance of a step's value
+-- a union: its tag, above 0, and the distance of a step's value
 abbrev pub union_of : List Listed → ℕ × ℕ → Option (ℕ × ℕ)
 union_of listed item =
     if item.0 == 0 then None
     else option_map (λ distance. (item.0, distance)) (value_at listed item.1)
 
--- the width of a number of so many bytes, if it can be a field
+-- the width of n bytes, for a field
 abbrev pub field_width : ℕ → Option Width
 field_width size = if size == 1 then Some w8 else width_of size
 
--- the number of a width as a field, if there is such a width, and it fits it
+-- the field of a number that fits a known width
 -- The format: a number of n bytes has alignment n.
 abbrev pub plain_field : Option Width → ℕ → Option Field
 plain_field None number = None
@@ -107,15 +107,14 @@ field_of listed (tags_field step) =
 field_of listed (values_field step) =
     option_map value.values (distance_at references_distance listed step)
 
--- one field more in a slot, if nothing is wrong with its place
+-- one more field, if its place is right
 abbrev pub with_field : ℕ → Option Why → Option Field → Option (List (ℕ × Field))
     → Option (List (ℕ × Field))
 with_field slot None (Some field) rest = option_map (λ fields. (slot, field) ∷ fields) rest
 with_field slot None None rest = None
 with_field slot (Some why) field rest = None
 
--- the fields behind those of these slots, the last of which has this alignment, if each is one and
--- has its place
+-- the fields after those of these slots, the last of which has this alignment, if all are right
 abbrev pub fields_of : List Listed → List ℕ → ℕ → List (ℕ × FieldStep)
     → Option (List (ℕ × Field))
 fields_of listed slots before [] = Some []
@@ -123,7 +122,7 @@ fields_of listed slots before (entry ∷ fields) =
     with_field entry.0 (place_fault slots before entry) (field_of listed entry.1)
     (fields_of listed (slots ++ entry.0 ∷ []) (alignment_of entry.1) fields)
 
--- The value that a step writes, if it writes one, by the values of the steps before it.
+-- the value that a step writes, if any, by the values of the steps before it
 abbrev pub value_of : List Listed → Step → Option Value
 value_of listed (text content) = Some (value.text content)
 value_of listed (bytes content) = Some (value.byte_list content)
@@ -135,13 +134,12 @@ value_of listed (table fields) =
 value_of listed (finish front root identifier) = None
 value_of listed clear = None
 
--- the finish of a root at a distance, by what stands at its front
+-- the finish of a root at a distance, by its front
 abbrev pub finish_of : Front → Option (List ℕ) → ℕ → List Entry
 finish_of root_first identifier root = finish_entry root identifier ∷ []
 finish_of size_first identifier root = sized_finish_entry root identifier ∷ []
 
--- What a step puts down, if it puts down anything: the entries of its value, or a finish of the
--- value of an earlier step.
+-- what a step writes, if anything: the entries of its value, or of a finish
 abbrev pub entries_put : List Listed → Step → Option (List Entry)
 entries_put listed (finish front root identifier) =
     option_map (finish_of front identifier) (value_at listed root)
@@ -152,35 +150,34 @@ pub record Finish : Type 0 where
   pub bytes : List ℕ
   pub places : List Listed
 
--- What a run has come to: what was written since the last clear, and the values of it; the number
--- of the next step; and what each finish gave.
+-- what was written since the last clear, its values, the next step's number, and the finishes
 pub record State : Type 0 where
   pub past : Past
   pub listed : List Listed
   pub next : ℕ
   pub finished : List Finish
 
--- nothing is written, from the step of this number on, and this was given before
+-- nothing is written before the step of this number, and these finishes were given
 abbrev pub nothing_since : ℕ → List Finish → State
 nothing_since next finished =
     record { past = no_past; listed = []; next = next; finished = finished }
 
--- where every run begins
+-- the start of every run
 abbrev pub nothing_written : State
 nothing_written = nothing_since 0 []
 
--- what a step of this number adds to the values, once its entries got these distances
+-- what a step adds to the values, once its entries got these distances
 abbrev pub values_added : Option Value → ℕ → List ℕ → List Listed
 values_added None number got = []
 values_added (Some value) number got = record { step = number; named = named_by value got } ∷ []
 
--- what it adds to what was given: the bytes, and all values since the last clear
+-- what a step adds to the finishes: the bytes, and all values since the last clear
 abbrev pub finishes_added : Step → State → Past → List Finish
 finishes_added (finish front root identifier) before after =
     record { bytes = after.written.bytes; places = before.listed } ∷ []
 finishes_added _ before after = []
 
--- One step that writes: its entries are put down.
+-- a step that writes its entries
 pub record Writes (switches : Switches) (before : State) (step : Step)
     (after : State) : Type 0 where
   pub entries : List Entry
@@ -196,7 +193,7 @@ pub record Writes (switches : Switches) (before : State) (step : Step)
 abbrev pub cleared : State → State
 cleared before = nothing_since (before.next + 1) before.finished
 
--- One step leads from one state to the next.
+-- one step leads from one state to the next
 abbrev pub Advances : Switches → State → Step → State → Type 0
 Advances switches before clear after = after ≡ cleared before
 Advances switches before step after = Writes switches before step after
@@ -207,18 +204,18 @@ LeadsTo switches before [] after = after ≡ before
 LeadsTo switches before (step ∷ steps) after =
     (between : State) × Advances switches before step between × LeadsTo switches between steps after
 
--- Run from nothing, the steps give these finishes.
+-- from nothing, the steps give these finishes
 abbrev pub Runs : Switches → List Step → List Finish → Type 0
 Runs switches steps finished = (end : State) × LeadsTo switches nothing_written steps end
     × (finished ≡ end.finished)
 
--- The step puts down entries, and comes to one whose part is too large.
+-- one of the step's entries has a part that is too large
 pub record StepTooLarge (switches : Switches) (before : State) (step : Step) : Type 0 where
   pub entries : List Entry
   pub are : entries_put before.listed step ≡ Some entries
   pub too_large : ComesToTooLargeEntry switches entries [] before.past
 
--- The run of the steps comes to a part that is too large, in the step of this number.
+-- the run comes to such a part in the step of this number
 pub record ComesToTooLarge (switches : Switches) (steps : List Step) (n : ℕ) : Type 0 where
   pub step : Step
   pub there : slice_get steps n ≡ Some step
@@ -226,19 +223,18 @@ pub record ComesToTooLarge (switches : Switches) (steps : List Step) (n : ℕ) :
   pub run : LeadsTo switches nothing_written (take n steps) before
   pub too_large : StepTooLarge switches before step
 
--- With the least padding the part isn't too large.
+-- with the least padding the part isn't too large
 abbrev pub IsNotTooLarge : Part → Written → Type 0
 IsNotTooLarge part written =
     IsWithinLimit (length written.bytes) part.size part.alignment written.promises
 
--- Memory is asked for an entry: it isn't found, and its part isn't too large.
+-- an entry that takes memory: it isn't found, and its part isn't too large
 pub record AsksForMemory (switches : Switches) (entry : Entry) (got : List ℕ)
     (before : Past) : Type 0 where
   pub is_new : found_before switches entry before ≡ None
   pub fits : IsNotTooLarge (part_after entry got before) before.written
 
--- Putting down the entries comes to where memory may be refused: for one of them, or after the last.
--- None of those before is too large, and nor is it.
+-- memory may run out for one of these entries, or after the last; no part up to there is too large
 abbrev pub ComesToRefusedEntry : Switches → List Entry → List ℕ → Past → Type 0
 ComesToRefusedEntry switches [] got before = ⊤
 ComesToRefusedEntry switches (entry ∷ entries) got before =
@@ -246,21 +242,20 @@ ComesToRefusedEntry switches (entry ∷ entries) got before =
     ⊎ ((distance : ℕ) × (between : Past) × Puts switches entry got before distance between
     × ComesToRefusedEntry switches entries (got ++ distance ∷ []) between)
 
--- whether memory is asked for a list before a step puts anything down: of numbers that are made
--- narrower, or of what was named
+-- whether a step takes memory for a list before it writes: numbers made narrower, or named values
 abbrev pub takes_list : Step → Bool
 takes_list (numbers width items) = width == 2 || width == 4
 takes_list (refs steps) = true
 takes_list (unions items) = true
 takes_list _ = false
 
--- The step puts down entries, and comes to where memory may be refused.
+-- memory may run out while the step's entries are written
 pub record EntriesRefused (switches : Switches) (before : State) (step : Step) : Type 0 where
   pub entries : List Entry
   pub are : entries_put before.listed step ≡ Some entries
   pub refused : ComesToRefusedEntry switches entries [] before.past
 
--- Memory may be refused in the step: for its list, or as it puts down its entries.
+-- memory may run out in the step: for its list, or for its entries
 abbrev pub StepRefused : Switches → State → Step → Type 0
 StepRefused switches before step =
     (takes_list step ≡ true) ⊎ EntriesRefused switches before step

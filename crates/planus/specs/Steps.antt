@@ -1,4 +1,4 @@
--- The steps of a run, without where their texts and lists lie in memory.
+-- The steps of a run, without the location of their strings and vectors in memory.
 use Rattle.std.specs.Prelude.{ℕ, Bool, true, false, List, Option, map}
 use Rattle.std.specs.String.{string_bytes}
 use Rattle.planus.specs.declared.steps.Step as code
@@ -8,30 +8,26 @@ use Rattle.planus.specs.declared.steps.Field.{Field}
 use Rattle.planus.specs.declared.steps.FieldValue.{FieldValue}
 use Rattle.planus.specs.declared.steps.FieldValue.TheVariants.{Number, Ref, Tags, Values}
 
--- what a field of a table holds: a number, and of how many bytes it is; a reference to the value of
--- an earlier step, by the number of that; references to the tags and to the references of the union
--- list of an earlier step
+-- What a field holds: a number and its width in bytes, or a reference to a step's value, to its
+-- tags or to its references.
 pub data FieldStep : Type 0 where
   number_field : (width : ℕ) → ℕ → FieldStep
   ref_field : ℕ → FieldStep
   tags_field : ℕ → FieldStep
   values_field : ℕ → FieldStep
 
--- which word stands at the front of a finished buffer: that of the root, or that of the size of what
--- follows it
+-- what a finished buffer begins with: the reference to the root, or the size
 pub data Front : Type 0 where
   root_first : Front
   size_first : Front
 
--- the one or the other, by whether the size is asked for
+-- the front, by whether the size is wanted
 abbrev pub front_of : Bool → Front
 front_of true = size_first
 front_of false = root_first
 
--- a text with its bytes; a list of bytes; numbers, and of how many bytes each is; references to the
--- values of earlier steps, by the numbers of these; a vector of unions, of each its tag and the number
--- of an earlier step, whose value it is; a table of fields with their slots; a finish with what stands
--- at its front, the number of its root's step, and a file identifier, if there is one; a clear
+-- A step: a string, a byte vector, numbers and their width in bytes, references to earlier steps, a
+-- union vector, a table, a finish, or a clear.
 pub data Step : Type 0 where
   text : List ℕ → Step
   bytes : List ℕ → Step
@@ -53,7 +49,7 @@ content_of (Values step) = values_field step
 abbrev pub bare_field : Field → ℕ × FieldStep
 bare_field field = (field.slot, content_of field.value)
 
--- a step, without where its text or its list lies in memory
+-- a step, without the location of its string or vector in memory
 abbrev pub bare_step : code.Step → Step
 bare_step (Text words) = text (string_bytes words)
 bare_step (Bytes content) = bytes content.items

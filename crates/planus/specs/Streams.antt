@@ -1,4 +1,4 @@
--- What is read of finishes with the size in front, one behind another.
+-- What is read from size-prefixed finishes, one after another.
 use Rattle.std.specs.Prelude.{◌≡◌, List, ◌++◌, drop, map, ℕ}
 use Rattle.std.specs.List.{AllByRecursion, concat}
 use Rattle.planus_read.specs.ReadingLaws.{IsAnswered}
@@ -8,9 +8,7 @@ use Rattle.planus.specs.Steps.{Step, size_first}
 use Rattle.planus.specs.Runs.{Finish}
 use Rattle.planus.specs.Headline.{FinishHolds, SizedHolds}
 
--- Over the bytes of a finish with the size in front, and whatever is behind them, its bytes behind
--- the size are answered, and the rest. In that piece the reference at its front leads to the root,
--- the identifier stands behind that, and every value stands, and reads back.
+-- A size-prefixed finish is read with exactly its bytes after the size, and every value reads back.
 abbrev pub SizedFinishesAreRead : Type 0
 SizedFinishesAreRead =
     (switches : Switches) (steps : List Step) (given : Finish)
@@ -19,7 +17,7 @@ SizedFinishesAreRead =
     (record { content = drop 4 given.bytes; rest = rest })
     × SizedHolds steps holds.root holds.identifier given
 
--- this is given by a finish of some run, with the size in front
+-- a size-prefixed finish of some run gives this
 pub record IsGivenSized (given : Finish) : Type 0 where
   pub switches : Switches
   pub steps : List Step
@@ -30,8 +28,7 @@ pub record IsGivenSized (given : Finish) : Type 0 where
 abbrev pub bytes_given : List Finish → List (List ℕ)
 bytes_given finishes = map (λ given. given.bytes) finishes
 
--- Such finishes, of one run or of several, put behind one another, are read one by one, each with
--- exactly its bytes, whatever is behind the last of them.
+-- Such finishes, of any runs, one after another, are read one by one, each with exactly its bytes.
 abbrev pub SizedStreamsAreRead : Type 0
 SizedStreamsAreRead =
     (finishes : List Finish) (left : List ℕ) → AllByRecursion IsGivenSized finishes

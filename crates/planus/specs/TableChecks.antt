@@ -9,28 +9,26 @@ use Rattle.planus.specs.Runs.{field_width, fits_width}
 use Rattle.planus.specs.declared.faults.Why.{Why}
 use Rattle.planus.specs.declared.faults.Why.TheVariants.{WidthUnknown, ValueTooBig}
 
--- what is wrong with a number of a width, or of none that is known
+-- the error of a number of a width, or of an unknown one
 abbrev pub number_fault : Option Width → ℕ → Option Why
 number_fault None number = Some WidthUnknown
 number_fault (Some width) number =
     if fits_width width number then None else Some ValueTooBig
 
--- what is wrong with what a field holds, if this is what is wrong with naming each step: a reference
--- names a value, and tags and values a vector of unions
+-- the error of a field's content: a reference names a value, tags and values a union vector
 abbrev pub content_fault : (Kind → ℕ → Option Why) → FieldStep → Option Why
 content_fault fault (number_field width number) = number_fault (field_width width) number
 content_fault fault (ref_field step) = fault a_value step
 content_fault fault (tags_field step) = fault a_union_vector step
 content_fault fault (values_field step) = fault a_union_vector step
 
--- The first broken check of a field, behind those of these slots, the last of which has this
--- alignment: its slot, what it holds, and its alignment.
+-- the first failed check of a field: of its slot, its content, its alignment
 abbrev pub field_fault : (Kind → ℕ → Option Why) → List ℕ → ℕ → ℕ × FieldStep → Option Why
 field_fault fault slots before entry =
     option_or (slot_fault slots entry.0)
     (option_or (content_fault fault entry.1) (rising_fault before (alignment_of entry.1)))
 
--- the first broken check of fields behind those, in their order
+-- the first failed check of the fields after those, in order
 abbrev pub fields_fault : (Kind → ℕ → Option Why) → List ℕ → ℕ → List (ℕ × FieldStep)
     → Option Why
 fields_fault fault slots before [] = None
@@ -38,6 +36,6 @@ fields_fault fault slots before (entry ∷ fields) =
     option_or (field_fault fault slots before entry)
     (fields_fault fault (slots ++ entry.0 ∷ []) (alignment_of entry.1) fields)
 
--- the first broken check of a table with these fields
+-- the first failed check of a table
 abbrev pub table_fault : (Kind → ℕ → Option Why) → List (ℕ × FieldStep) → Option Why
 table_fault fault fields = fields_fault fault [] greatest_field fields

@@ -1,4 +1,4 @@
--- The fields of a table that are there, in the order in which they are declared and written.
+-- The present fields of a table, in the order in which they are declared and written.
 use Rattle.std.specs.Prelude.{ℕ, List, [], ◌∷◌, ◌++◌, Option, Some, None}
 use Rattle.planus_read.specs.Bytes.{BytesStand}
 use Rattle.planus_read.specs.Values.{Field, plain, reference, tags, values}
@@ -9,12 +9,12 @@ use Rattle.planus_write.specs.Unions.{union_reach}
 use Rattle.planus_write.specs.declared.union_offset.UnionOffset.{UnionOffset}
 use Rattle.planus_write.specs.declared.union_vector_offset.UnionVectorOffset.{UnionVectorOffset}
 
--- the field of a slot, if it is there
+-- the field of a slot, if present
 abbrev pub field_in : {A : Type 0} → ℕ → (A → Field) → Option A → List (ℕ × Field)
 field_in slot field None = []
 field_in slot field (Some prepared) = (slot, field prepared) ∷ []
 
--- fields one by one, each there or not, as one list
+-- fields one by one, each present or not, as one list
 abbrev pub all_of : List (List (ℕ × Field)) → List (ℕ × Field)
 all_of [] = []
 all_of (fields ∷ others) = fields ++ all_of others
@@ -23,26 +23,26 @@ all_of (fields ∷ others) = fields ++ all_of others
 abbrev pub tag_field : ℕ → Field
 tag_field tag = plain (record { bytes = to_le_bytes w8 tag; alignment = 1 })
 
--- the fields of a union, if it is there: the reference to its value, and its tag
+-- the fields of a union, if present: the reference to its value, and its tag
 abbrev pub union_value_in : {T : Type 0} → ℕ → Option (UnionOffset T) → List (ℕ × Field)
 union_value_in slot union = field_in slot (λ union. reference (union_reach union)) union
 
 abbrev pub union_tag_in : {T : Type 0} → ℕ → Option (UnionOffset T) → List (ℕ × Field)
 union_tag_in slot union = field_in slot (λ union. tag_field union.tag) union
 
--- the fields of a vector of unions, if it is there: the references to its tags and to its values
+-- the fields of a union vector, if present: the references to its tags and to its values
 abbrev pub list_tags_in : {T : Type 0} → ℕ → Option (UnionVectorOffset T) → List (ℕ × Field)
 list_tags_in slot vector = field_in slot (λ vector. tags vector.tags.distance) vector
 
 abbrev pub list_values_in : {T : Type 0} → ℕ → Option (UnionVectorOffset T) → List (ℕ × Field)
 list_values_in slot vector = field_in slot (λ vector. values vector.values.distance) vector
 
--- the size of a field, 0 if it isn't there
+-- the size of a field, 0 if absent
 abbrev pub size_if : {A : Type 0} → ℕ → Option A → ℕ
 size_if size None = 0
 size_if size (Some prepared) = size
 
--- its bytes by its place, none if it isn't there
+-- its bytes by its place, none if absent
 abbrev pub item_if : {A : Type 0} → (A → Item) → Option A → Item
 item_if leaves None place = []
 item_if leaves (Some prepared) place = leaves prepared place

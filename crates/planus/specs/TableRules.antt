@@ -9,27 +9,25 @@ abbrev pub is_apart : ℕ → List Declared → Bool
 is_apart slot [] = true
 is_apart slot (one ∷ declared) = not (one.slot == slot) && is_apart slot declared
 
--- each slot lies in so many bytes of a vtable, and none is used twice
+-- each slot is within n bytes of vtable, and none is used twice
 abbrev pub has_slots : ℕ → List Declared → Bool
 has_slots n [] = true
 has_slots n (one ∷ declared) =
     leb (slot_position one.slot + 2) n && (is_apart one.slot declared && has_slots n declared)
 
--- no field's alignment is above this, nor above that of the field before it
+-- no alignment is above this, nor above that of the field before
 abbrev pub is_falling : ℕ → List Declared → Bool
 is_falling bound [] = true
 is_falling bound (one ∷ declared) =
     leb one.alignment bound && is_falling one.alignment declared
 
--- A table can be declared with so many bytes for its vtable: its slots lie there, once each, its
--- object has at most 65535 bytes, and its fields come by falling alignment.
+-- slots fit in n bytes of vtable, objects in 65535 bytes, and fields come by falling alignment
 abbrev pub can_hold : ℕ → List Declared → Bool
 can_hold n declared =
     leb 4 n && (leb n 65534 && (leb (4 + total_size declared) 65535
     && (has_slots n declared && is_falling 1073741824 declared)))
 
--- the two slots of each union are neighbours, and so are those of each vector of unions, that of the tag
--- or the tags first
+-- the two slots of each union and of each union vector are neighbours, tags first
 abbrev pub are_neighbours : List (ℕ × ℕ) → Bool
 are_neighbours [] = true
 are_neighbours (one ∷ others) = (one.1 == one.0 + 1) && are_neighbours others

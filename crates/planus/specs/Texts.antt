@@ -1,4 +1,4 @@
--- The texts of why a replay stops.
+-- The messages of a replay's errors.
 use Rattle.std.specs.Prelude.{ℕ, List, codes, ◌++◌}
 use Rattle.std.specs.Fmt.{decimal}
 use Rattle.planus.specs.declared.faults.ReplayError.{ReplayError}
@@ -8,7 +8,7 @@ use Rattle.planus.specs.declared.faults.Why.TheVariants.{WidthUnknown, ValueTooB
 use Rattle.planus.specs.declared.faults.Why.TheVariants.{NoSuchStep, WrongKind, ZeroTag}
 use Rattle.planus.specs.declared.faults.Why.TheVariants.{SlotTooBig, SlotTwice, RisingAlignment}
 
--- the words of a fault of a step
+-- the message of a step's error
 abbrev pub why_text : Why → List ℕ
 why_text WidthUnknown = codes "width unknown"
 why_text ValueTooBig = codes "value too big"
@@ -19,7 +19,7 @@ why_text SlotTooBig = codes "slot too big"
 why_text SlotTwice = codes "slot twice"
 why_text RisingAlignment = codes "rising alignment"
 
--- the words of why a replay stopped, with the number of a bad step
+-- the message of a replay's error, with the number of a bad step
 abbrev pub replay_error_text : ReplayError → List ℕ
 replay_error_text OutOfMemory = codes "out of memory"
 replay_error_text TooLarge = codes "too large"

@@ -1,4 +1,4 @@
--- What is returned for unions, for vectors of them, and for their items.
+-- What is returned for unions, for union vectors, and for their items.
 use Rattle.std.specs.Prelude.{◌≡◌, ℕ, ◌+◌, ◌*◌, List, [], ◌∷◌, map, Option, Some, None, Result, Ok, IsOkAnd}
 use Rattle.std.specs.Prelude.{IsSomeAnd, MatchOption, ⊤, slice_get, slice_index}
 use Rattle.planus_read.specs.declared.located.Error.{Error}
@@ -22,8 +22,7 @@ use Rattle.planus.specs.ReadUnions.{UnionsStand}
 use Rattle.planus.specs.Unions.{UnionVariant, HasVariants, UnionStands, IsUnion}
 
 module _ {U : Type 0} (reads : ReadsBoth U) (table : Table) (slot : ℕ) (type_ method : List ℕ) where
-  -- What a call returns for the union in a slot and the next that may be absent; of one that was
-  -- written, also of one of kind K that was written before, the variant that it is.
+  -- what a call returns for the optional union of a slot and the next
   pub record IsUnionField (K : Type 0) (r : Result (Option U) Error) : Type 0 where
     pub answer : Located (UnionAnswer reads table slot) type_ method (table_start table) r
     pub read_back :
@@ -41,7 +40,7 @@ module _ {U : Type 0} (reads : ReadsBoth U) (table : Table) (slot : ℕ) (type_ 
         → MatchOption given ⊤ (λ union. UnionStands variants B union.tag (written union.offset.distance))
         → IsOkAnd r (SameIf (λ union. IsUnion variants B union.tag (written union.offset.distance)) given)
 
-  -- The same of one that must be there.
+  -- the same for a required union
   pub record IsUnionRequired (r : Result U Error) : Type 0 where
     pub answer : Located (Required (UnionAnswer reads table slot)) type_ method (table_start table) r
     pub read_back :
@@ -53,25 +52,23 @@ module _ {U : Type 0} (reads : ReadsBoth U) (table : Table) (slot : ℕ) (type_ 
         (B : List ℕ) → SlotHolds B table slot None → SlotHolds B table (slot + 1) None
         → IsMissing type_ method (table_start table) r
 
--- a union that was written before, by its tag and its distance
+-- a union written before, by its tag and its distance
 abbrev pub written_item : ℕ × ℕ → ℕ × Content
 written_item item = (item.0, written item.1)
 
 module _ {T E : Type 0} where
-  -- it is the vector of unions with these tags and contents, in B
+  -- the union vector with these tags and contents, in B
   abbrev pub AreUnionsOf : List ℕ → List (ℕ × Content) → VectorOf (UnionSliceView T E) → Type 0
   AreUnionsOf B unions vector = AreNewUnions B (as_unions unions) vector
 
-  -- the same of one that is left out where it is empty
+  -- the same for one that is left out where it is empty
   abbrev pub AreAnyUnions :
       List ℕ → List (ℕ × Content) → Option (VectorOf (UnionSliceView T E)) → Type 0
   AreAnyUnions B [] found = found ≡ None
   AreAnyUnions B (union ∷ unions) found = IsSomeAnd found (AreUnionsOf B (union ∷ unions))
 
   module _ (table : Table) (slot : ℕ) (type_ method : List ℕ) where
-    -- What a call returns for the vector of unions in a slot and the next that may be absent: of one
-    -- that was written with its table, of one that was left out where it is empty, and of one that was
-    -- written before.
+    -- what a call returns for the optional union vector of a slot and the next
     pub record IsUnionVector (r : Result (Option (VectorOf (UnionSliceView T E))) Error) : Type 0 where
       pub answer :
           Located (UnionVectorAnswer reads_unions table slot) type_ method (table_start table) r
@@ -93,7 +90,7 @@ module _ {T E : Type 0} where
           → UnionsStand B unions
           → IsOkAnd r (λ found. IsSomeAnd found (AreUnionsOf B (map written_item unions.items)))
 
-    -- The same of one that must be there.
+    -- the same for a required union vector
     pub record IsUnionVectorRequired (r : Result (VectorOf (UnionSliceView T E)) Error) : Type 0 where
       pub answer :
           Located (Required (UnionVectorAnswer reads_unions table slot)) type_ method
@@ -111,8 +108,7 @@ module _ {T E : Type 0} where
           → SlotHolds B table (slot + 1) (Some (written_values unions.values_at))
           → UnionsStand B unions → IsOkAnd r (AreUnionsOf B (map written_item unions.items))
 
-  -- What is returned for the item at a position of such a vector, and none where the vector doesn't
-  -- have it. Of the vector of some unions it is the one at this position.
+  -- what is returned for an item of such a vector, none out of bounds
   pub record IsUnionItem {U : Type 0} (reads : ReadsBoth U) (name : List ℕ)
       (vector : VectorOf (UnionSliceView T E)) (index : ℕ) (r : Option (Result U Error)) : Type 0 where
     pub answer :

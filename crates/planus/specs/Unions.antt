@@ -1,4 +1,4 @@
--- Unions as they are read: each variant is a table or a text.
+-- Unions as they are read: each variant is a table or a string.
 use Rattle.std.specs.Prelude.{◌≡◌, ◌≢◌, ℕ, ◌<◌, List, [], ◌∷◌, Option, Result, Ok, Err}
 use Rattle.std.specs.Prelude.{◌⊎◌, IsSomeAnd, ⊤}
 use Rattle.std.specs.Borrow.{Bor}
@@ -15,7 +15,7 @@ use Rattle.planus.specs.ReadBack.{TableStands, TableHolds}
 use Rattle.planus.specs.ReadKinds.{reads_text}
 use Rattle.planus.specs.Views.{reads_as}
 
--- A variant of a union, by its tag: a table or a text, which a union of this variant has.
+-- a variant by its tag: a table or a string that a union of this variant has
 pub data UnionVariant (U : Type 0) : Type 0 where
   table_variant : ℕ → (U → Option Table) → UnionVariant U
   text_variant : ℕ → (U → Option (Bor (List ℕ))) → UnionVariant U
@@ -24,8 +24,7 @@ abbrev pub tag_of : {U : Type 0} → UnionVariant U → ℕ
 tag_of (table_variant tag table_of) = tag
 tag_of (text_variant tag text_of) = tag
 
--- The reference to a union's value leads to this table, which was written before; or to this text, which
--- was written with the union or before.
+-- a union's value is this table, written before, or this string, written with it or before
 abbrev pub IsTable : List ℕ → Content → List (ℕ × Option Content) → Type 0
 IsTable B (written distance) contents = TableStands B contents distance
 IsTable B _ contents = ⊥
@@ -36,7 +35,7 @@ IsText B (written distance) bytes = Stands B (at (position_of B distance)) (text
 IsText B _ bytes = ⊥
 
 module _ {U : Type 0} where
-  -- what a variant is answered with
+  -- the results of a variant's read
   abbrev pub ReadsVariant : UnionVariant U → Reads U
   ReadsVariant (table_variant tag table_of) S start f (Ok union) =
       IsSomeAnd (table_of union) (λ table. reads_as (λ (table : Table). table) S start f (Ok table))
@@ -46,7 +45,7 @@ module _ {U : Type 0} where
       IsSomeAnd (text_of union) (λ lent. reads_text S start f (Ok lent))
   ReadsVariant (text_variant tag text_of) S start f (Err e) = reads_text S start f (Err e)
 
-  -- what the variant with this tag is answered with
+  -- the results of the variant with this tag
   abbrev pub ReadsTagged : List (UnionVariant U) → ReadsBoth U
   ReadsTagged [] S start tag f r = ⊥
   ReadsTagged (variant ∷ variants) S start tag f r =
@@ -61,8 +60,7 @@ module _ {U : Type 0} where
   IsKnown [] tag = ⊥
   IsKnown (variant ∷ variants) tag = (tag ≡ tag_of variant) ⊎ IsKnown variants tag
 
-  -- What a union of these variants is answered with: the variant with the tag, or that the tag is
-  -- unknown.
+  -- The results for a union of these variants: the variant with the tag, or an unknown tag.
   abbrev pub ReadsVariants : List (UnionVariant U) → ReadsBoth U
   ReadsVariants variants S start tag f (Ok union) = ReadsTagged variants S start tag f (Ok union)
   ReadsVariants variants S start tag f (Err e) =
@@ -75,7 +73,7 @@ module _ {U : Type 0} where
       (S : List ℕ) (start tag f : ℕ) (r : Result U ErrorKind) → reads S start tag f r
       → ReadsVariants variants S start tag f r
 
-  -- the value of a union of this variant stands in B
+  -- the value of a union of this variant is encoded in B
   abbrev pub VariantStands : UnionVariant U → List ℕ → Content → Type 0
   VariantStands (table_variant tag table_of) B content =
       (contents : List (ℕ × Option Content)) × IsTable B content contents
@@ -87,7 +85,7 @@ module _ {U : Type 0} where
   EachStands (variant ∷ variants) B tag content =
       (tag ≡ tag_of variant → VariantStands variant B content) × EachStands variants B tag content
 
-  -- A union with this tag, which one of the variants has, refers to a value that stands in B.
+  -- A union with the tag of one of the variants refers to a value that is encoded in B.
   pub record UnionStands
       (variants : List (UnionVariant U)) (B : List ℕ) (tag : ℕ) (content : Content) : Type 0 where
     pub known : IsKnown variants tag
@@ -95,7 +93,7 @@ module _ {U : Type 0} where
     pub below : tag < 256
     pub each : EachStands variants B tag content
 
-  -- what was read is of this variant, and has the table with these contents, or this text
+  -- what was read is of this variant, and has the table with these contents, or this string
   abbrev pub IsVariant : UnionVariant U → List ℕ → Content → U → Type 0
   IsVariant (table_variant tag table_of) B content union =
       IsSomeAnd (table_of union)

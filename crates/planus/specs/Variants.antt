@@ -1,10 +1,10 @@
--- What the writing of a union does whose value is written with it, and its laws.
+-- The effect of writing a union together with its value, and its laws.
 use Rattle.std.specs.Prelude.{◌≡◌, ℕ, Ok, Err}
 use Rattle.planus_write.specs.Placing.{Outcome}
 use Rattle.planus_write.specs.declared.offset.Offset.{Offset}
 use Rattle.planus_write.specs.declared.union_offset.UnionOffset.{UnionOffset}
 
--- The value of a union is prepared, and the union has this tag and refers to it; or it is refused.
+-- A union's value is prepared, and the union has this tag and refers to it; or there is an error.
 abbrev pub WritesVariant : {K T : Type 0} → ℕ → Outcome (Offset K) → Outcome (UnionOffset T)
 WritesVariant {K} tag prepare old (Ok union) new =
     (union.tag ≡ tag) × ((offset : Offset K) × prepare old (Ok offset) new

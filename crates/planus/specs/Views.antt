@@ -7,16 +7,16 @@ use Rattle.planus_read.specs.Reading.{TableLayout, table_reading}
 use Rattle.planus_read.specs.Tables.{Reads, ShowsTable}
 use Rattle.planus.specs.declared.tables.table_ref.TableRef.{TableRef}
 
--- the view is the table of this layout, in a piece with the bytes S and this start
+-- the view is the table of this layout in the slice S with this start
 abbrev pub ShowsView : {K : Type 0} → List ℕ → ℕ → TableLayout → TableRef K → Type 0
 ShowsView S start layout view = ShowsTable S start layout view.table
 
--- what a view is answered with, by the table in it
+-- the results of a view's read, by its table
 abbrev pub reads_as : {T : Type 0} → (T → Table) → Reads T
 reads_as table_of S start f r =
     Answer (shown (λ layout view. ShowsTable S start layout (table_of view)) (table_reading S f)) r
 
--- the view has the table that was read, or the same error is answered
+-- the view has the table that was read, or both are the same error
 abbrev pub IsSameView : {K T : Type 0} → (T → Table) → Result (TableRef K) Error → Result T Error
     → Type 0
 IsSameView table_of (Ok found) (Ok view) = table_of view ≡ found.table

@@ -1,4 +1,4 @@
-//! Why a replay stops.
+//! Errors of a replay.
 
 use planus_write::BuildError;
 use std::alloc::{AllocError, AllocFailed};
@@ -12,16 +12,16 @@ pub enum Why {
     WidthUnknown,
     /// A number doesn't fit its bytes.
     ValueTooBig,
-    /// No earlier step behind the last clear has the number.
+    /// No earlier step since the last clear has the number.
     NoSuchStep,
-    /// The step with the number wrote nothing that can be named so: a reference names a value, and
-    /// tags and values a vector of unions.
+    /// The named step wrote nothing of the kind: a reference names a value, tags and values name a
+    /// union vector.
     WrongKind,
     /// The tag of a union is 0.
     ZeroTag,
     /// A slot is above 255.
     SlotTooBig,
-    /// A field before it has the slot.
+    /// An earlier field has the slot.
     SlotTwice,
     /// The alignment of a field is greater than that of the field before it.
     RisingAlignment,
@@ -53,7 +53,7 @@ impl Error for Why {}
 /// Why a replay stopped.
 #[derive(Clone, Copy, Debug, PartialEq, Eq)]
 pub enum ReplayError {
-    /// Memory was refused.
+    /// An allocation failed.
     OutOfMemory,
     /// The bytes would be more than 2147483647.
     TooLarge,

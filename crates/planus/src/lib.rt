@@ -1,5 +1,5 @@
-//! The runtime under flatbuffers code: a builder that writes from the back, readers that take
-//! fields in place, and [`replay`], which takes a list of steps to finished buffers.
+//! The runtime of generated flatbuffers code: a builder that writes from the back, readers that
+//! take fields in place, and [`replay`], which turns a list of steps into finished buffers.
 #![tactic(auto)]
 
 mod faults;

@@ -17,12 +17,11 @@ use planus_write::{Offset, UnionOffset, UnionVectorOffset};
 pub(crate) struct NamedSteps<'a> {
     /// The number of the first of them.
     pub(crate) first: usize,
-    /// Of each, what it wrote, if it wrote a value.
+    /// What each of them wrote, if a value.
     pub(crate) offsets: &'a [Option<Written>],
 }
 
 impl<'a> NamedSteps<'a> {
-    /// The value of a step, by its number.
     pub(crate) fn value(&self, step: usize) -> Result<Offset<()>, Why>
         ensures { FindsNamed a_value offset_named self.now.first (map name_of self.now.offsets.now)
             step result }
@@ -34,7 +33,6 @@ impl<'a> NamedSteps<'a> {
         }
     }
 
-    /// The vector of unions of a step, by its number.
     fn unions(&self, step: usize) -> Result<UnionVectorOffset<()>, Why>
         ensures { FindsNamed a_union_vector vector_named self.now.first
             (map name_of self.now.offsets.now) step result }
@@ -46,7 +44,6 @@ impl<'a> NamedSteps<'a> {
         }
     }
 
-    /// What a step wrote, by its number.
     fn written(&self, step: usize) -> Option<Option<Written>>
         ensures { option_map name_of result
             ≡ written_at self.now.first (map name_of self.now.offsets.now) step }
@@ -58,7 +55,6 @@ impl<'a> NamedSteps<'a> {
         offsets.get(step - self.first).copied()
     }
 
-    /// A union of a list: its tag, and the step of its value.
     pub(crate) fn union(&self, item: (u8, usize)) -> Result<UnionOffset<()>, Why>
         ensures { PreparesUnion self.now.first (map name_of self.now.offsets.now) item result }
     {
@@ -69,7 +65,6 @@ impl<'a> NamedSteps<'a> {
         Ok(UnionOffset::new(tag, self.value(step)?))
     }
 
-    /// What a field holds, ready to be written.
     pub(crate) fn prepare(&self, value: &FieldValue) -> Result<PreparedField, Why>
         ensures { PreparesField self.now.first (map name_of self.now.offsets.now)
             (content_of value.now) result }

@@ -1,4 +1,4 @@
-//! The bodies of [`Plain`](crate::Plain) of structs and enums.
+//! Bodies of [`Plain`](crate::Plain) for structs and enums.
 
 ghost use Rattle.std.specs.Prelude.{codes};
 ghost use Rattle.planus.specs.ReadPlain.{IsPlainFieldOr};
@@ -12,8 +12,8 @@ use planus_read::located::Error;
 use planus_read::table_reader::Table;
 use planus_read::{Plain, SliceWithStartOffset};
 
-/// Writes the fields of a struct over its bytes, in the body of [`Plain::put`](crate::Plain::put): each by its name and
-/// its size in bytes, and `_` with a number of bytes that are zero where there is padding.
+/// Writes the fields of a struct in the body of [`Plain::put`](crate::Plain::put): each by its name
+/// and its size in bytes, and `_` with a number of zero bytes for padding.
 ///
 /// ```text
 /// put_fields!(self, bytes; lat: 4, lon: 4, alt: 2, _: 2);
@@ -33,8 +33,8 @@ macro_rules! put_fields {
     };
 }
 
-/// Returns a struct that is read field by field, in the body of [`Plain::read`](crate::Plain::read): the first field by
-/// its name, and each other one with its offset in bytes from the first.
+/// Returns a struct read field by field, in the body of [`Plain::read`](crate::Plain::read): the
+/// first field by its name, each other one with its offset in bytes from the first.
 ///
 /// ```text
 /// read_fields!(Pos, buffer, offset; lat, lon: 4, alt: 8)
@@ -49,8 +49,8 @@ macro_rules! read_fields {
     };
 }
 
-/// Returns the variant whose number stands at the offset, in the body of [`Plain::read`](crate::Plain::read): the
-/// type of the numbers, and all variants.
+/// Returns the variant whose number is at the offset, in the body of
+/// [`Plain::read`](crate::Plain::read): the type of the numbers, and all variants.
 ///
 /// ```text
 /// read_variant!(u8, buffer, offset; Kind::Car, Kind::Bike, Kind::Ship)
@@ -68,9 +68,8 @@ macro_rules! read_variant {
     }};
 }
 
-// What the macros write, of a struct with padding and an enum.
+// What the macros write for a struct with padding and an enum.
 
-/// A variant of three.
 #[derive(Clone, Copy)]
 enum Choice {
     First = 0,
@@ -98,7 +97,6 @@ impl Plain for Choice {
     }
 }
 
-/// Two numbers, a choice, and a byte of padding.
 #[derive(Clone, Copy)]
 struct Padded {
     left: i16,
@@ -126,7 +124,7 @@ impl Plain for Padded {
     }
 }
 
-/// A field with a default, as an accessor of a user's own reads it.
+/// Reads a field with a default, as a user's accessor does.
 fn row_choice<'n>(table: &Table<'_>) -> Result<Choice, Error<'n>>
     ensures { IsPlainFieldOr choice_shape Second table.now 0 (codes "Row") (codes "choice") result }
 {

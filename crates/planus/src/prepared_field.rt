@@ -1,4 +1,4 @@
-//! A field of a table on its way into the buffer.
+//! A field of a table, ready to be written.
 ghost use Rattle.std.specs.Prelude.{◌≡◌, ◌+◌, ◌≤◌, ◌++◌, List, [], ◌∷◌};
 ghost use Rattle.planus_read.specs.Aligned.{field_alignment};
 ghost use Rattle.planus_read.specs.Bytes.{BytesStand};
@@ -22,13 +22,12 @@ pub(crate) enum PreparedField {
     U32(u32),
     U64(u64),
     Reference(Offset<()>),
-    // The tags and the references of a vector of unions.
+    // The tags and the references of a union vector.
     Tags(Offset<()>),
     Values(Offset<()>),
 }
 
 impl PreparedField {
-    /// A number of `width` bytes.
     pub(crate) fn number(width: u8, value: u64) -> Result<PreparedField, Why>
         ensures { PreparesNumber (field_width width) value result }
     {
@@ -42,7 +41,6 @@ impl PreparedField {
         number.ok_or(Why::ValueTooBig)
     }
 
-    /// Its alignment in bytes.
     pub(crate) fn alignment(&self) -> usize
         ensures { result ≡ field_alignment (field_is self.now) }
     {
@@ -55,7 +53,6 @@ impl PreparedField {
         }
     }
 
-    /// Declares it for a slot.
     pub(crate) fn declare(&self, writer: &mut TableWriter<VTABLE_SIZE>, slot: usize)
         requires small { slot ≤ 255 }
         requires unused { BytesStand writer.old.vtable (slot_position slot) (0 ∷ 0 ∷ []) }
@@ -83,7 +80,6 @@ impl PreparedField {
         }
     }
 
-    /// Writes it behind what is written.
     pub(crate) fn write(&self, writer: &mut ObjectWriter<'_>)
         requires room { field_size (field_is self.now) ≤ (body_of writer.old).remaining }
         requires reach { field_reach (field_is self.now) ≤ (body_of writer.old).place }

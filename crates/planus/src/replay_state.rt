@@ -1,4 +1,4 @@
-//! A replay on its way.
+//! The state of a replay.
 ghost use Rattle.std.specs.Prelude.{◌≡◌, [], ◌+◌, ◌<◌, ◌^◌, vec_len, length, map, IfOk, IfErr, Ok};
 ghost use Rattle.planus_write.specs.View.{switches_of};
 ghost use Rattle.planus_write.specs.Past.{no_past};
@@ -37,18 +37,17 @@ use planus_write::{
 };
 use std::alloc::{AllocError, Global};
 
-/// A replay on its way.
 #[derive(Drop)]
 pub(crate) struct ReplayState {
     builder: Builder,
-    // The number of the first step behind the last clear.
+    // The number of the first step after the last clear.
     first: usize,
-    // Of each step since, what it wrote, if it wrote a value.
+    // What each step since wrote, if a value.
     offsets: Vec<Option<Written>>,
     pub(crate) finished: Vec<Finished>,
 }
 
-/// The places of the values among these steps, which are numbered from `first` on.
+/// Returns the places of the values among these steps, which are numbered from `first` on.
 fn places_of(
     alloc: Global,
     first: usize,
@@ -58,7 +57,7 @@ fn places_of(
     ensures { IfOk result (λ places. map place_of places.items ≡ listed_from first
         (map name_of offsets.now)) }
 {
-    // Finishes are among the steps too, and can be most of them.
+    // Finishes are steps too, and can be most of them.
     let values = offsets.iter().flatten().count();
     let mut places = Vec::with_capacity(alloc, values)?;
     for (index, offset) in offsets.iter().enumerate() {
@@ -73,14 +72,13 @@ fn places_of(
     Ok(places)
 }
 
-/// A number of 2 or 4 bytes, as a list of a step may have it.
+/// A number of 2 or 4 bytes in a vector of a step.
 trait Narrow: Drop + Sized {
     ghost width: { Width };
 
-    // Which number it is.
     ghost number: { Self → ℕ };
 
-    /// The number in this width, if it fits.
+    /// Returns the number in this width, if it fits.
     fn narrow(wide: u64) -> Option<Self>
         ensures { IsNarrowed number width wide result };
 }
@@ -105,7 +103,6 @@ impl Narrow for u32 {
     }
 }
 
-/// The numbers as narrower ones, if all of them fit.
 fn narrowed<T: Narrow>(alloc: Global, items: &[u64]) -> Result<Option<Vec<T>>, AllocError>
     ensures { IfOk result (Narrowed T.number T.width items.now) }
 {
@@ -135,7 +132,6 @@ impl ReplayState {
         })
     }
 
-    /// What this step may name.
     fn earlier(&self) -> NamedSteps<'_>
         ensures first { result.first ≡ self.now.first }
         ensures offsets { result.offsets.now ≡ self.now.offsets.items }
@@ -146,14 +142,12 @@ impl ReplayState {
         }
     }
 
-    /// The value of an earlier step, by its number.
     fn value(&self, step: usize) -> Result<Offset<()>, Why>
         ensures { FindsNamed a_value offset_named self.now.first (names self.now) step result }
     {
         self.earlier().value(step)
     }
 
-    /// The values of earlier steps, by their numbers.
     fn values(&self, alloc: Global, steps: &[usize]) -> Result<Vec<Offset<()>>, ReplayError>
         requires { self.now.first + vec_len self.now.offsets < 2 ^ 64 }
         ensures { FindsValues self.now steps.now result }
@@ -168,14 +162,13 @@ impl ReplayState {
         Ok(offsets)
     }
 
-    /// A union of the value of an earlier step.
     fn union(&self, item: (u8, usize)) -> Result<UnionOffset<()>, Why>
         ensures { PreparesUnion self.now.first (names self.now) item result }
     {
         self.earlier().union(item)
     }
 
-    /// Unions of the values of earlier steps.
+    /// Returns unions of the values of earlier steps.
     fn union_items(
         &self,
         alloc: Global,
@@ -194,7 +187,6 @@ impl ReplayState {
         Ok(unions)
     }
 
-    /// What is wrong with this step.
     fn bad_step(&self, why: Why) -> ReplayError
         requires { self.now.first + vec_len self.now.offsets < 2 ^ 64 }
         ensures { result ≡ BadStep (self.now.first + length self.now.offsets.items) why }
@@ -203,7 +195,6 @@ impl ReplayState {
         ReplayError::BadStep { step, why }
     }
 
-    /// Writes a value.
     fn write<T, X: WriteAsOffset<T>>(&mut self, value: &X) -> Result<(), ReplayError>
         requires { X.may value.now self.old.builder }
         ensures { WritesValue offset_named (X.outcome value.now) self.old result self.new }
@@ -213,7 +204,6 @@ impl ReplayState {
         Ok(())
     }
 
-    /// Writes numbers of `width` bytes each.
     fn numbers(&mut self, alloc: Global, width: u8, items: &[u64]) -> Result<(), ReplayError>
         requires { self.old.first + vec_len self.old.offsets < 2 ^ 64 }
         ensures { Advanced self.old (step.numbers width items.now) result self.new }
@@ -240,7 +230,6 @@ impl ReplayState {
         self.write(&items)
     }
 
-    /// Writes references to the values of earlier steps.
     fn refs(&mut self, alloc: Global, steps: &[usize]) -> Result<(), ReplayError>
         requires reached { AreReached self.old }
         requires number { self.old.first + vec_len self.old.offsets < 2 ^ 64 }
@@ -250,7 +239,6 @@ impl ReplayState {
         self.write(&offsets)
     }
 
-    /// Writes a vector of unions.
     fn write_unions(&mut self, unions: &[UnionOffset<()>]) -> Result<(), ReplayError>
         requires { AllByRecursion (λ union. union_reach union ≤ length self.old.builder.bytes)
             unions.now }
@@ -262,7 +250,6 @@ impl ReplayState {
         Ok(())
     }
 
-    /// Writes a vector of unions of the values of earlier steps.
     fn unions(&mut self, alloc: Global, items: &[(u8, usize)]) -> Result<(), ReplayError>
         requires reached { AreReached self.old }
         requires number { self.old.first + vec_len self.old.offsets < 2 ^ 64 }
@@ -272,7 +259,6 @@ impl ReplayState {
         self.write_unions(unions.as_slice())
     }
 
-    /// Checks the fields of a table, and declares them.
     fn declared(&self, fields: &[Field]) -> Result<TableWriter<VTABLE_SIZE>, Why>
         requires { AreReached self.now }
         ensures { DeclaresTable self.now (map bare_field fields.now) result }
@@ -291,7 +277,6 @@ impl ReplayState {
         Ok(writer)
     }
 
-    /// Writes a table.
     fn table(&mut self, fields: &[Field]) -> Result<(), ReplayError>
         requires reached { AreReached self.old }
         requires number { self.old.first + vec_len self.old.offsets < 2 ^ 64 }
@@ -311,7 +296,6 @@ impl ReplayState {
         Ok(())
     }
 
-    /// Takes one step.
     pub(crate) fn advance(&mut self, alloc: Global, step: &Step) -> Result<(), ReplayError>
         requires reached { AreReached self.old }
         requires number { self.old.first + vec_len self.old.offsets + 1 < 2 ^ 64 }
@@ -333,7 +317,6 @@ impl ReplayState {
         }
     }
 
-    /// Takes all away that was written.
     fn clear(&mut self)
         requires { self.old.first + vec_len self.old.offsets + 1 < 2 ^ 64 }
         ensures { Advanced self.old step.clear (Ok tt) self.new }
@@ -343,7 +326,7 @@ impl ReplayState {
         self.offsets.clear();
     }
 
-    /// Finishes the value of an earlier step, with the size in front if that is asked for.
+    /// Finishes the value of an earlier step, size-prefixed if that is asked for.
     fn finish(
         &mut self,
         alloc: Global,

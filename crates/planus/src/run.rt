@@ -15,13 +15,13 @@ use std::alloc::Global;
 
 /// Returns what each finish of the steps gives, in order.
 ///
-/// Equal texts, byte lists and vtables are written once where `caches` says so; equal contents of
-/// such a kind then have one distance in `places`.
+/// Equal strings, byte vectors and vtables are written once where `caches` says so; equal contents
+/// of such a kind then have one distance in `places`.
 ///
-/// Each step is checked before it writes, so the first refused step decides:
-/// [`ReplayError::BadStep`] where its check is broken, [`ReplayError::TooLarge`] where its part's
-/// place would be above 2147483647 bytes from the end, and [`ReplayError::OutOfMemory`] where
-/// memory is refused.
+/// Each step is checked before it writes, and the first that fails decides:
+/// [`ReplayError::BadStep`] where its check fails, [`ReplayError::TooLarge`] where its part would
+/// begin more than 2147483647 bytes from the end, and [`ReplayError::OutOfMemory`] where an
+/// allocation fails.
 pub fn replay(alloc: Global, caches: Caches, steps: &[Step]) -> Result<Vec<Finished>, ReplayError>
     ensures run { Replays (switches_of caches) (map bare_step steps.now) (given_by result) }
     ensures holds { IfOk result (λ finished. AllByRecursion

@@ -7,14 +7,13 @@ ghost use Rattle.planus.specs.inner.Declaring.{slots_of, ChecksSlot};
 use crate::faults::Why;
 use crate::steps::Field;
 
-/// Whether one of the fields has the slot.
 fn is_used(fields: &[Field], slot: u16) -> bool
     ensures { result ≡ list_any (λ field. field.slot == slot) fields.now }
 {
     fields.iter().any(|field| field.slot == slot)
 }
 
-/// What is wrong with the slot of a field behind these.
+/// Checks the slot of a field after these.
 pub(crate) fn check_slot(fields: &[Field], slot: u16) -> Result<(), Why>
     ensures { ChecksSlot (slots_of (map bare_field fields.now)) slot result }
 {

@@ -3,35 +3,33 @@
 /// One step: a value that is written, a finish, or a clear.
 #[derive(Clone, Debug, PartialEq, Eq, Drop)]
 pub enum Step {
-    /// A text.
+    /// A string.
     Text(String),
-    /// A list of bytes.
+    /// A byte vector.
     Bytes(Vec<u8>),
-    /// A list of numbers of 2, 4 or 8 bytes each.
+    /// A vector of numbers of 2, 4 or 8 bytes each.
     Numbers { width: u8, items: Vec<u64> },
-    /// A list of references to the values of earlier steps, by their numbers from 0.
+    /// A vector of references to the values of earlier steps, by their numbers from 0.
     Refs(Vec<usize>),
-    /// A vector of unions: of each the tag of its variant, which is above 0, and its value, which
-    /// is that of an earlier step, by its number from 0. It is two lists, of tags and of
-    /// references, and named by [`FieldValue::Tags`] and [`FieldValue::Values`] alone.
+    /// A union vector: for each union its tag, above 0, and the number from 0 of the earlier step
+    /// that is its value. Only [`FieldValue::Tags`] and [`FieldValue::Values`] name it.
     Unions(Vec<(u8, usize)>),
-    /// A table of fields, in the order in which they are declared and written. No alignment is
-    /// above that of the field before it.
+    /// A table of fields, in the order in which they are declared and written. No alignment may be
+    /// above that of the field before.
     Table(Vec<Field>),
-    /// A finish of the buffer, whose root is the value of an earlier step, by its number from 0,
-    /// with a file identifier of four bytes, if there is one.
+    /// A finish of the buffer: its root is the value of an earlier step, by its number from 0; `id`
+    /// is the file identifier.
     Finish { root: usize, id: Option<[u8; 4]> },
-    /// The same with the size in front: a number of 4 bytes, which says how many bytes follow it.
+    /// The same, size-prefixed: before the buffer, the number of its bytes in 4 bytes.
     FinishSized { root: usize, id: Option<[u8; 4]> },
-    /// All that was written is taken away; later steps can't name what came before.
+    /// Discards all that was written; later steps can't name what came before.
     Clear,
 }
 
 /// One field of a table.
 #[derive(Clone, Debug, PartialEq, Eq, Drop)]
 pub struct Field {
-    /// The slot of the vtable by which the field is found, from 0 to 255; no other field of the
-    /// table has it.
+    /// The field's slot in the vtable, from 0 to 255; each slot is used once.
     pub slot: u16,
     /// What the field holds.
     pub value: FieldValue,
@@ -44,8 +42,8 @@ pub enum FieldValue {
     Number { width: u8, value: u64 },
     /// A reference of 4 bytes to the value of an earlier step, by its number from 0.
     Ref(usize),
-    /// A reference of 4 bytes to the tags of the vector of unions of an earlier step.
+    /// A reference of 4 bytes to the tags of an earlier step's union vector.
     Tags(usize),
-    /// A reference of 4 bytes to the references of the vector of unions of an earlier step.
+    /// A reference of 4 bytes to the references of an earlier step's union vector.
     Values(usize),
 }

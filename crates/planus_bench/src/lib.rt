@@ -1,4 +1,4 @@
-//! Tests in large numbers, against plain, slow programs, and with refused memory.
+//! Large tests, against plain, slow programs, and without memory.
 #![tactic(auto)]
 
 #[cfg(test)]

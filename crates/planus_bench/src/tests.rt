@@ -30,14 +30,13 @@ use planus::{BuildError, Builder, Caches};
 use std::alloc::Global;
 use std::process::Abort;
 
-// Fails a test, with these words, where something doesn't hold. An assertion is dear to prove, so
-// this is the one of many tests.
+// Fails a test with this message. An assertion is slow to prove, so this is the one of many tests.
 fn check(rt: &impl Abort, holds: bool, what: &str) {
     assert!(rt; holds, "{what}");
 }
 
-// A builder in a box: what a function owns is written out with its type at each step of its proof,
-// and the type of a builder, with three caches, is long.
+// A builder in a box: the type of an owned value is written out at each step of a proof, and that
+// of a builder, with three caches, is long.
 fn boxed(alloc: Global, builder: Builder) -> Result<Box<Builder>, BuildError> {
     match Box::new(alloc, builder) {
         Ok(builder) => Ok(builder),
@@ -45,7 +44,6 @@ fn boxed(alloc: Global, builder: Builder) -> Result<Box<Builder>, BuildError> {
     }
 }
 
-// A new builder with these caches.
 fn with_caches(alloc: Global, caches: Caches) -> Result<Box<Builder>, BuildError> {
     match Builder::with_caches(alloc, 0, caches) {
         Ok(builder) => boxed(alloc, builder),
@@ -53,7 +51,6 @@ fn with_caches(alloc: Global, caches: Caches) -> Result<Box<Builder>, BuildError
     }
 }
 
-// The same with all caches.
 fn new_builder(alloc: Global) -> Result<Box<Builder>, BuildError> {
     with_caches(alloc, Caches::all())
 }

@@ -9,11 +9,11 @@ use Rattle.planus_demo.specs.declared.weapon.WeaponRef.{WeaponRef}
 use Rattle.planus_demo.specs.declared.equipment_ref.EquipmentRef.{EquipmentRef}
 use Rattle.planus_demo.specs.declared.equipment_ref.EquipmentRef.TheVariants.{Weapon}
 
--- what is read as a weapon
+-- the results of reading a weapon
 abbrev pub ReadsWeapon : List ℕ → ℕ → ℕ → Result WeaponRef ErrorKind → Type 0
 ReadsWeapon S start f answer = Answer (shown (ShowsWeapon S start) (table_reading S f)) answer
 
--- What is read as a piece of equipment of this tag: a weapon with tag 1. No other tag is known.
+-- The results of reading equipment: a weapon for tag 1, no other tag.
 abbrev pub ReadsEquipment : List ℕ → ℕ → ℕ → ℕ → Result EquipmentRef ErrorKind → Type 0
 ReadsEquipment S start tag f (Ok (Weapon weapon)) = (tag ≡ 1) × ReadsWeapon S start f (Ok weapon)
 ReadsEquipment S start tag f (Err error) =

@@ -5,10 +5,10 @@ use Rattle.planus_read.specs.Reading.{TableLayout}
 use Rattle.planus_read.specs.Tables.{ShowsTable}
 use Rattle.planus_demo.specs.declared.monster.MonsterRef.{MonsterRef}
 
--- the table that a monster is
+-- the table of a monster
 abbrev pub monster_table : MonsterRef → Table
 monster_table monster = monster.table
 
--- the monster is the table of this layout, in a piece with the bytes S and this start
+-- the monster is the table of this layout in the slice S with this start
 abbrev pub ShowsMonster : List ℕ → ℕ → TableLayout → MonsterRef → Type 0
 ShowsMonster S start layout monster = ShowsTable S start layout (monster_table monster)

@@ -12,9 +12,7 @@ use Rattle.planus.specs.Contents.{tag_content, tags_content, value_content, valu
 use Rattle.planus.specs.Preparing.{WritesFields}
 use Rattle.planus.specs.TableFields.{field_in, list_tags_in, list_values_in, union_tag_in, union_value_in}
 
--- A monster was written, or refused: its fields are prepared in the order of their slots, the hit
--- points first, and then its table is written, with the fields of these that are there: first the
--- references, the name's always, and then the hit points and the tag of what is equipped.
+-- a monster was written, its fields being prepared by slot, or there is an error
 abbrev pub WritesMonster : {H N I W K T : Type 0} → Outcome (Option H) → (H → Field) → Outcome N
     → (N → Field) → Outcome (Option I) → (I → Field) → Outcome (Option W) → (W → Field)
     → Outcome (Option (UnionOffset K)) → Outcome (Option (UnionVectorOffset K))
@@ -32,7 +30,7 @@ WritesMonster {H} {N} {I} {W} {K} {T} prepare_hp hp_field prepare_name name_fiel
     ∷ list_values_in 7 loot ∷ field_in 0 hp_field hp ∷ union_tag_in 4 equipped ∷ []))))))))
     WritesFields
 
--- What the slots of a monster hold, by what its fields do.
+-- The contents of a monster's slots.
 abbrev pub monster_contents : (hp : Option Content) (name : Content)
     (inventory weapons : Option Content) (equipped : Option (ℕ × Content))
     (loot : Option (Content × Content)) → List (ℕ × Option Content)

@@ -1,5 +1,4 @@
--- What the program prints of its input, by the mode that its words choose, and what it says on
--- standard error.
+-- What the program prints for its input and arguments, and on standard error.
 use Rattle.std.specs.Prelude.{◌≡◌, ℕ, List, [], ◌++◌, Bool, false, Option, Some, None, IfSome}
 use Rattle.std.specs.Prelude.{Result, Ok, Err, codes}
 use Rattle.std.specs.Io.KnownBytes.{Appends}
@@ -19,13 +18,12 @@ abbrev pub DumpsRoot : ℕ → List ℕ → Bool → Option (List ℕ) → Optio
 DumpsRoot root input clean before after = (schema : Schema)
     × HasShape schema worked_tables worked_unions root × WritesDump schema input clean before after
 
--- Only that no word is known was written.
+-- Only the message of an unknown mode was written.
 abbrev pub SaysUnknown : Bool → Option (List ℕ) → Option (List ℕ) → Type 0
 SaysUnknown clean before after =
     (clean ≡ false) × Appends before after (line_of (codes "unknown argument"))
 
--- What the input says as a script was written, or its dump as a weapon or as a monster; without a
--- mode a line that says so.
+-- the output of a script or of a dump was written, or without a mode the message
 abbrev pub DoesMode :
     Option Mode → Option (List ℕ) → Bool → Option (List ℕ) → Option (List ℕ) → Type 0
 DoesMode (Some Script) input clean before after =
@@ -36,14 +34,14 @@ DoesMode (Some Monster) input clean before after =
     IfSome input (λ bytes. DumpsRoot 1 bytes clean before after)
 DoesMode None input clean before after = SaysUnknown clean before after
 
--- how the program is called
+-- the usage
 abbrev pub usage_text : List ℕ
 usage_text =
     line_of (codes "usage: planus_demo < SCRIPT")
     ++ line_of (codes "       planus_demo weapon < BYTES")
     ++ line_of (codes "       planus_demo monster < BYTES")
 
--- What is said on standard error: why the program failed, or without a mode how it is called.
+-- What is printed on standard error: the error of the program, or without a mode its usage.
 abbrev pub told_text : Result Bool RunError → Option Mode → List ℕ
 told_text (Err OutOfMemory) mode = line_of (codes "out of memory")
 told_text (Err Read) mode = line_of (codes "can't read standard input")

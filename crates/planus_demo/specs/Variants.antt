@@ -4,7 +4,7 @@ use Rattle.planus_write.specs.Placing.{Outcome}
 use Rattle.planus_write.specs.declared.offset.Offset.{Offset}
 use Rattle.planus_write.specs.declared.union_offset.UnionOffset.{UnionOffset}
 
--- The value of a variant was written, or refused; it is answered with the variant's tag.
+-- The value of a variant was written, and is returned with the variant's tag; or there is an error.
 abbrev pub WritesVariant : {T K : Type 0} → ℕ → Outcome (Offset T) → Outcome (UnionOffset K)
 WritesVariant {T} {K} tag writes old (Ok union) new = (offset : Offset T)
     × writes old (Ok offset) new × (union.tag ≡ tag)

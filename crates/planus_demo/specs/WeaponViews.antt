@@ -5,10 +5,10 @@ use Rattle.planus_read.specs.Reading.{TableLayout}
 use Rattle.planus_read.specs.Tables.{ShowsTable}
 use Rattle.planus_demo.specs.declared.weapon.WeaponRef.{WeaponRef}
 
--- the table that a weapon is
+-- the table of a weapon
 abbrev pub weapon_table : WeaponRef → Table
 weapon_table weapon = weapon.table
 
--- the weapon is the table of this layout, in a piece with the bytes S and this start
+-- the weapon is the table of this layout in the slice S with this start
 abbrev pub ShowsWeapon : List ℕ → ℕ → TableLayout → WeaponRef → Type 0
 ShowsWeapon S start layout weapon = ShowsTable S start layout (weapon_table weapon)

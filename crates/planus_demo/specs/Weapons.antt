@@ -7,8 +7,7 @@ use Rattle.planus_write.specs.declared.offset.Offset.{Offset}
 use Rattle.planus.specs.Preparing.{WritesFields}
 use Rattle.planus.specs.TableFields.{field_in}
 
--- A weapon was written, or refused: its name is prepared, then its damage, and then its table is
--- written, with the fields of these that are there, in this order.
+-- a weapon was written, its name being prepared before its damage, or there is an error
 abbrev pub WritesWeapon : {A B T : Type 0} → Outcome (Option A) → (A → Field) → Outcome (Option B)
     → (B → Field) → Outcome (Offset T)
 WritesWeapon {A} {B} {T} prepare_name name_field prepare_damage damage_field =

@@ -5,8 +5,8 @@ use planus_script::run::RunError;
 /// How the program ended.
 #[derive(Clone, Copy, Debug, PartialEq, Eq)]
 pub struct Ending {
-    /// Whether all went well, or why reading or writing failed or memory was refused.
+    /// Whether all went well, or the error of reading, writing or an allocation.
     pub answer: Result<bool, RunError>,
-    /// Whether all that there was to say on standard error was written there.
+    /// Whether the message for standard error, if any, was written.
     pub told: bool,
 }

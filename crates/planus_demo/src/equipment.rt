@@ -1,4 +1,4 @@
-//! A union of one variant, written as code does that is generated from a schema:
+//! A union of one variant, written as in code that is generated from a schema:
 //!
 //! ```text
 //! union Equipment { Weapon }
@@ -11,15 +11,14 @@ ghost use Rattle.planus_demo.specs.Variants.{WritesVariant};
 use crate::weapon::Weapon;
 use planus::{BuildError, Builder, UnionOffset, WriteAsOffset};
 
-/// The kind of a union that is a piece of equipment.
+/// The kind of a union of equipment.
 pub struct Equipment;
 
 impl Equipment {
-    /// Writes a weapon, if it isn't written already. Returns it as a piece of equipment: with tag
-    /// 1.
+    /// Writes a weapon, unless it is written already. Returns it as equipment, with tag 1.
     ///
-    /// An offset among the arguments must be one that this builder returned since the last clear. A
-    /// refusal is that of [`WriteAsOffset::prepare`].
+    /// Requires that an offset among the arguments was returned by this builder since the last
+    /// clear. The errors are those of [`WriteAsOffset::prepare`].
     pub fn create_weapon<W: WriteAsOffset<Weapon> + Drop>(
         builder: &mut Builder,
         weapon: W,

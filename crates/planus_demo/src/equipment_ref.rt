@@ -1,4 +1,4 @@
-//! A piece of equipment in a buffer.
+//! Equipment in a buffer.
 
 ghost use Rattle.std.specs.Prelude.{◌≡◌, codes};
 
@@ -6,7 +6,7 @@ use crate::weapon::WeaponRef;
 use planus::errors::ErrorKind;
 use planus::{SliceWithStartOffset, TableRead, TableReadUnion, VectorReadUnion};
 
-/// A piece of equipment in a buffer: a weapon.
+/// Equipment in a buffer: a weapon.
 #[derive(Clone, Copy)]
 pub enum EquipmentRef<'a> {
     /// A weapon, by tag 1.

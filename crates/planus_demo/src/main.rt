@@ -1,6 +1,5 @@
 //! Reads a script from standard input, and prints each finished buffer as a line of hexadecimal
-//! bytes. With the argument `weapon` or `monster` reads such a line, and prints what stands in it.
-//! What goes wrong with its ends is said on standard error.
+//! bytes; with the argument `weapon` or `monster`, reads such a line and prints a dump.
 #![tactic(auto)]
 
 mod ending;

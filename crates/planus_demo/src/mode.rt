@@ -1,4 +1,4 @@
-//! What the words behind the program's name choose.
+//! The modes of the program's arguments.
 ghost use Rattle.std.specs.Prelude.{◌≡◌, ◌++◌, [], ◌∷◌, map, IfOk, OnOk};
 ghost use Rattle.std.specs.String.{string_bytes};
 ghost use Rattle.planus_dump.specs.Shapes.{field_shape, field_of, table_shape, HasShape};
@@ -10,8 +10,7 @@ use crate::modes::Mode;
 use planus_dump::{FieldSchema, Item, Kind, Schema, TableSchema};
 use std::alloc::{AllocError, Global};
 
-/// Returns the mode that these words choose, those behind the program's name, or `None` where they
-/// choose none.
+/// Returns the mode of these arguments, or `None` for others.
 pub fn mode(words: &[String]) -> Option<Mode>
     ensures { IsMode (map string_bytes words.now) result }
 {
@@ -26,7 +25,7 @@ pub fn mode(words: &[String]) -> Option<Mode>
     }
 }
 
-/// Returns a field.
+/// Returns a field of a schema.
 pub fn field(alloc: Global, slot: usize, name: &str, kind: Kind) -> Result<FieldSchema, AllocError>
     ensures { IfOk result (λ field. field_shape field ≡ field_of slot name.now kind) }
 {
@@ -34,7 +33,6 @@ pub fn field(alloc: Global, slot: usize, name: &str, kind: Kind) -> Result<Field
     Ok(FieldSchema { slot, name, kind })
 }
 
-/// Adds a field.
 fn push_field(
     alloc: Global,
     fields: &mut Vec<FieldSchema>,
@@ -49,7 +47,6 @@ fn push_field(
     Ok(())
 }
 
-/// Adds the fields of a weapon.
 fn push_weapon(alloc: Global, fields: &mut Vec<FieldSchema>) -> Result<(), AllocError>
     ensures { OnOk result (map field_shape fields.new.items
         ≡ map field_shape fields.old.items ++ weapon_shape.fields) }
@@ -67,7 +64,6 @@ fn weapon(alloc: Global) -> Result<TableSchema, AllocError>
     Ok(TableSchema { name, fields })
 }
 
-/// Adds the fields of a monster.
 fn push_monster(alloc: Global, fields: &mut Vec<FieldSchema>) -> Result<(), AllocError>
     ensures { OnOk result (map field_shape fields.new.items
         ≡ map field_shape fields.old.items ++ monster_shape.fields) }
@@ -89,8 +85,8 @@ fn monster(alloc: Global) -> Result<TableSchema, AllocError>
     Ok(TableSchema { name, fields })
 }
 
-/// Returns the schema of weapons and monsters, with a root of this position: 0 is a weapon, and 1 a
-/// monster. A union has one variant, a weapon with tag 1.
+/// Returns the schema of weapons and monsters, with this root: 0 is a weapon, and 1 a monster. The
+/// union has one variant, a weapon with tag 1.
 pub fn schema(alloc: Global, root: usize) -> Result<Schema, AllocError>
     ensures { IfOk result (λ schema. HasShape schema worked_tables worked_unions root) }
 {

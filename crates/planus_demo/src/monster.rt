@@ -1,5 +1,4 @@
-//! A table with a field of each kind, written and read as code does that is generated from a
-//! schema:
+//! A table with a field of each kind, written and read as in code that is generated from a schema:
 //!
 //! ```text
 //! table Monster {
@@ -41,14 +40,14 @@ use planus::{
 pub struct Monster;
 
 impl Monster {
-    /// Writes a monster: prepares its fields in the order of the arguments, and then writes the
-    /// table of those that are there; hit points of 100 are left out. Returns its offset.
+    /// Writes a monster, and returns its offset. Its fields are prepared in the order of the
+    /// arguments; hit points of 100 are left out.
     ///
-    /// An offset among the arguments must be one that this builder returned since the last clear.
+    /// Requires that an offset among the arguments was returned by this builder since the last
+    /// clear.
     ///
-    /// [`BuildError::TooLarge`] and [`BuildError::OutOfMemory`] as of
-    /// [`Builder::create_vector`]. What was written before the refused write stays, and nothing
-    /// after it is begun.
+    /// [`BuildError::TooLarge`] and [`BuildError::OutOfMemory`] as in [`Builder::create_vector`].
+    /// What was written before the write that failed stays, and nothing after it is begun.
     pub fn create<H, N, I, W, E, L>(
         builder: &mut Builder,
         hp: H,
@@ -117,7 +116,7 @@ pub struct MonsterRef<'a> {
 }
 
 impl<'a> MonsterRef<'a> {
-    /// Returns the hit points, 100 where there are none. Their errors are those of a field `i16`.
+    /// Returns the hit points, 100 where they are absent. The errors are those of a field `i16`.
     pub fn hp(&self) -> Result<i16>
         ensures { Located (OrElse (pos 100) (FieldAnswer
             (λ S start f r. Answer (signed_reading S f w16) r) (monster_table self.now) 0))
@@ -126,7 +125,7 @@ impl<'a> MonsterRef<'a> {
         Ok(self.table.access::<i16>(0, "Monster", "hp")?.unwrap_or(100))
     }
 
-    /// Returns the name. [`ErrorKind::MissingRequired`] where there is none, and the errors of a
+    /// Returns the name. [`ErrorKind::MissingRequired`] where it is absent, and the errors of a
     /// field `&str`.
     pub fn name(&self) -> Result<&'a str>
         ensures { Located (IsThere (FieldAnswer
@@ -137,7 +136,7 @@ impl<'a> MonsterRef<'a> {
         self.table.access_required::<&str>(1, "Monster", "name")
     }
 
-    /// Returns the inventory, or `None` where there is none. Its errors are those of a field
+    /// Returns the inventory, or `None` where it is absent. The errors are those of a field
     /// `&[u8]`.
     pub fn inventory(&self) -> Result<Option<&'a [u8]>>
         ensures { Located (FieldAnswer
@@ -148,7 +147,7 @@ impl<'a> MonsterRef<'a> {
         self.table.access::<&[u8]>(2, "Monster", "inventory")
     }
 
-    /// Returns the weapons, or `None` where there are none. Their errors are those of a field
+    /// Returns the weapons, or `None` where they are absent. The errors are those of a field
     /// [`Vector`].
     pub fn weapons(&self) -> Result<Option<Vector<'a, Result<WeaponRef<'a>>>>>
         ensures { Located (FieldAnswer
@@ -160,7 +159,7 @@ impl<'a> MonsterRef<'a> {
             .access::<Vector<'a, Result<WeaponRef<'a>>>>(3, "Monster", "weapons")
     }
 
-    /// Returns what is equipped, or `None` where nothing is. Its errors are those of a union field,
+    /// Returns the equipment, or `None` where it is absent. The errors are those of a union field,
     /// of a field [`WeaponRef`], and [`ErrorKind::UnknownUnionTag`] for a tag other than 1.
     pub fn equipped(&self) -> Result<Option<EquipmentRef<'a>>>
         ensures { Located (UnionAnswer ReadsEquipment (monster_table self.now) 4)
@@ -170,7 +169,7 @@ impl<'a> MonsterRef<'a> {
             .access_union::<EquipmentRef<'a>>(4, "Monster", "equipped")
     }
 
-    /// Returns the loot, or `None` where there is none. Its errors are those of a field
+    /// Returns the loot, or `None` where it is absent. The errors are those of a field
     /// [`UnionVector`].
     pub fn loot(&self) -> Result<Option<UnionVector<'a, EquipmentRef<'a>>>>
         ensures { Located (UnionVectorAnswer

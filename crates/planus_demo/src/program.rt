@@ -1,4 +1,4 @@
-//! From the words behind the program's name, and a reader, to two writers.
+//! From the program's arguments and a reader to two writers.
 ghost use Rattle.std.specs.Prelude.{◌≡◌, Option, None, IfOk, IfErr, IfSome, IsTrue};
 ghost use Rattle.std.specs.Io.KnownBytes.{Appends};
 ghost use Rattle.planus_script.specs.Runner.{LeavesUnwritten};
@@ -14,11 +14,10 @@ use std::env;
 use std::env::Env;
 use std::io::{ErrorKind, Read, Write};
 
-/// How the program is called.
 const USAGE: &str = "usage: planus_demo < SCRIPT\n       \
     planus_demo weapon < BYTES\n       planus_demo monster < BYTES\n";
 
-/// The words behind the program's name, or `None` where one of them is no text.
+/// Returns the program's arguments, or `None` where one of them isn't UTF-8.
 fn words_of<E: Env + AllocGlobal>(env: &E) -> Result<Option<Vec<String>>, RunError> {
     let mut words = Vec::new(env.alloc());
     let mut arguments = match env::args(env) {
@@ -51,7 +50,7 @@ fn dump_root<R: Read, W: Write>(
     run_dump(alloc, &schema, reader, writer)
 }
 
-/// Says that the words choose no mode.
+/// Prints the message of an unknown mode.
 fn refuse<W: Write>(writer: &mut W) -> Result<bool, RunError>
     ensures printed { IfOk result (λ clean.
         SaysUnknown clean (W.contents writer.old) (W.contents writer.new)) }
@@ -61,10 +60,11 @@ fn refuse<W: Write>(writer: &mut W) -> Result<bool, RunError>
     Ok(false)
 }
 
-/// Does what a mode says, and without one says so, and reads nothing. Returns whether all went well.
+/// Runs in this mode, or without one prints a message and reads nothing. Returns whether all went
+/// well.
 ///
-/// [`RunError::OutOfMemory`] and [`RunError::Read`] where nothing was written, and
-/// [`RunError::Write`] where writing failed.
+/// [`RunError::OutOfMemory`] and [`RunError::Read`] where nothing was written, [`RunError::Write`]
+/// where writing failed.
 pub fn run_mode<R: Read, W: Write>(
     alloc: Global,
     mode: Option<Mode>,
@@ -86,8 +86,8 @@ pub fn run_mode<R: Read, W: Write>(
     }
 }
 
-/// Returns the mode that the words behind the program's name choose, or `None` where they choose
-/// none. [`RunError::OutOfMemory`] where memory for them is refused.
+/// Returns the mode of the program's arguments, or `None` for unknown ones.
+/// [`RunError::OutOfMemory`] where an allocation fails.
 fn chosen<E: Env + AllocGlobal>(env: &E) -> Result<Option<Mode>, RunError> {
     match words_of(env)? {
         Some(words) => Ok(mode(words.as_slice())),
@@ -95,8 +95,7 @@ fn chosen<E: Env + AllocGlobal>(env: &E) -> Result<Option<Mode>, RunError> {
     }
 }
 
-/// Returns what there is to say on standard error: why the program failed, or without a mode how it
-/// is called.
+/// Returns the message for standard error: the error of the program, or without a mode its usage.
 fn words_for(answer: Result<bool, RunError>, mode: Option<Mode>) -> &'static str
     ensures { result.now ≡ told_text answer mode }
 {
@@ -111,7 +110,7 @@ fn words_for(answer: Result<bool, RunError>, mode: Option<Mode>) -> &'static str
     }
 }
 
-/// Writes these words, if there are any. Returns whether they were written.
+/// Writes a message, if there is one. Returns whether that worked.
 fn tell<W: Write>(errors: &mut W, words: &str) -> bool
     ensures { IsTrue result
         → Appends (W.contents errors.old) (W.contents errors.new) words.now }
@@ -119,10 +118,8 @@ fn tell<W: Write>(errors: &mut W, words: &str) -> bool
     words.is_empty() || write_out(errors, words.as_bytes()).is_ok()
 }
 
-/// Does what the words behind the program's name choose, as [`run_mode`]: nothing is read before
-/// they are known. [`RunError::OutOfMemory`] also where memory for them is refused. Then says on
-/// standard error, to which `errors` writes, why the program failed, or how it is called where the
-/// words choose nothing.
+/// Runs in the mode of the program's arguments, as [`run_mode`], and prints an error, or the usage
+/// for unknown arguments, to `errors`. Without memory for the arguments nothing is read.
 pub fn run_program<E: Env + AllocGlobal, R: Read, W: Write, X: Write>(
     env: &E,
     reader: &mut R,

@@ -26,16 +26,13 @@ use std::fmt::Display;
 use std::io::{Read, Write};
 use std::process::Abort;
 
-// Most tests lend what they own to functions that compare and return what they found: a function
-// that owns a builder or a list is proved slowly. So `in_builder` is the one that owns a builder.
+// A function that owns a builder or a vector is proved slowly, so most tests lend these to others.
 
-// Fails a test, with these words, where something doesn't hold. An assertion is dear to prove, so
-// this is the one of most tests.
+// Fails a test with this message. An assertion is slow to prove, so this is the one of most tests.
 fn check(rt: &impl Abort, holds: bool, what: &str) {
     assert!(rt; holds, "{what}");
 }
 
-// What a run answers, or with a schema a dump.
 fn answers<R: Read, W: Write>(
     alloc: Global,
     schema: Option<&Schema>,
@@ -48,16 +45,14 @@ fn answers<R: Read, W: Write>(
     }
 }
 
-// What a run over a script answers, and how many bytes of the script it leaves unread. It adds what
-// it prints.
+// Returns the result, and the number of bytes of the script that are left unread.
 fn ran(alloc: Global, script: &[u8], printed: &mut Vec<u8>) -> (Result<bool, RunError>, usize) {
     let mut reader = script;
     let answer = run(alloc, &mut reader, printed);
     (answer, reader.len())
 }
 
-// Whether a run over a script leaves so many bytes of it unread, prints this, and tells whether the
-// script is clean, by its answer and by the exit status.
+// Tests the exit status, too.
 fn prints(alloc: Global, script: &[u8], unread: usize, printed: &[u8], clean: bool) -> bool {
     let mut writer = Vec::new(alloc);
     let (answer, left) = ran(alloc, script, &mut writer);
@@ -65,7 +60,6 @@ fn prints(alloc: Global, script: &[u8], unread: usize, printed: &[u8], clean: bo
     answer == Ok(clean) && status(&answer) == exit && left == unread && writer.as_slice() == printed
 }
 
-// Whether these calls are all made of a new builder, and give what they should.
 fn in_builder<F: FnOnce(&mut Builder) -> Result<bool, BuildError>>(
     alloc: Global,
     caches: Caches,
@@ -79,12 +73,10 @@ fn in_builder<F: FnOnce(&mut Builder) -> Result<bool, BuildError>>(
     }
 }
 
-// Whether the calls were all made, and gave what they should.
 fn holds(found: Result<bool, BuildError>) -> bool {
     matches!(found, Ok(true))
 }
 
-// The bytes of a finish with a value of before, which the builder still has.
 fn finish_with<T>(builder: &mut Builder, root: Offset<T>) -> Result<&[u8], BuildError> {
     if root.distance() as usize > builder.len() {
         return Err(BuildError::TooLarge);
@@ -92,7 +84,6 @@ fn finish_with<T>(builder: &mut Builder, root: Offset<T>) -> Result<&[u8], Build
     builder.finish(root, None)
 }
 
-// Whether a reading gives this value.
 fn gives<T: PartialEq + Drop>(read: planus::Result<T>, want: T) -> bool {
     match read {
         Ok(read) => read == want,
@@ -100,7 +91,6 @@ fn gives<T: PartialEq + Drop>(read: planus::Result<T>, want: T) -> bool {
     }
 }
 
-// Whether a value prints this text; no where memory for it is refused.
 fn prints_as<T: Display>(alloc: Global, value: &T, text: &str) -> bool {
     match format!(in alloc; "{value}") {
         Ok(shown) => shown.as_str() == text,
@@ -108,7 +98,6 @@ fn prints_as<T: Display>(alloc: Global, value: &T, text: &str) -> bool {
     }
 }
 
-// Whether an answer is an error that prints this text.
 fn fails_printing<T: Drop>(alloc: Global, answer: planus::Result<T>, text: &str) -> bool {
     match answer {
         Ok(_) => false,
@@ -116,8 +105,7 @@ fn fails_printing<T: Drop>(alloc: Global, answer: planus::Result<T>, text: &str)
     }
 }
 
-// Whether a finish has the text `Axe` as its root, which stands 8 bytes before the end and is the
-// only step's.
+// Whether a finish has the string `Axe` of the only step as its root, 8 bytes before the end.
 fn is_a_text(finished: &Finished) -> bool {
     let whole = SliceWithStartOffset::new(finished.bytes.as_slice(), 0);
     let text: Result<&str, ErrorKind> = TableRead::from_buffer(whole, 0);
@@ -125,7 +113,6 @@ fn is_a_text(finished: &Finished) -> bool {
     matches!(text, Ok("Axe")) && places.len() == 1 && places[0].step == 0 && places[0].distance == 8
 }
 
-// Whether a script's steps give one finish, that of a text.
 fn gives_a_text(alloc: Global, script: &Script) -> bool {
     match replay(alloc, Caches::all(), script.steps.as_slice()) {
         Ok(finished) => finished.len() == 1 && is_a_text(&finished[0]),

@@ -1,4 +1,4 @@
--- What readers answer, as functions of the bytes: a value, or the text of a fault.
+-- What readers return, as functions of the bytes: a value, or the message of an error.
 use Rattle.std.specs.Prelude.{ℕ, ◌+◌, ◌*◌, nat_le, nat_lt, ◌==◌, not, ◌||◌, ◌&&◌}
 use Rattle.std.specs.Prelude.{List, [], ◌∷◌, length, drop}
 use Rattle.std.specs.Prelude.{Option, Some, None, Result, Ok, Err, if◌then◌else◌}
@@ -17,7 +17,7 @@ use Rattle.planus_dump.specs.declared.values.Leaf.{Leaf}
 use Rattle.planus_dump.specs.declared.values.Leaf.TheVariants.{U8, U16, U32, U64, I8, I16, I32, I64}
 use Rattle.planus_dump.specs.declared.values.Leaf.TheVariants.{Bool, Text, Bytes}
 
--- the text of an unsigned number of this width at f, and of a signed one
+-- the printed unsigned number of this width at f, and the signed one
 abbrev pub unsigned_at : Width → List ℕ → ℕ → Result (List ℕ) (List ℕ)
 unsigned_at width S f = answered (number_test S f width ∷ []) (decimal (number S f width))
 
@@ -25,7 +25,7 @@ abbrev pub signed_at : Width → List ℕ → ℕ → Result (List ℕ) (List �
 signed_at width S f =
     answered (number_test S f width ∷ []) (signed_decimal (cast_signed width (number S f width)))
 
--- the text of what has no parts, at f
+-- the printed scalar at f
 abbrev pub leaf_at : Leaf → List ℕ → ℕ → Result (List ℕ) (List ℕ)
 leaf_at U8 S f = unsigned_at w8 S f
 leaf_at U16 S f = unsigned_at w16 S f
@@ -50,7 +50,7 @@ table_at S f =
     answered (table_tests S f)
     (record { object = drop (target S f) S; slots = slots_of S (target S f) })
 
--- a vector: the bytes from its first item on, and how many items it has
+-- a vector: the bytes from its first item on, and its count
 pub record SeenItems : Type 0 where
   pub bytes : List ℕ
   pub count : ℕ
@@ -61,14 +61,13 @@ vector_at stride S f =
     answered (vector_tests S f stride)
     (record { bytes = drop (items_at S f) S; count = count_at S f })
 
--- a vector of unions: the bytes from its first tag on, those from its first reference on, and how
--- many items it has
+-- a union vector: the bytes from its first tag on, those from its first reference on, and its count
 pub record SeenUnions : Type 0 where
   pub tags : List ℕ
   pub references : List ℕ
   pub count : ℕ
 
--- the vector of unions to which the references at f and g lead
+-- the union vector to which the references at f and g lead
 abbrev pub union_vector_at : List ℕ → ℕ → ℕ → Result SeenUnions (List ℕ)
 union_vector_at S f g =
     answered (union_vector_tests S f g)
@@ -78,7 +77,7 @@ union_vector_at S f g =
       count = count_at S f;
     })
 
--- a union: its tag, and where the reference to its table lies in the object
+-- a union: its tag, and the offset of the reference to its table in the object
 pub record SeenUnion : Type 0 where
   pub tag : ℕ
   pub offset : ℕ
@@ -90,8 +89,7 @@ tagged_union table i (Some tag) =
     if tag == 0 || Slot table.slots i == 0 || Slot table.slots (i + 1) == 0 then Ok None
     else Ok (Some (record { tag = tag; offset = Slot table.slots (i + 1) }))
 
--- The union of slots i and i + 1: none where the vtable ends in front of both. It may not end
--- between them.
+-- the union of slots i and i + 1: none where the vtable ends before both, an error between them
 abbrev pub union_at : Seen → ℕ → Result (Option SeenUnion) (List ℕ)
 union_at table i =
     if nat_le (length table.slots) (2 * i) then Ok None
@@ -99,19 +97,19 @@ union_at table i =
     then Err (fault_text (InvalidVtableLength (length table.slots + 4)))
     else tagged_union table i (Num table.object (Slot table.slots i) w8))
 
--- an answer that is there
+-- the same result, as an optional one
 abbrev pub some_of : {A : Type 0} → Result A (List ℕ) → Result (Option A) (List ℕ)
 some_of (Ok x) = Ok (Some x)
 some_of (Err fault) = Err fault
 
--- the vector of a vector of unions's two distances: none where both are 0
+-- the union vector of two distances: none where both are 0
 abbrev pub union_vector_by : List ℕ → ℕ → ℕ → Result (Option SeenUnions) (List ℕ)
 union_vector_by object f g =
     if f == 0 && g == 0 then Ok None
     else (if f == 0 || g == 0 then Err (fault_text InvalidOffset)
     else some_of (union_vector_at object f g))
 
--- The vector of unions of slots i and i + 1: none where these don't both lie in the vtable.
+-- The union vector of slots i and i + 1: none where these aren't both in the vtable.
 abbrev pub unions_at : Seen → ℕ → Result (Option SeenUnions) (List ℕ)
 unions_at table i =
     if nat_lt (length table.slots) (2 * i + 4) then Ok None

@@ -1,4 +1,4 @@
--- A dump says what the readers of `planus_read` answer: the tests of a dump are their clauses.
+-- A dump prints what the readers of `planus_read` return: the tests of a dump are their clauses.
 use Rattle.std.specs.Prelude.{◌≡◌, ◌↔◌, ℕ, ◌+◌, ◌*◌, ◌<◌, ◌⊎◌, List, length, drop, take, Some, None}
 use Rattle.std.specs.Prelude.{Result, Ok, Err}
 use Rattle.std.specs.Fmt.{decimal, signed_decimal}
@@ -20,15 +20,14 @@ use Rattle.planus_dump.specs.Answers.{SeenUnions, some_of}
 use Rattle.planus_dump.specs.Seeing.{answer_seen, table_seen}
 use Rattle.planus_dump.specs.declared.values.Leaf.TheVariants.{Bool, Text, Bytes}
 
--- What is said of a reading is its answer: the value that stands, as it is seen, or the text of the
--- error. A value is said only where one stands, and a fault only where a clause fails.
+-- a dump has the reading's result: the value if one is encoded, else the message of an error
 pub record SaysAsRead {A B : Type 0} (reading : Reading A) (sees : A → B)
     (said : Result B (List ℕ)) : Type 0 where
   pub answer : (r : Result A ErrorKind) → Answer reading r → said ≡ answer_seen sees r
   pub value : (b : B) → said ≡ Ok b → (x : A) × reading.There x × (b ≡ sees x)
   pub fault : (text : List ℕ) → said ≡ Err text → AllHold reading.clauses → ⊥
 
--- the items of a vector, as they are seen in S
+-- the items of a vector in S
 abbrev pub items_in : List ℕ → Items → SeenItems
 items_in S items = record { bytes = drop items.position S; count = items.count }
 
@@ -40,7 +39,7 @@ unions_in S items =
       count = items.count;
     }
 
--- a table, as it is seen in S
+-- a table in S
 abbrev pub layout_in : List ℕ → TableLayout → Seen
 layout_in S layout =
     record {
@@ -48,7 +47,7 @@ layout_in S layout =
       slots = drop 4 (take layout.size (drop layout.vtable S));
     }
 
--- What is said of each kind of reading is its answer.
+-- The dump has the result of each kind of reading.
 pub record ReadingsAreSaid (S : List ℕ) (f : ℕ) : Type 0 where
   pub unsigned :
       (width : Width) → SaysAsRead (number_reading S f width) decimal (unsigned_at width S f)
@@ -63,7 +62,7 @@ pub record ReadingsAreSaid (S : List ℕ) (f : ℕ) : Type 0 where
       (g : ℕ) → SaysAsRead (union_vector_reading S f g) (unions_in S) (union_vector_at S f g)
   pub table : SaysAsRead (table_reading S f) (layout_in S) (table_at S f)
 
--- What is said of the union in slots i and i + 1 of a table is what its accessor answers.
+-- The dump has the accessor's result for the union in slots i and i + 1.
 pub record UnionsAreSaid (table : Table) (i : ℕ) : Type 0 where
   pub absent : (union_at (table_seen table) i ≡ Ok None) ↔ UnionAbsent table i
   pub there : (union : SeenUnion) → (union_at (table_seen table) i ≡ Ok (Some union))
@@ -71,13 +70,13 @@ pub record UnionsAreSaid (table : Table) (i : ℕ) : Type 0 where
   pub broken : (text : List ℕ) → (union_at (table_seen table) i ≡ Err text)
       ↔ ((e : ErrorKind) × UnionBroken table i e × (text ≡ fault_text e))
 
--- no vector of unions is in slots i and i + 1: they don't both lie in the vtable, or both hold 0
+-- no union vector is in slots i and i + 1: they aren't both in the vtable, or both hold 0
 abbrev pub NoUnionVector : Table → ℕ → Type 0
 NoUnionVector table i =
     (length (table_slots table) < 2 * i + 4)
     ⊎ (BothSlots table i × (slot_of table i ≡ 0) × (slot_of table (i + 1) ≡ 0))
 
--- So it is with a vector of unions, of which is said what is said of its reading.
+-- So it has for a union vector, by its reading.
 pub record UnionVectorsAreSaid (table : Table) (i : ℕ) : Type 0 where
   pub absent : NoUnionVector table i → unions_at (table_seen table) i ≡ Ok None
   pub half : HalfVector table i → unions_at (table_seen table) i ≡ Err (fault_text InvalidOffset)

@@ -1,4 +1,4 @@
--- What a dump answers, by the events of the table at 0.
+-- The result of a dump, by the events of the table at 0.
 use Rattle.std.specs.Prelude.{◌≡◌, ℕ, ◌<◌, ◌≤◌, List, [], ◌∷◌, ◌++◌, length, map, codes}
 use Rattle.std.specs.Prelude.{Result, Ok, Err, Vec, String, true, false}
 use Rattle.std.specs.String.{string_bytes}
@@ -10,22 +10,20 @@ use Rattle.planus_dump.specs.declared.dumps.DumpError.{DumpError}
 use Rattle.planus_dump.specs.declared.dumps.DumpError.TheVariants.{OutOfMemory, BadSchema}
 use Rattle.planus_dump.specs.declared.dumps.DumpError.TheVariants.{TooDeep, TooManyLines}
 
--- a table lies no deeper, the root having depth 1
+-- the greatest depth of a table, the root having depth 1
 abbrev pub greatest_depth : ℕ
 greatest_depth = 64
 
--- the events of a buffer: those of the table at 0, whose path is `root`
+-- the events of a buffer: those of the table at 0, with the path `root`
 abbrev pub events_of : Schema → List ℕ → List Event
 events_of schema bytes = events schema greatest_depth schema.root bytes 0 (codes "root")
 
--- the first events are these lines, and then come the rest
+-- the first events are these lines, followed by the rest
 abbrev pub Begin : List Event → List (List ℕ) → List Event → Type 0
 Begin es lines rest = es ≡ map line lines ++ rest
 
--- What is answered of events: their lines, if they are no more than the budget and nothing lies too
--- deep; or else what comes first, a table that lies too deep, or a line past the budget. Memory is
--- asked for where the budget isn't 0, and then for the first line: so whatever the events are, it may
--- be refused.
+-- The result for these events: their lines, if they fit the budget and no table is too deep; else
+-- the error that comes first. Out of memory is allowed unless the budget is 0.
 abbrev pub Answers : List Event → ℕ → Result (Vec (String Global) Global) DumpError → Type 0
 Answers es budget (Ok lines) =
     Begin es (map string_bytes lines.items) [] × (length lines.items ≤ budget)
@@ -38,8 +36,7 @@ Answers es budget (Err TooManyLines) =
 Answers es budget (Err BadSchema) = ⊥
 Answers es budget (Err OutOfMemory) = 0 < budget
 
--- What a dump answers: `BadSchema` exactly of a schema that isn't good, and else what is said of
--- the events; or memory was refused.
+-- The result of a dump: `BadSchema` exactly for a bad schema, else the result for the events.
 abbrev pub Dumped : Schema → List ℕ → ℕ → Result (Vec (String Global) Global) DumpError → Type 0
 Dumped schema bytes budget (Err BadSchema) = is_good schema ≡ false
 Dumped schema bytes budget result =

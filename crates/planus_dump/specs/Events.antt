@@ -1,4 +1,4 @@
--- The events of a dump: what stands in the tables that are reached from the root, line by line.
+-- The events of a dump: the tables that are reached from the root, line by line.
 use Rattle.std.specs.Prelude.{ℕ, zero, suc, ◌+◌, ◌*◌, ◌==◌, List, [], ◌∷◌, ◌++◌, Vec}
 use Rattle.std.specs.Prelude.{slice_get, slice_index}
 use Rattle.std.specs.Prelude.{Option, Some, None, Result, Ok, Err, if◌then◌else◌}
@@ -28,21 +28,21 @@ use Rattle.planus_dump.specs.declared.values.Leaf.TheVariants.{I32 as LeafI32, I
 use Rattle.planus_dump.specs.declared.values.Leaf.TheVariants.{Bool as LeafBool, Text as LeafText}
 use Rattle.planus_dump.specs.declared.values.Leaf.TheVariants.{Bytes as LeafBytes}
 
--- a line, or the mark of a table that lies too deep and isn't read
+-- a line, or the mark of a table that is too deep and isn't read
 pub data Event : Type 0 where
   line : List ℕ → Event
   deep : Event
 
--- a reader's fault
+-- an error of a reader
 abbrev pub fault_event : List ℕ → List ℕ → Event
 fault_event path fault = line (fault_line path fault)
 
--- what has no parts, as it was answered
+-- a scalar, or its error
 abbrev pub answer_event : List ℕ → Result (List ℕ) (List ℕ) → Event
 answer_event path (Ok text) = line (value_line path text)
 answer_event path (Err fault) = fault_event path fault
 
--- what has no parts, at f of S
+-- a scalar at f of S
 abbrev pub leaf_events : Leaf → List ℕ → ℕ → List ℕ → List Event
 leaf_events leaf S f path = answer_event path (leaf_at leaf S f) ∷ []
 
@@ -63,13 +63,12 @@ abbrev pub variant_of : List (ℕ × ℕ) → ℕ → Option ℕ
 variant_of [] tag = None
 variant_of (variant ∷ rest) tag = if variant.0 == tag then Some variant.1 else variant_of rest tag
 
--- The events of a table: by its index in the schema, some bytes, where in them the reference to it
--- lies, and its path.
+-- a table's events, by its index in the schema, bytes, its reference's offset, and its path
 abbrev pub TableEvents : Type 0
 TableEvents = ℕ → List ℕ → ℕ → List ℕ → List Event
 
 module _ (E : TableEvents) where
-  -- an item at f of S, a field's or a list's
+  -- an item at f of S, of a field or of a vector
   abbrev pub item_events : Item → List ℕ → ℕ → List ℕ → List Event
   item_events U16 S f path = leaf_events LeafU16 S f path
   item_events U32 S f path = leaf_events LeafU32 S f path
@@ -81,20 +80,20 @@ module _ (E : TableEvents) where
   item_events Text S f path = leaf_events LeafText S f path
   item_events (Table index) S f path = E index S f path
 
-  -- n items of a list from item i on; each has this place in the bytes from the first on
+  -- n items of a vector from item i on, by the bytes from the first on
   abbrev pub items_events : Item → List ℕ → List ℕ → ℕ → ℕ → List Event
   items_events item S path zero i = []
   items_events item S path (suc n) i =
       item_events item S (i * stride_of item) (item_path path i)
       ++ items_events item S path n (i + 1)
 
-  -- a list, as its vector was answered
+  -- a vector, or its error
   abbrev pub list_events : Item → List ℕ → Result SeenItems (List ℕ) → List Event
   list_events item path (Ok items) =
       line (list_line path items.count) ∷ items_events item items.bytes path items.count 0
   list_events item path (Err fault) = fault_event path fault ∷ []
 
-  -- what has one place, f of S: everything but a union or a vector of unions
+  -- a field with one place, f of S: all but a union or a union vector
   abbrev pub place_events : Kind → List ℕ → ℕ → List ℕ → List Event
   place_events (One item) S f path = item_events item S f path
   place_events U8 S f path = leaf_events LeafU8 S f path
@@ -109,14 +108,14 @@ module _ (E : TableEvents) where
   variant_events tag S f path (Some index) = line (union_line path tag) ∷ E index S f path
   variant_events tag S f path None = fault_event path (fault_text (UnknownUnionTag tag)) ∷ []
 
-  -- a union of these variants, if the schema has them, with its tag, and its reference at f of S
+  -- a union of these variants, if the schema has them, with its tag, its reference at f of S
   abbrev pub union_events : Option (Vec (ℕ × ℕ) Global) → ℕ → List ℕ → ℕ → List ℕ → List Event
   union_events None tag S f path = []
   union_events (Some variants) tag S f path =
       variant_events tag S f path (variant_of variants.items tag)
 
   module _ (schema : Schema) where
-    -- the union field of an object, as its slots were answered
+    -- the union field of an object, or its error
     abbrev pub union_field_events :
         ℕ → List ℕ → List ℕ → Result (Option SeenUnion) (List ℕ) → List Event
     union_field_events index object path (Ok None) = []
@@ -124,7 +123,7 @@ module _ (E : TableEvents) where
         union_events (slice_get schema.unions.items index) union.tag object union.offset path
     union_field_events index object path (Err fault) = fault_event path fault ∷ []
 
-    -- n items of a vector of unions from item i on
+    -- n items of a union vector from item i on
     abbrev pub union_items_events : ℕ → SeenUnions → List ℕ → ℕ → ℕ → List Event
     union_items_events index items path zero i = []
     union_items_events index items path (suc n) i =
@@ -132,14 +131,14 @@ module _ (E : TableEvents) where
         items.references (i * 4) (item_path path i)
         ++ union_items_events index items path n (i + 1)
 
-    -- a vector of unions, as its slots were answered
+    -- a union vector, or its error
     abbrev pub unions_events : ℕ → List ℕ → Result (Option SeenUnions) (List ℕ) → List Event
     unions_events index path (Ok None) = []
     unions_events index path (Ok (Some items)) =
         line (unions_line path items.count) ∷ union_items_events index items path items.count 0
     unions_events index path (Err fault) = fault_event path fault ∷ []
 
-    -- what is there at a distance from the object's first byte that isn't 0
+    -- events only for a distance other than 0
     abbrev pub present : ℕ → List Event → List Event
     present distance events = if distance == 0 then [] else events
 
@@ -158,7 +157,7 @@ module _ (E : TableEvents) where
         kind_events field.kind field.slot table (field_path path (string_bytes field.name))
         ++ fields_events table path fields
 
-    -- a table of this schema, as its reference was answered
+    -- a table of this schema, or its error
     abbrev pub table_events : TableSchema → List ℕ → Result Seen (List ℕ) → List Event
     table_events shape path (Ok table) =
         line (table_line path (string_bytes shape.name))
@@ -170,8 +169,7 @@ module _ (E : TableEvents) where
     shape_events None S f path = []
     shape_events (Some shape) S f path = table_events shape path (table_at S f)
 
--- The events of a table below which there may be left - 1 further ones. They are finitely many:
--- left falls from a table to those of its fields, and a table has finitely many fields and items.
+-- the events of a table, with up to left - 1 levels of tables below it, so finitely many
 unfoldable pub events : Schema → ℕ → TableEvents
 events schema zero index S f path = deep ∷ []
 events schema (suc left) index S f path =

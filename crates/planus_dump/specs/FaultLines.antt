@@ -1,4 +1,4 @@
--- Which lines of a dump say of a reader's fault.
+-- Which lines of a dump state an error.
 use Rattle.std.specs.Prelude.{◌≡◌, ℕ, ◌==◌, List, [], ◌∷◌, ⊤}
 use Rattle.std.specs.Prelude.{Bool, false, if◌then◌else◌}
 use Rattle.std.specs.List.{AllByRecursion}
@@ -9,7 +9,7 @@ abbrev pub begins_with : ℕ → List ℕ → Bool
 begins_with byte [] = false
 begins_with byte (first ∷ rest) = first == byte
 
--- Whether a line says of a reader's fault: a `!` follows its first space. In a path there is none.
+-- Whether a line states an error: a `!` follows its first space. A path has no space.
 abbrev pub is_fault_line : List ℕ → Bool
 is_fault_line [] = false
 is_fault_line (byte ∷ rest) = if byte == 32 then begins_with 33 rest else is_fault_line rest

@@ -1,4 +1,4 @@
--- What ties a dump to the run that wrote what is dumped.
+-- Laws between a dump and the run that wrote its buffer.
 use Rattle.std.specs.Prelude.{◌≡◌, ℕ, List, drop, codes, true, false, Ok, Vec, String}
 use Rattle.std.specs.List.{AllByRecursion}
 use Rattle.std.specs.String.{string_bytes}
@@ -15,8 +15,7 @@ use Rattle.planus_dump.specs.Dumped.{Dumped, events_of}
 use Rattle.planus_dump.specs.Schemas.{is_name, is_good}
 use Rattle.planus_dump.specs.declared.schemas.Schema.{Schema}
 
--- Of the kinds of lines at a path without spaces, that of a reader's fault is a fault line, and no
--- other is.
+-- At a path without spaces, the line of an error is an error line, and no other line is.
 pub record FaultLinesAreTold (path : List ℕ) : Type 0 where
   pub fault : (fault : List ℕ) → is_fault_line (fault_line path fault) ≡ true
   pub value : (text : List ℕ) → is_fault_line (value_line path text) ≡ false
@@ -25,8 +24,7 @@ pub record FaultLinesAreTold (path : List ℕ) : Type 0 where
   pub union : (tag : ℕ) → is_fault_line (union_line path tag) ≡ false
   pub unions : (count : ℕ) → is_fault_line (unions_line path count) ≡ false
 
--- There is no space in the path of the root, nor in that of a field with a name that a good schema
--- may have, nor in that of an item, where there is none in the path in front of it.
+-- no path of a good schema has a space
 pub record PathsHaveNoSpace : Type 0 where
   pub root : HasNoSpace (codes "root")
   pub field :
@@ -34,14 +32,12 @@ pub record PathsHaveNoSpace : Type 0 where
       → HasNoSpace (field_path path name)
   pub item : (path : List ℕ) (i : ℕ) → HasNoSpace path → HasNoSpace (item_path path i)
 
--- The bytes of a finish from the reference to its root on, which is where a reader begins: all of
--- them, or those behind the size.
+-- The bytes of a finish from the reference to its root on: all of them, or those after the size.
 abbrev pub piece_of : (switches : Switches) (steps : List Step) (given : Finish)
     → FinishHolds switches steps given → List ℕ
 piece_of switches steps given holds = drop (root_at holds.front) given.bytes
 
--- Of what a finish of any run gives, no event is a reader's fault, if the schema fits what the
--- step of its root wrote.
+-- For a finish of any run, no event is an error, if the schema fits what its root's step wrote.
 abbrev pub FinishesHaveNoFault : Type 0
 FinishesHaveNoFault =
     (switches : Switches) (steps : List Step) (given : Finish)
@@ -49,7 +45,7 @@ FinishesHaveNoFault =
     → Fits schema steps holds.root
     → HaveNoFault (events_of schema (piece_of switches steps given holds))
 
--- So no line of its dump is a fault line.
+-- So no line of its dump is an error line.
 abbrev pub DumpsHaveNoFault : Type 0
 DumpsHaveNoFault =
     (switches : Switches) (steps : List Step) (given : Finish)

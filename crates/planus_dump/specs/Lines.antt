@@ -1,4 +1,4 @@
--- The lines of a dump, as bytes of UTF-8. A path is a text too.
+-- The lines of a dump, as bytes of UTF-8. A path is a string too.
 use Rattle.std.specs.Prelude.{ℕ, ◌/◌, ◌%◌, nat_lt, ◌==◌, List, [], ◌∷◌, ◌++◌, codes}
 use Rattle.std.specs.Prelude.{Bool, true, false, ◌||◌, if◌then◌else◌}
 use Rattle.std.specs.Char.{encode_utf8, digit_char}
@@ -9,7 +9,7 @@ use Rattle.planus_dump.specs.declared.values.Value.{Value}
 use Rattle.planus_dump.specs.declared.values.Value.TheVariants.{Unsigned, Signed, Truth, Text}
 use Rattle.planus_dump.specs.declared.values.Value.TheVariants.{Bytes}
 
--- the path of a field, and that of an item
+-- the path of a field, and the path of an item
 abbrev pub field_path : List ℕ → List ℕ → List ℕ
 field_path path name = path ++ (codes "." ++ name)
 
@@ -20,28 +20,27 @@ item_path path i = path ++ (codes "[" ++ (decimal i ++ codes "]"))
 abbrev pub hex_of : ℕ → List ℕ
 hex_of byte = digit_char (byte / 16) ∷ digit_char (byte % 16) ∷ []
 
--- A character within quotes: `\` stands before a quote and before itself, and a character below
--- U+0020 is `\x` and its two digits.
+-- a character within quotes: `\` before a quote and `\`, `\x` and two digits below U+0020
 abbrev pub escaped : ℕ → List ℕ
 escaped c =
     if nat_lt c 32 then 92 ∷ 120 ∷ hex_of c
     else (if c == 34 || c == 92 then 92 ∷ c ∷ [] else encode_utf8 c)
 
--- a text within quotes
+-- a string within quotes
 abbrev pub quoted : List ℕ → List ℕ
 quoted text = 34 ∷ [] ++ (flat_map escaped (chars text) ++ 34 ∷ [])
 
--- a byte list: its bytes in hexadecimal, without spaces inside
+-- a byte vector: its bytes in hexadecimal, without spaces inside
 abbrev pub bytes_text : List ℕ → List ℕ
 bytes_text [] = codes "bytes"
 bytes_text (byte ∷ bytes) = codes "bytes " ++ flat_map hex_of (byte ∷ bytes)
 
--- a truth value
+-- a bool
 abbrev pub truth_text : Bool → List ℕ
 truth_text true = codes "true"
 truth_text false = codes "false"
 
--- the text of a value
+-- a printed value
 abbrev pub value_text : Value → List ℕ
 value_text (Unsigned n) = decimal n
 value_text (Signed n) = signed_decimal n
@@ -49,7 +48,7 @@ value_text (Truth b) = truth_text b
 value_text (Text text) = quoted text.now
 value_text (Bytes bytes) = bytes_text bytes.now
 
--- the lines of a value, of a reader's fault, and of what has parts
+-- the lines of a value, of an error, and of what has parts
 abbrev pub value_line : List ℕ → List ℕ → List ℕ
 value_line path text = path ++ (codes " = " ++ text)
 

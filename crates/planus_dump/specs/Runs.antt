@@ -1,4 +1,4 @@
--- What steps come to, and the dump of what they finish.
+-- Steps, and the dump of what they finish.
 use Rattle.std.specs.Prelude.{◌≡◌, ℕ, List, [], ◌∷◌, slice_get, false, Vec, String}
 use Rattle.std.specs.Prelude.{Option, Some, None, Result, Ok, Err}
 use Rattle.std.specs.List.{AllByRecursion}
@@ -17,7 +17,7 @@ use Rattle.planus_dump.specs.declared.dumps.DumpError.{DumpError}
 use Rattle.planus_dump.specs.declared.runs.DumpRunError.{DumpRunError}
 use Rattle.planus_dump.specs.declared.runs.DumpRunError.TheVariants.{Replay, Dump}
 
--- the steps' first finish, and what is answered of its dump
+-- the steps' first finish, and the result of its dump
 pub record DumpsFirst
     (switches : Switches) (steps : List Step) (schema : Schema) (budget : ℕ)
     (answer : Result (Vec (String Global) Global) DumpError) : Type 0 where
@@ -26,8 +26,7 @@ pub record DumpsFirst
   pub run : Replays switches steps (Ok (given ∷ others))
   pub dumped : Dumped schema given.bytes budget answer
 
--- The first finish is that of the first step that is one; and no line of this dump says of a fault,
--- if the schema fits what the step of its root wrote.
+-- the first finish has no error line in its dump, if the schema fits its root's step
 pub record DumpsFit
     (switches : Switches) (steps : List Step) (schema : Schema) (budget : ℕ)
     (lines : Vec (String Global) Global) : Type 0 where
@@ -38,8 +37,7 @@ pub record DumpsFit
       holds.front ≡ root_first → Fits schema steps holds.root
       → AllByRecursion (λ line. is_fault_line (string_bytes line) ≡ false) lines.items
 
--- What is answered of steps: the error of their run, nothing where nothing is finished, or what is
--- answered of the first finish.
+-- the result for steps: the error of their run, none without a finish, or the first finish's result
 abbrev pub DumpsRun :
     Switches → List Step → Schema → ℕ
     → Result (Option (Vec (String Global) Global)) DumpRunError → Type 0

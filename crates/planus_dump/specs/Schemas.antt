@@ -1,4 +1,4 @@
--- Which schemas are good: what each of their parts has to meet.
+-- Good schemas, part by part.
 use Rattle.std.specs.Prelude.{ℕ, nat_lt, ◌==◌, List, [], ◌∷◌, length, Vec}
 use Rattle.std.specs.Prelude.{Bool, true, not, ◌&&◌, ◌||◌}
 use Rattle.std.specs.List.{list_all, list_any}
@@ -55,7 +55,7 @@ abbrev pub table_fits : ℕ → ℕ → TableSchema → Bool
 table_fits tables unions table =
     is_name (string_bytes table.name) && list_all (field_fits tables unions) table.fields.items
 
--- the variants of a union: no tag is 0 or stands twice, and each variant's table is there
+-- a union's variants: no tag is 0 or used twice, and each variant's table is there
 abbrev pub variants_fit : ℕ → List (ℕ × ℕ) → Bool
 variants_fit tables [] = true
 variants_fit tables (variant ∷ rest) =

@@ -1,4 +1,4 @@
--- What a dump's readings are to the definitions.
+-- The values of a dump's readers, in the terms of the definitions.
 use Rattle.std.specs.Prelude.{◌≡◌, ◌≢◌, ℕ, ◌*◌, ◌<◌, ◌≤◌, List, [], ◌∷◌, slice_index}
 use Rattle.std.specs.Prelude.{Option, Some, None, Result, Ok, Err}
 use Rattle.planus_read.specs.declared.errors.ErrorKind.{ErrorKind}
@@ -31,7 +31,7 @@ use Rattle.planus_dump.specs.declared.items.Items.TheVariants.{I64 as Signed64}
 use Rattle.planus_dump.specs.declared.items.Items.TheVariants.{Bool as Truths, Text as Texts}
 use Rattle.planus_dump.specs.declared.items.Items.TheVariants.{Table as Tables}
 
--- an answer, of whose value this is seen
+-- a result, by its value
 abbrev pub answer_seen : {A B : Type 0} → (A → B) → Result A ErrorKind → Result B (List ℕ)
 answer_seen sees (Ok x) = Ok (sees x)
 answer_seen sees (Err kind) = Err (fault_text kind)
@@ -40,7 +40,7 @@ answer_seen sees (Err kind) = Err (fault_text kind)
 abbrev pub table_seen : Table → Seen
 table_seen table = record { object = table_object table; slots = table_slots table }
 
--- a field that may be there
+-- an optional field
 abbrev pub option_seen : {A B : Type 0} → (A → B) → Option A → Option B
 option_seen sees None = None
 option_seen sees (Some x) = Some (sees x)
@@ -51,7 +51,7 @@ pub record IsUnionIn (object : List ℕ) (union : SeenUnion) (tagged : TaggedPla
   pub bytes : place_bytes (tagged_place tagged) ≡ object
   pub offset : place_offset (tagged_place tagged) ≡ union.offset
 
--- the union in a table's slots, as it was answered
+-- the result for the union in a table's slots
 abbrev pub SeesUnion :
     List ℕ → Result (Option SeenUnion) (List ℕ) → Result (Option TaggedPlace) ErrorKind → Type 0
 SeesUnion object seen (Ok None) = seen ≡ Ok None
@@ -66,7 +66,7 @@ SeesPlace table i (Some place) =
     (Slot table.slots i ≢ 0) × (place_bytes place ≡ table.object)
     × (place_offset place ≡ Slot table.slots i)
 
--- a vector of unions
+-- a union vector
 abbrev pub unions_view : Unions → UnionView
 unions_view unions = union_view_of unions.vector
 
@@ -75,7 +75,7 @@ unions_seen unions =
     let view = unions_view unions in
     record { tags = view.tags; references = view.references; count = view.count }
 
--- union i of them; none where they end before it
+-- union i of them; none out of bounds
 abbrev pub GetsUnion : UnionView → ℕ → Option TaggedPlace → Type 0
 GetsUnion view i None = view.count ≤ i
 GetsUnion view i (Some tagged) =
@@ -88,12 +88,12 @@ found_events E path (FoundValue value) = line (value_line path (value_text value
 found_events E path (FoundFault kind) = fault_event path (fault_text kind) ∷ []
 found_events E path (FoundTable index place) = E index (place_bytes place) (place_offset place) path
 
--- it is what stands at an item of these bytes, whatever the tables' events
+-- what is at an item of these bytes, whatever the tables' events
 abbrev pub IsFound : Item → List ℕ → ℕ → Found → Type 0
 IsFound item S f found =
     (E : TableEvents) (path : List ℕ) → found_events E path found ≡ item_events E item S f path
 
--- what the items of a vector are
+-- the items of a vector
 abbrev pub item_of : Items → Item
 item_of (Items16 v) = U16
 item_of (Items32 v) = U32
@@ -117,11 +117,11 @@ items_view (Truths v) = view_of v
 items_view (Texts v) = view_of v
 items_view (Tables index v) = view_of v
 
--- the bytes from the first item on, and how many items there are
+-- the bytes from the first item on, and the count
 abbrev pub items_seen : Items → SeenItems
 items_seen items = record { bytes = (items_view items).bytes; count = (items_view items).count }
 
--- item i of them; none where they end before it
+-- item i of them; none out of bounds
 abbrev pub GetsFound : Items → ℕ → Option Found → Type 0
 GetsFound items i None = (items_view items).count ≤ i
 GetsFound items i (Some found) =

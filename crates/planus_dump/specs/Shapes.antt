@@ -1,4 +1,4 @@
--- Schemas without where their names and lists lie in memory.
+-- Schemas without their location in memory.
 use Rattle.std.specs.Prelude.{◌≡◌, ℕ, List, map}
 use Rattle.std.specs.String.{string_bytes}
 use Rattle.planus_dump.specs.declared.schemas.Schema.{Schema}

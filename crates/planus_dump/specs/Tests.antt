@@ -1,5 +1,4 @@
--- What a reader tests of some bytes, in order, and the text of the fault where a test fails. These
--- are the clauses of `planus_read`, each with its test.
+-- What a reader tests, in order, with the messages: the clauses of `planus_read`.
 use Rattle.std.specs.Prelude.{ℕ, ◌+◌, ◌*◌, ◌%◌, nat_lt, nat_le, ◌==◌, int_le, pos}
 use Rattle.std.specs.Prelude.{List, [], ◌∷◌, length, take, drop, slice_index, codes}
 use Rattle.std.specs.Prelude.{Bool, ◌&&◌, if◌then◌else◌, Result, Ok, Err}
@@ -15,12 +14,12 @@ use Rattle.planus_read.specs.Reading.{target, count_at, items_at, signed_number,
 use Rattle.planus_read.specs.Reading.{vtable_size_at}
 use Rattle.planus_read.specs.Texts.{kind_text}
 
--- The text of a fault. Of one in UTF-8 the words behind the colon are left out.
+-- The message of an error. For UTF-8 the words after the colon are left out.
 abbrev pub fault_text : ErrorKind → List ℕ
 fault_text (InvalidUtf8 source) = codes "Invalid utf-8"
 fault_text kind = kind_text kind
 
--- what is tested, and the text of the fault where it fails
+-- a test, and the message where it fails
 pub record Test : Type 0 where
   pub passes : Bool
   pub fault : List ℕ
@@ -28,36 +27,36 @@ pub record Test : Type 0 where
 abbrev pub test : Bool → ErrorKind → Test
 test passes kind = record { passes = passes; fault = fault_text kind }
 
--- the value where all tests pass, else the fault of the first that fails
+-- the value where all tests pass, else the message of the first that fails
 abbrev pub answered : {A : Type 0} → List Test → A → Result A (List ℕ)
 answered [] value = Ok value
 answered (first ∷ rest) value = if first.passes then answered rest value else Err first.fault
 
--- a number lies in S
+-- a number is in S
 abbrev pub number_test : List ℕ → ℕ → Width → Test
 number_test S position width = test (nat_le (position + byte_len width) (length S)) InvalidOffset
 
--- a reference to a count, and what is tested behind it
+-- a reference to a count, and the tests after it
 abbrev pub head_tests : List ℕ → ℕ → List Test → List Test
 head_tests S f rest =
     number_test S f w32 ∷ test (nat_le (target S f) (length S)) InvalidOffset
     ∷ number_test S (target S f) w32 ∷ rest
 
--- the byte at the position is there, and is 0
+-- the byte at the position exists and is 0
 abbrev pub is_zero_byte : List ℕ → ℕ → Bool
 is_zero_byte S position = nat_lt position (length S) && slice_index S position == 0
 
--- the bytes of a text or a byte list
+-- the bytes of a string or a byte vector
 abbrev pub content_at : List ℕ → ℕ → List ℕ
 content_at S f = take (count_at S f) (drop (items_at S f) S)
 
--- a text: a zero byte follows it, and it is UTF-8
+-- a string: a zero byte follows it, and it is UTF-8
 abbrev pub text_tests : List ℕ → ℕ → List Test
 text_tests S f =
     head_tests S f (test (is_zero_byte S (items_at S f + count_at S f)) MissingNullTerminator
     ∷ record { passes = is_utf8 (content_at S f); fault = codes "Invalid utf-8" } ∷ [])
 
--- a byte list, or a vector with items of this size, lies in S
+-- a byte vector, or a vector with items of this size, is in S
 abbrev pub vector_tests : List ℕ → ℕ → ℕ → List Test
 vector_tests S f stride =
     head_tests S f
@@ -67,7 +66,7 @@ abbrev pub byte_list_tests : List ℕ → ℕ → List Test
 byte_list_tests S f =
     head_tests S f (test (nat_le (items_at S f + count_at S f) (length S)) InvalidLength ∷ [])
 
--- a vector of unions: both parts lie in S, and have equal counts
+-- a union vector: both parts are in S, and have equal counts
 abbrev pub union_vector_tests : List ℕ → ℕ → ℕ → List Test
 union_vector_tests S f g =
     head_tests S f (head_tests S g
@@ -77,7 +76,7 @@ union_vector_tests S f g =
     (UnionVectorLengthsMismatched (count_at S f) (count_at S g))
     ∷ []))
 
--- the object at a position: its word leads to a vtable of an even size from 4 on, which lies in S
+-- the object at a position: its word leads to a vtable in S, of an even size from 4 on
 abbrev pub object_tests : List ℕ → ℕ → List Test
 object_tests S object =
     number_test S object w32 ∷ test (int_le (signed_number S object) (pos object)) InvalidOffset

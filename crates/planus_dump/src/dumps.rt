@@ -16,13 +16,12 @@ const GREATEST_DEPTH: usize = 64;
 /// Why there is no dump.
 #[derive(Clone, Copy, Debug, PartialEq, Eq)]
 pub enum DumpError {
-    /// Memory for the lines was refused.
+    /// An allocation failed.
     OutOfMemory,
-    /// The schema names a table or a union that it doesn't have, has a union with a tag 0 or twice
-    /// the same tag, or a name that is empty or has another byte than ASCII letters, digits and
-    /// `_`.
+    /// The schema names a table or a union that it doesn't have, has a union with a tag 0 or a tag
+    /// used twice, or a name that is empty or has a byte other than ASCII letters, digits and `_`.
     BadSchema,
-    /// A table at depth 65 is reached before the line past the budget. The root has depth 1.
+    /// A table at depth 65 is reached before a line past the budget. The root has depth 1.
     TooDeep,
     /// There are more lines than the budget.
     TooManyLines,
@@ -58,12 +57,10 @@ impl From<AllocError> for DumpError {
     }
 }
 
-/// Returns the lines of the tables that are reached from the root of a buffer, which the first 4
-/// bytes refer to. There are no more than the budget. Damage in the bytes is a line of its own, and
-/// no error. The path of the root is `root`.
+/// Returns the lines of the tables that are reached from the root of a buffer, which begins with
+/// the reference to it. The path of the root is `root`. An error in the bytes is a line of its own.
 ///
-/// Time and memory are in proportion to the budget and the bytes, however often a table is named. The
-/// contract speaks of neither; a test has a table that is named twice by each of 40 above it.
+/// Time and memory are linear in the budget and the bytes, as a test shows.
 pub fn dump(
     alloc: Global,
     schema: &Schema,
@@ -75,7 +72,7 @@ pub fn dump(
     if !is_good_schema(schema) {
         return Err(DumpError::BadSchema);
     }
-    // The first line is past the budget already, so no memory is asked for it.
+    // The first line is past the budget already, so nothing is allocated for it.
     if budget == 0 {
         return Err(DumpError::TooManyLines);
     }

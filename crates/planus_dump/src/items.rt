@@ -11,7 +11,7 @@ use crate::values::Value;
 use planus::errors::ErrorKind;
 use planus::{Place, Vector};
 
-/// A vector, by what its items are.
+/// A vector, by its items.
 #[derive(Clone, Copy)]
 pub enum Items<'buf> {
     U16(Vector<'buf, u16>),
@@ -45,7 +45,7 @@ pub fn read_items<'buf>(place: Place<'buf>, item: Item) -> Result<Items<'buf>, E
 }
 
 impl<'buf> Items<'buf> {
-    /// Returns how many items there are.
+    /// Returns the number of items.
     pub fn len(&self) -> usize
         ensures { result ≡ (items_view self.now).count }
     {
@@ -62,7 +62,7 @@ impl<'buf> Items<'buf> {
         }
     }
 
-    /// Returns what is found of the item at a position, or `None` where the vector ends before it.
+    /// Returns the item at an index, or `None` out of bounds.
     pub fn get(&self, i: usize) -> Option<Found<'buf>>
         ensures { GetsFound self.now i result }
     {

@@ -1,5 +1,4 @@
-//! A dump of a buffer for people: which tables, fields and values stand in it, line by line, by a
-//! schema that is a value.
+//! Prints the tables, fields and values of a buffer, line by line, by a schema that is a value.
 #![tactic(auto)]
 
 mod dumps;

@@ -22,7 +22,7 @@ pub enum Stop {
     TooMany,
 }
 
-/// The lines so far, how many there may be, and whether the walk goes on.
+/// The lines so far, their greatest number, and whether the walk goes on.
 #[derive(Drop)]
 pub struct LineSink {
     pub alloc: Global,
@@ -32,7 +32,7 @@ pub struct LineSink {
 }
 
 impl LineSink {
-    /// Returns no lines.
+    /// Creates a sink with no lines.
     pub fn new(alloc: Global, budget: usize) -> LineSink
         ensures { shown result ≡ begin budget }
     {
@@ -68,7 +68,7 @@ impl LineSink {
         }
     }
 
-    /// Stops where a table lies too deep.
+    /// Stops at a table that is too deep.
     pub fn put_deep(&mut self)
         ensures { shown self.new ≡ step (shown self.old) deep }
     {
@@ -85,7 +85,7 @@ impl LineSink {
         self.put(format!(in self.alloc; "{path}: table {name}")?)
     }
 
-    /// Adds the line of a list of so many items.
+    /// Adds the line of a vector with its count.
     pub fn put_list(&mut self, path: &str, count: usize) -> Result<(), AllocError>
         ensures { OnOk result (shown self.new
             ≡ step (shown self.old) (line (list_line path.now count))) }
@@ -101,7 +101,7 @@ impl LineSink {
         self.put(format!(in self.alloc; "{path}: union {tag}")?)
     }
 
-    /// Adds the line of a vector of so many unions.
+    /// Adds the line of a union vector with its count.
     pub fn put_unions(&mut self, path: &str, count: usize) -> Result<(), AllocError>
         ensures { OnOk result (shown self.new
             ≡ step (shown self.old) (line (unions_line path.now count))) }
@@ -131,7 +131,7 @@ impl LineSink {
         self.put(text)
     }
 
-    /// Adds the line of a reader's fault.
+    /// Adds the line of an error.
     pub fn put_fault(&mut self, path: &str, kind: ErrorKind) -> Result<(), AllocError>
         ensures { OnOk result (shown self.new
             ≡ step (shown self.old) (line (fault_line path.now (fault_text kind)))) }

@@ -1,4 +1,4 @@
-//! Bytes in hexadecimal digits, and texts in quotes.
+//! Hexadecimal digits, and strings in quotes.
 ghost use Rattle.std.specs.Prelude.{◌≡◌, ◌<◌, ◌++◌, OnOk, IfOk};
 ghost use Rattle.std.specs.Char.{digit_char};
 ghost use Rattle.std.specs.String.{string_bytes};
@@ -6,7 +6,6 @@ ghost use Rattle.planus_dump.specs.Lines.{hex_of, escaped, quoted, bytes_text};
 
 use std::alloc::{AllocError, Global};
 
-/// Returns a hexadecimal digit, in lower case.
 fn hex_digit(value: u8) -> char
     requires { value < 16 }
     ensures digit { result ≡ digit_char value }
@@ -27,7 +26,6 @@ pub fn push_hex(text: &mut String, byte: u8) -> Result<(), AllocError>
     Ok(())
 }
 
-/// Returns the text of a byte list.
 pub(crate) fn hex_text(alloc: Global, bytes: &[u8]) -> Result<String, AllocError>
     ensures { IfOk result (λ text. string_bytes text ≡ bytes_text bytes.now) }
 {
@@ -41,7 +39,6 @@ pub(crate) fn hex_text(alloc: Global, bytes: &[u8]) -> Result<String, AllocError
     Ok(text)
 }
 
-/// Adds a character as it stands within quotes.
 fn push_escaped(text: &mut String, c: char) -> Result<(), AllocError>
     ensures { OnOk result (string_bytes text.new ≡ string_bytes text.old ++ escaped c) }
 {
@@ -55,7 +52,6 @@ fn push_escaped(text: &mut String, c: char) -> Result<(), AllocError>
     text.push(c)
 }
 
-/// Returns a text within quotes.
 pub(crate) fn quoted_text(alloc: Global, text: &str) -> Result<String, AllocError>
     ensures { IfOk result (λ quotation. string_bytes quotation ≡ quoted text.now) }
 {

@@ -1,4 +1,4 @@
-//! What stands at a place, or in the slots of a table.
+//! What is at a place, or in the slots of a table.
 ghost use Rattle.std.specs.Prelude.{◌≡◌, List, ℕ};
 ghost use Rattle.planus_read.specs.Places.{place_bytes, place_offset};
 ghost use Rattle.planus_read.specs.Tables.{table_object};
@@ -14,13 +14,13 @@ use planus::errors::ErrorKind;
 use planus::table_reader::Table;
 use planus::{Place, TaggedPlace};
 
-// The names of what reads, in locations that a dump doesn't print.
+// The reader's name, in locations that a dump doesn't print.
 pub const TYPE: &str = "Table";
 
 pub const METHOD: &str = "dump";
 
-/// What is found at a place: a value, a reader's fault, or the table at this position of the
-/// schema, to be read from there.
+/// What is at a place: a value, an error, or a table at this index of the schema, to be read from
+/// there.
 #[derive(Clone, Copy)]
 pub enum Found<'buf> {
     Value(Value<'buf>),
@@ -28,7 +28,6 @@ pub enum Found<'buf> {
     Table(usize, Place<'buf>),
 }
 
-/// Returns the text at a place.
 fn text_at<'buf>(place: Place<'buf>) -> Result<Value<'buf>, ErrorKind>
     ensures { answer_seen value_text result
         ≡ leaf_at Leaf.Text (place_bytes place.entry) (place_offset place.entry) }
@@ -39,7 +38,6 @@ fn text_at<'buf>(place: Place<'buf>) -> Result<Value<'buf>, ErrorKind>
     }
 }
 
-/// Returns the value at a place.
 fn value_at<'buf>(place: Place<'buf>, leaf: Leaf) -> Result<Value<'buf>, ErrorKind>
     ensures { answer_seen value_text result
         ≡ leaf_at leaf (place_bytes place.entry) (place_offset place.entry) }
@@ -59,7 +57,7 @@ fn value_at<'buf>(place: Place<'buf>, leaf: Leaf) -> Result<Value<'buf>, ErrorKi
     }
 }
 
-/// Returns what is found at a place that has no parts.
+/// Returns the scalar at a place, or its error.
 pub fn leaf_found<'buf>(place: Place<'buf>, leaf: Leaf) -> Found<'buf>
     ensures { (E : TableEvents) (path : List ℕ) → found_events E path result
         ≡ leaf_events leaf (place_bytes place.entry) (place_offset place.entry) path }
@@ -70,7 +68,7 @@ pub fn leaf_found<'buf>(place: Place<'buf>, leaf: Leaf) -> Found<'buf>
     }
 }
 
-/// Returns what is found of an item at a place.
+/// Returns the item at a place.
 pub fn item_found<'buf>(place: Place<'buf>, item: Item) -> Found<'buf>
     ensures { IsFound item (place_bytes place.entry) (place_offset place.entry) result }
 {

@@ -1,4 +1,4 @@
-//! From steps to the dump of what they finish.
+//! Dumps of what steps finish.
 ghost use Rattle.std.specs.Prelude.{map};
 ghost use Rattle.planus_write.specs.View.{switches_of};
 ghost use Rattle.planus.specs.Steps.{bare_step};
@@ -14,7 +14,7 @@ use std::fmt;
 /// Why steps have no dump.
 #[derive(Clone, Copy, Debug, PartialEq, Eq)]
 pub enum DumpRunError {
-    /// The steps are refused.
+    /// The steps fail.
     Replay(ReplayError),
     /// What they finish has no dump.
     Dump(DumpError),
@@ -36,12 +36,11 @@ impl fmt::Display for DumpRunError {
 
 impl Error for DumpRunError {}
 
-/// Runs steps, and returns the lines of what the first of their finishes gave, or `None` where they
-/// have none. There are no more lines than the budget.
+/// Runs steps, and returns the lines of their first finish, at most the budget, or `None` where
+/// they have none.
 ///
-/// If the schema fits what the root's step wrote, and the finish has the root in front, no line
-/// says of a reader's fault. Of a finish with the size in front the bytes are dumped from the size
-/// on.
+/// If the schema fits what the root's step wrote, no line states an error, unless the finish is
+/// size-prefixed: its bytes are dumped from the size on.
 pub fn dump_run(
     alloc: Global,
     caches: Caches,

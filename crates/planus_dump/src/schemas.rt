@@ -1,15 +1,15 @@
-//! What a dump knows of the tables of a buffer.
+//! Schemas for dumps.
 
-/// The tables and the unions of a format, and which table is a buffer's root. Names have at least
-/// one byte, and no other than ASCII letters, digits and `_`.
+/// The tables and the unions of a format, and which table is a buffer's root. A name is one or more
+/// ASCII letters, digits and `_`.
 #[derive(Debug, Drop)]
 pub struct Schema {
-    /// The tables, which items name by their positions here.
+    /// The tables, which items name by their indices here.
     pub tables: Vec<TableSchema>,
-    /// The variants of the unions, which kinds name by their positions here: a tag above 0, no tag
-    /// twice, and the position of the variant's table.
+    /// The variants of the unions, which kinds name by their indices here: a tag above 0, used
+    /// once, and the index of the variant's table.
     pub unions: Vec<Vec<(u8, usize)>>,
-    /// The position of the root's table.
+    /// The index of the root's table.
     pub root: usize,
 }
 
@@ -25,7 +25,7 @@ pub struct TableSchema {
 /// A field of a table.
 #[derive(Debug, Drop)]
 pub struct FieldSchema {
-    /// Its slot in the vtable, from 0 on. A union or a vector of unions has this slot and the next.
+    /// Its slot in the vtable, from 0 on. A union or a union vector has this slot and the next.
     pub slot: usize,
     /// Its name.
     pub name: String,
@@ -42,13 +42,13 @@ pub enum Kind {
     U8,
     /// A signed number of one byte.
     I8,
-    /// A byte list.
+    /// A byte vector.
     Bytes,
     /// A vector of items.
     List(Item),
-    /// The union at this position of the schema.
+    /// The union at this index of the schema.
     Union(usize),
-    /// A vector of the union at this position of the schema.
+    /// A vector of the union at this index of the schema.
     UnionVector(usize),
 }
 
@@ -67,10 +67,10 @@ pub enum Item {
     I32,
     /// A signed number of 8 bytes.
     I64,
-    /// A truth value.
+    /// A bool.
     Bool,
-    /// A text.
+    /// A string.
     Text,
-    /// The table at this position of the schema.
+    /// The table at this index of the schema.
     Table(usize),
 }

@@ -1,4 +1,4 @@
-//! The items of a vector of unions.
+//! The items of a union vector.
 ghost use Rattle.std.specs.Prelude.{◌≡◌};
 ghost use Rattle.planus_dump.specs.Answers.{unions_at};
 ghost use Rattle.planus_dump.specs.Seeing.{answer_seen, option_seen, table_seen};
@@ -9,13 +9,13 @@ use planus::errors::ErrorKind;
 use planus::table_reader::Table;
 use planus::{TaggedPlace, UnionVector};
 
-/// A vector of unions, the variants of which are chosen later.
+/// A union vector, the variants of which are chosen later.
 #[derive(Clone, Copy)]
 pub struct Unions<'buf> {
     pub vector: UnionVector<'buf, TaggedPlace<'buf>>,
 }
 
-/// Returns the vector of unions of a slot and the next, or `None` where there is none.
+/// Returns the union vector of a slot and the next, or `None` where there is none.
 pub fn read_unions<'buf>(table: Table<'buf>, slot: usize) -> Result<Option<Unions<'buf>>, ErrorKind>
     ensures { answer_seen (option_seen unions_seen) result
         ≡ unions_at (table_seen table.entry) slot }
@@ -28,14 +28,14 @@ pub fn read_unions<'buf>(table: Table<'buf>, slot: usize) -> Result<Option<Union
 }
 
 impl<'buf> Unions<'buf> {
-    /// Returns how many unions there are.
+    /// Returns the number of unions.
     pub fn len(&self) -> usize
         ensures { result ≡ (unions_view self.now).count }
     {
         self.vector.len()
     }
 
-    /// Returns the union at a position, or `None` where the vector ends before it.
+    /// Returns the union at an index, or `None` out of bounds.
     pub fn get(&self, i: usize) -> Option<TaggedPlace<'buf>>
         ensures { GetsUnion (unions_view self.now) i result }
     {

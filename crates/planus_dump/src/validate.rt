@@ -8,14 +8,12 @@ ghost use Rattle.planus_dump.specs.Schemas.{union_fits, is_good};
 
 use crate::schemas::{FieldSchema, Item, Kind, Schema, TableSchema};
 
-/// Returns whether names may have this byte.
 fn is_name_byte_of(byte: u8) -> bool
     ensures { result ≡ is_name_byte byte }
 {
     matches!(byte, b'A'..=b'Z' | b'a'..=b'z' | b'0'..=b'9' | b'_')
 }
 
-/// Returns whether this is a name.
 fn is_name_of(name: &str) -> bool
     ensures { result ≡ is_name name.now }
 {
@@ -28,7 +26,6 @@ fn is_name_of(name: &str) -> bool
     !bytes.is_empty()
 }
 
-/// Returns whether there are the table or the union that a kind names, of so many.
 fn kind_fits_in(kind: Kind, tables: usize, unions: usize) -> bool
     ensures { result ≡ kind_fits tables unions kind }
 {
@@ -39,7 +36,6 @@ fn kind_fits_in(kind: Kind, tables: usize, unions: usize) -> bool
     }
 }
 
-/// Returns whether a table is good among so many tables and unions.
 fn table_fits_in(table: &TableSchema, tables: usize, unions: usize) -> bool
     ensures { result ≡ table_fits tables unions table.now }
 {
@@ -51,7 +47,6 @@ fn table_fits_in(table: &TableSchema, tables: usize, unions: usize) -> bool
     is_name_of(table.name.as_str())
 }
 
-/// Returns whether a union has a variant with this tag.
 fn has_tag(variants: &[(u8, usize)], tag: u8) -> bool
     ensures { result ≡ list_any (λ other. other.0 == tag) variants.now }
 {
@@ -63,7 +58,6 @@ fn has_tag(variants: &[(u8, usize)], tag: u8) -> bool
     false
 }
 
-/// Returns whether a union is good among so many tables.
 fn variants_fit_in(variants: &[(u8, usize)], tables: usize) -> bool
     ensures { result ≡ variants_fit tables variants.now }
 {
@@ -75,7 +69,6 @@ fn variants_fit_in(variants: &[(u8, usize)], tables: usize) -> bool
     true
 }
 
-/// Returns whether all these tables are good, among so many tables and unions.
 fn tables_fit_in(all: &[TableSchema], tables: usize, unions: usize) -> bool
     ensures { result ≡ list_all (table_fits tables unions) all.now }
 {
@@ -87,7 +80,6 @@ fn tables_fit_in(all: &[TableSchema], tables: usize, unions: usize) -> bool
     true
 }
 
-/// Returns whether all these unions are good, among so many tables.
 fn unions_fit_in(all: &[Vec<(u8, usize)>], tables: usize) -> bool
     ensures { result ≡ list_all (union_fits tables) all.now }
 {

@@ -1,6 +1,6 @@
-//! Values that have no parts.
+//! Scalars.
 
-/// What has no parts.
+/// The kind of a scalar.
 #[derive(Clone, Copy)]
 pub enum Leaf {
     U8,
@@ -16,7 +16,7 @@ pub enum Leaf {
     Bytes,
 }
 
-/// A value that has no parts, as it is printed.
+/// A scalar, as it is printed.
 #[derive(Clone, Copy)]
 pub enum Value<'buf> {
     Unsigned(u64),

@@ -22,8 +22,7 @@ use planus::table_reader::Table;
 use planus::{Place, TaggedPlace};
 use std::alloc::AllocError;
 
-/// Dumps the table to which the reference at a place leads, below which there may be `left - 1`
-/// further ones.
+/// Dumps the table to which the reference at a place leads, with up to `left - 1` levels below it.
 #[cycle(walk)]
 pub fn dump_table(
     schema: &Schema,
@@ -47,7 +46,7 @@ pub fn dump_table(
     }
 }
 
-/// Dumps a table of this schema, in which there may be `left` further tables.
+/// Dumps a table of this schema, with up to `left` levels below it.
 #[cycle(walk)]
 fn dump_shape(
     schema: &Schema,
@@ -75,7 +74,6 @@ fn dump_shape(
     Ok(())
 }
 
-/// Dumps a field of a table, in which there may be `left` further tables.
 #[cycle(walk)]
 fn dump_field(
     schema: &Schema,
@@ -109,7 +107,6 @@ fn dump_field(
     }
 }
 
-/// Dumps what is found at a path.
 #[cycle(walk)]
 fn dump_found(
     schema: &Schema,
@@ -128,7 +125,7 @@ fn dump_found(
     }
 }
 
-/// Dumps a field that has one place, all but a union or a vector of unions.
+/// Dumps a field that has one place: all but a union or a union vector.
 #[cycle(walk)]
 fn dump_place(
     schema: &Schema,
@@ -155,7 +152,6 @@ fn dump_place(
     }
 }
 
-/// Dumps a vector.
 #[cycle(walk)]
 fn dump_items(
     schema: &Schema,
@@ -184,7 +180,6 @@ fn dump_items(
     Ok(())
 }
 
-/// Dumps a union.
 #[cycle(walk)]
 fn dump_union(
     schema: &Schema,
@@ -213,7 +208,6 @@ fn dump_union(
     }
 }
 
-/// Dumps a vector of unions.
 #[cycle(walk)]
 fn dump_unions(
     schema: &Schema,
@@ -243,7 +237,6 @@ fn dump_unions(
     Ok(())
 }
 
-/// Returns the table of the variant with a tag, or `None` where no variant has it.
 fn variant_table(variants: &[(u8, usize)], tag: u8) -> Option<usize>
     ensures { result ≡ variant_of variants.now tag }
 {

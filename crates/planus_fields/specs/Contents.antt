@@ -1,4 +1,4 @@
--- What a value holds that may be left out.
+-- The contents of optional fields.
 use Rattle.std.specs.Prelude.{ℕ, List, [], ◌∷◌, Bool, true, false, if◌then◌else◌, Option}
 use Rattle.std.specs.Prelude.{Some, None, Ok, ⊤}
 use Rattle.planus_read.specs.Values.{Field}
@@ -11,14 +11,14 @@ use Rattle.planus_write.specs.Contents.{Content}
 use Rattle.planus_write.specs.Contents.{FieldIs, Comes, UnionVectorHolds}
 use Rattle.planus_write.specs.Contents.{UnionHolds, unions_hold}
 
--- a field that may be left out holds this, or it is left out
+-- both are left out, or the field holds this
 abbrev pub HoldsIf : {A : Type 0} → Past → Option Content → (A → Field) → Option A → Type 0
 HoldsIf past None field None = ⊤
 HoldsIf past (Some content) field (Some prepared) = FieldIs past content (field prepared)
 HoldsIf past None field (Some prepared) = ⊥
 HoldsIf past (Some content) field None = ⊥
 
--- Once a value that may be left out is prepared, the field that it becomes holds its content.
+-- Once an optional value is prepared, its field holds its content.
 pub record PreparesOptional {X A : Type 0} (may : X → State → Type 0)
     (outcome : X → Outcome (Option A)) (content : X → Option Content) (field : A → Field) : Type 0 where
   pub comes :
@@ -34,7 +34,7 @@ pub record PreparesUnion {X T : Type 0} (may : X → State → Type 0)
       → may x old → outcome x old (Ok prepared) new → IsPast old past
       → Comes past new (λ after. UnionHolds after (content x) prepared)
 
--- Once a vector of unions is prepared, its two fields hold these.
+-- Once a union vector is prepared, its two fields hold these.
 pub record PreparesUnionVector {X T : Type 0} (may : X → State → Type 0)
     (outcome : X → Outcome (Option (UnionVectorOffset T))) (contents : X → Option (Content × Content)) : Type 0 where
   pub comes :
@@ -46,26 +46,26 @@ pub record PreparesUnionVector {X T : Type 0} (may : X → State → Type 0)
 abbrev pub unless : {A : Type 0} → Bool → Option A → Option A
 unless is_default content = if is_default then None else content
 
--- a list has no items
+-- a vector has no items
 abbrev pub is_empty : {A : Type 0} → List A → Bool
 is_empty [] = true
 is_empty (x ∷ xs) = false
 
--- what the two fields of a vector of unions hold that is left out where it is empty
+-- the contents of the two fields of a union vector that is left out where it is empty
 abbrev pub any_unions_hold : List (ℕ × Content) → Option (Content × Content)
 any_unions_hold contents = unless (is_empty contents) (Some (unions_hold contents))
 
--- nothing of an absent field, else what the value holds
+-- nothing for an absent field, else what the value holds
 abbrev pub holds_if : {X : Type 0} → (X → Option Content) → Option X → Option Content
 holds_if content None = None
 holds_if content (Some x) = content x
 
--- the same of a union
+-- the same for a union
 abbrev pub union_if : {X : Type 0} → (X → Option (ℕ × Content)) → Option X → Option (ℕ × Content)
 union_if content None = None
 union_if content (Some x) = content x
 
--- the same of a vector of unions
+-- the same for a union vector
 abbrev pub union_vector_if : {X : Type 0} → (X → Option (Content × Content)) → Option X
     → Option (Content × Content)
 union_vector_if contents None = None

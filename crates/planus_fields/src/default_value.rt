@@ -1,5 +1,5 @@
 //! The default of a field.
 
-/// Stands for the default of a field: nothing is written.
+/// The default of a field: nothing is written.
 #[derive(Clone, Copy)]
 pub struct DefaultValue;

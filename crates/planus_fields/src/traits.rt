@@ -1,8 +1,8 @@
 //! What can be written as a field.
 //!
-//! The ghost members `may` and `outcome` of each trait are as those of
+//! The ghost members `may`, the precondition, and `outcome` of each trait are as in
 //! [`planus_write::WriteAsOffset`], and so is their law: the bytes before are the end of the bytes
-//! after, every promise stays, and what is answered refers to what lies in the bytes.
+//! after, every alignment constraint stays, and the result refers to what is in the bytes.
 ghost use Rattle.std.specs.Prelude.{ℕ, Option as option, Result};
 ghost use Rattle.planus_write.specs.Contents.{Content, PreparesContent};
 ghost use Rattle.planus_fields.specs.Contents.{PreparesOptional};
@@ -20,9 +20,9 @@ use planus_write::{
     BuildError, Builder, Primitive, UnionOffset, UnionVectorOffset, WriteAsPrimitive,
 };
 
-/// What can be written as a field that is always there.
+/// What can be written as a field that is always present.
 pub trait WriteAs<P: Primitive> {
-    /// What stands in the table.
+    /// What the table holds.
     type Prepared: WriteAsPrimitive<P> + Drop;
 
     ghost may: { Self → State → Type 0 };
@@ -32,9 +32,9 @@ pub trait WriteAs<P: Primitive> {
     /// What the field holds.
     ghost content: { Self → Content };
 
-    /// Writes what the field refers to, if it does and that isn't written already.
+    /// Writes what the field refers to, unless that is written already.
     ///
-    /// [`BuildError::TooLarge`] and [`BuildError::OutOfMemory`] as of
+    /// [`BuildError::TooLarge`] and [`BuildError::OutOfMemory`] as in
     /// [`planus_write::WriteAsOffset::prepare`].
     fn prepare(&self, builder: &mut Builder) -> std::result::Result<Self::Prepared, BuildError>
         requires { may self.now builder.old }
@@ -46,9 +46,9 @@ pub trait WriteAs<P: Primitive> {
     ghost has_content: { PreparesContent may outcome content Self.Prepared.field };
 }
 
-/// What can be written as a field that may be absent.
+/// What can be written as an optional field.
 pub trait WriteAsOptional<P: Primitive> {
-    /// What stands in the table, if the field is there.
+    /// What the table holds, if the field is present.
     type Prepared: WriteAsPrimitive<P> + Drop;
 
     ghost may: { Self → State → Type 0 };
@@ -75,7 +75,7 @@ pub trait WriteAsOptional<P: Primitive> {
 
 /// What can be written as a field that is left out where it has its default.
 pub trait WriteAsDefault<P: Primitive, D> {
-    /// What stands in the table, if the field is there.
+    /// What the table holds, if the field is present.
     type Prepared: WriteAsPrimitive<P> + Drop;
 
     ghost may: { Self → State → Type 0 };
@@ -104,17 +104,17 @@ pub trait WriteAsDefault<P: Primitive, D> {
         (λ value. content value default) Self.Prepared.field };
 }
 
-/// What can be written as a field of a union that may be absent.
+/// What can be written as an optional union.
 pub trait WriteAsOptionalUnion<T> {
     ghost may: { Self → State → Type 0 };
 
     ghost outcome: { Self → State → Result (option (UnionOffset T)) BuildError → State → Type 0 };
 
-    /// The tag, and what the reference to the value holds, or nothing where the union is left out.
+    /// The tag and the value's content, or nothing where the union is left out.
     ghost content: { Self → option (ℕ × Content) };
 
     /// Writes the union's value, as [`planus_write::WriteAsUnion::prepare`] does. With `None` the
-    /// tag and the value are left out, and nothing was written.
+    /// union is left out, and nothing was written.
     fn prepare(
         &self,
         builder: &mut Builder,
@@ -128,19 +128,18 @@ pub trait WriteAsOptionalUnion<T> {
     ghost has_content: { PreparesUnion may outcome content };
 }
 
-/// What can be written as a field of a vector of unions that is left out where the list is empty.
+/// What can be written as a union vector that is left out where it is empty.
 pub trait WriteAsDefaultUnionVector<T> {
     ghost may: { Self → State → Type 0 };
 
     ghost outcome: { Self → State → Result (option (UnionVectorOffset T)) BuildError → State → Type
         0 };
 
-    /// What the field of the tags and that of the values hold, or nothing where the vector is left
-    /// out.
+    /// What the two fields hold, or nothing where the vector is left out.
     ghost contents: { Self → option (Content × Content) };
 
-    /// Writes the list, as [`planus_write::WriteAsUnionVector::prepare`] does. With `None` the tags
-    /// and the values are left out, and nothing was written.
+    /// Writes the vector, as [`planus_write::WriteAsUnionVector::prepare`] does. With `None` it is
+    /// left out, and nothing was written.
     fn prepare(
         &self,
         builder: &mut Builder,
@@ -154,19 +153,18 @@ pub trait WriteAsDefaultUnionVector<T> {
     ghost has_contents: { PreparesUnionVector may outcome contents };
 }
 
-/// What can be written as a field of a vector of unions that may be absent.
+/// What can be written as an optional union vector.
 pub trait WriteAsOptionalUnionVector<T> {
     ghost may: { Self → State → Type 0 };
 
     ghost outcome: { Self → State → Result (option (UnionVectorOffset T)) BuildError → State → Type
         0 };
 
-    /// What the field of the tags and that of the values hold, or nothing where the vector is left
-    /// out.
+    /// What the two fields hold, or nothing where the vector is left out.
     ghost contents: { Self → option (Content × Content) };
 
-    /// Writes the list, as [`planus_write::WriteAsUnionVector::prepare`] does. With `None` the tags
-    /// and the values are left out, and nothing was written.
+    /// Writes the vector, as [`planus_write::WriteAsUnionVector::prepare`] does. With `None` it is
+    /// left out, and nothing was written.
     fn prepare(
         &self,
         builder: &mut Builder,

@@ -1,6 +1,6 @@
--- That a value stands aligned.
--- The format: a number stands at a multiple of its size from the buffer's start, and so do counts
--- and references.
+-- The alignment of encoded values.
+-- The format: a number is at a multiple of its size from the buffer's start, and so are counts and
+-- references.
 use Rattle.std.specs.Prelude.{◌≡◌, ℕ, ◌+◌, ◌*◌, ◌≤◌, List, Some, None, Option, ⊤, pos, ◌-ℤ◌}
 use Rattle.std.specs.Int.{w16, ◌∣◌}
 use Rattle.planus_read.specs.Bytes.{Num, Int}
@@ -9,21 +9,20 @@ use Rattle.planus_read.specs.Values.{table, Field, plain, reference, tags, value
 use Rattle.planus_read.specs.Values.{field_at, vtable_size}
 use Rattle.planus_read.specs.Stands.{Position, at, at_both, ItemsStand}
 
--- the alignment of a field: a plain item's own, and 4 of a reference
+-- the alignment of a field: a plain item's own, 4 for a reference
 abbrev pub field_alignment : Field → ℕ
 field_alignment (plain item) = item.alignment
 field_alignment (reference distance) = 4
 field_alignment (tags distance) = 4
 field_alignment (values distance) = 4
 
--- a present field, by the two bytes of its slot at s
+-- a present field is aligned, by the number in its slot at s
 abbrev pub SlotAligned : List ℕ → ℕ → ℕ → Option Field → Type 0
 SlotAligned B k s None = ⊤
 SlotAligned B k s (Some field) =
     (q : ℕ) × (Num B s w16 ≡ Some q) × (field_alignment field ∣ (k + q))
 
--- The table at k stands at a multiple of 4, the vtable to which its first word leads at a multiple
--- of 2, and each present field at a multiple of its own alignment.
+-- the table at k is at a multiple of 4, its vtable of 2, and each field of its own alignment
 pub record TableAligned (B : List ℕ) (k : ℕ) (entries : List (ℕ × Field)) : Type 0 where
   pub table : 4 ∣ k
   pub vtable : ℕ
@@ -33,14 +32,12 @@ pub record TableAligned (B : List ℕ) (k : ℕ) (entries : List (ℕ × Field))
       (i : ℕ) → 2 * i + 6 ≤ vtable_size entries
       → SlotAligned B k (vtable + 4 + 2 * i) (field_at entries i)
 
--- the count of a list, and each of its items
+-- the count of a vector is aligned, and so is each item
 abbrev pub ListAligned : {X : Type 0} → ℕ → ℕ → ℕ → List X → Type 0
 ListAligned k size alignment items =
     (4 ∣ k) × ItemsStand (λ position item. alignment ∣ position) (k + 4) size items
 
--- The value, which stands there, is aligned: counts and references at multiples of 4, items and
--- fields at multiples of their own alignment, a table at a multiple of 4, and its vtable at a
--- multiple of 2.
+-- Each part of the value encoded there is aligned.
 abbrev pub AlignedAt : List ℕ → Position → Value → Type 0
 AlignedAt B (at k) (text bytes) = 4 ∣ k
 AlignedAt B (at k) (byte_list bytes) = 4 ∣ k

@@ -1,15 +1,14 @@
--- What stands at a position of a list of bytes. Positions count from the front, from 0.
+-- Numbers and bytes at a position. Positions count from the front, from 0.
 use Rattle.std.specs.Prelude.{◌≡◌, ℕ, ◌+◌, ◌-◌, List, length, take, drop, nat_le}
 use Rattle.std.specs.Prelude.{if◌then◌else◌, Option, Some, None, ℤ}
 use Rattle.std.specs.Int.{Width, w32, byte_len, from_le_bytes, cast_signed}
 use Rattle.std.specs.Option.{option_map}
 
--- the position of what has this distance, of at most the length, from the end
+-- the position at this distance from the end
 abbrev pub position_of : List ℕ → ℕ → ℕ
 position_of B distance = length B - distance
 
--- The little-endian number of the width's bytes at the position. There is one exactly where these
--- bytes lie in B.
+-- The little-endian number at the position, if all bytes of the width are in B.
 -- The format: numbers are little-endian.
 abbrev pub Num : List ℕ → ℕ → Width → Option ℕ
 Num B position width =
@@ -22,6 +21,6 @@ Num B position width =
 abbrev pub Int : List ℕ → ℕ → Option ℤ
 Int B position = option_map (cast_signed w32) (Num B position w32)
 
--- these bytes stand at the position
+-- these bytes are at the position
 abbrev pub BytesStand : List ℕ → ℕ → List ℕ → Type 0
 BytesStand B position bytes = take (length bytes) (drop position B) ≡ bytes

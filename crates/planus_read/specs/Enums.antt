@@ -17,7 +17,7 @@ use Rattle.planus_read.specs.lemmas.NumberLaws.{AreBytes, one_byte, two_bytes, f
 use Rattle.planus_read.specs.lemmas.NumberLaws.{layout_of_one, layout_of_two, layout_of_four}
 use Rattle.planus_read.specs.lemmas.NumberLaws.{layout_of_eight, bytes_number, stood_by}
 
--- the variant that has the number, of variants with their numbers
+-- the variant with this number
 abbrev pub variant_in : {E N : Type 0} → (N → N → Bool) → List (N × E) → N → Option E
 variant_in equal [] n = None
 variant_in equal (one ∷ others) n = if equal n one.0 then Some one.1 else variant_in equal others n
@@ -27,8 +27,7 @@ pub record Numbered {E N : Type 0} (equal : N → N → Bool) (variants : List (
   pub number : N
   pub found : variant_in equal variants number ≡ Some x
 
--- An enum by its variants with their numbers: a variant is encoded as its number, `bits` of it, which
--- is read again as `read_as`. The error of a number that no variant has names it.
+-- an enum's shape: a variant is encoded as its number, `bits` of it, and read as `read_as`
 abbrev pub enum_shape :
     {E N : Type 0} (width : Width) → AreBytes width → IsLayout (byte_len width) (byte_len width)
     → (bits : N → ℕ) (read_as : ℕ → N) (Fits : N → Type 0)
@@ -110,12 +109,12 @@ abbrev pub i64_enum :
     {E : Type 0} {variants : List (ℤ × E)} → ((x : E) → Numbered int_eq variants x) → Shape E 8 8
 i64_enum {E} {variants} = signed_enum w64 eight_bytes layout_of_eight variants
 
--- the error, or another value where it is that of an unknown number
+-- another value for the error of an unknown number; any other error stays
 abbrev pub unless_unknown : {A : Type 0} → ErrorKind → A → Error → Result A Error
 unless_unknown (UnknownEnumTag source) other e = Ok other
 unless_unknown kind other e = Err e
 
--- what was read, or another value in place of an unknown number
+-- what was read, or another value for an unknown number
 abbrev pub known_or : {A : Type 0} → A → Result A Error → Result A Error
 known_or other (Ok x) = Ok x
 known_or other (Err e) = unless_unknown e.error_kind other e

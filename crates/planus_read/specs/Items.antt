@@ -1,18 +1,18 @@
--- What the errors of items of vectors name.
+-- The names in the errors of vector items.
 use Rattle.std.specs.Prelude.{ℕ, List, codes}
 
--- the method that the error of an item names
+-- the method
 abbrev pub item_method : List ℕ
 item_method = codes "get"
 
--- the type that the error of a text in a vector names
+-- the type of a string
 abbrev pub texts_name : List ℕ
 texts_name = codes "[str]"
 
--- the type that the error of a value of a fixed layout in a vector names
+-- the type of a value of a fixed layout
 abbrev pub plain_name : List ℕ
 plain_name = codes "[plain]"
 
--- the type that the error of a union in a vector names, where its reading is chosen later
+-- the type of a union whose reading is chosen later
 abbrev pub unions_name : List ℕ
 unions_name = codes "[union]"

@@ -1,37 +1,37 @@
--- Pieces of a buffer: their bytes, and where in the buffer they start.
+-- Slices of a buffer: their bytes, and where in the buffer they start.
 use Rattle.std.specs.Borrow.{Bor}
 use Rattle.std.specs.Prelude.{◌≡◌, ℕ, ◌+◌, ◌≤◌, List, length, take, drop}
 use Rattle.planus_read.specs.declared.slice_helpers.SliceWithStartOffset.{SliceWithStartOffset}
 use Rattle.planus_read.specs.declared.slice_helpers.ArrayWithStartOffset.{ArrayWithStartOffset}
 
--- the bytes of a piece, and where it starts
+-- the bytes of a slice, and its start
 abbrev pub slice_bytes : SliceWithStartOffset → List ℕ
 slice_bytes s = s.buffer.now
 
 abbrev pub slice_start : SliceWithStartOffset → ℕ
 slice_start s = s.offset_from_start
 
--- the same of a piece of N bytes
+-- the same for a slice of N bytes
 abbrev pub array_bytes : {N : ℕ} → ArrayWithStartOffset N → List ℕ
 array_bytes s = s.buffer.now
 
 abbrev pub array_start : {N : ℕ} → ArrayWithStartOffset N → ℕ
 array_start s = s.offset_from_start
 
--- the piece is s from this amount of its bytes on
+-- the slice is s from this number of bytes on
 pub record IsAdvanced
     (s : SliceWithStartOffset) (amount : ℕ) (piece : SliceWithStartOffset) : Type 0 where
   pub inside : amount ≤ length (slice_bytes s)
   pub bytes : slice_bytes piece ≡ drop amount (slice_bytes s)
   pub start : slice_start piece ≡ slice_start s + amount
 
--- the array has the N bytes from this amount on of a piece with these bytes and this start
+-- the array has the N bytes at this offset of a slice
 pub record IsArrayAt
     {N : ℕ} (bytes : List ℕ) (start amount : ℕ) (array : ArrayWithStartOffset N) : Type 0 where
   pub inside : amount + N ≤ length bytes
   pub items : array_bytes array ≡ take N (drop amount bytes)
   pub begin : array_start array ≡ start + amount
 
--- the text, or the slice, has these bytes
+-- the string, or the byte slice, has these bytes
 abbrev pub ShowsBytes : List ℕ → Bor (List ℕ) → Type 0
 ShowsBytes bytes lent = lent.now ≡ bytes

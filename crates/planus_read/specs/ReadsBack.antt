@@ -1,5 +1,4 @@
--- That a value reads back: what readers answer of it, over each piece of the bytes, by each
--- reference that leads to it.
+-- That a value reads back, in each slice of the bytes, by each reference to it.
 use Rattle.std.specs.Prelude.{◌≡◌, ℕ, ◌+◌, ◌*◌, ◌==◌, not, List, [], ◌∷◌}
 use Rattle.std.specs.Prelude.{length, drop, slice_get, Some, ⊤, Result, IsOkAnd}
 use Rattle.std.specs.Int.{Width, w8, byte_len, from_le_bytes, cast_signed}
@@ -22,14 +21,13 @@ use Rattle.planus_read.specs.ReadingLaws.{IsAnswered}
 use Rattle.planus_read.specs.TableReading.{HasFields}
 use Rattle.planus_read.specs.Tables.{ShowsTable}
 
--- A value that can be read back: a text is UTF-8.
--- The format: the bytes of a text are UTF-8.
+-- A value that can be read back.
+-- The format: the bytes of a string are UTF-8.
 abbrev pub WellFormed : Value → Type 0
 WellFormed (text bytes) = IsUtf8 bytes
 WellFormed _ = ⊤
 
--- The bytes of a plain item at f of S, as its reader answers them: a number or a signed number of
--- as many bytes, and one byte as a truth value. They stand there, for readers of structs.
+-- a plain item at f of S reads back: as a number or signed number, and one byte as a bool
 pub record PlainReads (S : List ℕ) (f : ℕ) (bytes : List ℕ) : Type 0 where
   pub stands : BytesStand S f bytes
   pub number :
@@ -40,8 +38,7 @@ pub record PlainReads (S : List ℕ) (f : ℕ) (bytes : List ℕ) : Type 0 where
       → IsAnswered (signed_reading S f width) (cast_signed width (from_le_bytes width bytes))
   pub truth : (byte : ℕ) → bytes ≡ byte ∷ [] → IsAnswered (truth_reading S f) (not (byte == 0))
 
--- The reference at f of the piece of B from start on: it leads to its distance, and reading goes on
--- there from the `Place` that is answered for it, also with the tag of a union.
+-- the reference at f leads to its distance, and so does the `Place` returned for it
 pub record ReferenceReads (B : List ℕ) (start f distance : ℕ) : Type 0 where
   pub leads : Leads B (start + f) (position_of B distance)
   pub place :
@@ -51,21 +48,20 @@ pub record ReferenceReads (B : List ℕ) (start f distance : ℕ) : Type 0 where
       (tag : ℕ) (tagged : TaggedPlace) → IsTaggedPlace (drop start B) start tag f tagged
       → TaggedLeadsOn B tag (position_of B distance) tagged
 
--- the field at f of the piece of B from start on
+-- the field at f of the slice of B from start on reads back
 abbrev pub FieldReads : List ℕ → ℕ → ℕ → Field → Type 0
 FieldReads B start f (plain item) = PlainReads (drop start B) f item.bytes
 FieldReads B start f (reference distance) = ReferenceReads B start f distance
 FieldReads B start f (tags distance) = ReferenceReads B start f distance
 FieldReads B start f (values distance) = ReferenceReads B start f distance
 
--- Every field that stands is answered so.
+-- Every encoded field reads back.
 abbrev pub FieldsReadBack : Type 0
 FieldsReadBack =
     (B : List ℕ) (start f : ℕ) (field : Field) → FieldStands B (start + f) field
     → FieldReads B start f field
 
--- The list at k, read at f of the piece of B from start on: a vector of as many items of this size,
--- each of which is answered over the piece that begins at the first item.
+-- the vector at k, read at f of the slice of B from start on: its count, its item size, its items
 pub record ListReads
     {X : Type 0} (ItemReads : ℕ → ℕ → X → Type 0) (B : List ℕ) (k start f size : ℕ) (items : List X)
     : Type 0 where
@@ -77,9 +73,7 @@ pub record ListReads
   pub each :
       (i : ℕ) (item : X) → slice_get items i ≡ Some item → ItemReads (k + 4) (i * size) item
 
--- The vector of unions at kt and kv, read at f and g of the piece of B from start on: a vector of as many
--- unions; each tag is answered over the piece that begins at the first tag, each reference over the
--- piece that begins at the first reference.
+-- the union vector at kt and kv, read at f and g of that slice: its count, its tags, its references
 pub record UnionVectorReads (B : List ℕ) (kt kv start f g : ℕ) (items : List (ℕ × ℕ)) : Type 0 where
   pub tags_position : ℕ
   pub references_position : ℕ
@@ -95,8 +89,7 @@ pub record UnionVectorReads (B : List ℕ) (kt kv start f g : ℕ) (items : List
       (i : ℕ) (item : ℕ × ℕ) → slice_get items i ≡ Some item
       → ReferenceReads B (kv + 4) (i * 4) item.1
 
--- The table at k, read at f of the piece of B from start on: it is the only answer, and each
--- `Table` that is answered has its fields.
+-- the table at k, read at f of that slice: it is the only result, and has its fields
 pub record TableReads (B : List ℕ) (k start f : ℕ) (entries : List (ℕ × Field)) : Type 0 where
   pub layout : TableLayout
   pub answered : IsAnswered (table_reading (drop start B) f) layout
@@ -105,14 +98,11 @@ pub record TableReads (B : List ℕ) (k start f : ℕ) (entries : List (ℕ × F
       → Answer (shown (ShowsTable (drop start B) start) (table_reading (drop start B) f)) r
       → IsOkAnd r (HasFields B k entries)
 
--- This is answered by each reference that leads to k, over each piece of B that begins no further
--- on than the reference: at f of the piece from start on.
+-- this holds for each reference to k, in each slice of B that begins no further on than it
 abbrev pub ByReferences : List ℕ → ℕ → (ℕ → ℕ → Type 0) → Type 0
 ByReferences B k Answered = (start f : ℕ) → Leads B (start + f) k → Answered start f
 
--- The value at this position reads back: by each reference that leads to it, over each such piece,
--- it is the only answer, one value at a time. Its references are answered as places from which
--- reading goes on.
+-- the value here is the only result of each reference to it; its references are returned as places
 abbrev pub ReadsBack : List ℕ → Position → Value → Type 0
 ReadsBack B (at k) (text bytes) =
     ByReferences B k (λ start f. IsAnswered (text_reading (drop start B) f) bytes)
@@ -130,7 +120,7 @@ ReadsBack B (at_both kt kv) (union_vector items) =
 ReadsBack B (at k) (union_vector items) = ⊥
 ReadsBack B (at_both kt kv) _ = ⊥
 
--- What stands reads back, if it is well-formed.
+-- An encoded value reads back, if it is well-formed.
 abbrev pub WhatStandsReadsBack : Type 0
 WhatStandsReadsBack =
     (B : List ℕ) (p : Position) (v : Value) → WellFormed v → Stands B p v → ReadsBack B p v

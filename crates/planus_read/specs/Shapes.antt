@@ -1,4 +1,4 @@
--- Numbers, truth values and floats, which have a fixed layout.
+-- The shapes of numbers, bools and floats.
 use Rattle.std.specs.Prelude.{ℕ, [], ◌∷◌, Bool, ◌==◌, not, ℤ, FitsSigned, ⊤, from_bits, to_bits}
 use Rattle.std.specs.Int.{Width, w8, w16, w32, w64, byte_len, to_le_bytes, cast_signed}
 use Rattle.std.specs.Int.{cast_unsigned, from_bool}
@@ -45,7 +45,7 @@ signed_shape width are layout = record {
       ∙ to_z-of_z fits;
 }
 
--- a float of a width: the number that is its bits
+-- a float: the number that is its bits
 abbrev pub float_shape : (width : Width) (format : Format) → AreBytes width
     → ((x : Float) → FloatFits format x → NumberFits width (to_bits format x))
     → IsLayout (byte_len width) (byte_len width) → Shape Float (byte_len width) (byte_len width)
@@ -74,7 +74,7 @@ u32_shape = unsigned_shape w32 four_bytes layout_of_four
 abbrev pub u64_shape : Shape ℕ 8 8
 u64_shape = unsigned_shape w64 eight_bytes layout_of_eight
 
--- The byte of a number of 8 bits is that number, so it stands as it is.
+-- a byte holds the number itself
 abbrev pub i8_shape : Shape ℤ 1 1
 i8_shape = record {
   encoded = λ z. cast_unsigned w8 z ∷ [];
@@ -100,7 +100,7 @@ i32_shape = signed_shape w32 four_bytes layout_of_four
 abbrev pub i64_shape : Shape ℤ 8 8
 i64_shape = signed_shape w64 eight_bytes layout_of_eight
 
--- a truth value: one byte, 0 or 1, of which each but 0 is read as true
+-- a bool: one byte, 0 or 1, of which each but 0 is read as true
 abbrev pub bool_shape : Shape Bool 1 1
 bool_shape = record {
   encoded = λ truth. from_bool truth ∷ [];

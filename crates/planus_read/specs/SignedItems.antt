@@ -1,5 +1,4 @@
--- The steps of an iterator over signed bytes: it takes bytes from the two ends of those that are
--- left.
+-- An iterator over signed bytes, which takes bytes from the two ends of those that are left.
 use Rattle.std.specs.Prelude.{◌≡◌, ℕ, ℤ, List, [], ◌∷◌, ◌++◌, Option, MatchOption}
 use Rattle.std.specs.Int.{w8, cast_signed}
 use Rattle.std.specs.Slice.Iter.{iter_rest}
@@ -9,13 +8,12 @@ use Rattle.planus_read.specs.declared.signed_items.SignedItems.{SignedItems}
 abbrev pub bytes_left : SignedItems → List ℕ
 bytes_left items = iter_rest items.bytes
 
--- A step from the front: the first byte that is left, in two's complement, which is taken. With
--- none left nothing changes.
+-- A step from the front takes the first byte that is left; with none left nothing changes.
 abbrev pub TakesFirst : SignedItems → Option ℤ → SignedItems → Type 0
 TakesFirst s taken t = MatchOption taken ((bytes_left s ≡ []) × (t ≡ s))
     (λ number. (byte : ℕ) × (number ≡ cast_signed w8 byte) × (bytes_left s ≡ byte ∷ bytes_left t))
 
--- A step from the back: the last byte that is left, in two's complement, which is taken.
+-- A step from the back takes the last byte that is left.
 abbrev pub TakesLast : SignedItems → Option ℤ → SignedItems → Type 0
 TakesLast s taken t = MatchOption taken ((bytes_left s ≡ []) × (t ≡ s))
     (λ number. (byte : ℕ) × (number ≡ cast_signed w8 byte)

@@ -1,4 +1,4 @@
--- Structs: fields of a fixed layout, one behind the other.
+-- Structs: fields of a fixed layout, one after another.
 use Rattle.std.specs.Prelude.{◌≡◌, ℕ, ◌+◌, ◌-◌, ◌*◌, ◌%◌, ◌^◌, ◌<◌, ◌≤◌, max, List, [], ◌++◌, length, replicate, ⊤}
 use Rattle.std.proofs.Common.{refl, sym, ap, ◌∙◌, length-append}
 use Rattle.std.proofs.lemmas.List.{length-replicate}
@@ -8,12 +8,12 @@ use Rattle.planus_read.specs.Clauses.{Clause, AllHold}
 use Rattle.planus_read.specs.Plain.{IsLayout, Shape, place}
 use Rattle.planus_read.specs.lemmas.StructLaws.{parts_stand, behind, both_are, both_hold}
 
--- The zeros that bring an offset to a multiple of an alignment.
+-- the number of zeros that bring an offset to a multiple of an alignment
 abbrev pub gap : ℕ → ℕ → ℕ
 gap k alignment = (alignment - k % alignment) % alignment
 
--- The fields of a struct from an offset on: their bytes, which values stand there, what a read of them
--- tests there, in order, and that where the bytes of some stand nothing fails and no others stand.
+-- The fields of a struct from an offset on: their bytes, the encoded values, the clauses of a read,
+-- and the law that no clause fails, and no others are encoded, where the bytes of some are.
 pub record Fields (A : Type 0) : Type 1 where
   pub size : ℕ → ℕ
   pub alignment : ℕ
@@ -47,8 +47,8 @@ no_more {A} = record {
   again = λ k S f x y fits stands there. refl;
 }
 
--- A field at the next multiple of its alignment, and those behind it.
--- The format: each field of a struct stands at a multiple of its own alignment, with zeros between.
+-- A field at the next multiple of its alignment, and the fields after it.
+-- The format: each field of a struct is at a multiple of its own alignment, with zeros between.
 abbrev pub field :
     {A B : Type 0} {bytes align : ℕ} → (A → B) → Shape B bytes align → Fields A → Fields A
 field {A} {B} {bytes} {align} get shape rest = record {
@@ -97,7 +97,7 @@ field {A} {B} {bytes} {align} get shape rest = record {
       there.1));
 }
 
--- The same fields of a struct that stands at multiples of this alignment at least.
+-- The same fields in a struct of at least this alignment.
 -- The format: `force_align`.
 abbrev pub force_align : {A : Type 0} → ℕ → Fields A → Fields A
 force_align alignment fields = record {
@@ -130,7 +130,7 @@ struct_layout k n small positive = record {
   multiple = dvd-mul_left (2 ^ k) n;
 }
 
--- A struct of these fields, which may be a field of another one. `make` makes it of their values.
+-- A struct of these fields, which may be a field of another. `make` makes it from their values.
 abbrev pub struct_shape : {A : Type 0} (fields : Fields A)
     → IsLayout (struct_size fields) fields.alignment → (make : fields.Values → A)
     → ((x : A) → make (fields.values x) ≡ x) → Shape A (struct_size fields) fields.alignment

@@ -1,4 +1,4 @@
--- The texts that errors print.
+-- The strings that errors print.
 use Rattle.std.specs.Prelude.{ℕ, ◌-◌, ◌^◌, List, [], ◌++◌, ◌==◌, false, codes, Option, Some, None}
 use Rattle.std.specs.Prelude.{if◌then◌else◌}
 use Rattle.std.specs.Fmt.{decimal, signed_decimal, digits}
@@ -16,19 +16,18 @@ use Rattle.planus_read.specs.declared.located.ErrorLocation.{ErrorLocation}
 use Rattle.planus_read.specs.declared.located.Error.{Error}
 use Rattle.planus_read.specs.declared.located.UnknownEnumTag.{UnknownEnumTag}
 
--- the text of an enum's value that its reader doesn't know
+-- the string of an enum value that its reader doesn't know
 abbrev pub unknown_tag_text : UnknownEnumTagKind → List ℕ
 unknown_tag_text kind = codes "Unknown enum (tag = " ++ signed_decimal kind.tag ++ codes ")"
 
--- The text of a fault in UTF-8 by its two numbers: the bytes in front of it that are UTF-8, and the
--- bytes at fault, or none where the bytes end within a character.
+-- the string of a UTF-8 error, by the numbers of valid bytes before it and of invalid ones, if any
 abbrev pub utf8_text : ℕ → Option ℕ → List ℕ
 utf8_text valid_len (Some fault_len) =
     codes "invalid utf-8 sequence of "
     ++ (decimal fault_len ++ (codes " bytes from index " ++ decimal valid_len))
 utf8_text valid_len None = codes "incomplete utf-8 byte sequence from index " ++ decimal valid_len
 
--- the text of a kind
+-- the string of a kind
 abbrev pub kind_text : ErrorKind → List ℕ
 kind_text InvalidOffset = codes "Invalid offset"
 kind_text InvalidLength = codes "Invalid length"
@@ -44,7 +43,7 @@ kind_text (InvalidUtf8 source) =
 kind_text MissingRequired = codes "Missing required field"
 kind_text MissingNullTerminator = codes "Missing null terminator"
 
--- the offset of a location that has none: the greatest of 64 bits
+-- the offset of a location that has none: 2^64 - 1
 abbrev pub no_offset : ℕ
 no_offset = 2 ^ 64 - 1
 
@@ -56,14 +55,14 @@ location_text location =
     else codes "@" ++ digits 16 false location.byte_offset)
     ++ codes ">::" ++ location.method.now ++ codes "()"
 
--- a text at a location
+-- a string at a location
 abbrev pub located_text : ErrorLocation → List ℕ → List ℕ
 located_text location kind = codes "In " ++ location_text location ++ codes ": " ++ kind
 
--- the text of an error
+-- the string of an error
 abbrev pub error_text : Error → List ℕ
 error_text e = located_text e.source_location (kind_text e.error_kind)
 
--- the text of an unknown value at its location
+-- the string of an unknown value at its location
 abbrev pub unknown_enum_tag_text : UnknownEnumTag → List ℕ
 unknown_enum_tag_text e = located_text e.source_location (unknown_tag_text e.error_kind)

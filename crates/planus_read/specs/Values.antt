@@ -1,10 +1,8 @@
--- What a writer writes and a reader reads: the values of the format, one at a time. A reference in
--- a value is the distance of an earlier value from the end of the bytes.
+-- The values of the format. A reference is the distance of an earlier value from the end.
 use Rattle.std.specs.Prelude.{ℕ, ◌+◌, ◌*◌, ◌==◌, max, List, [], ◌∷◌}
 use Rattle.std.specs.Prelude.{Option, Some, None, if◌then◌else◌}
 
--- A plain item: the bytes of a number or a truth value, and the alignment of its type. A number of
--- n bytes has alignment n.
+-- a plain item: its bytes and its alignment; a number of n bytes has alignment n
 pub record Plain : Type 0 where
   pub bytes : List ℕ
   pub alignment : ℕ
@@ -12,9 +10,9 @@ pub record Plain : Type 0 where
 -- a field of a table
 pub data Field : Type 0 where
   plain : Plain → Field
-  -- a value, or the value of a union
+  -- to a value, or to the value of a union
   reference : ℕ → Field
-  -- the tags of a vector of unions, and its references
+  -- to the tags of a union vector, and to its references
   tags : ℕ → Field
   values : ℕ → Field
 
@@ -22,7 +20,7 @@ pub data Field : Type 0 where
 pub data Value : Type 0 where
   text : List ℕ → Value
   byte_list : List ℕ → Value
-  -- items of one type, each of this size in bytes and this alignment
+  -- items of one type, of this size in bytes and this alignment
   plain_list : (size alignment : ℕ) → List (List ℕ) → Value
   reference_list : List ℕ → Value
   -- pairs of a tag and a reference
@@ -35,12 +33,11 @@ abbrev pub field_at : List (ℕ × Field) → ℕ → Option Field
 field_at [] slot = None
 field_at (entry ∷ entries) slot = if entry.0 == slot then Some entry.1 else field_at entries slot
 
--- the number of slots up to the greatest used one
+-- the number of slots up to the last used one
 abbrev pub slot_count : List (ℕ × Field) → ℕ
 slot_count [] = 0
 slot_count (entry ∷ entries) = max (entry.0 + 1) (slot_count entries)
 
--- The format: a vtable has its own size and the object's, two bytes each, and then two bytes a
--- slot.
+-- The format: a vtable has its own size and the object's, two bytes each, and two bytes per slot.
 abbrev pub vtable_size : List (ℕ × Field) → ℕ
 vtable_size entries = 4 + 2 * slot_count entries

@@ -6,57 +6,56 @@ use crate::located;
 use std::fmt;
 use std::str::Utf8Error;
 
-/// The error of a read: what is wrong with the bytes, and where it was met.
+/// The error of a read: what is wrong with the bytes, and where it was found.
 pub type Error = located::Error<'static>;
 
-/// Where an error was met: the names of the type and the method that read, and the offset in the
+/// Where an error was found: the names of the type and the method that read, and the offset in the
 /// buffer.
 pub type ErrorLocation = located::ErrorLocation<'static>;
 
-/// A value that its enum doesn't have, and where it was met.
+/// A value that its enum doesn't have, and where it was found.
 pub type UnknownEnumTag = located::UnknownEnumTag<'static>;
 
 /// What can be wrong with bytes that are read.
 #[derive(Clone, Copy, Debug, PartialEq, Eq)]
 pub enum ErrorKind {
-    /// A reference leads past the end of the piece that is read, a number doesn't lie wholly in it,
-    /// or a table's vtable would begin in front of it. Also where exactly one of the two slots of a
-    /// vector of unions holds 0.
+    /// A reference leads past the end of the slice, a number isn't wholly in the slice, or a vtable
+    /// would begin before it. Also where exactly one slot of a union vector holds 0.
     InvalidOffset,
-    /// The items of a vector, or the slots of a vtable, reach past the end of the piece that is
-    /// read. Also where fewer bytes follow the size in front of a buffer than it says.
+    /// The items of a vector, or the slots of a vtable, pass the end of the slice that is read.
+    /// Also where a size-prefixed buffer is shorter than its size.
     InvalidLength,
-    /// The two parts of a vector of unions have different counts.
+    /// The two parts of a union vector have different counts.
     UnionVectorLengthsMismatched {
         /// The number of tags, in items.
         tags_len: usize,
         /// The number of references to values, in items.
         values_len: usize,
     },
-    /// A value that its enum doesn't have. A writer by a later schema may have put it there, so it
-    /// needn't be damage.
+    /// A value that its enum doesn't have. Not always damage: a writer of a later schema may know
+    /// it.
     UnknownEnumTag {
         /// The value that was read.
         source: UnknownEnumTagKind,
     },
-    /// A tag that its union doesn't have. As of an enum's value, that needn't be damage.
+    /// A tag that its union doesn't have. Not always damage, as with an enum's value.
     UnknownUnionTag {
         /// The tag that was read.
         tag: u8,
     },
     /// A vtable's size is odd or below 4, or the vtable ends between the two slots of a union.
     InvalidVtableLength {
-        /// The size in bytes, with the vtable's own first 4 bytes.
+        /// The vtable's size in bytes, its own first 4 bytes included.
         length: u16,
     },
-    /// The bytes of a text aren't UTF-8.
+    /// The bytes of a string aren't UTF-8.
     InvalidUtf8 {
-        /// The first fault in these bytes.
+        /// The first UTF-8 error in these bytes.
         source: Utf8Error,
     },
-    /// A field that its table must have is absent.
+    /// A required field of a table is absent.
     MissingRequired,
-    /// A text isn't followed by a zero byte in the piece that is read.
+    /// A string isn't followed by a zero byte in the slice that is read.
     MissingNullTerminator,
 }
 
@@ -67,9 +66,8 @@ pub struct UnknownEnumTagKind {
     pub tag: i128,
 }
 
-// The two numbers of a fault in UTF-8: the bytes in front of it that are UTF-8, and the bytes at
-// fault, none where the text ends within a character. They print as std prints the fault itself,
-// whose own Display has no text in its contract.
+// The numbers of a `Utf8Error`: valid bytes before it, and invalid bytes, none where the string
+// ends within a character. They print like the error, whose own Display has no contract.
 #[derive(Clone, Copy)]
 struct Utf8Fault {
     valid_len: usize,

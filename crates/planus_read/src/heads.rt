@@ -1,4 +1,4 @@
-//! Heads of vectors and texts: a reference, and the count to which it leads.
+//! Heads of vectors and strings: a reference, and the count to which it leads.
 
 ghost use Rattle.std.specs.Prelude.{◌≡◌};
 ghost use Rattle.planus_read.specs.Clauses.{Answer, shown};
@@ -10,10 +10,8 @@ use crate::errors::ErrorKind;
 use crate::slice_helpers::SliceWithStartOffset;
 use crate::traits::TableRead;
 
-/// Returns the bytes of the piece from the first item on of the vector to which the reference at
-/// the offset leads, and the number of its items. Nothing is tested of the items themselves.
-/// [`ErrorKind::InvalidOffset`] where the reference, what it leads to or the count doesn't lie in
-/// the piece.
+/// Returns the bytes from the first item on of the vector at a reference, and its count.
+/// [`ErrorKind::InvalidOffset`] where the reference, its target or the count isn't in the slice.
 pub fn array_from_buffer<'buf>(
     buffer: SliceWithStartOffset<'buf>,
     offset: usize,

@@ -1,5 +1,5 @@
-//! Laws over where values stand and what readers answer. Each function is a theorem; its body is
-//! empty.
+//! Laws over where values are encoded and what readers return. Each function is a theorem; its body
+//! is empty.
 
 ghost use Rattle.std.specs.Int.{Width};
 ghost use Rattle.std.specs.Prelude.{◌≡◌, ℕ, List};
@@ -25,7 +25,7 @@ ghost use Rattle.planus_read.specs.Moves.{KeepsStanding, KeepsLeading, StandsAlo
 use crate::plain::Plain;
 use crate::traits::{TableRead, TableReadUnion, TableReadUnionVector};
 
-/// A number, a truth value and a float have the alignment that is their size.
+/// The alignment of a number, a bool and a float is its size.
 pub fn scalars_are_aligned_to_their_size()
     ensures u8 { ⟦<u8 as Plain>⟧.ALIGNMENT ≡ ⟦<u8 as Plain>⟧.SIZE }
     ensures u16 { ⟦<u16 as Plain>⟧.ALIGNMENT ≡ ⟦<u16 as Plain>⟧.SIZE }
@@ -40,25 +40,22 @@ pub fn scalars_are_aligned_to_their_size()
     ensures f64 { ⟦<f64 as Plain>⟧.ALIGNMENT ≡ ⟦<f64 as Plain>⟧.SIZE }
 {}
 
-/// What stands in some bytes, of any kind, keeps standing behind whatever is put in front of them,
-/// at positions further on by the length of that, and so at the same distances from the end. A
-/// reference keeps leading to its distance.
+/// Whatever is prepended to some bytes, a value in them stays encoded at the same distances from
+/// the end, and a reference leads to the same distance.
 pub fn keeps_standing()
     ensures value { KeepsStanding }
     ensures reference { KeepsLeading }
 {}
 
-/// What stands in some bytes, of any kind, needs nothing in front of it: it stands as well where
-/// that is cut off, as in a piece that begins further on. A reference leads to its distance there
-/// too.
+/// A value needs no bytes before it: it is encoded as well where those are cut off, and a reference
+/// leads to its distance there too.
 pub fn stands_alone()
     ensures value { StandsAlone }
     ensures reference { LeadsAlone }
 {}
 
-/// All clauses of a reading hold exactly where a value of its kind stands; at most one does; where
-/// the first clause that fails gives an error, none does; where one stands, it is the only answer;
-/// and there is at most one answer.
+/// All clauses of a reading hold exactly where a value of its kind is encoded, which is then the
+/// only value and result; an error means that there is none; and there is at most one result.
 pub fn readings_are_lawful()
     ensures number { (S : List ℕ) (f : ℕ) (width : Width) → IsLawful (number_reading S f width) }
     ensures signed { (S : List ℕ) (f : ℕ) (width : Width) → IsLawful (signed_reading S f width) }
@@ -72,8 +69,8 @@ pub fn readings_are_lawful()
     ensures size_prefixed { (B : List ℕ) → IsLawful (prefixed_reading B) }
 {}
 
-/// Where a value stands, its reader returns what shows it: the text, the slice, the list of signed
-/// bytes, the piece of the items with their count, or the table.
+/// Where a value is encoded, its reader returns what shows it: the string, the slice, the signed
+/// bytes, the slice of the items with their count, or the table.
 pub fn readers_show_values()
     ensures head { (S : List ℕ) (start f : ℕ) → IsShown (head_reading S f) (ShowsItems S start) }
     ensures text { (S : List ℕ) (f : ℕ) → IsShown (text_reading S f) ShowsBytes }
@@ -83,19 +80,16 @@ pub fn readers_show_values()
     ensures size_prefixed { (B : List ℕ) → IsShown (prefixed_reading B) ShowsPrefixed }
 {}
 
-/// A buffer with its size in front is read with exactly its bytes, and the rest is what follows it.
-/// So such buffers, put behind one another, are read one by one, and then what follows the last of
-/// them is left. One that is cut behind its size is refused as
-/// [`ErrorKind::InvalidLength`](crate::errors::ErrorKind::InvalidLength).
+/// A stream of size-prefixed buffers is read one by one, each with exactly its bytes. One that is
+/// cut off after its size fails with [`InvalidLength`](crate::errors::ErrorKind::InvalidLength).
 pub fn streams_are_read()
     ensures first { BuffersAreRead }
     ensures read { StreamsRead }
     ensures cut { CutsAreRefused }
 {}
 
-/// A reference that is encoded leads to the position of its distance. It leads there too in each
-/// piece of the bytes that begins no further on, and what stands in the bytes stands in that piece:
-/// fields and values of any kind.
+/// An encoded reference leads to the position of its distance. In each slice of the bytes that
+/// begins no further on, so it does, and fields and values are encoded as in the bytes.
 pub fn pieces_keep_what_stands()
     ensures reference { ReferencesLead }
     ensures leads { LeadsInPieces }
@@ -103,46 +97,39 @@ pub fn pieces_keep_what_stands()
     ensures value { StandsInPieces }
 {}
 
-/// Item i of a list that stands follows the count and i items: a plain item, a reference, and the
-/// tag and the reference of a union.
+/// Item i of a vector follows the count and i items: a plain item, a reference, and the tag and the
+/// reference of a union.
 pub fn items_stand()
     ensures plain { PlainItemsStand }
     ensures references { ReferenceItemsStand }
     ensures unions { UnionItemsStand }
 {}
 
-/// A field that is encoded is read as its value, over each piece of the bytes that begins no
-/// further on: a plain item as the number, signed number or truth value of its bytes, a reference
-/// as the place from which reading goes on at its distance.
+/// An encoded field is read as its value, in each slice that begins no further on: a plain item as
+/// the number or bool of its bytes, a reference as the place from which reading goes on.
 pub fn fields_read_back()
     ensures { FieldsReadBack }
 {}
 
-/// What stands reads back, whatever it is, if its texts are UTF-8: by each reference that leads to
-/// it, over each piece of the bytes that begins no further on than the reference, nothing but it is
-/// returned.
+/// An encoded value whose strings are UTF-8 reads back: by each reference to it, in each slice of
+/// the bytes that begins no further on than the reference, it is the only result.
 pub fn what_stands_reads_back()
     ensures { WhatStandsReadsBack }
 {}
 
-/// `access` and `access_required` return the fields of a table that was written: of each slot what
-/// `T` returns where the field is encoded, and where the table has none, also past the vtable's
-/// end, `None` and `MissingRequired`.
+/// `access` and `access_required` return the fields of a table that was written: what `T` returns,
+/// or for an absent field, also past the vtable's end, `None` and `MissingRequired`.
 pub fn fields_are_answered<'buf, T: TableRead<'buf>>()
     ensures { FieldsRead T.reads }
 {}
 
-/// `access_union` and `access_union_required` return the unions of a table that was written: of two
-/// slots with a tag above 0 and a reference what `T` returns for that tag where the reference is
-/// encoded, and of two slots that aren't used `None` and `MissingRequired`.
+/// `access_union` and `access_union_required` return the unions of a table that was written: what
+/// `T` returns for the tag, or for two unused slots `None` and `MissingRequired`.
 pub fn unions_are_answered<'buf, T: TableReadUnion<'buf>>()
     ensures { UnionsRead T.reads }
 {}
 
-/// `access_union_vector` and `access_union_vector_required` return the vectors of unions of a table
-/// that was written: of two slots with the tags and the values of vectors of unions what `T`
-/// returns where both references are encoded, and of two slots that aren't used `None` and
-/// `MissingRequired`.
+/// `access_union_vector` and `access_union_vector_required` do the same for union vectors.
 pub fn union_vectors_are_answered<'buf, T: TableReadUnionVector<'buf>>()
     ensures { UnionVectorsRead T.reads }
 {}

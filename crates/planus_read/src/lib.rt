@@ -1,5 +1,4 @@
-//! Zero-copy readers of flatbuffers, and definitions of what is encoded at which position of their
-//! bytes.
+//! Zero-copy readers of flatbuffers, and definitions of what is encoded at which position.
 #![tactic(auto)]
 
 pub mod errors;
@@ -33,6 +32,6 @@ pub use traits::{
 /// The result of a read that names its location.
 pub type Result<T> = std::result::Result<T, Error>;
 
-/// A type that has no value. Nothing here returns one: it is kept for code that names it.
+/// A type that has no value, for code that names it.
 #[derive(Clone, Copy)]
 pub enum Void {}

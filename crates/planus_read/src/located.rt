@@ -1,4 +1,4 @@
-//! The errors, with names of any lifetime, as the accessors of tables return them. With literal
+//! The errors, with names of any lifetime, as the accessors of tables return them. With static
 //! names they are those of [`crate::errors`].
 
 use crate::errors::{ErrorKind, UnknownEnumTagKind};
@@ -7,19 +7,19 @@ use std::fmt;
 // The offset of a location that has none.
 const NO_OFFSET: usize = usize::MAX;
 
-// The method that the error of an item names.
+// The method in the error of an item.
 pub(crate) const ITEM_METHOD: &str = "get";
 
-/// The error of a read: what is wrong with the bytes, and where it was met.
+/// The error of a read: what is wrong with the bytes, and where it was found.
 #[derive(Clone, Copy, Debug, PartialEq, Eq)]
 pub struct Error<'n> {
-    /// Where the error was met.
+    /// Where the error was found.
     pub source_location: ErrorLocation<'n>,
     /// What is wrong.
     pub error_kind: ErrorKind,
 }
 
-/// Where an error was met: the names of the type and the method that read, and the offset in the
+/// Where an error was found: the names of the type and the method that read, and the offset in the
 /// buffer.
 #[derive(Clone, Copy, Debug, PartialEq, Eq)]
 pub struct ErrorLocation<'n> {
@@ -27,17 +27,16 @@ pub struct ErrorLocation<'n> {
     pub type_: &'n str,
     /// The name of the method that read it.
     pub method: &'n str,
-    /// The offset in bytes from the buffer's start, `usize::MAX` where there is none. Of a table's
-    /// field it is that of the table's first byte; of an item it is the start of the piece that
-    /// holds the vector's items.
+    /// The offset in bytes from the buffer's start, `usize::MAX` where there is none: of a table's
+    /// first byte for its fields, and of the slice of the items for an item.
     pub byte_offset: usize,
 }
 
-/// A value that its enum doesn't have, and where it was met. A writer by a later schema may have
-/// put it there.
+/// A value that its enum doesn't have, and where it was found. A writer of a later schema may know
+/// it.
 #[derive(Clone, Debug, PartialEq, Eq, Drop)]
 pub struct UnknownEnumTag<'n> {
-    /// Where the value was met.
+    /// Where the value was found.
     pub source_location: ErrorLocation<'n>,
     /// The value that was read.
     pub error_kind: UnknownEnumTagKind,

@@ -7,10 +7,9 @@ use crate::errors::ErrorKind;
 use crate::slice_helpers::SliceWithStartOffset;
 use crate::traits::{Stride, TableRead, TableReadUnion, VectorRead, VectorReadUnion};
 
-// The name of a vector of such unions.
 const VECTOR_NAME: &str = "[union]";
 
-/// Where a field, or an item of 4 bytes as a reference is, is encoded: a piece of a buffer and an
+/// Where a field, or an item of 4 bytes such as a reference, is encoded: a slice of a buffer and an
 /// offset in it. How it is read is chosen later; until then nothing is tested.
 #[derive(Clone, Copy, Debug)]
 pub struct Place<'buf> {
@@ -28,7 +27,7 @@ pub struct TaggedPlace<'buf> {
 impl<'buf> Place<'buf> {
     ghost use Rattle.planus_read.specs.Places.{place_bytes, place_start, place_offset};
 
-    /// Returns the value of type `T` that is encoded here, or the error of `T` for this offset.
+    /// Returns the value of type `T` that is encoded here, or the error of `T`.
     #[inline]
     pub fn read<T: TableRead<'buf>>(&self) -> Result<T, ErrorKind>
         ensures { T.reads (place_bytes self.now) (place_start self.now)

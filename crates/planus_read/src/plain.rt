@@ -13,17 +13,15 @@ use crate::located::ITEM_METHOD;
 use crate::slice_helpers::SliceWithStartOffset;
 use crate::traits::{ReadError, Stride, TableRead, VectorRead, VectorReadInner};
 
-// The name of a vector of values of a fixed layout, for the location of an item's error.
 const VECTOR_NAME: &str = "[plain]";
 
-/// A value of a fixed layout, which stands in a table or in a list in place: a number, a truth value,
-/// a float, an enum or a struct. In the format the fields of a struct stand one behind another, each
-/// at a multiple of its own alignment, with zeros between and behind them.
+/// A value of a fixed layout, which a table or a vector holds in place: a number, a bool, a float,
+/// an enum or a struct. In the format the fields of a struct follow one another, each at a multiple
+/// of its own alignment, with zeros between and after them.
 ///
-/// The ghost member `shape` names the bytes of each value, which values the type has (in a definition
-/// a number may be any), which value stands at an offset of some bytes, and what a read tests there. A
-/// struct has its shape from the list of its fields, and no proof: `struct_shape` of
-/// `specs/Structs.antt` computes gaps, the padding at the end and the alignment.
+/// The ghost member `shape` names the bytes of each value, which values the type has, which one is
+/// encoded at an offset, and what a read tests there. For a struct it is `struct_shape` of
+/// `specs/Structs.antt` over the list of its fields, without a proof.
 pub trait Plain: Copy {
     ghost ALIGNMENT: { ℕ };
 
@@ -31,28 +29,28 @@ pub trait Plain: Copy {
 
     ghost shape: { Shape Self SIZE ALIGNMENT };
 
-    /// Its first byte stands at a multiple of this number of bytes from the start of a buffer.
+    /// The alignment in bytes, from the start of a buffer.
     const ALIGNMENT: usize;
 
-    /// Its size in bytes.
+    /// The size in bytes.
     const SIZE: usize;
 
-    /// Writes its bytes over others, which are as many.
+    /// Writes the value's bytes over the given ones, of the same number.
     fn put(&self, bytes: &mut [u8])
         requires { length bytes.old ≡ SIZE }
         ensures encoded { bytes.new ≡ (shape).encoded self.now }
         ensures fits { (shape).fits self.now };
 
-    /// Returns the value at the offset, in bytes from the start of the piece, or the error of the
-    /// first thing that is wrong there. All of its bytes lie in the piece.
+    /// Returns the value at the offset, in bytes from the start of the slice, or its first error.
+    /// Requires all of its bytes to be in the slice.
     fn read(buffer: SliceWithStartOffset<'_>, offset: usize) -> Result<Self, ErrorKind>
         requires { offset + SIZE ≤ length (slice_bytes buffer) }
         ensures answer { Answer (own_reading shape (slice_bytes buffer.entry) offset) result }
         ensures fits { IfOk result (shape).fits };
 }
 
-/// A value of a fixed layout whose read has no error: an item of vectors that is read as it is. Any
-/// other item is read as a `Result`.
+/// A value of a fixed layout whose read has no error, an item that is read as it is. Any other item
+/// is read as a `Result`.
 pub trait PlainTotal: Plain + Stride<Stands = Self> {
     ghost never_fails: { (S : List ℕ) (f : ℕ) (e : ErrorKind)
         → FirstBroken ((Self.shape).clauses S f) e → ⊥ };

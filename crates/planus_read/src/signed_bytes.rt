@@ -1,4 +1,4 @@
-//! Lists of signed bytes.
+//! Vectors of signed bytes.
 
 ghost use Rattle.std.specs.Prelude.{◌≡◌, ◌==◌, length};
 ghost use Rattle.planus_read.specs.Clauses.{Answer, shown};
@@ -9,8 +9,8 @@ use crate::signed_items::SignedItems;
 use crate::slice_helpers::SliceWithStartOffset;
 use crate::traits::TableRead;
 
-/// A list of signed bytes. In the format it is a byte list, a vector of bytes with no zero byte
-/// behind it; each byte is read in two's complement.
+/// A vector of signed bytes, each in two's complement. In the format it is a byte vector, with no
+/// zero byte after it.
 #[derive(Clone, Copy, Debug)]
 pub struct SignedBytes<'buf> {
     bytes: &'buf [u8],
@@ -36,7 +36,7 @@ impl<'buf> SignedBytes<'buf> {
         self.bytes.is_empty()
     }
 
-    /// Returns the signed byte at an index, or `None` where the index isn't below the length.
+    /// Returns the signed byte at an index, or `None` out of bounds.
     #[inline]
     pub fn get(&self, index: usize) -> Option<i8>
         ensures { result ≡ signed_item (signed_bytes self.now) index }

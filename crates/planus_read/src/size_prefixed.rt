@@ -1,4 +1,4 @@
-//! Buffers with their size in front, one behind another, and the identifiers of files.
+//! Size-prefixed buffers, one after another, and file identifiers.
 
 ghost use Rattle.std.specs.Prelude.{◌↔◌, IsTrue};
 ghost use Rattle.planus_read.specs.Bytes.{BytesStand};
@@ -9,12 +9,11 @@ use crate::errors::ErrorKind;
 use crate::slice_helpers::SliceWithStartOffset;
 use crate::traits::TableRead;
 
-/// Returns the first of the buffers with their sizes in front that these bytes are: the piece of as
-/// many bytes as the number of 4 bytes at the front says, which follow that number, and so with 4
-/// as its start; and the bytes behind it. The piece begins with the reference to the root.
+/// Returns the first of these size-prefixed buffers, and the bytes after it. Before each buffer is
+/// its size in 4 bytes; the slice returned starts at 4, with the reference to the root.
 ///
-/// [`ErrorKind::InvalidOffset`] where there are fewer than 4 bytes, and then
-/// [`ErrorKind::InvalidLength`] where fewer bytes follow the number than it says.
+/// [`ErrorKind::InvalidOffset`] where there are fewer than 4 bytes, then
+/// [`ErrorKind::InvalidLength`] where fewer bytes than the size follow.
 #[inline]
 pub fn read_size_prefixed<'buf>(
     bytes: &'buf [u8],
@@ -31,9 +30,8 @@ pub fn read_size_prefixed<'buf>(
     Ok((SliceWithStartOffset::new(content, 4), rest))
 }
 
-/// Returns whether the identifier of the file follows the reference to the root, which the bytes
-/// begin with: whether they have the four bytes at 4, and these are equal to it. Of a buffer with
-/// its size in front that is asked of the piece behind the size.
+/// Returns whether the file identifier is the 4 bytes at offset 4, after the reference to the root.
+/// For a size-prefixed buffer, pass the bytes after the size.
 #[inline]
 pub fn has_identifier(bytes: &[u8], identifier: [u8; 4]) -> bool
     ensures { IsTrue result ↔ BytesStand bytes.now 4 identifier }

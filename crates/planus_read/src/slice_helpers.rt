@@ -1,4 +1,4 @@
-//! Pieces of a buffer, with their offset in it.
+//! Slices of a buffer, with their offset in it.
 
 ghost use Rattle.std.specs.Prelude.{◌≡◌, ◌+◌, ◌<◌, ◌≤◌, ◌^◌, ◌==◌, length, IfOk, IfErr};
 
@@ -37,8 +37,8 @@ impl<'buf, const N: usize> fmt::Debug for ArrayWithStartOffset<'buf, N> {
 impl<'buf> SliceWithStartOffset<'buf> {
     ghost use Rattle.planus_read.specs.Pieces.{slice_bytes, slice_start, IsAdvanced, IsArrayAt};
 
-    /// Creates a piece of these bytes, which begin at this offset, in bytes from the start of a
-    /// buffer. The offset and the number of bytes together are below 2^64.
+    /// Creates a slice from bytes that begin at this offset, in bytes from the start of a buffer.
+    /// Requires that the offset and the number of bytes together are below 2^64.
     #[inline]
     pub fn new(buffer: &'buf [u8], offset_from_start: usize) -> Self
         requires { offset_from_start + length buffer.now < 2 ^ 64 }
@@ -83,8 +83,8 @@ impl<'buf> SliceWithStartOffset<'buf> {
         self.buffer
     }
 
-    /// Returns the piece that begins `amount` bytes further on, or [`ErrorKind::InvalidOffset`]
-    /// where that is past the end.
+    /// Returns the slice from `amount` bytes further on, or [`ErrorKind::InvalidOffset`] past the
+    /// end.
     #[inline]
     pub fn advance(&self, amount: usize) -> Result<Self, ErrorKind>
         ensures piece { IfOk result (λ piece. IsAdvanced self.now amount piece) }
@@ -97,7 +97,8 @@ impl<'buf> SliceWithStartOffset<'buf> {
         Ok(self.unchecked_advance(amount))
     }
 
-    /// Returns the piece that begins `amount` bytes further on, at its end at most.
+    /// Returns the slice from `amount` bytes further on, or the empty one at the end if that is
+    /// nearer.
     #[inline]
     pub fn unchecked_advance(&self, amount: usize) -> Self
         requires { amount ≤ length (slice_bytes self.now) }
@@ -109,8 +110,8 @@ impl<'buf> SliceWithStartOffset<'buf> {
         }
     }
 
-    /// Returns the `N` bytes that begin `amount` bytes further on, or [`ErrorKind::InvalidOffset`]
-    /// where they don't all lie in this piece.
+    /// Returns the `N` bytes from `amount` bytes further on, or [`ErrorKind::InvalidOffset`] where
+    /// they aren't all in this slice.
     #[inline]
     pub fn advance_as_array<const N: usize>(
         &self,
@@ -129,7 +130,7 @@ impl<'buf> SliceWithStartOffset<'buf> {
         }
     }
 
-    /// Returns the `N` bytes that begin `amount` bytes further on, all of which lie in this piece.
+    /// Returns the `N` bytes from `amount` bytes further on. Requires that all are in this slice.
     #[inline]
     pub fn unchecked_advance_as_array<const N: usize>(
         &self,
@@ -152,8 +153,8 @@ impl<'buf> SliceWithStartOffset<'buf> {
 impl<'buf, const N: usize> ArrayWithStartOffset<'buf, N> {
     ghost use Rattle.planus_read.specs.Pieces.{array_bytes, array_start, IsArrayAt};
 
-    /// Creates a piece of these bytes, which begin at this offset, in bytes from the start of a
-    /// buffer. The offset and `N` together are below 2^64, and `N` is below 2^63.
+    /// Creates an array from bytes that begin at this offset, in bytes from the start of a buffer.
+    /// Requires that the offset and `N` together are below 2^64, and `N` below 2^63.
     #[inline]
     pub fn new(buffer: &'buf [u8; N], offset_from_start: usize) -> Self
         requires fits { offset_from_start + N < 2 ^ 64 }
@@ -183,8 +184,8 @@ impl<'buf, const N: usize> ArrayWithStartOffset<'buf, N> {
         self.buffer
     }
 
-    /// Returns the `K` bytes that begin `amount` bytes further on, or [`ErrorKind::InvalidOffset`]
-    /// where they don't all lie in this array.
+    /// Returns the `K` bytes from `amount` bytes further on, or [`ErrorKind::InvalidOffset`] where
+    /// they aren't all in this array.
     #[inline]
     pub fn advance_as_array<const K: usize>(
         &self,

@@ -14,9 +14,8 @@ use crate::slice_helpers::SliceWithStartOffset;
 use crate::traits::{TableRead, TableReadUnion, TableReadUnionVector};
 
 /// A view of a table: its bytes from its first on, and the slots of its vtable. In the format a
-/// table begins with a signed number of 4 bytes that leads to its vtable, and the vtable has a slot
-/// of 2 bytes for each field: the field's distance from the table's first byte, or 0 where the
-/// field is absent.
+/// table begins with a signed number of 4 bytes that leads to its vtable, which has a slot of 2
+/// bytes for each field: its distance from the table's first byte, 0 for an absent field.
 #[derive(Clone, Copy, Debug)]
 pub struct Table<'buf> {
     object: SliceWithStartOffset<'buf>,
@@ -24,7 +23,6 @@ pub struct Table<'buf> {
     ghost small: { length vtable.now + 4 < 2 ^ 16 },
 }
 
-// Returns the offset of the object's vtable.
 fn vtable_offset(buffer: SliceWithStartOffset<'_>, object_offset: usize) -> Result<usize, ErrorKind>
     ensures offset { IfOk result (λ t. t ≡ vtable_at (slice_bytes buffer.entry) object_offset) }
     ensures holds { IfOk result (λ _.
@@ -43,7 +41,6 @@ fn vtable_offset(buffer: SliceWithStartOffset<'_>, object_offset: usize) -> Resu
     Ok(object_offset - relative)
 }
 
-// Returns the slots of the object's vtable.
 fn vtable_of<'buf>(
     buffer: SliceWithStartOffset<'buf>,
     object_offset: usize,
@@ -70,7 +67,6 @@ fn vtable_of<'buf>(
     Ok(&vtable[4..])
 }
 
-// Returns `MissingRequired` for `None`.
 #[inline]
 fn required<A>(answer: Result<Option<A>, ErrorKind>) -> Result<A, ErrorKind>
     ensures { Required (λ a. a ≡ answer) result }
@@ -84,10 +80,10 @@ impl<'buf> Table<'buf> {
     ghost use Rattle.planus_read.specs.Tables.{FieldAnswer, UnionAnswer, UnionVectorAnswer};
     ghost use Rattle.planus_read.specs.Tables.{UnionThere, UnionAbsent, UnionBroken};
 
-    /// Returns the table to which the reference at the offset leads, in bytes from the start of the
-    /// piece. Its vtable may lie anywhere in the piece. [`ErrorKind::InvalidOffset`] where a number
-    /// or the table lies outside, or the vtable would begin in front of the piece;
-    /// [`ErrorKind::InvalidVtableLength`] for a vtable whose size is odd or below 4;
+    /// Returns the table to which the reference at the offset leads, in bytes from the slice's
+    /// start. Its vtable may be anywhere in the slice. [`ErrorKind::InvalidOffset`] where a number
+    /// or the table is outside, or the vtable would begin before the slice;
+    /// [`ErrorKind::InvalidVtableLength`] for an odd size of the vtable or one below 4;
     /// [`ErrorKind::InvalidLength`] where the vtable passes the end.
     pub fn from_buffer(buffer: SliceWithStartOffset<'buf>, offset: usize) -> Result<Self, ErrorKind>
         ensures { let S = slice_bytes buffer.entry in let start = slice_start buffer.entry in
@@ -100,7 +96,6 @@ impl<'buf> Table<'buf> {
         Ok(Table { object, vtable })
     }
 
-    // Returns the number in a slot that lies in the vtable.
     #[inline]
     fn slot_inside(&self, slot: usize) -> usize
         requires { 2 * slot + 2 ≤ length (table_slots self.now) }
@@ -126,8 +121,7 @@ impl<'buf> Table<'buf> {
         self.slot_inside(slot)
     }
 
-    // Returns the numbers in a slot and the next, or `None` where these don't both lie in the
-    // vtable.
+    // Returns the numbers in a slot and the next, or `None` where these aren't both in the vtable.
     #[inline]
     fn both_slots(&self, slot: usize) -> Option<(usize, usize)>
         ensures both { IfSome result (λ _. BothSlots self.now slot) }
@@ -141,7 +135,6 @@ impl<'buf> Table<'buf> {
         Some((self.slot_inside(slot), self.slot_inside(slot + 1)))
     }
 
-    // Gives an error the location of this table.
     #[inline]
     fn located<'n, A>(
         &self,
@@ -162,7 +155,6 @@ impl<'buf> Table<'buf> {
         }
     }
 
-    // Returns the field of a slot; its error has no location.
     fn field<T: TableRead<'buf>>(&self, slot: usize) -> Result<Option<T>, ErrorKind>
         ensures { FieldAnswer T.reads self.now slot result }
     {
@@ -199,7 +191,6 @@ impl<'buf> Table<'buf> {
         Ok(Some((tag, value_offset)))
     }
 
-    // Returns the union of a slot and the next; its error has no location.
     fn union_field<T: TableReadUnion<'buf>>(&self, slot: usize) -> Result<Option<T>, ErrorKind>
         ensures { UnionAnswer T.reads self.now slot result }
     {
@@ -209,7 +200,6 @@ impl<'buf> Table<'buf> {
         Ok(Some(T::from_buffer(self.object, tag, offset)?))
     }
 
-    // Returns the vector of unions of a slot and the next; its error has no location.
     fn union_vector_field<T: TableReadUnionVector<'buf>>(
         &self,
         slot: usize,
@@ -228,9 +218,8 @@ impl<'buf> Table<'buf> {
         Ok(Some(T::from_buffer(self.object, tags, values)?))
     }
 
-    /// Returns the field of a slot, or `None` where it is absent. Slots count from 0; one past the
-    /// vtable is absent. The errors are those of `T`. Every error has the location of this table
-    /// under these names.
+    /// Returns the field of a slot, or `None` where it is absent, also past the vtable's end. Slots
+    /// count from 0. The errors are those of `T`, at the location of this table under these names.
     pub fn access<'n, T: TableRead<'buf>>(
         &self,
         slot: usize,
@@ -244,8 +233,7 @@ impl<'buf> Table<'buf> {
         self.located(answer, type_, method)
     }
 
-    /// As [`Table::access`], with [`ErrorKind::MissingRequired`] in place of `None`, and the errors
-    /// of `T`.
+    /// As [`Table::access`], with [`ErrorKind::MissingRequired`] for `None`.
     pub fn access_required<'n, T: TableRead<'buf>>(
         &self,
         slot: usize,
@@ -259,11 +247,11 @@ impl<'buf> Table<'buf> {
         self.located(answer, type_, method)
     }
 
-    /// Returns the union whose tag has its distance in a slot and whose reference in the next, or
-    /// `None` where the tag or a slot is 0 or the vtable ends in front of both. The tag is read
-    /// before it and the slots are tested for 0: [`ErrorKind::InvalidOffset`] where it isn't in the
-    /// buffer. [`ErrorKind::InvalidVtableLength`] where the vtable ends between the two slots. And
-    /// the errors of `T`. Every error has the location of this table under these names.
+    /// Returns the union of a slot, for its tag, and the next, for its reference, or `None` where
+    /// the tag or a slot is 0 or the vtable ends before both. [`ErrorKind::InvalidOffset`] where
+    /// the tag, which is read first, isn't in the buffer; [`ErrorKind::InvalidVtableLength`] where
+    /// the vtable ends between the two slots; then the errors of `T`. All are at the location of
+    /// this table under these names.
     pub fn access_union<'n, T: TableReadUnion<'buf>>(
         &self,
         slot: usize,
@@ -277,8 +265,7 @@ impl<'buf> Table<'buf> {
         self.located(answer, type_, method)
     }
 
-    /// As [`Table::access_union`], with [`ErrorKind::MissingRequired`] in place of `None`, and the
-    /// errors of `T`.
+    /// As [`Table::access_union`], with [`ErrorKind::MissingRequired`] for `None`.
     pub fn access_union_required<'n, T: TableReadUnion<'buf>>(
         &self,
         slot: usize,
@@ -292,10 +279,10 @@ impl<'buf> Table<'buf> {
         self.located(answer, type_, method)
     }
 
-    /// Returns the vector of unions whose reference to its tags has its distance in a slot and
-    /// whose reference to its values in the next, or `None` where both slots are 0 or don't both
-    /// lie in the vtable. [`ErrorKind::InvalidOffset`] where exactly one of them is 0. And the
-    /// errors of `T`. Every error has the location of this table under these names.
+    /// Returns the union vector of a slot, for its tags, and the next, for its values, or `None`
+    /// where both slots are 0 or aren't both in the vtable. [`ErrorKind::InvalidOffset`] where
+    /// exactly one is 0; then the errors of `T`. All are at the location of this table under these
+    /// names.
     pub fn access_union_vector<'n, T: TableReadUnionVector<'buf>>(
         &self,
         slot: usize,
@@ -309,8 +296,7 @@ impl<'buf> Table<'buf> {
         self.located(answer, type_, method)
     }
 
-    /// As [`Table::access_union_vector`], with [`ErrorKind::MissingRequired`] in place of `None`,
-    /// and the errors of `T`.
+    /// As [`Table::access_union_vector`], with [`ErrorKind::MissingRequired`] for `None`.
     pub fn access_union_vector_required<'n, T: TableReadUnionVector<'buf>>(
         &self,
         slot: usize,

@@ -13,52 +13,48 @@ use crate::located::{self, ITEM_METHOD};
 use crate::plain::Plain;
 use crate::slice_helpers::SliceWithStartOffset;
 
-/// What can be read as the root of a buffer. In the format the first 4 bytes of a buffer are a
-/// reference to its root.
+/// What can be read as the root of a buffer. In the format a buffer begins with a reference of 4
+/// bytes to its root.
 pub trait ReadAsRoot<'a>: Sized {
-    /// What may be returned for these bytes, the whole bytes of a buffer.
+    /// The results for a buffer of these bytes.
     ghost reads_root: { List ℕ → std_result Self Error → Type 0 };
 
-    /// Returns the view of the root of these bytes, the whole bytes of a buffer. Which errors come
-    /// is the type's own.
+    /// Returns the view of the root of a whole buffer. The errors are the type's own.
     fn read_as_root(slice: &'a [u8]) -> Result<Self>
         ensures { reads_root slice.entry.now result };
 }
 
-/// What can be read as the root of a piece of a buffer, as of that which
-/// [`read_size_prefixed`](crate::read_size_prefixed) returns.
+/// What can be read as the root of a slice, such as that of
+/// [`read_size_prefixed`](crate::read_size_prefixed).
 pub trait ReadPieceAsRoot<'a>: Sized {
-    /// What may be returned for a piece with these bytes and this start.
+    /// The results for a slice of these bytes and this start.
     ghost reads_root: { List ℕ → ℕ → std_result Self Error → Type 0 };
 
-    /// Returns the view of the root of the piece, which begins with the reference to it. Its errors
-    /// are those of [`ReadAsRoot::read_as_root`], at the offset at which the piece starts.
+    /// Returns the view of the root of the slice, which begins with the reference to it. The errors
+    /// are those of [`ReadAsRoot::read_as_root`], at the offset at which the slice starts.
     fn read_piece_as_root(piece: SliceWithStartOffset<'a>) -> Result<Self>
         ensures { reads_root (slice_bytes piece.entry) (slice_start piece.entry) result };
 }
 
 /// What can be read as a field of a table. The errors of the types of this library:
 ///
-/// | Type | Errors |
-/// |---|---|
-/// | `u8` to `u64`, `i8` to `i64`, `f32`, `f64`, `bool`, and each [`crate::Plain`] |
-/// [`ErrorKind::InvalidOffset`] where its bytes don't all lie in the piece; then what its own `read`
-/// says, as [`ErrorKind::UnknownEnumTag`] of an enum whose number no variant has |
-/// | `&str` | [`ErrorKind::InvalidOffset`] where the reference, what it leads to or the count
-/// doesn't lie in the piece; [`ErrorKind::MissingNullTerminator`] where no zero byte follows the
-/// text, or the text passes the end; [`ErrorKind::InvalidUtf8`] where its bytes aren't UTF-8 |
-/// | `&[u8]`, [`crate::SignedBytes`] | [`ErrorKind::InvalidOffset`] as of a text;
-/// [`ErrorKind::InvalidLength`] where the bytes pass the end |
-/// | [`crate::table_reader::Table`] | [`ErrorKind::InvalidOffset`],
-/// [`ErrorKind::InvalidVtableLength`] and [`ErrorKind::InvalidLength`], as its own `from_buffer`
-/// says |
-/// | [`crate::Place`] | none |
+/// `u8` to `u64`, `i8` to `i64`, `f32`, `f64`, `bool` and each [`crate::Plain`]:
+/// [`ErrorKind::InvalidOffset`] where its bytes aren't all in the slice; then those of its own
+/// `read`, such as [`ErrorKind::UnknownEnumTag`].
+///
+/// `&str`: [`ErrorKind::InvalidOffset`] where the reference, its target or the count isn't in the
+/// slice; [`ErrorKind::MissingNullTerminator`] where no zero byte follows in the slice;
+/// [`ErrorKind::InvalidUtf8`] where its bytes aren't UTF-8.
+///
+/// `&[u8]`, [`crate::SignedBytes`]: [`ErrorKind::InvalidOffset`] as for a string;
+/// [`ErrorKind::InvalidLength`] where the bytes pass the end.
+///
+/// [`crate::table_reader::Table`]: those of its own `from_buffer`. [`crate::Place`]: none.
 pub trait TableRead<'buf>: Sized {
-    /// What may be returned for a piece with these bytes and this start at this offset.
+    /// The results for a slice of these bytes and this start, at this offset.
     ghost reads: { List ℕ → ℕ → ℕ → std_result Self ErrorKind → Type 0 };
 
-    /// Returns the field that is encoded at the offset, in bytes from the start of the piece, or
-    /// the error of the first thing that is wrong there.
+    /// Returns the field at the offset, in bytes from the start of the slice, or its first error.
     fn from_buffer(
         buffer: SliceWithStartOffset<'buf>,
         offset: usize,
@@ -66,16 +62,14 @@ pub trait TableRead<'buf>: Sized {
         ensures { reads (slice_bytes buffer.entry) (slice_start buffer.entry) offset result };
 }
 
-/// What can be read as a union field of a table. Its errors are those of the variants' own reads,
-/// and [`ErrorKind::UnknownUnionTag`] for a tag that a type doesn't have; [`crate::TaggedPlace`]
-/// takes every tag and has no error.
+/// What can be read as a union field of a table. The errors are those of the variants, and
+/// [`ErrorKind::UnknownUnionTag`] for an unknown tag; [`crate::TaggedPlace`] takes every tag.
 pub trait TableReadUnion<'buf>: Sized {
-    /// What may be returned for a piece with these bytes and this start, and this tag, at this
-    /// offset.
+    /// The results for a slice of these bytes and this start, with this tag at this offset.
     ghost reads: { List ℕ → ℕ → ℕ → ℕ → std_result Self ErrorKind → Type 0 };
 
-    /// Returns the union with this tag whose reference is encoded at the offset, in bytes from the
-    /// start of the piece.
+    /// Returns the union with this tag whose reference is at the offset, in bytes from the slice's
+    /// start.
     fn from_buffer(
         buffer: SliceWithStartOffset<'buf>,
         tag: u8,
@@ -84,14 +78,14 @@ pub trait TableReadUnion<'buf>: Sized {
         ensures { reads (slice_bytes buffer.entry) (slice_start buffer.entry) tag offset result };
 }
 
-/// What can be read as a field of a table that is a vector of unions. In the format that is two
-/// vectors of equal count, tags of one byte and references. Which errors come is the type's own.
+/// What can be read as a union vector of a table. In the format that is two vectors of equal count,
+/// tags of one byte and references. The errors are the type's own.
 pub trait TableReadUnionVector<'buf>: Sized {
-    /// What may be returned for a piece with these bytes and this start at these two offsets.
+    /// The results for a slice of these bytes and this start, at these two offsets.
     ghost reads: { List ℕ → ℕ → ℕ → ℕ → std_result Self ErrorKind → Type 0 };
 
-    /// Returns the vector of unions whose references to tags and values are encoded at the offsets,
-    /// in bytes from the start of the piece.
+    /// Returns the union vector whose references are at the offsets, in bytes from the slice's
+    /// start.
     fn from_buffer(
         buffer: SliceWithStartOffset<'buf>,
         tags_offset: usize,
@@ -103,8 +97,8 @@ pub trait TableReadUnionVector<'buf>: Sized {
 
 /// What can be an item of vectors, and so has a size there.
 pub trait Stride: Sized {
-    /// What stands in the vector for an item: a value of a fixed layout itself, and for what is
-    /// referred to the reference, a `u32`.
+    /// What the vector holds for an item: a value of a fixed layout itself, or a reference, a
+    /// `u32`.
     type Stands: Plain;
 
     /// Returns the size of an item in bytes.
@@ -115,14 +109,14 @@ pub trait Stride: Sized {
     }
 }
 
-/// What can be read as an item of a vector. Its bytes are there, so a number or a truth value has
-/// no error; `Result` has that of the [`VectorReadInner`] which it wraps, converted.
+/// What can be read as an item of a vector without an error. `Result` has the error of the
+/// [`VectorReadInner`] that it wraps, converted.
 pub trait VectorRead<'buf>: Stride {
-    /// What may be returned for a piece with these bytes and this start at this offset.
+    /// The results for a slice of these bytes and this start, at this offset.
     ghost gives: { List ℕ → ℕ → ℕ → Self → Type 0 };
 
-    /// Returns the item that is encoded at the offset, in bytes from the start of the piece. All of
-    /// it lies in the piece.
+    /// Returns the item at the offset, in bytes from the start of the slice, which must have all of
+    /// it.
     fn from_buffer(buffer: SliceWithStartOffset<'buf>, offset: usize) -> Self
         requires { offset + Self.Stands.SIZE ≤ length (slice_bytes buffer) }
         ensures { gives (slice_bytes buffer.entry) (slice_start buffer.entry) offset result };
@@ -134,15 +128,15 @@ pub trait ReadError {
     type Error;
 }
 
-/// What can be read as an item of a vector, and may fail. An item has the errors of a field of its
-/// type, at the start of the piece: a `&str` under the names `[str]` and `get`, a value of a fixed
-/// layout under `[plain]` and `get`.
+/// What can be read as an item of a vector, and may fail. Its errors are those of a field of its
+/// type, at the slice's start, for a `&str` under the names `[str]` and `get`, for a fixed layout
+/// under `[plain]`.
 pub trait VectorReadInner<'buf>: Stride + ReadError {
-    /// What may be returned for a piece with these bytes and this start at this offset.
+    /// The results for a slice of these bytes and this start, at this offset.
     ghost gives: { List ℕ → ℕ → ℕ → std_result Self Self.Error → Type 0 };
 
-    /// Returns the item that is encoded at the offset, in bytes from the start of the piece. Its
-    /// own bytes, not those that it refers to, all lie in the piece.
+    /// Returns the item at the offset, in bytes from the start of the slice, which must have all of
+    /// it, but not what it refers to.
     fn from_buffer(
         buffer: SliceWithStartOffset<'buf>,
         offset: usize,
@@ -151,18 +145,18 @@ pub trait VectorReadInner<'buf>: Stride + ReadError {
         ensures { gives (slice_bytes buffer.entry) (slice_start buffer.entry) offset result };
 }
 
-/// What can be read as an item of a vector of unions.
+/// What can be read as an item of a union vector.
 pub trait VectorReadUnion<'buf>: TableReadUnion<'buf> {
-    /// The name of the vector type, for the location of an item's error, in bytes.
+    /// The name of the vector type, in bytes, for an item's error.
     ghost name: { List ℕ };
 
     /// Returns the name.
     fn vector_name() -> &'static str
         ensures { result.now ≡ name };
 
-    /// Returns the union with this tag whose reference is encoded at the offset, in bytes from the
-    /// start of the piece. Its errors are those of the [`TableReadUnion`], at the start of the
-    /// piece under the vector's name and the method `get`.
+    /// Returns the union with this tag whose reference is at the offset, in bytes from the slice's
+    /// start. The errors of [`TableReadUnion`] are at the slice's start under the vector's name and
+    /// `get`.
     final fn from_buffer<'n>(
         buffer: SliceWithStartOffset<'buf>,
         tag: u8,

@@ -1,5 +1,4 @@
--- Which lines ask for memory: a step holds its text, its bytes or its items; and the items of a list
--- are held one after the other, before a fault behind them is found.
+-- Which lines take memory: for a step's string, bytes or items, also before an error after them.
 use Rattle.std.specs.Prelude.{ℕ, ◌≤◌, List, [], ◌∷◌, length, ⊤, ◌⊎◌, Option, Some, None, Result}
 use Rattle.std.specs.Prelude.{IsOk, IsTrue}
 use Rattle.std.specs.Bool.{MatchBool}
@@ -12,7 +11,7 @@ use Rattle.planus_script.specs.declared.script.Command.{Command}
 use Rattle.planus_script.specs.declared.script.Command.TheVariants as named
 use Rattle.planus_script.specs.declared.script.ReadFault.{ReadFault}
 
--- the words of a list, if the first one is an item
+-- the words of a vector, if the first one is an item
 abbrev pub AsksForItems :
     {A : Type 0} → (List ℕ → Result A ReadFault) → List (List ℕ) → Type 0
 AsksForItems read [] = ⊥
@@ -23,7 +22,7 @@ abbrev pub AsksForBytes : List (List ℕ) → Type 0
 AsksForBytes (word ∷ []) = 2 ≤ length word
 AsksForBytes _ = ⊥
 
--- the words behind a command
+-- the words after a command
 abbrev pub AsksForStep : Command → List (List ℕ) → Type 0
 AsksForStep named.Text words = ⊤
 AsksForStep named.Bytes words = AsksForBytes words
@@ -44,11 +43,11 @@ abbrev pub AsksForWords : List (List ℕ) → Type 0
 AsksForWords [] = ⊥
 AsksForWords (word ∷ words) = AsksIfKnown (command_named word) words
 
--- The line asks for memory: it is UTF-8, and its words ask.
+-- The line takes memory: it is UTF-8, and its words take some.
 abbrev pub AsksForLine : List ℕ → Type 0
 AsksForLine line = IsTrue (is_utf8 line) × AsksForWords (words_of line)
 
--- The lines ask for memory: the first one that isn't skipped is a step, which is held, or asks.
+-- The lines take memory: the first that isn't skipped is a step, or takes some.
 abbrev pub AsksForLines : List (List ℕ) → Type 0
 AsksForLines [] = ⊥
 AsksForLines (line ∷ lines) =

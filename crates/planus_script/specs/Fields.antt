@@ -1,4 +1,4 @@
--- The fields of a table, as the words of a line say them.
+-- The fields of a table in a script.
 use Rattle.std.specs.Prelude.{ℕ, min, List, Option, Some, None, Result, Ok, Err, if◌then◌else◌}
 use Rattle.std.specs.Prelude.{codes}
 use Rattle.std.specs.Str.{bytes_eq}
@@ -11,8 +11,7 @@ use Rattle.planus_script.specs.declared.fields.FieldKind.TheVariants.{Number, Re
 use Rattle.planus_script.specs.declared.script.ReadFault.{ReadFault}
 use Rattle.planus_script.specs.declared.script.ReadFault.TheVariants.{BadField}
 
--- the kind that a word names: numbers of 1, 2, 4 or 8 bytes, references, and the tags and the
--- references of vectors of unions
+-- the kind of this name: numbers of 1, 2, 4 or 8 bytes, references, a union vector's two parts
 abbrev pub kind_of : List ℕ → Option FieldKind
 kind_of word =
     if bytes_eq word (codes "u8") then Some (Number 1)
@@ -23,7 +22,7 @@ kind_of word =
     else if bytes_eq word (codes "tags") then Some Tags
     else if bytes_eq word (codes "values") then Some Values else None
 
--- the slot of this number: above 65535 it is 65535, which is too big as well
+-- the slot of this number; above 65535 it is 65535, which is too big as well
 abbrev pub slot_of : ℕ → ℕ
 slot_of number = min number 65535
 
@@ -34,7 +33,7 @@ value_of Ref number = held.Ref number
 value_of Tags number = held.Tags number
 value_of Values number = held.Values number
 
--- a field of this kind by its two numbers, or the first fault of these, the slot's before the other
+-- a field of this kind by its two numbers, or the first error, the slot's before the other
 abbrev pub field_with : FieldKind → Result ℕ ReadFault → Result ℕ ReadFault
     → Result Field ReadFault
 field_with kind (Err fault) number = Err fault
@@ -47,21 +46,20 @@ abbrev pub field_if : Option FieldKind → List ℕ → List ℕ → Result Fiel
 field_if None slot number = Err BadField
 field_if (Some kind) slot number = field_with kind (number_of slot) (number_of number)
 
--- a field by the word of its slot, and what stands before and behind its `:`
+-- a field by the word of its slot, and what is before and after its `:`
 abbrev pub field_behind : List ℕ → Option (List ℕ × List ℕ) → Result Field ReadFault
 field_behind slot None = Err BadField
 field_behind slot (Some parts) = field_if (kind_of parts.0) slot parts.1
 
--- a field by what stands before and behind its `=`
+-- a field by what is before and after its `=`
 abbrev pub field_cut : Option (List ℕ × List ℕ) → Result Field ReadFault
 field_cut None = Err BadField
 field_cut (Some parts) = field_behind parts.0 (cut_at 58 parts.1)
 
--- The field that a word is, as `3=u16:24` or `0=ref:1`: its slot, and what it holds. Or the first
--- fault: of the word's shape, of the number of its slot, of the number behind its `:`.
+-- the field of a word such as `3=u16:24` or `0=ref:1`, or the first error of its parts
 abbrev pub field_of : List ℕ → Result Field ReadFault
 field_of word = field_cut (cut_at 61 word)
 
--- the fields that words are, or the first fault
+-- the fields of these words, or the first error
 abbrev pub fields_of : List (List ℕ) → Result (List Field) ReadFault
 fields_of words = items_of field_of words

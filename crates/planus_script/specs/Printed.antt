@@ -1,4 +1,4 @@
--- What the program prints for the bytes of a script.
+-- What the program prints for a script.
 use Rattle.std.specs.Prelude.{◌≡◌, ℕ, ◌≤◌, Bool, true, false, nat_lt, List, [], ◌∷◌, ◌++◌}
 use Rattle.std.specs.Prelude.{map, length, slice_get, Some, Result, Ok, Err, codes, ◌⊎◌}
 use Rattle.std.specs.Bool.{MatchBool}
@@ -15,7 +15,7 @@ use Rattle.planus_script.specs.declared.script.ReadFault.{ReadFault}
 use Rattle.planus.specs.declared.faults.ReplayError.{ReplayError}
 use Rattle.planus.specs.declared.faults.ReplayError.TheVariants.{OutOfMemory, TooLarge, BadStep}
 
--- No script is longer, in bytes.
+-- the greatest length of a script in bytes
 abbrev pub greatest_script : ℕ
 greatest_script = 1048576
 
@@ -23,15 +23,15 @@ greatest_script = 1048576
 abbrev pub hex_line : List ℕ → List ℕ
 hex_line bytes = join_with_byte 32 (map hex_of bytes) ++ 10 ∷ []
 
--- words with a line feed behind them
+-- a string and a line feed
 abbrev pub line_of : List ℕ → List ℕ
 line_of words = words ++ 10 ∷ []
 
--- a fault on the line of this number
+-- an error on the line of this number
 abbrev pub fault_line : ℕ → List ℕ → List ℕ
 fault_line number fault = codes "line " ++ (decimal number ++ (codes ": " ++ line_of fault))
 
--- what is printed of a replay's answer, where the steps stand on the lines of these numbers
+-- what is printed for a replay's result, by the numbers of the steps' lines
 abbrev pub PrintsAnswer : List ℕ → Result (List Finish) ReplayError → Bool → List ℕ → Type 0
 PrintsAnswer numbers (Ok finished) clean printed = (clean ≡ true)
     × (printed ≡ flat_map (λ finish. hex_line finish.bytes) finished)
@@ -42,14 +42,14 @@ PrintsAnswer numbers (Err TooLarge) clean printed = (clean ≡ false)
     × (printed ≡ line_of (codes "too large"))
 PrintsAnswer numbers (Err OutOfMemory) clean printed = ⊥
 
--- what is printed of what was read of a script: equal contents of every kind are written once
+-- what is printed for a script that was read; equal contents of every kind are written once
 abbrev pub PrintsRead : Result Read (ℕ × ReadFault) → Bool → List ℕ → Type 0
 PrintsRead (Err fault) clean printed = (clean ≡ false)
     × (printed ≡ fault_line fault.0 (read_fault_text fault.1))
 PrintsRead (Ok read) clean printed = (answer : Result (List Finish) ReplayError)
     × Replays all_on read.commands answer × PrintsAnswer read.numbers answer clean printed
 
--- Of this input this is printed, and the script is clean, or it is at fault.
+-- what is printed for this input, and whether the script is clean
 abbrev pub Printed : List ℕ → Bool → List ℕ → Type 0
 Printed input clean printed =
     MatchBool (nat_lt greatest_script (length input)) ((clean ≡ false)
@@ -61,22 +61,22 @@ pub record IsScript (input : List ℕ) : Type 0 where
   pub fits : length input ≤ greatest_script
   pub read : (read : Read) × (script_of input ≡ Ok read)
 
--- what is printed where a replay was refused for memory
+-- what is printed where a replay runs out of memory
 abbrev pub PrintsOutOfMemory : Bool → List ℕ → Type 0
 PrintsOutOfMemory clean printed = (clean ≡ false) × (printed ≡ line_of (codes "out of memory"))
 
--- Of this input this is printed, or else it is a script whose replay was refused for memory.
+-- this is printed for the input, or it is a script whose replay ran out of memory
 abbrev pub PrintedOrOutOfMemory : List ℕ → Bool → List ℕ → Type 0
 PrintedOrOutOfMemory input clean printed = Printed input clean printed
     ⊎ (IsScript input × PrintsOutOfMemory clean printed)
 
--- What is printed of an input is one text, and says one thing of whether the script is clean.
+-- Each input determines what is printed, and whether the script is clean.
 abbrev pub PrintedIsOne : Type 0
 PrintedIsOne =
     (input : List ℕ) (a b : Bool) (x y : List ℕ) → Printed input a x → Printed input b y → (a ≡ b)
     × (x ≡ y)
 
--- Of every input a text is printed.
+-- For every input something is printed.
 abbrev pub ATextIsPrinted : Type 0
 ATextIsPrinted = (input : List ℕ) → (clean : Bool) × (printed : List ℕ)
     × Printed input clean printed

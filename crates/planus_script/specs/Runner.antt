@@ -1,4 +1,4 @@
--- What a run leaves behind.
+-- The effects of a run.
 use Rattle.std.specs.Prelude.{ℕ, ◌+◌, ◌<◌, ◌≤◌, List, length, Bool, true, false, Option}
 use Rattle.std.specs.Prelude.{Result, Ok, Err, ⊤}
 use Rattle.std.specs.Io.KnownBytes.{Appends, Consumes, Keeps}
@@ -6,7 +6,7 @@ use Rattle.planus_script.specs.Printed.{greatest_script, PrintedOrOutOfMemory}
 use Rattle.planus_script.specs.declared.run.RunError.{RunError}
 use Rattle.planus_script.specs.declared.run.RunError.TheVariants.{OutOfMemory, Read, Write}
 
--- What is printed of the input was written, and nothing else.
+-- What is printed for the input was written, and nothing else.
 abbrev pub WritesPrinted : List ℕ → Bool → Option (List ℕ) → Option (List ℕ) → Type 0
 WritesPrinted input clean before after = (printed : List ℕ)
     × PrintedOrOutOfMemory input clean printed × Appends before after printed
@@ -17,19 +17,18 @@ LeavesUnwritten Write before after = ⊤
 LeavesUnwritten Read before after = Keeps before after
 LeavesUnwritten OutOfMemory before after = Keeps before after
 
--- How many bytes are taken where reading ends with this error. Behind one byte more than the longest
--- script has nothing is read, so no read fails there; and memory is asked for bytes that are taken.
+-- how many bytes can have been read before this error
 abbrev pub FailsAt : RunError → ℕ → Type 0
 FailsAt Read count = count ≤ greatest_script
 FailsAt OutOfMemory count = (0 < count) × (count ≤ greatest_script + 1)
 FailsAt Write count = ⊥
 
--- The reader has left what is behind the bytes that are taken when reading ends with this error.
+-- The reader is left after the bytes read before this error.
 abbrev pub StopsReading : RunError → Option (List ℕ) → Option (List ℕ) → Type 0
 StopsReading error before after =
     (taken : List ℕ) × Consumes before after taken × FailsAt error (length taken)
 
--- the exit status: 0 clean, 1 after a printed fault, 2 where the run failed
+-- the exit status: 0 clean, 1 after a printed error, 2 where the run failed
 abbrev pub status_of : Result Bool RunError → ℕ
 status_of (Ok true) = 0
 status_of (Ok false) = 1

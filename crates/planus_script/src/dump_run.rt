@@ -1,4 +1,4 @@
-//! From a line of bytes on a reader to their dump on a writer.
+//! From a line of bytes on a reader to its dump on a writer.
 ghost use Rattle.std.specs.Prelude.{◌≡◌, ◌++◌, map, IfOk, IfErr, IfSome, OnOk};
 ghost use Rattle.std.specs.List.{flat_map};
 ghost use Rattle.std.specs.String.{string_bytes};
@@ -15,10 +15,10 @@ use planus_dump::{DumpError, Schema, dump};
 use std::alloc::{AllocError, Global};
 use std::io::{Read, Write};
 
-/// A dump has no more lines.
+/// The greatest number of lines of a dump.
 const BUDGET: usize = 10000;
 
-/// The bytes of a line that isn't empty, or `None` where it is no line of bytes.
+/// Returns the bytes of a line that isn't empty, or `None` where it is no line of bytes.
 fn spaced(alloc: Global, line: &[u8]) -> Result<Option<Vec<u8>>, AllocError>
     ensures { IfOk result (λ bytes. vec_bytes bytes ≡ spaced_bytes line.now) }
 {
@@ -44,7 +44,6 @@ fn spaced(alloc: Global, line: &[u8]) -> Result<Option<Vec<u8>>, AllocError>
     Ok(Some(bytes))
 }
 
-/// The bytes of an input, or `None` where it is no line of bytes.
 fn bytes_of_input(alloc: Global, input: &[u8]) -> Result<Option<Vec<u8>>, AllocError>
     ensures { IfOk result (λ bytes. vec_bytes bytes ≡ input_bytes input.now) }
 {
@@ -58,7 +57,6 @@ fn bytes_of_input(alloc: Global, input: &[u8]) -> Result<Option<Vec<u8>>, AllocE
     spaced(alloc, line)
 }
 
-/// What is printed in place of a dump.
 fn fault(alloc: Global, words: &str) -> Result<Output, AllocError>
     ensures { IfOk result (λ output. IsFault words.now (is_clean output) (printed_text output)) }
 {
@@ -84,7 +82,6 @@ fn lines_text(alloc: Global, lines: &[String]) -> Result<String, AllocError>
     Ok(text)
 }
 
-/// What is printed of a dump's answer.
 fn answer_of_dump(
     alloc: Global,
     answer: &Result<Vec<String>, DumpError>,
@@ -104,7 +101,6 @@ fn answer_of_dump(
     }
 }
 
-/// What is printed of an input.
 fn output_of_dump(alloc: Global, schema: &Schema, input: &[u8]) -> Result<Output, AllocError>
     ensures { IfOk result (λ output. PrintsDump schema.now input.now
         (is_clean output) (printed_text output)) }
@@ -121,8 +117,8 @@ fn output_of_dump(alloc: Global, schema: &Schema, input: &[u8]) -> Result<Output
     }
 }
 
-/// Reads a line of bytes, as [`crate::run::run`] prints it, and prints the lines of its dump, or
-/// why there is none. Returns whether there is one.
+/// Reads a line of bytes, as [`crate::run::run`] prints it, and prints the lines of its dump, or an
+/// error. Returns whether there is a dump.
 pub fn run_dump<R: Read, W: Write>(
     alloc: Global,
     schema: &Schema,

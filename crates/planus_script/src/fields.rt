@@ -1,4 +1,4 @@
-//! The fields of a table, as the words of a line say them.
+//! The fields of a table in a script.
 ghost use Rattle.std.specs.Prelude.{◌≡◌};
 ghost use Rattle.std.specs.Option.{option_copied};
 ghost use Rattle.planus_script.specs.Words.{words_behind};
@@ -11,20 +11,18 @@ use crate::script::{FromWord, LineError, ReadFault, cut, items, number};
 use planus::{Field, FieldValue, Step};
 use std::alloc::Global;
 
-/// The kind of what a field holds.
 #[derive(Clone, Copy)]
 enum FieldKind {
-    /// A number of so many bytes.
+    /// A number of `width` bytes.
     Number { width: u8 },
     /// A reference to the value of a step.
     Ref,
-    /// The tags of a step's vector of unions.
+    /// The tags of a step's union vector.
     Tags,
-    /// The references of a step's vector of unions.
+    /// The references of a step's union vector.
     Values,
 }
 
-/// The kind that a word names.
 fn kind(word: &str) -> Option<FieldKind>
     ensures { result ≡ kind_of word.now }
 {
@@ -47,14 +45,13 @@ fn kind(word: &str) -> Option<FieldKind>
     }
 }
 
-/// The slot of this number. Above 65535 it is 65535, which is too big as well.
+/// Returns the slot of this number. Above 65535 it is 65535, which is too big as well.
 fn slot(number: u64) -> u16
     ensures { result ≡ slot_of number }
 {
     u16::try_from(number).unwrap_or(u16::MAX)
 }
 
-/// What a field of this kind holds.
 fn value(kind: FieldKind, number: u64) -> FieldValue
     ensures { result ≡ value_of kind number }
 {
@@ -72,7 +69,7 @@ fn value(kind: FieldKind, number: u64) -> FieldValue
 impl FromWord for Field {
     ghost said = { field_of };
 
-    /// The field that a word is, as `3=u16:24` or `0=ref:1`.
+    /// Returns the field of a word such as `3=u16:24` or `0=ref:1`.
     fn from_word(word: &str) -> Result<Field, ReadFault> {
         let Some((slot_word, rest)) = cut(word, '=') else {
             return Err(ReadFault::BadField);
@@ -89,7 +86,7 @@ impl FromWord for Field {
     }
 }
 
-/// A table of fields, from what stands behind the first word.
+/// Returns a table by the words after the first.
 pub(crate) fn table(alloc: Global, words: Option<&str>) -> Result<Step, LineError>
     ensures { let words = words_behind (option_copied words.entry) in
         AnswersLine result (list_step table_step (fields_of words))

@@ -1,13 +1,13 @@
-//! Laws over what is printed. The functions do nothing: each states a law by its contract.
+//! Laws over what is printed. Each function states a law by its contract, and does nothing.
 
 ghost use Rattle.planus_script.specs.Printed.{ATextIsPrinted, PrintedIsOne};
 
-/// Of each input one text is printed, a refusal of memory aside.
+/// Each input determines what is printed, out of memory aside.
 pub fn printed_is_one()
     ensures { PrintedIsOne }
 {}
 
-/// Of each input there is a text that is printed. So a refusal of memory aside it is exactly one.
+/// For each input something is printed, and so only one thing, out of memory aside.
 pub fn a_text_is_printed()
     ensures { ATextIsPrinted }
 {}

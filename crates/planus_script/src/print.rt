@@ -1,4 +1,4 @@
-//! What is printed of a script.
+//! What is printed for a script.
 ghost use Rattle.std.specs.Prelude.{◌≡◌, ◌++◌, map, length, IfOk, OnOk};
 ghost use Rattle.std.specs.Prelude.{is_ok};
 ghost use Rattle.std.specs.List.{join_with_byte, flat_map};
@@ -11,7 +11,6 @@ use planus::{Finished, ReplayError};
 use planus_dump::push_hex;
 use std::alloc::{AllocError, Global};
 
-/// A line of bytes, with one space between them.
 fn push_line(text: &mut String, bytes: &[u8]) -> Result<(), AllocError>
     ensures { OnOk result (string_bytes text.new ≡ string_bytes text.old ++ hex_line bytes.now) }
 {
@@ -26,7 +25,6 @@ fn push_line(text: &mut String, bytes: &[u8]) -> Result<(), AllocError>
     Ok(())
 }
 
-/// A line for each finish.
 fn finished_text(alloc: Global, finished: &[Finished]) -> Result<String, AllocError>
     ensures { IfOk result (λ text. string_bytes text ≡ flat_map (λ finish. hex_line finish.bytes)
         (map finish_given finished.now)) }
@@ -38,7 +36,7 @@ fn finished_text(alloc: Global, finished: &[Finished]) -> Result<String, AllocEr
     Ok(text)
 }
 
-/// Returns what is printed of a replay's answer. The steps stand on the lines of these numbers.
+/// Returns what is printed for a replay's result, by the numbers of the steps' lines.
 pub fn answer_text(
     alloc: Global,
     numbers: &[usize],

@@ -17,16 +17,16 @@ use std::error::Error;
 use std::fmt;
 use std::io::{ErrorKind, Read, Write};
 
-/// No script is longer, in bytes.
+/// The greatest length of a script in bytes.
 pub const GREATEST_SCRIPT: usize = 1048576;
 
-/// No more bytes are read at once.
+/// The greatest number of bytes read at once.
 const MOST_READ: usize = 8192;
 
 /// Why a run failed.
 #[derive(Clone, Copy, Debug, PartialEq, Eq)]
 pub enum RunError {
-    /// Memory was refused while the script or what is printed was held. Nothing was written.
+    /// An allocation failed. Nothing was written.
     OutOfMemory,
     /// Reading failed. Nothing was written.
     Read,
@@ -63,8 +63,8 @@ impl From<AllocError> for RunError {
     }
 }
 
-/// Reads some bytes, and returns how many: none at the reader's end. An interrupted read is made
-/// again, 2^64 - 1 times at most.
+/// Reads some bytes, and returns their number: 0 at the end. An interrupted read is repeated, up to
+/// 2^64 - 1 times.
 fn read_some<R: Read>(reader: &mut R, bytes: &mut [u8]) -> std::result::Result<usize, RunError>
     ensures bound { ReadsAtMost result bytes.new }
     ensures bytes { IfOk result (λ count. Consumes (R.remaining reader.old)
@@ -84,8 +84,8 @@ fn read_some<R: Read>(reader: &mut R, bytes: &mut [u8]) -> std::result::Result<u
     Err(RunError::Read)
 }
 
-/// Returns the bytes of a script, or the first bytes of one that is too long. It reads one byte more
-/// than the longest script has, at most.
+/// Returns the bytes of a script, or the first bytes of one that is too long: it reads at most one
+/// byte more than the longest script.
 pub fn read_script<R: Read>(alloc: Global, reader: &mut R) -> std::result::Result<Vec<u8>, RunError>
     ensures bytes { IfOk result (λ input. IfSome (R.remaining reader.old)
         (λ bytes. input.items ≡ take (greatest_script + 1) bytes)) }
@@ -107,8 +107,6 @@ pub fn read_script<R: Read>(alloc: Global, reader: &mut R) -> std::result::Resul
     Ok(input)
 }
 
-/// What is printed of an input: it is parsed, and its steps are replayed, where equal contents are
-/// written once.
 fn output_of(alloc: Global, input: &[u8]) -> std::result::Result<Output, AllocError>
     ensures { IfOk result (λ output. PrintedOrOutOfMemory input.now (is_clean output)
         (printed_text output)) }
@@ -134,7 +132,7 @@ fn output_of(alloc: Global, input: &[u8]) -> std::result::Result<Output, AllocEr
     }
 }
 
-/// Writes all bytes, and hands them on.
+/// Writes all bytes, and flushes the writer.
 pub fn write_out<W: Write>(writer: &mut W, bytes: &[u8]) -> std::result::Result<(), RunError>
     ensures bytes { OnOk result (Appends (W.contents writer.old)
         (W.contents writer.new) bytes.now) }
@@ -149,7 +147,7 @@ pub fn write_out<W: Write>(writer: &mut W, bytes: &[u8]) -> std::result::Result<
     }
 }
 
-/// Reads a script, and prints a line of bytes for each of its finishes, or its first fault alone.
+/// Reads a script, and prints a line of bytes for each of its finishes, or its first error alone.
 /// Returns whether it was clean.
 pub fn run<R: Read, W: Write>(
     alloc: Global,
@@ -167,8 +165,8 @@ pub fn run<R: Read, W: Write>(
     Ok(output.clean)
 }
 
-/// Returns the exit status: 0 for a clean script, 1 after a printed fault, 2 where reading or
-/// writing failed, or memory for the script was refused.
+/// Returns the exit status: 0 for a clean script, 1 after a printed error, 2 where reading or
+/// writing failed, or memory for the script ran out.
 pub fn status(answer: &std::result::Result<bool, RunError>) -> u8
     ensures { result ≡ status_of answer.now }
 {

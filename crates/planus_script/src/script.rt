@@ -1,4 +1,4 @@
-//! The script: lines of text to steps.
+//! Scripts to steps.
 
 ghost use Rattle.std.specs.Prelude.{◌≡◌, ℕ, ◌+◌, ◌-◌, ◌<◌, ◌≤◌, ◌==◌, List, [], ◌∷◌, length};
 ghost use Rattle.std.specs.Prelude.{IsTrue, ◌↔◌, Result, Ok, Err, MatchOption, MatchResult};
@@ -31,23 +31,21 @@ use std::alloc::{AllocError, AllocFailed, Global};
 use std::error::Error;
 use std::fmt;
 
-/// A fault in the reading of a line.
+/// The error of a line.
 #[derive(Clone, Copy, Debug, PartialEq, Eq)]
 pub enum ReadFault {
-    /// The bytes of the line are no UTF-8.
+    /// The line isn't UTF-8.
     NotUtf8,
-    /// The first word names no command, or the command has another number of words.
+    /// The first word is no command, or the command has another number of words.
     UnknownCommand,
-    /// A word that should be a number isn't one to twenty decimal digits, or is too great.
+    /// A number isn't one to twenty decimal digits, or is too great.
     BadNumber,
-    /// A word that should be bytes isn't an even number of hexadecimal digits, or a word follows
-    /// it.
+    /// Bytes aren't an even number of hexadecimal digits, or a word follows them.
     BadHex,
-    /// A word that should be a field isn't of the form `S=u8:N`, `S=u16:N`, `S=u32:N`, `S=u64:N`,
-    /// `S=ref:I`, `S=tags:I` or `S=values:I`; or one that should be a union isn't of the form
-    /// `T:I`, or its tag is above 255.
+    /// A field isn't of the form `S=u8:N`, `S=u16:N`, `S=u32:N`, `S=u64:N`, `S=ref:I`, `S=tags:I`
+    /// or `S=values:I`; or a union isn't of the form `T:I`, or its tag is above 255.
     BadField,
-    /// A word that should be a file identifier isn't four bytes from `!` to `~`.
+    /// A file identifier isn't four bytes from `!` to `~`.
     BadIdentifier,
 }
 
@@ -75,9 +73,9 @@ impl Error for ReadFault {}
 /// Why a script could not be read.
 #[derive(Clone, Copy, Debug, PartialEq, Eq)]
 pub enum ParseError {
-    /// Memory was refused.
+    /// An allocation failed.
     OutOfMemory,
-    /// The first line with a fault of reading, counted from 1.
+    /// The first line with an error, counted from 1.
     Line { number: usize, fault: ReadFault },
 }
 
@@ -119,7 +117,7 @@ impl<T: Drop> From<AllocFailed<T>> for ParseError {
     }
 }
 
-/// The steps of a script, and the number of the line that each stands on.
+/// The steps of a script, and the numbers of their lines.
 #[derive(Debug, Drop)]
 pub struct Script {
     /// The number of each step's line, from 1.
@@ -174,7 +172,7 @@ fn line_end(text: &[u8]) -> Option<usize>
     text.iter().position(|byte| *byte == b'\n')
 }
 
-/// The bytes before the first line feed, and what stands behind it, if there is one.
+/// Returns the bytes before the first line feed, and those after it, if there is one.
 fn first_line(text: &[u8]) -> (&[u8], Option<&[u8]>)
     ensures shorter { IfSome result.1 (λ more. length more.now < length text.now) }
     ensures lines { MatchOption result.1 (slice_split (λ b. b == 10) text.now ≡ result.0.now ∷ [])
@@ -193,7 +191,6 @@ fn is_digits(word: &str) -> bool
     word.bytes().all(|byte| byte.is_ascii_digit())
 }
 
-/// A number of one to twenty decimal digits.
 pub(crate) fn number(word: &str) -> std::result::Result<u64, ReadFault>
     ensures { result ≡ number_of word.now }
 {
@@ -206,7 +203,7 @@ pub(crate) fn number(word: &str) -> std::result::Result<u64, ReadFault>
     }
 }
 
-/// The first word of a line, and what stands behind the space behind it, if there is one.
+/// Returns the first word of a line, and what is after the next space, if there is one.
 pub(crate) fn first_word(line: &str) -> (&str, Option<&str>)
     ensures shorter { IfSome (option_copied result.1) (λ more. length more < length line.now) }
     ensures words { words_of line.now ≡ result.0.now ∷ words_behind (option_copied result.1) }
@@ -218,7 +215,7 @@ pub(crate) fn first_word(line: &str) -> (&str, Option<&str>)
     }
 }
 
-/// What stands before and behind the first of this character, if there is one.
+/// Returns what is before and after the first of this character, if there is one.
 pub(crate) fn cut(word: &str, character: char) -> Option<(&str, &str)>
     requires { character < 128 }
     ensures { option_map (λ parts. (parts.0.now, parts.1.now)) result
@@ -233,7 +230,7 @@ fn is_graphic(word: &str) -> bool
     word.bytes().all(|byte| (33..=126).contains(&byte))
 }
 
-/// A file identifier of four bytes.
+/// Returns a file identifier of four bytes.
 fn identifier(word: &str) -> std::result::Result<[u8; 4], ReadFault>
     ensures { result ≡ identifier_of word.now }
 {
@@ -246,8 +243,8 @@ fn identifier(word: &str) -> std::result::Result<[u8; 4], ReadFault>
     }
 }
 
-/// `finish I` or `finish I ABCD`, or with the size in front `sized I` or `sized I ABCD`, from what
-/// stands behind the first word.
+/// Returns the step of `finish I` or `finish I ABCD`, or, size-prefixed, `sized I` or `sized I
+/// ABCD`, by the words after the first.
 fn finish(words: Option<&str>, sized: bool) -> std::result::Result<Step, ReadFault>
     ensures { AnswersCommand result
         (finish_of (front_of sized) (words_behind (option_copied words.entry))) }
@@ -282,7 +279,7 @@ fn finish_named(root: &str, name: &str, sized: bool) -> std::result::Result<Step
     Ok(finish_step(root, id, sized))
 }
 
-/// The step of a finish, with the size in front if that is asked for.
+/// Returns the step of a finish, size-prefixed if that is asked for.
 fn finish_step(root: usize, id: Option<[u8; 4]>, sized: bool) -> Step
     ensures { bare_step result ≡ step.finish (front_of sized) root id }
 {
@@ -302,7 +299,6 @@ pub fn byte_of(high: u8, low: u8) -> Option<u8>
     Some((high * 16 + low) as u8)
 }
 
-/// The bytes of an even number of hexadecimal digits.
 fn hex_bytes(alloc: Global, digits: &[u8]) -> std::result::Result<Vec<u8>, LineError>
     ensures { AnswersList result (bytes_or_fault (hex_bytes_lem digits.now))
         (2 ≤ length digits.now) }
@@ -322,7 +318,6 @@ fn hex_bytes(alloc: Global, digits: &[u8]) -> std::result::Result<Vec<u8>, LineE
     }
 }
 
-/// `bytes` or `bytes HEX`, from what stands behind the first word.
 fn bytes(alloc: Global, words: Option<&str>) -> std::result::Result<Step, LineError>
     ensures { let words = words_behind (option_copied words.entry) in
         AnswersLine result (bytes_of words) (AsksForBytes words) }
@@ -337,7 +332,6 @@ fn bytes(alloc: Global, words: Option<&str>) -> std::result::Result<Step, LineEr
     }
 }
 
-/// The bytes of a word, which has some digits.
 fn bytes_in(alloc: Global, digits: &str) -> std::result::Result<Step, LineError>
     ensures { AnswersLine result (bytes_step (bytes_in_lem digits.now)) (2 ≤ length digits.now) }
 {
@@ -347,7 +341,7 @@ fn bytes_in(alloc: Global, digits: &str) -> std::result::Result<Step, LineError>
     Ok(Step::Bytes(hex_bytes(alloc, digits.as_bytes())?))
 }
 
-/// What a single word of a line can be read as.
+/// What can be read from a single word.
 pub(crate) trait FromWord: Sized + Drop {
     ghost use Rattle.planus_script.specs.declared.script.ReadFault.{ReadFault};
 
@@ -365,7 +359,7 @@ impl FromWord for u64 {
     }
 }
 
-/// What the words behind the first one are read as.
+/// Returns the items of the words after the first.
 pub(crate) fn items<T: FromWord>(
     alloc: Global,
     words: Option<&str>,
@@ -383,7 +377,6 @@ pub(crate) fn items<T: FromWord>(
     Ok(items)
 }
 
-/// The numbers as those of steps.
 fn indexes(alloc: Global, numbers: &[u64]) -> std::result::Result<Vec<usize>, AllocError>
     ensures ok { IfOk result (λ indexes. indexes.items ≡ numbers.now) }
     ensures err { OnErr result (0 < length numbers.now) }
@@ -395,7 +388,7 @@ fn indexes(alloc: Global, numbers: &[u64]) -> std::result::Result<Vec<usize>, Al
     Ok(indexes)
 }
 
-/// Numbers of `width` bytes each, from what stands behind the first word.
+/// Returns numbers of `width` bytes each, by the words after the first.
 fn list(alloc: Global, width: u8, words: Option<&str>) -> std::result::Result<Step, LineError>
     ensures { let words = words_behind (option_copied words.entry) in
         AnswersLine result (list_step (step.numbers width) (numbers_of words))
@@ -405,7 +398,7 @@ fn list(alloc: Global, width: u8, words: Option<&str>) -> std::result::Result<St
     Ok(Step::Numbers { width, items })
 }
 
-/// References to steps, from what stands behind the first word.
+/// Returns references to steps, by the words after the first.
 fn refs(alloc: Global, words: Option<&str>) -> std::result::Result<Step, LineError>
     ensures { let words = words_behind (option_copied words.entry) in
         AnswersLine result (list_step step.refs (numbers_of words))
@@ -415,7 +408,6 @@ fn refs(alloc: Global, words: Option<&str>) -> std::result::Result<Step, LineErr
     Ok(Step::Refs(indexes(alloc, items.as_slice())?))
 }
 
-/// `clear`, from what stands behind the first word.
 fn clear(words: Option<&str>) -> std::result::Result<Step, ReadFault>
     ensures { AnswersCommand result (clear_of (words_behind (option_copied words.entry))) }
 {
@@ -425,7 +417,6 @@ fn clear(words: Option<&str>) -> std::result::Result<Step, ReadFault>
     }
 }
 
-/// Empty lines and comments are no steps.
 fn is_skipped(line: &[u8]) -> bool
     ensures { result ≡ is_skipped_lem line.now }
 {
@@ -435,28 +426,28 @@ fn is_skipped(line: &[u8]) -> bool
     }
 }
 
-/// The command that the first word of a line names.
+/// A command, the first word of a line.
 #[derive(Clone, Copy)]
 enum Command {
-    /// A text.
+    /// A string.
     Text,
     /// Bytes.
     Bytes,
-    /// Numbers of so many bytes.
+    /// Numbers of `width` bytes.
     Numbers { width: u8 },
     /// References to steps.
     Refs,
-    /// A vector of unions.
+    /// A union vector.
     Unions,
     /// A table.
     Table,
-    /// A finish, with the size in front if that is asked for.
+    /// A finish, size-prefixed if that is asked for.
     Finish { sized: bool },
     /// A clear.
     Clear,
 }
 
-/// The command of this name, of those whose words are contents.
+/// Returns the command of this name, of those that write contents.
 fn of_contents(word: &str) -> Option<Command>
     ensures { result ≡ contents_named word.now }
 {
@@ -475,7 +466,7 @@ fn of_contents(word: &str) -> Option<Command>
     }
 }
 
-/// The command of this name, of those whose words are steps or fields, if they have words at all.
+/// Returns the command of this name, of the others.
 fn of_steps(word: &str) -> Option<Command>
     ensures { result ≡ steps_named word.now }
 {
@@ -496,7 +487,6 @@ fn of_steps(word: &str) -> Option<Command>
     }
 }
 
-/// The command of this name.
 fn named(word: &str) -> Option<Command>
     ensures { result ≡ command_named word.now }
 {
@@ -506,7 +496,6 @@ fn named(word: &str) -> Option<Command>
     }
 }
 
-/// The step of a command, from what stands behind it.
 fn step_by(
     alloc: Global,
     command: Command,
@@ -528,7 +517,6 @@ fn step_by(
     }
 }
 
-/// The step that the text of a line is.
 fn step_of_text(alloc: Global, line: &str) -> std::result::Result<Step, LineError>
     ensures { AnswersLine result (command_of_words line.now (words_of line.now))
         (AsksForWords (words_of line.now)) }
@@ -540,7 +528,6 @@ fn step_of_text(alloc: Global, line: &str) -> std::result::Result<Step, LineErro
     }
 }
 
-/// The step that a line is.
 fn step_of(alloc: Global, line: &[u8]) -> std::result::Result<Step, LineError>
     ensures { AnswersLine result (command_of line.now) (AsksForLine line.now) }
 {
@@ -560,7 +547,6 @@ impl Script {
         }
     }
 
-    /// One step more, which stands on the line of this number.
     fn push(&mut self, number: usize, step: Step) -> std::result::Result<(), AllocError>
         ensures ok { OnOk result (read_of self.new ≡ record {
           numbers = self.old.numbers.items ++ number ∷ [];
@@ -573,7 +559,7 @@ impl Script {
     }
 }
 
-/// Returns the steps of a script, or the first line with a fault of reading.
+/// Returns the steps of a script, or the first line with an error.
 pub fn parse(alloc: Global, input: &[u8]) -> std::result::Result<Script, ParseError>
     ensures { AnswersScript result (script_of input.now) (AsksForLines (lines_of input.now)) }
 {

@@ -1,4 +1,4 @@
-//! Vectors of unions, as the words of a line say them.
+//! Union vectors in a script.
 ghost use Rattle.std.specs.Prelude.{◌≡◌};
 ghost use Rattle.std.specs.Option.{option_copied};
 ghost use Rattle.planus.specs.Steps as step;
@@ -15,8 +15,7 @@ use std::alloc::Global;
 impl FromWord for (u8, usize) {
     ghost said = { union_of };
 
-    /// The union that a word is, as `1:0`: the tag of its variant, and the number of its value's
-    /// step.
+    /// Returns the union of a word such as `1:0`: its tag, and the number of its value's step.
     fn from_word(word: &str) -> Result<(u8, usize), ReadFault> {
         let Some((tag_word, step_word)) = cut(word, ':') else {
             return Err(ReadFault::BadField);
@@ -28,7 +27,6 @@ impl FromWord for (u8, usize) {
     }
 }
 
-/// A vector of unions, from what stands behind the first word.
 pub(crate) fn unions(alloc: Global, words: Option<&str>) -> Result<Step, LineError>
     ensures { let words = words_behind (option_copied words.entry) in
         AnswersLine result (list_step step.unions (unions_of words))

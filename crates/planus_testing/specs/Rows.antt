@@ -1,22 +1,22 @@
--- The bytes of some finished and unfinished buffers, written out, for the worked examples.
+-- The bytes of the worked examples.
 use Rattle.std.specs.Prelude.{ℕ, List, [], ◌∷◌}
 use Rattle.planus_read.specs.Values.{Field, plain, reference}
 
--- the text `Axe`, finished
+-- the string `Axe`, finished
 abbrev pub text_axe_bytes : List ℕ
 text_axe_bytes = 4 ∷ 0 ∷ 0 ∷ 0 ∷ 3 ∷ 0 ∷ 0 ∷ 0 ∷ 65 ∷ 120 ∷ 101 ∷ 0 ∷ []
 
--- the text `Hi` and the list of the one number 1 of 8 bytes, finished
+-- the string `Hi` and a vector of the number 1 of 8 bytes, finished
 abbrev pub u64_list_bytes : List ℕ
 u64_list_bytes =
     4 ∷ 0 ∷ 0 ∷ 0 ∷ 1 ∷ 0 ∷ 0 ∷ 0 ∷ 1 ∷ 0 ∷ 0 ∷ 0 ∷ 0 ∷ 0 ∷ 0 ∷ 0 ∷ 2 ∷ 0 ∷ 0 ∷ 0 ∷ 72 ∷ 105 ∷ 0
     ∷ []
 
--- the items of the list of the one number 1 of 8 bytes
+-- the items of that vector
 abbrev pub one_u64 : List (List ℕ)
 one_u64 = (1 ∷ 0 ∷ 0 ∷ 0 ∷ 0 ∷ 0 ∷ 0 ∷ 0 ∷ []) ∷ []
 
--- a table with the text `Axe` in slot 0 and the number 24 of 2 bytes in slot 1, finished
+-- a table with the string `Axe` in slot 0 and the number 24 of 2 bytes in slot 1, finished
 abbrev pub weapon_bytes : List ℕ
 weapon_bytes =
     4 ∷ 0 ∷ 0 ∷ 0 ∷ 244 ∷ 255 ∷ 255 ∷ 255 ∷ 16 ∷ 0 ∷ 0 ∷ 0 ∷ 24 ∷ 0 ∷ 0 ∷ 0 ∷ 8 ∷ 0 ∷ 10 ∷ 0 ∷ 4
@@ -26,17 +26,17 @@ weapon_bytes =
 abbrev pub twenty_four : Field
 twenty_four = plain (record { bytes = 24 ∷ 0 ∷ []; alignment = 2 })
 
--- the fields of that table by slot; the text stands at distance 8
+-- the fields of that table by slot; the string is at distance 8
 abbrev pub weapon_fields : List (ℕ × Field)
 weapon_fields = (0, reference 8) ∷ (1, twenty_four) ∷ []
 
--- the texts `A` and `B` and the vector of unions of both, with tags 1 and 2, not finished
+-- the strings `A` and `B` and the union vector of both, with tags 1 and 2, not finished
 abbrev pub union_vector_bytes : List ℕ
 union_vector_bytes =
     2 ∷ 0 ∷ 0 ∷ 0 ∷ 1 ∷ 2 ∷ 0 ∷ 0 ∷ 2 ∷ 0 ∷ 0 ∷ 0 ∷ 16 ∷ 0 ∷ 0 ∷ 0 ∷ 4 ∷ 0 ∷ 0 ∷ 0 ∷ 1 ∷ 0 ∷ 0 ∷ 0
     ∷ 66 ∷ 0 ∷ 0 ∷ 0 ∷ 1 ∷ 0 ∷ 0 ∷ 0 ∷ 65 ∷ 0 ∷ []
 
--- the items of that vector of unions: tags, and the distances of the texts
+-- the items of that union vector: tags, and the distances of the strings
 abbrev pub two_texts : List (ℕ × ℕ)
 two_texts = (1, 6) ∷ (2, 14) ∷ []
 

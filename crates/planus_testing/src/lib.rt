@@ -1,5 +1,5 @@
-//! What tests share: functions that take all memory, plain programs to compare with, and the worked
-//! buffers, of which it is proved what stands in them.
+//! Helpers of tests: functions that take all memory, plain programs to compare with, and worked
+//! buffers.
 #![tactic(auto)]
 
 mod memory;

@@ -1,19 +1,18 @@
-//! Takes all memory, for tests with refused memory, and says where they don't apply.
+//! Takes all memory, for tests without memory.
 
 use std::alloc::{AllocError, Global};
 use std::io;
 
-// A block of which a sanitizer's malloc keeps the addresses for a while once it is given back.
+// A block of which a sanitizer's malloc keeps the addresses for a while once it is freed.
 const SPARE: usize = 1 << 25;
 
-/// Takes blocks until not even one byte is to be had, and holds them in `held`, which needs room
-/// for them: 262144 is enough.
+/// Takes blocks until not even one byte can be allocated, and holds them in `held`, which needs
+/// room for them: 262144 is enough. Returns whether this worked.
 ///
-/// That rests on Linux, where a program has 47 bits of addresses, and on the C library's malloc,
-/// which refuses when they are used up. Returns whether it went so: a sanitizer's malloc keeps
-/// small blocks back, and then a test with refused memory says nothing. It is told by its keeping
-/// back what it is given back, too; where another malloc leaves memory, that is an error, so that
-/// the test fails.
+/// It relies on Linux, where a program has 47 bits of addresses, and on the C library's malloc,
+/// which fails when they are used up. A sanitizer's malloc keeps small blocks back, so a test
+/// without memory shows nothing; it is recognised by its keeping freed blocks, too. Where another
+/// malloc leaves memory, that is an error, so that the test fails.
 pub fn exhaust(alloc: Global, held: &mut Vec<Vec<u8>>) -> Result<bool, AllocError> {
     let spare: Vec<u8> = Vec::with_capacity(alloc, SPARE)?;
     if take_all(alloc, held) {
@@ -27,12 +26,11 @@ pub fn exhaust(alloc: Global, held: &mut Vec<Vec<u8>>) -> Result<bool, AllocErro
     }
 }
 
-// A block that the C library's malloc takes from its heap, and keeps in no list of blocks of one
-// size when it is given back, so that smaller ones are cut from it.
+// A block that the C library's malloc takes from its heap, and keeps in no free list when it is
+// freed, so that smaller ones are cut from it.
 const BLOCK: usize = 65536;
 
-/// Takes all memory but about so many bytes, at most 65536 of them, which lie in one piece. Else as
-/// [`exhaust`].
+/// Takes all memory but about `spare` bytes, at most 65536, in one block. Else as [`exhaust`].
 pub fn exhaust_all_but(
     alloc: Global,
     held: &mut Vec<Vec<u8>>,
@@ -46,8 +44,8 @@ pub fn exhaust_all_but(
     Ok(exhausted)
 }
 
-/// Returns whether what was tried with all memory taken holds. Where memory was left, which is
-/// `None`, it says that the test doesn't apply, and returns true.
+/// Returns whether what was tried without memory holds. Where memory was left, which is `None`, it
+/// says that the test doesn't apply, and returns true.
 pub fn holds_or_says(rt: &HostRuntime, found: Option<bool>) -> io::Result<bool> {
     if found.is_none() {
         println!(rt; "memory was left: this test does not apply")?;

@@ -1,5 +1,4 @@
-//! Plain, slow programs that compute the definitions of what stands at a position. Readers and
-//! writers can be compared with them.
+//! Plain, slow programs that compute the definitions, to compare readers and writers with.
 
 ghost use Rattle.planus_read.specs.Bytes.{Num, BytesStand};
 ghost use Rattle.planus_read.specs.Stands.{Stands, at};
@@ -7,8 +6,7 @@ ghost use Rattle.planus_read.specs.Values.{text};
 ghost use Rattle.std.specs.Int.{w32};
 ghost use Rattle.std.specs.Prelude.{◌≡◌, ◌↔◌, IsTrue};
 
-/// Returns the number of 4 bytes at the position (in bytes from the front), if these bytes are
-/// there.
+/// Returns the number of 4 bytes at the position, in bytes from the front, if these bytes exist.
 pub fn number_at(bytes: &[u8], position: usize) -> Option<u32>
     ensures { result ≡ Num bytes.now position w32 }
 {
@@ -20,7 +18,7 @@ pub fn number_at(bytes: &[u8], position: usize) -> Option<u32>
     Some(u32::from_le_bytes(*number))
 }
 
-/// Returns whether these bytes stand at the position (in bytes from the front).
+/// Returns whether these bytes are at the position, in bytes from the front.
 pub fn bytes_stand_at(bytes: &[u8], position: usize, part: &[u8]) -> bool
     ensures { IsTrue result ↔ BytesStand bytes.now position part.now }
 {
@@ -34,8 +32,8 @@ pub fn bytes_stand_at(bytes: &[u8], position: usize, part: &[u8]) -> bool
     &rest[..part.len()] == part
 }
 
-/// Returns whether the text of these bytes stands at the position (in bytes from the front): its
-/// count in 4 bytes, then its bytes, then a zero byte that the count leaves out.
+/// Returns whether the string of these bytes is at the position, in bytes from the front: its count
+/// in 4 bytes, its bytes, and a zero byte outside the count.
 pub fn text_stands_at(bytes: &[u8], position: usize, content: &[u8]) -> bool
     ensures { IsTrue result ↔ Stands bytes.now (at position) (text content.now) }
 {

@@ -4,8 +4,7 @@ mod writing;
 
 use std::process::Abort;
 
-// Fails a test, with these words, where something doesn't hold. An assertion is dear to prove, so
-// this is the one of most tests.
+// Fails a test with this message. An assertion is slow to prove, so this is the one of most tests.
 fn check(rt: &impl Abort, holds: bool, what: &str) {
     assert!(rt; holds, "{what}");
 }

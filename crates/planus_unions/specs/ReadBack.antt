@@ -1,4 +1,4 @@
--- What a reader of vectors of unions finds of one that stands.
+-- What a reader of union vectors returns for an encoded one.
 use Rattle.std.specs.Prelude.{◌≡◌, ℕ, ◌+◌, ◌*◌, List, length, drop, slice_get, slice_index, Some}
 use Rattle.std.specs.Prelude.{Result, IsOkAnd}
 use Rattle.planus_read.specs.declared.errors.ErrorKind.{ErrorKind}
@@ -12,9 +12,8 @@ use Rattle.planus_view.specs.declared.vector_of.VectorOf.{VectorOf}
 use Rattle.planus_view.specs.UnionVectorView.{view_of, ShowsUnionVector}
 
 module _ (T E : Type 0) where
-  -- The vector of these unions at kt and kv of B: its tags and its references begin behind the
-  -- counts, it has as many items, and each has its tag, and its reference, from which reading goes
-  -- on.
+  -- the vector of these unions at kt and kv of B: their tags, and references from which reading
+  -- goes on
   pub record IsUnionVectorOf
       (B : List ℕ) (kt kv : ℕ) (items : List (ℕ × ℕ)) (v : VectorOf (UnionSliceView T E)) : Type 0
     where
@@ -32,8 +31,8 @@ module _ (T E : Type 0) where
           (i : ℕ) (item : ℕ × ℕ) → slice_get items i ≡ Some item
           → ReferenceReads B (kv + 4) (i * 4) item.1
 
-  -- A vector of unions that stands at kt and kv of B is returned by any two references that lead to
-  -- it, over each piece of B that begins no further on than these.
+  -- A union vector at kt and kv of B is returned by any two references to it, in each slice with
+  -- both.
   abbrev pub UnionVectorsReadBack : Type 0
   UnionVectorsReadBack =
       (B : List ℕ) (kt kv start f g : ℕ) (items : List (ℕ × ℕ))

@@ -1,10 +1,9 @@
-//! A law over what is read of vectors of unions. The function is a theorem; its body is empty.
+//! A law over what is read from union vectors. The function is a theorem; its body is empty.
 
 ghost use Rattle.planus_unions.specs.ReadBack.{UnionVectorsReadBack};
 
-/// A vector of unions that stands where two references lead is returned with its items, over each
-/// piece of the bytes that begins no further on than the references: each item has its tag, and its
-/// reference, from which reading goes on.
+/// A union vector to which two references lead is returned with its items, in each slice with both:
+/// each has its tag, and its reference, from which reading goes on.
 pub fn union_vectors_read_back<T, E>()
     ensures { UnionVectorsReadBack T E }
 {}

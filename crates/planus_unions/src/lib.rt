@@ -1,4 +1,4 @@
-//! Vectors of unions in a buffer, under their names in planus, and a law over what is read of them.
+//! Union vectors in a buffer, under their names in planus, and a law over what is read from them.
 #![tactic(auto)]
 
 pub mod laws;

@@ -1,5 +1,4 @@
--- The state of an iterator over the items of a view: the view, and the positions that are left,
--- from the front up to the back.
+-- The state of an iterator over the items of a view: the view, and the positions that are left.
 use Rattle.std.specs.Prelude.{◌≡◌, ℕ, ◌+◌, ◌-◌, ◌<◌, Option, Some, None}
 use Rattle.planus_view.specs.declared.items.Items.{Items}
 use Rattle.planus_view.specs.declared.view.View.{Ghosts as ViewGhosts}
@@ -9,18 +8,18 @@ module _ {V : Type 0} {view : ViewGhosts V} where
   abbrev pub items_of : Items V view → V
   items_of s = s.whole
 
-  -- the first position that is left, and the one behind the last
+  -- the first position that is left, and the one after the last
   abbrev pub front_of : Items V view → ℕ
   front_of s = s.front
 
   abbrev pub back_of : Items V view → ℕ
   back_of s = s.back
 
-  -- how many items are left
+  -- the number of items left
   abbrev pub count_left : Items V view → ℕ
   count_left s = back_of s - front_of s
 
-  -- the iterator is over the view v, with all its items left
+  -- an iterator over v with all its items left
   pub record IsOverAll (v : V) (s : Items V view) : Type 0 where
     pub whole : items_of s ≡ v
     pub front_is : front_of s ≡ 0
@@ -38,14 +37,13 @@ module _ {V : Type 0} {view : ViewGhosts V} where
     ItemOfLeft s i x =
         (left : V) × view.is_sub_view (items_of s) (front_of s) (back_of s) left × is_item left i x
 
-    -- A step from the front: the first item that is left, which is taken. With none left nothing
-    -- changes.
+    -- A step from the front takes the first item that is left; with none left nothing changes.
     abbrev pub ReadsFirst : Items V view → Option A → Items V view → Type 0
     ReadsFirst s None t = (front_of s ≡ back_of s) × (t ≡ s)
     ReadsFirst s (Some x) t =
         (front_of s < back_of s) × ItemOfLeft s 0 x × IsLeft s (front_of s + 1) (back_of s) t
 
-    -- A step from the back: the last item that is left, which is taken.
+    -- A step from the back takes the last item that is left.
     abbrev pub ReadsLast : Items V view → Option A → Items V view → Type 0
     ReadsLast s None t = (front_of s ≡ back_of s) × (t ≡ s)
     ReadsLast s (Some x) t =

@@ -1,10 +1,9 @@
--- The ranges into which n positions are cut for a size c above 0. A range goes from its first
--- position up to its second.
+-- The ranges, first position up to second, into which n positions are cut for a size c above 0.
 use Rattle.std.specs.Prelude.{ℕ, ◌+◌, ◌-◌, ◌*◌, ◌%◌, min, Bool, nat_lt, nat_le}
 use Rattle.std.specs.Prelude.{List, map, length, take, drop}
 use Rattle.std.specs.List.{filter, range_with_len}
 
--- Range i for each i at which the test holds, from 0 on. No range has a number of n or above.
+-- Range i for each i below n for which the test holds.
 abbrev pub ranges_where : ℕ → (ℕ → Bool) → (ℕ → ℕ × ℕ) → List (ℕ × ℕ)
 ranges_where n holds range = map range (filter holds (range_with_len 0 n))
 
@@ -22,29 +21,28 @@ rchunk n c i = (n - (i + 1) * c, n - i * c)
 abbrev pub rchunks : ℕ → ℕ → List (ℕ × ℕ)
 rchunks n c = ranges_where n (λ i. nat_lt (i * c) n) (rchunk n c)
 
--- Exact chunks: exactly c positions each from the front on; fewer than c may remain at the back.
+-- Exact chunks: exactly c positions each from the front on; fewer may remain at the back.
 abbrev pub exact_chunk : ℕ → ℕ → ℕ → ℕ × ℕ
 exact_chunk n c i = (i * c, (i + 1) * c)
 
 abbrev pub chunks_exact : ℕ → ℕ → List (ℕ × ℕ)
 chunks_exact n c = ranges_where n (λ i. nat_le ((i + 1) * c) n) (exact_chunk n c)
 
--- Exact chunks from the back: exactly c positions each; fewer than c may remain at the front.
+-- Exact chunks from the back: exactly c positions each; fewer may remain at the front.
 abbrev pub rchunks_exact : ℕ → ℕ → List (ℕ × ℕ)
 rchunks_exact n c = ranges_where n (λ i. nat_le ((i + 1) * c) n) (rchunk n c)
 
--- Windows: the c positions from each position on, where they all are positions.
+-- Windows: c positions from each position on, where all of them exist.
 abbrev pub window : ℕ → ℕ → ℕ → ℕ × ℕ
 window n c i = (i, i + c)
 
 abbrev pub windows : ℕ → ℕ → List (ℕ × ℕ)
 windows n c = ranges_where n (λ i. nat_le (i + c) n) (window n c)
 
--- What is left of a list after a were taken in front and b at the back: nothing where it has no
--- more than both.
+-- What is left after a items are taken at the front and b at the back.
 abbrev pub ends : {X : Type 0} → List X → ℕ → ℕ → List X
 ends R a b = take (length R - (a + b)) (drop a R)
 
--- how many positions remain beside all exact chunks
+-- the number of positions outside all exact chunks
 abbrev pub remainder : ℕ → ℕ → ℕ
 remainder n c = n % c

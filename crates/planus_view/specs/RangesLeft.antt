@@ -21,7 +21,7 @@ module _ {V C : Type 0} {view : ViewGhosts V} {cut : CutGhosts C} where
   abbrev pub left_of : SubViews V C view cut → List (ℕ × ℕ)
   left_of s = take (s.back - s.front) (drop s.front (ranges_of s))
 
-  -- the iterator is over the view v, cut for this size, with these ranges left
+  -- an iterator over v, cut for this size, with these ranges left
   pub record IsOverRanges
       (v : V) (size : ℕ) (left : List (ℕ × ℕ)) (s : SubViews V C view cut) : Type 0 where
     pub whole : whole_of s ≡ v
@@ -33,22 +33,21 @@ module _ {V C : Type 0} {view : ViewGhosts V} {cut : CutGhosts C} where
     pub whole : whole_of t ≡ whole_of s
     pub size : size_of t ≡ size_of s
 
-  -- A step from the front: the sub-view at the first range that is left, which is taken. With none
-  -- left nothing changes.
+  -- a step from the front takes the sub-view at the first range left, if any
   abbrev pub TakesFirst : SubViews V C view cut → Option V → SubViews V C view cut → Type 0
   TakesFirst s None t = (left_of s ≡ []) × (t ≡ s)
   TakesFirst s (Some u) t =
       (range : ℕ × ℕ) × (left_of s ≡ range ∷ left_of t)
       × view.is_sub_view (whole_of s) range.0 range.1 u × IsSameCut s t
 
-  -- A step from the back: the sub-view at the last range that is left, which is taken.
+  -- A step from the back takes the sub-view at the last range left.
   abbrev pub TakesLast : SubViews V C view cut → Option V → SubViews V C view cut → Type 0
   TakesLast s None t = (left_of s ≡ []) × (t ≡ s)
   TakesLast s (Some u) t =
       (range : ℕ × ℕ) × (left_of s ≡ left_of t ++ range ∷ [])
       × view.is_sub_view (whole_of s) range.0 range.1 u × IsSameCut s t
 
-  -- up to this number of ranges are skipped in front
+  -- up to this number of ranges are skipped at the front
   pub record SkipsFront (skipped : ℕ) (s t : SubViews V C view cut) : Type 0 where
     pub left : left_of t ≡ drop skipped (left_of s)
     pub same : IsSameCut s t
@@ -58,7 +57,7 @@ module _ {V C : Type 0} {view : ViewGhosts V} {cut : CutGhosts C} where
     pub left : left_of t ≡ take (length (left_of s) - skipped) (left_of s)
     pub same : IsSameCut s t
 
-  -- a copy of the iterator: over the same view, with the same ranges left
+  -- a copy of the iterator: the same view, with the same ranges left
   pub record IsCopy (s t : SubViews V C view cut) : Type 0 where
     pub same : IsSameCut s t
     pub left : left_of t ≡ left_of s

@@ -2,7 +2,7 @@
 use Rattle.std.specs.Prelude.{◌≡◌, ℕ, ◌-◌, ◌<◌, ◌≤◌, Option, Some, None}
 
 module _ {V : Type 0} (count : V → ℕ) (is_sub_view : V → ℕ → ℕ → V → Type 0) where
-  -- the sub-views in front of a position and from it on
+  -- the sub-views before a position and from it on
   pub record SplitAt (v : V) (mid : ℕ) (halves : V × V) : Type 0 where
     pub front : is_sub_view v 0 mid halves.0
     pub back : is_sub_view v mid (count v) halves.1

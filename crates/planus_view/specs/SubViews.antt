@@ -1,4 +1,4 @@
--- A sub-view has as many items as positions, and a sub-view of a sub-view is one of the whole.
+-- A sub-view has an item for each position, and a sub-view of a sub-view is one of the whole.
 use Rattle.std.proofs.Common.{◌≡◌, ℕ, ◌+◌, ◌-◌, ◌*◌, ◌≤◌, drop, arith, ap, refl, ◌∙◌}
 use Rattle.std.proofs.lemmas.List.{drop-drop}
 use Rattle.std.proofs.Math.Nat.{add-mul}

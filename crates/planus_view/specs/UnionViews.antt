@@ -1,5 +1,5 @@
--- A view of unions: the tags from the first item on, one byte each; the references, of 4 bytes
--- each, and where in the buffer they start; and how many items there are.
+-- A view of unions: tags of one byte, references of 4 bytes with their start in the buffer, the
+-- count.
 use Rattle.std.specs.Prelude.{◌≡◌, ℕ, ◌+◌, ◌-◌, ◌*◌, ◌≤◌, List, drop}
 use Rattle.std.proofs.Common.{arith, ap, refl, ◌∙◌}
 use Rattle.std.proofs.lemmas.List.{drop-drop}
@@ -11,8 +11,7 @@ pub record UnionView : Type 0 where
   pub start : ℕ
   pub count : ℕ
 
--- The positions lo up to hi of a view of unions: its tags begin at tag lo and its references at
--- reference lo, and both go on to the end of those of the view.
+-- the positions lo up to hi of a view of unions: from tag lo and reference lo on to the end
 abbrev pub sub_view : UnionView → ℕ → ℕ → UnionView
 sub_view v lo hi =
     record {
@@ -40,12 +39,12 @@ twice v lo hi a b h =
     let start : v.start + lo * 4 + a * 4 ≡ v.start + (lo + a) * 4 = omega arith in
     let count : b - a ≡ lo + b - (lo + a) = omega arith in cc
 
--- a sub-view has as many items as positions
+-- a sub-view has an item for each position
 pub sub_view_count :
     (v u : UnionView) (lo hi : ℕ) → IsSubView v lo hi u → u.count ≡ hi - lo
 sub_view_count v u lo hi h = ap (λ (s : UnionView). s.count) h.same
 
--- and a sub-view of a sub-view is one of the whole
+-- a sub-view of a sub-view is one of the whole
 pub sub_view_twice :
     (v u x : UnionView) (lo hi a b : ℕ) → IsSubView v lo hi u → IsSubView u a b x
     → IsSubView v (lo + a) (lo + b) x

@@ -1,9 +1,9 @@
--- What a vector has is what its view has: each of these is given how the view says it.
+-- Vectors by their views.
 use Rattle.std.specs.Prelude.{ℕ}
 use Rattle.planus_view.specs.declared.vector_of.VectorOf.{VectorOf}
 
 module _ {V : Type 0} where
-  -- how many items it has
+  -- the count
   abbrev pub count_in : (V → ℕ) → VectorOf V → ℕ
   count_in count v = count v.view
 

@@ -1,5 +1,4 @@
--- A view of items: the bytes from the first item on, where in the buffer they start, and how many
--- items there are.
+-- A view of items: the bytes from the first item on, their start in the buffer, and the count.
 use Rattle.std.specs.Prelude.{◌≡◌, ℕ, ◌+◌, ◌-◌, ◌*◌, ◌≤◌, List, drop}
 
 pub record View : Type 0 where
@@ -7,8 +6,7 @@ pub record View : Type 0 where
   pub start : ℕ
   pub count : ℕ
 
--- The positions lo up to hi of a view of items of this stride: it begins at item lo, and its bytes
--- go on to the end of those of the view.
+-- the positions lo up to hi of a view of items of this stride: from item lo on to the end
 abbrev pub sub_view : ℕ → View → ℕ → ℕ → View
 sub_view stride v lo hi =
     record {

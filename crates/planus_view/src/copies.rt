@@ -1,4 +1,4 @@
-//! The items of a view, converted, in a `Vec`.
+//! The items of a view, converted into a `Vec`.
 
 ghost use Rattle.std.specs.Prelude.{◌≡◌, IfOk, IfErr, Result as std_result};
 ghost use Rattle.planus_view.specs.declared.copies.CopyError.{CopyError};
@@ -10,11 +10,11 @@ use planus_read::located::Error;
 use std::alloc::{AllocError, Global};
 use std::fmt;
 
-/// Why items can't be copied, with names of any lifetime in the error of a read. With literal names
+/// Why items can't be copied, with names of any lifetime in the error of a read. With static names
 /// it is [`crate::CopyError`].
 #[derive(Clone, Copy, Debug, PartialEq, Eq)]
 pub enum CopyError<'n> {
-    /// There is no memory.
+    /// An allocation failed.
     OutOfMemory,
     /// An item can't be read.
     Read(Error<'n>),
@@ -58,10 +58,10 @@ impl<'n> From<Error<'n>> for CopyError<'n> {
 
 /// What an item of a view can be converted to.
 pub trait FromItem<T>: Sized {
-    /// What may be returned for an item.
+    /// The results for an item.
     ghost converts: { T → std_result Self CopyError → Type 0 };
 
-    /// Returns the item, converted, or why it can't be.
+    /// Returns the item, converted, or its error.
     fn from_item(alloc: Global, item: T) -> Result<Self, CopyError<'static>>
         ensures { converts item result };
 }
@@ -92,10 +92,10 @@ impl<'buf> FromItem<&'buf str> for String {
 
 /// A way to convert items.
 pub trait Conversion<A, O> {
-    /// What may be returned for an item.
+    /// The results for an item.
     ghost gives: { A → std_result O CopyError → Type 0 };
 
-    /// Returns the item, converted, or why it can't be.
+    /// Returns the item, converted, or its error.
     fn convert(alloc: Global, item: A) -> Result<O, CopyError<'static>>
         ensures { gives item result };
 }
@@ -103,7 +103,7 @@ pub trait Conversion<A, O> {
 /// Each item by its own conversion.
 pub struct EachItem;
 
-/// Each item that was read by its own conversion; an error of a read as it is.
+/// Each item that was read by its own conversion; an error of a read unchanged.
 pub struct EachRead;
 
 impl<A, O: FromItem<A>> Conversion<A, O> for EachItem {
@@ -127,8 +127,8 @@ impl<T, E: Into<Error<'static>>, O: FromItem<T>> Conversion<Result<T, E>, O> for
     }
 }
 
-/// Returns all items of the view, converted in order, or the first refusal. Memory for them is
-/// asked for once, before the first is read.
+/// Returns all items of the view, converted in order, or the first error. Memory for them is
+/// allocated once, before the first is read.
 pub fn copy_items<'n, V: ReadView, O: Drop, C: Conversion<V::Item, O>>(
     alloc: Global,
     view: &V,

@@ -1,12 +1,12 @@
-//! The ways to cut positions into ranges.
+//! Ways to cut positions into ranges.
 
 ghost use Rattle.std.specs.Prelude.{◌≡◌, ℕ, ◌<◌, ◌≤◌, List, length, slice_get, Some};
 ghost use Rattle.planus_view.specs.Ranges.{chunks, rchunks, chunks_exact, rchunks_exact, windows};
 
 /// A way to cut positions into ranges, for a size above 0.
 pub trait Cut {
-    /// The ranges of a number of positions for a size. A range goes from its first position up to
-    /// its second.
+    /// The ranges of a number of positions for a size, each from its first position up to its
+    /// second.
     ghost ranges: { ℕ → ℕ → List (ℕ × ℕ) };
 
     /// Returns the number of ranges of `len` positions.
@@ -14,7 +14,7 @@ pub trait Cut {
         requires { 0 < size }
         ensures { result ≡ length (ranges len size) };
 
-    /// Returns range `i` of `len` positions, which is one of their ranges.
+    /// Returns range `i` of `len` positions. Requires `i` to be below their number.
     fn range(len: usize, size: usize, i: usize) -> (usize, usize)
         requires positive { 0 < size }
         requires inside { i < length (ranges len size) }

@@ -17,23 +17,23 @@ impl<R: PositionRange> Sealed for R {}
 
 /// What a view can be indexed by: a position, a range of positions, or two bounds of one.
 pub trait ViewIndex<V: View>: Sealed {
-    /// What stands at the index.
+    /// The item or the sub-view.
     type Output;
 
-    /// What may be returned for the index.
+    /// The results for the index.
     ghost gets: { V → Self → Option Self.Output → Type 0 };
 
     /// The view has the index.
     ghost fits: { V → Self → Type 0 };
 
-    /// What may be returned for an index that the view has.
+    /// The results for an index that the view has.
     ghost is_there: { V → Self → Self.Output → Type 0 };
 
-    /// Returns what stands at the index, or `None` where the view doesn't have it.
+    /// Returns the item or sub-view at the index, or `None` out of bounds.
     fn get(self, view: &V) -> Option<Self::Output>
         ensures { gets view.now self result };
 
-    /// Returns what stands at the index, which the view has.
+    /// Returns the item or sub-view at the index. Requires the index to be in bounds.
     fn get_unchecked(self, view: &V) -> Self::Output
         requires { fits view.now self }
         ensures { is_there view.now self result };
@@ -64,10 +64,10 @@ impl<V: ReadView> ViewIndex<V> for usize {
 
 /// A range of positions.
 pub trait PositionRange {
-    /// Where it begins and where it ends.
+    /// The bounds.
     ghost bounds: { Self → Bound ℕ × Bound ℕ };
 
-    /// Returns where it begins and where it ends.
+    /// Returns the bounds.
     fn bounds(self) -> (Bound<usize>, Bound<usize>)
         ensures { result ≡ bounds self };
 }

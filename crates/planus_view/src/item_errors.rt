@@ -1,4 +1,4 @@
-//! What is returned for an item that can't be read.
+//! The errors of items that can't be read.
 
 ghost use Rattle.std.specs.Prelude.{◌≡◌};
 ghost use Rattle.planus_read.specs.declared.located.Error.{Error as ReadError};
@@ -7,13 +7,13 @@ use planus_read::Error;
 
 /// A way to return the error of an item.
 pub trait ItemError {
-    /// What is returned.
+    /// The error returned.
     type Error;
 
-    /// What may be returned for an error.
+    /// The errors that may be returned for a read's error.
     ghost keeps: { ReadError → Self.Error → Type 0 };
 
-    /// Returns the error as it is returned for an item.
+    /// Returns the item's error for a read's error.
     fn keep(error: Error) -> Self::Error
         ensures { keeps error.entry result };
 }

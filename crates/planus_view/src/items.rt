@@ -8,8 +8,8 @@ use crate::view::{ReadView, View};
 use std::alloc::AllocError;
 use std::iter::FusedIterator;
 
-/// An iterator over the items of a view. An item is read from the sub-view that is left when it is
-/// asked for: an item's error has the start of that.
+/// An iterator over the items of a view. An item is read when it is asked for, from the sub-view
+/// that is left, whose start is in the item's error.
 #[derive(Debug, Drop)]
 pub struct Items<V: View> {
     whole: V,
@@ -36,7 +36,6 @@ impl<V: View> Items<V> {
         }
     }
 
-    // Skips up to `skipped` items at the front.
     #[inline]
     fn skip_front(&mut self, skipped: usize)
         ensures { IsLeft self.old (front_of self.old + min skipped (count_left self.old))
@@ -45,7 +44,6 @@ impl<V: View> Items<V> {
         self.front += skipped.min(self.back - self.front);
     }
 
-    // Skips up to `skipped` items at the back.
     #[inline]
     fn skip_back(&mut self, skipped: usize)
         ensures { IsLeft self.old (front_of self.old)
@@ -133,8 +131,7 @@ impl<V: ReadView> Items<V> {
     ghost use Rattle.planus_view.specs.ItemsLeft.{front_of, back_of, count_left, IsLeft};
     ghost use Rattle.planus_view.specs.ItemsLeft.{ReadsFirst, ReadsLast};
 
-    /// Skips up to `skipped` items at the front and returns the next one, or `None` where none is
-    /// left.
+    /// Skips up to `skipped` items at the front and returns the next one, or `None` at the end.
     #[inline]
     pub fn nth(&mut self, skipped: usize) -> Option<V::Item>
         ensures { (mid : Items V V.View) × IsLeft self.old
@@ -145,8 +142,8 @@ impl<V: ReadView> Items<V> {
         self.next()
     }
 
-    /// Skips up to `skipped` items at the back and returns the last one before them, or `None`
-    /// where none is left.
+    /// Skips up to `skipped` items at the back and returns the one before them, or `None` at the
+    /// end.
     #[inline]
     pub fn nth_back(&mut self, skipped: usize) -> Option<V::Item>
         ensures { (mid : Items V V.View) × IsLeft self.old (front_of self.old)
@@ -157,7 +154,7 @@ impl<V: ReadView> Items<V> {
         self.next_back()
     }
 
-    /// Returns the last item, or `None` where none is left.
+    /// Returns the last item, or `None` if none is left.
     #[inline]
     pub fn last(mut self) -> Option<V::Item>
         ensures { (after : Items V V.View) × ReadsLast V.is_item self result after }
@@ -165,7 +162,7 @@ impl<V: ReadView> Items<V> {
         self.next_back()
     }
 
-    /// Returns the number of items that are left.
+    /// Returns the number of items left.
     #[inline]
     pub fn count(self) -> usize
         ensures { result ≡ count_left self }

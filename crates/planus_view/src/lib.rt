@@ -1,5 +1,5 @@
-//! Vectors and vectors of unions in a buffer: their items and sub-vectors by index, and iterators
-//! from both ends.
+//! Vectors and union vectors in a buffer: items and sub-vectors by index, and iterators from both
+//! ends.
 #![tactic(auto)]
 
 mod copies;

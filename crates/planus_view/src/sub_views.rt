@@ -27,8 +27,7 @@ pub struct SubViews<V: View, C: Cut> {
 impl<V: View, C: Cut> SubViews<V, C> {
     ghost use Rattle.planus_view.specs.RangesLeft.{whole_of, ranges_of, IsOverRanges};
 
-    /// Creates an iterator over the sub-views at all ranges of the view for this size, which is
-    /// above 0.
+    /// Creates an iterator over the sub-views at all ranges of the view. Requires a size above 0.
     #[inline]
     #[tactic(auto, using(crate::proofs::LeftOf::all_left))]
     pub fn new(whole: V, size: usize) -> Self
@@ -45,7 +44,6 @@ impl<V: View, C: Cut> SubViews<V, C> {
         }
     }
 
-    // Returns the sub-view at range i.
     #[inline]
     fn at_range(&self, i: usize) -> V
         requires { i < length (ranges_of self.now) }
@@ -138,7 +136,6 @@ impl<V: View, C: Cut> SubViews<V, C> {
     ghost use Rattle.planus_view.specs.RangesLeft.{SkipsFront, SkipsBack};
     ghost use Rattle.planus_view.specs.declared.sub_views.SubViews.{SubViews};
 
-    // Skips up to `skipped` sub-views at the front.
     #[inline]
     #[tactic(auto, using(crate::proofs::LeftOf::front_skipped))]
     fn skip_front(&mut self, skipped: usize)
@@ -147,7 +144,6 @@ impl<V: View, C: Cut> SubViews<V, C> {
         self.front += skipped.min(self.back - self.front);
     }
 
-    // Skips up to `skipped` sub-views at the back.
     #[inline]
     #[tactic(auto, using(crate::proofs::LeftOf::back_skipped))]
     fn skip_back(&mut self, skipped: usize)
@@ -156,8 +152,7 @@ impl<V: View, C: Cut> SubViews<V, C> {
         self.back -= skipped.min(self.back - self.front);
     }
 
-    /// Skips up to `skipped` sub-views at the front and returns the next one, or `None` where none
-    /// is left.
+    /// Skips up to `skipped` sub-views at the front and returns the next one, or `None` at the end.
     #[inline]
     pub fn nth(&mut self, skipped: usize) -> Option<V>
         ensures { (mid : SubViews V C V.View C.Cut) × SkipsFront skipped self.old mid
@@ -167,8 +162,8 @@ impl<V: View, C: Cut> SubViews<V, C> {
         self.next()
     }
 
-    /// Skips up to `skipped` sub-views at the back and returns the last one before them, or `None`
-    /// where none is left.
+    /// Skips up to `skipped` sub-views at the back and returns the one before them, or `None` at
+    /// the end.
     #[inline]
     pub fn nth_back(&mut self, skipped: usize) -> Option<V>
         ensures { (mid : SubViews V C V.View C.Cut) × SkipsBack skipped self.old mid
@@ -178,7 +173,7 @@ impl<V: View, C: Cut> SubViews<V, C> {
         self.next_back()
     }
 
-    /// Returns the last sub-view, or `None` where none is left.
+    /// Returns the last sub-view, or `None` if none is left.
     #[inline]
     pub fn last(mut self) -> Option<V>
         ensures { (after : SubViews V C V.View C.Cut) × TakesLast self result after }
@@ -186,7 +181,7 @@ impl<V: View, C: Cut> SubViews<V, C> {
         self.next_back()
     }
 
-    /// Returns the number of sub-views that are left.
+    /// Returns the number of sub-views left.
     #[inline]
     pub fn count(self) -> usize
         ensures { result ≡ length (left_of self) }
@@ -199,7 +194,7 @@ impl<V: View> SubViews<V, ByChunksExact> {
     ghost use Rattle.planus_view.specs.RangesLeft.{whole_of, size_of};
     ghost use Rattle.planus_view.specs.Ranges.{remainder};
 
-    /// Returns what remains of the view behind all exact chunks, whatever was taken of them.
+    /// Returns what remains of the view after all exact chunks, whatever was taken of them.
     #[must_use]
     pub fn remainder(&self) -> V
         ensures { let whole = whole_of self.now in let n = V.count whole in
@@ -214,7 +209,7 @@ impl<V: View> SubViews<V, ByRChunksExact> {
     ghost use Rattle.planus_view.specs.RangesLeft.{whole_of, size_of};
     ghost use Rattle.planus_view.specs.Ranges.{remainder};
 
-    /// Returns what remains of the view in front of all exact chunks, whatever was taken of them.
+    /// Returns what remains of the view before all exact chunks, whatever was taken of them.
     #[must_use]
     pub fn remainder(&self) -> V
         ensures { let whole = whole_of self.now in

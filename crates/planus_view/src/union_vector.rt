@@ -1,4 +1,4 @@
-//! Vectors of unions in a buffer.
+//! Union vectors in a buffer.
 
 ghost use Rattle.std.specs.Prelude.{◌≡◌, ◌*◌, ◌≤◌, [], length};
 ghost use Rattle.planus_read.specs.Items.{item_method};
@@ -13,12 +13,12 @@ use planus_read::{SliceWithStartOffset, TableReadUnionVector, VectorReadUnion, a
 use std::alloc::AllocError;
 use std::marker::PhantomData;
 
-/// A view of the items of a vector of unions, which are read when they are asked for; each of them
-/// is a [`planus_read::Result`]. In the format that are two vectors of equal count: tags of one
-/// byte, and references of 4 bytes.
+/// A view of the items of a union vector, each a [`planus_read::Result`], read when they are asked
+/// for. In the format it is two vectors of equal count: tags of one byte, and references of 4
+/// bytes.
 pub type UnionVector<'buf, T> = VectorOf<UnionSliceView<'buf, T, AsRead>>;
 
-/// A view of unions whose tags follow one another in a piece of a buffer, and their references in
+/// A view of unions whose tags follow one another in one slice of a buffer, and their references in
 /// another. The errors of items are returned as `E` says.
 pub struct UnionSliceView<'buf, T, E> {
     tags: SliceWithStartOffset<'buf>,
@@ -29,7 +29,6 @@ pub struct UnionSliceView<'buf, T, E> {
     ghost values_inside: { count * 4 ≤ length (slice_bytes values) },
 }
 
-// The size of a reference in bytes.
 const REFERENCE_SIZE: usize = 4;
 
 impl<'buf, T, E> Clone for UnionSliceView<'buf, T, E> {
@@ -137,7 +136,7 @@ impl<'buf, T, E> TableReadUnionVector<'buf> for VectorOf<UnionSliceView<'buf, T,
 impl<'buf, T, E> VectorOf<UnionSliceView<'buf, T, E>> {
     ghost use Rattle.planus_view.specs.UnionVectorView.{view_of};
 
-    /// Returns a vector with no items, which lies in no buffer and starts at 0.
+    /// Returns a vector with no items, in no buffer, with start 0.
     #[inline]
     #[must_use]
     pub fn new_empty() -> VectorOf<UnionSliceView<'buf, T, E>>

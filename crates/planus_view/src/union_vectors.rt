@@ -1,11 +1,11 @@
-//! Vectors of unions and their iterators, under their names in planus.
+//! Union vectors and their iterators, under their names in planus.
 
 use crate::cuts::{ByChunks, ByChunksExact, ByRChunks, ByRChunksExact, ByWindows};
 use crate::items::Items;
 use crate::sub_views::SubViews;
 pub use crate::union_vector::UnionVector;
 
-/// An iterator over the items of a vector of unions.
+/// An iterator over the items of a union vector.
 pub type Iter<'buf, T> = Items<UnionVector<'buf, T>>;
 
 /// An iterator over sub-vectors of a size from the front on.

@@ -1,4 +1,4 @@
-//! The calls of vectors, over any view.
+//! The methods of vectors, over any view.
 
 ghost use Rattle.std.specs.Prelude.{◌≡◌, ◌<◌, ◌≤◌, ◌==◌, IfOk, IfErr};
 
@@ -83,8 +83,7 @@ impl<V: View> VectorOf<V> {
         self.view.len()
     }
 
-    /// Returns the item at a position, or the sub-vector at a range of positions, or `None` where
-    /// the vector doesn't have it.
+    /// Returns the item at an index, or the sub-vector at a range, or `None` out of bounds.
     #[inline]
     #[must_use]
     pub fn get<I: ViewIndex<VectorOf<V>>>(&self, index: I) -> Option<I::Output>
@@ -93,8 +92,7 @@ impl<V: View> VectorOf<V> {
         index.get(self)
     }
 
-    /// Returns the item at a position, or the sub-vector at a range of positions, which the vector
-    /// has.
+    /// Returns the item at an index, or the sub-vector at a range. Requires it to be in bounds.
     #[inline]
     #[must_use]
     pub fn get_unchecked<I: ViewIndex<VectorOf<V>>>(&self, index: I) -> I::Output
@@ -104,8 +102,8 @@ impl<V: View> VectorOf<V> {
         index.get_unchecked(self)
     }
 
-    /// Returns the sub-vectors of the first `mid` items and of the others, or `None` where there
-    /// are fewer items.
+    /// Returns the sub-vectors of the first `mid` items and of the others, or `None` if there are
+    /// fewer.
     #[inline]
     #[must_use]
     pub fn split_at(&self, mid: usize) -> Option<(VectorOf<V>, VectorOf<V>)>
@@ -117,7 +115,7 @@ impl<V: View> VectorOf<V> {
         Some(self.split_at_unchecked(mid))
     }
 
-    /// Returns the sub-vectors of the first `mid` items, which the vector has, and of the others.
+    /// Returns the sub-vectors of the first `mid` items and of the others. Requires `mid` items.
     #[inline]
     #[must_use]
     pub fn split_at_unchecked(&self, mid: usize) -> (VectorOf<V>, VectorOf<V>)
@@ -136,8 +134,8 @@ impl<V: View> VectorOf<V> {
         Items::new(*self)
     }
 
-    /// Returns an iterator over the sub-vectors of `size` items each from the front on; the
-    /// last may be shorter. `size` is above 0.
+    /// Returns an iterator over sub-vectors of `size` items from the front on; the last may be
+    /// shorter. Requires a `size` above 0.
     #[inline]
     #[must_use]
     pub fn chunks(&self, size: usize) -> SubViews<VectorOf<V>, ByChunks>
@@ -147,8 +145,8 @@ impl<V: View> VectorOf<V> {
         SubViews::new(*self, size)
     }
 
-    /// Returns an iterator over the sub-vectors of `size` items each from the back on; the
-    /// last, at the front, may be shorter. `size` is above 0.
+    /// Returns an iterator over sub-vectors of `size` items from the back on; the last, at the
+    /// front, may be shorter. Requires a `size` above 0.
     #[inline]
     #[must_use]
     pub fn rchunks(&self, size: usize) -> SubViews<VectorOf<V>, ByRChunks>
@@ -158,8 +156,8 @@ impl<V: View> VectorOf<V> {
         SubViews::new(*self, size)
     }
 
-    /// Returns an iterator over the sub-vectors of exactly `size` items each from the front
-    /// on. What remains at the back is its `remainder`. `size` is above 0.
+    /// Returns an iterator over sub-vectors of exactly `size` items from the front on; its
+    /// `remainder` is what is left at the back. Requires a `size` above 0.
     #[inline]
     #[must_use]
     pub fn chunks_exact(&self, size: usize) -> SubViews<VectorOf<V>, ByChunksExact>
@@ -170,8 +168,8 @@ impl<V: View> VectorOf<V> {
         SubViews::new(*self, size)
     }
 
-    /// Returns an iterator over the sub-vectors of exactly `size` items each from the back
-    /// on. What remains at the front is its `remainder`. `size` is above 0.
+    /// Returns an iterator over sub-vectors of exactly `size` items from the back on; its
+    /// `remainder` is what is left at the front. Requires a `size` above 0.
     #[inline]
     #[must_use]
     pub fn rchunks_exact(&self, size: usize) -> SubViews<VectorOf<V>, ByRChunksExact>
@@ -182,8 +180,8 @@ impl<V: View> VectorOf<V> {
         SubViews::new(*self, size)
     }
 
-    /// Returns an iterator over all sub-vectors of exactly `size` items, which overlap. `size` is
-    /// above 0.
+    /// Returns an iterator over all sub-vectors of exactly `size` items, which overlap. Requires a
+    /// `size` above 0.
     #[inline]
     #[must_use]
     pub fn windows(&self, size: usize) -> SubViews<VectorOf<V>, ByWindows>
@@ -251,9 +249,9 @@ where
     ghost use Rattle.planus_view.specs.Copies.{AreAllConverted, IsRefusal};
     ghost use Rattle.planus_view.specs.Vectors.{count_in, IsSubVector, IsItemIn};
 
-    /// Returns all items, converted in order, or the first refusal: that of a conversion, or, in a
-    /// vector of unions, [`CopyError::Read`] of an item that can't be read. Memory for the items is
-    /// asked for once, before the first is read: [`CopyError::OutOfMemory`] where there is none.
+    /// Returns all items, converted in order, or the first error: of a conversion, in a union
+    /// vector [`CopyError::Read`] for an item, or [`CopyError::OutOfMemory`]. Memory is allocated
+    /// once, first.
     pub fn to_vec<'n, O: Drop>(&self, alloc: Global) -> Result<Vec<O>, CopyError<'n>>
     where
         V::Copied: Conversion<V::Item, O>,

@@ -1,8 +1,8 @@
-//! Views of items, of which every range of positions is a view too.
+//! Views of items.
 
 ghost use Rattle.std.specs.Prelude.{◌≡◌, ℕ, ◌+◌, ◌-◌, ◌<◌, ◌≤◌};
 
-/// A view of items at the positions from 0 up to their number, of which every range is a view too.
+/// A view of items at the positions from 0 on, of which every range is a view too.
 pub trait View: Copy {
     /// The number of items.
     ghost count: { Self → ℕ };
@@ -14,14 +14,14 @@ pub trait View: Copy {
     fn len(&self) -> usize
         ensures { result ≡ count self.now };
 
-    /// Returns the sub-view of the positions from `lo` up to `hi`: `lo` is at most `hi`, and `hi`
-    /// at most the number of items.
+    /// Returns the sub-view of the positions from `lo` up to `hi`. Requires `lo <= hi` and `hi` to
+    /// be at most the number of items.
     fn sub_view(&self, lo: usize, hi: usize) -> Self
         requires order { lo ≤ hi }
         requires inside { hi ≤ count self.now }
         ensures { is_sub_view self.now lo hi result };
 
-    /// A sub-view has as many items as positions.
+    /// A sub-view has an item for each position.
     ghost sub_view_count: { (v u : Self) (lo hi : ℕ) → is_sub_view v lo hi u → count u ≡ hi - lo };
 
     /// A sub-view of a sub-view is one of the whole.
@@ -34,13 +34,13 @@ pub trait ReadView: View {
     /// What an item is read as.
     type Item;
 
-    /// How its items are converted where they are copied.
+    /// How its items are converted when they are copied.
     type Copied;
 
-    /// What may be returned for the item at a position.
+    /// The results for the item at a position.
     ghost is_item: { Self → ℕ → Self.Item → Type 0 };
 
-    /// Returns the item at the position, which is below the number of items.
+    /// Returns the item at the position. Requires the position to be below the number of items.
     fn item(&self, position: usize) -> Self::Item
         requires { position < Self.count self.now }
         ensures { is_item self.now position result };

@@ -15,12 +15,12 @@ use Rattle.planus.specs.declared.replay_state.ReplayState.{ReplayState}
 abbrev pub slots_of : List (ℕ × FieldStep) → List ℕ
 slots_of fields = map (λ entry. entry.0) fields
 
--- nothing is wrong with a slot behind these, or this is
+-- the slot is right after these, or this is its error
 abbrev pub ChecksSlot : List ℕ → ℕ → Result (Unit {0}) Why → Type 0
 ChecksSlot slots slot (Ok good) = slot_fault slots slot ≡ None
 ChecksSlot slots slot (Err why) = slot_fault slots slot ≡ Some why
 
--- The fields of a table were declared, or this is wrong with the first of them that has a fault.
+-- the fields of a table were declared, or this is the first error of them
 abbrev pub DeclaresTable : ReplayState → List (ℕ × FieldStep) → Result Writer Why → Type 0
 DeclaresTable replay fields (Ok writer) = (all : List (ℕ × Field))
     × (fields_of (values_listed replay) [] greatest_field fields ≡ Some all)

@@ -8,12 +8,12 @@ use Rattle.planus.specs.inner.Names.{name_of, listed_from}
 use Rattle.planus.specs.inner.Prepared.{field_reach}
 use Rattle.planus.specs.declared.table_body.TableBody.{TableBody}
 
--- how far from the end of the bytes fields refer
+-- the greatest distance that the fields refer to
 abbrev pub fields_reach : List (ℕ × Field) → ℕ
 fields_reach [] = 0
 fields_reach (entry ∷ entries) = max (field_reach entry.1) (fields_reach entries)
 
--- the fields, if they are there, or else none
+-- the fields, or none
 abbrev pub fields_or_none : Option (List (ℕ × Field)) → List (ℕ × Field)
 fields_or_none None = []
 fields_or_none (Some fields) = fields

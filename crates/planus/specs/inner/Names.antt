@@ -1,4 +1,4 @@
--- What the steps since a clear wrote, by the distances that it is named by.
+-- What the steps since a clear wrote, by distances.
 use Rattle.std.specs.Prelude.{◌≡◌, ℕ, ◌+◌, ◌-◌, ◌≤◌, nat_lt, List, [], ◌∷◌, slice_get, Option, Some}
 use Rattle.std.specs.Prelude.{None, if◌then◌else◌, Result, Ok, Err}
 use Rattle.std.specs.Option.{option_map}
@@ -12,54 +12,53 @@ use Rattle.planus.specs.declared.faults.Why.{Why}
 use Rattle.planus.specs.declared.written.Written.{Written}
 use Rattle.planus.specs.declared.written.Written.TheVariants.{Value, Unions}
 
--- what a value is named by
+-- the name of a value
 abbrev pub offset_named : {T : Type 0} → Offset T → Named
 offset_named offset = record { distance = offset.distance; tags = None }
 
--- what a vector of unions is named by
+-- the name of a union vector
 abbrev pub vector_named : {T : Type 0} → UnionVectorOffset T → Named
 vector_named vector =
     record { distance = vector.values.distance; tags = Some vector.tags.distance }
 
--- what either is named by
+-- the name of either
 abbrev pub written_named : Written → Named
 written_named (Value offset) = offset_named offset
 written_named (Unions vector) = vector_named vector
 
--- what a step wrote is named by this, if it wrote any of them
+-- the name of what a step wrote, if anything
 abbrev pub name_of : Option Written → Option Named
 name_of written = option_map written_named written
 
--- what steps wrote that are numbered from n on
+-- what the steps numbered from n on wrote
 abbrev pub listed_from : ℕ → List (Option Named) → List Listed
 listed_from n [] = []
 listed_from n (None ∷ rest) = listed_from (n + 1) rest
 listed_from n (Some named ∷ rest) =
     record { step = n; named = named } ∷ listed_from (n + 1) rest
 
--- what the step of a number wrote, where it stands behind the last clear; the steps since are
--- numbered from `first` on
+-- what the step of a number wrote, by what the steps from `first`, the last clear, on wrote
 abbrev pub written_at : ℕ → List (Option Named) → ℕ → Option (Option Named)
 written_at first since step = if nat_lt step first then None else slice_get since (step - first)
 
--- what is wrong with naming a step as one of this kind, if the steps from `first` on wrote this
+-- the error of naming a step as one of this kind, by what the steps from `first` on wrote
 abbrev pub fault_since : ℕ → List (Option Named) → Kind → ℕ → Option Why
 fault_since first since kind step =
     naming_fault kind (option_map (option_map kind_named) (written_at first since step))
 
--- What was asked for is there, and nothing is wrong with it; or this is.
+-- The value asked for is there without an error, or this is the error.
 abbrev pub Finds : {X Y A : Type 0} → (X → Option Y) → (X → Option Why) → (A → Y) → X
     → Result A Why → Type 0
 Finds found fault given x (Ok answer) = (found x ≡ Some (given answer)) × (fault x ≡ None)
 Finds found fault given x (Err why) = fault x ≡ Some why
 
--- what an earlier step wrote, by its number, if it is of this kind; or what is wrong with naming it
+-- what an earlier step wrote, if it is of this kind, or the error of naming it
 abbrev pub FindsNamed : {A : Type 0} → Kind → (A → Named) → ℕ → List (Option Named) → ℕ
     → Result A Why → Type 0
 FindsNamed kind name first since step answer =
     Finds (named_at (listed_from first since)) (fault_since first since kind) name step answer
 
--- what is named lies in so many bytes
+-- what is named is within n bytes
 pub record IsReached (bytes : ℕ) (named : Named) : Type 0 where
   pub distance : named.distance ≤ bytes
   pub tags : TagsReached bytes named.tags

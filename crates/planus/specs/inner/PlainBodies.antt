@@ -1,4 +1,4 @@
--- The layouts of the struct and the enum by which the macros for bodies of `Plain` are shown.
+-- The layouts of the struct and the enum that show the macros for bodies of `Plain`.
 use Rattle.std.specs.Prelude.{nat_eq, [], ◌∷◌}
 use Rattle.std.proofs.Common.{refl, lit≤, lit<}
 use Rattle.planus_read.specs.Enums.{Numbered, u8_enum}

@@ -16,7 +16,7 @@ use Rattle.planus.specs.declared.prepared_field.PreparedField.{PreparedField}
 use Rattle.planus.specs.declared.prepared_field.PreparedField.TheVariants.{U8, U16, U32, U64}
 use Rattle.planus.specs.declared.prepared_field.PreparedField.TheVariants.{Reference, Tags, Values}
 
--- the field that is prepared
+-- the prepared field
 abbrev pub field_is : PreparedField → Field
 field_is (U8 number) = plain (record { bytes = to_le_bytes w8 number; alignment = 1 })
 field_is (U16 number) = plain (record { bytes = to_le_bytes w16 number; alignment = 2 })
@@ -26,26 +26,26 @@ field_is (Reference offset) = reference offset.distance
 field_is (Tags offset) = tags offset.distance
 field_is (Values offset) = values offset.distance
 
--- how far from the end of the bytes a field refers
+-- the distance that a field refers to
 abbrev pub field_reach : Field → ℕ
 field_reach (plain item) = 0
 field_reach (reference distance) = distance
 field_reach (tags distance) = distance
 field_reach (values distance) = distance
 
--- a number is prepared as a field, or this is wrong with it
+-- a number is prepared as a field, or this is its error
 abbrev pub PreparesNumber : Option Width → ℕ → Result PreparedField Why → Type 0
 PreparesNumber width number (Ok prepared) =
     plain_field width number ≡ Some (field_is prepared)
 PreparesNumber width number (Err why) = number_fault width number ≡ Some why
 
--- what a field holds is prepared, and nothing is wrong with it; or this is
+-- a field's content is prepared, or this is its error
 abbrev pub PreparesField : ℕ → List (Option Named) → FieldStep → Result PreparedField Why → Type 0
 PreparesField first since content answer =
     Finds (field_of (listed_from first since)) (content_fault (fault_since first since)) field_is
     content answer
 
--- a union of a list is prepared, and nothing is wrong with it; or this is
+-- a union of a vector is prepared, or this is its error
 abbrev pub PreparesUnion : ℕ → List (Option Named) → ℕ × ℕ → Result (UnionOffset (Unit {0})) Why
     → Type 0
 PreparesUnion first since item answer =

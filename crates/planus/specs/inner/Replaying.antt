@@ -1,4 +1,4 @@
--- A replay on its way, as the definitions see it.
+-- The state of a replay, as the definitions see it.
 use Rattle.std.specs.Prelude.{◌≡◌, ℕ, ◌+◌, ◌-◌, List, [], ◌∷◌, ◌++◌, map, length, drop, slice_get}
 use Rattle.std.specs.Prelude.{Option, Some, None, Result, Ok, Err, ⊤, ◌⊎◌, Vec, true, false}
 use Rattle.std.specs.Int.{Width}
@@ -26,7 +26,7 @@ use Rattle.planus.specs.declared.faults.ReplayError.TheVariants.{OutOfMemory, To
 use Rattle.planus.specs.declared.replay_state.ReplayState.{ReplayState}
 use Rattle.planus.specs.declared.written.Written.{Written}
 
--- what each step since the last clear wrote is named by, if it wrote anything
+-- the name of what each step since the last clear wrote, if anything
 abbrev pub names : ReplayState → List (Option Named)
 names replay = map name_of replay.offsets.items
 
@@ -34,7 +34,7 @@ names replay = map name_of replay.offsets.items
 abbrev pub values_listed : ReplayState → List Listed
 values_listed replay = listed_from replay.first (names replay)
 
--- the state of the run, if this is its past
+-- the state of the run with this history
 abbrev pub state_with : ReplayState → Past → State
 state_with replay past = record {
   past = past;
@@ -43,11 +43,11 @@ state_with replay past = record {
   finished = map finish_given replay.finished.items;
 }
 
--- what is wrong with naming the step of a number as one of a kind, or none
+-- the error of naming a step as one of a kind, or none
 abbrev pub name_fault : ReplayState → Kind → ℕ → Option Why
 name_fault replay kind step = fault_since replay.first (names replay) kind step
 
--- All that was asked for is there; or this is wrong with the first of which it isn't.
+-- all values asked for are there, or this is the first error
 abbrev pub FindsAll : {X Y A : Type 0} → (X → Option Y) → (X → Option Why) → (A → Y) → ReplayState
     → List X → Result (Vec A Global) ReplayError → Type 0
 FindsAll found fault given replay xs (Ok answers) =
@@ -57,33 +57,33 @@ FindsAll found fault given replay xs (Err TooLarge) = ⊥
 FindsAll found fault given replay xs (Err (BadStep number why)) =
     (number ≡ replay.first + length replay.offsets.items) × (first_fault fault xs ≡ Some why)
 
--- the values of earlier steps, or the first of them that can't be named
+-- the values of earlier steps, or the first error
 abbrev pub FindsValues : ReplayState → List ℕ → Result (Vec (Offset (Unit {0})) Global) ReplayError
     → Type 0
 FindsValues replay steps answer =
     FindsAll (value_at (values_listed replay)) (name_fault replay a_value) (λ o. o.distance) replay
     steps answer
 
--- unions of the values of earlier steps, or what is wrong with the first of them that is none
+-- unions of the values of earlier steps, or the first error
 abbrev pub FindsUnions : ReplayState → List (ℕ × ℕ)
     → Result (Vec (UnionOffset (Unit {0})) Global) ReplayError → Type 0
 FindsUnions replay items answer =
     FindsAll (union_of (values_listed replay)) (union_fault (name_fault replay a_value)) item_of
     replay items answer
 
--- a number that is the number, if it fits the width; none, if it doesn't
+-- the number, if it fits the width, or none
 abbrev pub IsNarrowed : {A : Type 0} → (A → ℕ) → Width → ℕ → Option A → Type 0
 IsNarrowed number_of width number (Some narrow) =
     (fits_width width number ≡ true) × (number_of narrow ≡ number)
 IsNarrowed number_of width number None = fits_width width number ≡ false
 
--- the numbers, if all of them fit the width; none, if one doesn't
+-- the numbers, if all fit the width, or none
 abbrev pub Narrowed : {A : Type 0} → (A → ℕ) → Width → List ℕ → Option (Vec A Global) → Type 0
 Narrowed number_of width items (Some numbers) =
     (list_all (fits_width width) items ≡ true) × (map number_of numbers.items ≡ items)
 Narrowed number_of width items None = list_all (fits_width width) items ≡ false
 
--- A value was written, and noted by what it is named by.
+-- A value was written, and recorded by its name.
 pub record Noted {A : Type 0} (name : A → Named) (outcome : Outcome A)
     (old new : ReplayState) : Type 0 where
   pub answer : A
@@ -94,7 +94,7 @@ pub record Noted {A : Type 0} (name : A → Named) (outcome : Outcome A)
   pub pushed : new.offsets.items ≡ old.offsets.items ++ Some noted ∷ []
   pub finished : new.finished.items ≡ old.finished.items
 
--- A value was written by this outcome, or refused; or it was written, and refused memory to be noted.
+-- A value was written by this outcome, or failed; or there was no memory to record it.
 abbrev pub WritesValue : {A : Type 0} → (A → Named) → Outcome A → ReplayState
     → Result (Unit {0}) ReplayError → ReplayState → Type 0
 WritesValue {A} name outcome old (Ok done) new = Noted name outcome old new
@@ -105,7 +105,7 @@ WritesValue {A} name outcome old (Err TooLarge) new =
     (after : builder.State) × outcome old.builder (Err build.TooLarge) after
 WritesValue {A} name outcome old (Err (BadStep number why)) new = ⊥
 
--- why a step was not taken
+-- why a step failed
 abbrev pub Stopped : ReplayState → Step → ReplayError → Type 0
 Stopped old step OutOfMemory = (past : Past) → IsPast old.builder past
     → StepRefused old.builder.switches (state_with old past) step
@@ -114,8 +114,7 @@ Stopped old step TooLarge = (past : Past) → IsPast old.builder past
 Stopped old step (BadStep number why) =
     (number ≡ old.first + length old.offsets.items) × (check_by (name_fault old) step ≡ Some why)
 
--- a step wrote what its kind says: a finish no value, and each other one of its kind; a clear is no
--- step since the last clear
+-- A step wrote what its kind says; a finish writes no value, and a clear starts anew.
 abbrev pub Wrote : Step → Option Named → Type 0
 Wrote step name = (is_clear step ≡ false) × (kind_of step ≡ option_map kind_named name)
 
@@ -126,14 +125,13 @@ AllWrote (step ∷ steps) (name ∷ rest) = Wrote step name × AllWrote steps re
 AllWrote [] (name ∷ rest) = ⊥
 AllWrote (step ∷ steps) [] = ⊥
 
--- The replay has taken these steps: it begins to count behind the last clear, and knows what each
--- step since then wrote.
+-- the replay has taken these steps: what each since the last clear wrote
 pub record HasTaken (replay : ReplayState) (steps : List Step) : Type 0 where
   pub counted : replay.first + length replay.offsets.items ≡ length steps
   pub behind_clear : (replay.first ≡ 0) ⊎ (slice_get steps (replay.first - 1) ≡ Some clear)
   pub wrote : AllWrote (drop replay.first steps) (names replay)
 
--- One step was taken, whatever the past.
+-- one step was taken, for any history
 pub record Takes (old : ReplayState) (step : Step) (new : ReplayState) : Type 0 where
   pub taken : (steps : List Step) → HasTaken old steps → HasTaken new (steps ++ step ∷ [])
   pub advances : (past : Past) → IsPast old.builder past
@@ -141,12 +139,12 @@ pub record Takes (old : ReplayState) (step : Step) (new : ReplayState) : Type 0 
       × Advances old.builder.switches (state_with old past) step (state_with new after)
   pub switches : new.builder.switches ≡ old.builder.switches
 
--- One step was taken, or was not.
+-- one step was taken, or failed
 abbrev pub Advanced : ReplayState → Step → Result (Unit {0}) ReplayError → ReplayState → Type 0
 Advanced old step (Ok done) new = Takes old step new
 Advanced old step (Err error) new = Stopped old step error
 
--- every value since the last clear lies in the builder
+-- every value since the last clear is in the builder
 abbrev pub AreReached : ReplayState → Type 0
 AreReached replay = (step : ℕ) (named : Named) → slice_get (names replay) step ≡ Some (Some named)
     → IsReached (length replay.builder.bytes) named

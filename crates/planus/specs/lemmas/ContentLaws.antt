@@ -1,4 +1,4 @@
--- What a list of one field holds.
+-- The content of one field.
 use Rattle.std.specs.Prelude.{ℕ, [], ◌∷◌, Option, Some, None, List}
 use Rattle.std.proofs.Common.{refl}
 use Rattle.planus_read.specs.Values.{Field}
@@ -21,7 +21,7 @@ fields_stay before after (content ∷ contents) (field ∷ fields) extends are =
 fields_stay before after [] (field ∷ fields) extends are = are
 fields_stay before after (content ∷ contents) [] extends are = are
 
--- what one field holds, of a list of one
+-- the content of a list of one field
 pub only_field : {A : Type 0} (past : Past) (slot : ℕ) (content : Option Content) (field : A → Field)
     (prepared : Option A) → HoldsIf past content field prepared
     → FieldsAre past (there_of ((slot, content) ∷ [])) (field_in slot field prepared)

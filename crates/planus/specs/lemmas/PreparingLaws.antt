@@ -1,4 +1,4 @@
--- The laws of what stands in a table, and of lists of fields.
+-- Laws for the encoding of a table, and for lists of fields.
 use Rattle.std.specs.Prelude.{◌≡◌, ℕ, ◌≤◌, max, List, [], ◌∷◌, ◌++◌, Option, Some, None}
 use Rattle.std.specs.List.{AllByRecursion}
 use Rattle.std.proofs.Common.{refl, subst, sym, ap, ◌∙◌, arith, inl, inr}
@@ -14,13 +14,13 @@ use Rattle.planus_write.specs.FieldItems.{IsItem}
 abbrev entry_at : (slot size alignment : ℕ) → Declared
 entry_at slot size alignment = record { slot = slot; size = size; alignment = alignment }
 
--- fields that may be left out stay among those that may be there
+-- optional fields stay among all fields
 pub among_more : (some all : List Declared) (first : Declared) → Among some all
     → Among some (first ∷ all)
 among_more [] all first h = tt
 among_more (one ∷ some) all first h = inr h
 
--- some entries of one list and some of another are among both
+-- entries among two lists are among both together
 among_others : (some all others : List Declared) → Among some others → Among some (all ++ others)
 among_others some [] others among = among
 among_others some (one ∷ all) others among =
@@ -58,7 +58,7 @@ entries_append (entry ∷ fields) others =
 module _ {A : Type 0} (slot : ℕ) (field : A → Field) (reach : A → ℕ) (leaves : A → Item)
     (size alignment : ℕ)
     (items : (value : A) → IsItem size alignment (leaves value) (reach value) (field value)) where
-  -- a field behind others is one of the format, as they are
+  -- a field after others is one of the format, as they are
   pub both_stand : (others : List (ℕ × Field)) (others_reach : ℕ) (value : Option A) (before : ℕ)
       → max others_reach (reach_if reach value) ≤ before
       → (others_reach ≤ before → AllByRecursion (λ entry. IsField before entry.1) others)

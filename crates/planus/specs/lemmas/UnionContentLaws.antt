@@ -1,4 +1,4 @@
--- The laws of what unions and vectors of unions hold, which have two fields each.
+-- Laws for the contents of unions and union vectors, which have two fields each.
 use Rattle.std.specs.Prelude.{◌≡◌, ℕ, Option, Some, None}
 use Rattle.std.specs.Int.{w8, to_le_bytes}
 use Rattle.std.specs.Option.{option_map}
@@ -39,7 +39,7 @@ union_tag_holds before after (Some content) (Some union) holds =
 union_tag_holds before after None (Some union) holds = holds
 union_tag_holds before after (Some content) None holds = holds
 
--- a vector of unions: its two fields
+-- a union vector: its two fields
 module _ {T A : Type 0} (of : UnionVectorOffset T → A) (field : A → Field) where
   pub list_tags_hold : ((vector : UnionVectorOffset T) → field (of vector) ≡ tags vector.tags.distance)
       → (before after : Past) (contents : Option (Content × Content)) (vector : Option (UnionVectorOffset T))

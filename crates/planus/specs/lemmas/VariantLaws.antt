@@ -14,7 +14,7 @@ use Rattle.planus_write.specs.Contents.{Content, FieldIs, UnionHolds, Comes, Pre
 use Rattle.planus_write.specs.Contents.{PreparesUnionItem}
 use Rattle.planus.specs.Variants.{WritesVariant}
 
--- it is lawful where the preparing of its value is
+-- it is lawful if the preparing of its value is
 pub variant_is_lawful : {X Y K T : Type 0} {may : Y → State → Type 0} {outcome : Y → Outcome (Offset K)}
     (tag : ℕ) (of : X → Y) → IsLawful may outcome (λ offset. offset.distance)
     → IsLawful {A = UnionOffset T} (λ x old. may (of x) old)
@@ -33,7 +33,7 @@ variant_is_lawful {X} {Y} {K} {T} {may} {outcome} tag of lawful =
         subst (λ (d : ℕ). d ≤ length new.bytes) (sym done.1.2)
         (lawful.reaches (of x) old done.1.0 new may done.1.1)
 
--- once it is prepared, it has the tag, and the reference to its value holds what the value holds
+-- once prepared, it has the tag, and its reference holds what the value holds
 pub variant_prepared : {X Y K T : Type 0} {may : Y → State → Type 0} {outcome : Y → Outcome (Offset K)}
     {content : Y → Content} (tag : ℕ) (of : X → Y)
     → PreparesContent may outcome content (λ offset. reference offset.distance)

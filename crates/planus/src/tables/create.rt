@@ -1,4 +1,4 @@
-//! A table is written from its fields.
+//! Writing a table from its fields.
 ghost use Rattle.std.specs.Prelude.{◌≤◌, [], ◌++◌, max, length, IfOk, IsTrue};
 ghost use Rattle.planus_write.specs.State.{Grows};
 ghost use Rattle.planus_write.specs.Tables.{body_size, body_bytes};
@@ -14,7 +14,6 @@ use crate::tables::table_kind::TableKind;
 use crate::tables::table_write::TableWrite;
 use planus_write::{BuildError, Builder, ObjectFill, ObjectWriter, Offset};
 
-/// What writes the body of a table.
 #[derive(Drop)]
 struct Body<'a, F: PreparedFields, L: PreparedFields> {
     fields: &'a F,
@@ -36,7 +35,7 @@ impl<'a, F: PreparedFields, L: PreparedFields> ObjectFill for Body<'a, F, L> {
     }
 }
 
-/// Writes the table of prepared fields, and after them those that come last.
+/// Writes the table of prepared fields, those that come last after the others.
 #[inline(always)]
 pub(crate) fn write_table<T, W: TableWrite, F: PreparedFields, L: PreparedFields>(
     builder: &mut Builder,
@@ -60,20 +59,18 @@ pub(crate) fn write_table<T, W: TableWrite, F: PreparedFields, L: PreparedFields
     Ok(builder.current_offset())
 }
 
-/// Writes a table: prepares its fields in order, and then writes the table of those that are there,
-/// with exactly these fields. Returns its offset. With `Ok`, whatever was written before, the table
-/// is kept and the values to which it refers, and all that was kept before still is.
+/// Writes a table with exactly the fields that are present, and returns its offset. With `Ok` the
+/// table is stored, with the values it refers to, and all that was stored before still is.
 ///
-/// The kind says how many bytes its vtable may have ([`TableKind::Writer`]). The fields come by
-/// falling alignment: numbers of eight bytes first, then references, unions and numbers of four
-/// bytes, those of two, and those of one. They are prepared in the same order; one that is marked
-/// `last` is written after all that aren't, as the tags of unions are. No slot is used twice or lies
-/// outside the vtable, the two slots of a union are neighbours, and with all fields the table is at
-/// most 65535 bytes without its vtable. All this is computed of the types of the fields.
+/// The fields come by falling alignment: numbers of eight bytes, then references, unions and
+/// numbers of four bytes, then numbers of two, then of one. They are prepared in order; the tags of
+/// unions and fields marked `last` are written after the others. Each slot is used once and is in
+/// the vtable of [`TableKind::Writer`], a union's two slots are neighbours, and with all fields the
+/// table has at most 65535 bytes without its vtable. All this is computed from the types.
 ///
-/// A refusal is that of the first field that is refused, or else that of the table:
-/// [`BuildError::TooLarge`] where a part's place would be above 2147483647 bytes from the end, and
-/// [`BuildError::OutOfMemory`] where memory is refused. What was written before it stays.
+/// The error is that of the first field that fails, or else that of the table:
+/// [`BuildError::TooLarge`] where a part would begin more than 2147483647 bytes from the end, and
+/// [`BuildError::OutOfMemory`] where an allocation fails. What was written before it stays.
 #[inline]
 pub fn create_table<K: TableKind, F: Fields + Drop>(
     builder: &mut Builder,

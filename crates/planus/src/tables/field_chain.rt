@@ -1,4 +1,4 @@
-//! One field behind those that are prepared before it.
+//! One field after those prepared before it.
 ghost use Rattle.std.specs.Prelude.{◌++◌, [], ◌∷◌, max};
 ghost use Rattle.planus_fields.specs.Fields.{reach_if};
 ghost use Rattle.planus.specs.lemmas.PreparingLaws.{both_stand, both_among};
@@ -10,15 +10,15 @@ use crate::tables::table_write::TableWrite;
 use planus_write::{ObjectWriter, Primitive, WriteAsPrimitive};
 use std::marker::PhantomData;
 
-/// Prepared fields, and one more behind them, which may be absent. Both are lent, so that a list of
-/// any fields has the size of two references.
+/// Prepared fields, and one more after them, which may be absent. Both are borrowed, so that a list
+/// of any fields has the size of two references.
 #[derive(Drop)]
 pub struct FieldChain<'a, const SLOT: usize, P, B, A> {
     /// The fields before it.
     pub before: &'a B,
-    /// The field, prepared, if it is there.
+    /// The field, prepared, if present.
     pub value: &'a Option<A>,
-    /// As what it is encoded.
+    /// The type as which it is encoded.
     pub _marker: PhantomData<P>,
 }
 

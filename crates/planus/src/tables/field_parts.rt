@@ -1,4 +1,4 @@
-//! One field of a table, declared and written if it is there.
+//! One field of a table, declared and written if present.
 ghost use Rattle.std.specs.Prelude.{◌≡◌, ◌≤◌, ◌+◌, ℕ, List, [], ◌∷◌, ◌++◌, length};
 ghost use Rattle.planus_fields.specs.Fields.{reach_if};
 ghost use Rattle.planus_read.specs.Values.{Field};
@@ -10,7 +10,6 @@ ghost use Rattle.planus.specs.TableFields.{field_in, size_if, item_if, IsUnused}
 use crate::tables::table_write::TableWrite;
 use planus_write::{ObjectWriter, Primitive, WriteAsPrimitive};
 
-/// Declares a field for a slot.
 #[inline(always)]
 fn declare<P: Primitive, A: WriteAsPrimitive<P>, W: TableWrite>(
     writer: &mut W,
@@ -30,7 +29,6 @@ fn declare<P: Primitive, A: WriteAsPrimitive<P>, W: TableWrite>(
     writer.enter::<P>(slot);
 }
 
-/// Declares a field for a slot, if it is there.
 #[inline(always)]
 pub(crate) fn declare_if<P: Primitive, A: WriteAsPrimitive<P>, W: TableWrite>(
     writer: &mut W,
@@ -53,7 +51,6 @@ pub(crate) fn declare_if<P: Primitive, A: WriteAsPrimitive<P>, W: TableWrite>(
     }
 }
 
-/// Writes a field behind what is written, if it is there.
 #[inline(always)]
 pub(crate) fn write_if<P: Primitive, A: WriteAsPrimitive<P>>(
     writer: &mut ObjectWriter<'_>,

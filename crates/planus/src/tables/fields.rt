@@ -27,32 +27,32 @@ use planus_fields::{WriteAsOptional, WriteAsOptionalUnion, WriteAsOptionalUnionV
 use planus_write::{BuildError, Builder, List as ListOf, Offset, Primitive};
 use std::marker::PhantomData;
 
-/// The fields of a table: one line of [`fields`](crate::fields), which is a field, one that comes
-/// last, a union or a vector of unions; or a pair of fields and others, in this order; or `()`. The
-/// tags of unions, and fields that come last, are written after all others, in the same order.
+/// The fields of a table: one line of [`fields`](crate::fields), a pair of fields and the fields
+/// after them, or `()`. The tags of unions, and fields that come last, are written after all
+/// others, in the same order.
 ///
-/// `fields` nests its lines as pairs of pairs, so that the depth of the type grows with the logarithm
-/// of their number. No pair has a constant among its parameters: else the cost of proving a caller
-/// would double with each field.
+/// `fields` nests its lines as pairs of pairs, so that the depth of the type is logarithmic in
+/// their number. No pair has a constant parameter, which would double a caller's cost of proof per
+/// field.
 ///
-/// The ghost members `all` and `all_last` have the entries of all fields that may be there, and of
-/// those that come last. `may` is as that of [`planus_write::WriteAsOffset`].
+/// The ghost members `all` and `all_last` have the entries of all fields, and of those that come
+/// last. `may` is the precondition, as in [`planus_write::WriteAsOffset`].
 pub trait Fields {
     ghost all: { List Declared };
 
     ghost all_last: { List Declared };
 
-    /// The two slots of each union and of each vector of unions.
+    /// The two slots of each union and of each union vector.
     ghost unions: { List (ℕ × ℕ) };
 
-    /// What the slots of the fields hold, each what it is or nothing.
+    /// The content of each slot, or nothing.
     ghost contents: { Self → List (ℕ × option Content) };
 
-    /// What the slots of those hold that come last.
+    /// The same for the fields that come last.
     ghost last_contents: { Self → List (ℕ × option Content) };
 
-    /// The fields are prepared, one after another, after those that were before, and then others
-    /// are; a refusal ends it.
+    /// The outcome of preparing the fields, one after another, after earlier fields and before
+    /// others; the first error ends it.
     ghost in_turn: { Self
         → ((ts ls : List (List (ℕ × Field))) → Outcome (List (List (ℕ × Field))))
         → (ts ls : List (List (ℕ × Field))) → Outcome (List (List (ℕ × Field))) };
@@ -84,7 +84,7 @@ pub trait Fields {
         ensures reached { IfOk result (λ offset. offset.distance ≤ length builder.new.bytes) }
         ensures grows { Grows builder.old builder.new };
 
-    /// What may be prepared may be when the builder has grown.
+    /// The precondition stays true as the builder grows.
     ghost stays: { (field : Self) (old new : State) → Grows old new → may field old
         → may field new };
 }

@@ -1,5 +1,5 @@
-//! What [`fields`](crate::fields) and [`variant`](crate::variant) write, line by line. A type says
-//! which slots a line has and where in the list it stands; the contract, that it has its value.
+//! What [`fields`](crate::fields) and [`variant`](crate::variant) write: a type shows a line's
+//! slots and position in the list, the contract its value.
 ghost use Rattle.std.specs.Prelude.{◌≡◌};
 
 use crate::tables::field_at::FieldAt;
@@ -16,7 +16,7 @@ type Two<const A: usize, PA, const B: usize, PB> = (FieldAt<A, PA, PA>, FieldAt<
 /// Four fields, by pairs of neighbours.
 type Four = (Two<0, u64, 1, u32>, Two<2, u32, 3, u16>);
 
-/// A field, one that is written behind the others, a union and a vector of unions, likewise.
+/// A field, one written after the others, a union and a union vector, likewise.
 type FourKinds = (
     (FieldAt<4, u16, u16>, TrailingField<5, u8, u8>),
     (
@@ -25,7 +25,6 @@ type FourKinds = (
     ),
 );
 
-/// Nine lines, with each kind of line among them.
 fn nine_lines(
     first: u64,
     second: u32,
@@ -60,19 +59,16 @@ fn nine_lines(
     ]
 }
 
-/// One line, which stands alone.
 fn one_line(value: u16) -> FieldAt<4, u16, u16>
     ensures { result.value ≡ value }
 {
     fields![4: u16 = value]
 }
 
-/// No line.
 fn no_line() {
     fields![]
 }
 
-/// A union with its value.
 fn one_variant(value: Offset<()>) -> Variant<3, (), Offset<()>>
     ensures { result.value ≡ value }
 {

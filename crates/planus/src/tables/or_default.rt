@@ -7,8 +7,8 @@ use planus_fields::{
 };
 use planus_write::{BuildError, Builder, Primitive, UnionVectorOffset};
 
-/// A value that is left out where it is the default. The default of a list and of a vector of unions
-/// is `()`: the empty one.
+/// A value that is left out where it is the default. The default of a vector or a union vector is
+/// `()`, the empty one.
 #[derive(Debug, Drop)]
 pub struct OrDefault<V, D> {
     /// The value.

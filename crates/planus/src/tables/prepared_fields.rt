@@ -12,12 +12,12 @@ ghost use Rattle.planus.specs.TableRules.{Among, has_slots, is_apart};
 use crate::tables::table_write::TableWrite;
 use planus_write::ObjectWriter;
 
-/// The fields of a table, prepared: `()`, or a
-/// [`FieldChain`](crate::FieldChain), one field behind the others.
+/// The fields of a table, prepared: `()`, or a [`FieldChain`](crate::FieldChain), one field after
+/// the others.
 ///
-/// The ghost member `all` has the entries of all fields that may be there, and `there` the fields
-/// that are, in order, each with its slot. `reach` is how far from the end of the buffer they
-/// refer, in bytes.
+/// The ghost member `all` has the entries of all fields, and `there` the fields that are present,
+/// in order, with their slots. `reach` is the greatest distance from the end of the buffer that
+/// they refer to, in bytes.
 pub trait PreparedFields {
     ghost all: { List Declared };
 
@@ -25,9 +25,8 @@ pub trait PreparedFields {
 
     ghost reach: { Self → ℕ };
 
-    /// Declares the fields that are there. The slots of all that may be there lie in the vtable,
-    /// are apart, and nothing is declared for them yet; with all of them the object is at most
-    /// 65535 bytes. For any other slot nothing is declared.
+    /// Declares the fields that are present, and no others. Requires that all slots are in the
+    /// vtable, apart and unused, and that the object has at most 65535 bytes with all fields.
     fn declare<W: TableWrite>(&self, writer: &mut W)
         requires small { W.room ≤ 65534 }
         requires slots { IsTrue (has_slots W.room all) }
@@ -39,15 +38,15 @@ pub trait PreparedFields {
             → IsUnused (W.at writer.new) other }
         ensures size { (W.at writer.new).object_size ≤ (W.at writer.old).object_size + total_size all };
 
-    /// Writes the fields that are there, behind what is written. So many bytes remain, and what the
-    /// fields refer to lies behind them.
+    /// Writes the fields that are present after what is written. Requires that their bytes remain,
+    /// and that what they refer to is after these.
     fn write(&self, writer: &mut ObjectWriter<'_>)
         requires room { body_size (there self.now) ≤ (body_of writer.old).remaining }
         requires reach { reach self.now + body_size (there self.now) ≤ (body_of writer.old).place }
         ensures { body_of writer.new ≡ wrote (body_size (there self.now))
             (λ place. body_bytes place (there self.now)) (body_of writer.old) };
 
-    /// The fields that are there are fields of the format, where what they refer to lies in the
+    /// The fields that are present are fields of the format, where what they refer to is in the
     /// bytes before.
     ghost stand: { (fields : Self) (before : ℕ) → reach fields ≤ before
         → AllByRecursion (λ entry. IsField before entry.1) (there fields) };

@@ -20,28 +20,27 @@ use planus_write::{BuildError, Builder, Offset};
 
 /// The fields of a table that are still to be prepared: none, or a [`Then`].
 ///
-/// The ghost members `all` and `all_last` have the entries of all fields that may be there, and of
-/// those that come last. `may` is as that of [`planus_write::WriteAsOffset`].
+/// The ghost members `all` and `all_last` have the entries of all fields, and of those that come
+/// last. `may` is the precondition, as in [`planus_write::WriteAsOffset`].
 pub trait Rest {
     ghost all: { List Declared };
 
     ghost all_last: { List Declared };
 
-    /// What the slots of the fields hold, each what it is or nothing.
+    /// The content of each slot, or nothing.
     ghost contents: { Self → List (ℕ × option Content) };
 
-    /// What the slots of those hold that come last.
+    /// The same for the fields that come last.
     ghost last_contents: { Self → List (ℕ × option Content) };
 
-    /// The fields are prepared, one after another, after those that were before; a refusal ends
-    /// it. Answered are all fields, one by one, each there or not, and then all that come last.
+    /// The outcome of preparing the fields, one after another, after earlier ones: all fields, each
+    /// present or not, and then all that come last. The first error ends it.
     ghost in_turn: { Self → (ts ls : List (List (ℕ × Field))) → Outcome (List (List (ℕ × Field))) };
 
     ghost may: { Self → State → Type 0 };
 
-    /// Prepares the fields, one after another, and then writes the table of those that were
-    /// prepared before and of these, and after them those that come last. A refusal is that of the
-    /// first that is refused, or else that of the table.
+    /// Prepares the fields, one after another, and then writes the table of all. The error is that
+    /// of the first field that fails, or else that of the table.
     fn write<T, W: TableWrite, B: PreparedFields, L: PreparedFields>(
         &self,
         builder: &mut Builder,
@@ -61,7 +60,7 @@ pub trait Rest {
         ensures reached { IfOk result (λ offset. offset.distance ≤ length builder.new.bytes) }
         ensures grows { Grows builder.old builder.new };
 
-    /// What may be prepared may be when the builder has grown.
+    /// The precondition stays true as the builder grows.
     ghost stays: { (fields : Self) (old new : State) → Grows old new → may fields old
         → may fields new };
 }
@@ -97,7 +96,7 @@ impl Rest for () {
 pub struct Then<'a, F, R> {
     /// The fields that come first.
     pub first: &'a F,
-    /// Those after them.
+    /// The fields after them.
     pub others: &'a R,
 }
 

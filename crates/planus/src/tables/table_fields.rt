@@ -1,4 +1,4 @@
-//! Tables and lists of tables, read back.
+//! Tables and vectors of tables, read back.
 ghost use Rattle.std.specs.Prelude.{ℕ, Result as std_result};
 ghost use Rattle.planus_read.specs.declared.located.Error.{Error};
 ghost use Rattle.planus_read.specs.Pieces.{slice_bytes, slice_start};
@@ -20,10 +20,8 @@ use planus_read::table_reader::Table;
 use planus_read::{Plain, ReadAsRoot, SliceWithStartOffset};
 use planus_view::Vector;
 
-/// Returns the view of the table in a slot, or `None` where the field is absent. The view is a
-/// [`TableRef`], or one of a user's own. Its contract says what is read back, as that of
-/// [`plain_field`](crate::plain_field): the view of the table that was written, with all its
-/// contents.
+/// Returns the view of the table in a slot, or `None` where it is absent: a [`TableRef`], or a
+/// user's own view. It has all contents of the table that was written.
 pub fn table_field<'a, 'n, V: TableView<'a>>(
     table: &Table<'a>,
     slot: usize,
@@ -39,7 +37,7 @@ pub fn table_field<'a, 'n, V: TableView<'a>>(
     }
 }
 
-/// Returns the view of the same table, which must be there.
+/// Returns the same view, where the field is required.
 pub fn table_required<'a, 'n, V: TableView<'a>>(
     table: &Table<'a>,
     slot: usize,
@@ -54,8 +52,7 @@ pub fn table_required<'a, 'n, V: TableView<'a>>(
     }
 }
 
-/// Returns the vector in a slot that refers to a list of tables of kind `K`, or `None` where the
-/// field is absent.
+/// Returns the vector in a slot of tables of kind `K`, or `None` where it is absent.
 pub fn table_vector<'a, 'n, K: TableKind + 'a>(
     table: &Table<'a>,
     slot: usize,
@@ -67,7 +64,7 @@ pub fn table_vector<'a, 'n, K: TableKind + 'a>(
     table.access::<Vector<'a, planus_read::Result<TableRef<'a, K>>>>(slot, type_, method)
 }
 
-/// Returns the same vector, which must be there.
+/// Returns the same vector, where it is required.
 pub fn table_vector_required<'a, 'n, K: TableKind + 'a>(
     table: &Table<'a>,
     slot: usize,
@@ -79,7 +76,6 @@ pub fn table_vector_required<'a, 'n, K: TableKind + 'a>(
     table.access_required::<Vector<'a, planus_read::Result<TableRef<'a, K>>>>(slot, type_, method)
 }
 
-// Returns a table that was read, as a view of the user's own.
 fn viewed<'a, 'n, V: TableView<'a>>(
     read: Result<TableRef<'a, V::Kind>, Error<'n>>,
 ) -> Result<V, Error<'n>>
@@ -91,8 +87,7 @@ fn viewed<'a, 'n, V: TableView<'a>>(
     }
 }
 
-/// Returns the view of an item that a vector of tables returned, as `vector.get(index)`. Of the
-/// vector of some tables it is the view of the one at this position, with all its contents.
+/// Returns the view of an item, as `vector.get(index)` returned it, with all its contents.
 pub fn table_item<'a, 'n, V: TableView<'a>>(
     item: Option<Result<TableRef<'a, V::Kind>, Error<'n>>>,
 ) -> Option<Result<V, Error<'n>>>
@@ -106,16 +101,14 @@ pub fn table_item<'a, 'n, V: TableView<'a>>(
     }
 }
 
-/// Returns the view of the root of these bytes, the whole bytes of a buffer. Where they are those
-/// that a finish gave whose root is a table, it is the view of this table, with all its contents.
+/// Returns the view of the root of a whole buffer, with all contents of the table that was written.
 pub fn read_root<'a, 'n, V: TableView<'a>>(bytes: &'a [u8]) -> Result<V, Error<'n>>
     ensures { IsRoot V.Kind V.Kind.name V.table bytes.entry.now result }
 {
     viewed(<TableRef<'a, V::Kind> as ReadAsRoot<'a>>::read_as_root(bytes))
 }
 
-/// Returns the view of the table to which the reference at an offset leads, as the variant of a
-/// union.
+/// Returns the view of the table to which the reference at an offset leads, as a union's variant.
 pub fn read_view<'a, V: TableView<'a>>(
     buffer: SliceWithStartOffset<'a>,
     offset: usize,

@@ -18,8 +18,7 @@ use planus_read::{
 use std::alloc::AllocError;
 use std::marker::PhantomData;
 
-/// A table of kind `K`, in a buffer. Its fields are what the calls of [`Table`] return at their
-/// slots.
+/// A table of kind `K` in a buffer. Its fields are what the calls of [`Table`] return.
 #[derive_where(Debug)]
 pub struct TableRef<'a, K> {
     /// The table.
@@ -43,7 +42,6 @@ impl<'a, K> Clone for TableRef<'a, K> {
 impl<'a, K> Copy for TableRef<'a, K> {}
 
 impl<'a, K> TableRef<'a, K> {
-    // The table, as one of this kind.
     fn new(table: Table<'a>) -> TableRef<'a, K>
         ensures { result.table ≡ table.entry }
     {

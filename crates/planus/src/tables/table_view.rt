@@ -5,9 +5,8 @@ ghost use Rattle.planus_read.specs.declared.table_reader.Table.{Table};
 use crate::tables::table_kind::TableKind;
 use planus_read::table_reader::Table;
 
-/// A view of the tables of a kind: a [`TableRef`](crate::TableRef), or a struct of a user's own
-/// that holds a [`Table`] and has the accessors as methods. With this a view is read as a field, as
-/// the root, as an item and as the variant of a union.
+/// A view of the tables of a kind: a [`TableRef`](crate::TableRef), or a user's struct that holds a
+/// [`Table`] and has the accessors as methods. It is read as a field, a root, an item or a variant.
 pub trait TableView<'a>: Sized {
     /// The kind of the tables.
     type Kind: TableKind;

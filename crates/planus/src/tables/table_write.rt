@@ -1,4 +1,4 @@
-//! What a table is declared in, whatever the number of bytes for its vtable.
+//! Table writers of any size of vtable.
 ghost use Rattle.std.specs.Prelude.{◌≡◌, ◌+◌, ◌≤◌, ◌++◌, ℕ, List, [], ◌∷◌, length};
 ghost use Rattle.planus_read.specs.Bytes.{BytesStand};
 ghost use Rattle.planus_write.specs.Tables.{Declared};
@@ -7,15 +7,15 @@ ghost use Rattle.planus_write.specs.TableWriting.{blank, with_entry};
 
 use planus_write::{BuildError, Builder, ObjectFill, Primitive, TableWriter};
 
-/// A [`TableWriter`] of some number of bytes, `room`. By this trait a list of fields is written with
-/// no constant among its parameters.
+/// A [`TableWriter`] of `room` bytes. With this trait a list of fields is written without a
+/// constant among its parameters.
 pub trait TableWrite {
     ghost room: { ℕ };
 
     /// The writer as the definitions have it.
     ghost at: { Self → Writer };
 
-    /// A writer with nothing declared.
+    /// Creates a writer with nothing declared.
     fn start() -> Self
         ensures blank { at result ≡ blank room }
         ensures told { 4 ≤ room → WasTold (at result) [] };

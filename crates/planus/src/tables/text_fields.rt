@@ -1,4 +1,4 @@
-//! Texts, byte lists and lists of texts, read back.
+//! Strings, byte vectors and vectors of strings, read back.
 ghost use Rattle.planus.specs.Accessors.{IsBytesField, IsBytesRequired};
 ghost use Rattle.planus.specs.Accessors.{IsTextField, IsTextRequired};
 ghost use Rattle.planus.specs.Accessors.{IsTextVector, IsTextVectorRequired};
@@ -8,8 +8,8 @@ use planus_read::located::Error;
 use planus_read::table_reader::Table;
 use planus_view::Vector;
 
-/// Returns the text in a slot, or `None` where it is absent. It is `Table::access`, and says in its
-/// contract what is read back, as [`plain_field`](crate::plain_field) does.
+/// Returns the string in a slot, or `None` where it is absent. It is `Table::access` with a
+/// contract that states what is read back, as [`plain_field`](crate::plain_field).
 pub fn text_field<'a, 'n>(
     table: &Table<'a>,
     slot: usize,
@@ -21,7 +21,7 @@ pub fn text_field<'a, 'n>(
     table.access::<&str>(slot, type_, method)
 }
 
-/// Returns the same text, which must be there.
+/// Returns the same string, where it is required.
 pub fn text_required<'a, 'n>(
     table: &Table<'a>,
     slot: usize,
@@ -33,7 +33,7 @@ pub fn text_required<'a, 'n>(
     table.access_required::<&str>(slot, type_, method)
 }
 
-/// Returns the bytes of the list in a slot, or `None` where it is absent.
+/// Returns the bytes of the byte vector in a slot, or `None` where it is absent.
 pub fn bytes_field<'a, 'n>(
     table: &Table<'a>,
     slot: usize,
@@ -45,7 +45,7 @@ pub fn bytes_field<'a, 'n>(
     table.access::<&[u8]>(slot, type_, method)
 }
 
-/// Returns the bytes of the same list, which must be there.
+/// Returns the same bytes, where they are required.
 pub fn bytes_required<'a, 'n>(
     table: &Table<'a>,
     slot: usize,
@@ -57,8 +57,7 @@ pub fn bytes_required<'a, 'n>(
     table.access_required::<&[u8]>(slot, type_, method)
 }
 
-/// Returns the vector in a slot that refers to a list of texts, or `None` where the field is
-/// absent.
+/// Returns the vector of strings in a slot, or `None` where it is absent.
 pub fn text_vector<'a, 'n>(
     table: &Table<'a>,
     slot: usize,
@@ -70,7 +69,7 @@ pub fn text_vector<'a, 'n>(
     table.access::<Vector<'a, planus_read::Result<&'a str>>>(slot, type_, method)
 }
 
-/// Returns the same vector, which must be there.
+/// Returns the same vector, where it is required.
 pub fn text_vector_required<'a, 'n>(
     table: &Table<'a>,
     slot: usize,
@@ -82,8 +81,7 @@ pub fn text_vector_required<'a, 'n>(
     table.access_required::<Vector<'a, planus_read::Result<&'a str>>>(slot, type_, method)
 }
 
-/// Returns the item at a position of a vector of texts, or `None` where the vector doesn't have it.
-/// Of the vector of some texts it is the text at this position.
+/// Returns the item at an index of a vector of strings, or `None` out of bounds.
 pub fn text_item<'a>(
     vector: &Vector<'a, planus_read::Result<&'a str>>,
     index: usize,

@@ -1,4 +1,4 @@
-//! Unions and vectors of unions, read back.
+//! Unions and union vectors, read back.
 ghost use Rattle.planus.specs.UnionAccessors.{IsUnionField, IsUnionRequired};
 ghost use Rattle.planus.specs.UnionAccessors.{IsUnionVector, IsUnionVectorRequired};
 ghost use Rattle.planus.specs.UnionAccessors.{IsUnionItem};
@@ -8,9 +8,8 @@ use planus_read::table_reader::Table;
 use planus_read::{TableReadUnion, VectorReadUnion};
 use planus_view::UnionVector;
 
-/// Returns the union whose tag is in a slot and whose value is in the next, or `None` where it is
-/// absent. `K` is the kind of its offsets. Its contract says what is read back, as that of
-/// [`plain_field`](crate::plain_field): the variant that was written.
+/// Returns the union, of offset kind `K`, whose tag is in a slot and whose value is in the next, or
+/// `None` where it is absent. It is the variant that was written.
 pub fn union_field<'a, 'n, K, U: TableReadUnion<'a>>(
     table: &Table<'a>,
     slot: usize,
@@ -22,7 +21,7 @@ pub fn union_field<'a, 'n, K, U: TableReadUnion<'a>>(
     table.access_union::<U>(slot, type_, method)
 }
 
-/// Returns the same union, which must be there.
+/// Returns the same union, where it is required.
 pub fn union_required<'a, 'n, U: TableReadUnion<'a>>(
     table: &Table<'a>,
     slot: usize,
@@ -34,8 +33,8 @@ pub fn union_required<'a, 'n, U: TableReadUnion<'a>>(
     table.access_union_required::<U>(slot, type_, method)
 }
 
-/// Returns the vector of unions whose tags are in a slot and whose values are in the next, or
-/// `None` where it is absent.
+/// Returns the union vector whose tags are in a slot and whose values are in the next, or `None`
+/// where it is absent.
 pub fn union_vector<'a, 'n, U: 'a>(
     table: &Table<'a>,
     slot: usize,
@@ -47,7 +46,7 @@ pub fn union_vector<'a, 'n, U: 'a>(
     table.access_union_vector::<UnionVector<'a, U>>(slot, type_, method)
 }
 
-/// Returns the same vector, which must be there.
+/// Returns the same vector, where it is required.
 pub fn union_vector_required<'a, 'n, U: 'a>(
     table: &Table<'a>,
     slot: usize,
@@ -59,8 +58,7 @@ pub fn union_vector_required<'a, 'n, U: 'a>(
     table.access_union_vector_required::<UnionVector<'a, U>>(slot, type_, method)
 }
 
-/// Returns the item at a position of a vector of unions, or `None` where the vector doesn't have
-/// it. Of the vector of some unions it is the one at this position.
+/// Returns the item at an index of a union vector, or `None` out of bounds.
 pub fn union_item<'a, 'n, U: VectorReadUnion<'a>>(
     vector: &UnionVector<'a, U>,
     index: usize,

@@ -4,7 +4,6 @@ ghost use Rattle.std.specs.Option.{option_map};
 
 use planus_write::{Offset, UnionOffset};
 
-/// Returns the tag of a union, if there is one.
 #[inline(always)]
 pub(crate) fn tag_of<T>(union: &Option<UnionOffset<T>>) -> Option<u8>
     ensures { result ≡ option_map (λ union. union.tag) union.now }
@@ -15,7 +14,6 @@ pub(crate) fn tag_of<T>(union: &Option<UnionOffset<T>>) -> Option<u8>
     }
 }
 
-/// Returns the reference to the value of a union, if there is one.
 #[inline(always)]
 pub(crate) fn value_of<T>(union: &Option<UnionOffset<T>>) -> Option<Offset<()>>
     ensures { result ≡ option_map (λ union. union.offset) union.now }

@@ -1,9 +1,9 @@
-//! One vector of unions of a table, in two slots.
+//! One union vector of a table, in two slots.
 
 use std::marker::PhantomData;
 
-/// A vector of unions of kind `T` for the slot of its tags and the slot of its values. It stands in
-/// a list of fields as a [`FieldAt`](crate::FieldAt) does.
+/// A union vector of kind `T` for the slot of its tags and the slot of its values, an item of a
+/// list of fields like [`FieldAt`](crate::FieldAt).
 #[derive(Drop)]
 pub struct UnionVectorAt<const TAGS: usize, const VALUES: usize, T, V> {
     /// The vector that is written.

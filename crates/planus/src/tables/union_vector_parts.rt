@@ -1,4 +1,4 @@
-//! The references to the tags and to the values of a vector of unions.
+//! The references to the tags and to the values of a union vector.
 ghost use Rattle.std.specs.Prelude.{◌≡◌};
 ghost use Rattle.std.specs.Option.{option_map};
 ghost use Rattle.planus_read.specs.Values.{tags, values};
@@ -7,7 +7,7 @@ ghost use Rattle.planus_write.specs.lemmas.FieldItemLaws.{tags_are_item, values_
 
 use planus_write::{List, Offset, UnionVectorOffset, WriteAsPrimitive};
 
-/// A reference to the tags of a vector of unions, as a field of a table.
+/// A reference to the tags of a union vector, as a field of a table.
 #[derive(Clone, Copy)]
 pub struct TagsField(Offset<List<u8>>);
 
@@ -26,7 +26,7 @@ impl WriteAsPrimitive<Offset<List<u8>>> for TagsField {
     ghost is_item = { λ field. tags_are_item field.0.distance };
 }
 
-/// A reference to the values of a vector of unions, as a field of a table.
+/// A reference to the values of a union vector, as a field of a table.
 #[derive(Clone, Copy)]
 pub struct ValuesField(Offset<List<Offset<()>>>);
 
@@ -45,7 +45,6 @@ impl WriteAsPrimitive<Offset<List<Offset<()>>>> for ValuesField {
     ghost is_item = { λ field. values_are_item field.0.distance };
 }
 
-/// Returns the field of the tags of a vector of unions, if there is one.
 #[inline(always)]
 pub(crate) fn tags_of<T>(vector: &Option<UnionVectorOffset<T>>) -> Option<TagsField>
     ensures { result ≡ option_map (λ vector. record { 0 = vector.tags }) vector.now }
@@ -56,7 +55,6 @@ pub(crate) fn tags_of<T>(vector: &Option<UnionVectorOffset<T>>) -> Option<TagsFi
     }
 }
 
-/// Returns the field of the values of a vector of unions, if there is one.
 #[inline(always)]
 pub(crate) fn values_of<T>(vector: &Option<UnionVectorOffset<T>>) -> Option<ValuesField>
     ensures { result ≡ option_map (λ vector. record { 0 = vector.values }) vector.now }

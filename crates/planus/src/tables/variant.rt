@@ -10,22 +10,21 @@ use planus_fields::{WriteAs, WriteAsOptionalUnion};
 use planus_write::{BuildError, Builder, Offset, UnionOffset, WriteAsUnion};
 use std::marker::PhantomData;
 
-/// A union that has the tag `TAG`, which is above 0, and whose value is encoded as a `K`: it is
-/// written with the union, if it isn't written already. [`variant`](crate::variant) writes one.
+/// A union with the tag `TAG`, above 0, and a value encoded as a `K`, which is written with it
+/// unless it was written before. [`variant`](crate::variant) creates one.
 #[derive(Drop)]
 #[derive_where(Debug; V)]
 pub struct Variant<const TAG: u8, K, V> {
     /// The value.
     pub value: V,
-    /// As what it is encoded.
+    /// The type as which it is encoded.
     #[derive_where(skip)]
     pub _marker: PhantomData<K>,
-    // The tag 0 is that of no union.
+    // Tag 0 means no union.
     ghost is_tagged: { 0 < TAG },
 }
 
-/// Writes a [`Variant`], as `TAG: KIND = VALUE`: its tag, the type as which its value is encoded, and
-/// the value.
+/// Creates a [`Variant`] from `TAG: KIND = VALUE`, where the value is encoded as the type `KIND`.
 #[macro_export]
 macro_rules! variant {
     ($tag:literal: $kind:ty = $value:expr) => {

@@ -1,4 +1,4 @@
-//! What the readers answer beside what the plain reader does, kind by kind.
+//! The readers' results beside the plain reader's, kind by kind.
 
 use super::found::Found;
 use super::kinds::{Held, Pair, Row, position};
@@ -13,8 +13,7 @@ use planus::{
 use planus_read::errors::ErrorKind;
 use planus_view::{Items, ReadView, VectorOf};
 
-// A position in bytes. The piece that is read begins at another one, and the bytes themselves begin
-// at some offset in their buffer.
+// A position in a slice that begins at another one, of bytes at some offset in their buffer.
 #[derive(Clone, Copy)]
 pub struct Spot<'a> {
     pub bytes: &'a [u8],
@@ -24,22 +23,18 @@ pub struct Spot<'a> {
 }
 
 impl<'a> Spot<'a> {
-    // Another position of the same piece.
     fn at(&self, at: i128) -> Spot<'a> {
         Spot { at, ..*self }
     }
 
-    // A position in a piece that begins at another one.
     fn of(&self, from: i128, at: i128) -> Spot<'a> {
         Spot { from, at, ..*self }
     }
 
-    // The position, counted from the buffer's start.
     fn place(&self) -> i128 {
         self.start.wrapping_add(self.at)
     }
 
-    // Whether an error is of this kind, and has these names and the start of the piece.
     pub fn is_error(&self, error: Located<'_>, kind: ErrorKind, names: (&str, &str)) -> bool {
         let location = error.source_location;
         same_kind(error.error_kind, kind)
@@ -48,7 +43,6 @@ impl<'a> Spot<'a> {
     }
 }
 
-// Whether two errors are of one kind, of those that readers have.
 pub fn same_kind(read: ErrorKind, plain: ErrorKind) -> bool {
     match (read, plain) {
         (ErrorKind::InvalidOffset, ErrorKind::InvalidOffset)
@@ -77,7 +71,6 @@ pub fn same_kind(read: ErrorKind, plain: ErrorKind) -> bool {
     }
 }
 
-// Whether a reader answers as the plain reader does.
 pub fn same<T: PartialEq + Copy>(read: Answer<T>, plain: Answer<T>) -> bool {
     match (read, plain) {
         (Ok(value), Ok(plain)) => value == plain,
@@ -86,7 +79,6 @@ pub fn same<T: PartialEq + Copy>(read: Answer<T>, plain: Answer<T>) -> bool {
     }
 }
 
-// Whether a reader of a number answers as the plain reader does.
 pub fn same_number<T: Into<i128>>(read: Answer<T>, plain: Option<i128>) -> bool {
     match read {
         Ok(value) => plain == Some(value.into()),
@@ -94,9 +86,7 @@ pub fn same_number<T: Into<i128>>(read: Answer<T>, plain: Option<i128>) -> bool 
     }
 }
 
-// What is read as a field of a table.
 pub trait Field: Copy {
-    // Whether an answer is that of the plain reader.
     fn agrees(read: Answer<Self>, spot: Spot<'_>) -> bool;
 }
 
@@ -182,9 +172,7 @@ impl<'a, T: VectorRead<'a> + Item> Field for Vector<'a, T> {
     }
 }
 
-// What is read as an item of a vector.
 pub trait Item: Copy {
-    // Whether it is what the plain reader reads, where the tag of a union is at the first position.
     fn is_at(&self, tag: i128, spot: Spot<'_>) -> bool;
 }
 
@@ -247,7 +235,7 @@ impl<'a> Item for Result<Held<'a>, Error> {
     }
 }
 
-// A vector as the plain reader finds it in the piece of a spot. The tags of unions lie elsewhere.
+// A vector as the plain reader finds it in the slice of a spot. The tags of unions are elsewhere.
 #[derive(Clone, Copy)]
 struct PlainItems<'a> {
     tags: i128,
@@ -257,14 +245,11 @@ struct PlainItems<'a> {
 }
 
 impl<'a> PlainItems<'a> {
-    // The position of an item.
     fn position(&self, i: usize) -> i128 {
         let before = (i as i128).wrapping_mul(self.stride);
         self.list.items.wrapping_add(before)
     }
 
-    // Whether there is an item, and it is what the plain reader reads in the piece that begins at
-    // a position.
     fn has<T: Item>(&self, item: Option<T>, i: usize, from: i128) -> bool {
         let tag = self.tags.wrapping_add(i as i128);
         match item {
@@ -274,8 +259,8 @@ impl<'a> PlainItems<'a> {
     }
 }
 
-// Whether an item is that of the plain vector by its position and from the front, and another one
-// from the back. One that is taken from the front is read in the piece that begins with it.
+// Whether the item by position, from the front and from the back is that of the plain vector. An
+// item from the front is read in the slice that begins with it.
 fn three_agree<V: ReadView>(
     vector: VectorOf<V>,
     front: &mut Items<VectorOf<V>>,
@@ -291,7 +276,6 @@ where
         && plain.has(back.next_back(), behind, plain.list.items)
 }
 
-// The same of all items.
 fn all_agree<V: ReadView>(
     vector: VectorOf<V>,
     front: &mut Items<VectorOf<V>>,
@@ -310,8 +294,6 @@ where
     len as u64 == plain.list.count && vector.get(len).is_none()
 }
 
-// Whether the items of a vector are those of the plain one by each way to come to them: by their
-// position, from the front, and from the back.
 fn items_agree<V: ReadView>(vector: VectorOf<V>, plain: PlainItems<'_>) -> bool
 where
     V::Item: Item,
@@ -323,12 +305,9 @@ where
         && back.next_back().is_none()
 }
 
-// What is read as a union field of a table, or as an item of a vector of unions.
 pub trait Union: Copy {
-    // Whether an answer for this tag is that of the plain reader.
     fn agrees(read: Answer<Self>, tag: u8, spot: Spot<'_>) -> bool;
 
-    // The name of the vector in the error of an item.
     fn vector() -> &'static str;
 }
 
@@ -362,7 +341,6 @@ impl<'a> Union for Held<'a> {
     }
 }
 
-// Whether an item is what the plain reader reads, where its tag is at the first position.
 fn union_is<T: Union>(item: Result<T, Error>, tag: i128, spot: Spot<'_>) -> bool {
     let tag = (number(spot.bytes, tag, 1).unwrap_or(0) % 256) as u8;
     match item {
@@ -374,9 +352,7 @@ fn union_is<T: Union>(item: Result<T, Error>, tag: i128, spot: Spot<'_>) -> bool
     }
 }
 
-// What is read as a field of two slots.
 pub trait UnionField: Copy {
-    // Whether an answer is that of the plain reader, where the tags are at the first position.
     fn agrees(read: Answer<Self>, tags: i128, spot: Spot<'_>) -> bool;
 }
 

@@ -1,4 +1,4 @@
-//! Equal contents, which a builder writes once, and its caches while memory is refused.
+//! Equal contents, which a builder writes once, and its caches without memory.
 
 use super::runs::{add, add_field, add_finish};
 use super::settings::Switches;
@@ -9,14 +9,12 @@ use planus_testing::{exhaust, holds_or_says};
 use std::alloc::{AllocError, Global};
 use std::test::Fail;
 
-// A table with one number of two bytes in slot 0.
 fn one_number(alloc: Global, value: u64) -> Result<Step, AllocError> {
     let mut fields = Vec::new(alloc);
     add_field(&mut fields, 0, FieldValue::Number { width: 2, value })?;
     Ok(Step::Table(fields))
 }
 
-// Whether a replay gives one finish, of these bytes.
 fn replays_to(alloc: Global, caches: Caches, steps: &[Step], want: &[u8]) -> bool {
     match replay(alloc, caches, steps) {
         Ok(got) => matches!(got.as_slice(), [finished] if finished.bytes.as_slice() == want),
@@ -24,20 +22,17 @@ fn replays_to(alloc: Global, caches: Caches, steps: &[Step], want: &[u8]) -> boo
     }
 }
 
-// Adds two tables with equal vtables, of which the second is the root.
 fn push_equal_tables(alloc: Global, steps: &mut Vec<Step>) -> Result<(), AllocError> {
     add(steps, one_number(alloc, 24))?;
     add(steps, one_number(alloc, 7))?;
     add_finish(steps, 1)
 }
 
-// Whether their vtable is written once where equal vtables are, and else twice.
 fn vtables_are_shared(alloc: Global, steps: &[Step]) -> bool {
     replays_to(alloc, Switches::of(7).caches(u64::MAX), steps, ONE_VTABLE)
         && replays_to(alloc, Switches::of(6).caches(u64::MAX), steps, TWO_VTABLES)
 }
 
-// The same of the steps of two tables.
 fn equal_vtables_in(alloc: Global) -> Result<bool, AllocError> {
     let mut steps = Vec::new(alloc);
     push_equal_tables(alloc, &mut steps)?;
@@ -50,7 +45,6 @@ fn equal_vtables(rt: HostRuntime) -> Result<(), Fail> {
     Ok(())
 }
 
-// The distances of a text, a byte list and a table, or their refusals.
 type Three = [Result<u32, BuildError>; 3];
 
 pub fn text_at(builder: &mut Builder, letters: &str) -> Result<u32, BuildError> {
@@ -67,7 +61,6 @@ fn bytes_at(builder: &mut Builder, letters: &str) -> Result<u32, BuildError> {
     }
 }
 
-// A table, whose vtable is another where it is wide.
 fn table_at(builder: &mut Builder, wide: bool) -> Result<u32, BuildError> {
     if wide {
         put::<u32, u32>(builder, 7)?;
@@ -92,7 +85,7 @@ fn are_at(three: Three, want: [u32; 3]) -> bool {
         && matches!(table, Ok(at) if at == want[2])
 }
 
-// With one more of a kind there are so many that a cache has them.
+// With one more of a kind, its cache is used.
 const OTHERS: [&str; 15] = [
     "",
     "a",
@@ -111,8 +104,6 @@ const OTHERS: [&str; 15] = [
     "abcdefghijklmn",
 ];
 
-// Whether the others are written as texts and as byte lists, or found, and there are so many bytes
-// then.
 fn have_others(builder: &mut Builder, len: usize) -> bool {
     for letters in OTHERS {
         if text_at(builder, letters).is_err() || bytes_at(builder, letters).is_err() {
@@ -126,7 +117,7 @@ fn is_refused(at: Result<u32, BuildError>) -> bool {
     at == Err(BuildError::OutOfMemory)
 }
 
-// Whether contents for which a cache would be needed are refused, and those before are found.
+// Contents that would need memory for a cache fail, and earlier ones are found.
 fn only_equal_contents_are_found(builder: &mut Builder, before: &[u8]) -> bool {
     let room = builder.room();
     is_refused(text_at(builder, "Hi"))
@@ -137,7 +128,6 @@ fn only_equal_contents_are_found(builder: &mut Builder, before: &[u8]) -> bool {
         && are_at(write_three(builder, "Axe", false), [8, 16, 432])
 }
 
-// Tells that with all memory taken; nothing where memory was left.
 fn found_without_memory(
     alloc: Global,
     builder: &mut Builder,
@@ -150,13 +140,12 @@ fn found_without_memory(
     Ok(if exhausted { Some(found) } else { None })
 }
 
-// What stands in front, the last of it first. The second of the three tables, which was written
-// while memory was refused, has the vtable of the first.
+// What is prepended, the last of it first. The second of the three tables, written without memory,
+// has the vtable of the first.
 const IN_FRONT: &[u8] = b"\xf8\xff\xff\xff\x07\0\0\0\x08\0\x08\0\0\0\x04\0\
     \x02\0\0\0Hi\0\0\x02\0\0\0Hi\0\0\
     \x68\xfe\xff\xff\x07\0\0\0";
 
-// Whether what was refused is written once memory is there again, and all of it is found.
 fn written_again(builder: &mut Builder, before: &[u8]) -> bool {
     are_at(write_three(builder, "Hi", true), [440, 448, 464])
         && have_others(builder, 464)
@@ -164,8 +153,6 @@ fn written_again(builder: &mut Builder, before: &[u8]) -> bool {
         && builder.as_slice().ends_with(before)
 }
 
-// Whether a builder with room refuses contents for whose cache there is no memory, and writes them
-// once there is; nothing where memory was left.
 fn entries_are_refused(alloc: Global, builder: &mut Builder) -> Result<Option<bool>, AllocError> {
     let first = are_at(write_three(builder, "Axe", false), [8, 16, 32]);
     let others = have_others(builder, 424);
@@ -179,7 +166,6 @@ fn entries_are_refused(alloc: Global, builder: &mut Builder) -> Result<Option<bo
     }
 }
 
-// The same of a new builder with room for 1024 bytes.
 fn entries_in_1024_bytes(alloc: Global, caches: Caches) -> Result<Option<bool>, AllocError> {
     match Builder::with_caches(alloc, 1024, caches) {
         Ok(mut builder) => entries_are_refused(alloc, &mut builder),

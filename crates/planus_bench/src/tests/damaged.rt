@@ -1,5 +1,5 @@
-//! Every prefix and every one-byte change of a few buffers, read by every accessor with all memory
-//! taken, beside the plain reader.
+//! Every prefix and every one-byte change of a few buffers, read by every accessor without memory,
+//! beside the plain reader.
 
 use super::agreement::same_number;
 use super::found::{lists_agree, tables_agree};
@@ -11,13 +11,13 @@ use planus_testing::exhaust;
 use std::alloc::{AllocError, Global};
 use std::test::Fail;
 
-// A weapon with the name `Axe` and a damage of 24.
+// The weapon Axe with a damage of 24.
 const WEAPON: [u8; 32] = [
     4, 0, 0, 0, 0xf4, 0xff, 0xff, 0xff, 16, 0, 0, 0, 24, 0, 0, 0, 8, 0, 10, 0, 4, 0, 8, 0, 3, 0, 0,
     0, b'A', b'x', b'e', 0,
 ];
 
-// An orc with 80 hit points and one weapon, the same, which it has equipped.
+// An orc with 80 hit points and this weapon, which it has equipped.
 const ORC: [u8; 84] = [
     4, 0, 0, 0, 0xec, 0xff, 0xff, 0xff, 40, 0, 0, 0, 28, 0, 0, 0, 40, 0, 0, 0, 80, 0, 1, 0, 16, 0,
     19, 0, 16, 0, 4, 0, 0, 0, 8, 0, 18, 0, 12, 0, 1, 0, 0, 0, 12, 0, 0, 0, 3, 0, 0, 0, b'O', b'r',
@@ -25,21 +25,20 @@ const ORC: [u8; 84] = [
     b'A', b'x', b'e', 0,
 ];
 
-// A table whose slots 0 and 1 hold a vector of two unions, of tags 1 and 2 and the texts `A` and
-// `B`.
+// Slots 0 and 1 hold a union vector of tags 1 and 2 and the strings `A` and `B`.
 const LOOT: [u8; 58] = [
     4, 0, 0, 0, 0xf4, 0xff, 0xff, 0xff, 16, 0, 0, 0, 20, 0, 0, 0, 8, 0, 12, 0, 4, 0, 8, 0, 2, 0, 0,
     0, 1, 2, 0, 0, 2, 0, 0, 0, 16, 0, 0, 0, 4, 0, 0, 0, 1, 0, 0, 0, b'B', 0, 0, 0, 1, 0, 0, 0,
     b'A', 0,
 ];
 
-// A weapon with no name and a damage of -162, as flatc 2.0.8 and the builders for C++ and Python
-// write it: with its vtable in front of it.
+// By flatc 2.0.8 and the builders for C++ and Python, with the vtable before the table: a weapon
+// with no name and a damage of -162.
 const OF_OTHERS: [u8; 20] = [
     12, 0, 0, 0, 8, 0, 8, 0, 0, 0, 6, 0, 8, 0, 0, 0, 0, 0, 0x5e, 0xff,
 ];
 
-// A monster, as flatc 2.0.8 and the builder for C++ write it.
+// By flatc 2.0.8 and the builder for C++: a monster.
 const RAIDER: [u8; 148] = [
     0x14, 0, 0, 0, 0x10, 0, 0x18, 0, 6, 0, 8, 0, 0x0c, 0, 0x10, 0, 5, 0, 0x14, 0, 0x10, 0, 0, 0, 0,
     1, 0x3d, 0, 0x58, 0, 0, 0, 0x48, 0, 0, 0, 0x18, 0, 0, 0, 0x0c, 0, 0, 0, 8, 0, 8, 0, 0, 0, 6, 0,
@@ -50,12 +49,11 @@ const RAIDER: [u8; 148] = [
     0x71, 0xc3, 0xbc, 0x5c, 0x0a, 0x7a, 0x59, 0x73, 0, 0, 0,
 ];
 
-// The slots of each of these tables, and one more.
 const FEW_SLOTS: [usize; 3] = [0, 1, 2];
 
 const ALL_SLOTS: [usize; 9] = [0, 1, 2, 3, 4, 5, 6, 7, 8];
 
-// Slots that no vtable has: twice such a slot, or a little more, leaves 16 or 64 bits.
+// Slots that no vtable has: doubled, with a little more, they overflow 16 or 64 bits.
 const FAR_SLOTS: [usize; 7] = [
     32767,
     32768,
@@ -98,7 +96,6 @@ fn truths_agree(piece: SliceWithStartOffset<'_>, f: usize) -> bool {
     }
 }
 
-// Whether the readers of numbers and truth values and the plain reader agree at an offset.
 fn numbers_agree(piece: SliceWithStartOffset<'_>, f: usize) -> bool {
     unsigned_agree(piece, f) && signed_agree(piece, f) && truths_agree(piece, f)
 }
@@ -118,8 +115,6 @@ fn heads_agree(piece: SliceWithStartOffset<'_>, f: usize) -> bool {
     }
 }
 
-// Whether all readers agree at this offset of these bytes, which start here, and at these slots of
-// the table.
 fn all_agree(bytes: &[u8], f: usize, start: u32, slots: &[usize]) -> bool {
     let piece = SliceWithStartOffset::new(bytes, start as usize);
     numbers_agree(piece, f)
@@ -143,8 +138,6 @@ fn prefixes_agree(bytes: &[u8], slots: &[usize]) -> Result<(), (usize, usize)> {
     Ok(())
 }
 
-// The first byte and its new value at which readers disagree at the root, or at an offset that
-// begins with the byte.
 fn changes_agree(bytes: &mut [u8], slots: &[usize]) -> Result<(), (usize, usize)> {
     for at in 0..bytes.len() {
         let byte = bytes[at];
@@ -159,7 +152,6 @@ fn changes_agree(bytes: &mut [u8], slots: &[usize]) -> Result<(), (usize, usize)
     Ok(())
 }
 
-// Of the prefixes and of the changes of a buffer.
 type Differences = [Result<(), (usize, usize)>; 2];
 
 fn differences<const N: usize>(bytes: &[u8; N], slots: &[usize]) -> Differences {
@@ -180,7 +172,6 @@ fn all_differences() -> [Differences; 5] {
     ]
 }
 
-// The same with all memory taken. Tells whether it was.
 fn differences_without_memory(alloc: Global) -> Result<(bool, [Differences; 5]), AllocError> {
     let mut held: Vec<Vec<u8>> = Vec::with_capacity(alloc, 262144)?;
     let exhausted = exhaust(alloc, &mut held)?;

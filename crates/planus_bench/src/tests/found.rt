@@ -1,4 +1,4 @@
-//! The accessors of a table beside what the plain reader does, slot by slot.
+//! The accessors of a table beside the plain reader, slot by slot.
 
 use super::agreement::{Field, Spot, Union, UnionField, same_kind};
 use super::kinds::{Held, Pair, Row};
@@ -11,7 +11,6 @@ use planus::{
 };
 use planus_read::errors::ErrorKind;
 
-// A table as its reader and the plain reader found it, in bytes that start here.
 #[derive(Clone, Copy)]
 pub struct Found<'a> {
     pub table: Table<'a>,
@@ -19,8 +18,6 @@ pub struct Found<'a> {
     pub start: i128,
 }
 
-// What an accessor and its form that wants a field to be there answered, where all errors have the
-// names and the start of the table.
 #[derive(Clone, Copy)]
 struct Both<T> {
     read: Answer<Option<T>>,
@@ -28,7 +25,6 @@ struct Both<T> {
 }
 
 impl<T: Copy> Both<T> {
-    // Whether there is no field.
     fn is_absent(&self) -> bool {
         matches!(
             (self.read, self.required),
@@ -36,7 +32,6 @@ impl<T: Copy> Both<T> {
         )
     }
 
-    // Whether the field fails with this error.
     fn fails(&self, kind: ErrorKind) -> bool {
         match (self.read, self.required) {
             (Err(read), Err(required)) => same_kind(read, kind) && same_kind(required, kind),
@@ -44,7 +39,6 @@ impl<T: Copy> Both<T> {
         }
     }
 
-    // What is there, or the error of its read.
     fn there(&self) -> Option<(Answer<T>, Answer<T>)> {
         match self.read {
             Ok(None) => None,
@@ -55,7 +49,6 @@ impl<T: Copy> Both<T> {
 }
 
 impl<'a> Found<'a> {
-    // A position in the table's piece.
     fn spot(&self, at: i128) -> Spot<'a> {
         Spot {
             bytes: self.plain.bytes,
@@ -65,7 +58,6 @@ impl<'a> Found<'a> {
         }
     }
 
-    // An answer without its error's location, where that is the table's.
     fn unlocated<T>(&self, read: Result<T, Located<'_>>) -> Option<Answer<T>> {
         match read {
             Ok(value) => Some(Ok(value)),
@@ -137,7 +129,6 @@ impl<'a> Found<'a> {
         }
     }
 
-    // By the accessors of numbers and texts.
     pub fn values_agree(&self, slot: usize) -> bool {
         self.field_agrees::<&str>(slot)
             && self.field_agrees::<i16>(slot)
@@ -184,8 +175,6 @@ impl<'a> Found<'a> {
     }
 }
 
-// Whether the table at an offset is what the plain reader finds, in each of these slots by every
-// accessor.
 pub fn tables_agree(piece: SliceWithStartOffset<'_>, f: usize, slots: &[usize]) -> bool {
     let start = piece.offset_from_start() as i128;
     let plain = table(piece.as_slice(), 0, f as i128);
@@ -211,7 +200,6 @@ fn field_agrees<'a, T: TableRead<'a> + Field>(piece: SliceWithStartOffset<'a>, f
     T::agrees(T::from_buffer(piece, f), spot)
 }
 
-// Whether the readers of lists agree at an offset.
 pub fn lists_agree(piece: SliceWithStartOffset<'_>, f: usize) -> bool {
     field_agrees::<&str>(piece, f)
         && field_agrees::<&[u8]>(piece, f)

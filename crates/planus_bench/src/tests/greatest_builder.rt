@@ -1,4 +1,4 @@
-//! A builder with as many bytes as there may be.
+//! A builder with as many bytes as it can have.
 
 use super::caches::text_at;
 use super::parts::{Repeated, finish_last};
@@ -7,10 +7,8 @@ use planus::{BuildError, Builder};
 use std::alloc::Global;
 use std::test::Fail;
 
-// What a builder may have, in bytes.
 const GREATEST: usize = 2147483647;
 
-// Writes all of them but those of a finish, and finishes.
 fn fills(builder: &mut Builder) -> bool {
     builder
         .write_with(GREATEST - 4, 0, &Repeated { byte: 7 })
@@ -18,7 +16,6 @@ fn fills(builder: &mut Builder) -> bool {
         && finish_last(builder).is_ok()
 }
 
-// Whether they are all there.
 fn is_full(builder: &Builder) -> bool {
     let bytes = builder.as_slice();
     bytes.len() == GREATEST
@@ -27,7 +24,7 @@ fn is_full(builder: &Builder) -> bool {
         && builder.room() == 0
 }
 
-// Whether one byte more, an empty text and a finish are too large, and change nothing.
+// Whether one more byte, an empty string and a finish are too large, and change nothing.
 fn no_more_is_written(builder: &mut Builder) -> bool {
     let root = builder.current_offset::<()>();
     builder.write_with(1, 0, &Repeated { byte: 8 }) == Err(BuildError::TooLarge)
@@ -37,14 +34,12 @@ fn no_more_is_written(builder: &mut Builder) -> bool {
         && is_full(builder)
 }
 
-// All of this, and that it can be used again.
 fn is_filled(builder: &mut Builder) -> bool {
     let full = fills(builder) && is_full(builder) && no_more_is_written(builder);
     builder.clear();
     full && text_at(builder, "Axe") == Ok(8) && builder.room() == GREATEST - 8
 }
 
-// The same of a new builder; nothing where there is no memory for it.
 fn new_is_filled(alloc: Global) -> Option<bool> {
     match Builder::with_capacity(alloc, GREATEST) {
         Ok(mut builder) => Some(is_filled(&mut builder)),

@@ -1,5 +1,4 @@
-//! Each iterator over a vector and over a vector of unions beside a plain program, which lists the
-//! ranges of positions and takes them from both ends.
+//! Each iterator over a vector and a union vector beside a plain program, which lists ranges.
 
 ghost use Rattle.std.specs.Prelude.{◌<◌};
 
@@ -10,17 +9,16 @@ use planus_view::{
 };
 use std::process::Abort;
 
-// The list of the numbers 1 to 6 of two bytes each, and a reference to it in front.
+// A vector of the numbers 1 to 6 of two bytes each, after a reference to it.
 const NUMBERS: [u8; 20] = [4, 0, 0, 0, 6, 0, 0, 0, 1, 0, 2, 0, 3, 0, 4, 0, 5, 0, 6, 0];
 
-// Unions of the tags 1 to 6, and in place of their references the same numbers; the references to
-// both in front.
+// Unions of the tags 1 to 6 with the same numbers for references, after references to both.
 const UNIONS: [u8; 48] = [
     8, 0, 0, 0, 16, 0, 0, 0, 6, 0, 0, 0, 1, 2, 3, 4, 5, 6, 0, 0, 6, 0, 0, 0, 1, 0, 0, 0, 2, 0, 0,
     0, 3, 0, 0, 0, 4, 0, 0, 0, 5, 0, 0, 0, 6, 0, 0, 0,
 ];
 
-// A view whose items tell their position in the whole, counted from 1.
+// A view whose items return their position in the whole, counted from 1.
 trait Numbered: ReadView {
     fn number(item: Option<Self::Item>) -> Option<i128>;
 }
@@ -43,7 +41,6 @@ impl<'a> Numbered for UnionVector<'a, TaggedPlace<'a>> {
     }
 }
 
-// The ways to cut positions.
 #[derive(Clone, Copy)]
 enum Way {
     Items,
@@ -54,10 +51,9 @@ enum Way {
     Windows,
 }
 
-// A range goes from its first position up to its second.
 type Positions = (i128, i128);
 
-// Range i of n positions for the size c, if there is one.
+// Range i of n positions for the size c.
 fn range(way: Way, n: i128, c: i128, i: i128) -> Option<Positions> {
     let before = i.wrapping_mul(c);
     let after = before.wrapping_add(c);
@@ -76,7 +72,7 @@ fn range(way: Way, n: i128, c: i128, i: i128) -> Option<Positions> {
     if is_there { Some((lo, hi)) } else { None }
 }
 
-// What is left of the ranges of n positions for a size: those from `front` up to `back`.
+// The ranges of n positions for a size that are left, from `front` up to `back`.
 #[derive(Clone, Copy)]
 struct Left {
     way: Way,
@@ -87,7 +83,6 @@ struct Left {
 }
 
 impl Left {
-    // All ranges; there are no more than positions.
     fn all(way: Way, n: usize, size: usize) -> Left {
         let (n, size) = ((n % 8) as i128, (size % 8) as i128);
         let mut back = 0;
@@ -110,7 +105,6 @@ impl Left {
         (self.back.wrapping_sub(self.front).max(0) % 8) as usize
     }
 
-    // What is left once `more` of them were dropped, or all.
     fn without(&self, front: i128, back: i128) -> Left {
         let mut left = *self;
         left.front = left.front.wrapping_add(front).min(left.back);
@@ -145,7 +139,6 @@ impl Left {
     }
 }
 
-// Whether a view has exactly the positions of a range.
 fn is_range<V: Numbered>(view: V, (lo, hi): Positions) -> bool {
     let len = view.len();
     if len == 0 {
@@ -155,7 +148,6 @@ fn is_range<V: Numbered>(view: V, (lo, hi): Positions) -> bool {
         && V::number(Some(view.item(len - 1))) == Some(hi)
 }
 
-// Whether there is a view exactly where there is a range, and it has its positions.
 fn is_taken<V: Numbered>(view: Option<V>, range: Option<Positions>) -> bool {
     match (view, range) {
         (Some(view), Some(range)) => is_range(view, range),
@@ -164,7 +156,6 @@ fn is_taken<V: Numbered>(view: Option<V>, range: Option<Positions>) -> bool {
     }
 }
 
-// Whether a step of this kind takes what the plain program does.
 fn sub_view_agrees<V: Numbered, C: Cut>(
     ours: &mut SubViews<V, C>,
     left: &mut Left,
@@ -181,8 +172,6 @@ fn sub_view_agrees<V: Numbered, C: Cut>(
     is_taken(got, want) && ours.size_hint() == (after.len(), Some(after.len()))
 }
 
-// Whether five steps, each one of four kinds, and then the last one take what the plain program
-// does.
 fn sub_views_agree<V: Numbered, C: Cut>(
     mut ours: SubViews<V, C>,
     mut left: Left,
@@ -198,7 +187,6 @@ fn sub_views_agree<V: Numbered, C: Cut>(
     is_taken(ours.last(), want)
 }
 
-// The same of a step over the items.
 fn item_agrees<V: Numbered>(ours: &mut Items<V>, left: &mut Left, kind: u16) -> bool {
     let got = match kind {
         0 => ours.next(),
@@ -211,7 +199,6 @@ fn item_agrees<V: Numbered>(ours: &mut Items<V>, left: &mut Left, kind: u16) -> 
     is_number::<V>(got, want) && ours.size_hint() == (after.len(), Some(after.len()))
 }
 
-// The same of five of them and the last one.
 fn items_agree<V: Numbered>(mut ours: Items<V>, mut left: Left, mut word: u16) -> bool {
     for _ in 0..5u8 {
         if !item_agrees(&mut ours, &mut left, word % 4) {
@@ -223,7 +210,6 @@ fn items_agree<V: Numbered>(mut ours: Items<V>, mut left: Left, mut word: u16) -
     is_number::<V>(ours.last(), want)
 }
 
-// Whether there is an item exactly where there is a range, and it is that of its end.
 fn is_number<V: Numbered>(item: Option<V::Item>, range: Option<Positions>) -> bool {
     match range {
         Some((_, hi)) => V::number(item) == Some(hi),
@@ -231,7 +217,6 @@ fn is_number<V: Numbered>(item: Option<V::Item>, range: Option<Positions>) -> bo
     }
 }
 
-// Whether all words of five steps agree, and the same number of ranges is counted.
 fn cuts_agree<V: Numbered, C: Cut>(view: V, way: Way, size: usize) -> bool
     requires { 0 < size }
 {
@@ -254,7 +239,6 @@ fn items_of_all_words_agree<V: Numbered>(view: V) -> bool {
     Items::new(view).count() == left.len()
 }
 
-// Whether what remains beside exact chunks is the rest at the back, or at the front.
 fn remainders_agree<V: Numbered>(view: V, size: usize) -> bool
     requires { 0 < size }
 {
@@ -278,7 +262,7 @@ fn all_cuts_agree<V: Numbered>(view: V, size: usize) -> bool
         && remainders_agree(view, size)
 }
 
-// The first length of 0 to 6 and the first size of 1 to 7 at which they don't.
+// The first length of 0 to 6 and size of 1 to 7 at which they differ.
 fn differs<V: Numbered>(six: V) -> Option<(usize, usize)> {
     for len in 0..=6usize {
         if len > six.len() {

@@ -1,4 +1,4 @@
-//! Readers of the tests' own, which tell where they read, or read what is there by its tag.
+//! Readers of the tests' own, which return where they read, or read by a tag.
 
 ghost use Rattle.std.specs.Prelude.{◌≡◌, ⊤, codes};
 
@@ -9,7 +9,7 @@ use planus::{
 };
 use planus_read::errors::ErrorKind;
 
-// Reads nothing, and tells where it was to read, counted from the buffer's start.
+// Reads nothing, and returns where it was to read, counted from the buffer's start.
 #[derive(Clone, Copy)]
 struct Spotted(usize);
 
@@ -31,7 +31,6 @@ pub fn position(place: Place<'_>) -> usize {
     }
 }
 
-// Whether a slot of a table holds this value, or none.
 pub fn slot_has<'a, T: TableRead<'a> + PartialEq + Drop>(
     table: Table<'a>,
     slot: usize,
@@ -43,7 +42,6 @@ pub fn slot_has<'a, T: TableRead<'a> + PartialEq + Drop>(
     }
 }
 
-// The two places of a vector of unions.
 #[derive(Clone, Copy)]
 pub struct Pair<'buf> {
     pub tags: Place<'buf>,
@@ -65,7 +63,6 @@ impl<'buf> TableReadUnionVector<'buf> for Pair<'buf> {
     }
 }
 
-// A table as an item of a vector.
 #[derive(Clone, Copy)]
 pub struct Row<'buf>(pub Table<'buf>);
 
@@ -90,7 +87,7 @@ impl<'buf> VectorReadInner<'buf> for Row<'buf> {
     }
 }
 
-// A union of a table, by tag 1, and a text, by tag 2.
+// A union of a table, by tag 1, and a string, by tag 2.
 #[derive(Clone, Copy)]
 pub enum Held<'buf> {
     Table(Table<'buf>),

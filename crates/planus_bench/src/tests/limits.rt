@@ -22,7 +22,7 @@ use std::alloc::Global;
 use std::marker::PhantomData;
 use std::test::Fail;
 
-// As large as the only field of an object can be.
+// The largest only field of an object.
 struct Largest;
 
 impl Primitive for Largest {
@@ -43,7 +43,6 @@ impl Primitive for Largest {
     const SIZE: usize = 65531;
 }
 
-// The bytes of one.
 #[derive(Clone, Copy)]
 struct Bytes<'a> {
     bytes: &'a [u8],
@@ -68,7 +67,6 @@ impl<'a> WriteAsPrimitive<Largest> for Bytes<'a> {
     }) };
 }
 
-// Writes a table of this field alone in slot 0, and finishes it.
 fn put_largest<'b>(builder: &'b mut Builder, field: Bytes<'_>) -> Result<&'b [u8], BuildError> {
     let mut writer: TableWriter<6> = TableWriter::default();
     writer.write_entry::<Largest>(0);
@@ -78,7 +76,6 @@ fn put_largest<'b>(builder: &'b mut Builder, field: Bytes<'_>) -> Result<&'b [u8
     builder.finish(root, None)
 }
 
-// Whether it stands behind the root word and the word of the table, and its vtable at the end.
 fn stands_largest(bytes: &[u8], item: &[u8]) -> bool {
     bytes.len() == 65546
         && bytes.starts_with(b"\x04\0\0\0\0\0\xff\xff")
@@ -96,7 +93,6 @@ fn the_largest_object_is_written(builder: &mut Builder, item: &[u8]) -> bool {
     }
 }
 
-// The same in a new builder.
 fn the_largest_object_is_written_in(alloc: Global, item: &[u8]) -> bool {
     match new_builder(alloc) {
         Ok(mut builder) => the_largest_object_is_written(&mut builder, item),
@@ -112,7 +108,6 @@ fn the_largest_object(rt: HostRuntime) -> Result<(), Fail> {
     Ok(())
 }
 
-// Writes a table of the number 5 alone in the greatest slot, and finishes it.
 fn put_greatest_slot(builder: &mut Builder) -> Result<&[u8], BuildError> {
     let mut writer: TableWriter<65534> = TableWriter::default();
     writer.write_entry::<u8>(32764);
@@ -128,7 +123,6 @@ fn put_greatest_slot(builder: &mut Builder) -> Result<&[u8], BuildError> {
     builder.finish(root, None)
 }
 
-// Whether the number is read in its slot, and none behind it.
 fn reads_greatest_slot(bytes: &[u8]) -> bool {
     match Table::from_buffer(SliceWithStartOffset::new(bytes, 0), 0) {
         Ok(table) => { slot_has(table, 32764, Some(5u8)) && slot_has::<u8>(table, 32765, None) }
@@ -147,7 +141,6 @@ fn the_greatest_slot_is_written(builder: &mut Builder) -> bool {
     }
 }
 
-// The same in a new builder.
 fn the_greatest_slot_is_written_in(alloc: Global) -> bool {
     match new_builder(alloc) {
         Ok(mut builder) => the_greatest_slot_is_written(&mut builder),
@@ -161,7 +154,6 @@ fn the_greatest_slot(rt: HostRuntime) {
     check(&rt, written, "the greatest slot is written");
 }
 
-// A table with the number 24 of two bytes in slot 0.
 const NUMBER: [u8; 16] = [4, 0, 0, 0, 0xfa, 0xff, 0xff, 0xff, 24, 0, 6, 0, 6, 0, 4, 0];
 
 fn slot_is_none(table: Table<'_>, slot: usize) -> bool {
@@ -176,7 +168,6 @@ fn slot_is_none(table: Table<'_>, slot: usize) -> bool {
         )
 }
 
-// Whether slot 0 has its number, and a slot far behind it none.
 fn far_slot_is_none(slot: usize) -> bool {
     match Table::from_buffer(SliceWithStartOffset::new(&NUMBER, 0), 0) {
         Ok(table) => slot_has(table, 0, Some(24u16)) && slot_is_none(table, slot),
@@ -192,7 +183,7 @@ fn slots_far_behind_a_vtable(rt: HostRuntime) {
     check(&rt, far_slot_is_none(half + 1), "half of it and one");
 }
 
-// At the greatest place there is room for no byte more.
+// At the greatest place there is no room for one more byte.
 #[test]
 fn promises_at_the_greatest_place(rt: HostRuntime) {
     let promises = Promises::new();
@@ -202,7 +193,7 @@ fn promises_at_the_greatest_place(rt: HostRuntime) {
     check(&rt, matches!(one, Err(TooLarge)), "one byte");
 }
 
-// The weapon with the name `Axe` and a damage of 24, of which one byte is another.
+// The weapon Axe with one byte changed.
 fn weapon(at: usize, byte: u8) -> [u8; 32] {
     let mut bytes = *b"\x04\0\0\0\xf4\xff\xff\xff\x10\0\0\0\x18\0\0\0\
         \x08\0\x0a\0\x04\0\x08\0\x03\0\0\0Axe\0";
@@ -212,7 +203,6 @@ fn weapon(at: usize, byte: u8) -> [u8; 32] {
     bytes
 }
 
-// Whether a table's root fails with this error.
 fn root_fails(bytes: &[u8], kind: ErrorKind) -> bool {
     match Table::from_buffer(SliceWithStartOffset::new(bytes, 0), 0) {
         Ok(_) => false,
@@ -236,7 +226,6 @@ fn damaged_roots_of_a_weapon(rt: HostRuntime) {
     }
 }
 
-// Whether the vtable's second slot is no longer there.
 fn has_a_name_alone(bytes: &[u8]) -> bool {
     match Table::from_buffer(SliceWithStartOffset::new(bytes, 0), 0) {
         Ok(weapon) => { slot_has(weapon, 0, Some("Axe")) && slot_has::<i16>(weapon, 1, None) }

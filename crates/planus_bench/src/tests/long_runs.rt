@@ -1,4 +1,4 @@
-//! Runs of far more steps, values, items and slots than all others have.
+//! Runs of far more steps, values, items and slots than all others.
 
 use super::plain_run::plain_run;
 use super::runs::{
@@ -11,7 +11,7 @@ use planus::{Caches, Field, FieldValue, Finished, ReplayError, Step, Why, replay
 use std::alloc::{AllocError, Global};
 use std::test::Fail;
 
-// A value of a kind that changes from step to step; most texts and byte lists are new.
+// A value whose kind changes from step to step; most strings and byte vectors are new.
 fn value(alloc: Global, number: usize) -> Result<Step, AllocError> {
     match number % 4 {
         0 => Ok(Step::Text(format!(in alloc; "{number}")?)),
@@ -27,7 +27,6 @@ fn value(alloc: Global, number: usize) -> Result<Step, AllocError> {
     }
 }
 
-// Adds so many values.
 fn push_values(alloc: Global, steps: &mut Vec<Step>, count: usize) -> Result<(), AllocError> {
     for _ in 0..count {
         let number = steps.len();
@@ -36,7 +35,6 @@ fn push_values(alloc: Global, steps: &mut Vec<Step>, count: usize) -> Result<(),
     Ok(())
 }
 
-// Adds a number of one byte for each of these slots, which is the slot.
 fn add_numbers(fields: &mut Vec<Field>, first: u16, end: u16) -> Result<(), AllocError> {
     for slot in first..end {
         let value = FieldValue::Number {
@@ -48,7 +46,6 @@ fn add_numbers(fields: &mut Vec<Field>, first: u16, end: u16) -> Result<(), Allo
     Ok(())
 }
 
-// Adds a field for each of the 256 slots.
 fn add_all_slots(fields: &mut Vec<Field>, named: Named) -> Result<(), AllocError> {
     let [first, second] = two_references(named);
     add_field(fields, 255, FieldValue::Ref(named.root))?;
@@ -58,14 +55,13 @@ fn add_all_slots(fields: &mut Vec<Field>, named: Named) -> Result<(), AllocError
     add_numbers(fields, 4, 254)
 }
 
-// A table with a field in each of them.
 fn full_table(alloc: Global, named: Named) -> Result<Step, AllocError> {
     let mut fields = Vec::new(alloc);
     add_all_slots(&mut fields, named)?;
     Ok(Step::Table(fields))
 }
 
-// Adds a list of numbers, `count` references to it, as many unions of it, and a table that refers
+// Adds a vector of numbers, `count` references to it, `count` unions of it, and a table that refers
 // to all of them.
 fn push_lists(
     alloc: Global,
@@ -84,7 +80,6 @@ fn push_lists(
     add(steps, full_table(alloc, named))
 }
 
-// Adds finishes with the value that was written last.
 fn push_finishes(steps: &mut Vec<Step>, count: usize, id: [u8; 4]) -> Result<(), AllocError> {
     let (root, id) = (steps.len().saturating_sub(1), Some(id));
     for _ in 0..count {
@@ -118,7 +113,6 @@ fn long_steps(alloc: Global) -> Result<Vec<Step>, AllocError> {
     Ok(steps)
 }
 
-// Whether a replay gives the same bytes and places.
 fn gives(alloc: Global, caches: Caches, steps: &[Step], want: &[Finished]) -> bool {
     match replay(alloc, caches, steps) {
         Ok(got) => are_same(got.as_slice(), want),
@@ -126,7 +120,6 @@ fn gives(alloc: Global, caches: Caches, steps: &[Step], want: &[Finished]) -> bo
     }
 }
 
-// Whether replays, with none, some or all of the bits of a hash, give what a plain run gives.
 fn replays_agree(alloc: Global, steps: &[Step]) -> Result<bool, Fail> {
     let switches = Switches::of(7);
     let want = plain_run(alloc, switches, steps)?;
@@ -138,7 +131,6 @@ fn replays_agree(alloc: Global, steps: &[Step]) -> Result<bool, Fail> {
     Ok(true)
 }
 
-// Whether a replay is stopped by the last step alone, which names a step that isn't there.
 fn stops_at_the_last(alloc: Global, steps: &[Step], last: usize) -> bool {
     match replay(alloc, Caches::all(), steps) {
         Err(error) => {
@@ -152,13 +144,10 @@ fn stops_at_the_last(alloc: Global, steps: &[Step], last: usize) -> bool {
     }
 }
 
-// Adds a finish with a value that no step wrote.
 fn push_bad_finish(steps: &mut Vec<Step>) -> Result<(), AllocError> {
     add_finish(steps, usize::MAX)
 }
 
-// Whether the steps are as many as they should be of each kind, whether replays of them agree, and
-// whether one with a bad step behind them is stopped there.
 fn long_replays_agree(alloc: Global, steps: &mut Vec<Step>) -> Result<[bool; 3], Fail> {
     let counted = steps.len() == 20010 && counts(steps.as_slice()) == (300, 300, 7, 1);
     let agree = replays_agree(alloc, steps.as_slice())?;
@@ -175,7 +164,7 @@ fn a_run_of_20010_steps(rt: HostRuntime) -> Result<(), Fail> {
     Ok(())
 }
 
-// Adds a text, a byte list and lists of more than 100000 bytes or items, and a finish.
+// Adds a string, a byte vector and vectors of more than 100000 bytes or items, and a finish.
 fn push_long_values(alloc: Global, steps: &mut Vec<Step>) -> Result<(), AllocError> {
     add(steps, text(alloc, 100003))?;
     add(steps, bytes(alloc, 100003))?;

@@ -1,4 +1,4 @@
-//! Thousands of different contents of each kind that is shared, each of them written twice.
+//! Thousands of different contents of each cached kind, each written twice.
 
 use super::caches::text_at;
 use super::new_builder;
@@ -8,23 +8,21 @@ use planus::{Builder, Caches, Field, FieldValue, Step, StepPlace, replay};
 use std::alloc::{AllocError, Global};
 use std::process::Abort;
 
-// Seven letters, which no other number has.
+// Seven letters, different for each number.
 fn letters(alloc: Global, number: usize) -> Result<String, AllocError> {
     let number = number.saturating_add(1000000);
     Ok(format!(in alloc; "{number}")?)
 }
 
-// A list of eight bytes, which no other number has.
 fn bytes(alloc: Global, number: usize) -> Result<Step, AllocError> {
     Ok(Step::Bytes(Vec::from_slice(alloc, &(number as u64).to_le_bytes())?))
 }
 
-// Adds a field of one byte.
 fn add_byte(fields: &mut Vec<Field>, slot: u16) -> Result<(), AllocError> {
     add_field(fields, slot, FieldValue::Number { width: 1, value: 7 })
 }
 
-// A table of three bytes, with a vtable that no other number below 71 * 71 has.
+// A table of three bytes, whose vtable is different for each number below 71 * 71.
 fn table(alloc: Global, number: usize) -> Result<Step, AllocError> {
     let first = (number / 71 % 71) as u16;
     let second = (number % 71) as u16 + 71;
@@ -35,7 +33,6 @@ fn table(alloc: Global, number: usize) -> Result<Step, AllocError> {
     Ok(Step::Table(fields))
 }
 
-// A value of this kind, whose contents no other number has.
 fn value(alloc: Global, kind: Kind, number: usize) -> Result<Step, AllocError> {
     match kind {
         Kind::Text => Ok(Step::Text(letters(alloc, number)?)),
@@ -44,7 +41,6 @@ fn value(alloc: Global, kind: Kind, number: usize) -> Result<Step, AllocError> {
     }
 }
 
-// Adds a value of this kind for each of so many numbers.
 fn push_values(
     alloc: Global,
     steps: &mut Vec<Step>,
@@ -57,7 +53,6 @@ fn push_values(
     Ok(())
 }
 
-// Adds these values, the same again, and a finish.
 fn push_values_twice(
     alloc: Global,
     steps: &mut Vec<Step>,
@@ -75,7 +70,7 @@ fn values_twice(alloc: Global, kind: Kind, count: usize) -> Result<Vec<Step>, Al
     Ok(steps)
 }
 
-// Where values stand: the first at this distance, and then each of them so many bytes further.
+// The first value's distance, and the distance between neighbours.
 type Stands = (usize, usize);
 
 fn stand(places: &[StepPlace], (first, apart): Stands) -> bool {
@@ -89,7 +84,6 @@ fn stand(places: &[StepPlace], (first, apart): Stands) -> bool {
     true
 }
 
-// The same of as many values that are written first, and of those that are written again.
 fn all_stand(places: &[StepPlace], count: usize, want: [Stands; 2]) -> bool {
     let [first, second] = want;
     match (places.get(..count), places.get(count..)) {
@@ -100,7 +94,6 @@ fn all_stand(places: &[StepPlace], count: usize, want: [Stands; 2]) -> bool {
     }
 }
 
-// Whether a replay with these bits of a hash has the values of steps there.
 fn steps_stand(
     alloc: Global,
     steps: &[Step],
@@ -121,7 +114,6 @@ fn steps_stand(
     }
 }
 
-// The same of the values of a kind, each written twice.
 fn are_found_again(
     alloc: Global,
     kind: Kind,
@@ -135,8 +127,7 @@ fn are_found_again(
     }
 }
 
-// The same with all bits of a hash, and with none, with which all contents are compared with one
-// another.
+// With all bits of a hash, and with none, so that all contents are compared.
 fn each_mask_finds(rt: &impl Abort, alloc: Global, kind: Kind, want: [Stands; 2]) {
     for mask in [u64::MAX, 0] {
         let found = are_found_again(alloc, kind, mask, 5003, want);
@@ -144,7 +135,7 @@ fn each_mask_finds(rt: &impl Abort, alloc: Global, kind: Kind, want: [Stands; 2]
     }
 }
 
-// A text is its count, seven letters and a zero, and a byte list is its count and eight bytes.
+// A string is its count, seven letters and a zero; a byte vector is its count and eight bytes.
 #[test]
 fn texts_and_byte_lists_are_found_again(rt: HostRuntime) {
     let want = [(12, 12), (12, 12)];
@@ -152,14 +143,13 @@ fn texts_and_byte_lists_are_found_again(rt: HostRuntime) {
     each_mask_finds(&rt, rt.alloc(), Kind::Bytes, want);
 }
 
-// A vtable is of 292 bytes. A table in front of it takes seven, with a padding of one behind them.
+// A vtable has 292 bytes. A table before it takes seven, and one of padding.
 #[test]
 fn vtables_are_found_again(rt: HostRuntime) {
     let want = [(300, 300), (1500908, 8)];
     each_mask_finds(&rt, rt.alloc(), Kind::Vtable, want);
 }
 
-// Whether a text is at this distance, if it can be written.
 fn text_is_at(builder: &mut Builder, letters: &str, distance: usize) -> bool {
     match text_at(builder, letters) {
         Ok(at) => at as usize == distance,
@@ -167,7 +157,6 @@ fn text_is_at(builder: &mut Builder, letters: &str, distance: usize) -> bool {
     }
 }
 
-// The same of the text of a number.
 fn letters_are_at(alloc: Global, builder: &mut Builder, number: usize, distance: usize) -> bool {
     match letters(alloc, number) {
         Ok(letters) => text_is_at(builder, letters.as_str(), distance),
@@ -175,7 +164,6 @@ fn letters_are_at(alloc: Global, builder: &mut Builder, number: usize, distance:
     }
 }
 
-// Whether the texts of so many numbers stand one in front of the other, from the end on.
 fn texts_stand(alloc: Global, builder: &mut Builder, count: usize) -> bool {
     for number in 0..count {
         let distance = number.saturating_add(1).saturating_mul(12);
@@ -186,13 +174,12 @@ fn texts_stand(alloc: Global, builder: &mut Builder, count: usize) -> bool {
     true
 }
 
-// Whether they are written so in an empty builder, and found when they are written again.
 fn texts_are_found(alloc: Global, builder: &mut Builder, count: usize) -> bool {
     builder.clear();
     texts_stand(alloc, builder, count) && texts_stand(alloc, builder, count)
 }
 
-// The first number of texts that aren't found, of many and then of few, each behind a clear.
+// The first number of strings that aren't found, of many and then of few, after a clear each.
 fn first_count_that_fails(alloc: Global, builder: &mut Builder) -> Option<usize> {
     for count in [5003, 3, 5, 5003, 3] {
         if !texts_are_found(alloc, builder, count) {
@@ -202,7 +189,6 @@ fn first_count_that_fails(alloc: Global, builder: &mut Builder) -> Option<usize>
     None
 }
 
-// The same in a new builder; 0 where there is none.
 fn first_count_in(alloc: Global) -> Option<usize> {
     match new_builder(alloc) {
         Ok(mut builder) => first_count_that_fails(alloc, &mut builder),

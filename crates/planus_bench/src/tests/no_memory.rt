@@ -1,4 +1,4 @@
-//! A builder, a replay and a cache while memory is refused.
+//! A builder, a replay and a cache without memory.
 
 use super::caches::text_at;
 use super::parts::{FOUR_WRITES, last_is, puts_four};
@@ -11,15 +11,13 @@ use planus_testing::{exhaust, holds_or_says};
 use std::alloc::{AllocError, Global};
 use std::test::Fail;
 
-// What four writes leave of a room of 64 bytes can't hold this text.
+// The room that four writes leave of 64 bytes is too small for this string.
 const TEXT: &str = "sixty-three bytes, which are more than are left of a room of 64";
 
-// Whether there is no memory for one more builder.
 fn new_is_refused(alloc: Global) -> bool {
     matches!(Builder::new(alloc), Err(BuildError::OutOfMemory))
 }
 
-// The distance of a list of one text.
 fn list_is_at(builder: &mut Builder) -> Result<u32, BuildError> {
     match builder.create_vector::<Offset<Text>, &[&str]>(&["B"]) {
         Ok(list) => Ok(list.distance()),
@@ -27,13 +25,12 @@ fn list_is_at(builder: &mut Builder) -> Result<u32, BuildError> {
     }
 }
 
-// Whether the four writes and their finish take no more than their bytes.
 fn writes_in_its_room(builder: &mut Builder) -> bool {
     puts_four(builder) && last_is(builder, FOUR_WRITES) && builder.room() == 37
 }
 
-// Whether a builder writes and finishes in its room, and refuses a text that doesn't fit, and a
-// list that fits, for whose prepared items there is no memory.
+// A string that doesn't fit the room fails, and so does a vector that fits, whose prepared items
+// need memory.
 fn goes_on_in_its_room(alloc: Global, builder: &mut Builder) -> bool {
     let all = b"\x04\0\0\0\x03\0\0\0Axe\0\x05\0\0\0\x000123456ABCDEFGHIJKLMNO".as_slice();
     new_is_refused(alloc)
@@ -45,7 +42,6 @@ fn goes_on_in_its_room(alloc: Global, builder: &mut Builder) -> bool {
         && builder.room() == 25
 }
 
-// Tells that with all memory taken; nothing where memory was left.
 fn builder_without_memory(
     alloc: Global,
     builder: &mut Builder,
@@ -57,12 +53,10 @@ fn builder_without_memory(
     Ok(if exhausted { Some(goes_on) } else { None })
 }
 
-// Whether what was refused is written once memory is there again.
 fn writes_again(builder: &mut Builder) -> bool {
     text_at(builder, TEXT) == Ok(107) && list_is_at(builder) == Ok(123)
 }
 
-// Both; nothing where memory was left.
 fn goes_on_and_writes(alloc: Global, builder: &mut Builder) -> Result<Option<bool>, AllocError> {
     match builder_without_memory(alloc, builder)? {
         Some(goes_on) => Ok(Some(goes_on && writes_again(builder))),
@@ -70,7 +64,6 @@ fn goes_on_and_writes(alloc: Global, builder: &mut Builder) -> Result<Option<boo
     }
 }
 
-// The same of a new builder with room for 64 bytes.
 fn builder_goes_on(alloc: Global, caches: Caches) -> Result<Option<bool>, AllocError> {
     match Builder::with_caches(alloc, 64, caches) {
         Ok(mut builder) => goes_on_and_writes(alloc, &mut builder),
@@ -85,13 +78,11 @@ fn a_builder_with_refused_memory(rt: HostRuntime) -> Result<(), Fail> {
     Ok(())
 }
 
-// Adds a text and its finish.
 fn push_text(alloc: Global, steps: &mut Vec<Step>) -> Result<(), AllocError> {
     add(steps, word(alloc, "Axe"))?;
     add_finish(steps, 0)
 }
 
-// Whether a replay is refused for memory.
 fn replay_is_refused(alloc: Global, steps: &[Step]) -> bool {
     matches!(
         replay(alloc, Caches::all(), steps),
@@ -99,7 +90,6 @@ fn replay_is_refused(alloc: Global, steps: &[Step]) -> bool {
     )
 }
 
-// Tells that with all memory taken; nothing where memory was left.
 fn replay_without_memory(alloc: Global, steps: &[Step]) -> Result<Option<bool>, AllocError> {
     let mut held: Vec<Vec<u8>> = Vec::with_capacity(alloc, 262144)?;
     let exhausted = exhaust(alloc, &mut held)?;
@@ -108,7 +98,6 @@ fn replay_without_memory(alloc: Global, steps: &[Step]) -> Result<Option<bool>, 
     Ok(if exhausted { Some(refused) } else { None })
 }
 
-// Whether a replay is refused, and isn't once memory is there again; nothing where memory was left.
 fn replay_goes_on(alloc: Global, steps: &[Step]) -> Result<Option<bool>, AllocError> {
     match replay_without_memory(alloc, steps)? {
         Some(refused) => {
@@ -119,7 +108,6 @@ fn replay_goes_on(alloc: Global, steps: &[Step]) -> Result<Option<bool>, AllocEr
     }
 }
 
-// The same of the steps of a text.
 fn replay_of_a_text_goes_on(alloc: Global) -> Result<Option<bool>, AllocError> {
     let mut steps = Vec::new(alloc);
     push_text(alloc, &mut steps)?;
@@ -133,7 +121,6 @@ fn a_replay_with_refused_memory(rt: HostRuntime) -> Result<(), Fail> {
     Ok(())
 }
 
-// Whether an entry is refused with all memory taken; nothing where memory was left.
 fn entry_without_memory(
     alloc: Global,
     cache: &mut Cache<ByteVec>,
@@ -145,7 +132,6 @@ fn entry_without_memory(
     Ok(if exhausted { Some(refused) } else { None })
 }
 
-// Whether an entry is refused, and isn't once memory is there again; nothing where memory was left.
 fn cache_goes_on(alloc: Global) -> Result<Option<bool>, AllocError> {
     let mut cache: Cache<ByteVec> = Cache::new(alloc, u64::MAX)?;
     match entry_without_memory(alloc, &mut cache)? {

@@ -1,4 +1,4 @@
-//! The padding of `Promises` beside that of the plain program, which finds it by trying.
+//! The padding of `Promises` beside a plain program's, which finds it by trying.
 ghost use Rattle.std.specs.Prelude.{◌≡◌, ◌+◌, ◌≤◌, IfSome};
 ghost use Rattle.planus_back.specs.Padding.{greatest_place};
 ghost use Rattle.planus_back.specs.Pairs.{period, AlignmentsAboveZero, DistancesWithin};
@@ -10,7 +10,6 @@ use planus_back::plain::least_padding;
 use std::alloc::{AllocError, Global};
 use std::test::Fail;
 
-// None where the part is too large.
 fn request(
     promises: Promises,
     len: usize,
@@ -29,7 +28,6 @@ fn request(
     }
 }
 
-// The product of the alignments, where the plain program may be asked about such promises.
 fn checked_period(len: usize, promises: &[(usize, usize)]) -> Option<usize>
     ensures { IfSome result (λ p. AlignmentsAboveZero promises.now × DistancesWithin len
         promises.now × (p ≡ period promises.now)) }
@@ -46,7 +44,6 @@ fn checked_period(len: usize, promises: &[(usize, usize)]) -> Option<usize>
     }
 }
 
-// The plain program's answer, where the numbers are small enough to ask it.
 fn plainly(
     len: usize,
     promises: &[(usize, usize)],
@@ -61,8 +58,7 @@ fn plainly(
     least_padding(len, promises, size, alignment)
 }
 
-// The paddings of parts, each a size and an alignment, that follow one another; None where the two
-// programs differ.
+// `None` where the two programs differ.
 fn paddings(alloc: Global, parts: &[(usize, usize)]) -> Result<Option<Vec<usize>>, AllocError> {
     let mut paddings = Vec::with_capacity(alloc, parts.len())?;
     let mut pairs: Vec<(usize, usize)> = Vec::with_capacity(alloc, parts.len())?;
@@ -96,13 +92,13 @@ const ROWS: [(&[(usize, usize)], &[usize]); 7] = [
     (&[(3, 1), (4, 2), (8, 4), (7, 1), (4, 4)], &[0, 0, 0, 0, 1]),
     // After a clear.
     (&[(4, 4), (1, 1), (1, 1), (8, 8), (4, 8)], &[0, 0, 0, 2, 4]),
-    // A text and two finishes.
+    // A string and two finishes.
     (&[(8, 4), (4, 4), (4, 4)], &[0, 0, 0]),
-    // A text, then a list of one `u64`.
+    // A string, then a vector of one `u64`.
     (&[(7, 4), (8, 8), (4, 1), (4, 8)], &[0, 0, 0, 0]),
     // A weapon.
     (&[(8, 4), (8, 2), (6, 4), (4, 1), (4, 4)], &[0, 0, 2, 0, 0]),
-    // Two texts and a vector of two unions.
+    // Two strings and a vector of two unions.
     (
         &[(6, 4), (6, 4), (8, 4), (4, 1), (2, 4), (4, 1)],
         &[0, 2, 0, 0, 2, 0],
@@ -119,8 +115,6 @@ fn worked_rows(rt: HostRuntime) -> Result<(), Fail> {
     Ok(())
 }
 
-// Whether parts, each after those before it, get these paddings and leave these remainders and
-// masks.
 fn values_are(rows: &[[usize; 6]]) -> bool {
     let mut promises = Promises::new();
     for [len, size, alignment, padding, delayed, mask] in rows {
@@ -147,12 +141,11 @@ fn values_after_each_part(rt: HostRuntime) {
     check(&rt, values_are(&rows), "values are");
 }
 
-// A part of 0 to 5 bytes with an alignment of 1, 2, 4 or 8.
 fn part(number: usize) -> (usize, usize) {
     (number / 4, 1 << (number % 4))
 }
 
-// Every list of three parts, and with it every shorter one.
+// Every list of up to three parts.
 #[test]
 fn short_lists_as_the_plain_program_has_them(rt: HostRuntime) -> Result<(), Fail> {
     for a in 0..24 {

@@ -12,7 +12,7 @@ use std::test::Fail;
 
 pub const FOUR_WRITES: &[u8] = b"\x05\0\0\0\x000123456ABCDEFGHIJKLMNO";
 
-// Leaves these very bytes, at any place.
+// Writes these bytes, at any place.
 #[derive(Drop)]
 struct Same<'a> {
     bytes: &'a [u8],
@@ -28,7 +28,7 @@ impl<'a> Fill for Same<'a> {
     }
 }
 
-// Leaves one byte over and over, as often as there is room.
+// Writes one byte over and over.
 #[derive(Drop)]
 pub struct Repeated {
     pub byte: u8,
@@ -44,7 +44,7 @@ impl Fill for Repeated {
     }
 }
 
-// Leaves the place at which it is called.
+// Writes the place at which it is called.
 #[derive(Drop)]
 struct OwnPlace;
 
@@ -58,7 +58,7 @@ impl Fill for OwnPlace {
     }
 }
 
-// Leaves the place at which it is called, all four bytes of it, and then zeros.
+// Writes the place at which it is called, in four bytes, and then zeros.
 #[derive(Drop)]
 struct PlaceFirst;
 
@@ -72,12 +72,10 @@ impl Fill for PlaceFirst {
     }
 }
 
-// Writes the bytes as one part.
 pub fn put(builder: &mut Builder, bytes: &[u8], alignment: usize) -> Result<(), BuildError> {
     builder.write_with(bytes.len(), mask_of(alignment), &Same { bytes })
 }
 
-// Whether the four writes are made.
 pub fn puts_four(builder: &mut Builder) -> bool {
     put(builder, b"MNO", 1).is_ok()
         && put(builder, b"IJKL", 2).is_ok()
@@ -85,13 +83,11 @@ pub fn puts_four(builder: &mut Builder) -> bool {
         && put(builder, b"0123456", 1).is_ok()
 }
 
-// Finishes with the part that was written last as the root.
 pub fn finish_last(builder: &mut Builder) -> Result<&[u8], BuildError> {
     let root = builder.current_offset::<()>();
     builder.finish(root, None)
 }
 
-// Whether that gives these bytes.
 pub fn last_is(builder: &mut Builder, want: &[u8]) -> bool {
     match finish_last(builder) {
         Ok(bytes) => bytes == want,
@@ -129,14 +125,12 @@ fn a_filler_is_told_its_place(builder: &mut Builder) -> bool {
         && builder.as_slice() == bytes
 }
 
-// Whether both hold of a builder.
 fn both_hold_of(builder: &mut Builder) -> [bool; 2] {
     let clear = parts_and_clear_agree(builder);
     builder.clear();
     [clear, a_filler_is_told_its_place(builder)]
 }
 
-// The same of a new one.
 fn both_hold(alloc: Global) -> [bool; 2] {
     match new_builder(alloc) {
         Ok(mut builder) => both_hold_of(&mut builder),
@@ -159,7 +153,6 @@ fn too_large_is_refused(builder: &mut Builder, size: usize) -> bool {
         && last_is(builder, FOUR_WRITES)
 }
 
-// The same in a new builder with room for 64 bytes.
 fn too_large_in_64_bytes(alloc: Global, size: usize) -> bool {
     match Builder::with_capacity(alloc, 64) {
         Ok(mut builder) => too_large_is_refused(&mut builder, size),
@@ -173,7 +166,6 @@ fn too_large(rt: HostRuntime) {
     check(&rt, refused, "too large is refused");
 }
 
-// None where the part is too large.
 fn request(promises: Promises, len: usize, size: usize, alignment: usize) -> Option<Promises> {
     if len > 2147483647 {
         return None;
@@ -184,7 +176,6 @@ fn request(promises: Promises, len: usize, size: usize, alignment: usize) -> Opt
     }
 }
 
-// Whether parts, each after those before it, leave these remainders.
 fn delays_are(rows: &[(usize, usize, usize, usize)]) -> bool {
     let mut promises = Promises::new();
     for (len, size, alignment, delayed) in rows {
@@ -202,7 +193,6 @@ fn delays_after_clear(rt: HostRuntime) {
     check(&rt, delays_are(&rows), "delays are");
 }
 
-// The numbers of the test with random sizes.
 #[derive(Drop)]
 struct Numbers {
     last: u32,
@@ -215,7 +205,7 @@ impl Numbers {
     }
 }
 
-// A part of equal bytes, and how far from the end it begins.
+// A part of equal bytes, and its distance from the end.
 #[derive(Clone, Copy)]
 struct Written {
     byte: u8,
@@ -228,7 +218,6 @@ fn are_all(bytes: &[u8], byte: u8) -> bool {
     bytes.iter().all(|b| *b == byte)
 }
 
-// Tells whether the part stands aligned in the finished bytes.
 fn stands(bytes: &[u8], part: Written) -> bool {
     let Some(start) = bytes.len().checked_sub(part.distance) else {
         return false;
@@ -240,7 +229,6 @@ fn stands(bytes: &[u8], part: Written) -> bool {
     }
 }
 
-// Writes a part of a random size and alignment.
 fn write_part(builder: &mut Builder, numbers: &mut Numbers, byte: u8) -> Result<Written, Fail> {
     let size = (numbers.draw() % 128) as usize;
     let mask = mask_of(1 << (numbers.draw() % 5));
@@ -258,7 +246,6 @@ fn write_part(builder: &mut Builder, numbers: &mut Numbers, byte: u8) -> Result<
     })
 }
 
-// Writes 49 such parts, and adds them.
 fn write_parts(
     builder: &mut Builder,
     numbers: &mut Numbers,
@@ -270,8 +257,7 @@ fn write_parts(
     Ok(())
 }
 
-// Writes a part of a random alignment, and of four bytes more than a random size. Tells whether its
-// filler was called at the length with it.
+// A random size of at least four. Returns whether the filler was called at the length with it.
 fn a_filler_knows_its_place(builder: &mut Builder, numbers: &mut Numbers) -> bool {
     let size = (numbers.draw() % 128) as usize + 4;
     let mask = mask_of(1 << (numbers.draw() % 5));
@@ -282,7 +268,6 @@ fn a_filler_knows_its_place(builder: &mut Builder, numbers: &mut Numbers) -> boo
     builder.as_slice().starts_with(&place[..4])
 }
 
-// The same of parts, of the alignments of the others, and each of four bytes more.
 fn fillers_know_their_places(builder: &mut Builder, numbers: &mut Numbers) -> bool {
     for _ in 1..50 {
         if !a_filler_knows_its_place(builder, numbers) {
@@ -301,7 +286,6 @@ fn random_bytes(alloc: Global, numbers: &mut Numbers) -> Result<Vec<u8>, AllocEr
     Ok(bytes)
 }
 
-// Whether the parts and the root stand in the finished bytes, and the root's word leads to it.
 fn all_stand(bytes: &[u8], parts: &[Written], root: &[u8], distance: usize) -> bool {
     for part in parts {
         if !stands(bytes, *part) {
@@ -317,7 +301,6 @@ fn all_stand(bytes: &[u8], parts: &[Written], root: &[u8], distance: usize) -> b
         && front.starts_with(&(start as u64).to_le_bytes()[..4])
 }
 
-// Writes a root, and tells whether it and the parts before it stand in the finished bytes.
 fn root_stands(builder: &mut Builder, parts: &[Written], root: &[u8]) -> bool {
     if put(builder, root, 2).is_err() {
         return false;
@@ -329,7 +312,6 @@ fn root_stands(builder: &mut Builder, parts: &[Written], root: &[u8]) -> bool {
     }
 }
 
-// The same of a random root.
 fn random_root_stands(
     alloc: Global,
     builder: &mut Builder,
@@ -340,7 +322,6 @@ fn random_root_stands(
     Ok(root_stands(builder, parts, root.as_slice()))
 }
 
-// The same behind random parts.
 fn random_parts_stand(
     alloc: Global,
     builder: &mut Builder,
@@ -351,7 +332,7 @@ fn random_parts_stand(
     Ok(random_root_stands(alloc, builder, numbers, parts.as_slice())?)
 }
 
-// A round of random parts, whose fillers then tell where they were called.
+// A round of random parts, whose fillers then return where they were called.
 fn a_round(alloc: Global, builder: &mut Builder, numbers: &mut Numbers) -> Result<bool, Fail> {
     let mut again = Numbers { last: numbers.last };
     let stand = random_parts_stand(alloc, builder, numbers)?;
@@ -359,7 +340,6 @@ fn a_round(alloc: Global, builder: &mut Builder, numbers: &mut Numbers) -> Resul
     Ok(stand && fillers_know_their_places(builder, &mut again))
 }
 
-// The same in a new builder.
 fn a_round_in_a_new_one(alloc: Global, numbers: &mut Numbers) -> Result<bool, Fail> {
     let mut builder = new_builder(alloc)?;
     a_round(alloc, &mut builder, numbers)

@@ -10,7 +10,6 @@ struct Part {
     mask: usize,
 }
 
-// A part of 0 to 3 bytes with an alignment of 1, 2, 4 or 8.
 fn part_of(number: usize) -> Part {
     Part {
         size: number / 4,
@@ -20,7 +19,6 @@ fn part_of(number: usize) -> Part {
 
 type Places = [usize; 3];
 
-// The places of three parts one in front of another, with these paddings behind them.
 fn places(parts: &[Part; 3], paddings: [usize; 3]) -> Places {
     let mut places = [0; 3];
     let mut len: usize = 0;
@@ -31,8 +29,7 @@ fn places(parts: &[Part; 3], paddings: [usize; 3]) -> Places {
     places
 }
 
-// Whether some length keeps all parts aligned: one of eight in a row, since no alignment is
-// greater.
+// Whether some length aligns all parts: one of eight in a row, since no alignment is greater.
 fn is_kept(parts: &[Part; 3], places: Places) -> bool {
     for more in 0..8usize {
         let len = places[2].wrapping_add(more);
@@ -44,7 +41,6 @@ fn is_kept(parts: &[Part; 3], places: Places) -> bool {
     false
 }
 
-// The place of a part behind which stand so many bytes.
 fn request(promises: Promises, len: usize, part: Part) -> Option<(Promises, usize)> {
     if len > 2147483647 {
         return None;
@@ -55,7 +51,6 @@ fn request(promises: Promises, len: usize, part: Part) -> Option<(Promises, usiz
     }
 }
 
-// The places of three parts by `Promises`.
 fn promised(parts: &[Part; 3]) -> Option<Places> {
     let mut places = [0; 3];
     let (mut promises, mut len) = (Promises::new(), 0);
@@ -66,8 +61,8 @@ fn promised(parts: &[Part; 3]) -> Option<Places> {
     Some(places)
 }
 
-// Whether no placing by paddings of 0 to 7 has a smaller place for any part, and one of them has
-// these places.
+// Whether no placing by paddings of 0 to 7 has a smaller place for any part, and one has these
+// places.
 fn are_least(parts: &[Part; 3], least: Places) -> bool {
     let mut found = false;
     for number in 0..512usize {
@@ -82,7 +77,7 @@ fn are_least(parts: &[Part; 3], least: Places) -> bool {
     found
 }
 
-// A list of fewer parts is one of three whose others have no bytes and an alignment of 1.
+// A list of fewer parts is one of three whose others have no bytes and alignment 1.
 fn no_smaller_place(parts: &[Part; 3]) -> bool {
     match promised(parts) {
         Some(least) => are_least(parts, least),

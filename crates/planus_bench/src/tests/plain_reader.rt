@@ -1,11 +1,10 @@
 //! A plain, slow reader, which computes values and errors from the rules of the format and the
-//! order in which they are tested, over a list of bytes and positions of 128 bits.
+//! order in which they are tested, over positions of 128 bits.
 
 use planus_read::errors::ErrorKind;
 
 pub type Answer<T> = Result<T, ErrorKind>;
 
-// The byte at a position, if there is one.
 fn byte(bytes: &[u8], at: i128) -> Option<u8> {
     match usize::try_from(at) {
         Ok(at) => bytes.get(at).copied(),
@@ -13,7 +12,6 @@ fn byte(bytes: &[u8], at: i128) -> Option<u8> {
     }
 }
 
-// So many bytes from a position on, if they are all there.
 fn part(bytes: &[u8], at: i128, count: i128) -> Option<&[u8]> {
     match (usize::try_from(at), usize::try_from(at.wrapping_add(count))) {
         (Ok(begin), Ok(end)) => bytes.get(begin..end),
@@ -21,8 +19,8 @@ fn part(bytes: &[u8], at: i128, count: i128) -> Option<&[u8]> {
     }
 }
 
-// The little-endian number of the bytes at a position, if they are all there. Where a number, a
-// reference or a count isn't, its reader's error is that of an invalid offset.
+// The little-endian number at a position, if all bytes are there. Where a number, a reference or a
+// count isn't, the reader's error is an invalid offset.
 pub fn number(bytes: &[u8], at: i128, width: u8) -> Option<u64> {
     let mut value: u64 = 0;
     let mut worth: u64 = 1;
@@ -34,7 +32,6 @@ pub fn number(bytes: &[u8], at: i128, width: u8) -> Option<u64> {
     Some(value)
 }
 
-// The same as a wider number.
 pub fn unsigned(bytes: &[u8], at: i128, width: u8) -> Option<i128> {
     match number(bytes, at, width) {
         Some(value) => Some(value as i128),
@@ -42,7 +39,6 @@ pub fn unsigned(bytes: &[u8], at: i128, width: u8) -> Option<i128> {
     }
 }
 
-// The same bytes as a number of two's complement.
 pub fn signed(bytes: &[u8], at: i128, width: u8) -> Option<i128> {
     let value = number(bytes, at, width)? as i128;
     let all: i128 = match width {
@@ -54,7 +50,7 @@ pub fn signed(bytes: &[u8], at: i128, width: u8) -> Option<i128> {
     Some(if value < all / 2 { value } else { value - all })
 }
 
-// Where a reference leads, if that is in the bytes or at their end.
+// The target of a reference, if that is in the bytes or at their end.
 fn target(bytes: &[u8], f: i128) -> Option<i128> {
     let target = f.wrapping_add(number(bytes, f, 4)? as i128);
     if target <= bytes.len() as i128 {
@@ -64,7 +60,6 @@ fn target(bytes: &[u8], f: i128) -> Option<i128> {
     }
 }
 
-// The items behind a count: where they begin, and how many there are.
 #[derive(Clone, Copy)]
 pub struct PlainList {
     pub items: i128,
@@ -72,7 +67,6 @@ pub struct PlainList {
 }
 
 impl PlainList {
-    // Whether the bytes go on as far as its items of this size.
     fn fits(&self, bytes: &[u8], stride: i128) -> bool {
         let size = (self.count as i128).wrapping_mul(stride);
         self.items.wrapping_add(size) <= bytes.len() as i128
@@ -98,7 +92,7 @@ pub fn byte_list(bytes: &[u8], f: i128) -> Answer<&[u8]> {
     }
 }
 
-// The letters of a list, if they and a zero behind them are there.
+// The letters of a string, if they and a zero after them are there.
 fn letters(bytes: &[u8], list: PlainList) -> Option<&[u8]> {
     let count = list.count as i128;
     match byte(bytes, list.items.wrapping_add(count)) {
@@ -117,7 +111,6 @@ pub fn text(bytes: &[u8], f: i128) -> Answer<&str> {
     }
 }
 
-// A vector of items of this size.
 pub fn vector(bytes: &[u8], f: i128, stride: i128) -> Answer<PlainList> {
     match head(bytes, f) {
         Some(list) if list.fits(bytes, stride) => Ok(list),
@@ -126,7 +119,6 @@ pub fn vector(bytes: &[u8], f: i128, stride: i128) -> Answer<PlainList> {
     }
 }
 
-// The tags of a vector of unions, and its references.
 pub fn union_vector(bytes: &[u8], f: i128, g: i128) -> Answer<(PlainList, PlainList)> {
     let (Some(tags), Some(values)) = (head(bytes, f), head(bytes, g)) else {
         return Err(ErrorKind::InvalidOffset);
@@ -143,7 +135,6 @@ pub fn union_vector(bytes: &[u8], f: i128, g: i128) -> Answer<(PlainList, PlainL
     Ok((tags, values))
 }
 
-// A table, by where it and its vtable begin, and the vtable's size.
 #[derive(Clone, Copy)]
 pub struct PlainTable<'a> {
     pub bytes: &'a [u8],
@@ -152,7 +143,7 @@ pub struct PlainTable<'a> {
     size: u16,
 }
 
-// A table, of which no part may stand in front of a position, if its words are there.
+// A table, no part of which may be before a position, if its words are there.
 fn words(bytes: &[u8], from: i128, f: i128) -> Option<PlainTable<'_>> {
     let object = target(bytes, f)?;
     let vtable = object.wrapping_sub(signed(bytes, object, 4)?);
@@ -183,12 +174,10 @@ pub fn table(bytes: &[u8], from: i128, f: i128) -> Answer<PlainTable<'_>> {
 }
 
 impl<'a> PlainTable<'a> {
-    // Whether so many slots from this one on lie in the vtable.
     fn has_slots(&self, slot: usize, count: u8) -> bool {
         4 + 2 * (slot as i128 + count as i128) <= self.size as i128
     }
 
-    // The distance in a slot, 0 where there is none.
     fn slot(&self, slot: usize) -> i128 {
         if !self.has_slots(slot, 1) {
             return 0;
@@ -197,7 +186,6 @@ impl<'a> PlainTable<'a> {
         number(self.bytes, at, 2).unwrap_or(0) as i128
     }
 
-    // The position of a slot's field.
     pub fn field(&self, slot: usize) -> Option<i128> {
         match self.slot(slot) {
             0 => None,
@@ -205,13 +193,11 @@ impl<'a> PlainTable<'a> {
         }
     }
 
-    // The tag of the union of a slot, if its byte is there.
     fn tag(&self, slot: usize) -> Option<u8> {
         let at = self.object.wrapping_add(self.slot(slot));
         Some((number(self.bytes, at, 1)? % 256) as u8)
     }
 
-    // The tag of the union of a slot and the next, and the position of its reference.
     pub fn union(&self, slot: usize) -> Answer<Option<(u8, i128)>> {
         if !self.has_slots(slot, 2) {
             return if self.size as i128 <= 4 + 2 * slot as i128 {
@@ -229,7 +215,6 @@ impl<'a> PlainTable<'a> {
         }
     }
 
-    // The positions of the two references of the vector of unions of a slot and the next.
     pub fn union_vector(&self, slot: usize) -> Answer<Option<(i128, i128)>> {
         if !self.has_slots(slot, 2) {
             return Ok(None);

@@ -1,12 +1,11 @@
-//! A plain, slow run of steps, which keeps its bytes from the end on, finds each padding by trying,
-//! and equal contents by looking through all that were written.
+//! A plain, slow run of steps, which holds its bytes from the end on, finds each padding by trying,
+//! and equal contents by comparing with all that were written.
 
 use super::settings::{Kind, Switches};
 use planus::{Field, FieldValue, Finished, Step, StepPlace};
 use std::alloc::{AllocError, Global};
 use std::test::Fail;
 
-// Contents of a kind, and the distance at which they stand.
 #[derive(Drop)]
 struct Shared {
     kind: Kind,
@@ -14,7 +13,6 @@ struct Shared {
     distance: usize,
 }
 
-// What was written since the last clear.
 #[derive(Drop)]
 struct Written {
     // The bytes, the last one first.
@@ -22,13 +20,11 @@ struct Written {
     // The distance of each part from the end, and its alignment: 2, 4 or 8.
     parts: Vec<(usize, usize)>,
     values: Vec<StepPlace>,
-    // Of the kinds that are on, the contents that were written.
     shared: Vec<Shared>,
     switches: Switches,
     alloc: Global,
 }
 
-// The size of a field.
 fn size_of(field: &Field) -> usize {
     match field.value {
         FieldValue::Number { width, .. } => width as usize,
@@ -36,7 +32,6 @@ fn size_of(field: &Field) -> usize {
     }
 }
 
-// The size of all of these fields.
 fn size_of_all(fields: &[Field]) -> usize {
     let mut size: usize = 0;
     for field in fields {
@@ -45,7 +40,6 @@ fn size_of_all(fields: &[Field]) -> usize {
     size
 }
 
-// The greatest alignment of these fields, at least 4.
 fn alignment_of(fields: &[Field]) -> usize {
     let mut alignment = 4;
     for field in fields {
@@ -54,7 +48,7 @@ fn alignment_of(fields: &[Field]) -> usize {
     alignment
 }
 
-// How many slots a vtable has: up to the greatest of these fields.
+// The number of slots of a vtable: up to the greatest of these fields.
 fn slots_of(fields: &[Field]) -> usize {
     let mut slots: usize = 0;
     for field in fields {
@@ -63,7 +57,7 @@ fn slots_of(fields: &[Field]) -> usize {
     slots
 }
 
-// Where the field of a slot stands behind the object's word, 0 where there is none.
+// The offset of a slot's field after the object's word, 0 if absent.
 fn place_of(fields: &[Field], slot: usize) -> usize {
     let mut place: usize = 4;
     for field in fields {
@@ -75,13 +69,10 @@ fn place_of(fields: &[Field], slot: usize) -> usize {
     0
 }
 
-// Adds a number of two bytes.
 fn push_number(bytes: &mut Vec<u8>, number: usize) -> Result<(), AllocError> {
     bytes.extend_from_slice(&(number as u64).to_le_bytes()[..2])
 }
 
-// Adds the bytes of a vtable: its size, the object's, and where the field of each slot stands
-// behind the object's word.
 fn push_vtable(bytes: &mut Vec<u8>, fields: &[Field]) -> Result<(), AllocError> {
     let slots = slots_of(fields);
     push_number(bytes, slots.wrapping_mul(2).wrapping_add(4))?;
@@ -104,7 +95,6 @@ impl Written {
         }
     }
 
-    // Whether all parts are aligned in so many bytes.
     fn keeps(&self, length: usize) -> bool {
         for (distance, alignment) in &self.parts {
             if length.wrapping_sub(*distance).checked_rem(*alignment) != Some(0) {
@@ -126,8 +116,8 @@ impl Written {
         false
     }
 
-    // Puts down the fewest zeros with which a part of this size can stand in front of them. Answers
-    // the part's distance.
+    // Prepends the fewest zeros with which a part of this size can come before them. Returns the
+    // part's distance.
     fn pad(&mut self, size: usize, alignment: usize) -> Result<usize, AllocError> {
         for _ in 0..7 {
             if self.can_stand(self.reversed.len().wrapping_add(size), alignment) {
@@ -140,7 +130,6 @@ impl Written {
         Ok(distance)
     }
 
-    // The greatest alignment so far, at least 4.
     fn greatest(&self) -> usize {
         for (_, alignment) in &self.parts {
             if *alignment == 8 {
@@ -150,7 +139,6 @@ impl Written {
         4
     }
 
-    // Puts bytes in front.
     fn put(&mut self, bytes: &[u8]) -> Result<(), AllocError> {
         let len = bytes.len();
         for i in 0..len {
@@ -163,7 +151,6 @@ impl Written {
         self.put(&(word as u64).to_le_bytes()[..4])
     }
 
-    // The value of this step stands at this distance.
     fn add_at(&mut self, step: usize, distance: usize) -> Result<(), Fail> {
         self.values.push(StepPlace {
             step,
@@ -173,13 +160,11 @@ impl Written {
         Ok(())
     }
 
-    // The value of this step begins at the front of the bytes.
     fn add(&mut self, step: usize) -> Result<(), Fail> {
         let distance = self.reversed.len();
         self.add_at(step, distance)
     }
 
-    // The distance of equal contents of a kind that is on.
     fn shared_at(&self, kind: Kind, contents: &[u8]) -> Option<usize> {
         for shared in &self.shared {
             if shared.kind == kind && shared.contents.as_slice() == contents {
@@ -189,7 +174,7 @@ impl Written {
         None
     }
 
-    // Contents of this kind begin at the front of the bytes.
+    // Contents of this kind begin at the first byte.
     fn share(&mut self, kind: Kind, contents: &[u8]) -> Result<(), AllocError> {
         if self.switches.is_on(kind) {
             self.shared.push(Shared {
@@ -201,8 +186,8 @@ impl Written {
         Ok(())
     }
 
-    // Contents of this kind, with their count in front and these bytes behind them, of which the
-    // distance is answered.
+    // Contents of this kind, with their count before and these bytes after them. Returns the
+    // distance.
     fn counted(&mut self, kind: Kind, contents: &[u8], behind: &[u8]) -> Result<usize, AllocError> {
         if let Some(distance) = self.shared_at(kind, contents) {
             return Ok(distance);
@@ -247,7 +232,6 @@ impl Written {
         self.add(step)
     }
 
-    // The references of unions and their count, of which the distance is answered.
     fn union_references(&mut self, items: &[(u8, usize)]) -> Result<u32, Fail> {
         self.pad(items.len().wrapping_mul(4), 4)?;
         let len = items.len();
@@ -258,7 +242,6 @@ impl Written {
         Ok(u32::try_from(self.reversed.len())?)
     }
 
-    // The same of their tags.
     fn union_tags(&mut self, items: &[(u8, usize)]) -> Result<u32, Fail> {
         self.pad(items.len(), 4)?;
         let len = items.len();
@@ -269,7 +252,6 @@ impl Written {
         Ok(u32::try_from(self.reversed.len())?)
     }
 
-    // The references, and in front of them the tags.
     fn unions(&mut self, step: usize, items: &[(u8, usize)]) -> Result<(), Fail> {
         let distance = self.union_references(items)?;
         let tags = Some(self.union_tags(items)?);
@@ -281,14 +263,12 @@ impl Written {
         Ok(())
     }
 
-    // A vtable, of which the distance is answered.
     fn vtable(&mut self, fields: &[Field]) -> Result<usize, AllocError> {
         let mut vtable = Vec::new(self.alloc);
         push_vtable(&mut vtable, fields)?;
         self.vtable_of(vtable.as_slice())
     }
 
-    // The same by its bytes.
     fn vtable_of(&mut self, vtable: &[u8]) -> Result<usize, AllocError> {
         if let Some(distance) = self.shared_at(Kind::Vtable, vtable) {
             return Ok(distance);
@@ -299,7 +279,6 @@ impl Written {
         Ok(self.reversed.len())
     }
 
-    // The bytes of a number, of which so many are asked for.
     fn put_number(&mut self, width: u8, value: u64) -> Result<(), AllocError> {
         let bytes = value.to_le_bytes();
         match width {
@@ -310,7 +289,6 @@ impl Written {
         }
     }
 
-    // What a field holds.
     fn field(&mut self, value: &FieldValue) -> Result<(), Fail> {
         match value {
             FieldValue::Number { width, value } => Ok(self.put_number(*width, *value)?),
@@ -331,7 +309,6 @@ impl Written {
         self.add(step)
     }
 
-    // A reference to the value of a step.
     fn put_reference(&mut self, named: usize) -> Result<(), Fail> {
         self.put_reference_to(self.distance(named))
     }
@@ -343,7 +320,6 @@ impl Written {
         Ok(())
     }
 
-    // The distance of the value of a step.
     fn distance(&self, step: usize) -> Option<usize> {
         for value in &self.values {
             if value.step == step {
@@ -353,7 +329,6 @@ impl Written {
         None
     }
 
-    // The distance of the tags of the vector of unions of a step.
     fn tags(&self, step: usize) -> Option<usize> {
         for value in &self.values {
             if value.step == step {
@@ -396,7 +371,6 @@ impl Written {
 }
 
 impl Written {
-    // Forgets all that was written.
     fn clear(&mut self) {
         self.reversed.clear();
         self.parts.clear();
@@ -404,7 +378,6 @@ impl Written {
         self.shared.clear();
     }
 
-    // Takes a step that writes a value.
     fn value(&mut self, number: usize, step: &Step) -> Result<(), Fail> {
         match step {
             Step::Text(text) => self.text(number, text.as_bytes()),
@@ -417,7 +390,6 @@ impl Written {
         }
     }
 
-    // Takes a step. What a finish gives comes behind what was given before.
     fn step(
         &mut self,
         number: usize,
@@ -446,7 +418,6 @@ impl Written {
     }
 }
 
-// Takes all steps from nothing on.
 fn take_steps(
     alloc: Global,
     switches: Switches,
@@ -460,7 +431,6 @@ fn take_steps(
     Ok(())
 }
 
-// What each finish of the steps gives.
 pub fn plain_run(alloc: Global, switches: Switches, steps: &[Step]) -> Result<Vec<Finished>, Fail> {
     let mut finished = Vec::new(alloc);
     take_steps(alloc, switches, steps, &mut finished)?;

@@ -1,4 +1,4 @@
-//! Finished bytes, read back through the readers from the root down.
+//! Finished bytes, read back from the root down.
 
 use super::kinds::position;
 use planus::table_reader::Table;
@@ -9,14 +9,13 @@ use planus::{
 use std::alloc::Global;
 use std::test::Fail;
 
-// A value that is to be read: the step that wrote it, and where a reference to it stands.
+// A value to be read: its step, and where a reference to it is.
 #[derive(Clone, Copy)]
 struct Value<'a> {
     step: usize,
     place: Place<'a>,
 }
 
-// Whether these are the numbers of a list.
 fn numbers_are<'a, T: VectorRead<'a> + Into<u64> + Drop>(
     list: Vector<'a, T>,
     numbers: &[u64],
@@ -39,7 +38,6 @@ fn has_bytes(place: Place<'_>, bytes: &[u8]) -> Result<bool, Fail> {
     Ok(place.read::<&[u8]>()? == bytes)
 }
 
-// Whether a list of these numbers, each of 2, 4 or 8 bytes, stands there.
 fn has_numbers(place: Place<'_>, width: u8, numbers: &[u64]) -> Result<bool, Fail> {
     match width {
         2 => Ok(numbers_are(place.read::<Vector<'_, u16>>()?, numbers)),
@@ -48,7 +46,6 @@ fn has_numbers(place: Place<'_>, width: u8, numbers: &[u64]) -> Result<bool, Fai
     }
 }
 
-// Whether this number of 1, 2, 4 or 8 bytes stands there.
 fn has_number(place: Place<'_>, width: u8, number: u64) -> Result<bool, Fail> {
     let read = match width {
         1 => u64::from(place.read::<u8>()?),
@@ -59,7 +56,6 @@ fn has_number(place: Place<'_>, width: u8, number: u64) -> Result<bool, Fail> {
     Ok(read == number)
 }
 
-// Whether a list of these unions' tags stands there.
 fn has_tags(place: Place<'_>, unions: &[(u8, usize)]) -> Result<bool, Fail> {
     let tags = place.read::<&[u8]>()?;
     for (tag, (want, _)) in tags.iter().zip(unions.iter()) {
@@ -70,23 +66,19 @@ fn has_tags(place: Place<'_>, unions: &[(u8, usize)]) -> Result<bool, Fail> {
     Ok(tags.len() == unions.len())
 }
 
-// Finished bytes that are read.
 #[derive(Drop)]
 struct Reading<'a> {
     steps: &'a [Step],
     finished: &'a Finished,
-    // The values that are still to be read.
     later: Vec<Value<'a>>,
 }
 
 impl<'a> Reading<'a> {
-    // How far from the end the reference leads that stands there.
     fn distance(&self, place: Place<'a>) -> Result<usize, Fail> {
         let target = position(place).wrapping_add(place.read::<u32>()? as usize);
         Ok(self.finished.bytes.len().wrapping_sub(target))
     }
 
-    // The unions of a step.
     fn unions(&self, step: usize) -> &'a [(u8, usize)] {
         match self.steps.get(step) {
             Some(Step::Unions(unions)) => unions.as_slice(),
@@ -94,7 +86,6 @@ impl<'a> Reading<'a> {
         }
     }
 
-    // Whether there is such a place, at which the value of a step is then read later.
     fn reads_later(&mut self, place: Option<Place<'a>>, step: usize) -> Result<bool, Fail> {
         match place {
             Some(place) => {
@@ -105,7 +96,6 @@ impl<'a> Reading<'a> {
         }
     }
 
-    // Whether a list of references stands there, of which each leads to a value that is read later.
     fn has_references(&mut self, place: Place<'a>, steps: &[usize]) -> Result<bool, Fail> {
         let list = place.read::<Vector<'a, Place<'a>>>()?;
         for i in 0..steps.len() {
@@ -116,7 +106,6 @@ impl<'a> Reading<'a> {
         Ok(list.len() == steps.len())
     }
 
-    // The same of the references of unions.
     fn has_unions(&mut self, place: Place<'a>, unions: &[(u8, usize)]) -> Result<bool, Fail> {
         let list = place.read::<Vector<'a, Place<'a>>>()?;
         for i in 0..unions.len() {
@@ -127,7 +116,6 @@ impl<'a> Reading<'a> {
         Ok(list.len() == unions.len())
     }
 
-    // Whether this field stands there.
     fn has_field(&mut self, place: Place<'a>, value: &FieldValue) -> Result<bool, Fail> {
         match value {
             FieldValue::Number { width, value } => has_number(place, *width, *value),
@@ -137,7 +125,6 @@ impl<'a> Reading<'a> {
         }
     }
 
-    // Whether a table of these fields stands there.
     fn has_fields(&mut self, place: Place<'a>, fields: &[Field]) -> Result<bool, Fail> {
         let table = place.read::<Table<'a>>()?;
         for field in fields {
@@ -150,7 +137,6 @@ impl<'a> Reading<'a> {
         Ok(true)
     }
 
-    // Whether the value stands there that the step wrote.
     fn has_value(&mut self, place: Place<'a>, step: usize) -> Result<bool, Fail> {
         match self.steps.get(step) {
             Some(Step::Text(text)) => has_text(place, text.as_str()),
@@ -162,8 +148,8 @@ impl<'a> Reading<'a> {
         }
     }
 
-    // Whether all values that are still to be read stand where they should. `read` has how far from
-    // the end the value of each step stands, once it is read.
+    // Whether all values still to be read are there. `read` has the distance of each step's value,
+    // once it is read.
     fn all_are_read(&mut self, read: &mut [Option<usize>]) -> Result<bool, Fail> {
         for _ in 0..100000 {
             let Some(Value { step, place }) = self.later.pop() else {
@@ -184,8 +170,8 @@ impl<'a> Reading<'a> {
     }
 }
 
-// Whether the value of the root's step is read back as the steps say it, with all that it refers
-// to, and all references to one value lead to one place.
+// Whether the value of the root's step reads back with all that it refers to, and all references to
+// one value lead to one place.
 pub fn reads_back(
     alloc: Global,
     steps: &[Step],

@@ -1,6 +1,5 @@
-//! Calls in which one request for memory after the other is refused: they are made with all memory
-//! taken but a few bytes, and at each turn with a few bytes more; and once as they are, for a script
-//! that refuses each request in turn.
+//! Calls in which one allocation after another fails: they are made with little memory, and at each
+//! turn with a few bytes more; and once for a script that makes each allocation fail in turn.
 
 use super::refused_calls::{Call, Outcome, make, make_again, outcome_of, prepare};
 use super::refused_copies::{
@@ -14,13 +13,12 @@ use planus_testing::{exhaust_all_but, holds_or_says};
 use std::alloc::{AllocError, Global};
 use std::test::Fail;
 
-// How many bytes more there are at each turn, and how many turns there are at most.
+// The additional bytes at each turn, and the greatest number of turns.
 const STEP: usize = 32;
 
 const TURNS: usize = 64;
 
-// Makes a call with so many bytes of memory. Tells whether it was refused; nothing where memory was
-// left.
+// Returns whether the call failed; `None` where memory was left.
 fn is_refused(
     alloc: Global,
     builder: &mut Builder,
@@ -34,7 +32,6 @@ fn is_refused(
     Ok(if exhausted { Some(refused) } else { None })
 }
 
-// What a call comes to with so many bytes of memory, and with all of it where it is refused.
 fn outcome_in(
     alloc: Global,
     builder: &mut Builder,
@@ -49,16 +46,13 @@ fn outcome_in(
     })
 }
 
-// The same in a new builder.
 fn outcome_with(alloc: Global, call: Call, spare: usize) -> Result<Option<Outcome>, BuildError> {
     let mut builder = new_builder(alloc)?;
     outcome_in(alloc, &mut builder, call, spare)
 }
 
-// The number of bytes at a refusal, and in the end.
 type Lengths = (usize, usize);
 
-// Notes that a call was refused at these lengths. Tells whether they are among these.
 fn note(met: &mut [bool; 3], all: &[Lengths], lengths: Lengths) -> bool {
     for at in 0..all.len() {
         if all[at] == lengths && at < 3 {
@@ -69,8 +63,8 @@ fn note(met: &mut [bool; 3], all: &[Lengths], lengths: Lengths) -> bool {
     false
 }
 
-// At how many different lengths a call is refused, made with more memory at each turn until it
-// isn't, where all are among these; nothing where memory was left.
+// The number of different lengths at which a call fails, with more memory at each turn until it
+// works; `None` where memory was left.
 fn states_met(alloc: Global, call: Call, all: &[Lengths]) -> Result<Option<usize>, BuildError> {
     let mut met = [false; 3];
     for turn in 0..TURNS {
@@ -84,11 +78,10 @@ fn states_met(alloc: Global, call: Call, all: &[Lengths]) -> Result<Option<usize
     Ok(Some(0))
 }
 
-// Calls, the lengths at which they may be refused, and at how many of them they are at least. Of a
-// list in a new builder no request comes between its two texts, for which the builder has room.
-// Behind another text there is room for the first of them alone, and the second is refused where
-// the builder has the 6 bytes of the first; then the list's count is. A weapon asks for the memory
-// of its bytes alone, the first of which may be there in the room of a small block.
+// Calls, the lengths at which they may fail, and the least number of them. Two strings need no
+// allocation between them in a new builder. After another string there is room for the first alone:
+// the second may fail at its 6 bytes, and then the vector's count. A weapon allocates its bytes
+// alone.
 const CALLS: &[(&str, Call, &[Lengths], usize)] = &[
     ("a list", Call::List, &[(0, 26), (6, 26), (14, 26)], 2),
     (
@@ -111,7 +104,7 @@ fn calls_on_a_builder(rt: HostRuntime) -> Result<(), Fail> {
     Ok(())
 }
 
-// A call on no builder.
+// A call without a builder.
 #[derive(Clone, Copy)]
 enum Other {
     Numbers,
@@ -119,7 +112,6 @@ enum Other {
     Replay,
 }
 
-// Whether such a call is made, or refused.
 fn other_is_made(alloc: Global, other: Other, steps: &[Step]) -> Option<bool> {
     match other {
         Other::Numbers => numbers_are_copied(alloc),
@@ -128,7 +120,6 @@ fn other_is_made(alloc: Global, other: Other, steps: &[Step]) -> Option<bool> {
     }
 }
 
-// The same with all memory but so many bytes held. Tells whether memory was taken.
 fn other_beside(
     alloc: Global,
     held: &mut Vec<Vec<u8>>,
@@ -140,7 +131,6 @@ fn other_beside(
     Ok((exhausted, other_is_made(alloc, other, steps)))
 }
 
-// The same, after which memory is there again.
 fn other_with(
     alloc: Global,
     other: Other,
@@ -151,8 +141,7 @@ fn other_with(
     other_beside(alloc, &mut held, other, steps, spare)
 }
 
-// At how many turns, each with so many bytes more, such a call is refused before it is made, where
-// it is always made again with memory; nothing where memory was left.
+// The number of turns at which such a call fails before it works.
 fn refusals_of(
     alloc: Global,
     other: Other,
@@ -175,9 +164,8 @@ fn refusals_of(
     Ok(Some(0))
 }
 
-// Calls, how many bytes more there are at each turn, and at how many turns they are refused at
-// least. The copies of numbers take 10 bytes, and the list of five texts 120, so that more than four
-// turns come to the texts themselves.
+// Calls, the additional bytes at each turn, and the least number of failing turns: numbers take 10
+// bytes, five strings 120, so more than four turns fail at the strings.
 const OTHERS: &[(&str, Other, usize, usize)] = &[
     ("numbers", Other::Numbers, STEP, 1),
     ("texts", Other::Texts, STEP, 5),
@@ -195,7 +183,6 @@ fn calls_on_no_builder(rt: HostRuntime) -> Result<(), Fail> {
     Ok(())
 }
 
-// Whether a call in a builder of its own comes to what it may, where one request is refused or none.
 fn is_mended(alloc: Global, call: Call, all: &[Lengths]) -> bool {
     match outcome_of(alloc, call) {
         Outcome::NotBegun => true,
@@ -205,7 +192,7 @@ fn is_mended(alloc: Global, call: Call, all: &[Lengths]) -> bool {
     }
 }
 
-// The script beside this crate refuses one request of this test after the other.
+// The script beside this crate makes one allocation of this test fail after another.
 #[test]
 fn calls_with_one_request_refused(rt: HostRuntime) {
     for (name, call, all, _least) in CALLS {

@@ -1,4 +1,4 @@
-//! Calls on a builder that ask for memory several times.
+//! Calls on a builder that allocate several times.
 
 ghost use Rattle.std.specs.Prelude.{◌≡◌, ◌≤◌, length, IsTrue, codes};
 
@@ -11,41 +11,38 @@ use planus::{
 };
 use std::alloc::Global;
 
-/// A call that asks for memory several times.
+/// A call that allocates several times.
 #[derive(Clone, Copy)]
 pub enum Call {
-    /// A list of the texts `A` and `B`, in a new builder.
+    /// A vector of the strings `A` and `B`, in a new builder.
     List,
-    /// The same behind the text `Axe` and two bytes, which leave room for one of the two.
+    /// The same after the string `Axe` and two bytes, which leave room for one of the two.
     ListBehind,
-    /// A vector of two unions, with the tags 1 and 2 and the texts `A` and `B`, which stand there.
+    /// A vector of two unions, with the tags 1 and 2 and the strings `A` and `B`, written before.
     Unions,
-    /// A table with the text `Axe` and the number 24, in a new builder.
+    /// A table with the string `Axe` and the number 24, in a new builder.
     Weapon,
 }
 
-/// What a call came to.
 #[derive(Clone, Copy)]
 pub enum Outcome {
-    /// A request before the call was refused.
+    /// An allocation before the call failed.
     NotBegun,
-    /// No request was refused, and the builder has so many bytes.
+    /// No allocation failed.
     Made {
-        /// Their number.
         len: usize,
     },
-    /// A request was refused, and none when the call was made again.
+    /// An allocation failed, and none when the call was made again.
     MadeAgain {
-        /// The number of bytes after the refusal.
+        /// The length in bytes after the error.
         refused: usize,
-        /// The number of bytes in the end.
+        /// The length in bytes in the end.
         len: usize,
     },
-    /// What was written before isn't kept, or what is written doesn't read back.
+    /// What was written before isn't there, or what is written doesn't read back.
     Wrong,
 }
 
-/// The kind of an offset to a weapon.
 struct Weapon;
 
 impl TableKind for Weapon {
@@ -60,27 +57,25 @@ impl TableKind for Weapon {
     }
 }
 
-/// Where a value was written: what it is named by, and for a vector of unions its tags.
+/// The distances of a value, and of a union vector's tags.
 #[derive(Clone, Copy)]
 pub struct Written {
     value: Offset<()>,
     tags: Option<Offset<()>>,
 }
 
-/// The texts that stand there before a vector of unions is written.
+/// The strings that are there before a union vector is written.
 const TEXTS: &[u8] = b"\x01\0\0\0B\0\0\0\x01\0\0\0A\0";
 
-/// What stands there before a list, 10 bytes of it, and in front of that the texts of the list.
+/// What is there before a vector, 10 bytes of it, and before that the strings of the vector.
 const BEHIND: &[u8] = b"\x01\0\0\0B\0\0\0\x01\0\0\0A\0xy\x03\0\0\0Axe\0";
 
-/// The builder has what is at this distance.
 fn has(builder: &Builder, distance: u32) -> bool
     ensures { IsTrue result → distance ≤ length builder.now.bytes }
 {
     distance as usize <= builder.len()
 }
 
-/// Writes the two texts.
 fn write_texts(builder: &mut Builder) -> Result<[Offset<Text>; 2], BuildError> {
     Ok([builder.create_string("A")?, builder.create_string("B")?])
 }
@@ -93,7 +88,6 @@ fn write_list(builder: &mut Builder) -> Result<Written, BuildError> {
     })
 }
 
-/// Writes a vector of these unions.
 fn write_unions_of(
     builder: &mut Builder,
     first: UnionOffset<()>,
@@ -111,7 +105,6 @@ fn write_unions_of(
     }
 }
 
-/// Writes the vector of unions of two texts, which are found.
 fn write_unions(builder: &mut Builder) -> Result<Written, BuildError> {
     let [a, b] = write_texts(builder)?;
     let first = UnionOffset::new(1, a.downcast());
@@ -127,7 +120,6 @@ fn write_weapon(builder: &mut Builder) -> Result<Written, BuildError> {
     })
 }
 
-/// Writes what stands there before the call.
 pub fn prepare(builder: &mut Builder, call: Call) -> Result<(), BuildError> {
     match call {
         Call::Unions => {
@@ -142,7 +134,6 @@ pub fn prepare(builder: &mut Builder, call: Call) -> Result<(), BuildError> {
     }
 }
 
-/// Makes the call.
 pub fn make(builder: &mut Builder, call: Call) -> Result<Written, BuildError> {
     match call {
         Call::List | Call::ListBehind => write_list(builder),
@@ -175,7 +166,6 @@ pub fn weapon_is_read(bytes: &[u8]) -> bool {
     }
 }
 
-/// Tells whether a finish with this root gives bytes that are read.
 fn finish_is_read(builder: &mut Builder, root: Offset<()>, call: Call, tags: bool) -> bool {
     if !has(builder, root.distance()) {
         return false;
@@ -190,7 +180,6 @@ fn finish_is_read(builder: &mut Builder, root: Offset<()>, call: Call, tags: boo
     }
 }
 
-/// Tells whether what was written reads back.
 fn reads_back(builder: &mut Builder, call: Call, written: Written) -> bool {
     finish_is_read(builder, written.value, call, false)
         && match written.tags {
@@ -203,7 +192,6 @@ fn reads_back(builder: &mut Builder, call: Call, written: Written) -> bool {
         }
 }
 
-/// Tells whether a text is written, or found, in the bytes that are there.
 fn text_stands(builder: &mut Builder, letters: &str, serialized: &[u8]) -> bool {
     match builder.create_string(letters) {
         Ok(text) => match builder.len().checked_sub(text.distance() as usize) {
@@ -225,7 +213,6 @@ fn a_and_b_stand(builder: &mut Builder) -> bool {
     text_stands(builder, "A", b"\x01\0\0\0A\0") && text_stands(builder, "B", b"\x01\0\0\0B\0")
 }
 
-/// Tells whether the texts of a call are found only where they stand.
 fn texts_stand(builder: &mut Builder, call: Call) -> bool {
     match call {
         Call::Weapon => axe_stands(builder),
@@ -234,13 +221,12 @@ fn texts_stand(builder: &mut Builder, call: Call) -> bool {
     }
 }
 
-/// Tells whether these bytes are as many of the last of those behind a list, or end with all of them.
+/// Whether these bytes are the end of those with a vector, or end with all of them.
 fn is_behind(bytes: &[u8]) -> bool {
     bytes.ends_with(BEHIND) || BEHIND.ends_with(bytes) && bytes.len() >= 10
 }
 
-/// Tells whether what stood there before the call is still the end of the bytes, and for a list
-/// behind a text whether its own texts that were written are, too.
+/// Whether what was there before the call is still the end of the bytes.
 fn keeps_what_was_there(builder: &Builder, call: Call) -> bool {
     match call {
         Call::Unions => builder.as_slice().ends_with(TEXTS),
@@ -249,7 +235,6 @@ fn keeps_what_was_there(builder: &Builder, call: Call) -> bool {
     }
 }
 
-/// Tells whether a text is read back that stands there before the call.
 fn axe_is_read(builder: &mut Builder) -> bool {
     match builder.finish("Axe", None) {
         Ok(bytes) => {
@@ -260,7 +245,6 @@ fn axe_is_read(builder: &mut Builder) -> bool {
     }
 }
 
-/// What a refused call comes to when it is made again with memory.
 pub fn make_again(builder: &mut Builder, call: Call) -> Outcome {
     let refused = builder.len();
     if !keeps_what_was_there(builder, call) || !texts_stand(builder, call) {
@@ -278,7 +262,6 @@ pub fn make_again(builder: &mut Builder, call: Call) -> Outcome {
     }
 }
 
-/// What a call that was made comes to.
 fn made(builder: &mut Builder, call: Call, written: Written) -> Outcome {
     let len = builder.len();
     if !reads_back(builder, call, written) {
@@ -287,7 +270,6 @@ fn made(builder: &mut Builder, call: Call, written: Written) -> Outcome {
     Outcome::Made { len }
 }
 
-/// What a call comes to in an empty builder.
 fn outcome_in(builder: &mut Builder, call: Call) -> Outcome {
     if prepare(builder, call).is_err() {
         return Outcome::NotBegun;
@@ -299,7 +281,6 @@ fn outcome_in(builder: &mut Builder, call: Call) -> Outcome {
     }
 }
 
-/// What a call comes to in a builder of its own.
 pub fn outcome_of(alloc: Global, call: Call) -> Outcome {
     match Builder::new(alloc) {
         Ok(mut builder) => outcome_in(&mut builder, call),

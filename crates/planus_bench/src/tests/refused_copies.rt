@@ -1,4 +1,4 @@
-//! Copies and a replay, which ask for memory several times.
+//! Copies and a replay, which allocate several times.
 
 use super::refused_calls::weapon_is_read;
 use super::runs::weapon;
@@ -8,21 +8,18 @@ use planus::{
 };
 use std::alloc::Global;
 
-/// What a call came to.
 #[derive(Clone, Copy)]
 pub enum Copied {
-    /// A request before the call was refused.
+    /// An allocation before the call failed.
     NotBegun,
-    /// No request was refused.
+    /// No allocation failed.
     Made,
-    /// A request was refused, and none when the call was made again.
+    /// An allocation failed, and none when the call was made again.
     MadeAgain,
-    /// Something else came of it.
     Wrong,
 }
 
 impl Copied {
-    /// What a refused call comes to when it is made again with memory.
     fn again(copied: Option<bool>) -> Copied {
         match copied {
             Some(true) => Copied::MadeAgain,
@@ -31,10 +28,9 @@ impl Copied {
     }
 }
 
-/// The list of the numbers 1 to 5.
 const NUMBERS: [u8; 18] = [4, 0, 0, 0, 5, 0, 0, 0, 1, 0, 2, 0, 3, 0, 4, 0, 5, 0];
 
-/// A list of five texts `Axe`, which are one.
+/// A vector of five references to one string `Axe`.
 const TEXTS: [u8; 36] = [
     4, 0, 0, 0, 5, 0, 0, 0, 20, 0, 0, 0, 16, 0, 0, 0, 12, 0, 0, 0, 8, 0, 0, 0, 4, 0, 0, 0, 3, 0, 0,
     0, b'A', b'x', b'e', 0,
@@ -47,7 +43,6 @@ fn numbers() -> Vector<'static, u16> {
     }
 }
 
-/// Tells whether the view still gives all items.
 fn numbers_are_read() -> bool {
     let mut want: u16 = 0;
     for number in numbers() {
@@ -59,7 +54,6 @@ fn numbers_are_read() -> bool {
     want == 5
 }
 
-/// Whether the numbers are copied, or memory for them is refused.
 pub fn numbers_are_copied(alloc: Global) -> Option<bool> {
     match numbers().to_vec::<u16>(alloc) {
         Ok(copies) if copies.as_slice() == [1, 2, 3, 4, 5].as_slice() => Some(true),
@@ -68,7 +62,6 @@ pub fn numbers_are_copied(alloc: Global) -> Option<bool> {
     }
 }
 
-/// Copies the numbers.
 pub fn copy_numbers(alloc: Global) -> Copied {
     match numbers_are_copied(alloc) {
         Some(true) => Copied::Made,
@@ -95,7 +88,6 @@ fn texts_are_read() -> bool {
     count == 5
 }
 
-/// Whether the texts are copied, or memory for them is refused.
 pub fn texts_are_copied(alloc: Global) -> Option<bool> {
     match texts().to_vec_result::<String>(alloc) {
         Ok(copies) if copies.len() == 5 && copies.iter().all(|text| text.as_str() == "Axe") => {
@@ -106,7 +98,6 @@ pub fn texts_are_copied(alloc: Global) -> Option<bool> {
     }
 }
 
-/// Copies the texts.
 pub fn copy_texts(alloc: Global) -> Copied {
     match texts_are_copied(alloc) {
         Some(true) => Copied::Made,
@@ -122,7 +113,6 @@ fn is_weapon(finished: &[Finished]) -> bool {
     }
 }
 
-/// Whether the steps are replayed to the weapon, or memory is refused.
 pub fn weapon_is_replayed(alloc: Global, steps: &[Step]) -> Option<bool> {
     match replay(alloc, Caches::all(), steps) {
         Ok(finished) if is_weapon(finished.as_slice()) => Some(true),
@@ -131,7 +121,6 @@ pub fn weapon_is_replayed(alloc: Global, steps: &[Step]) -> Option<bool> {
     }
 }
 
-/// Replays steps, and once more where memory was refused.
 fn replay_twice(alloc: Global, steps: &[Step]) -> Copied {
     match weapon_is_replayed(alloc, steps) {
         Some(true) => Copied::Made,
@@ -140,7 +129,6 @@ fn replay_twice(alloc: Global, steps: &[Step]) -> Copied {
     }
 }
 
-/// Replays the steps of the weapon.
 pub fn replay_weapon(alloc: Global) -> Copied {
     match weapon(alloc) {
         Ok(steps) => replay_twice(alloc, steps.as_slice()),

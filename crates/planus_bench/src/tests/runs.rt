@@ -1,4 +1,4 @@
-//! Runs of steps in every setting of the caches, against the plain run.
+//! Runs of steps under all cache settings, against the plain run.
 
 use super::plain_run::plain_run;
 use super::read_back::reads_back;
@@ -10,7 +10,7 @@ use std::alloc::{AllocError, Global};
 use std::process::Abort;
 use std::test::Fail;
 
-// Numbers that look random, and are the same each time.
+// Pseudo-random numbers, the same each time.
 #[derive(Drop)]
 struct Numbers {
     last: u32,
@@ -23,23 +23,19 @@ impl Numbers {
     }
 }
 
-// Adds a step, where there was memory for it.
 pub fn add(steps: &mut Vec<Step>, step: Result<Step, AllocError>) -> Result<(), AllocError> {
     steps.push(step?)?;
     Ok(())
 }
 
-// Adds a finish with the value of this step.
 pub fn add_finish(steps: &mut Vec<Step>, root: usize) -> Result<(), AllocError> {
     add(steps, Ok(Step::Finish { root, id: None }))
 }
 
-// A text of these letters.
 pub fn word(alloc: Global, letters: &str) -> Result<Step, AllocError> {
     Ok(Step::Text(String::from_str(alloc, letters)?))
 }
 
-// A text of `count` letters.
 pub fn text(alloc: Global, count: usize) -> Result<Step, AllocError> {
     let mut text = String::new(alloc);
     for index in 0..count {
@@ -48,7 +44,6 @@ pub fn text(alloc: Global, count: usize) -> Result<Step, AllocError> {
     Ok(Step::Text(text))
 }
 
-// A list of `count` numbers of 2, 4 or 8 bytes.
 pub fn list(alloc: Global, width: u8, count: usize) -> Result<Step, AllocError> {
     let mut items = Vec::new(alloc);
     for index in 0..count {
@@ -57,7 +52,6 @@ pub fn list(alloc: Global, width: u8, count: usize) -> Result<Step, AllocError> 
     Ok(Step::Numbers { width, items })
 }
 
-// A list of `count` references to one value.
 pub fn refs(alloc: Global, root: usize, count: usize) -> Result<Step, AllocError> {
     let mut steps = Vec::new(alloc);
     for _ in 0..count {
@@ -66,7 +60,6 @@ pub fn refs(alloc: Global, root: usize, count: usize) -> Result<Step, AllocError
     Ok(Step::Refs(steps))
 }
 
-// A list of `count` unions of one value, of tags from 1 on.
 pub fn unions(alloc: Global, root: usize, count: usize) -> Result<Step, AllocError> {
     let mut items = Vec::new(alloc);
     for index in 0..count {
@@ -75,14 +68,13 @@ pub fn unions(alloc: Global, root: usize, count: usize) -> Result<Step, AllocErr
     Ok(Step::Unions(items))
 }
 
-// What a table may refer to: a value, and a vector of unions, if there is one.
+// What a table may refer to: a value, and an optional union vector.
 #[derive(Clone, Copy)]
 pub struct Named {
     pub root: usize,
     pub unions: Option<usize>,
 }
 
-// References to the tags and to the references of a vector of unions, or else to one value.
 pub fn two_references(named: Named) -> [FieldValue; 2] {
     match named.unions {
         Some(unions) => [FieldValue::Tags(unions), FieldValue::Values(unions)],
@@ -90,8 +82,8 @@ pub fn two_references(named: Named) -> [FieldValue; 2] {
     }
 }
 
-// A table of at most six fields: numbers, and references. The slots are `apart` from each other,
-// and the fields are declared from the greatest slot on.
+// A table of at most six numbers and references. The slots are `apart` from each other, and the
+// fields are declared from the greatest slot on.
 pub fn table(alloc: Global, named: Named, count: usize, apart: u16) -> Result<Step, AllocError> {
     let mut fields = Vec::new(alloc);
     let [first, second] = two_references(named);
@@ -122,7 +114,6 @@ pub fn table(alloc: Global, named: Named, count: usize, apart: u16) -> Result<St
     Ok(Step::Table(fields))
 }
 
-// A byte list of `count` bytes.
 pub fn bytes(alloc: Global, count: usize) -> Result<Step, AllocError> {
     let mut bytes = Vec::new(alloc);
     for index in 0..count {
@@ -131,25 +122,22 @@ pub fn bytes(alloc: Global, count: usize) -> Result<Step, AllocError> {
     Ok(Step::Bytes(bytes))
 }
 
-// One of these numbers.
 fn one_of(numbers: &[usize], draw: usize) -> Option<usize> {
     let index = draw.checked_rem(numbers.len())?;
     numbers.get(index).copied()
 }
 
-// Steps that look random.
 #[derive(Drop)]
 struct Mixed {
     alloc: Global,
     numbers: Numbers,
     steps: Vec<Step>,
-    // The steps since the last clear that wrote a value other than a vector of unions.
+    // The steps since the last clear that wrote a value other than a union vector.
     values: Vec<usize>,
     last_unions: Option<usize>,
 }
 
 impl Mixed {
-    // A table of a drawn shape.
     fn table(&mut self, root: usize) -> Result<Step, AllocError> {
         let shape = self.numbers.draw();
         let apart = (shape / 7 % 40) as u16 + 1;
@@ -157,7 +145,6 @@ impl Mixed {
         table(self.alloc, Named { root, unions }, shape % 7, apart)
     }
 
-    // A step of this kind, which names this step, if there is one that it can name.
     fn step(&mut self, kind: usize, root: Option<usize>) -> Result<Step, AllocError> {
         let alloc = self.alloc;
         match (kind, root) {
@@ -184,7 +171,6 @@ impl Mixed {
         }
     }
 
-    // Keeps what later steps may name of the last step, which has this number.
     fn note_last(&mut self, number: usize) -> Result<(), AllocError> {
         match self.steps.last() {
             Some(Step::Clear) => {
@@ -198,7 +184,6 @@ impl Mixed {
         Ok(())
     }
 
-    // Adds a step of a drawn kind.
     fn push(&mut self) -> Result<(), AllocError> {
         let number = self.steps.len();
         let kind = self.numbers.draw() % 32;
@@ -209,7 +194,7 @@ impl Mixed {
     }
 }
 
-// Texts, lists, vectors of unions and tables of mixed lengths, finishes with and without an
+// Strings, vectors, union vectors and tables of mixed lengths, finishes with and without an
 // identifier, and a clear now and then.
 fn mixed_steps(alloc: Global, count: usize) -> Result<Vec<Step>, AllocError> {
     let mut mixed = Mixed {
@@ -226,8 +211,6 @@ fn mixed_steps(alloc: Global, count: usize) -> Result<Vec<Step>, AllocError> {
     Ok(steps)
 }
 
-// The numbers of clears, of finishes without an identifier, of those with one, and of vectors of
-// unions.
 pub fn counts(steps: &[Step]) -> (usize, usize, usize, usize) {
     let mut counts: (usize, usize, usize, usize) = (0, 0, 0, 0);
     for step in steps {
@@ -244,7 +227,6 @@ pub fn counts(steps: &[Step]) -> (usize, usize, usize, usize) {
     counts
 }
 
-// Adds a text `Axe`, a table with its reference and the number 24, and a finish.
 fn push_weapon(alloc: Global, steps: &mut Vec<Step>) -> Result<(), AllocError> {
     add(steps, word(alloc, "Axe"))?;
     add(steps, with_name(alloc, 0))?;
@@ -257,13 +239,11 @@ pub fn weapon(alloc: Global) -> Result<Vec<Step>, AllocError> {
     Ok(steps)
 }
 
-// Adds a field.
 pub fn add_field(fields: &mut Vec<Field>, slot: u16, value: FieldValue) -> Result<(), AllocError> {
     fields.push(Field { slot, value })?;
     Ok(())
 }
 
-// A table with a reference in slot 0 and the number 24 of two bytes in slot 1.
 fn with_name(alloc: Global, name: usize) -> Result<Step, AllocError> {
     let mut fields = Vec::new(alloc);
     let number = FieldValue::Number {
@@ -275,12 +255,11 @@ fn with_name(alloc: Global, name: usize) -> Result<Step, AllocError> {
     Ok(Step::Table(fields))
 }
 
-// A byte list of these letters.
 fn word_bytes(alloc: Global, letters: &str) -> Result<Step, AllocError> {
     Ok(Step::Bytes(Vec::from_slice(alloc, letters.as_bytes())?))
 }
 
-// Adds a text and a byte list of this word, a table that refers to the step `first`, and a list.
+// A string and a byte vector of this word, a table that refers to step `first`, and a vector.
 fn push_values(
     alloc: Global,
     steps: &mut Vec<Step>,
@@ -293,7 +272,6 @@ fn push_values(
     add(steps, list(alloc, 2, letters.len()))
 }
 
-// References to all steps from this one on.
 fn refs_from(alloc: Global, first: usize, end: usize) -> Result<Step, AllocError> {
     let mut all = Vec::new(alloc);
     for step in first..end {
@@ -302,8 +280,7 @@ fn refs_from(alloc: Global, first: usize, end: usize) -> Result<Step, AllocError
     Ok(Step::Refs(all))
 }
 
-// Adds twice the same texts, byte lists and tables, each with one between that differs, a finish,
-// and a clear.
+// The same values twice, each with one between that differs, a finish, and a clear.
 fn push_repeated(alloc: Global, steps: &mut Vec<Step>) -> Result<(), AllocError> {
     let first = steps.len();
     push_values(alloc, steps, first, "Hi")?;
@@ -315,7 +292,6 @@ fn push_repeated(alloc: Global, steps: &mut Vec<Step>) -> Result<(), AllocError>
     add(steps, Ok(Step::Clear))
 }
 
-// These, written, finished, cleared, and written again.
 fn push_repeated_twice(alloc: Global, steps: &mut Vec<Step>) -> Result<(), AllocError> {
     push_repeated(alloc, steps)?;
     push_repeated(alloc, steps)
@@ -327,7 +303,6 @@ fn repeated(alloc: Global) -> Result<Vec<Step>, AllocError> {
     Ok(steps)
 }
 
-// The root of a finish, and whether it has the size in front.
 fn root_of(step: &Step) -> Option<(usize, bool)> {
     match step {
         Step::Finish { root, .. } => Some((*root, false)),
@@ -340,7 +315,6 @@ fn is_same(got: &Finished, want: &Finished) -> bool {
     got.bytes.as_slice() == want.bytes.as_slice() && got.places.as_slice() == want.places.as_slice()
 }
 
-// Whether two runs give the same bytes and places.
 pub fn are_same(got: &[Finished], want: &[Finished]) -> bool {
     for i in 0..got.len() {
         match want.get(i) {
@@ -351,7 +325,7 @@ pub fn are_same(got: &[Finished], want: &[Finished]) -> bool {
     got.len() == want.len()
 }
 
-// Whether there is one for each finish of the steps, and its root is read back as the steps say it.
+// Whether each finish's root reads back.
 fn are_read_back(alloc: Global, steps: &[Step], finished: &[Finished]) -> Result<bool, Fail> {
     let mut count: usize = 0;
     for step in steps {
@@ -366,14 +340,11 @@ fn are_read_back(alloc: Global, steps: &[Step], finished: &[Finished]) -> Result
     Ok(count == finished.len())
 }
 
-// Whether a replay with these caches gives the same bytes and places, of which each root is read
-// back.
 fn gives(alloc: Global, caches: Caches, steps: &[Step], want: &[Finished]) -> Result<bool, Fail> {
     let got = replay(alloc, caches, steps)?;
     Ok(are_same(got.as_slice(), want) && are_read_back(alloc, steps, got.as_slice())?)
 }
 
-// Compares replays in a setting, with none, some or all of the bits of a hash, with a plain run.
 fn replays_agree_in(
     rt: &impl Abort,
     alloc: Global,
@@ -389,7 +360,6 @@ fn replays_agree_in(
     Ok(())
 }
 
-// The same in every setting.
 fn replays_agree(rt: &impl Abort, alloc: Global, steps: &[Step]) -> Result<(), Fail> {
     for number in 0..8 {
         replays_agree_in(rt, alloc, Switches::of(number), steps)?;
@@ -397,7 +367,6 @@ fn replays_agree(rt: &impl Abort, alloc: Global, steps: &[Step]) -> Result<(), F
     Ok(())
 }
 
-// The same of steps that are handed over, where there was memory for them.
 fn replays_of(
     rt: &impl Abort,
     alloc: Global,
@@ -411,7 +380,6 @@ fn are_mixed(steps: &[Step]) -> bool {
     steps.len() == 300 && counts(steps) == (14, 65, 50, 22)
 }
 
-// The same of mixed steps, of which there are as many as there should be.
 fn mixed_replays(rt: &impl Abort, alloc: Global) -> Result<(), Fail> {
     let mixed = mixed_steps(alloc, 300)?;
     check(rt, are_mixed(mixed.as_slice()), "mixed steps");

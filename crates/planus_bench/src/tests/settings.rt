@@ -1,8 +1,8 @@
-//! The settings of the caches.
+//! Cache settings.
 
 use planus::Caches;
 
-// Kinds of contents of which equal ones may be written once.
+// Kinds of contents that may be written once.
 #[derive(Clone, Copy, PartialEq, Eq)]
 pub enum Kind {
     Vtable,
@@ -10,7 +10,7 @@ pub enum Kind {
     Bytes,
 }
 
-// Of which kinds equal contents are written once.
+// The kinds whose equal contents are written once.
 #[derive(Clone, Copy, Debug)]
 pub struct Switches {
     vtables: bool,
@@ -19,7 +19,7 @@ pub struct Switches {
 }
 
 impl Switches {
-    // One of the eight settings, by a number from 0 to 7.
+    // Returns cache settings by a number from 0 to 7.
     pub fn of(number: u8) -> Switches {
         Switches {
             vtables: number & 1 != 0,
@@ -36,7 +36,6 @@ impl Switches {
         }
     }
 
-    // The caches of this setting, which use these bits of a hash.
     pub fn caches(&self, hash_mask: u64) -> Caches {
         Caches {
             vtables: self.vtables,

@@ -1,4 +1,4 @@
-//! The version, what is exported again, and a step that no script has.
+//! The version, re-exports, and a step that no script has.
 
 use super::new_builder;
 use super::runs::{add, add_field, add_finish, word};
@@ -22,7 +22,6 @@ fn this_version_alone(rt: HostRuntime) {
     }
 }
 
-// Whether a text that is written with an identifier is read back.
 fn a_text_is_read_back(builder: &mut Builder) -> bool {
     let Ok(bytes) = builder.finish("Axe", Some(*b"TEST")) else {
         return false;
@@ -31,7 +30,6 @@ fn a_text_is_read_back(builder: &mut Builder) -> bool {
     bytes == b"\x08\0\0\0TEST\x03\0\0\0Axe\0".as_slice() && matches!(text, Ok("Axe"))
 }
 
-// The same in a new builder.
 fn a_text_is_read_back_in(alloc: Global) -> bool {
     match new_builder(alloc) {
         Ok(mut builder) => a_text_is_read_back(&mut builder),
@@ -45,7 +43,6 @@ fn a_text_is_written_and_read_back(rt: HostRuntime) {
     check(&rt, read, "a text is read back");
 }
 
-// A list, or a table, of a number of 3 bytes.
 fn odd_width(alloc: Global, in_table: bool) -> Result<Step, AllocError> {
     if in_table {
         let mut fields = Vec::new(alloc);
@@ -56,7 +53,6 @@ fn odd_width(alloc: Global, in_table: bool) -> Result<Step, AllocError> {
     Ok(Step::Numbers { width: 3, items })
 }
 
-// Adds a text, and behind it such a step.
 fn push_behind_a_text(
     alloc: Global,
     steps: &mut Vec<Step>,
@@ -66,7 +62,6 @@ fn push_behind_a_text(
     add(steps, odd_width(alloc, in_table))
 }
 
-// Whether a replay is refused for the width in its second step.
 fn is_refused(alloc: Global, steps: &[Step]) -> bool {
     let why = Why::WidthUnknown;
     match replay(alloc, Caches::all(), steps) {
@@ -75,7 +70,6 @@ fn is_refused(alloc: Global, steps: &[Step]) -> bool {
     }
 }
 
-// The same of a replay of such steps.
 fn width_is_refused(alloc: Global, in_table: bool) -> bool {
     let mut steps = Vec::new(alloc);
     push_behind_a_text(alloc, &mut steps, in_table).is_ok() && is_refused(alloc, steps.as_slice())
@@ -96,13 +90,11 @@ fn a_width_that_numbers_cannot_have(rt: HostRuntime) {
     check(&rt, prints_its_words(alloc, Why::WidthUnknown), "its words");
 }
 
-// Whether a copy of a step is equal to it, and another one isn't.
 fn is_copied(alloc: Global, step: &Step) -> Result<bool, AllocError> {
     let copy = step.clone()?;
     Ok(copy == *step && copy != odd_width(alloc, false)?)
 }
 
-// Whether what a replay gives is copied, the bytes and the places.
 fn finishes_are_copied(finished: &[Finished]) -> Result<bool, AllocError> {
     match finished {
         [first, second] => Ok(first.clone()? == *first && first != second),
@@ -110,7 +102,6 @@ fn finishes_are_copied(finished: &[Finished]) -> Result<bool, AllocError> {
     }
 }
 
-// The same of a text that is finished twice.
 fn a_replay_is_copied(alloc: Global, steps: &mut Vec<Step>) -> Result<bool, AllocError> {
     add(steps, word(alloc, "Axe"))?;
     add_finish(steps, 0)?;

@@ -13,7 +13,6 @@ use planus::{
 use std::alloc::Global;
 use std::marker::PhantomData;
 
-// One field.
 #[derive(Drop)]
 pub struct One<P: Primitive, T: WriteAsPrimitive<P>> {
     pub field: T,
@@ -32,7 +31,6 @@ impl<P: Primitive, T: WriteAsPrimitive<P>> ObjectFill for One<P, T> {
     }
 }
 
-// Writes a table with one field in slot 1.
 pub fn put<P: Primitive, T: WriteAsPrimitive<P> + Drop>(
     builder: &mut Builder,
     field: T,
@@ -46,7 +44,6 @@ pub fn put<P: Primitive, T: WriteAsPrimitive<P> + Drop>(
     writer.finish(builder, &One { field, _marker })
 }
 
-// The same, finished.
 fn finished<P: Primitive, T: WriteAsPrimitive<P> + Drop>(
     builder: &mut Builder,
     field: T,
@@ -76,7 +73,6 @@ fn read<'a, T: TableRead<'a>>(bytes: &'a [u8]) -> Option<T> {
     }
 }
 
-// Whether it is read as this value, where the table was finished.
 fn gives<'a, T: TableRead<'a> + PartialEq + Drop>(
     finished: Result<&'a [u8], BuildError>,
     want: T,
@@ -151,7 +147,7 @@ fn lists_read_back(builder: &mut Builder) -> bool {
     }
 }
 
-// Whether fields read back: unsigned and signed numbers, texts and bytes, signed bytes, and lists.
+// Unsigned and signed numbers, strings and bytes, signed bytes, and vectors.
 fn fields_read_back(builder: &mut Builder) -> [bool; 5] {
     [
         unsigned_numbers_read_back(builder),
@@ -162,7 +158,6 @@ fn fields_read_back(builder: &mut Builder) -> [bool; 5] {
     ]
 }
 
-// The same in a new builder.
 fn fields_read_back_in(alloc: Global) -> [bool; 5] {
     match new_builder(alloc) {
         Ok(mut builder) => fields_read_back(&mut builder),
@@ -193,7 +188,6 @@ fn a_table_with_a_free_slot_between(rt: HostRuntime) {
     check(&rt, a_free_slot_is_none(bytes), "a free slot is none");
 }
 
-// Writes a table with one number in slot 0.
 pub fn put_number(builder: &mut Builder, field: u16) -> Result<(), BuildError> {
     let mut writer: TableWriter<6> = TableWriter::default();
     writer.write_entry::<u16>(0);
@@ -201,7 +195,7 @@ pub fn put_number(builder: &mut Builder, field: u16) -> Result<(), BuildError> {
     writer.finish(builder, &One { field, _marker })
 }
 
-// Whether two tables of one number each, of which the second is the root, are these bytes.
+// Whether two tables of one number each, the second as the root, are these bytes.
 fn two_tables_are(builder: &mut Builder, want: &[u8]) -> bool {
     if put_number(builder, 24).is_err() || put_number(builder, 7).is_err() {
         return false;
@@ -219,7 +213,6 @@ pub const ONE_VTABLE: &[u8] =
 pub const TWO_VTABLES: &[u8] = b"\x04\0\0\0\xfa\xff\xff\xff\x07\0\x06\0\x06\0\x04\0\
     \xfa\xff\xff\xff\x18\0\x06\0\x06\0\x04\0";
 
-// The same in a new builder with these caches.
 fn two_tables_with(alloc: Global, caches: Caches, want: &[u8]) -> bool {
     match with_caches(alloc, caches) {
         Ok(mut builder) => two_tables_are(&mut builder, want),

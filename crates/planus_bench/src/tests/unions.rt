@@ -1,4 +1,4 @@
-//! Vectors of unions, by a replay.
+//! Union vectors in a replay.
 
 use super::plain_run::plain_run;
 use super::runs::{add, add_field, add_finish, word};
@@ -9,14 +9,13 @@ use std::alloc::{AllocError, Global};
 use std::test::Fail;
 
 // A table at 4 with its vtable at 16. Slots 0 and 1 hold a vector of two unions, of tags 1 and 2
-// and the texts `A` and `B`.
+// and the strings `A` and `B`.
 const TWO_TEXTS: [u8; 58] = [
     4, 0, 0, 0, 0xf4, 0xff, 0xff, 0xff, 16, 0, 0, 0, 20, 0, 0, 0, 8, 0, 12, 0, 4, 0, 8, 0, 2, 0, 0,
     0, 1, 2, 0, 0, 2, 0, 0, 0, 16, 0, 0, 0, 4, 0, 0, 0, 1, 0, 0, 0, b'B', 0, 0, 0, 1, 0, 0, 0,
     b'A', 0,
 ];
 
-// A table of the tags and the references of the vector of unions of a step.
 fn tags_and_values(alloc: Global, unions: usize) -> Result<Step, AllocError> {
     let mut fields = Vec::new(alloc);
     add_field(&mut fields, 0, FieldValue::Tags(unions))?;
@@ -24,12 +23,10 @@ fn tags_and_values(alloc: Global, unions: usize) -> Result<Step, AllocError> {
     Ok(Step::Table(fields))
 }
 
-// The vector of unions of the first two steps, of tags 1 and 2.
 fn two_unions(alloc: Global) -> Result<Step, AllocError> {
     Ok(Step::Unions(Vec::from_slice(alloc, &[(1, 0), (2, 1)])?))
 }
 
-// Adds the two texts, a vector of unions of them, a table of it, and a finish.
 fn push_steps(alloc: Global, steps: &mut Vec<Step>) -> Result<(), AllocError> {
     add(steps, word(alloc, "A"))?;
     add(steps, word(alloc, "B"))?;
@@ -44,7 +41,6 @@ pub fn two_texts(alloc: Global) -> Result<Vec<Step>, AllocError> {
     Ok(steps)
 }
 
-// Whether a run gave one finish, of these bytes, in which the unions of step 2 stand.
 fn is_two_texts(run: &[Finished]) -> bool {
     let unions = StepPlace {
         step: 2,
@@ -72,7 +68,6 @@ fn runs_plainly_to_two_texts(alloc: Global, steps: &[Step]) -> Result<bool, Fail
     Ok(is_two_texts(run.as_slice()))
 }
 
-// Whether a replay of the steps and a plain run of them give the bytes.
 fn both_run_to_two_texts(alloc: Global) -> Result<[bool; 2], Fail> {
     let steps = two_texts(alloc)?;
     Ok([
@@ -81,7 +76,7 @@ fn both_run_to_two_texts(alloc: Global) -> Result<[bool; 2], Fail> {
     ])
 }
 
-// That the two give the same places too, the runs in every setting show.
+// That the places agree too is tested under all cache settings.
 #[test]
 fn two_texts_as_unions(rt: HostRuntime) -> Result<(), Fail> {
     let [replayed, plain] = both_run_to_two_texts(rt.alloc())?;

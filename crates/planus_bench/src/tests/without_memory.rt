@@ -1,5 +1,4 @@
-//! The calls of builders and of what is written that take no memory, each by its name, with all
-//! memory taken. Those of readers, vectors and their iterators are tested beside their crates.
+//! The calls of builders and of written types that take no memory, each by its name.
 
 ghost use Rattle.std.specs.Prelude.{◌≡◌, ◌≤◌, length, IsTrue};
 
@@ -20,13 +19,12 @@ use planus_testing::{exhaust, holds_or_says};
 use std::alloc::{AllocError, Global};
 use std::test::Fail;
 
-// A text of 8 bytes, and a table of one number, with 20 bytes in all of 64.
+// A string of 8 bytes, and a table of one number, with 20 bytes in all of 64.
 fn prepare(builder: &mut Builder) -> Result<(), BuildError> {
     builder.create_string("Axe")?;
     put_number(builder, 24)
 }
 
-// Calls that tell of a builder.
 fn a_builder_tells(builder: &Builder) -> bool {
     let last = builder.current_offset::<Text>();
     builder.len() == 20
@@ -37,8 +35,8 @@ fn a_builder_tells(builder: &Builder) -> bool {
         && last.downcast().distance() == 20
 }
 
-// Calls that are answered by a cache, or fit a builder's room. A table of two bytes whose vtable is
-// found takes 8 with its padding.
+// Calls that find their value in a cache, or fit the builder's room. A table of two bytes whose
+// vtable is found takes 8 with its padding.
 fn a_builder_writes(builder: &mut Builder) -> bool {
     text_at(builder, "Axe") == Ok(8)
         && put_number(builder, 7).is_ok()
@@ -47,7 +45,6 @@ fn a_builder_writes(builder: &mut Builder) -> bool {
         && builder.room() == 33
 }
 
-// The builder has what is at this distance.
 fn has(builder: &Builder, distance: u32) -> bool
     ensures { IsTrue result → distance ≤ length builder.now.bytes }
 {
@@ -112,7 +109,6 @@ fn defaults_are_prepared(builder: &mut Builder) -> bool {
         )
 }
 
-// What is written in place.
 fn numbers_are_written() -> bool {
     let (mut one, mut two) = ([0u8; 2], [0u8; 4]);
     WriteAsPrimitive::<u16>::write(&0x102u16, &mut one, 2);
@@ -120,7 +116,6 @@ fn numbers_are_written() -> bool {
     one == [2, 1] && two == [1, 0, 2, 0]
 }
 
-// What is copied by value.
 fn values_are_copied(alloc: Global) -> bool {
     matches!(u16::from_item(alloc, 7), Ok(7)) && matches!(bool::from_item(alloc, true), Ok(true))
 }
@@ -147,7 +142,6 @@ fn keys_are_found() -> bool {
         && ByteVec::key_at(b"\x02\0\0\0Hi", 6) == Some(b"Hi".as_slice())
 }
 
-// Calls on an empty cache.
 fn a_cache_has_nothing(cache: &mut Cache<ByteVec>) -> bool {
     laws::empty_caches_fit::<ByteVec>();
     cache.clear();
@@ -165,7 +159,6 @@ fn a_back_vector_is_filled(back: &mut BackVec) -> bool {
         && back.extend_with_zeros(60).is_ok()
 }
 
-// Whether all of its room is there again after a clear.
 fn a_back_vector_is_cleared(back: &mut BackVec) -> bool {
     back.clear();
     back.room() == 64
@@ -176,10 +169,9 @@ fn a_builder_is_cleared(builder: &mut Builder) -> bool {
     builder.room() == 64
 }
 
-// A call, or some of them, and whether they answered as they should.
+// Some calls, and whether their results are right.
 type Row = (&'static str, bool);
 
-// The first that didn't.
 fn first_wrong(rows: &[Row]) -> Option<&'static str> {
     for (name, holds) in rows {
         if !*holds {
@@ -189,7 +181,6 @@ fn first_wrong(rows: &[Row]) -> Option<&'static str> {
     None
 }
 
-// The same of the calls of a builder.
 fn first_wrong_of_a_builder(builder: &mut Builder) -> Option<&'static str> {
     first_wrong(&[
         (
@@ -208,7 +199,6 @@ fn first_wrong_of_a_builder(builder: &mut Builder) -> Option<&'static str> {
     ])
 }
 
-// The same of the parts of a builder.
 fn first_wrong_of_parts(back: &mut BackVec, cache: &mut Cache<ByteVec>) -> Option<&'static str> {
     first_wrong(&[
         ("Cache: clear, get", a_cache_has_nothing(cache)),
@@ -223,7 +213,6 @@ fn first_wrong_of_parts(back: &mut BackVec, cache: &mut Cache<ByteVec>) -> Optio
     ])
 }
 
-// The same of what is written, copied or converted.
 fn first_wrong_of_values(alloc: Global) -> Option<&'static str> {
     first_wrong(&[
         ("write, write_values", numbers_are_written()),
@@ -236,7 +225,6 @@ fn first_wrong_of_values(alloc: Global) -> Option<&'static str> {
     ])
 }
 
-// The same of all of them.
 fn first_wrong_call(
     alloc: Global,
     builder: &mut Builder,
@@ -248,7 +236,6 @@ fn first_wrong_call(
         .or(first_wrong_of_values(alloc))
 }
 
-// The same with all memory held. Tells whether it was taken.
 fn first_wrong_beside(
     alloc: Global,
     held: &mut Vec<Vec<u8>>,
@@ -260,7 +247,6 @@ fn first_wrong_beside(
     Ok((exhausted, first_wrong_call(alloc, builder, back, cache)))
 }
 
-// The same, after which memory is there again.
 fn first_wrong_without_memory(
     alloc: Global,
     builder: &mut Builder,
@@ -271,7 +257,6 @@ fn first_wrong_without_memory(
     first_wrong_beside(alloc, &mut held, builder, back, cache)
 }
 
-// The same with these three bytes in the back vector, and an empty cache.
 fn first_wrong_with(
     alloc: Global,
     builder: &mut Builder,

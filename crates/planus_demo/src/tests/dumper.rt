@@ -1,4 +1,4 @@
-//! Schemas from their parts, and whether a dump has these lines.
+//! Schemas from their parts, and the lines of their dumps.
 
 mod buffers;
 mod damage;
@@ -77,7 +77,6 @@ pub fn are_lines(lines: &[String], expected: &[&str]) -> bool {
     texts.next().is_none()
 }
 
-// Whether a dump has exactly these lines, or is refused so.
 fn dumps(
     alloc: Global,
     schema: &Schema,
@@ -91,7 +90,6 @@ fn dumps(
     }
 }
 
-// Whether a dump by the schema of these parts has exactly these lines.
 pub fn dumps_lines(
     alloc: Global,
     parts: SchemaParts<'_>,
@@ -105,7 +103,6 @@ pub fn dumps_lines(
     }
 }
 
-// Whether it is refused so.
 pub fn is_refused(
     alloc: Global,
     parts: SchemaParts<'_>,

@@ -11,7 +11,6 @@ use planus_testing::holds_or_says;
 use std::alloc::{AllocError, Global};
 use std::test::Fail;
 
-// What the dump of an input answers. It adds what it prints.
 fn dumped(
     alloc: Global,
     schema: &Schema,
@@ -22,8 +21,6 @@ fn dumped(
     answers(alloc, Some(schema), &mut reader, printed)
 }
 
-// Whether the dump of an input by the schema with this root prints this, and tells by its answer
-// whether it is a dump.
 fn dumps(alloc: Global, root: usize, input: &[u8], printed: &[u8], clean: bool) -> bool {
     let Ok(schema) = schema(alloc, root) else {
         return false;
@@ -33,7 +30,7 @@ fn dumps(alloc: Global, root: usize, input: &[u8], printed: &[u8], clean: bool) 
     answer == Ok(clean) && writer.as_slice() == printed
 }
 
-// The root of a schema, an input, what is printed of it, and whether it is a dump.
+// The root of a schema, an input, what is printed, and whether it is a dump.
 const INPUTS: &[(usize, &str, &str, bool)] = &[
     (
         0,
@@ -72,14 +69,12 @@ fn inputs(rt: HostRuntime) {
     }
 }
 
-// Adds a table in slot 0, and names in slot 1.
 fn push_fields(alloc: Global, fields: &mut Vec<FieldSchema>) -> Result<(), AllocError> {
     fields.push(field(alloc, 0, "next", Kind::One(Item::Table(0)))?)?;
     fields.push(field(alloc, 1, "names", Kind::List(Item::Text))?)?;
     Ok(())
 }
 
-// The schema of a table with the next one, and names.
 fn nodes(alloc: Global) -> Result<Schema, AllocError> {
     let mut fields = Vec::new(alloc);
     push_fields(alloc, &mut fields)?;
@@ -93,8 +88,7 @@ fn nodes(alloc: Global) -> Result<Schema, AllocError> {
     })
 }
 
-// Adds the line of a chain of so many tables of 8 bytes, which the vtable follows. To that the last
-// of them refers as to its next one.
+// A chain of n tables of 8 bytes, followed by the vtable, to which the last refers as its next one.
 fn push_chain(input: &mut Vec<u8>, tables: u32) -> Result<(), AllocError> {
     push_word(input, 4)?;
     for i in 0..tables {
@@ -106,7 +100,6 @@ fn push_chain(input: &mut Vec<u8>, tables: u32) -> Result<(), AllocError> {
     end_line(input)
 }
 
-// Adds the line of a table with so many names, each of which is one text of so many letters.
 fn push_names(input: &mut Vec<u8>, names: usize, letters: usize) -> Result<(), AllocError> {
     push_bytes(
         input,
@@ -117,14 +110,10 @@ fn push_names(input: &mut Vec<u8>, names: usize, letters: usize) -> Result<(), A
     push_text(input, letters)
 }
 
-// What an input is made of.
 #[derive(Clone, Copy)]
 enum Input {
-    // A chain of so many tables.
     Chain(u32),
-    // A table with so many names of so many letters.
     Names(usize, usize),
-    // So many digits.
     Zeros(usize),
 }
 
@@ -149,21 +138,17 @@ fn input_of(alloc: Global, parts: Input) -> Result<Vec<u8>, AllocError> {
     Ok(input)
 }
 
-// Whether so many bytes are printed, of which these are the first.
 fn is_begun(printed: &[u8], (len, first): (usize, &[u8])) -> bool {
     printed.len() == len && printed.starts_with(first)
 }
 
-// Whether the dump of an input tells by its answer whether it is one, and prints so many bytes, of
-// which these are the first.
 fn begins(alloc: Global, schema: &Schema, input: &[u8], clean: bool, want: (usize, &[u8])) -> bool {
     let mut printed = Vec::new(alloc);
     let answer = dumped(alloc, schema, input, &mut printed);
     answer == Ok(clean) && is_begun(printed.as_slice(), want)
 }
 
-// What an input is made of, whether it is dumped, and what is printed: so many bytes, of which
-// these are the first.
+// An input, whether it is dumped, the number of bytes printed, and the first of them.
 type Limit = (Input, bool, (usize, &'static [u8]));
 
 const FIRST: &[u8] = b"root: table Node\nroot.names: list 9998\nroot.names[0] = \"abc\"\n";
@@ -176,14 +161,13 @@ const LIMITS: &[Limit] = &[
     (Input::Zeros(1048577), false, (16, b"script too long\n")),
 ];
 
-// Whether the dump of such an input goes as told.
 fn is_limited(alloc: Global, (parts, clean, printed): Limit) -> Result<bool, AllocError> {
     let schema = nodes(alloc)?;
     let input = input_of(alloc, parts)?;
     Ok(begins(alloc, &schema, input.as_slice(), clean, printed))
 }
 
-// The table below 64 others lies too deep. There may be 10000 lines, and 1048576 bytes of input.
+// The table below 64 others is too deep. There may be 10000 lines, and 1048576 bytes of input.
 #[test]
 fn limits(rt: HostRuntime) {
     for limit in LIMITS {
@@ -195,8 +179,7 @@ fn limits(rt: HostRuntime) {
     }
 }
 
-// Whether without memory nothing is read; where the input, and `out of memory`, fit in 4 MiB, and
-// the lines don't, that is said; and then all lines are printed. Nothing where memory was left.
+// Nothing is read without memory; where the lines don't fit in 4 MiB, `out of memory` is printed.
 fn is_refused(alloc: Global, schema: &Schema, input: &[u8]) -> Result<Option<bool>, AllocError> {
     for (spare, want, text) in [
         (0, (Err(RunError::OutOfMemory), 2), ""),
@@ -211,7 +194,7 @@ fn is_refused(alloc: Global, schema: &Schema, input: &[u8]) -> Result<Option<boo
     Ok(Some(begins(alloc, schema, input, true, printed)))
 }
 
-// The same of a table with 9000 names of 1003 letters.
+// The same for a table with 9000 names of 1003 letters.
 fn names_are_refused(alloc: Global, schema: &Schema) -> Result<Option<bool>, AllocError> {
     let input = input_of(alloc, Input::Names(9000, 1003))?;
     is_refused(alloc, schema, input.as_slice())

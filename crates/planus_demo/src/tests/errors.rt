@@ -1,4 +1,4 @@
-//! The texts of errors.
+//! The messages of errors.
 
 use super::{check, prints_as};
 use planus::{BuildError, CopyError, ReplayError, Why};
@@ -24,7 +24,6 @@ fn refusals_print_their_texts(rt: HostRuntime) {
     );
 }
 
-// A refused write as an error of input and output, as `?` makes it.
 fn refused(error: BuildError) -> io::Result<()> {
     Err(error)?;
     Ok(())

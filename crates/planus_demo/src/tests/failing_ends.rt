@@ -18,7 +18,7 @@ pub const PRINTED: &[u8] = b"04 00 00 00 f4 ff ff ff 10 00 00 00 18 00 00 00 \
 
 pub const DUMPED: &[u8] = b"root: table Weapon\nroot.name = \"Axe\"\nroot.damage = 24\n";
 
-/// What a call does in place of its work.
+/// What a call does instead of its work.
 #[derive(Clone, Copy)]
 enum Odd {
     Fails,
@@ -27,7 +27,6 @@ enum Odd {
 }
 
 impl Odd {
-    // The error, if it is one.
     fn error(&self, kind: ErrorKind) -> Option<Error> {
         match self {
             Odd::Fails => Some(Error::from(kind)),
@@ -37,7 +36,7 @@ impl Odd {
     }
 }
 
-/// A reader that gives one byte at a time. So many calls from now on, one does something else.
+/// A reader that gives one byte at a time; `left` counts down to one odd call.
 #[derive(Drop)]
 pub struct OddReader<'a> {
     bytes: &'a [u8],
@@ -46,7 +45,6 @@ pub struct OddReader<'a> {
 }
 
 impl OddReader<'_> {
-    /// One over a weapon's script, whose k-th read fails; none does for k of 0.
     pub fn failing(k: usize) -> OddReader<'static> {
         OddReader {
             bytes: SCRIPT,
@@ -75,8 +73,6 @@ impl<'a> Read for OddReader<'a> {
     }
 }
 
-// What a weapon's run answers, or with a schema its dump, whose k-th read does something else. It
-// adds what it prints.
 fn ran_oddly(
     alloc: Global,
     schema: Option<&Schema>,
@@ -91,20 +87,17 @@ fn ran_oddly(
     answers(alloc, schema, &mut reader, printed)
 }
 
-// Whether a run is clean whose k-th read does something else; none does for k of 0.
 fn is_clean(alloc: Global, k: usize, odd: Odd) -> bool {
     let mut printed = Vec::new(alloc);
     ran_oddly(alloc, None, (k, odd), &mut printed) == Ok(true) && printed.as_slice() == PRINTED
 }
 
-// Whether the error of the k-th read is answered, and nothing is written.
 fn reading_fails(alloc: Global, schema: Option<&Schema>, k: usize) -> bool {
     let mut printed = Vec::new(alloc);
     let answer = ran_oddly(alloc, schema, (k, Odd::Fails), &mut printed);
     answer == Err(RunError::Read) && status(&answer) == 2 && printed.is_empty()
 }
 
-// Whether a run goes as that of the script's first bytes, where the k-th read gives none.
 fn ends_early(alloc: Global, k: usize) -> bool {
     let (mut printed, mut want) = (Vec::new(alloc), Vec::new(alloc));
     let answer = ran_oddly(alloc, None, (k, Odd::GivesNothing), &mut printed);
@@ -112,7 +105,6 @@ fn ends_early(alloc: Global, k: usize) -> bool {
     answer == ran(alloc, first, &mut want).0 && printed.as_slice() == want.as_slice()
 }
 
-// Whether a run goes as it should whose k-th read fails, gives nothing, or is interrupted.
 fn read_in_turn(alloc: Global, k: usize) -> [bool; 3] {
     [
         reading_fails(alloc, None, k),
@@ -121,8 +113,6 @@ fn read_in_turn(alloc: Global, k: usize) -> [bool; 3] {
     ]
 }
 
-// Whether a script that is a byte too long, of which each byte is read by a call of its own, gives
-// this answer and prints this where the k-th read fails.
 fn too_long(
     alloc: Global,
     k: usize,
@@ -140,7 +130,7 @@ fn too_long(
     Ok(answer == want && printed.as_slice() == text.as_bytes())
 }
 
-// What is behind the first byte that is too much is not read.
+// Nothing is read after the first byte that is too much.
 #[test]
 fn reads_of_a_long_script(rt: HostRuntime) -> Result<(), Fail> {
     for (k, want, text) in [
@@ -167,8 +157,7 @@ fn each_read_in_turn(rt: HostRuntime) {
     );
 }
 
-/// A writer that takes one byte at a time. So many calls from now on, one does something else; and
-/// it may fail to hand on what it took.
+/// A writer that takes one byte at a time, with one odd call; flushing may fail.
 #[derive(Drop)]
 struct OddWriter {
     taken: Vec<u8>,
@@ -202,8 +191,6 @@ impl Write for OddWriter {
     }
 }
 
-// Whether such a run, or dump, answers this whose k-th write does something else, and writes so
-// many bytes.
 fn writes(
     alloc: Global,
     schema: Option<&Schema>,
@@ -225,18 +212,15 @@ fn writes(
     answer == want && printed.get(..count) == Some(writer.taken.as_slice())
 }
 
-// Whether a run answers the error of its k-th write, and writes the bytes before.
 fn writing_fails(alloc: Global, k: usize, odd: Odd) -> bool {
     let (fails, before) = (Err(RunError::Write), k.wrapping_sub(1));
     writes(alloc, None, (k, odd), fails, before) && status(&fails) == 2
 }
 
-// Whether a run writes all its bytes whose k-th write does something else.
 fn is_written(alloc: Global, k: usize, odd: Odd) -> bool {
     writes(alloc, None, (k, odd), Ok(true), 96)
 }
 
-// Whether a run goes as it should whose k-th write fails, takes nothing, or is interrupted.
 fn write_in_turn(alloc: Global, k: usize) -> [bool; 3] {
     [
         writing_fails(alloc, k, Odd::Fails),
@@ -245,7 +229,6 @@ fn write_in_turn(alloc: Global, k: usize) -> [bool; 3] {
     ]
 }
 
-// Whether a script's run answers that the so many bytes that it writes aren't handed on.
 fn handing_on_fails(alloc: Global, script: &[u8], count: usize) -> bool {
     let mut reader = script;
     let mut writer = OddWriter {
@@ -272,7 +255,6 @@ fn each_write_in_turn(rt: HostRuntime) {
     }
 }
 
-// Whether the error of a dump's k-th read is answered, and nothing is written.
 fn reading_a_dump_fails(alloc: Global, k: usize) -> bool {
     match schema(alloc, 0) {
         Ok(schema) => reading_fails(alloc, Some(&schema), k),
@@ -280,7 +262,7 @@ fn reading_a_dump_fails(alloc: Global, k: usize) -> bool {
     }
 }
 
-// Whether that of its k-th write is, and the bytes before are written; all are for k of 0.
+// Whether the k-th write's error is returned, and the bytes before are written; all are for k of 0.
 fn dump_is_written(alloc: Global, k: usize) -> bool {
     let (want, count) = if k > 0 {
         (Err(RunError::Write), k - 1)

@@ -1,16 +1,14 @@
-//! Long scripts, long texts, long lists and a table of all its slots.
+//! Long scripts, strings and vectors, and a table of all its slots.
 
 use super::prints;
 use crate::tests::check;
 use std::alloc::{AllocError, Global};
 use std::test::Fail;
 
-// One letter after the other, from `a` to `z`, over and over.
 fn letter(index: usize) -> u8 {
     b'a'.wrapping_add((index % 26) as u8)
 }
 
-// Adds a line that writes a text of so many letters.
 pub fn push_text_step(script: &mut Vec<u8>, count: usize) -> Result<(), AllocError> {
     script.extend_from_slice(b"text ")?;
     for index in 0..count {
@@ -19,13 +17,11 @@ pub fn push_text_step(script: &mut Vec<u8>, count: usize) -> Result<(), AllocErr
     script.extend_from_slice(b"\n")
 }
 
-// The digit of the last four bits.
 fn digit(byte: u8) -> u8 {
     let digits = *b"0123456789abcdef";
     digits[(byte % 16) as usize]
 }
 
-// Adds the two digits of a byte, and a space.
 fn push_byte(printed: &mut Vec<u8>, byte: u8) -> Result<(), AllocError> {
     printed.extend_from_slice(&[digit(byte / 16), digit(byte), b' '])
 }
@@ -37,18 +33,16 @@ pub fn push_bytes(printed: &mut Vec<u8>, bytes: &[u8]) -> Result<(), AllocError>
     Ok(())
 }
 
-// Ends a line of bytes, which then has no space at its end.
 pub fn end_line(printed: &mut Vec<u8>) -> Result<(), AllocError> {
     printed.pop();
     printed.extend_from_slice(b"\n")
 }
 
-// Adds the four bytes of a number.
 pub fn push_word(printed: &mut Vec<u8>, word: usize) -> Result<(), AllocError> {
     push_bytes(printed, &(word as u64).to_le_bytes()[..4])
 }
 
-// Adds the references to what was written before the finishes, of which each has written one.
+// Adds the references to what was written before the finishes, each of which wrote one.
 pub fn push_references(printed: &mut Vec<u8>, count: usize) -> Result<(), AllocError> {
     for behind in 0..count {
         push_word(printed, count.wrapping_sub(behind).wrapping_mul(4))?;
@@ -56,7 +50,6 @@ pub fn push_references(printed: &mut Vec<u8>, count: usize) -> Result<(), AllocE
     Ok(())
 }
 
-// Adds the bytes of a text of so many letters, which end a finish.
 pub fn push_text(printed: &mut Vec<u8>, count: usize) -> Result<(), AllocError> {
     push_word(printed, count)?;
     for index in 0..count {
@@ -72,7 +65,7 @@ fn a_text_of_200000_bytes(rt: HostRuntime) -> Result<(), Fail> {
     push_text_step(&mut script, 200000)?;
     script.extend_from_slice(b"text Hi\nfinish 0 TEST\n")?;
     let mut want = Vec::new(rt.alloc());
-    // The padding behind the second text is one byte.
+    // The padding after the second string is one byte.
     push_bytes(&mut want, b"\x10\0\0\0TEST\x02\0\0\0Hi\0\0")?;
     push_text(&mut want, 200000)?;
     check(
@@ -83,13 +76,11 @@ fn a_text_of_200000_bytes(rt: HostRuntime) -> Result<(), Fail> {
     Ok(())
 }
 
-// Adds a field of one byte.
 fn push_field(alloc: Global, script: &mut Vec<u8>, slot: usize) -> Result<(), AllocError> {
     let field = format!(in alloc; " {slot}=u8:1")?;
     script.extend_from_slice(field.as_bytes())
 }
 
-// Adds a table of a byte in each of its 256 slots, and a finish with it.
 fn push_full_table(alloc: Global, script: &mut Vec<u8>) -> Result<(), AllocError> {
     script.extend_from_slice(b"table")?;
     for slot in 0..256 {
@@ -98,8 +89,7 @@ fn push_full_table(alloc: Global, script: &mut Vec<u8>) -> Result<(), AllocError
     script.extend_from_slice(b"\nfinish 0\n")
 }
 
-// Adds the bytes of this finish: the word that leads to the table, the table's own, which leads to
-// the vtable behind the bytes, and the vtable.
+// Adds the bytes of this finish up to the vtable's end.
 fn push_its_bytes(printed: &mut Vec<u8>) -> Result<(), AllocError> {
     push_bytes(printed, b"\x04\0\0\0\xfc\xfe\xff\xff")?;
     push_bytes(printed, &[1; 256])?;
@@ -124,7 +114,6 @@ fn a_table_of_256_slots(rt: HostRuntime) -> Result<(), Fail> {
     Ok(())
 }
 
-// Whether a comment of so many bytes prints this, where that many bytes of it aren't read.
 fn comment_prints(
     alloc: Global,
     count: usize,
@@ -156,7 +145,7 @@ fn longest_script(rt: HostRuntime) {
     }
 }
 
-// A text of 43 letters, which no other number below 26 * 26 * 26 has.
+// A string of 43 letters, different for each number below 26 * 26 * 26.
 fn text(number: usize) -> [u8; 43] {
     let mut text = *b"abc is a text of forty-three letters in all";
     text[0] = letter(number);
@@ -165,18 +154,13 @@ fn text(number: usize) -> [u8; 43] {
     text
 }
 
-// What a script has one after the other.
 #[derive(Clone, Copy)]
 enum Item {
-    // A line of a text.
     Text,
-    // A number of a list.
     Number,
-    // A reference to a text of the last stretch.
     Reference,
-    // The same with a tag.
     Union,
-    // A field of a table behind the first four.
+    // A field of a table after the first four.
     Field,
 }
 
@@ -226,7 +210,6 @@ fn push_items(
     Ok(())
 }
 
-// Adds 300 stretches of 48 texts, each with a finish and a clear.
 fn push_stretches(alloc: Global, script: &mut Vec<u8>) -> Result<(), AllocError> {
     for stretch in 0..300usize {
         push_items(alloc, script, Item::Text, 48)?;
@@ -244,7 +227,7 @@ fn push_stretches(alloc: Global, script: &mut Vec<u8>) -> Result<(), AllocError>
 
 const TABLE: &str = "\ntable 0=ref:20000 1=ref:19999 2=tags:20001 3=values:20001";
 
-// The values of the last stretch, one after the other: a word, and how many items follow it.
+// The values of the last stretch: a word, and the number of items after it.
 const ITEMS: &[(&str, Item, usize)] = &[
     ("", Item::Text, 4999),
     ("u16", Item::Number, 5003),
@@ -253,7 +236,7 @@ const ITEMS: &[(&str, Item, usize)] = &[
     (TABLE, Item::Field, 252),
 ];
 
-// Adds a stretch of 5003 values, of which the last is a table that refers to lists of numbers, of
+// A stretch of 5003 values, the last of them a table that refers to vectors of numbers, of
 // references and of unions, and seven finishes.
 fn push_last_stretch(alloc: Global, script: &mut Vec<u8>) -> Result<(), AllocError> {
     for (before, item, count) in ITEMS {
@@ -266,17 +249,15 @@ fn push_last_stretch(alloc: Global, script: &mut Vec<u8>) -> Result<(), AllocErr
     script.extend_from_slice(b"\n")
 }
 
-// What a finish has one after the other.
 #[derive(Clone, Copy)]
 enum Part {
-    // The texts, the last one first.
+    // The strings, the last one first.
     Text { last: usize },
     Number,
-    // A reference to a text. The first of them is this one, and each stands four bytes nearer to
-    // the end than the one before, and its text 48 bytes further.
+    // References to strings: each is four bytes nearer to the end than the one before, and its
+    // string 48 bytes further.
     Reference { first: usize },
     Tag,
-    // The offset of a field of one byte.
     Offset,
 }
 
@@ -303,15 +284,15 @@ fn push_parts(printed: &mut Vec<u8>, part: Part, count: usize) -> Result<(), All
     Ok(())
 }
 
-// The word of the table, which is 272 bytes in front of its vtable, and its four references.
+// The word of the table, which is 272 bytes before its vtable, and its four references.
 const REFERENCES: &[u8] = b"\xf0\xfe\xff\xff\x38\x2a\0\0\x84\x49\0\0\x08\x03\0\0\xdc\x0a\0\0";
 
 // The sizes of the vtable and of the table, and the offsets of its references.
 const OFFSETS: &[u8] = b"\x04\x02\x10\x01\x04\0\x08\0\x0c\0\x10\0";
 
-// What stands behind the table, one after the other. The texts end 239952 bytes before the end, the
-// numbers and their padding of two bytes at 249960, the references at 257976, those of the unions at
-// 265992 and the tags, with a padding of one byte, at 268000; in front of each stands a count.
+// What follows the table. The strings end 239952 bytes before the end, the numbers and their
+// padding of two bytes at 249960, the references at 257976, those of the unions at 265992 and the
+// tags, with a padding of one byte, at 268000; each vector begins with a count.
 const PARTS: &[(&[u8], Part, usize)] = &[
     (OFFSETS, Part::Offset, 252),
     (b"\xd3\x07\0\0", Part::Tag, 2003),
@@ -321,7 +302,6 @@ const PARTS: &[(&[u8], Part, usize)] = &[
     (b"\0\0", Part::Text { last: 4998 }, 4999),
 ];
 
-// Adds what a finish of the last stretch prints that is the first, the second and so on.
 fn push_last_line(printed: &mut Vec<u8>, finishes: usize) -> Result<(), AllocError> {
     push_references(printed, finishes)?;
     push_bytes(printed, REFERENCES)?;
@@ -351,8 +331,6 @@ fn lines_are_printed(alloc: Global, script: &[u8]) -> Result<bool, AllocError> {
     Ok(prints(alloc, script, 0, want.as_slice(), true))
 }
 
-// Whether the script is near the longest one, whether its finishes are printed, and whether a bad
-// step behind them is told.
 fn long_script_is_printed(alloc: Global, script: &mut Vec<u8>) -> Result<[bool; 3], AllocError> {
     push_stretches(alloc, script)?;
     push_last_stretch(alloc, script)?;

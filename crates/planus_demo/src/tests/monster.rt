@@ -16,7 +16,7 @@ use planus::{
 };
 use std::alloc::Global;
 
-// An orc with 80 hit points and one weapon, an axe with a damage of 24, which it has equipped.
+// An orc with 80 hit points and an axe with a damage of 24, which it has equipped.
 const ORC: [u8; 84] = [
     0x04, 0x00, 0x00, 0x00, 0xec, 0xff, 0xff, 0xff, 0x28, 0x00, 0x00, 0x00, 0x1c, 0x00, 0x00, 0x00,
     0x28, 0x00, 0x00, 0x00, 0x50, 0x00, 0x01, 0x00, 0x10, 0x00, 0x13, 0x00, 0x10, 0x00, 0x04, 0x00,
@@ -29,14 +29,12 @@ const ORC: [u8; 84] = [
 // A goblin with 100 hit points, which are left out.
 const GOBLIN: &[u8] = b"\x04\0\0\0\xf8\xff\xff\xff\x0c\0\0\0\x08\0\x08\0\0\0\x04\0\x03\0\0\0Gob\0";
 
-// The builder has what is at this distance.
 pub fn has(builder: &Builder, distance: u32) -> bool
     ensures { IsTrue result → distance ≤ length builder.now.bytes }
 {
     distance as usize <= builder.len()
 }
 
-// Writes the orc.
 fn orc(builder: &mut Builder) -> Result<Offset<Monster>, BuildError> {
     let axe = weapon(builder, "Axe", 24)?;
     if !has(builder, axe.distance()) {
@@ -49,7 +47,6 @@ fn orc(builder: &mut Builder) -> Result<Offset<Monster>, BuildError> {
     Monster::create(builder, 80i16, "Orc", (), [axe], equipped, ())
 }
 
-// Writes an elf with 7 hit points, three bytes of inventory, and an axe and a bow as its loot.
 fn elf(builder: &mut Builder) -> Result<Offset<Monster>, BuildError> {
     let axe = weapon(builder, "Axe", 24)?;
     let bow = weapon(builder, "Bow", 12)?;
@@ -80,7 +77,7 @@ fn orc_is_written(builder: &mut Builder) -> Result<bool, BuildError> {
     Ok(orc.distance() == 80 && finish_with(builder, orc)? == ORC.as_slice())
 }
 
-// No two texts and no two vtables of an orc are equal.
+// No two strings and no two vtables of an orc are equal.
 #[test]
 fn an_orc_written(rt: HostRuntime) {
     for number in 0..8 {
@@ -89,7 +86,6 @@ fn an_orc_written(rt: HostRuntime) {
     }
 }
 
-// Whether a monster has these hit points and this name.
 fn is_monster(monster: MonsterRef<'_>, hp: i16, name: &str) -> bool {
     gives(monster.hp(), hp) && gives(monster.name(), name)
 }
@@ -106,14 +102,12 @@ fn an_orc_read(rt: HostRuntime) {
     check(&rt, orc_is_read(), "an orc");
 }
 
-// Whether a piece of equipment is a weapon of this name and this damage.
 pub fn is_held(equipment: EquipmentRef<'_>, (name, damage): WeaponRow) -> bool {
     match equipment {
         EquipmentRef::Weapon(weapon) => is_weapon(weapon, name, damage),
     }
 }
 
-// Whether the monster has one weapon, the axe.
 fn has_an_axe(monster: MonsterRef<'_>) -> bool {
     match monster.weapons() {
         Ok(Some(weapons)) => weapons.len() == 1 && item_is(weapons.get(0usize), (Some("Axe"), 24)),
@@ -121,7 +115,6 @@ fn has_an_axe(monster: MonsterRef<'_>) -> bool {
     }
 }
 
-// Whether it has equipped it.
 fn has_equipped_an_axe(monster: MonsterRef<'_>) -> bool {
     match monster.equipped() {
         Ok(Some(equipped)) => is_held(equipped, (Some("Axe"), 24)),
@@ -148,7 +141,6 @@ fn inventory_is_read(elf: MonsterRef<'_>) -> bool {
         && matches!(elf.equipped(), Ok(None))
 }
 
-// Whether an item of the loot is a weapon of this name and this damage.
 fn loot_is(item: Option<planus::Result<EquipmentRef<'_>>>, want: WeaponRow) -> bool {
     match item {
         Some(Ok(equipment)) => is_held(equipment, want),
@@ -156,7 +148,6 @@ fn loot_is(item: Option<planus::Result<EquipmentRef<'_>>>, want: WeaponRow) -> b
     }
 }
 
-// Whether loot is these weapons and no others.
 pub fn is_loot<'a>(loot: UnionVector<'a, EquipmentRef<'a>>, want: &[WeaponRow]) -> bool {
     let mut items = loot.iter();
     for row in want {
@@ -182,7 +173,6 @@ fn elf_is_read(builder: &mut Builder) -> Result<bool, BuildError> {
     }
 }
 
-// Whether it is, and again in the same builder.
 fn elf_is_read_twice(builder: &mut Builder) -> Result<bool, BuildError> {
     let first = elf_is_read(builder)?;
     builder.clear();
@@ -198,7 +188,6 @@ fn inventory_and_loot(rt: HostRuntime) {
     }
 }
 
-// Whether a monster of these bytes has 100 hit points.
 fn has_all_hit_points(bytes: &[u8]) -> bool {
     match MonsterRef::read_as_root(bytes) {
         Ok(monster) => is_monster(monster, 100, "Gob"),
@@ -206,7 +195,6 @@ fn has_all_hit_points(bytes: &[u8]) -> bool {
     }
 }
 
-// Whether a goblin with these hit points is written as the one above, and read.
 fn goblin_is_written<H: WriteAsDefault<i16, i16> + Drop>(
     builder: &mut Builder,
     hp: H,
@@ -218,7 +206,6 @@ fn goblin_is_written<H: WriteAsDefault<i16, i16> + Drop>(
     Ok(bytes == GOBLIN && has_all_hit_points(bytes))
 }
 
-// Whether it is with none, and with all.
 fn goblins_are_written(builder: &mut Builder) -> Result<bool, BuildError> {
     let none = goblin_is_written(builder, DefaultValue)?;
     builder.clear();
@@ -256,7 +243,6 @@ fn an_unknown_tag(rt: HostRuntime) {
     check(&rt, tag_is_unknown(rt.alloc(), &bytes), "an unknown tag");
 }
 
-// Whether an error was met by this method of this type, at this offset.
 fn is_at(error: &Error, type_: &str, method: &str, byte_offset: usize) -> bool {
     let at = error.source_location;
     at.type_ == type_ && at.method == method && at.byte_offset == byte_offset
@@ -298,7 +284,7 @@ fn first_weapon_is_damaged(bytes: &[u8]) -> bool {
     }
 }
 
-// The axe's vtable would stand in front of the buffer.
+// The axe's vtable would begin before the buffer.
 #[test]
 fn a_damaged_weapon(rt: HostRuntime) {
     let mut bytes = ORC;
@@ -335,7 +321,6 @@ fn an_unknown_tag_in_a_list(rt: HostRuntime) {
     check(&rt, unknown, "an unknown tag");
 }
 
-// Whether three bytes are no monster.
 fn root_fails(alloc: Global) -> bool {
     let text = "In <[MonsterRef]@0>::read_as_root(): Invalid offset";
     fails_printing(alloc, MonsterRef::read_as_root(&[0, 0, 0]), text)

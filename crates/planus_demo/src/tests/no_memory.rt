@@ -1,4 +1,4 @@
-//! Runs while memory is refused.
+//! Runs without memory.
 
 use super::failing_ends::{PRINTED, SCRIPT};
 use super::long_scripts::{push_references, push_text, push_text_step};
@@ -13,7 +13,6 @@ use planus_testing::{exhaust, exhaust_all_but, holds_or_says};
 use std::alloc::{AllocError, Global};
 use std::test::Fail;
 
-// Takes all memory but so many bytes. Tells whether it was taken.
 fn exhaust_but(alloc: Global, held: &mut Vec<Vec<u8>>, spare: usize) -> Result<bool, AllocError> {
     let given_back: Vec<u8> = Vec::with_capacity(alloc, spare)?;
     let exhausted = exhaust(alloc, held)?;
@@ -21,8 +20,6 @@ fn exhaust_but(alloc: Global, held: &mut Vec<Vec<u8>>, spare: usize) -> Result<b
     Ok(exhausted)
 }
 
-// Runs a script, or with a schema dumps bytes, while all memory but so many bytes is taken, and
-// adds what it prints. Tells whether the memory was taken, and the answer.
 fn ran_without_memory(
     alloc: Global,
     schema: Option<&Schema>,
@@ -38,8 +35,6 @@ fn ran_without_memory(
     Ok((exhausted, answer))
 }
 
-// Whether such a run gives this answer, of this exit status, and prints this text; nothing where
-// memory was left.
 pub fn gives_without_memory(
     alloc: Global,
     schema: Option<&Schema>,
@@ -67,7 +62,6 @@ fn refused_memory(rt: HostRuntime) -> Result<(), Fail> {
     Ok(())
 }
 
-// Adds a text of 50003 bytes and 100 finishes with it.
 fn push_finishes(script: &mut Vec<u8>) -> Result<(), AllocError> {
     push_text_step(script, 50003)?;
     for _ in 0..100usize {
@@ -76,7 +70,6 @@ fn push_finishes(script: &mut Vec<u8>) -> Result<(), AllocError> {
     Ok(())
 }
 
-// Adds what these finishes print.
 fn push_finished(printed: &mut Vec<u8>) -> Result<(), AllocError> {
     for count in 1..101 {
         push_references(printed, count)?;
@@ -85,15 +78,13 @@ fn push_finished(printed: &mut Vec<u8>) -> Result<(), AllocError> {
     Ok(())
 }
 
-// Whether the script prints its finishes.
 fn prints_finishes(alloc: Global, script: &[u8]) -> Result<bool, AllocError> {
     let mut want = Vec::new(alloc);
     push_finished(&mut want)?;
     Ok(prints(alloc, script, 0, want.as_slice(), true))
 }
 
-// Whether the script says that it is out of memory where what is read, and that line, fit in 4 MiB,
-// and what the finishes give doesn't, and then prints them; nothing where memory was left.
+// Where the finishes don't fit in 4 MiB, `out of memory` is printed.
 fn is_refused(alloc: Global, script: &[u8]) -> Result<Option<bool>, AllocError> {
     let (text, want) = ("out of memory\n", (Ok(false), 1));
     let refused = gives_without_memory(alloc, None, script, 4194304, want, text)?;
@@ -112,33 +103,25 @@ fn out_of_memory_is_printed(rt: HostRuntime) -> Result<(), Fail> {
     Ok(())
 }
 
-// How many turns there are at most.
 const TURNS: usize = 1024;
 
-// A call that asks for memory several times.
 #[derive(Clone, Copy)]
 enum Call {
-    // Writes an axe in a new builder.
     Axe,
-    // Runs the script of a weapon.
     Run,
 }
 
-// What a call comes to with little memory, and then with all of it.
 #[derive(Clone, Copy)]
 enum Turn {
     // Memory was left where none should have been.
     NotApplied,
-    // It isn't refused.
+    // The call works.
     Made,
-    // It is, and leaves this, and then it isn't.
+    // The call fails, leaves this number of bytes, and then works.
     Refused(usize),
-    // Something else.
     Wrong,
 }
 
-// Writes an axe with so many bytes of memory. Tells whether it was refused; nothing where memory
-// was left.
 fn axe_is_refused(
     alloc: Global,
     builder: &mut Builder,
@@ -151,7 +134,6 @@ fn axe_is_refused(
     Ok(if exhausted { Some(refused) } else { None })
 }
 
-// Whether an axe is written where 28 bytes are, and read back.
 fn axe_is_written(builder: &mut Builder) -> Result<bool, BuildError> {
     let axe = weapon(builder, "Axe", 24)?;
     let there = axe.distance() == 28;
@@ -161,7 +143,7 @@ fn axe_is_written(builder: &mut Builder) -> Result<bool, BuildError> {
     }
 }
 
-// A refused axe leaves so many bytes.
+// An axe that fails leaves some bytes.
 fn axe_in(alloc: Global, builder: &mut Builder, spare: usize) -> Result<Turn, BuildError> {
     let refused = axe_is_refused(alloc, builder, spare)?;
     let len = builder.len();
@@ -174,14 +156,11 @@ fn axe_in(alloc: Global, builder: &mut Builder, spare: usize) -> Result<Turn, Bu
     })
 }
 
-// The same in a new builder.
 fn axe_with(alloc: Global, spare: usize) -> Result<Turn, BuildError> {
     let mut builder = Builder::new(alloc)?;
     axe_in(alloc, &mut builder, spare)
 }
 
-// What a run of the script gives with so many bytes of memory, and adds what it prints. Tells
-// whether the memory was taken.
 fn ran_with(
     alloc: Global,
     spare: usize,
@@ -194,7 +173,7 @@ fn ran_with(
     Ok((exhausted, answer))
 }
 
-// A refused run leaves nothing printed, or the line that says so.
+// A run that fails prints nothing, or `out of memory`.
 fn run_with(alloc: Global, spare: usize) -> Result<Turn, BuildError> {
     let mut printed: Vec<u8> = Vec::with_capacity(alloc, 128)?;
     let (exhausted, answer) = ran_with(alloc, spare, &mut printed)?;
@@ -211,7 +190,6 @@ fn run_with(alloc: Global, spare: usize) -> Result<Turn, BuildError> {
     })
 }
 
-// Notes that a refused call left so many bytes. Tells whether that is among these.
 fn note(met: &mut [bool; 3], all: &[usize], left: usize) -> bool {
     for (at, known) in all.iter().enumerate() {
         if *known == left && at < 3 {
@@ -222,8 +200,7 @@ fn note(met: &mut [bool; 3], all: &[usize], left: usize) -> bool {
     false
 }
 
-// How many different things a call leaves that is refused, with more memory at each turn until it
-// isn't, where all are among these; nothing where memory was left.
+// The number of different states that a failing call leaves, with more memory at each turn.
 fn states_met(
     alloc: Global,
     call: Call,
@@ -247,9 +224,8 @@ fn states_met(
     Ok(Some(0))
 }
 
-// An axe is refused where there is nothing yet, its name, or its vtable too; and a run before the
-// steps are there, or later. An axe asks for the memory of its bytes alone, the first of which may
-// be there in the room of a small block.
+// An axe fails where there is nothing yet, after its name, or after its vtable too; a run fails
+// before the steps are there, or later.
 #[test]
 fn one_refusal_after_the_other(rt: HostRuntime) -> Result<(), Fail> {
     for (name, call, more, all, least) in [

@@ -1,5 +1,5 @@
-//! Buffers that other builders wrote, of flatc 2.0.8 from JSON, of C++ by its generated functions,
-//! and of Python by `flatbuffers.Builder`. Their vtables stand in front of their tables.
+//! Buffers of other builders: flatc 2.0.8 from JSON, generated C++, and Python's
+//! `flatbuffers.Builder`. Their vtables are before their tables.
 
 use super::gives;
 use super::monster::{is_held, is_loot};
@@ -145,7 +145,6 @@ fn weapons_of_other_builders(rt: HostRuntime) {
     }
 }
 
-// Whether the monster's weapons are these, or it has none.
 fn weapons_are(monster: MonsterRef<'_>, want: Option<&[WeaponRow]>) -> bool {
     let Ok(weapons) = monster.weapons() else {
         return false;
@@ -157,7 +156,6 @@ fn weapons_are(monster: MonsterRef<'_>, want: Option<&[WeaponRow]>) -> bool {
     }
 }
 
-// Whether its loot is these weapons, or it has none.
 fn loot_is(monster: MonsterRef<'_>, want: Option<&[WeaponRow]>) -> bool {
     let Ok(loot) = monster.loot() else {
         return false;
@@ -185,7 +183,6 @@ fn is_monster(monster: MonsterRef<'_>, row: MonsterRow) -> bool {
         && loot_is(monster, row.loot)
 }
 
-// Whether these bytes are read as this monster, field by field.
 pub fn monster_is_read(bytes: &[u8], row: MonsterRow) -> bool {
     match MonsterRef::read_as_root(bytes) {
         Ok(monster) => is_monster(monster, row),

@@ -1,4 +1,4 @@
-//! The program with the words of a command line.
+//! The program with its command line.
 
 use super::failing_ends::{DUMPED, OddReader, PRINTED, SCRIPT};
 use crate::ending::Ending;
@@ -10,7 +10,7 @@ use std::alloc::{AllocError, Global};
 use std::env::{Env, FillError};
 use std::test::Fail;
 
-/// An environment of these words, the program's name in front. It has no variables.
+/// An environment with these arguments, after the program's name, and no variables.
 #[derive(Drop)]
 struct Words<'a> {
     words: &'a [&'a [u8]],
@@ -37,8 +37,6 @@ impl<'a> Env for Words<'a> {
     }
 }
 
-// How the program ends with these words, and how many bytes of its input it leaves unread. It adds
-// what it prints, and what it says on standard error.
 fn ran(
     alloc: Global,
     words: &[&[u8]],
@@ -51,8 +49,7 @@ fn ran(
     (ending, reader.len())
 }
 
-// Words, the program's name in front, an input, what is printed, what is said on standard error,
-// the exit status, and how many bytes of the input are left unread.
+// Arguments, an input, both outputs, the exit status, and the number of bytes that are left unread.
 #[derive(Clone, Copy)]
 struct Row {
     words: &'static [&'static [u8]],
@@ -108,11 +105,9 @@ const ROWS: &[Row] = &[
     },
 ];
 
-// How the program is called.
 const USAGE: &[u8] = b"usage: planus_demo < SCRIPT\n       planus_demo weapon < BYTES\n       \
     planus_demo monster < BYTES\n";
 
-// Words that choose nothing.
 const UNKNOWN: &[&[&[u8]]] = &[
     &[NAME, b"Weapon"],
     &[NAME, b""],
@@ -148,12 +143,10 @@ fn words_on_a_command_line(rt: HostRuntime) {
     }
 }
 
-// Whether the program failed with this error and the status 2, and said this on standard error.
 fn fails_saying(ending: &Ending, error: RunError, told: &[u8], words: &[u8]) -> bool {
     ending.answer == Err(error) && status(&ending.answer) == 2 && ending.told && told == words
 }
 
-// Whether that is so without a word where the k-th read fails, with this room for what is printed.
 fn an_end_fails(
     alloc: Global,
     k: usize,
@@ -185,7 +178,7 @@ fn ends_that_fail(rt: HostRuntime) {
     );
 }
 
-// Whether words that choose nothing are answered as ever where standard error can't be written.
+// Unknown arguments give the same result where standard error can't be written.
 fn cant_be_told(alloc: Global) -> bool {
     let mut printed = Vec::new(alloc);
     let mut reader = SCRIPT;
@@ -200,7 +193,7 @@ fn standard_error_that_fails(rt: HostRuntime) {
     check(&rt, cant_be_told(rt.alloc()), "a full standard error");
 }
 
-// Whether memory for words is refused, before anything is read or printed.
+// Without memory for the arguments nothing is read or printed.
 fn is_refused(alloc: Global, words: &[&[u8]], told: &mut Vec<u8>) -> bool {
     let mut printed = Vec::new(alloc);
     let (ending, unread) = ran(alloc, words, SCRIPT, &mut printed, told);
@@ -209,7 +202,6 @@ fn is_refused(alloc: Global, words: &[&[u8]], told: &mut Vec<u8>) -> bool {
         && unread == SCRIPT.len()
 }
 
-// Tells that with all memory taken; nothing where memory was left.
 fn is_refused_without_memory(
     alloc: Global,
     words: &[&[u8]],
@@ -222,7 +214,6 @@ fn is_refused_without_memory(
     Ok(if exhausted { Some(refused) } else { None })
 }
 
-// The same, with room for what is said.
 fn words_are_refused(alloc: Global) -> Result<Option<bool>, AllocError> {
     let mut told: Vec<u8> = Vec::with_capacity(alloc, 64)?;
     is_refused_without_memory(alloc, &[NAME, b"weapon"], &mut told)

@@ -4,9 +4,8 @@ use super::prints;
 use crate::tests::check;
 use std::alloc::Global;
 
-// Scripts without a fault, each with what it prints, and scripts with one. A `|` stands between a
-// script and what it prints, and a `;` between two of these rows. They are in a text, and not in a
-// list, since a list of constants is written out in the proof of the function that has it.
+// Scripts without an error, each with what it prints, and scripts with one: `script|printed;`. They
+// are in a string, since a constant array is written out in the proof of the function that has it.
 const CLEAN: &str = "\
     |;\
     text Axe\nfinish 0\n|04 00 00 00 03 00 00 00 41 78 65 00\n;\
@@ -123,7 +122,6 @@ const FAULTY: &str = "\
     text A\nsized 1\n|line 2: no such step\n;\
     text A\nsized 0\nrefs 1\n|line 3: wrong kind\n";
 
-// Whether the script of a row prints what the row says, and is clean or not.
 fn is_printed(alloc: Global, row: &str, clean: bool) -> bool {
     match row.split_once('|') {
         Some((script, printed)) => prints(alloc, script.as_bytes(), 0, printed.as_bytes(), clean),
@@ -131,7 +129,6 @@ fn is_printed(alloc: Global, row: &str, clean: bool) -> bool {
     }
 }
 
-// The first row whose script prints something else.
 fn first_that_differs<'a>(alloc: Global, rows: &'a str, clean: bool) -> Option<&'a str> {
     for row in rows.split(';') {
         if !is_printed(alloc, row, clean) {
@@ -149,7 +146,7 @@ fn scripts(rt: HostRuntime) {
     }
 }
 
-// A line that isn't UTF-8 is refused, but for a comment.
+// A line that isn't UTF-8 is an error, but not in a comment.
 fn only_comments_have_other_bytes(alloc: Global) -> bool {
     prints(alloc, b"text \xff\n", 0, b"line 1: not utf-8\n", false)
         && prints(alloc, b"# \xff\n", 0, b"", true)

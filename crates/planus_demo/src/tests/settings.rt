@@ -1,4 +1,4 @@
-//! Monsters in every setting of the caches.
+//! Monsters under all cache settings.
 
 use super::monster::has;
 use super::other_builders::{MonsterRow, monster_is_read};
@@ -8,7 +8,6 @@ use crate::monster::Monster;
 use planus::{BuildError, Builder, ByteList, Caches, Offset, UnionOffset};
 use std::alloc::Global;
 
-// One of the eight settings of the caches, by a number from 0 to 7, which use these bits of a hash.
 pub fn setting(number: usize, hash_mask: u64) -> Caches {
     Caches {
         vtables: number & 1 != 0,
@@ -18,8 +17,6 @@ pub fn setting(number: usize, hash_mask: u64) -> Caches {
     }
 }
 
-// Writes a monster that has everything. It has an axe and a bow, of which it has equipped the axe,
-// and the same two as its loot.
 fn armed(
     builder: &mut Builder,
     name: &str,
@@ -44,7 +41,7 @@ fn armed(
     )
 }
 
-// Three of them, of which the first and the last are equal, and the second has a weapon's name.
+// Three of them: the first and the last are equal, the second has a weapon's name.
 fn three(builder: &mut Builder) -> Result<&[u8], BuildError> {
     armed(builder, "Orc", &[1, 2, 3])?;
     armed(builder, "Axe", &[7])?;
@@ -52,7 +49,6 @@ fn three(builder: &mut Builder) -> Result<&[u8], BuildError> {
     finish_with(builder, last)
 }
 
-// What is read of the last.
 const LAST: MonsterRow = MonsterRow {
     hp: 80,
     name: "Orc",
@@ -62,25 +58,21 @@ const LAST: MonsterRow = MonsterRow {
     loot: Some(&[(Some("Bow"), 12), (Some("Axe"), 24)]),
 };
 
-// How many bytes the three are in each setting. A vtable that is found saves 8 bytes of a weapon,
-// of which there are six, and 20 of a monster; a text that is found saves 8, and so does the byte
-// list of the last.
+// The length of the three under each setting. A vtable that is found saves 8 bytes for each of six
+// weapons, and 20 for a monster; a string that is found saves 8, and so does the last's byte
+// vector.
 const LENGTHS: [usize; 8] = [472, 392, 424, 344, 464, 384, 416, 336];
 
-// Writes them, keeps their bytes, and tells whether the last is read back.
 fn keep(builder: &mut Builder, bytes: &mut Vec<u8>) -> Result<bool, BuildError> {
     let written = three(builder)?;
     bytes.extend_from_slice(written)?;
     Ok(monster_is_read(written, LAST))
 }
 
-// Whether they are these bytes.
 fn are_same(builder: &mut Builder, want: &[u8]) -> Result<bool, BuildError> {
     Ok(three(builder)? == want)
 }
 
-// Whether they are so many bytes in a setting, the same whatever bits of a hash it uses, and the
-// last is read back.
 fn masks_agree(alloc: Global, number: usize, length: usize) -> bool {
     let mut bytes = Vec::new(alloc);
     let all = setting(number, u64::MAX);

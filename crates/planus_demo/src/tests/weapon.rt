@@ -18,7 +18,7 @@ use std::fmt::Debug;
 // A weapon: its name and its damage.
 pub type WeaponRow = (Option<&'static str>, i16);
 
-// A weapon with the name `Axe` and a damage of 24, finished.
+// The weapon Axe with a damage of 24, finished.
 const AXE: &[u8] =
     b"\x04\0\0\0\xf4\xff\xff\xff\x10\0\0\0\x18\0\0\0\x08\0\x0a\0\x04\0\x08\0\x03\0\0\0Axe\0";
 
@@ -29,7 +29,6 @@ const DAMAGED: [&[u8]; 3] = [
     b"\x04\0\0\0\xf4\xff\xff\xff\x10\0\0\0\x18\0\0\0\x08\0\x0a\0\x04\0\x08\0\x03\0\0\0Ax",
 ];
 
-// Writes a weapon.
 pub fn weapon(
     builder: &mut Builder,
     name: &str,
@@ -38,12 +37,10 @@ pub fn weapon(
     Weapon::create(builder, name, damage)
 }
 
-// Whether a weapon has this name and this damage.
 pub fn is_weapon(weapon: WeaponRef<'_>, name: Option<&str>, damage: i16) -> bool {
     gives(weapon.name(), name) && gives(weapon.damage(), damage)
 }
 
-// Whether an item is a weapon of this name and this damage.
 pub fn item_is(item: Option<planus::Result<WeaponRef<'_>>>, (name, damage): WeaponRow) -> bool {
     match item {
         Some(Ok(weapon)) => is_weapon(weapon, name, damage),
@@ -51,7 +48,6 @@ pub fn item_is(item: Option<planus::Result<WeaponRef<'_>>>, (name, damage): Weap
     }
 }
 
-// Whether a list has these weapons and no others.
 pub fn are_weapons<'a>(
     weapons: Vector<'a, planus::Result<WeaponRef<'a>>>,
     want: &[WeaponRow],
@@ -65,7 +61,6 @@ pub fn are_weapons<'a>(
     items.next().is_none() && weapons.len() == want.len()
 }
 
-// Whether a finish with the weapon gives these bytes, which are read as its name and its damage.
 fn finishes(
     builder: &mut Builder,
     root: Offset<Weapon>,
@@ -100,7 +95,7 @@ fn an_axe(rt: HostRuntime) {
     );
 }
 
-// The word leads to the vtable behind it, which has no slots.
+// The word leads to the vtable after it, which has no slots.
 fn fields_left_out_in(builder: &mut Builder) -> Result<bool, BuildError> {
     let unnamed: Option<&str> = None;
     let nothing = Weapon::create(builder, unnamed, 0i16)?;
@@ -132,7 +127,6 @@ fn fields_left_out(rt: HostRuntime) {
     );
 }
 
-// Whether the name isn't read, and the damage is.
 fn name_fails(alloc: Global, bytes: &[u8]) -> bool {
     let Ok(weapon) = WeaponRef::read_as_root(bytes) else {
         return false;
@@ -141,7 +135,6 @@ fn name_fails(alloc: Global, bytes: &[u8]) -> bool {
     fails_printing(alloc, weapon.name(), text) && gives(weapon.damage(), 24)
 }
 
-// Whether three bytes are no weapon.
 fn root_fails(alloc: Global) -> bool {
     let text = "In <[WeaponRef]@0>::read_as_root(): Invalid offset";
     fails_printing(alloc, WeaponRef::read_as_root(&[0, 0, 0]), text)
@@ -155,13 +148,12 @@ fn damaged_bytes(rt: HostRuntime) {
     check(&rt, root_fails(rt.alloc()), "a root");
 }
 
-// The axe with its size in front, and a size in front of no root.
+// The axe, size-prefixed, and a size before no root.
 const SIZED: &[u8] =
     b" \0\0\0\x04\0\0\0\xf4\xff\xff\xff\x10\0\0\0\x18\0\0\0\x08\0\x0a\0\x04\0\x08\0\x03\0\0\0Axe\0";
 
 const NO_ROOT: &[u8] = b"\x03\0\0\0\0\0\0";
 
-// The weapon behind a size.
 fn sized_weapon(bytes: &[u8]) -> Option<planus::Result<TableRef<'_, Weapon>>> {
     match read_size_prefixed(bytes) {
         Ok((piece, _rest)) => Some(ReadPieceAsRoot::read_piece_as_root(piece)),
@@ -176,7 +168,7 @@ fn read_behind_a_size() -> bool {
     }
 }
 
-// Whether the error of a root that isn't there has its offset from the front of the size.
+// Whether the error of a missing root has its offset from the size's start.
 fn missing_behind_a_size(alloc: Global) -> bool {
     let text = "In <[WeaponRef]@4>::read_as_root(): Invalid offset";
     match sized_weapon(NO_ROOT) {
@@ -191,7 +183,6 @@ fn weapons_behind_their_size(rt: HostRuntime) {
     check(&rt, missing_behind_a_size(rt.alloc()), "no root");
 }
 
-// Whether what a value prints for debugging begins with this text.
 fn shows<T: Debug>(alloc: Global, value: &T, text: &str) -> bool {
     match format!(in alloc; "{value:?}") {
         Ok(shown) => shown.as_str().starts_with(text),
@@ -219,7 +210,6 @@ fn what_is_written_is_shown(rt: HostRuntime) {
     check(&rt, values_are_shown(rt.alloc()), "fields and a table");
 }
 
-// Whether a finished list is that of an axe and a bow.
 fn axe_and_bow_are_read(bytes: &[u8]) -> bool {
     let whole = SliceWithStartOffset::new(bytes, 0);
     let list: Result<Vector<'_, Result<WeaponRef<'_>, Error>>, ErrorKind> = TableRead::from_buffer(
@@ -251,7 +241,7 @@ fn a_list_of_weapons(rt: HostRuntime) {
     );
 }
 
-// Knows of a writer that it was handed that it was told some list of entries.
+// A writer was told some list of entries.
 fn was_told(writer: &TableWriter<8>)
     ensures { (declared : List Declared) × WasTold writer.now declared }
 {

@@ -1,4 +1,4 @@
--- What becomes of the lines so far where an event comes, and then one after another.
+-- How events add to the lines so far.
 use Rattle.std.specs.Prelude.{◌≡◌, ◌≢◌, ℕ, List, [], ◌∷◌, ◌++◌, length, map}
 use Rattle.std.specs.Prelude.{Bool, true, false, if◌then◌else◌, ◌==◌}
 use Rattle.std.specs.String.{string_bytes}
@@ -7,7 +7,7 @@ use Rattle.planus_dump.specs.declared.line_sink.Stop.{Stop}
 use Rattle.planus_dump.specs.declared.line_sink.Stop.TheVariants.{Going, TooDeep, TooMany}
 use Rattle.planus_dump.specs.declared.line_sink.LineSink.{LineSink}
 
--- the lines so far, how many there may be, and whether the walk goes on
+-- the lines so far, their greatest number, and whether the walk goes on
 pub record Shown : Type 0 where
   pub lines : List (List ℕ)
   pub budget : ℕ

@@ -1,4 +1,4 @@
--- The laws of what unions and vectors of unions hold that may be left out.
+-- Laws for the contents of optional unions and union vectors.
 use Rattle.std.specs.Prelude.{◌≡◌, ℕ, List, [], ◌∷◌, map, Option, Some, None, Ok, ⊤}
 use Rattle.std.proofs.Common.{refl, subst, ap}
 use Rattle.planus_read.specs.Values.{tags, values as values_field}
@@ -18,7 +18,7 @@ use Rattle.planus_fields.specs.Contents.{any_unions_hold, PreparesUnion, Prepare
 use Rattle.planus_write.specs.lemmas.ContentLaws.{stays_there}
 use Rattle.planus_write.specs.lemmas.UnionContentLaws.{vector_comes}
 
--- Unions that are prepared, one after another, are a vector that may be left out.
+-- Unions, prepared one after another, are an optional vector.
 module _ {X T : Type 0} {may : X → State → Type 0} {outcome : X → Outcome (UnionOffset T)}
     (lawful : IsLawful may outcome union_reach) (content : X → ℕ × Content)
     (prepares : PreparesUnionItem may outcome content) where
@@ -39,7 +39,7 @@ module _ {X T : Type 0} {may : X → State → Type 0} {outcome : X → Outcome 
       comes y old (Some vector) new past mays done is_past =
           vector_comes lawful content prepares (items y) old vector new past mays done.1 is_past
 
-  -- the same of one that is left out where it is empty
+  -- the same for one left out where it is empty
   pub unions_or_none_prepared : {Y : Type 0} (items : Y → List X)
       → PreparesUnionVector (λ y old. AllMay may (items y) old)
       (λ y old answer new. LeftOutWhere (items y ≡ []) (WritesUnionVector outcome (items y)) old answer new)
@@ -61,7 +61,7 @@ module _ {X T : Type 0} {may : X → State → Type 0} {outcome : X → Outcome 
       comes (x ∷ xs) old (Some vector) new past mays done is_past =
           vector_comes lawful content prepares (x ∷ xs) old vector new past mays done.1 is_past
 
--- a vector of unions that may be absent
+-- an optional union vector
 pub optional_union_vector_prepared : {X T : Type 0} {may : X → State → Type 0}
     {outcome : X → Outcome (Option (UnionVectorOffset T))} {contents : X → Option (Content × Content)}
     → PreparesUnionVector may outcome contents
@@ -77,7 +77,7 @@ optional_union_vector_prepared {X} {T} {may} {outcome} {contents} lawful = recor
     prepared None old (Some found) new past may done is_past = cc
     prepared (Some x) old found new past may done is_past = lawful.comes x old found new past may done is_past
 
--- a vector of unions that is written already
+-- a union vector that is written already
 pub union_vector_offset_prepared : {T : Type 0} {may : UnionVectorOffset T → State → Type 0}
     → PreparesUnionVector may (λ vector old answer new. LeftOutWhere ⊥ (Answers vector) old answer new)
     (λ vector. Some (written_tags vector.tags.distance, written_values vector.values.distance))
@@ -116,7 +116,7 @@ always_union_prepared {X} {T} {may} {outcome} {content} lawful = record { comes 
     comes x old (Some union) new past may done is_past =
         lawful.comes x old union new past may done.1 is_past
 
--- a union that may be absent
+-- an optional union
 pub optional_union_prepared : {X T : Type 0} {may : X → State → Type 0}
     {outcome : X → Outcome (Option (UnionOffset T))} {content : X → Option (ℕ × Content)}
     → PreparesUnion may outcome content
@@ -132,7 +132,7 @@ optional_union_prepared {X} {T} {may} {outcome} {content} lawful = record { come
     prepared None old (Some found) new past may done is_past = cc
     prepared (Some x) old found new past may done is_past = lawful.comes x old found new past may done is_past
 
--- a union that is always left out
+-- a union always left out
 pub never_union_prepared : {X T : Type 0} {may : X → State → Type 0}
     → PreparesUnion {X = X} {T = T} may (λ x old answer new. Answers None old answer new) (λ x. None)
 never_union_prepared {X} {T} {may} = record {
@@ -150,7 +150,7 @@ pub union_prepared_as : {X Y T : Type 0} {may : X → State → Type 0}
     (λ y. content (of y))
 union_prepared_as of lawful = record { comes = λ y. lawful.comes (of y) }
 
--- a vector of unions that is always left out
+-- a union vector always left out
 pub never_union_vector_prepared : {X T : Type 0} {may : X → State → Type 0}
     → PreparesUnionVector {X = X} {T = T} may (λ x old answer new. Answers None old answer new) (λ x. None)
 never_union_vector_prepared {X} {T} {may} = record {
@@ -160,7 +160,7 @@ never_union_vector_prepared {X} {T} {may} = record {
       (stays_there past old new (λ after. ⊤) done.1 is_past tt));
 }
 
--- a vector of unions that is prepared as something else
+-- a union vector that is prepared as something else
 pub union_vector_prepared_as : {X Y T : Type 0} {may : X → State → Type 0}
     {outcome : X → Outcome (Option (UnionVectorOffset T))} {contents : X → Option (Content × Content)}
     (of : Y → X) → PreparesUnionVector may outcome contents

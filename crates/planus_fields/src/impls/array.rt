@@ -1,4 +1,4 @@
-//! Lists of items that lie in an array.
+//! Vectors from arrays.
 ghost use Rattle.std.specs.Prelude.{◌≡◌, [], Some, map};
 ghost use Rattle.planus_write.specs.Preparing.{AllMay, WritesList};
 ghost use Rattle.planus_write.specs.lemmas.ListLaws.{list_is_lawful};

@@ -1,4 +1,4 @@
-//! Boxed fields: they are written as what lies in the box.
+//! Boxed fields are written as what is in the box.
 ghost use Rattle.planus_write.specs.lemmas.Laws.{lawful_of};
 ghost use Rattle.planus_write.specs.lemmas.ContentLaws.{content_prepared_as};
 ghost use Rattle.planus_fields.specs.lemmas.ContentLaws.{prepared_as};

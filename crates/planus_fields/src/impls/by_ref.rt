@@ -1,4 +1,4 @@
-//! References: they are written as what they lead to.
+//! References are written as what they lead to.
 ghost use Rattle.planus_write.specs.lemmas.Laws.{lawful_of};
 ghost use Rattle.planus_write.specs.lemmas.ContentLaws.{content_prepared_as};
 ghost use Rattle.planus_fields.specs.lemmas.ContentLaws.{prepared_as};

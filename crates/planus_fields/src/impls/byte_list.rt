@@ -1,4 +1,4 @@
-//! Lists of `u8`.
+//! Vectors of `u8`.
 ghost use Rattle.std.specs.Prelude.{◌≡◌, [], ⊤, Some};
 ghost use Rattle.planus_write.specs.Parts.{byte_list_entry};
 ghost use Rattle.planus_write.specs.Preparing.{WritesByteList};

@@ -1,4 +1,4 @@
-//! Fields that may be absent.
+//! Optional fields.
 ghost use Rattle.planus_fields.specs.Fields.{MayIf, PreparesIf};
 ghost use Rattle.planus_fields.specs.lemmas.FieldLaws.{optional_is_lawful};
 ghost use Rattle.planus_fields.specs.Contents.{holds_if, union_if, union_vector_if};

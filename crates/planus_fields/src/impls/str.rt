@@ -1,4 +1,4 @@
-//! Texts that lie in a slice.
+//! Borrowed strings.
 ghost use Rattle.std.specs.Prelude.{◌≡◌, ⊤, Some};
 ghost use Rattle.planus_write.specs.Parts.{text_entry};
 ghost use Rattle.planus_write.specs.Preparing.{WritesText};

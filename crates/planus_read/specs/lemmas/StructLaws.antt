@@ -1,4 +1,4 @@
--- Laws for the fields of structs: bytes that stand are cut, and stand at equal places.
+-- Laws for the fields of structs: bytes are cut, and are at equal positions.
 use Prim.Native.Nat.{zero, suc}
 use Rattle.std.specs.Prelude.{◌≡◌, ℕ, ◌+◌, List, [], ◌∷◌, ◌++◌, length, take, drop}
 use Rattle.std.proofs.Common.{refl, sym, subst, ap, ◌∙◌, arith, length-append}
@@ -8,7 +8,7 @@ use Rattle.planus_read.specs.Bytes.{BytesStand}
 use Rattle.planus_read.specs.Clauses.{Clause, AllHold}
 use Rattle.planus_read.specs.Plain.{place}
 
--- bytes that stand, cut in two
+-- bytes at a position, cut in two
 cut :
     (B x y : List ℕ) (p : ℕ)
     → take (length (x ++ y)) (drop p B) ≡ take (length x) (drop p B) ++ take (length y)

@@ -13,7 +13,6 @@ use std::num::{
     f32_from_bits_with_nan, f32_to_bits_with_nan, f64_from_bits_with_nan, f64_to_bits_with_nan,
 };
 
-// Returns the bits of a float, which its format holds.
 #[inline]
 fn f32_bits(x: f32) -> u32
     ensures bits { result ≡ to_bits binary32 x }
@@ -22,7 +21,6 @@ fn f32_bits(x: f32) -> u32
     f32_to_bits_with_nan(x)
 }
 
-// Returns the bits of a float, which its format holds.
 #[inline]
 fn f64_bits(x: f64) -> u64
     ensures bits { result ≡ to_bits binary64 x }

@@ -1,4 +1,4 @@
-//! Texts as fields of tables and as items of vectors.
+//! Strings as fields of tables and as items of vectors.
 
 ghost use Rattle.std.specs.Prelude.{◌≡◌, IfOk, IfErr};
 ghost use Rattle.planus_read.specs.Located.{Located};
@@ -13,10 +13,9 @@ use crate::located::ITEM_METHOD;
 use crate::slice_helpers::SliceWithStartOffset;
 use crate::traits::{ReadError, Stride, TableRead, VectorReadInner};
 
-// The name of a vector of texts, for the location of an item's error.
 const VECTOR_NAME: &str = "[str]";
 
-// Returns the text of the first count items, behind which there is a zero byte.
+// Returns the string of the first count items, if a zero byte follows.
 #[inline]
 fn text_of(items: &[u8], count: usize) -> Result<&str, ErrorKind>
     ensures text { IfOk result (λ text. IsTextOf items.now count text.now) }

@@ -1,4 +1,4 @@
--- What the program's output is to the definitions.
+-- The program's output, in the terms of the definitions.
 use Rattle.std.specs.Prelude.{ℕ, ◌<◌, Bool, List, Result, Ok, Err, ⊤, Vec}
 use Rattle.std.specs.declared.alloc.Global.{Global}
 use Rattle.std.specs.String.{string_bytes}
@@ -9,7 +9,7 @@ use Rattle.planus.specs.declared.finishes.Finished.{Finished}
 use Rattle.planus.specs.declared.faults.ReplayError.{ReplayError}
 use Rattle.planus.specs.declared.faults.ReplayError.TheVariants.{OutOfMemory, TooLarge, BadStep}
 
--- whether the script was without a fault, and all of it was done
+-- whether the script had no error, and all of it was done
 abbrev pub is_clean : Output → Bool
 is_clean output = output.clean
 
@@ -17,14 +17,14 @@ is_clean output = output.clean
 abbrev pub printed_text : Output → List ℕ
 printed_text output = string_bytes output.text
 
--- a bad step is one of so many steps
+-- a bad step is one of n steps
 abbrev pub NamesStep : ℕ → Result (Vec Finished Global) ReplayError → Type 0
 NamesStep count (Err (BadStep step why)) = step < count
 NamesStep count (Err TooLarge) = ⊤
 NamesStep count (Err OutOfMemory) = ⊤
 NamesStep count (Ok finished) = ⊤
 
--- what is printed of a replay's answer, a refusal for memory included
+-- what is printed for a replay's result, out of memory included
 abbrev pub PrintsAnswerOr : List ℕ → Result (List Finish) ReplayError → Bool → List ℕ → Type 0
 PrintsAnswerOr numbers (Ok finished) clean printed =
     PrintsAnswer numbers (Ok finished) clean printed

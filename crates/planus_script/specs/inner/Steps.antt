@@ -1,4 +1,4 @@
--- The steps of the program, as the definitions see them, and what its readers of lines answer.
+-- The program's steps, in the terms of the definitions, and the results of its readers of lines.
 use Rattle.std.specs.Prelude.{◌≡◌, ℕ, List, map, Vec, Option, Some, None, Result, Ok, Err}
 use Rattle.std.specs.declared.alloc.Global.{Global}
 use Rattle.planus_script.specs.declared.script.ReadFault.TheVariants.{BadHex}
@@ -12,35 +12,35 @@ use Rattle.planus_script.specs.declared.script.ParseError.{ParseError}
 use Rattle.planus_script.specs.declared.script.ParseError.TheVariants as parse
 use Rattle.planus_script.specs.declared.script.Script.{Script}
 
--- a script, without where it lies in memory
+-- a script, without its location in memory
 abbrev pub read_of : Script → Read
 read_of script =
     record { numbers = script.numbers.items; commands = map bare_step script.steps.items }
 
--- the answer is this command or this fault
+-- the result is this command or this error
 abbrev pub AnswersCommand : Result code.Step ReadFault → Result Step ReadFault → Type 0
 AnswersCommand (Ok step) expected = expected ≡ Ok (bare_step step)
 AnswersCommand (Err fault) expected = expected ≡ Err fault
 
--- the same, unless memory was refused where it is asked for
+-- the same, or out of memory where that is taken
 abbrev pub AnswersLine : Result code.Step LineError → Result Step ReadFault → Type 0 → Type 0
 AnswersLine (Ok step) expected asks = expected ≡ Ok (bare_step step)
 AnswersLine (Err (line.Fault fault)) expected asks = expected ≡ Err fault
 AnswersLine (Err line.OutOfMemory) expected asks = asks
 
--- the answer is these items or this fault, unless memory was refused where it is asked for
+-- the result is these items or this error, or out of memory where that is taken
 abbrev pub AnswersList :
     {A : Type 0} → Result (Vec A Global) LineError → Result (List A) ReadFault → Type 0 → Type 0
 AnswersList (Ok items) expected asks = expected ≡ Ok items.items
 AnswersList (Err (line.Fault fault)) expected asks = expected ≡ Err fault
 AnswersList (Err line.OutOfMemory) expected asks = asks
 
--- bytes, or the fault that digits are none
+-- bytes, or the error of digits
 abbrev pub bytes_or_fault : Option (List ℕ) → Result (List ℕ) ReadFault
 bytes_or_fault None = Err BadHex
 bytes_or_fault (Some bytes) = Ok bytes
 
--- the answer is this script, or this line's fault, unless memory was refused where it is asked for
+-- the result is this script or this line's error, or out of memory where that is taken
 abbrev pub AnswersScript :
     Result Script ParseError → Result Read (ℕ × ReadFault) → Type 0 → Type 0
 AnswersScript (Ok script) expected asks = expected ≡ Ok (read_of script)

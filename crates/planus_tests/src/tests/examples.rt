@@ -13,8 +13,7 @@ mod voyages;
 use planus::{BuildError, Builder};
 use std::alloc::Global;
 
-// Whether these calls are all made of a new builder, and give what they should. A function that owns
-// a builder is proved slowly, so this is the one that does.
+// A function that owns a builder is proved slowly, so this is the one that does.
 fn in_builder<F: FnOnce(&mut Builder) -> Result<bool, BuildError>>(alloc: Global, calls: F) -> bool
     requires { F.IsAlwaysCallable calls }
 {

@@ -17,16 +17,15 @@ const WEAPON: [u8; 32] = [
     0, b'A', b'x', b'e', 0,
 ];
 
-// A table at 4 with its vtable at 24. Slots 0 and 1 hold a union, tag 1 and the text `Hi`. Slots 2
-// and 3 hold a vector of two unions, of tags 1 and 2 and the texts `A` and `B`: its tags stand at
-// 44 and its values at 52.
+// A table at 4 with its vtable at 24. Slots 0 and 1 hold a union, tag 1 and `Hi`. Slots 2 and 3
+// hold a union vector, of tags 1 and 2 and the strings `A` and `B`: its tags are at 44, its values
+// at 52.
 const UNIONS: [u8; 78] = [
     4, 0, 0, 0, 0xec, 0xff, 0xff, 0xff, 28, 0, 0, 0, 32, 0, 0, 0, 36, 0, 0, 0, 1, 0, 0, 0, 12, 0,
     17, 0, 16, 0, 4, 0, 8, 0, 12, 0, 2, 0, 0, 0, b'H', b'i', 0, 0, 2, 0, 0, 0, 1, 2, 0, 0, 2, 0, 0,
     0, 16, 0, 0, 0, 4, 0, 0, 0, 1, 0, 0, 0, b'B', 0, 0, 0, 1, 0, 0, 0, b'A', 0,
 ];
 
-// Whether a value prints this text; no where memory for it is refused.
 fn prints<T: Display>(alloc: Global, value: &T, text: &str) -> bool {
     match format!(in alloc; "{value}") {
         Ok(shown) => shown.as_str() == text,
@@ -34,7 +33,6 @@ fn prints<T: Display>(alloc: Global, value: &T, text: &str) -> bool {
     }
 }
 
-// Whether an answer is an error that prints this text.
 fn fails_printing<T: Drop>(alloc: Global, answer: planus_read::Result<T>, text: &str) -> bool {
     match answer {
         Ok(_) => false,
@@ -42,7 +40,6 @@ fn fails_printing<T: Drop>(alloc: Global, answer: planus_read::Result<T>, text: 
     }
 }
 
-// Whether two errors are of one kind, of those that the tests expect.
 fn same_kind(read: ErrorKind, plain: ErrorKind) -> bool {
     match (read, plain) {
         (ErrorKind::InvalidOffset, ErrorKind::InvalidOffset)
@@ -61,7 +58,6 @@ fn same_kind(read: ErrorKind, plain: ErrorKind) -> bool {
     }
 }
 
-// Whether an answer is an error of this kind.
 fn fails_with<T: Drop>(answer: planus_read::Result<T>, kind: ErrorKind) -> bool {
     match answer {
         Ok(_) => false,

@@ -17,20 +17,17 @@ use planus_back::{Fill, Overwrite};
 use planus_write::{BuildError, Builder, Caches, Offset, WriteAsOffset};
 use std::alloc::Global;
 
-// The tests hand functions of their own to `in_builder` and `calls_in_builder`, which lend them a
-// builder: a function that owns one is proved slowly, and those two are proved once.
+// A function that owns a builder is proved slowly, so the tests pass functions to `in_builder` and
+// `calls_in_builder`, which lend them one.
 
-// Whether the calls were all made, and gave what they should.
 fn holds(found: Result<bool, BuildError>) -> bool {
     matches!(found, Ok(true))
 }
 
-// Whether a value stands at this distance, and the builder has so many bytes.
 fn stands_at<T>(builder: &Builder, value: Offset<T>, distance: u32, len: usize) -> bool {
     value.distance() == distance && builder.len() == len
 }
 
-// Whether a finish with a value of before, which the builder still has, gives these bytes.
 fn finishes<T>(
     builder: &mut Builder,
     root: Offset<T>,
@@ -46,7 +43,6 @@ fn finishes<T>(
     }
 }
 
-// Prepares a value, of which only the bound is known.
 fn prepared<T, X: WriteAsOffset<T>>(
     builder: &mut Builder,
     value: &X,
@@ -56,7 +52,7 @@ fn prepared<T, X: WriteAsOffset<T>>(
     value.prepare(builder)
 }
 
-// Writes its place, all four bytes of it, into its 4 bytes.
+// Writes its place into its 4 bytes.
 struct PlaceWord;
 
 impl Fill for PlaceWord {
@@ -79,7 +75,7 @@ impl Overwrite for PlaceWord {
     }
 }
 
-// The switches of a builder that writes equal contents each time.
+// A builder without caches writes equal contents each time.
 const NO_CACHES: Caches = Caches {
     vtables: false,
     texts: false,
@@ -87,7 +83,6 @@ const NO_CACHES: Caches = Caches {
     hash_mask: 0,
 };
 
-// Whether this holds of a new builder.
 fn in_builder<F: FnOnce(&mut Builder) -> bool>(alloc: Global, caches: Caches, of_it: F) -> bool
     requires { F.IsAlwaysCallable of_it }
 {
@@ -97,7 +92,6 @@ fn in_builder<F: FnOnce(&mut Builder) -> bool>(alloc: Global, caches: Caches, of
     }
 }
 
-// Whether these calls are all made of a new builder, and give what they should.
 fn calls_in_builder<E: Drop, F: FnOnce(&mut Builder) -> Result<bool, E>>(
     alloc: Global,
     caches: Caches,

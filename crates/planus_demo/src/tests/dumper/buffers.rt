@@ -4,22 +4,22 @@ use super::{FieldParts, MONSTER, SchemaParts, WEAPON, dumps_lines, is_refused};
 use crate::tests::check;
 use planus_dump::{DumpError, Item, Kind};
 
-// A weapon with the name `Axe` and a damage of 24; and the same with a last byte of 1.
+// The weapon Axe with a damage of 24; and the same with a last byte of 1.
 const AXE: &[u8] =
     b"\x04\0\0\0\xf4\xff\xff\xff\x10\0\0\0\x18\0\0\0\x08\0\x0a\0\x04\0\x08\0\x03\0\0\0Axe\0";
 
 const UNENDED: &[u8] =
     b"\x04\0\0\0\xf4\xff\xff\xff\x10\0\0\0\x18\0\0\0\x08\0\x0a\0\x04\0\x08\0\x03\0\0\0Axe\x01";
 
-// A monster with hp 80, the name `Orc`, a list of that weapon, and that weapon equipped.
+// The monster Orc with hp 80, a vector of that weapon, and that weapon equipped.
 const ORC: &[u8] = b"\x04\0\0\0\xec\xff\xff\xff(\0\0\0\x1c\0\0\0(\0\0\0\
       P\0\x01\0\x10\0\x13\0\x10\0\x04\0\0\0\x08\0\x12\0\x0c\0\
       \x01\0\0\0\x0c\0\0\0\x03\0\0\0Orc\0\xf4\xff\xff\xff\
       \x10\0\0\0\x18\0\0\0\x08\0\x0a\0\x04\0\x08\0\x03\0\0\0\
       Axe\0";
 
-// A table with a field of each kind, and its lines: each number in its width, texts with characters
-// that are escaped, lists, and a vector of unions whose second tag isn't known.
+// A field of each kind, and its lines: numbers of each width, strings with escapes, vectors, and a
+// union vector whose second tag is unknown.
 const KINDS: &[FieldParts<'static>] = &[
     (0, "u8", Kind::U8),
     (1, "i8", Kind::I8),
@@ -109,7 +109,6 @@ const WEAPONS: SchemaParts<'static> = (&[("Weapon", WEAPON)], &[]);
 
 const MONSTERS: SchemaParts<'static> = (&[("Weapon", WEAPON), ("Monster", MONSTER)], &[&[(1, 0)]]);
 
-// Bytes, and the lines of a weapon in them.
 const WEAPON_ROWS: &[(&[u8], &[&str])] = &[
     (
         AXE,

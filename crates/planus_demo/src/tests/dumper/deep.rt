@@ -1,4 +1,4 @@
-//! Deep chains, and tables that are named often.
+//! Deep chains, and tables that are referred to often.
 
 use super::{FieldParts, SchemaParts, dumps_lines, is_refused, schema_of};
 use crate::tests::check;
@@ -18,11 +18,11 @@ const NODES: SchemaParts<'static> = (&[("Node", NODE)], &[]);
 
 const TWINS: SchemaParts<'static> = (&[("Twin", TWIN)], &[]);
 
-// The end of a buffer: a vtable of 8 bytes for tables of 12 with fields at 4 and at 8, and a vtable
-// without slots, for the last table. A vtable lies behind the table that names its own.
+// A vtable of 8 bytes for tables of 12 with fields at 4 and at 8, and one without slots for the
+// last.
 const VTABLES: &[u8] = b"\x08\0\x0c\0\x04\0\x08\0\x04\0\x04\0";
 
-// A buffer of so many tables and one more: in each but the last, both fields lead to the next one.
+// A buffer of n + 1 tables: in each but the last, both fields lead to the next one.
 fn chain(alloc: Global, tables: u32) -> Result<Vec<u8>, AllocError> {
     let mut bytes = Vec::new(alloc);
     push_chain(&mut bytes, tables)?;
@@ -45,7 +45,6 @@ fn push_chain(bytes: &mut Vec<u8>, tables: u32) -> Result<(), AllocError> {
     bytes.extend_from_slice(VTABLES)
 }
 
-// Whether a chain of so many tables and one more has so many lines.
 fn has_lines(alloc: Global, tables: u32, expected: usize) -> bool {
     let Ok(bytes) = chain(alloc, tables) else {
         return false;

@@ -1,11 +1,10 @@
-//! A schema with each fault.
+//! A schema with each error.
 
 use super::{SchemaParts, TableParts, is_refused};
 use crate::tests::check;
 use planus_dump::{DumpError, Item, Kind};
 use std::alloc::Global;
 
-// Whether a schema of these parts is bad.
 fn is_bad(alloc: Global, parts: SchemaParts<'_>) -> bool {
     is_refused(alloc, parts, &[0, 0, 0], 9, DumpError::BadSchema)
 }

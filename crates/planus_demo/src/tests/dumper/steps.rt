@@ -6,7 +6,6 @@ use planus::{Caches, Field, FieldValue, ReplayError, Step, Why};
 use planus_dump::{DumpError, DumpRunError, dump_run};
 use std::alloc::{AllocError, Global};
 
-// The steps of a weapon with the name `Axe` and a damage of 24, and so many finishes of it.
 fn weapon(alloc: Global, finishes: usize) -> Result<Vec<Step>, AllocError> {
     let mut steps = Vec::new(alloc);
     steps.push(Step::Text(String::from_str(alloc, "Axe")?))?;
@@ -37,7 +36,6 @@ fn push_finishes(steps: &mut Vec<Step>, finishes: usize) -> Result<(), AllocErro
     Ok(())
 }
 
-// Whether these steps dump these lines by the schema of weapons; none where they finish nothing.
 fn dumps(
     alloc: Global,
     steps: &[Step],
@@ -54,7 +52,6 @@ fn dumps(
     }
 }
 
-// Whether a weapon with so many finishes does.
 fn weapon_dumps(
     alloc: Global,
     finishes: usize,

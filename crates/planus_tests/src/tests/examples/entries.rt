@@ -11,7 +11,6 @@ use uses_tables::{
     all_read_back, text_read_back,
 };
 
-// Writes an entry with this text alone.
 fn note(builder: &mut Builder, text: &str) -> Result<Offset<Entry>, BuildError>
     ensures reached { IfOk result (λ offset. IsIn builder.new offset) }
     ensures grows { Grows builder.old builder.new }
@@ -29,7 +28,6 @@ fn note(builder: &mut Builder, text: &str) -> Result<Offset<Entry>, BuildError>
     Entry::create(builder, entry)
 }
 
-// Whether the root is an entry with fields of each kind, as `full` writes it.
 fn is_full(bytes: &[u8]) -> bool {
     let entry: Result<EntryRef<'_>, _> = ReadAsRoot::read_as_root(bytes);
     let Ok(entry) = entry else {
@@ -116,7 +114,6 @@ fn a_text_is_read(builder: &mut Builder) -> Result<bool, BuildError> {
     Ok(matches!(text_read_back(builder, entry), Ok("hello")))
 }
 
-// Whether what was read is what `all_is_read` writes.
 fn is_hello(read: &EntryRead<'_>) -> bool {
     read.at == 1
         && read.retries == 0

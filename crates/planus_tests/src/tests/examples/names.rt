@@ -1,4 +1,4 @@
-//! The names of a list of ships are read, or the error says what can't be.
+//! The names of a vector of ships are read, or the error says which can't be.
 
 use super::in_builder;
 use planus::errors::ErrorKind;
@@ -10,7 +10,6 @@ fn are_names(alloc: Global, bytes: &[u8]) -> bool {
     matches!(names_in(alloc, bytes), Ok(names) if names.as_slice() == ["Beagle", "Argo"].as_slice())
 }
 
-// Whether the names can't be read for this reason, of this table and by this accessor.
 fn is_refused(
     alloc: Global,
     bytes: &[u8],
@@ -31,8 +30,7 @@ fn is_refused(
     }
 }
 
-// Of all bytes; without the last one, which is the zero byte behind the name that was written first;
-// and of one byte, which is no list.
+// All bytes; without the last one, the zero byte of the name that was written first; and one byte.
 fn names_are_read(alloc: Global, builder: &mut Builder) -> Result<bool, BuildError> {
     let first = Ship::create(builder, "Argo", 100, None)?;
     let second = Ship::create(builder, "Beagle", 90, Some(&[7]))?;

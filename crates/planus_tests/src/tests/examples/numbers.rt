@@ -1,4 +1,4 @@
-//! A list of numbers that is written, with ample memory.
+//! A vector of numbers is written, with ample memory.
 
 use super::in_builder;
 use planus::{BuildError, Builder};

@@ -1,4 +1,4 @@
-//! Structs with an alignment of their own, and enums of two bytes with signs, are written and read
+//! Structs with an alignment of their own, and enums of two signed bytes, are written and read
 //! back.
 
 use super::in_builder;
@@ -49,7 +49,7 @@ const FIX: Fix = Fix {
     kind: Kind::Ship,
 };
 
-// What flatc 2.0.8 writes of a probe with these values and the level Low.
+// By flatc 2.0.8: a probe with these values and the level Low.
 const FLATC_PROBE: [u8; 224] = [
     0x18, 0x00, 0x00, 0x00, 0x00, 0x00, 0x00, 0x00, 0x00, 0x00, 0x00, 0x00, 0x0c, 0x00, 0x44, 0x00,
     0x06, 0x00, 0x08, 0x00, 0x3c, 0x00, 0x40, 0x00, 0x0c, 0x00, 0x00, 0x00, 0x00, 0x00, 0xd4, 0xfe,
@@ -67,7 +67,6 @@ const FLATC_PROBE: [u8; 224] = [
     0x00, 0x00, 0x00, 0x00, 0x00, 0x00, 0x00, 0x00, 0x00, 0x00, 0x00, 0x00, 0x00, 0x00, 0x00, 0x00,
 ];
 
-// Whether a reading is its bytes: those from 32 on, where it stands at a multiple of 16.
 fn is_its_bytes() -> bool {
     let mut bytes = [7; 48];
     READING.put(&mut bytes);
@@ -94,7 +93,6 @@ fn has_fixes(probe: &TableRef<'_, Probe>) -> bool {
     }
 }
 
-// Whether the root is a probe with these values and this level.
 fn is_probe(bytes: &[u8], level: Height) -> bool {
     let probe: Result<TableRef<'_, Probe>, _> = ReadAsRoot::read_as_root(bytes);
     let Ok(probe) = probe else {
@@ -126,8 +124,6 @@ fn probes_are_read_back(rt: HostRuntime) {
     assert!(rt; in_builder(rt.alloc(), a_default_is_read), "default");
 }
 
-// Whether the second reading, whose level is no level's, is an error that tells it and the name of a
-// vector, and the first is as it was.
 fn is_unknown_level(probe: &TableRef<'_, Probe>) -> bool {
     let Ok(Some(readings)) = Probe::readings(probe) else {
         return false;

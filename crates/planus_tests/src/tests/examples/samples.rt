@@ -5,8 +5,8 @@ use planus::{BuildError, Builder, ReadAsRoot, TableRef};
 use std::num::{f32_to_bits_with_nan, f64_to_bits_with_nan};
 use uses_tables::Sample;
 
-// A float of 8 bytes, its bits, whether it is written where 0.0 is the default, and what it is as one
-// of 4 bytes, and the bits of that.
+// A float of 8 bytes, its bits, whether it is written where 0.0 is the default, and the same for it
+// as one of 4 bytes.
 struct Row {
     exact: f64,
     bits: u64,
@@ -54,8 +54,8 @@ const ROWS: &[Row] = &[
     },
 ];
 
-// What flatc 2.0.8 writes of a sample that is 1.5 exactly and the least below 0 roughly, with
-// infinity, a NaN, the least above 0 and -0.0 as its series.
+// By flatc 2.0.8: a sample that is 1.5 exactly and the least below 0 roughly, with infinity, a NaN,
+// the least above 0 and -0.0 as its series.
 const FLATC_SAMPLE: &[u8] = &[
     0x14, 0x00, 0x00, 0x00, 0x00, 0x00, 0x00, 0x00, 0x00, 0x00, 0x0a, 0x00, 0x18, 0x00, 0x0c, 0x00,
     0x04, 0x00, 0x08, 0x00, 0x0a, 0x00, 0x00, 0x00, 0x01, 0x00, 0x00, 0x80, 0x10, 0x00, 0x00, 0x00,
@@ -64,7 +64,6 @@ const FLATC_SAMPLE: &[u8] = &[
     0x01, 0x00, 0x00, 0x00, 0x00, 0x00, 0x00, 0x00, 0x00, 0x00, 0x00, 0x00, 0x00, 0x00, 0x00, 0x80,
 ];
 
-// Whether the root is a sample with these bits, as floats of 8 and of 4 bytes, and in its series.
 fn has_bits(bytes: &[u8], exact: u64, rough: u32, series: &[u64]) -> bool {
     let sample: Result<TableRef<'_, Sample>, _> = ReadAsRoot::read_as_root(bytes);
     let Ok(sample) = sample else {

@@ -46,13 +46,13 @@ const LEG: Leg = Leg {
     },
 };
 
-// As struct.pack('<Qiih2xB3x', 1 << 40, -33448900, -70669300, -1, 2) of Python has it.
+// Python's struct.pack('<Qiih2xB3x', 1 << 40, -33448900, -70669300, -1, 2).
 const FIX_BYTES: [u8; 24] = [
     0, 0, 0, 0, 0, 1, 0, 0, 60, 156, 1, 254, 12, 172, 201, 251, 255, 255, 0, 0, 2, 0, 0, 0,
 ];
 
-// What flatc 2.0.8 writes of a site with these values, the kind Ship, heat -1.5, the kinds Ship and
-// Car, water and a road.
+// By flatc 2.0.8: a site with these values, the kind Ship, heat -1.5, the kinds Ship and Car, water
+// and a road.
 const FLATC_SITE: [u8; 168] = [
     0x18, 0x00, 0x00, 0x00, 0x14, 0x00, 0x68, 0x00, 0x08, 0x00, 0x14, 0x00, 0x18, 0x00, 0x06, 0x00,
     0x30, 0x00, 0x34, 0x00, 0x38, 0x00, 0x07, 0x00, 0x14, 0x00, 0x00, 0x00, 0x00, 0x00, 0x02, 0x05,
@@ -71,7 +71,6 @@ fn fix_at(bytes: &[u8], offset: usize) -> Result<Fix, ErrorKind> {
     TableRead::from_buffer(SliceWithStartOffset::new(bytes, 0), offset)
 }
 
-// Whether a fix is its bytes, and is read from them, and from no others.
 fn is_its_bytes() -> bool {
     let mut bytes = [7; 24];
     FIX.put(&mut bytes);
@@ -80,7 +79,6 @@ fn is_its_bytes() -> bool {
         && matches!(fix_at(&FIX_BYTES, 1), Err(ErrorKind::InvalidOffset))
 }
 
-// Whether a number that is no kind's is an error that tells it.
 fn is_unknown() -> bool {
     let mut bytes = FIX_BYTES;
     bytes[20] = 3;
@@ -130,7 +128,6 @@ fn has_features(site: &TableRef<'_, Site>) -> bool {
     }
 }
 
-// Whether the root is a site with these values, with this kind and this heat.
 fn is_site(bytes: &[u8], kind: Kind, heat: f32) -> bool {
     let site: Result<TableRef<'_, Site>, _> = ReadAsRoot::read_as_root(bytes);
     let Ok(site) = site else {
@@ -186,7 +183,6 @@ fn sites_are_read_back(rt: HostRuntime) {
     assert!(rt; in_builder(rt.alloc(), a_home_is_read), "home");
 }
 
-// Whether a kind that is unknown is an error with the location of the call.
 fn is_unknown_kind(site: &TableRef<'_, Site>) -> bool {
     match Site::kind(site) {
         Err(
@@ -230,7 +226,6 @@ fn is_named(error: Error, method: &str) -> bool {
         )
 }
 
-// Whether a read gives a value or such an error.
 macro_rules! is_answered {
     ($site:ident, $accessor:ident, $name:literal) => {
         match Site::$accessor(&$site) {
@@ -240,7 +235,6 @@ macro_rules! is_answered {
     };
 }
 
-// Whether each accessor of the root, if there is one, answers so.
 fn is_answered(bytes: &[u8]) -> bool {
     let site: Result<TableRef<'_, Site>, _> = ReadAsRoot::read_as_root(bytes);
     let Ok(site) = site else {
@@ -256,7 +250,6 @@ fn is_answered(bytes: &[u8]) -> bool {
         && is_answered!(site, features, "features")
 }
 
-// Whether a site of which one byte is another is answered so, and one that is cut off there.
 fn damage_is_answered() -> bool {
     for i in 0..FLATC_SITE.len() {
         for other in [0, 1, 2, 0x7f, 0xff] {

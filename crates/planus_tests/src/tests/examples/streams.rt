@@ -1,4 +1,4 @@
-//! Texts that are written into one stream are read back one by one, also where it is cut.
+//! Strings that are written into one stream are read back one by one, also where it is cut.
 
 use super::in_builder;
 use planus::errors::ErrorKind;
@@ -8,14 +8,12 @@ use uses_tables::{append, read_all};
 
 const TEXTS: &[&str] = &["Axe", "Bow", "Club"];
 
-// Whether the buffers have the first texts.
 fn are_texts(pieces: &[SliceWithStartOffset<'_>]) -> bool {
     pieces.iter().zip(TEXTS).all(|(piece, text)| {
         matches!(<&str as TableRead>::from_buffer(*piece, 0), Ok(read) if read == *text)
     })
 }
 
-// Whether so many texts are read of a stream that is cut there, and then this is wrong with the rest.
 fn is_read(
     alloc: Global,
     stream: &[u8],
@@ -35,8 +33,8 @@ fn is_read(
     }
 }
 
-// Whole; within the last buffer, right behind its size, and within that; right behind the second
-// buffer; within the first one; and in front of all.
+// Whole; within the last buffer, right after its size, and within that; right after the second
+// buffer; within the first one; and before all.
 fn cuts_are_read(alloc: Global, stream: &[u8]) -> bool {
     let rows = [
         (49, 3, None),

@@ -13,7 +13,6 @@ use uses_tables::{
     ship_at,
 };
 
-// Whether the root is a ship with this name and this hull, and this number of items as its cargo.
 fn is_ship(bytes: &[u8], name: &str, hull: u16, cargo: Option<usize>) -> bool {
     let ship: Result<ShipRef<'_>, _> = read_root(bytes);
     match ship {
@@ -36,8 +35,6 @@ fn ships_are_read(builder: &mut Builder) -> Result<bool, BuildError> {
     Ok(full && is_ship(bytes, "Argo", 100, None))
 }
 
-// Whether so many have shares of a port, the last one the ship Argo, and nothing is said of it where
-// nobody has.
 fn has_shares(port: &TableRef<'_, Port>, count: usize) -> bool {
     match Port::shares(port) {
         Ok(Some(shares)) => match share_at(&shares, 1) {
@@ -51,13 +48,11 @@ fn has_shares(port: &TableRef<'_, Port>, count: usize) -> bool {
     }
 }
 
-// Whether so many ships are there, and the last one is the Argo.
 fn has_ships<'a>(ships: &Vector<'a, planus::Result<TableRef<'a, Ship>>>, count: usize) -> bool {
     let last = ship_at(ships, ships.len().saturating_sub(1));
     ships.len() == count && matches!(last, Some(Ok(ship)) if matches!(ship.name(), Ok("Argo")))
 }
 
-// Whether Jason is the owner, read as one that must be there.
 fn is_jasons(port: &TableRef<'_, Port>) -> bool {
     matches!(
         union_required::<OwnerRef<'_>>(&port.table, 0, "Port", "owner"),
@@ -65,7 +60,6 @@ fn is_jasons(port: &TableRef<'_, Port>) -> bool {
     )
 }
 
-// Whether so many shares are read that must be there, or are missing where there are none.
 fn requires_shares(port: &TableRef<'_, Port>, count: usize) -> bool {
     match union_vector_required::<OwnerRef<'_>>(&port.table, 7, "Port", "shares") {
         Ok(shares) => shares.len() == count,
@@ -73,7 +67,6 @@ fn requires_shares(port: &TableRef<'_, Port>, count: usize) -> bool {
     }
 }
 
-// Whether the berths are read that must be there.
 fn has_berths(port: &TableRef<'_, Port>) -> bool {
     match text_vector_required(&port.table, 3, "Port", "berths") {
         Ok(berths) => matches!(text_item(&berths, 1), Some(Ok("south"))),
@@ -81,7 +74,6 @@ fn has_berths(port: &TableRef<'_, Port>) -> bool {
     }
 }
 
-// Whether the accessors of fields that must be there read them.
 fn has_required(port: &TableRef<'_, Port>, shares: usize) -> bool {
     is_jasons(port)
         && requires_shares(port, shares)
@@ -93,7 +85,6 @@ fn has_required(port: &TableRef<'_, Port>, shares: usize) -> bool {
         && table_vector_required::<Ship>(&port.table, 2, "Port", "ships").is_ok()
 }
 
-// Whether the root is a port with this depth, so many ships and shares, which Jason owns.
 fn is_port(bytes: &[u8], depth: i16, ships: usize, shares: usize) -> bool {
     let port: Result<TableRef<'_, Port>, _> = ReadAsRoot::read_as_root(bytes);
     match port {
@@ -129,7 +120,6 @@ fn ports_are_read(builder: &mut Builder, depth: i16, shares: usize) -> Result<bo
     Ok(is_port(bytes, depth, 1, shares))
 }
 
-// Whether the root is a fleet that Jason owns, with so many captains, of which the last is Tiphys.
 fn is_fleet(bytes: &[u8], captains: usize) -> bool {
     let fleet: Result<TableRef<'_, Fleet>, _> = ReadAsRoot::read_as_root(bytes);
     match fleet {
@@ -152,7 +142,6 @@ fn fleets_are_read(builder: &mut Builder) -> Result<bool, BuildError> {
     Ok(is_fleet(bytes, 2))
 }
 
-// Whether the callsign of a boat is J12, also read as bytes.
 fn is_boat(boat: &TableRef<'_, Boat>) -> bool {
     let bytes = bytes_field(&boat.table, 0, "Boat", "callsign");
     matches!(Boat::callsign(boat), Ok("J12"))

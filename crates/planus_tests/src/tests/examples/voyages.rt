@@ -6,7 +6,6 @@ use planus::{
 };
 use uses_tables::{Owner, OwnerRef, Ship, ShipRef, Voyage, VoyageFields, ship_at};
 
-// Whether a slot is read as this.
 fn reads<'a, T: TableRead<'a> + PartialEq + Copy>(
     voyage: &TableRef<'a, Voyage>,
     slot: usize,
@@ -93,7 +92,6 @@ fn has_owners(voyage: &TableRef<'_, Voyage>) -> bool {
     }
 }
 
-// Whether the root is the voyage that is written.
 fn is_voyage(bytes: &[u8]) -> bool {
     let voyage: Result<TableRef<'_, Voyage>> = ReadAsRoot::read_as_root(bytes);
     match voyage {

@@ -1,4 +1,4 @@
-//! The texts of errors.
+//! The messages of errors.
 
 use super::traits::field;
 use super::{fails_printing, prints};
@@ -40,7 +40,6 @@ fn kinds_print_their_texts(rt: HostRuntime) {
     }
 }
 
-// Whether a fault in UTF-8 prints this text, whose end is what std prints of the fault.
 fn fault_prints(alloc: Global, bytes: &[u8], text: &str) -> bool {
     let Err(source) = std::str::from_utf8(bytes) else {
         return false;

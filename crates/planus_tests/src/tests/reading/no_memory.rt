@@ -1,5 +1,4 @@
-//! All that takes no memory: every call of a reader, a piece and an error's constructor, with all
-//! memory taken.
+//! Every call of a reader, a slice and an error's constructor, without memory.
 
 use super::{pieces, size_prefixed, tables, traits};
 use crate::tests::check;
@@ -48,7 +47,6 @@ fn pieces_answer() -> bool {
     pieces::pieces_advance() && pieces::pieces_give_arrays() && pieces::arrays_give_arrays()
 }
 
-// Of each kind of calls, whether they answer as they should.
 #[derive(Clone, Copy)]
 struct Answers {
     rows: bool,
@@ -58,7 +56,6 @@ struct Answers {
     errors: bool,
 }
 
-// Makes all calls with all memory taken. Tells whether it was.
 fn answers_without_memory(alloc: Global) -> Result<(bool, Answers), AllocError> {
     let mut held: Vec<Vec<u8>> = Vec::with_capacity(alloc, 262144)?;
     let exhausted = exhaust(alloc, &mut held)?;

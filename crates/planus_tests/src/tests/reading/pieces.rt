@@ -1,4 +1,4 @@
-//! Pieces of a buffer, and arrays of these.
+//! Slices of a buffer, and arrays of these.
 
 use planus_read::errors::ErrorKind;
 use planus_read::{ArrayWithStartOffset, SliceWithStartOffset};

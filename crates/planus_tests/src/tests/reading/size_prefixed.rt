@@ -1,20 +1,19 @@
-//! Buffers with their size in front, and identifiers.
+//! Size-prefixed buffers, and identifiers.
 
 use planus_read::errors::ErrorKind;
 use planus_read::{has_identifier, read_size_prefixed};
 
-// The text `Axe`, with its size in front, twice.
+// The string `Axe`, size-prefixed, twice.
 const TWO: [u8; 32] = [
     12, 0, 0, 0, 4, 0, 0, 0, 3, 0, 0, 0, b'A', b'x', b'e', 0, 12, 0, 0, 0, 4, 0, 0, 0, 3, 0, 0, 0,
     b'A', b'x', b'e', 0,
 ];
 
-// The text `Axe`, with its size in front and an identifier.
+// The string `Axe`, size-prefixed, with an identifier.
 const IDENTIFIED: [u8; 20] = [
     16, 0, 0, 0, 8, 0, 0, 0, b'T', b'E', b'S', b'T', 3, 0, 0, 0, b'A', b'x', b'e', 0,
 ];
 
-// Whether the piece of a buffer is these bytes, which start behind its size, and this is the rest.
 fn reads(bytes: &[u8], piece: &[u8], rest: &[u8]) -> bool {
     match read_size_prefixed(bytes) {
         Ok((content, behind)) => {

@@ -22,8 +22,7 @@ const TAG_PAST_END: [u8; 16] = [
     4, 0, 0, 0, 0xfc, 0xff, 0xff, 0xff, 8, 0, 4, 0, 0xff, 0, 0, 0,
 ];
 
-// The items behind the counts of the tags and of the values of a vector of unions, and these
-// counts.
+// The items after the counts of the tags and of the values of a union vector, and these counts.
 #[derive(Clone, Copy)]
 pub struct Heads<'buf> {
     pub tags: (SliceWithStartOffset<'buf>, u32),
@@ -85,7 +84,6 @@ pub fn the_weapon_is_read() -> bool {
         && required_fields_are_read(table)
 }
 
-// Whether a slot of the worked table of one number holds this number.
 fn has_number(table: Table<'_>, slot: usize, number: Option<u16>) -> bool {
     match table.access::<u16>(slot, "T", "n") {
         Ok(read) => read == number,
@@ -93,7 +91,6 @@ fn has_number(table: Table<'_>, slot: usize, number: Option<u16>) -> bool {
     }
 }
 
-// Whether a slot holds no union.
 fn has_no_union(table: Table<'_>, slot: usize) -> bool {
     matches!(
         table.access_union::<TaggedPlace<'_>>(slot, "T", "u"),
@@ -101,7 +98,6 @@ fn has_no_union(table: Table<'_>, slot: usize) -> bool {
     )
 }
 
-// Whether reading a union, or one that must be there, fails with this error.
 fn union_fails(table: Table<'_>, slot: usize, kind: ErrorKind) -> bool {
     fails_with(table.access_union::<TaggedPlace<'_>>(slot, "T", "u"), kind)
 }
@@ -113,7 +109,6 @@ fn no_union_fails(table: Table<'_>, slot: usize) -> bool {
     )
 }
 
-// Whether a field that must be there is read, and is missed where it isn't.
 fn required_fields_are_read(weapon: Table<'_>) -> bool {
     matches!(weapon.access_required::<u16>(1, "Weapon", "damage"), Ok(24))
         && fails_with(
@@ -139,7 +134,6 @@ pub fn the_u16_table_is_read() -> bool {
         )
 }
 
-// Whether reading a vector of unions, of which one slot is used, fails.
 fn half_vector_fails(table: Table<'_>) -> bool {
     fails_with(
         table.access_union_vector::<Heads<'_>>(0, "T", "v"),
@@ -168,7 +162,6 @@ pub fn fields_past_the_end_fail() -> bool {
         )
 }
 
-// Whether there is a union of this tag, and the text.
 fn is_text(union: Option<TaggedPlace<'_>>, tag: u8, text: &str) -> bool {
     match union {
         Some(union) => {
@@ -188,7 +181,6 @@ pub fn a_union_is_read() -> bool {
         && matches!(required, Ok(union) if is_text(Some(union), 1, "Hi"))
 }
 
-// Whether a reference of a vector of unions leads to this text.
 fn leads_to(values: SliceWithStartOffset<'_>, offset: usize, text: &str) -> bool {
     match <Place<'_> as TableRead<'_>>::from_buffer(values, offset) {
         Ok(place) => matches!(place.read::<&str>(), Ok(read) if read == text),
@@ -217,7 +209,6 @@ pub fn two_unions_are_read() -> bool {
         )
 }
 
-// Whether an error of a weapon's name prints its text.
 fn name_fails(alloc: Global, bytes: &[u8]) -> bool {
     match table_at(bytes) {
         Ok(table) => fails_printing(
@@ -239,7 +230,6 @@ fn damaged_weapon(rt: HostRuntime) {
     }
 }
 
-// Whether errors name a slot without a field, and a tag past the end.
 fn slots_fail(alloc: Global, one_number: Table<'_>, past_end: Table<'_>) -> bool {
     fails_printing(
         alloc,
@@ -262,7 +252,6 @@ fn errors_of_slots(rt: HostRuntime) -> Result<(), Fail> {
     Ok(())
 }
 
-// Whether an error names a type whose name is no literal.
 fn price_fails(alloc: Global, weapon: Table<'_>, type_: &str) -> bool {
     match weapon.access_required::<u8>(2, type_, "price") {
         Ok(_) => false,

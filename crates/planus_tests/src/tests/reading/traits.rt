@@ -19,7 +19,6 @@ pub fn field<'buf, T: TableRead<'buf>>(bytes: &'buf [u8], offset: usize) -> Resu
     T::from_buffer(SliceWithStartOffset::new(bytes, 0), offset)
 }
 
-// The item at an offset, where all of it is there.
 fn item<'buf, T: VectorRead<'buf>>(bytes: &'buf [u8], offset: usize) -> Option<T> {
     let stride = T::stride();
     if offset > bytes.len() || bytes.len() - offset < stride {
@@ -104,7 +103,7 @@ pub fn numbers_are_items() -> bool {
         && item::<i8>(&BYTES, 1) == Some(-2)
 }
 
-// 1.5 and a NaN with a payload as floats of 4 bytes, and -0.125 as one of 8, as IEEE 754 has them.
+// 1.5 and a NaN with a payload as floats of 4 bytes, and -0.125 as one of 8, in IEEE 754.
 const FLOATS: [u8; 16] = [
     0, 0, 0xc0, 0x3f, 1, 0, 0x80, 0x7f, 0, 0, 0, 0, 0, 0, 0xc0, 0xbf,
 ];
@@ -123,10 +122,10 @@ pub fn floats_are_items() -> bool {
         && matches!(inner_item::<f64>(&FLOATS, 8), Some(Ok(read)) if read == -0.125)
 }
 
-// A reference to the text `Hi` at 0, and one to damage at 4.
+// A reference to the string `Hi` at 0, and one to damage at 4.
 const TEXTS: [u8; 16] = [8, 0, 0, 0, 99, 0, 0, 0, 2, 0, 0, 0, 72, 105, 0, 0];
 
-// A reference to a list of one byte.
+// A reference to a vector of one byte.
 const ONE_BYTE: [u8; 9] = [4, 0, 0, 0, 1, 0, 0, 0, 0xff];
 
 fn is_minus_one(list: SignedBytes<'_>) -> bool {
@@ -137,10 +136,9 @@ fn is_minus_one(list: SignedBytes<'_>) -> bool {
         && list.get(1).is_none()
 }
 
-// A reference to a list of three bytes.
+// A reference to a vector of three bytes.
 const THREE_BYTES: [u8; 11] = [4, 0, 0, 0, 3, 0, 0, 0, 0xff, 2, 0x80];
 
-// Whether these are the numbers of the list, which a loop goes over and which are compared in turn.
 fn are_three(list: SignedBytes<'_>) -> bool {
     let mut seen: usize = 0;
     for number in &list {
@@ -167,7 +165,6 @@ pub fn lists_are_fields() -> bool {
         && matches!(three, Ok(list) if are_three(list))
 }
 
-// Whether a place is read as this text.
 fn reads(place: Place<'_>, text: &str) -> bool {
     matches!(place.read::<&str>(), Ok(read) if read == text)
 }
@@ -183,7 +180,7 @@ pub fn texts_are_items() -> bool {
         && matches!(outside, Ok(Err(ErrorKind::InvalidOffset)))
 }
 
-// A union with one variant, a text of tag 1.
+// A union with one variant, a string of tag 1.
 #[derive(Clone, Copy)]
 struct OneText<'a>(&'a str);
 
@@ -216,12 +213,10 @@ impl<'buf> VectorReadUnion<'buf> for OneText<'buf> {
     }
 }
 
-// Whether this is a union of this tag, and the text `Hi`.
 fn is_hi(union: TaggedPlace<'_>, tag: u8) -> bool {
     union.tag() == tag && reads(union.place(), "Hi")
 }
 
-// Whether the heads of a vector of two unions are read.
 fn heads_are_read() -> bool {
     match union_vector_field::<Heads<'_>>(&UNIONS, 12, 16) {
         Ok(heads) => heads.tags.1 == 2 && heads.values.1 == 2,
@@ -229,7 +224,6 @@ fn heads_are_read() -> bool {
     }
 }
 
-// Whether a head past the end is an error.
 fn head_past_the_end_fails() -> bool {
     match union_vector_field::<Heads<'_>>(&UNIONS, 12, 77) {
         Ok(_) => false,
@@ -237,7 +231,6 @@ fn head_past_the_end_fails() -> bool {
     }
 }
 
-// Whether a union in a vector of a tag that isn't known is an error.
 fn unknown_tag_fails() -> bool {
     let unknown = ErrorKind::UnknownUnionTag { tag: 9 };
     fails_with(union_item::<OneText<'_>>(&TEXTS, 9, 0), unknown)
@@ -281,7 +274,6 @@ pub fn roots_are_read() -> bool {
         && matches!(nested.access_required::<u8>(0, "Root", "n"), Ok(24))
 }
 
-// Whether a text's error is that of a list's item.
 fn item_fails(alloc: Global) -> bool {
     match item::<Result<&str, Error>>(&TEXTS, 4) {
         Some(text) => fails_printing(alloc, text, "In <[str]@0>::get(): Invalid offset"),
@@ -289,12 +281,10 @@ fn item_fails(alloc: Global) -> bool {
     }
 }
 
-// Whether the error of a union in a vector prints this text.
 fn union_fails(alloc: Global, tag: u8, offset: usize, text: &str) -> bool {
     fails_printing(alloc, union_item::<OneText<'_>>(&TEXTS, tag, offset), text)
 }
 
-// Whether an error of no bytes is that of a root.
 fn root_fails(alloc: Global) -> bool {
     let text = "In <[Root]@0>::read_as_root(): Invalid offset";
     fails_printing(alloc, read_root::<Root<'_>>(&[]), text)

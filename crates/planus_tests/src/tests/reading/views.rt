@@ -1,4 +1,4 @@
-//! Vectors and vectors of unions, and the iterators over them.
+//! Vectors and union vectors, and the iterators over them.
 
 mod calls;
 mod no_memory;
@@ -8,7 +8,6 @@ mod vectors;
 use std::alloc::{AllocError, Global};
 use std::fmt::Debug;
 
-// Whether the Debug text of an iterator over sub-views names what it goes over.
 fn shows<T: Debug>(alloc: Global, parts: &T) -> bool {
     match format!(in alloc; "{parts:?}") {
         Ok(text) => text.as_str().starts_with("SubViews { whole: "),
@@ -16,7 +15,6 @@ fn shows<T: Debug>(alloc: Global, parts: &T) -> bool {
     }
 }
 
-// Adds the numbers below 5003, two bytes each, with these bytes behind every one.
 fn push_numbers(bytes: &mut Vec<u8>, behind: &[u8]) -> Result<(), AllocError> {
     for number in 0..5003u16 {
         bytes.extend_from_slice(&number.to_le_bytes())?;

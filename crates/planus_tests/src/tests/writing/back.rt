@@ -13,7 +13,7 @@ use planus_back::{BackVec, ByteVec, Cache, GetCacheKey, Promises, TooLarge, VTab
 use std::alloc::AllocError;
 use std::test::Fail;
 
-// Whether a part of this size is too large behind 2147483640 bytes.
+// Whether a part of this size is too large after 2147483640 bytes.
 fn is_too_large(size: usize) -> bool {
     matches!(Promises::new().request(2147483640, size, 0), Err(TooLarge))
 }
@@ -38,7 +38,6 @@ fn promises_by_default(rt: HostRuntime) {
     );
 }
 
-// Whether the vector has these bytes, and room for so many more.
 fn holds(vector: &BackVec, bytes: &[u8], room: usize) -> bool {
     vector.as_slice() == bytes && vector.len() == bytes.len() && vector.room() == room
 }
@@ -79,7 +78,7 @@ fn grows_at_its_front(rt: HostRuntime) -> Result<(), Fail> {
     Ok(())
 }
 
-// Puts 21 bytes by each call.
+// Prepends 21 bytes by each call.
 fn put_each(bytes: &mut BackVec)
     requires { 21 ≤ bytes.old.room }
     ensures { bytes.new.room + 21 ≡ bytes.old.room }
@@ -114,7 +113,6 @@ fn puts_into_its_room(rt: HostRuntime) -> Result<(), Fail> {
     Ok(())
 }
 
-// Whether growths beyond all memory are refused, and change nothing.
 fn refusals_change_nothing(bytes: &mut BackVec) -> Result<bool, AllocError> {
     bytes.extend_from_slice(b"end")?;
     Ok(
@@ -140,7 +138,6 @@ fn a_refusal_changes_nothing(rt: HostRuntime) -> Result<(), Fail> {
     Ok(())
 }
 
-// Whether this key, or none, stands at the distance.
 fn has_key<K: GetCacheKey>(bytes: &[u8], distance: u32, want: Option<&[u8]>) -> bool {
     match (K::key_at(bytes, distance), want) {
         (Some(key), Some(want)) => key == want,
@@ -149,7 +146,6 @@ fn has_key<K: GetCacheKey>(bytes: &[u8], distance: u32, want: Option<&[u8]>) -> 
     }
 }
 
-// Whether the keys at these distances are these, or there is none.
 fn has_keys<K: GetCacheKey>(rows: &[(&[u8], u32, Option<&[u8]>)]) -> bool {
     for (bytes, distance, want) in rows {
         if !has_key::<K>(bytes, *distance, *want) {
@@ -184,7 +180,6 @@ fn keys_lie_wholly_in_the_bytes(rt: HostRuntime) {
     check(&rt, has_keys::<VTable>(&vtables), "vtables");
 }
 
-// Adds a distance at which the key stands in the bytes.
 fn add(cache: &mut Cache<ByteVec>, bytes: &[u8], key: &[u8], distance: u32) -> Result<(), Fail>
     requires { Fits bytes_in cache.old bytes.now }
     ensures { OnOk result (Fits bytes_in cache.new bytes.now) }
@@ -200,7 +195,6 @@ fn add(cache: &mut Cache<ByteVec>, bytes: &[u8], key: &[u8], distance: u32) -> R
 // The signed numbers of the key `H\xfe`.
 const SIGNED: [i8; 2] = [72, -2];
 
-// The same of that key.
 fn add_signed(cache: &mut Cache<ByteVec>, bytes: &[u8], distance: u32) -> Result<(), Fail>
     requires { Fits bytes_in cache.old bytes.now }
     ensures { OnOk result (Fits bytes_in cache.new bytes.now) }
@@ -214,7 +208,6 @@ fn add_signed(cache: &mut Cache<ByteVec>, bytes: &[u8], distance: u32) -> Result
     Ok(())
 }
 
-// Looks for a key of signed numbers.
 fn get_signed(cache: &Cache<ByteVec>, bytes: &[u8], key: &[i8]) -> Option<u32>
     requires { Fits bytes_in cache.now bytes.now }
     ensures { IsFound bytes_in cache.now bytes.now (map (λ number. cast_unsigned w8 number) key.now)
@@ -223,14 +216,12 @@ fn get_signed(cache: &Cache<ByteVec>, bytes: &[u8], key: &[i8]) -> Option<u32>
     cache.get_signed_in(cache.bucket_of_signed(key), bytes, key)
 }
 
-// Whether this is found for a key.
 fn finds(cache: &Cache<ByteVec>, bytes: &[u8], key: &[u8], want: Option<u32>) -> bool
     requires { Fits bytes_in cache.now bytes.now }
 {
     cache.get(bytes, key) == want
 }
 
-// Whether this is found for a key of signed numbers.
 fn finds_signed(cache: &Cache<ByteVec>, bytes: &[u8], key: &[i8], want: Option<u32>) -> bool
     requires { Fits bytes_in cache.now bytes.now }
 {
@@ -239,7 +230,6 @@ fn finds_signed(cache: &Cache<ByteVec>, bytes: &[u8], key: &[i8], want: Option<u
 
 const TWO_KEYS: &[u8] = b"\x02\0\0\0H\xfe\x02\0\0\0Hi";
 
-// Adds the two keys, and tells what is found before and behind each.
 fn keys_are_found(cache: &mut Cache<ByteVec>, bytes: &[u8]) -> Result<bool, Fail>
     requires { Fits bytes_in cache.old bytes.now }
 {

@@ -1,10 +1,9 @@
-//! Equal contents, with and without a cache for them.
+//! Equal contents, with and without a cache.
 
 use super::{calls_in_builder, holds, in_builder, prepared, stands_at};
 use crate::tests::check;
 use planus_write::{BuildError, Builder, ByteList, Caches, SignedList, Text};
 
-// Writes a text twice, where texts are written once or each time.
 fn a_text_twice_in(builder: &mut Builder, on: bool) -> Result<bool, BuildError> {
     let first = prepared::<Text, &str>(builder, &"Hi")?;
     let after_first = stands_at(builder, first, 7, 7);
@@ -13,7 +12,6 @@ fn a_text_twice_in(builder: &mut Builder, on: bool) -> Result<bool, BuildError> 
     Ok(after_first && stands_at(builder, second, distance, len))
 }
 
-// The same with another text between the two.
 fn a_text_after_another(builder: &mut Builder, on: bool) -> Result<bool, BuildError> {
     builder.create_string("Hi")?;
     let other = builder.create_string("Ho")?;
@@ -23,7 +21,6 @@ fn a_text_after_another(builder: &mut Builder, on: bool) -> Result<bool, BuildEr
     Ok(after_other && stands_at(builder, third, distance, len))
 }
 
-// Both, in one builder.
 fn texts_are_found(builder: &mut Builder, on: bool) -> bool {
     let twice = holds(a_text_twice_in(builder, on));
     builder.clear();

@@ -1,4 +1,4 @@
-//! Fields of a table: always there, with a default, and optional.
+//! Fields of a table: always present, with a default, and optional.
 
 ghost use Rattle.std.specs.Prelude.{◌≤◌, length};
 ghost use Rattle.planus_write.specs.Unions.{union_reach};
@@ -18,8 +18,6 @@ use std::alloc::{AllocError, Global};
 // A kind of unions.
 pub struct Drinks;
 
-// Prepares a field that is always there, of which only the bound is known; tells whether it is
-// prepared as this.
 pub fn always<P: Primitive, T: WriteAs<P>>(
     builder: &mut Builder,
     field: &T,
@@ -32,7 +30,6 @@ where
     matches!(field.prepare(builder), Ok(prepared) if prepared == want)
 }
 
-// The same of one that is written; tells whether it is at this distance.
 pub fn written<K, T: WriteAs<Offset<K>, Prepared = Offset<K>>>(
     builder: &mut Builder,
     field: &T,
@@ -43,7 +40,6 @@ pub fn written<K, T: WriteAs<Offset<K>, Prepared = Offset<K>>>(
     matches!(field.prepare(builder), Ok(offset) if offset.distance() == distance)
 }
 
-// What a field that may be left out can be.
 #[derive(Clone, Copy, PartialEq)]
 pub enum Answer {
     There,
@@ -51,7 +47,6 @@ pub enum Answer {
     Refused,
 }
 
-// Prepares a field that may be absent; tells whether it is there.
 pub fn optional<P: Primitive, T: WriteAsOptional<P>>(builder: &mut Builder, field: &T) -> Answer
     requires { T.may field.now builder.old }
 {
@@ -62,7 +57,6 @@ pub fn optional<P: Primitive, T: WriteAsOptional<P>>(builder: &mut Builder, fiel
     }
 }
 
-// Prepares a field with a default; tells whether it is there.
 pub fn defaulted<P: Primitive, D, T: WriteAsDefault<P, D>>(
     builder: &mut Builder,
     field: &T,
@@ -85,8 +79,6 @@ pub fn is_left_out(answer: Answer) -> bool {
     answer == Answer::LeftOut
 }
 
-// Prepares a union that may be absent; tells whether it is of this tag and at distance 6, or isn't
-// there where no tag is wanted.
 pub fn drink_is<X: WriteAsOptionalUnion<Drinks>>(
     builder: &mut Builder,
     field: &X,
@@ -101,7 +93,6 @@ pub fn drink_is<X: WriteAsOptionalUnion<Drinks>>(
     }
 }
 
-// Whether a vector of unions has its values and its tags at these distances, or isn't there.
 fn stands(prepared: Option<UnionVectorOffset<Drinks>>, want: Option<(u32, u32)>) -> bool {
     match (prepared, want) {
         (None, None) => true,
@@ -112,7 +103,6 @@ fn stands(prepared: Option<UnionVectorOffset<Drinks>>, want: Option<(u32, u32)>)
     }
 }
 
-// Prepares a vector of unions that is left out where it is empty; tells whether it is as wanted.
 fn order_is<X: WriteAsDefaultUnionVector<Drinks>>(
     builder: &mut Builder,
     field: &X,
@@ -126,7 +116,6 @@ fn order_is<X: WriteAsDefaultUnionVector<Drinks>>(
     }
 }
 
-// The same of one that may be absent.
 fn optional_order_is<X: WriteAsOptionalUnionVector<Drinks>>(
     builder: &mut Builder,
     field: &X,
@@ -299,7 +288,6 @@ pub fn unions_are_left_out(builder: &mut Builder) -> bool {
     drink_is(builder, &absent, None) && drink_is(builder, &(), None) && builder.is_empty()
 }
 
-// A union of this tag and what was written last.
 fn last_as_union(builder: &Builder, tag: u8) -> UnionOffset<Drinks>
     ensures { union_reach result ≤ length builder.now.bytes }
 {

@@ -1,4 +1,4 @@
-//! Lists of numbers, truth values and texts.
+//! Vectors of numbers, bools and strings.
 
 use super::{calls_in_builder, finishes, in_builder, prepared};
 use crate::tests::check;
@@ -10,8 +10,7 @@ use std::alloc::{AllocError, Global};
 use std::fmt;
 use std::test::Fail;
 
-// Whether a list of the items, of which only the bound is known, is finished as these bytes. The
-// builder is empty afterwards.
+// The builder is empty afterwards.
 fn list_is<P: Primitive, T: VectorWrite<P>>(builder: &mut Builder, items: &[T], want: &[u8]) -> bool
     requires { T.all_may items.now builder.old }
 {
@@ -84,7 +83,6 @@ fn lists(rt: HostRuntime) {
     );
 }
 
-// The numbers below 100003, and the finished bytes of their list.
 fn many_numbers(alloc: Global) -> Result<(Vec<u32>, Vec<u8>), AllocError> {
     let mut items: Vec<u32> = Vec::new(alloc);
     let mut want: Vec<u8> = Vec::from_slice(alloc, b"\x04\0\0\0\xa3\x86\x01\0")?;
@@ -114,7 +112,6 @@ fn a_list_of_100003_numbers(rt: HostRuntime) -> Result<(), Fail> {
     Ok(())
 }
 
-// Whether a value prints this text for debugging.
 fn shows<T: fmt::Debug>(alloc: Global, value: &T, text: &str) -> bool {
     match format!(in alloc; "{value:?}") {
         Ok(shown) => shown.as_str() == text,

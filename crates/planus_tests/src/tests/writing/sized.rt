@@ -1,4 +1,4 @@
-//! Finishes with their size in front.
+//! Size-prefixed finishes.
 
 use super::{calls_in_builder, finishes};
 use crate::tests::check;
@@ -12,8 +12,6 @@ const U64: &[u8] = b"\x1b\0\0\0\x08\0\0\0\0\0\0\0\x01\0\0\0\x01\0\0\0\0\0\0\0\x0
 
 const AGAIN: &[u8] = b"\x0c\0\0\0\x0c\0\0\0\x04\0\0\0\x03\0\0\0Axe\0";
 
-// Whether a finish with the size in front, of a value of before, which the builder still has, gives
-// these bytes.
 fn finishes_sized<T>(
     builder: &mut Builder,
     root: Offset<T>,
@@ -29,7 +27,7 @@ fn finishes_sized<T>(
     }
 }
 
-// A finish with the size in front, and then a plain one behind which that stands.
+// A size-prefixed finish, and then a plain one before it.
 fn texts_are_finished(builder: &mut Builder) -> Result<bool, BuildError> {
     let alone = builder.finish_size_prefixed("Axe", None)? == AXE;
     builder.clear();
@@ -42,7 +40,7 @@ fn a_named_text_is_finished(builder: &mut Builder) -> Result<bool, BuildError> {
     Ok(finishes_sized(builder, text, Some(*b"TEST"), NAMED))
 }
 
-// The number of 8 bytes stands at a multiple of 8 from the size on.
+// The number of 8 bytes is at a multiple of 8 from the size on.
 fn a_list_is_finished(builder: &mut Builder) -> Result<bool, BuildError> {
     builder.create_string("Hi")?;
     let list: Offset<List<u64>> = builder.create_vector::<u64, [u64; 1]>([1])?;

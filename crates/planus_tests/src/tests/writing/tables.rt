@@ -1,4 +1,4 @@
-//! Tables by a writer of tables.
+//! Tables by a table writer.
 
 ghost use Rattle.std.specs.Prelude.{◌-◌, ◌++◌, []};
 ghost use Rattle.std.specs.Int.{w8, w16, w32, w64, to_le_bytes, cast_unsigned};
@@ -52,7 +52,6 @@ impl ObjectFill for Named {
     }
 }
 
-// Nothing.
 #[derive(Drop)]
 struct Nothing;
 
@@ -68,7 +67,7 @@ impl ObjectFill for Nothing {
     }
 }
 
-// Whether a finish with what was written last gives these bytes. The builder is empty afterwards.
+// The builder is empty afterwards.
 fn last_is(builder: &mut Builder, want: &[u8]) -> bool {
     let root = builder.current_offset::<()>();
     let same = match builder.finish(root, None) {
@@ -123,7 +122,7 @@ fn a_table_with_the_greatest_slot(builder: &mut Builder, want: &[u8]) -> Result<
     Ok(last_is(builder, want))
 }
 
-// The bytes of this table, whose vtable is of 65534.
+// The bytes of this table, whose vtable has 65534.
 fn its_bytes(alloc: Global) -> Result<Vec<u8>, AllocError> {
     let front = b"\x04\0\0\0\xf2\xff\xff\xff\x01\0\0\0\0\0\0\0\x02\0\
         \xfe\xff\x0d\0\0\0\0\0\x0c\0";

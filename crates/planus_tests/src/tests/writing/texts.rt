@@ -1,4 +1,4 @@
-//! Texts, with and without an identifier, and a long one.
+//! Strings, with and without an identifier, and a long one.
 
 use super::{NO_CACHES, calls_in_builder, finishes, holds, prepared};
 use crate::tests::check;
@@ -48,7 +48,7 @@ fn letters(alloc: Global, times: usize) -> Result<String, AllocError> {
     Ok(text)
 }
 
-// The finished bytes of a text of one mebibyte, after the text `Hi`.
+// The finished bytes of a string of one mebibyte, after the string `Hi`.
 fn one_mebibyte(alloc: Global, text: &str) -> Result<Vec<u8>, AllocError> {
     let mut bytes: Vec<u8> = Vec::new(alloc);
     bytes.extend_from_slice(b"\x0c\0\0\0\x02\0\0\0Hi\0\0\0\0\x10\0")?;
@@ -83,8 +83,7 @@ fn a_text_of_one_mebibyte(rt: HostRuntime) {
     check(&rt, found, "a text of one mebibyte");
 }
 
-// Whether a text of 524336 bytes is written so often. It takes 524341 bytes, and each one behind
-// the first three more, by which it stands aligned.
+// A string of 524336 bytes takes 524341, and after the first three more for its alignment.
 fn texts_are_repeated(builder: &mut Builder, text: &str, count: usize) -> Result<bool, BuildError> {
     for _ in 0..count {
         builder.create_string(text)?;

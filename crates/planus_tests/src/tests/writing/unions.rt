@@ -1,4 +1,4 @@
-//! Unions and lists of them.
+//! Unions and union vectors.
 
 ghost use Rattle.std.specs.Prelude.{◌≤◌, length, IsTrue, IfOk};
 ghost use Rattle.planus_write.specs.Preparing.{AllMay};
@@ -11,14 +11,11 @@ use planus_write::{
 };
 use std::alloc::Global;
 
-// The union of a tag and a text.
 fn tagged(builder: &mut Builder, tag: u8, text: &str) -> Result<UnionOffset<()>, BuildError> {
     let text = builder.create_string(text)?;
     Ok(UnionOffset::new(tag, text.downcast()))
 }
 
-// Whether a vector of unions, of which only the bound is known, stands at these distances, its
-// references' first, and the builder has these bytes.
 fn list_stands<X: WriteAsUnionVector<()> + Drop>(
     builder: &mut Builder,
     list: X,
@@ -46,7 +43,6 @@ fn are_written(builder: &Builder, first: UnionOffset<()>, second: UnionOffset<()
         && second.offset().distance() as usize <= builder.len()
 }
 
-// The unions of the tags 1 and 2 and the texts `A` and `B`, which the builder has.
 fn two_unions(builder: &mut Builder) -> Result<[UnionOffset<()>; 2], BuildError>
     ensures { IfOk result (λ unions.
         AllMay (λ union old. union_reach union ≤ length old.bytes) unions builder.new) }
@@ -59,7 +55,7 @@ fn two_unions(builder: &mut Builder) -> Result<[UnionOffset<()>; 2], BuildError>
     Ok([first, second])
 }
 
-// The bytes of a list of these two.
+// The bytes of a vector of these two.
 const TWO_UNIONS: &[u8] =
     b"\x02\0\0\0\x01\x02\0\0\x02\0\0\0\x10\0\0\0\x04\0\0\0\x01\0\0\0B\0\0\0\x01\0\0\0A\0";
 
@@ -86,7 +82,7 @@ fn an_owned_list_of_unions(alloc: Global, builder: &mut Builder) -> Result<bool,
     Ok(list_stands(builder, owned, (26, 34), TWO_UNIONS))
 }
 
-// A list that is written already is its own preparing.
+// A vector that is written already is its own prepared value.
 fn a_written_list_of_unions(builder: &mut Builder) -> Result<bool, BuildError> {
     let unions = two_unions(builder)?;
     let vector = builder.create_union_vector::<(), [UnionOffset<()>; 2]>(unions)?;
@@ -121,7 +117,6 @@ fn lists_of_unions(rt: HostRuntime) {
     );
 }
 
-// Whether a union, of which only the bound is known, is of tag 7 and at distance 6.
 pub fn union_stands<T, X: WriteAsUnion<T>>(builder: &mut Builder, value: &X) -> bool
     requires { X.may value.now builder.old }
 {

@@ -1,4 +1,4 @@
-//! What is prepared with all memory taken: numbers, fields that are left out, and boxed values.
+//! What is prepared without memory: numbers, fields that are left out, and boxed values.
 
 ghost use Rattle.std.specs.Prelude.{◌≤◌, length, IsTrue};
 
@@ -16,8 +16,8 @@ use std::alloc::{AllocError, Global};
 use std::slice;
 use std::test::Fail;
 
-// Owned values, which take memory when they are made, and boxed ones: a number, none, a text, and an
-// offset to that text and a union of it.
+// Owned values, and boxed ones: a number, none, a string, and an offset to that string and a union
+// of it.
 #[derive(Drop)]
 struct Values {
     axe: String,
@@ -41,7 +41,7 @@ fn new_values(alloc: Global, last: Offset<Text>) -> Result<Values, AllocError> {
     })
 }
 
-// Items that are what stands in a list are prepared already, and others aren't.
+// Only items that the vector holds themselves are prepared already.
 fn only_numbers_are_prepared_already(axe: &String) -> bool {
     matches!(<u16 as VectorWrite<u16>>::as_prepared(&[7]), Some([7]))
         && <ByRef<'_, u16> as VectorWrite<u16>>::as_prepared(&[ByRef(&7)]).is_none()
@@ -57,7 +57,7 @@ fn boxed_numbers_are_prepared(builder: &mut Builder, values: &Values) -> bool {
         && builder.is_empty()
 }
 
-// Texts are written in the builder's room: the first is of 6 bytes, and each other one of 8.
+// Strings are written in the builder's room: the first takes 6 bytes, and each other one 8.
 fn boxed_texts_are_prepared(builder: &mut Builder, values: &Values) -> bool {
     written::<Text, Box<&str>>(builder, &values.text, 6)
         && is_there(optional::<Offset<Text>, Box<&str>>(builder, &values.text))
@@ -69,14 +69,13 @@ fn boxed_texts_are_prepared(builder: &mut Builder, values: &Values) -> bool {
         && builder.len() == 22
 }
 
-// The builder has what is at this distance.
 fn has(builder: &Builder, distance: u32) -> bool
     ensures { IsTrue result → distance ≤ length builder.now.bytes }
 {
     distance as usize <= builder.len()
 }
 
-// An offset is the one of the text that was written first.
+// An offset is that of the string that was written first.
 fn boxed_offsets_are_prepared(builder: &mut Builder, values: &Values) -> bool {
     if !has(builder, values.last.distance()) {
         return false;
@@ -101,10 +100,8 @@ fn boxed_unions_are_there(builder: &mut Builder, values: &Values) -> bool {
     drink_is(builder, &values.union, Some(7))
 }
 
-// Calls, and whether they gave what they should.
 type Row = (&'static str, bool);
 
-// The first that didn't.
 fn first_wrong_of(rows: &[Row]) -> Option<&'static str> {
     for (name, holds) in rows {
         if !*holds {
@@ -114,7 +111,6 @@ fn first_wrong_of(rows: &[Row]) -> Option<&'static str> {
     None
 }
 
-// The same of an empty builder with room for 64 bytes.
 fn first_wrong(builder: &mut Builder, values: &Values) -> Option<&'static str> {
     first_wrong_of(&[
         ("numbers", numbers_are_prepared(builder)),
@@ -144,7 +140,6 @@ fn first_wrong(builder: &mut Builder, values: &Values) -> Option<&'static str> {
     ])
 }
 
-// The same with all memory taken. Tells whether it was.
 fn first_wrong_without_memory(
     alloc: Global,
     builder: &mut Builder,
@@ -157,7 +152,6 @@ fn first_wrong_without_memory(
     Ok((exhausted, wrong))
 }
 
-// The same of values that are made before.
 fn first_wrong_of_values(
     alloc: Global,
     builder: &mut Builder,

@@ -1,4 +1,4 @@
-//! Bytes that a filler or a writer leaves, and what a builder tells of itself.
+//! Bytes of a filler or a writer, and a builder's lengths.
 
 ghost use Rattle.std.specs.Prelude.{replicate, ⊤};
 
@@ -9,7 +9,7 @@ use planus_back::{Fill, Overwrite};
 use planus_write::{BuildError, Builder, Caches, Text};
 use std::alloc::Global;
 
-// Leaves one byte over and over, as often as there is room.
+// Writes one byte over and over.
 #[derive(Drop)]
 struct Repeated {
     byte: u8,
@@ -35,7 +35,6 @@ impl Overwrite for Repeated {
     }
 }
 
-// Whether the builder has so many bytes, and room for so many.
 fn lengths_are(builder: &Builder, len: usize, room: usize) -> bool {
     builder.len() == len && builder.is_empty() == (len == 0) && builder.room() == room
 }
@@ -48,7 +47,6 @@ fn lengths(builder: &mut Builder) -> Result<bool, BuildError> {
     Ok(before && after && lengths_are(builder, 0, 64))
 }
 
-// Whether the builder's text begins with its bytes.
 fn shows_bytes(alloc: Global, builder: &Builder) -> bool {
     let text = "Builder { backing: Backing { inner: [7, 7, 7, 7, 7]";
     match format!(in alloc; "{builder:?}") {
@@ -57,7 +55,7 @@ fn shows_bytes(alloc: Global, builder: &Builder) -> bool {
     }
 }
 
-// Where other bytes stood before.
+// Where other bytes were before.
 fn what_is_last(alloc: Global, builder: &mut Builder) -> Result<bool, BuildError> {
     builder.write_over(5, 0, &Repeated { byte: 7 })?;
     let last = builder.current_offset::<Text>();
@@ -71,7 +69,6 @@ fn what_is_last(alloc: Global, builder: &mut Builder) -> Result<bool, BuildError
     )
 }
 
-// Whether the builder's first word is its length, all four bytes of it.
 fn begins_with_its_length(builder: &Builder) -> bool {
     let front = builder.current_offset::<Text>();
     builder
@@ -79,7 +76,7 @@ fn begins_with_its_length(builder: &Builder) -> bool {
         .starts_with(&front.distance().to_le_bytes())
 }
 
-// A filler and a writer, with more bytes behind them than two bytes count.
+// A filler and a writer, after more bytes than two bytes count.
 fn places(builder: &mut Builder) -> Result<bool, BuildError> {
     builder.write_with(70001, 0, &Repeated { byte: 9 })?;
     builder.write_with(4, 0, &PlaceWord)?;
@@ -88,7 +85,6 @@ fn places(builder: &mut Builder) -> Result<bool, BuildError> {
     Ok(filled && begins_with_its_length(builder) && builder.len() == 70009)
 }
 
-// Lengths and what is last, in a builder with room for 64 bytes.
 fn written_in_64_bytes(alloc: Global) -> bool {
     match Builder::with_capacity(alloc, 64) {
         Ok(mut builder) => {
@@ -111,7 +107,6 @@ fn writes(rt: HostRuntime) {
     check(&rt, places, "places");
 }
 
-// Whether a builder can be made with room for so many bytes.
 fn has_room(alloc: Global, room: usize) -> bool {
     match Builder::with_capacity(alloc, room) {
         Ok(builder) => builder.room() >= room,

@@ -2,7 +2,6 @@
 
 use planus_view::{Cut, ReadView, SubViews, VectorOf, View};
 
-// How many items a split leaves.
 fn rest_of<A: Drop, V: View>(split: Option<(A, VectorOf<V>)>) -> Option<usize> {
     match split {
         Some((_item, rest)) => Some(rest.len()),
@@ -10,7 +9,6 @@ fn rest_of<A: Drop, V: View>(split: Option<(A, VectorOf<V>)>) -> Option<usize> {
     }
 }
 
-// How many items a loop over a reference to the vector goes over.
 fn counted<V: ReadView>(v: &VectorOf<V>) -> usize
 where
     V::Item: Drop,
@@ -22,7 +20,6 @@ where
     items
 }
 
-// Whether the calls of the items agree with `len` items.
 pub fn item_calls_agree<V: ReadView>(v: VectorOf<V>, len: usize) -> bool
 where
     V::Item: Drop,
@@ -42,13 +39,11 @@ where
         && counted(&v) == len
 }
 
-// Whether a split gives parts of these lengths.
 fn parts_are<V: View>(parts: (VectorOf<V>, VectorOf<V>), want: (usize, usize)) -> bool {
     let (front, back) = parts;
     front.len() == want.0 && back.len() == want.1
 }
 
-// How many items the sub-vectors have, by a copy of the iterator.
 pub fn taken<V: View, C: Cut>(parts: SubViews<VectorOf<V>, C>) -> usize {
     let mut items: usize = 0;
     for part in parts.clone().unwrap() {
@@ -57,7 +52,6 @@ pub fn taken<V: View, C: Cut>(parts: SubViews<VectorOf<V>, C>) -> usize {
     items
 }
 
-// Whether the calls of sub-vectors agree with `len` items, where the parts are of two.
 pub fn part_calls_agree<V: View>(v: VectorOf<V>, len: usize) -> bool {
     let rest = len.saturating_sub(1);
     let even = len - len % 2;

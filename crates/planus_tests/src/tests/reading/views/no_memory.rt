@@ -1,4 +1,4 @@
-//! All calls of vectors that take no memory, with all memory taken, and copies, which take some.
+//! All calls of vectors that take no memory, without memory, and copies, which take some.
 
 use super::unions::calls::union_calls_agree;
 use super::vectors::calls::vector_calls_agree;
@@ -8,7 +8,6 @@ use planus_testing::exhaust;
 use std::alloc::{AllocError, Global};
 use std::test::Fail;
 
-// What calls gave while memory was refused.
 #[derive(Clone, Copy)]
 struct Refused {
     exhausted: bool,

@@ -1,4 +1,4 @@
-//! Vectors of unions of the test's own.
+//! Union vectors of the test's own.
 
 pub mod calls;
 mod rows;
@@ -9,7 +9,7 @@ use planus_read::errors::ErrorKind;
 use planus_read::{SliceWithStartOffset, TableRead, TableReadUnion, VectorReadUnion};
 use planus_unions::UnionVector;
 
-// Of tag 1 a text, and of tag 2 a number of four bytes.
+// With tag 1 a string, with tag 2 a number of four bytes.
 #[derive(Clone, Copy, PartialEq, Debug)]
 enum Choice<'buf> {
     Text(&'buf str),
@@ -42,7 +42,6 @@ impl<'buf> VectorReadUnion<'buf> for Choice<'buf> {
     }
 }
 
-// A vector of unions by its two references.
 fn unions<'a, T>(
     bytes: &'a [u8],
     tags: usize,

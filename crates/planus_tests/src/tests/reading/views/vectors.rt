@@ -6,15 +6,13 @@ use planus_read::errors::ErrorKind;
 use planus_read::{SliceWithStartOffset, TableRead};
 use planus_view::Vector;
 
-// The list of the numbers 1 to 5 of two bytes each, and a reference to it in front.
+// A vector of the numbers 1 to 5 of two bytes each, after a reference to it.
 const FIVE: [u8; 18] = [4, 0, 0, 0, 5, 0, 0, 0, 1, 0, 2, 0, 3, 0, 4, 0, 5, 0];
 
-// Returns the vector of these numbers, to which the first four bytes lead.
 fn numbers(bytes: &[u8]) -> Result<Vector<'_, u16>, ErrorKind> {
     Vector::from_buffer(SliceWithStartOffset::new(bytes, 0), 0)
 }
 
-// Returns the vector of the numbers 1 to 5, or an empty one where it can't be read.
 fn five() -> Vector<'static, u16> {
     match numbers(&FIVE) {
         Ok(five) => five,
@@ -22,7 +20,6 @@ fn five() -> Vector<'static, u16> {
     }
 }
 
-// Returns whether the vector has exactly these numbers.
 fn has(vector: Vector<'_, u16>, want: &[u16]) -> bool {
     if vector.len() != want.len() {
         return false;
@@ -35,7 +32,6 @@ fn has(vector: Vector<'_, u16>, want: &[u16]) -> bool {
     true
 }
 
-// Returns whether there is a vector, and it has exactly these numbers.
 fn some_has(vector: Option<Vector<'_, u16>>, want: &[u16]) -> bool {
     match vector {
         Some(vector) => has(vector, want),

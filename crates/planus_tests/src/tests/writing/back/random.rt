@@ -1,10 +1,9 @@
-//! A back vector beside what was put into it, by many random steps.
+//! A back vector beside what was prepended, by many random steps.
 
 use planus_back::BackVec;
 use std::alloc::{AllocError, Global};
 use std::test::Fail;
 
-// Where the draws of the steps have come to.
 #[derive(Drop)]
 struct Draws {
     last: u32,
@@ -16,7 +15,6 @@ impl Draws {
         self.last / 65536
     }
 
-    // Makes each of the bytes a drawn one.
     fn fill(&mut self, bytes: &mut [u8]) {
         for byte in bytes {
             *byte = (self.draw() % 256) as u8;
@@ -24,19 +22,16 @@ impl Draws {
     }
 }
 
-// An empty vector of a drawn capacity.
 fn new(alloc: Global, draws: &mut Draws) -> Result<BackVec, AllocError> {
     BackVec::with_capacity(alloc, (draws.draw() % 64) as usize)
 }
 
-// Whether the vector has these bytes in front, and behind them those of before.
 fn has_in_front(bytes: &BackVec, front: &[u8], before: &[u8]) -> bool {
     bytes.len().checked_sub(front.len()) == Some(before.len())
         && bytes.as_slice().starts_with(front)
         && bytes.as_slice().ends_with(before)
 }
 
-// Puts drawn bytes or zeros in front, and tells whether they stand there.
 fn grows(alloc: Global, bytes: &mut BackVec, draws: &mut Draws) -> Result<bool, AllocError> {
     let before = Vec::from_slice(alloc, bytes.as_slice())?;
     let mut front = [0; 50];
@@ -51,7 +46,6 @@ fn grows(alloc: Global, bytes: &mut BackVec, draws: &mut Draws) -> Result<bool, 
     Ok(has_in_front(bytes, front, before.as_slice()))
 }
 
-// One random step, and whether it did what it should.
 fn step(alloc: Global, bytes: &mut BackVec, draws: &mut Draws) -> Result<bool, AllocError> {
     match draws.draw() % 20 {
         0 | 1 => bytes.clear(),

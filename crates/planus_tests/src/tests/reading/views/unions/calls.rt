@@ -13,7 +13,7 @@ use planus_view::CopyError;
 use std::alloc::{AllocError, Global};
 use std::test::Fail;
 
-// A number of four bytes, in place of a reference; its tag is 2.
+// A number of four bytes instead of a reference; its tag is 2.
 #[derive(Clone, Copy, PartialEq, Debug)]
 struct Number(u32);
 
@@ -42,7 +42,7 @@ impl<'buf> VectorReadUnion<'buf> for Number {
     }
 }
 
-// One item, the number 0 of tag 2, which stands in place of its reference.
+// One item, the number 0 of tag 2.
 const ONE: [u8; 24] = [
     8, 0, 0, 0, 12, 0, 0, 0, 1, 0, 0, 0, 2, 0, 0, 0, 1, 0, 0, 0, 0, 0, 0, 0,
 ];
@@ -53,7 +53,6 @@ const FIVE: [u8; 44] = [
     0, 12, 0, 0, 0, 13, 0, 0, 0, 14, 0, 0, 0,
 ];
 
-// The number of an item, or none.
 fn held(item: Option<Result<Number, Error>>) -> Option<u32> {
     match item {
         Some(Ok(number)) => Some(number.0),
@@ -61,7 +60,6 @@ fn held(item: Option<Result<Number, Error>>) -> Option<u32> {
     }
 }
 
-// Whether the items at both ends have these numbers, or there are none.
 fn ends_are(v: UnionVector<'_, Number>, first: Option<u32>, last: Option<u32>) -> bool {
     held(v.first()) == first
         && held(v.last()) == last
@@ -69,7 +67,6 @@ fn ends_are(v: UnionVector<'_, Number>, first: Option<u32>, last: Option<u32>) -
         && held(v.iter().next_back()) == last
 }
 
-// Whether all calls agree with the numbers that stand in these bytes.
 fn bytes_agree(bytes: &[u8], len: usize, first: u32, last: u32) -> bool {
     match unions(bytes, 0, 4) {
         Ok(v) => {
@@ -81,7 +78,6 @@ fn bytes_agree(bytes: &[u8], len: usize, first: u32, last: u32) -> bool {
     }
 }
 
-// Whether the last chunk, counted from the back, begins with this number.
 fn last_chunk_begins(five: UnionVector<'_, Number>, number: u32) -> bool {
     let mut from_the_back = five.rchunks(2);
     match from_the_back.next() {
@@ -124,7 +120,6 @@ const DAMAGED: [u8; 44] = [
     0, 12, 0, 0, 0, 13, 0, 0, 0, 14, 0, 0, 0,
 ];
 
-// All items of these bytes.
 fn copies_of(alloc: Global, bytes: &[u8]) -> Result<Vec<Number>, CopyError> {
     match unions::<Number>(bytes, 0, 4) {
         Ok(v) => v.to_vec::<Number>(alloc),
@@ -140,7 +135,6 @@ fn five_are_copied(alloc: Global) -> bool {
     }
 }
 
-// Whether the error is that of the second item, at the start of the references from there on.
 fn damaged_are_refused(alloc: Global) -> bool {
     match copies_of(alloc, &DAMAGED) {
         Err(CopyError::Read(error)) => match error.to_string(alloc) {
@@ -151,7 +145,6 @@ fn damaged_are_refused(alloc: Global) -> bool {
     }
 }
 
-// Unions of the numbers below 5003.
 fn many_unions(alloc: Global) -> Result<Vec<u8>, AllocError> {
     let mut bytes = Vec::from_slice(alloc, b"\x08\0\0\0\x94\x13\0\0\x8b\x13\0\0")?;
     let tags = vec![in alloc; 2; 5003]?;

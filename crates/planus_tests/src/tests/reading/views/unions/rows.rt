@@ -9,8 +9,7 @@ use planus_unions::UnionVector;
 use std::alloc::Global;
 use std::test::Fail;
 
-// A table whose slots 0 and 1 hold the tags 1 and 2 and the texts `A` and `B`: the tags stand at 24
-// and the references at 32.
+// Slots 0 and 1 hold the tags 1 and 2, at 24, and the strings `A` and `B`, with references at 32.
 const UNIONS: &[u8] = b"\x04\0\0\0\xf4\xff\xff\xff\x10\0\0\0\x14\0\0\0\x08\0\x0c\0\x04\0\x08\0\
     \x02\0\0\0\x01\x02\0\0\x02\0\0\0\x10\0\0\0\x04\0\0\0\x01\0\0\0B\0\0\0\x01\0\0\0A\0";
 
@@ -19,7 +18,6 @@ const HALF: [u8; 24] = [
     8, 0, 0, 0, 12, 0, 0, 0, 2, 0, 0, 0, 1, 1, 0, 0, 1, 0, 0, 0, 4, 0, 0, 0,
 ];
 
-// Whether an item is this text, of this tag.
 fn is_text(item: Option<Result<TaggedPlace<'_>, Error>>, tag: u8, text: &str) -> bool {
     match item {
         Some(Ok(union)) => {
@@ -29,7 +27,6 @@ fn is_text(item: Option<Result<TaggedPlace<'_>, Error>>, tag: u8, text: &str) ->
     }
 }
 
-// Whether the vector of the slots 0 and 1 is that of the texts, and there is none behind it.
 fn loot_is_read(table: Table<'_>) -> bool {
     let loot = table.access_union_vector::<UnionVector<'_, TaggedPlace<'_>>>(0, "Monster", "loot");
     let behind = table.access_union_vector::<UnionVector<'_, TaggedPlace<'_>>>(
@@ -45,7 +42,6 @@ fn loot_is_read(table: Table<'_>) -> bool {
         && matches!(behind, Ok(None))
 }
 
-// Whether a vector of unions fails with this error.
 fn fails_with(bytes: &[u8], values: usize, kind: ErrorKind) -> bool {
     match (unions::<Choice<'_>>(bytes, 0, values), kind) {
         (Err(ErrorKind::InvalidLength), ErrorKind::InvalidLength)
@@ -87,7 +83,7 @@ const TAGS: [u8; 24] = [
     8, 0, 0, 0, 12, 0, 0, 0, 255, 0, 0, 0, 1, 1, 0, 0, 1, 0, 0, 0, 4, 0, 0, 0,
 ];
 
-// The bounds are tested before the counts are compared, and the head of the references before the
+// The lengths are tested before the counts are compared, and the head of the references before the
 // tags themselves.
 #[test]
 fn counts_and_lengths(rt: HostRuntime) {
@@ -109,7 +105,6 @@ fn counts_and_lengths(rt: HostRuntime) {
 const UNKNOWN: &[u8] = b"\x04\0\0\0\xf4\xff\xff\xff\x10\0\0\0\x14\0\0\0\x08\0\x0c\0\x04\0\x08\0\
     \x02\0\0\0\x01\x09\0\0\x02\0\0\0\x10\0\0\0\x04\0\0\0\x01\0\0\0B\0\0\0\x01\0\0\0A\0";
 
-// Whether there is an item whose error prints this text.
 fn prints(alloc: Global, item: Option<Result<Choice<'_>, Error>>, text: &str) -> bool {
     match item {
         Some(Err(error)) => match error.to_string(alloc) {
@@ -120,8 +115,7 @@ fn prints(alloc: Global, item: Option<Result<Choice<'_>, Error>>, text: &str) ->
     }
 }
 
-// Whether the error of an item has the start of the references of the vector that was held when it
-// was read.
+// The error of an item has the start of the references of the vector that it was read from.
 fn errors_have_starts<'a>(alloc: Global, choices: UnionVector<'a, Choice<'a>>) -> bool {
     let whole = "In <[Choice]@24>::get(): Unknown union (tag = 9)";
     let rest = "In <[Choice]@28>::get(): Unknown union (tag = 9)";

@@ -1,5 +1,5 @@
-//! Every call once on views of none, one and five items, of numbers, of texts and of a type of the
-//! test's own.
+//! Every call once on views of none, one and five items, of numbers, of strings and of a type of
+//! the test's own.
 
 ghost use Rattle.std.specs.Prelude.{⊤, ◌<◌, ◌^◌, length};
 
@@ -8,7 +8,7 @@ use super::FIVE;
 use planus_read::{Error, SliceWithStartOffset, Stride, TableRead, VectorRead};
 use planus_view::Vector;
 
-// Two bytes, of which the second is known.
+// The second of two bytes.
 #[derive(Clone, Copy)]
 struct Second(u8);
 
@@ -25,7 +25,7 @@ impl<'buf> VectorRead<'buf> for Second {
     }
 }
 
-// One text and five, each of them empty.
+// One string and five, each of them empty.
 const ONE_TEXT: [u8; 17] = [4, 0, 0, 0, 1, 0, 0, 0, 4, 0, 0, 0, 0, 0, 0, 0, 0];
 
 const FIVE_TEXTS: [u8; 33] = [
@@ -39,7 +39,6 @@ fn calls_agree<'buf, T: VectorRead<'buf> + Drop>(v: Vector<'buf, T>, len: usize)
     item_calls_agree(v, len) && part_calls_agree(v, len)
 }
 
-// The same of the vector of these bytes.
 fn bytes_agree<'buf, T: VectorRead<'buf> + Drop>(bytes: &'buf [u8], len: usize) -> bool
     requires { length bytes.now < 2 ^ 63 }
 {
@@ -61,7 +60,6 @@ fn calls_of_texts_agree() -> bool {
         && bytes_agree::<Result<&str, Error>>(&FIVE_TEXTS, 5)
 }
 
-// The same of a type of the tests' own, of which the last number of five begins with 5.
 fn calls_of_seconds_agree() -> bool {
     let five: Result<Vector<'_, Second>, _> = Vector::from_buffer(
         SliceWithStartOffset::new(&FIVE, 0),

@@ -38,7 +38,6 @@ pub fn numbers_are_copied(alloc: Global) -> bool {
     }
 }
 
-// Whether the first four are copied, and the fifth is refused by its conversion.
 fn small_numbers_are_copied(alloc: Global) -> bool {
     let Some(four) = five().get(..4) else {
         return false;
@@ -54,7 +53,6 @@ fn small_numbers_are_copied(alloc: Global) -> bool {
     four_are && five_are_not
 }
 
-// Whether there is no memory for the copies.
 pub fn copies_are_refused(alloc: Global) -> bool {
     matches!(five().to_vec::<u16>(alloc), Err(CopyError::OutOfMemory))
 }
@@ -98,14 +96,12 @@ fn items_are_copied(rt: HostRuntime) {
     );
 }
 
-// A list of the numbers below 5003.
 fn many_numbers(alloc: Global) -> Result<Vec<u8>, AllocError> {
     let mut bytes = Vec::from_slice(alloc, b"\x04\0\0\0\x8b\x13\0\0")?;
     push_numbers(&mut bytes, b"")?;
     Ok(bytes)
 }
 
-// Whether the copies are these numbers, and the copies of iterators go over as many.
 fn many_are_copied(alloc: Global, many: Vector<'_, u16>) -> bool {
     let copied = match many.to_vec::<u16>(alloc) {
         Ok(copies) => {
@@ -120,7 +116,7 @@ fn many_are_copied(alloc: Global, many: Vector<'_, u16>) -> bool {
     copied && many.iter().clone().unwrap().count() == 5003 && taken(many.chunks(7)) == 5003
 }
 
-// A list of a text of 5003 letters and one of one letter.
+// A vector of a string of 5003 letters and one of one letter.
 fn a_long_text(alloc: Global) -> Result<Vec<u8>, AllocError> {
     let front = b"\x04\0\0\0\x02\0\0\0\x08\0\0\0\x94\x13\0\0\x8b\x13\0\0";
     let mut bytes: Vec<u8> = Vec::from_slice(alloc, front)?;

@@ -11,12 +11,12 @@ use planus_view::{Cut, SubViews, Vector};
 use std::alloc::Global;
 use std::ops::Bound;
 
-// The list of the texts `A` and `B`, finished.
+// The vector of the strings `A` and `B`, finished.
 pub const TEXTS: [u8; 30] = [
     4, 0, 0, 0, 2, 0, 0, 0, 16, 0, 0, 0, 4, 0, 0, 0, 1, 0, 0, 0, 66, 0, 0, 0, 1, 0, 0, 0, 65, 0,
 ];
 
-// The same with the byte 1 behind the second text.
+// The same with the byte 1 after the second string.
 pub const DAMAGED: [u8; 30] = [
     4, 0, 0, 0, 2, 0, 0, 0, 16, 0, 0, 0, 4, 0, 0, 0, 1, 0, 0, 0, 66, 1, 0, 0, 1, 0, 0, 0, 65, 0,
 ];
@@ -33,7 +33,6 @@ fn limits(rt: HostRuntime) {
     );
 }
 
-// Returns whether the two are the same numbers, or there are none.
 fn same(part: Option<Vector<'_, u16>>, want: Option<&[u16]>) -> bool {
     match (part, want) {
         (Some(part), Some(want)) => has(part, want),
@@ -42,7 +41,6 @@ fn same(part: Option<Vector<'_, u16>>, want: Option<&[u16]>) -> bool {
     }
 }
 
-// Returns whether an iterator gives these parts and then none.
 fn gives<C: Cut>(mut parts: SubViews<Vector<'_, u16>, C>, want: &[&[u16]]) -> bool {
     let mut all = true;
     for part in want {
@@ -51,7 +49,6 @@ fn gives<C: Cut>(mut parts: SubViews<Vector<'_, u16>, C>, want: &[&[u16]]) -> bo
     all && parts.next().is_none()
 }
 
-// The same from the back.
 fn gives_back<C: Cut>(mut parts: SubViews<Vector<'_, u16>, C>, want: &[&[u16]]) -> bool {
     let mut all = true;
     for part in want {
@@ -83,7 +80,6 @@ fn five_u16(rt: HostRuntime) {
     check(&rt, five().split_at(6).is_none(), "a split past the end");
 }
 
-// Returns whether the sub-vectors are this many, the first is this one, and none is far behind it.
 fn are<C: Cut>(
     mut parts: SubViews<Vector<'_, u16>, C>,
     count: usize,
@@ -93,7 +89,6 @@ fn are<C: Cut>(
     all.count() == count && same(parts.next(), first) && parts.nth(usize::MAX).is_none()
 }
 
-// Returns whether sub-vectors of a size above five hold all five numbers, or are none.
 fn are_at_the_limits(five: Vector<'_, u16>, size: usize) -> bool
     requires { 0 < size }
 {
@@ -105,7 +100,6 @@ fn are_at_the_limits(five: Vector<'_, u16>, size: usize) -> bool
         && has(five.chunks_exact(size).remainder(), &ALL)
 }
 
-// The same of sub-vectors of two, from any of which a step of the greatest length leads to none.
 fn are_of_two(five: Vector<'_, u16>) -> bool {
     are(five.chunks(2), 3, Some(&[1, 2]))
         && are(five.rchunks(2), 3, Some(&[4, 5]))
@@ -135,7 +129,6 @@ fn five_u16_at_the_limits(rt: HostRuntime) {
     check(&rt, are_of_two(five()), "are of two");
 }
 
-// Returns whether each kind of range gives its numbers, or none.
 fn ranges_agree(five: Vector<'_, u16>, max: usize) -> bool {
     some_has(five.get(1..3), &[2, 3])
         && some_has(five.get(3..), &[4, 5])
@@ -171,7 +164,6 @@ pub fn texts<'buf>(bytes: &'buf [u8]) -> Result<Vector<'buf, Result<&'buf str, E
     Vector::from_buffer(SliceWithStartOffset::new(bytes, 0), 0)
 }
 
-// Returns whether there is an item, and it or the error of its read prints this text.
 fn prints(alloc: Global, item: Option<Result<&str, Error>>, text: &str) -> bool {
     match item {
         Some(Ok(item)) => item == text,
