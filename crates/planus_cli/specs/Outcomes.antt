@@ -1,10 +1,10 @@
 -- What becomes of the text of a schema.
-use Rattle.std.specs.Prelude.{◌≡◌, ◌==◌, ◌||◌, ℕ, Bool, true, false, not, List, length, codes, Option, Result, Ok, Err, ◌⊎◌}
+use Rattle.std.specs.Prelude.{◌≡◌, ◌==◌, ◌||◌, ℕ, Bool, true, false, not, List, codes}
+use Rattle.std.specs.Prelude.{Option, ◌⊎◌}
 use Rattle.std.specs.Str.{IsUtf8, IsValidUpTo}
 use Rattle.std.specs.Io.KnownBytes.{Appends, Keeps}
 use Rattle.planus_syntax.specs.declared.text.SchemaError.{SchemaError}
 use Rattle.planus_syntax.specs.declared.text.SchemaError.TheVariants as errors
-use Rattle.planus_syntax.specs.Lexing.{Read, lex_of}
 use Rattle.planus_syntax.specs.Values.{DeclarationV, text_of}
 use Rattle.planus_syntax.specs.Parsed.{IsFaultOf, Spells}
 use Rattle.planus_cli.specs.declared.outcome.Outcome.{Outcome}
@@ -14,8 +14,10 @@ use Rattle.planus_cli.specs.Reports.{report_text, lex_message, parse_message}
 -- This is the report of this fault.
 abbrev pub ReportsError : List ℕ → List ℕ → SchemaError → List ℕ → Type 0
 ReportsError name text errors.OutOfMemory report = ⊥
-ReportsError name text (errors.Token fault at) report = report ≡ report_text name text at (lex_message fault)
-ReportsError name text (errors.Declaration fault index at) report = report ≡ report_text name text at (parse_message fault)
+ReportsError name text (errors.Token fault at) report =
+    report ≡ report_text name text at (lex_message fault)
+ReportsError name text (errors.Declaration fault index at) report =
+    report ≡ report_text name text at (parse_message fault)
 
 -- the text is not UTF-8, from this byte on
 abbrev pub ReportsBytes : List ℕ → List ℕ → List ℕ → Type 0
@@ -26,11 +28,13 @@ ReportsBytes name text report = (at : ℕ) × IsValidUpTo text at
 abbrev pub Reports : List ℕ → List ℕ → List ℕ → Type 0
 Reports name text report =
     ((¬ (IsUtf8 text)) × ReportsBytes name text report)
-    ⊎ ((error : SchemaError) × IsFaultOf (length text) error (lex_of text) × ReportsError name text error report)
+    ⊎ (IsUtf8 text × ((error : SchemaError) × IsFaultOf text error
+    × ReportsError name text error report))
 
--- The text spells a schema, and this is its canonical text.
+-- The text is UTF-8 and spells a schema, and this is its canonical text.
 abbrev pub Formats : List ℕ → List ℕ → Type 0
-Formats text out = (schema : List DeclarationV) × Spells text schema × (out ≡ text_of schema)
+Formats text out =
+    IsUtf8 text × ((schema : List DeclarationV) × Spells text schema × (out ≡ text_of schema))
 
 abbrev pub IsOutcome : List ℕ → List ℕ → Outcome → Type 0
 IsOutcome name text (Formatted out) = Formats text out.items
@@ -43,8 +47,10 @@ IsTextOf schema (Faulty report) = ⊥
 
 -- A clean text spells a schema, and nothing is said. Of another its first fault is reported.
 abbrev pub Checks : List ℕ → List ℕ → Bool → Option (List ℕ) → Option (List ℕ) → Type 0
-Checks name text true before after = ((schema : List DeclarationV) × Spells text schema) × Keeps before after
-Checks name text false before after = (report : List ℕ) × Reports name text report × Appends before after report
+Checks name text true before after =
+    IsUtf8 text × ((schema : List DeclarationV) × Spells text schema) × Keeps before after
+Checks name text false before after =
+    (report : List ℕ) × Reports name text report × Appends before after report
 
 -- bytes that are no blank
 abbrev pub is_ink : ℕ → Bool

@@ -1,5 +1,6 @@
 -- How a fault is reported: where it stands, what it is, its line, and a mark below its place.
-use Rattle.std.specs.Prelude.{ℕ, ◌+◌, ◌==◌, Bool, List, [], ◌∷◌, ◌++◌, length, map, take, drop, count_by, codes, if◌then◌else◌}
+use Rattle.std.specs.Prelude.{ℕ, ◌+◌, ◌==◌, Bool, List, [], ◌∷◌, ◌++◌, length, map, take, drop}
+use Rattle.std.specs.Prelude.{count_by, codes, if◌then◌else◌}
 use Rattle.std.specs.List.{position_or_len}
 use Rattle.std.specs.Fmt.{decimal}
 use Rattle.planus_syntax.specs.declared.lexer.LexFault.{LexFault}
@@ -31,7 +32,8 @@ below b = if b == 9 then 9 else 32
 abbrev pub head_text : List ℕ → List ℕ → List ℕ → List ℕ
 head_text name before message =
     name ++ (codes ":" ++ (decimal (1 + count_by is_feed before)
-    ++ (codes ":" ++ (decimal (1 + length (last_line before)) ++ (codes ": " ++ (message ++ codes "\n"))))))
+    ++ (codes ":" ++ (decimal (1 + length (last_line before))
+    ++ (codes ": " ++ (message ++ codes "\n"))))))
 
 -- the report of a fault in a text, at the byte with this index
 abbrev pub report_text : List ℕ → List ℕ → ℕ → List ℕ → List ℕ

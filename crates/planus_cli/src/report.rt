@@ -1,6 +1,7 @@
 //! The report of a fault: its place, its message, its line, and a mark below it.
 
-ghost use Rattle.std.specs.Prelude.{◌≡◌, ◌≤◌, ◌++◌, ◌+◌, ◌<◌, ◌^◌, count_by, length, map, codes, position, IfOk, OnOk};
+ghost use Rattle.std.specs.Prelude.{◌≡◌, ◌≤◌, ◌++◌, ◌+◌, ◌<◌, ◌^◌, count_by, length, map, codes};
+ghost use Rattle.std.specs.Prelude.{position, IfOk, OnOk};
 ghost use Rattle.std.specs.String.{string_bytes};
 ghost use Rattle.planus_cli.specs.Reports.{below as below_lem, first_line as first_line_lem};
 ghost use Rattle.planus_cli.specs.Reports.{head_text, is_feed as is_feed_lem};

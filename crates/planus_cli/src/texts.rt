@@ -43,13 +43,16 @@ pub fn outcome_of(alloc: Global, name: &str, text: &[u8]) -> Result<Outcome, All
     ensures only { (schema : List DeclarationV) → AreWhole schema → IsUtf8 text.now
         → Spells text.now schema → IfOk result (λ outcome. IsTextOf schema outcome) }
 {
-    if let Err(error) = std::str::from_utf8(text) {
-        let message = "the text is not UTF-8";
-        return Ok(Outcome::Faulty(report(alloc, name, text, error.valid_up_to(), message)?));
-    }
-    match format_text(alloc, text) {
-        Ok(out) => Ok(Outcome::Formatted(out)),
-        Err(error) => Ok(Outcome::Faulty(error_report(alloc, name, text, error)?)),
+    match std::str::from_utf8(text) {
+        Err(error) => {
+            let message = "the text is not UTF-8";
+            let out = report(alloc, name, text, error.valid_up_to(), message)?;
+            Ok(Outcome::Faulty(out))
+        }
+        Ok(_) => match format_text(alloc, text) {
+            Ok(out) => Ok(Outcome::Formatted(out)),
+            Err(error) => Ok(Outcome::Faulty(error_report(alloc, name, text, error)?)),
+        },
     }
 }
 

@@ -1,17 +1,14 @@
 -- Both laws together.
-use Rattle.std.proofs.Common.{◌≡◌, ℕ, List, [], ◌∷◌, ◌++◌, length, Result, Ok, Err, refl, sym, ap, subst, ◌∙◌}
-use Rattle.std.specs.Prelude.{IfOk}
+use Rattle.std.proofs.Common.{◌≡◌, ℕ, List, [], Ok, Err, sym, ap, ◌∙◌}
 use Rattle.std.specs.Global.{Vec}
 use Rattle.planus_syntax.specs.declared.value.Declaration.{Declaration}
-use Rattle.planus_syntax.specs.declared.parse.ParseError.{ParseError}
-use Rattle.planus_syntax.specs.declared.parse.ParseError.TheVariants as errors
 use Rattle.planus_syntax.specs.declared.parse.ParseFault.{ParseFault}
 use Rattle.planus_syntax.specs.declared.lexer.LexFault.{LexFault}
 use Rattle.planus_syntax.specs.Tokens.{Piece}
 use Rattle.planus_syntax.specs.Values.{DeclarationV, AreWhole, IsSchema, schema_of, schema_pieces, text_of}
 use Rattle.planus_syntax.specs.Lexing.{Read, lex_of}
 use Rattle.planus_syntax.specs.Reading.{Fault, Reads, schema_at}
-use Rattle.planus_syntax.specs.Parsed.{ParsesTo, AnswersParse, Spells}
+use Rattle.planus_syntax.specs.Parsed.{AnswersParse, Spells}
 use Rattle.planus_syntax.proofs.Many.{ok_is}
 use Rattle.planus_syntax.proofs.Spelling as spelling
 use Rattle.planus_syntax.proofs.Laid.{layout_spells}

@@ -1,13 +1,12 @@
 -- The canonical layout is a spelling.
-use Rattle.std.proofs.Common.{◌≡◌, ℕ, List, [], ◌∷◌, ◌++◌, map, Bool, true, false, cond, refl, sym, ap, ◌∙◌, subst, append_assoc}
+use Rattle.std.proofs.Common.{◌≡◌, ℕ, List, [], ◌∷◌, ◌++◌, Bool, true, false, cond, refl, sym, ap, ◌∙◌, subst}
 use Rattle.std.specs.Prelude.{not, ◌==◌, ◌||◌, ◌&&◌, codes}
-use Rattle.std.specs.List.{list_all, list_any, AllByRecursion}
-use Rattle.std.specs.Str.{bytes_eq}
+use Rattle.std.specs.List.{list_all, AllByRecursion}
 use Rattle.std.proofs.lemmas.Bool.{eqb-true}
 use Rattle.planus_syntax.specs.declared.layout.Place.{Place}
 use Rattle.planus_syntax.specs.Tokens.{Piece, word, number, text, doc, mark, begins, is_word_byte, is_number_byte, is_line_byte, is_blank, is_lawful, bytes_of}
-use Rattle.planus_syntax.specs.Layout.{is_mark_of, place_after, outside, is_tight, is_open, is_tight_piece, is_glued, is_grouped, new_line, between_declarations, after_mark, spaced, apart, gap, gap_before, laid_out, printed}
-use Rattle.planus_syntax.specs.Spelled.{Part, token, blank, comment, block, part_bytes, is_part, goes_on, spelled, tokens_in, AreParts}
+use Rattle.planus_syntax.specs.Layout.{is_mark_of, place_after, outside, is_tight, is_glued, is_grouped, new_line, between_declarations, after_mark, spaced, apart, gap_before, laid_out, printed}
+use Rattle.planus_syntax.specs.Spelled.{Part, token, blank, goes_on, spelled, tokens_in, AreParts}
 use Rattle.planus_syntax.proofs.Marks.{one_of, never}
 
 -- ---- blanks in a row

@@ -7,3 +7,4 @@ pub mod Many
 pub mod Loops
 pub mod Again
 pub mod Composed
+pub mod Placed

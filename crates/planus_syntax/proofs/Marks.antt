@@ -1,11 +1,11 @@
 -- Facts on marks and blanks, byte by byte.
-use Rattle.std.proofs.Common.{◌≡◌, ℕ, List, [], ◌∷◌, ◌++◌, Bool, true, false, cond, refl, sym, ap, ◌∙◌, subst, Result, Ok, Err}
-use Rattle.std.specs.Prelude.{not, ◌==◌, ◌||◌, ◌&&◌, codes}
+use Rattle.std.proofs.Common.{◌≡◌, ℕ, List, [], ◌∷◌, ◌++◌, Bool, true, false, refl, subst, Ok}
+use Rattle.std.specs.Prelude.{not, ◌==◌, ◌||◌, codes}
 use Rattle.std.specs.List.{list_all, list_any, AllByRecursion}
 use Rattle.std.proofs.lemmas.Bool.{eqb-true}
-use Rattle.planus_syntax.specs.Tokens.{Piece, word, number, text, doc, mark, begins, is_word_byte, is_number_byte, is_blank, is_mark, is_some}
-use Rattle.planus_syntax.specs.Lexing.{between, opened, lex_of}
-use Rattle.planus_syntax.proofs.Scanning.{both, no_front}
+use Rattle.planus_syntax.specs.Tokens.{mark, begins, is_word_byte, is_mark, is_some}
+use Rattle.planus_syntax.specs.Lexing.{between, opened}
+use Rattle.planus_syntax.proofs.Scanning.{both}
 
 -- what holds of each byte of a list holds of a byte that is in it
 one_of_at : (P : ℕ → Type 0) (m b : ℕ) (v more : Bool) → (m == b) ≡ v → (v || more) ≡ true → P m → (more ≡ true → P b) → P b

@@ -1,16 +1,16 @@
 -- The machine over whole runs.
-use Rattle.std.proofs.Common.{◌≡◌, ℕ, zero, suc, ◌<◌, ◌≤◌, ◌+◌, List, [], ◌∷◌, ◌++◌, length, Bool, true, false, cond, refl, sym, ap, ◌∙◌, subst, arith, append_assoc, Result, Ok, Err}
+use Rattle.std.proofs.Common.{◌≡◌, ℕ, suc, List, [], ◌∷◌, ◌++◌, length, Bool, true, false, cond, refl, sym, ap, ◌∙◌, subst, append_assoc, Result, Ok, Err}
 use Rattle.std.specs.Prelude.{not, ◌==◌, ◌||◌, ◌&&◌}
 use Rattle.std.specs.List.{list_all}
 use Rattle.std.specs.Char.{is_ascii_digit, is_ascii_alphabetic}
 use Rattle.std.proofs.lemmas.List.{append-nil}
 use Rattle.std.proofs.lemmas.Bool.{eqb-true}
 use Rattle.planus_syntax.specs.declared.lexer.LexFault.{LexFault}
-use Rattle.planus_syntax.specs.declared.lexer.LexFault.TheVariants.{BadNumber, OpenString, OpenComment, Strange}
-use Rattle.planus_syntax.specs.Tokens.{Piece, word, number, text, doc, mark, begins, is_word_byte, is_number_start, is_number_byte, is_number, is_string_byte, is_line_byte}
-use Rattle.planus_syntax.specs.Lexing.{State, between, run, figures, quoted, slash, slashes, comment, documented, block, starred, Step, Read, number_piece, string_fault, opened, in_front, closed, step, finished, with_front, going, lex_from, lex_of}
+use Rattle.planus_syntax.specs.declared.lexer.LexFault.TheVariants.{BadNumber, OpenComment, Strange}
+use Rattle.planus_syntax.specs.Tokens.{Piece, word, number, text, doc, begins, is_word_byte, is_number_start, is_number_byte, is_number, is_string_byte, is_line_byte}
+use Rattle.planus_syntax.specs.Lexing.{State, between, run, figures, quoted, slash, slashes, comment, documented, block, starred, Step, Read, number_piece, string_fault, opened, in_front, closed, step, with_front, going, lex_from, lex_of}
 use Rattle.planus_syntax.specs.Cutting.{Splits, string_stop}
-use Rattle.planus_syntax.specs.Spelled.{closes, stays_open}
+use Rattle.planus_syntax.specs.Spelled.{closes}
 
 -- a test of two that holds
 pub both : (a b : Bool) → (a && b) ≡ true → (a ≡ true) × (b ≡ true)

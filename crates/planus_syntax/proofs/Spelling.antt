@@ -1,16 +1,16 @@
 -- However tokens are spelled, they are read.
-use Rattle.std.proofs.Common.{◌≡◌, ℕ, zero, suc, ◌+◌, ◌<◌, ◌≤◌, List, [], ◌∷◌, ◌++◌, length, take, drop, arith, Bool, true, false, cond, refl, sym, ap, ◌∙◌, subst, append_assoc, Result, Ok, Err}
+use Rattle.std.proofs.Common.{◌≡◌, ℕ, zero, suc, ◌<◌, ◌≤◌, List, [], ◌∷◌, ◌++◌, length, take, drop, arith, Bool, true, false, refl, sym, ap, ◌∙◌, subst, append_assoc, Ok, Err}
 use Rattle.std.specs.Prelude.{not, ◌==◌, ◌||◌, ◌&&◌}
-use Rattle.std.specs.List.{list_all, list_any, AllByRecursion}
+use Rattle.std.specs.List.{list_all}
 use Rattle.std.proofs.lemmas.Bool.{eqb-true}
 use Rattle.std.proofs.lemmas.List.{length-append}
 use Rattle.planus_syntax.specs.declared.lexer.LexFault.{LexFault}
-use Rattle.planus_syntax.specs.declared.lexer.LexFault.TheVariants.{Strange, OpenComment}
+use Rattle.planus_syntax.specs.declared.lexer.LexFault.TheVariants.{Strange}
 use Rattle.planus_syntax.proofs.Runs.{end, splits}
 use Rattle.planus_syntax.specs.Tokens.{Piece, word, number, text, doc, mark, begins, is_word_byte, is_number_start, is_number_byte, is_number, is_string_byte, is_line_byte, is_blank, is_mark, is_some, is_lawful, bytes_of}
 use Rattle.planus_syntax.specs.Lexing.{State, between, run, quoted, slash, slashes, Read, opened, going, with_front, lex_from, lex_of}
 use Rattle.planus_syntax.specs.Lexing as machine
-use Rattle.planus_syntax.specs.Cutting.{Splits, string_stop}
+use Rattle.planus_syntax.specs.Cutting.{Splits}
 use Rattle.planus_syntax.specs.Spelled.{Part, token, blank, comment, block, part_bytes, is_part, goes_on, spelled, tokens_in, AreParts, closes, stays_open}
 use Rattle.planus_syntax.proofs.Scanning.{both, no_front, a_word, a_number, started, a_string, third_slash, two_slashes, slash_slash, slash_star, block_closes, block_goes, no_number, no_string, one_slash}
 use Rattle.planus_syntax.proofs.Marks.{mark_opens, word_front, front_says, start_some, not_true, never}

@@ -1,5 +1,6 @@
 -- One token off the front of a text.
-use Rattle.std.specs.Prelude.{◌≡◌, ℕ, Bool, true, false, List, [], ◌∷◌, ◌++◌, Option, Some, None, Result, Ok, Err}
+use Rattle.std.specs.Prelude.{◌≡◌, ℕ, Bool, true, false, List, [], ◌∷◌, ◌++◌, Option, Some, None}
+use Rattle.std.specs.Prelude.{Result, Ok, Err}
 use Rattle.std.specs.List.{list_all}
 use Rattle.std.specs.Borrow.{Bor}
 use Rattle.planus_syntax.specs.declared.lexer.LexFault.{LexFault}
@@ -7,7 +8,7 @@ use Rattle.planus_syntax.specs.declared.lexer.LexFault.TheVariants.{OpenString}
 use Rattle.planus_syntax.specs.declared.lexer.Stop.{Stop}
 use Rattle.planus_syntax.specs.declared.token.Lexeme.{Lexeme}
 use Rattle.planus_syntax.specs.declared.token.Lexeme.TheVariants as token
-use Rattle.planus_syntax.specs.Tokens.{Piece, word, number, text, doc, mark, begins}
+use Rattle.planus_syntax.specs.Tokens.{Piece, word, number, text, doc, mark, begins, bytes_of}
 use Rattle.planus_syntax.specs.Lexing.{Read, with_front, lex_of, string_fault}
 
 abbrev pub cut_piece : Lexeme → Piece
@@ -26,6 +27,11 @@ pub record Splits (p : ℕ → Bool) (bytes front rest : List ℕ) : Type 0 wher
 -- the rest ends the bytes
 abbrev pub Ends : List ℕ → List ℕ → Type 0
 Ends bytes rest = (front : List ℕ) × (bytes ≡ front ++ rest)
+
+-- The rest follows this token at the front, or ends the bytes where there is none.
+abbrev pub Starts : List ℕ → Option Lexeme → List ℕ → Type 0
+Starts bytes None rest = Ends bytes rest
+Starts bytes (Some t) rest = bytes ≡ bytes_of (cut_piece t) ++ rest
 
 abbrev pub pieces_in : Option Lexeme → List Piece
 pieces_in None = []

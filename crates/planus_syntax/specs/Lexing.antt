@@ -1,12 +1,16 @@
 -- The tokens of a text: a machine that takes one byte after the other.
-use Rattle.std.specs.Prelude.{◌≡◌, ℕ, Bool, true, false, ◌==◌, ◌+◌, List, [], ◌∷◌, ◌++◌, length, if◌then◌else◌, Result, Ok, Err}
+use Rattle.std.specs.Prelude.{◌≡◌, ℕ, ◌==◌, ◌+◌, List, [], ◌∷◌, ◌++◌, length, if◌then◌else◌, Result}
+use Rattle.std.specs.Prelude.{Ok, Err}
 use Rattle.std.specs.Global.{Vec}
 use Rattle.planus_syntax.specs.declared.lexer.LexFault.{LexFault}
-use Rattle.planus_syntax.specs.declared.lexer.LexFault.TheVariants.{BadNumber, OpenString, Escape, OpenComment, Strange}
+use Rattle.planus_syntax.specs.declared.lexer.LexFault.TheVariants.{BadNumber, OpenString, Escape}
+use Rattle.planus_syntax.specs.declared.lexer.LexFault.TheVariants.{OpenComment, Strange}
 use Rattle.planus_syntax.specs.declared.lexer.LexError.{LexError}
 use Rattle.planus_syntax.specs.declared.lexer.LexError.TheVariants as errors
 use Rattle.planus_syntax.specs.declared.token.Token.{Token}
-use Rattle.planus_syntax.specs.Tokens.{Piece, word, number, text, doc, mark, pieces_of, is_word_byte, is_number_start, is_number_byte, is_number, is_blank, is_mark, is_string_byte}
+use Rattle.planus_syntax.specs.Tokens.{Piece, word, number, text, doc, mark, pieces_of}
+use Rattle.planus_syntax.specs.Tokens.{is_word_byte, is_number_start, is_number_byte, is_number}
+use Rattle.planus_syntax.specs.Tokens.{is_blank, is_mark, is_string_byte}
 
 -- where the machine stands: between tokens; in a word, a number, a string or documentation, with
 -- the bytes so far; after one or two slashes; in a comment to the end of the line; in a comment

@@ -4,5 +4,6 @@ pub mod Values
 pub mod Spelled
 pub mod Lexing
 pub mod Cutting
+pub mod Placing
 pub mod Reading
 pub mod Parsed

@@ -1,6 +1,8 @@
 -- Reading tokens from left to right, with the first fault that is met, and how many tokens are left
 -- there.
-use Rattle.std.specs.Prelude.{◌≡◌, ◌+◌, ℕ, zero, suc, Bool, true, false, not, ◌&&◌, ◌==◌, List, [], ◌∷◌, ◌++◌, length, codes, Option, Some, None, Result, Ok, Err, if◌then◌else◌}
+use Rattle.std.specs.Prelude.{◌≡◌, ℕ, zero, suc, Bool, true, false, not, ◌&&◌, ◌==◌, List, [], ◌∷◌}
+use Rattle.std.specs.Prelude.{◌++◌, length, codes, Option, Some, None, Result, Ok, Err}
+use Rattle.std.specs.Prelude.{if◌then◌else◌}
 use Rattle.std.specs.Str.{bytes_eq}
 use Rattle.planus_syntax.specs.declared.parse.ParseFault.{ParseFault}
 use Rattle.planus_syntax.specs.declared.parse.ParseFault.TheVariants as fault
@@ -8,7 +10,12 @@ use Rattle.planus_syntax.specs.declared.parse.ReadError.{ReadError}
 use Rattle.planus_syntax.specs.declared.parse.ReadError.TheVariants as errors
 use Rattle.planus_syntax.specs.Tokens.{Piece, word, number, text, doc, mark}
 use Rattle.planus_syntax.specs.Layout.{is_mark_of}
-use Rattle.planus_syntax.specs.Values.{Name, PathV, KindV, single, vector, LiteralV, numeral, named, quote, nothing, LabelV, AttributeV, FieldV, RecordV, VariantV, EnumerationV, MemberV, UnionV, MethodV, ServiceV, ItemV, include, namespace, attribute, table, struct, enumeration, union, service, root, identifier, extension, DeclarationV}
+use Rattle.planus_syntax.specs.Values.{Name, PathV, KindV, single, vector, LiteralV, numeral, named}
+use Rattle.planus_syntax.specs.Values.{quote, nothing, LabelV, AttributeV, FieldV, RecordV}
+use Rattle.planus_syntax.specs.Values.{VariantV, EnumerationV, MemberV, UnionV, MethodV, ServiceV}
+use Rattle.planus_syntax.specs.Values.{ItemV, include, namespace, attribute, table, struct}
+use Rattle.planus_syntax.specs.Values.{enumeration, union, service, root, identifier, extension}
+use Rattle.planus_syntax.specs.Values.{DeclarationV}
 
 abbrev pub Fault : Type 0
 Fault = ParseFault × ℕ
@@ -114,11 +121,15 @@ label_at (mark b ∷ ps) = Err (fault.Word, suc (length ps))
 -- ---- lists
 
 -- items as long as the test holds; n bounds how many
-abbrev pub many : {A : Type 0} → (List Piece → Bool) → (List Piece → Reads A) → ℕ → List Piece → Reads (List A)
+abbrev pub many : {A : Type 0} → (List Piece → Bool) → (List Piece → Reads A) → ℕ → List Piece
+    → Reads (List A)
 many goes item zero ps = Ok ([], ps)
-many goes item (suc n) ps = if goes ps then (item ps >>= λ x. many goes item n x.1 >>= λ xs. Ok (x.0 ∷ xs.0, xs.1)) else Ok ([], ps)
+many goes item (suc n) ps =
+    if goes ps then (item ps >>= λ x. many goes item n x.1 >>= λ xs. Ok (x.0 ∷ xs.0, xs.1))
+    else Ok ([], ps)
 
-unfoldable pub list_at : {A : Type 0} → (List Piece → Bool) → (List Piece → Reads A) → List Piece → Reads (List A)
+unfoldable pub list_at : {A : Type 0} → (List Piece → Bool) → (List Piece → Reads A) → List Piece
+    → Reads (List A)
 list_at goes item ps = many goes item (length ps) ps
 
 -- with items that were read before
@@ -161,7 +172,8 @@ literal_at (word w ∷ ps) = name_at (word w ∷ ps)
 literal_at (number w ∷ ps) = Ok (numeral w, ps)
 literal_at (text w ∷ ps) = Ok (quote w, ps)
 literal_at (doc w ∷ ps) = Err (fault.Literal, suc (length ps))
-literal_at (mark b ∷ ps) = if b == 91 then brackets_at (mark b ∷ ps) else Err (fault.Literal, suc (length ps))
+literal_at (mark b ∷ ps) =
+    if b == 91 then brackets_at (mark b ∷ ps) else Err (fault.Literal, suc (length ps))
 
 unfoldable pub setting_at : List Piece → Reads (Option (LiteralV))
 setting_at ps = if begins_mark 58 ps then (do
@@ -215,7 +227,16 @@ field_at ps = do
   default ← default_at kind.1
   attributes ← attributes_at default.1
   end ← mark_at 59 attributes.1
-  Ok (record { docs = docs.0; name = name.0; kind = kind.0; default = default.0; attributes = attributes.0 }, end)
+  Ok (
+    record {
+      docs = docs.0;
+      name = name.0;
+      kind = kind.0;
+      default = default.0;
+      attributes = attributes.0;
+    },
+    end,
+  )
 
 unfoldable pub record_at : List Piece → Reads RecordV
 record_at ps = do
@@ -230,7 +251,8 @@ record_at ps = do
 
 -- a comma, or none
 unfoldable pub comma_at : List Piece → Reads Bool
-comma_at ps = if begins_mark 44 ps then (mark_at 44 ps >>= λ end. Ok (true, end)) else Ok (false, ps)
+comma_at ps =
+    if begins_mark 44 ps then (mark_at 44 ps >>= λ end. Ok (true, end)) else Ok (false, ps)
 
 unfoldable pub variant_at : List Piece → Reads VariantV
 variant_at ps = do
@@ -257,7 +279,16 @@ enumeration_at ps = do
   variants ← variants_at start
   comma ← comma_at variants.1
   end ← mark_at 125 comma.1
-  Ok (record { name = name.0; base = base.0; attributes = attributes.0; variants = variants.0; comma = comma.0 }, end)
+  Ok (
+    record {
+      name = name.0;
+      base = base.0;
+      attributes = attributes.0;
+      variants = variants.0;
+      comma = comma.0;
+    },
+    end,
+  )
 
 unfoldable pub member_at : List Piece → Reads MemberV
 member_at ps = do
@@ -283,7 +314,15 @@ union_at ps = do
   members ← members_at start
   comma ← comma_at members.1
   end ← mark_at 125 comma.1
-  Ok (record { name = name.0; attributes = attributes.0; members = members.0; comma = comma.0 }, end)
+  Ok (
+    record {
+      name = name.0;
+      attributes = attributes.0;
+      members = members.0;
+      comma = comma.0;
+    },
+    end,
+  )
 
 -- ---- services
 
@@ -298,7 +337,16 @@ method_at ps = do
   response ← path_at colon
   attributes ← attributes_at response.1
   end ← mark_at 59 attributes.1
-  Ok (record { docs = docs.0; name = name.0; request = request.0; response = response.0; attributes = attributes.0 }, end)
+  Ok (
+    record {
+      docs = docs.0;
+      name = name.0;
+      request = request.0;
+      response = response.0;
+      attributes = attributes.0;
+    },
+    end,
+  )
 
 unfoldable pub service_at : List Piece → Reads ServiceV
 service_at ps = do
@@ -323,7 +371,9 @@ rooted_at ps = do
   Ok (path.0, end)
 
 unfoldable pub namespace_at : List Piece → Reads (Option PathV)
-namespace_at ps = if begins_mark 59 ps then (mark_at 59 ps >>= λ end. Ok (None, end)) else (rooted_at ps >>= λ path. Ok (Some path.0, path.1))
+namespace_at ps =
+    if begins_mark 59 ps then (mark_at 59 ps >>= λ end. Ok (None, end))
+    else (rooted_at ps >>= λ path. Ok (Some path.0, path.1))
 
 unfoldable pub declared_at : List Piece → Reads LabelV
 declared_at ps = do

@@ -1,7 +1,9 @@
 -- Which texts spell which tokens.
 use Rattle.std.specs.Prelude.{◌≡◌, ℕ, Bool, true, false, ◌==◌, ◌&&◌, not, List, [], ◌∷◌, ◌++◌}
 use Rattle.std.specs.List.{list_all}
-use Rattle.planus_syntax.specs.Tokens.{Piece, word, number, text, doc, mark, begins, bytes_of, is_lawful, is_word_byte, is_number_byte, is_blank, is_line_byte}
+use Rattle.planus_syntax.specs.Tokens.{Piece, word, number, text, doc, mark, begins, bytes_of}
+use Rattle.planus_syntax.specs.Tokens.{is_lawful, is_word_byte, is_number_byte, is_blank}
+use Rattle.planus_syntax.specs.Tokens.{is_line_byte}
 
 -- a token, a blank, a comment to the end of its line, or one to `*/`
 pub data Part : Type 0 where

@@ -1,10 +1,15 @@
 -- What the tokens of a schema are, and how each is written.
-use Rattle.std.specs.Prelude.{◌≡◌, ℕ, Bool, true, false, ◌==◌, ◌&&◌, ◌||◌, not, List, [], ◌∷◌, ◌++◌, map, codes, if◌then◌else◌, fold, ◌≤◌}
+use Rattle.std.specs.Prelude.{ℕ, Bool, true, false, ◌==◌, ◌&&◌, ◌||◌, not, List, [], ◌∷◌, ◌++◌, map}
+use Rattle.std.specs.Prelude.{codes, if◌then◌else◌, fold}
 use Rattle.std.specs.List.{list_all, list_any}
 use Rattle.std.specs.Str.{bytes_eq}
 use Rattle.std.specs.Char.{is_ascii_digit, is_ascii_alphabetic, is_ascii_hexdigit}
 use Rattle.planus_syntax.specs.declared.number.NumberState.{NumberState}
-use Rattle.planus_syntax.specs.declared.number.NumberState.TheVariants.{Start, Sign, Zero, Digits, Fraction, Exponent, ExponentSign, ExponentDigits, HexMark, HexDigits, Wrong}
+use Rattle.planus_syntax.specs.declared.number.NumberState.TheVariants.{Start, Sign, Zero, Digits}
+use Rattle.planus_syntax.specs.declared.number.NumberState.TheVariants.{Fraction, Exponent}
+use Rattle.planus_syntax.specs.declared.number.NumberState.TheVariants.{ExponentSign}
+use Rattle.planus_syntax.specs.declared.number.NumberState.TheVariants.{ExponentDigits, HexMark}
+use Rattle.planus_syntax.specs.declared.number.NumberState.TheVariants.{HexDigits, Wrong}
 use Rattle.planus_syntax.specs.declared.token.Token.{Token}
 use Rattle.planus_syntax.specs.declared.token.Token.TheVariants as token
 

@@ -1,10 +1,12 @@
 //! Bytes to tokens.
 
-ghost use Rattle.std.specs.Prelude.{◌≡◌, ◌++◌, ◌<◌, ◌≤◌, ◌+◌, ℕ, drop, length, IfOk, IfErr, MatchOption};
-ghost use Rattle.std.specs.Prelude.{false, Bool, true, List, [], ◌∷◌, ◌==◌, not};
+ghost use Rattle.std.specs.Prelude.{◌≡◌, ◌++◌, ◌<◌, ◌≤◌, ◌+◌, ℕ, drop, length, IfOk, IfErr};
+ghost use Rattle.std.specs.Prelude.{MatchOption};
+ghost use Rattle.std.specs.Prelude.{Ok, false, Bool, true, List, [], ◌∷◌, ◌==◌, not};
 ghost use Rattle.std.specs.List.{list_all, position};
 ghost use Rattle.planus_syntax.specs.Tokens.{begins, piece_of, pieces_of};
-ghost use Rattle.planus_syntax.specs.Tokens.{is_word_byte as is_word_byte_lem, is_mark as is_mark_lem};
+ghost use Rattle.planus_syntax.specs.Tokens.{is_word_byte as is_word_byte_lem};
+ghost use Rattle.planus_syntax.specs.Tokens.{is_mark as is_mark_lem};
 ghost use Rattle.planus_syntax.specs.Tokens.{is_number_start as is_number_start_lem};
 ghost use Rattle.planus_syntax.specs.Tokens.{is_number_byte as is_number_byte_lem};
 ghost use Rattle.planus_syntax.specs.Tokens.{is_blank as is_blank_lem};
@@ -12,6 +14,9 @@ ghost use Rattle.planus_syntax.specs.Tokens.{is_string_byte as is_string_byte_le
 ghost use Rattle.planus_syntax.specs.Tokens.{is_line_byte as is_line_byte_lem};
 ghost use Rattle.planus_syntax.specs.Lexing.{Answers, block, lex_from, lex_of, slashes, with_front};
 ghost use Rattle.planus_syntax.specs.Cutting.{cut_piece, pieces_in, Cuts, CutsSome, Skips, Splits};
+ghost use Rattle.planus_syntax.specs.Cutting.{Ends, Starts};
+ghost use Rattle.planus_syntax.specs.Placing.{StandsAt};
+ghost use Rattle.planus_syntax.specs.Tokens.{Piece, bytes_of};
 ghost use Rattle.planus_syntax.specs.Cutting.{string_stop};
 ghost use Rattle.planus_syntax.specs.Spelled.{closes};
 
@@ -194,6 +199,7 @@ fn word_at(bytes: &[u8]) -> (Lexeme, &[u8])
     requires start { begins is_word_byte_lem bytes.now ≡ true }
     requires letter { begins is_number_start_lem bytes.now ≡ false }
     ensures cuts { lex_of bytes.now ≡ with_front (cut_piece result.0 ∷ []) (lex_of result.1.now) }
+    ensures starts { bytes.now ≡ bytes_of (cut_piece result.0) ++ result.1.now }
     ensures shorter { length result.1.now < length bytes.now }
 {
     let (word, rest) = split_word(bytes);
@@ -204,6 +210,7 @@ fn word_at(bytes: &[u8]) -> (Lexeme, &[u8])
 fn number_at(bytes: &[u8]) -> Result<(Lexeme, &[u8]), Stop>
     requires { begins is_number_start_lem bytes.now ≡ true }
     ensures cuts { Cuts bytes.now result }
+    ensures starts { IfOk result (λ x. bytes.now ≡ bytes_of (cut_piece x.0) ++ x.1.now) }
     ensures shorter { IfOk result (λ x. length x.1.now < length bytes.now) }
     ensures within { IfErr result (λ stop. stop.left ≤ length bytes.now) }
 {
@@ -230,6 +237,7 @@ fn string_fault(bytes: &[u8]) -> LexFault
 /// Reads a string, from after its first quote.
 fn string_at(bytes: &[u8]) -> Result<(Lexeme, &[u8]), Stop>
     ensures cuts { Cuts (34 ∷ bytes.now) result }
+    ensures starts { IfOk result (λ x. 34 ∷ bytes.now ≡ bytes_of (cut_piece x.0) ++ x.1.now) }
     ensures shorter { IfOk result (λ x. length x.1.now < length bytes.now) }
     ensures within { IfErr result (λ stop. stop.left ≤ length bytes.now) }
 {
@@ -257,6 +265,7 @@ fn after_end(bytes: &[u8]) -> Option<&[u8]>
 /// Skips a comment, from after its `/*`.
 fn block_at(bytes: &[u8]) -> Result<&[u8], Stop>
     ensures skips { Skips (lex_from block bytes.now) result }
+    ensures ends { IfOk result (λ rest. Ends bytes.now rest.now) }
     ensures shorter { IfOk result (λ rest. length rest.now < length bytes.now) }
     ensures within { IfErr result (λ stop. stop.left ≤ length bytes.now) }
 {
@@ -277,6 +286,7 @@ fn block_at(bytes: &[u8]) -> Result<&[u8], Stop>
 fn line_at(bytes: &[u8]) -> (Option<Lexeme>, &[u8])
     ensures cuts { lex_from slashes bytes.now
         ≡ with_front (pieces_in result.0) (lex_of result.1.now) }
+    ensures starts { Starts (47 ∷ 47 ∷ bytes.now) result.0 result.1.now }
     ensures shorter { length result.1.now ≤ length bytes.now }
 {
     match after(bytes, b'/') {
@@ -294,6 +304,7 @@ fn line_at(bytes: &[u8]) -> (Option<Lexeme>, &[u8])
 /// Reads a comment or documentation, from after its first slash.
 fn comment_at(bytes: &[u8]) -> Result<(Option<Lexeme>, &[u8]), Stop>
     ensures cuts { CutsSome (47 ∷ bytes.now) result }
+    ensures starts { IfOk result (λ x. Starts (47 ∷ bytes.now) x.0 x.1.now) }
     ensures shorter { IfOk result (λ x. length x.1.now < length bytes.now) }
     ensures within { IfErr result (λ stop. stop.left ≤ length bytes.now) }
 {
@@ -313,6 +324,7 @@ fn comment_at(bytes: &[u8]) -> Result<(Option<Lexeme>, &[u8]), Stop>
 fn token_at(bytes: &[u8]) -> Result<(Option<Lexeme>, &[u8]), Stop>
     requires { 0 < length bytes.now }
     ensures cuts { CutsSome bytes.now result }
+    ensures starts { IfOk result (λ x. Starts bytes.now x.0 x.1.now) }
     ensures shorter { IfOk result (λ x. length x.1.now < length bytes.now) }
     ensures within { IfErr result (λ stop. stop.left ≤ length bytes.now) }
 {
@@ -384,7 +396,9 @@ pub(crate) fn lex(alloc: Global, text: &[u8]) -> Result<Vec<Token>, LexError>
 
 /// Returns where the token of this index begins, or where the text ends.
 pub(crate) fn place_of(text: &[u8], index: usize) -> usize
-    ensures { result ≤ length text.now }
+    ensures within { result ≤ length text.now }
+    ensures stands { (ps : List Piece) → lex_of text.now ≡ Ok ps → index ≤ length ps
+        → StandsAt text.now ps index result }
 {
     let mut left = index;
     let mut rest = text;

@@ -421,7 +421,8 @@ fn more_attributes(
     tokens: &[Token],
 ) -> Result<(Vec<Attribute>, &[Token]), ReadError>
     ensures { Gives (λ x. (map attribute_of x.0.items, pieces_of x.1.now)) result
-        (with_items (attribute_of first ∷ []) (list_at (begins_mark_lem 44) next_attribute_at_lem (pieces_of tokens.now))) }
+        (with_items (attribute_of first ∷ [])
+        (list_at (begins_mark_lem 44) next_attribute_at_lem (pieces_of tokens.now))) }
 {
     let mut items = Vec::new(alloc);
     items.push(first)?;
@@ -565,7 +566,8 @@ fn more_variants(
     tokens: &[Token],
 ) -> Result<(Vec<Variant>, &[Token]), ReadError>
     ensures { Gives (λ x. (map variant_of x.0.items, pieces_of x.1.now)) result
-        (with_items (variant_of first ∷ []) (list_at begins_next_lem next_variant_at_lem (pieces_of tokens.now))) }
+        (with_items (variant_of first ∷ [])
+        (list_at begins_next_lem next_variant_at_lem (pieces_of tokens.now))) }
 {
     let mut items = Vec::new(alloc);
     items.push(first)?;
@@ -649,7 +651,8 @@ fn more_members(
     tokens: &[Token],
 ) -> Result<(Vec<Member>, &[Token]), ReadError>
     ensures { Gives (λ x. (map member_of x.0.items, pieces_of x.1.now)) result
-        (with_items (member_of first ∷ []) (list_at begins_next_lem next_member_at_lem (pieces_of tokens.now))) }
+        (with_items (member_of first ∷ [])
+        (list_at begins_next_lem next_member_at_lem (pieces_of tokens.now))) }
 {
     let mut items = Vec::new(alloc);
     items.push(first)?;

@@ -43,7 +43,7 @@ fn read(alloc: Global, text: &[u8]) -> Result<(Vec<Token>, Vec<Declaration>), Sc
     ensures only { (schema : List DeclarationV) → AreWhole schema
         → lex_of text.now ≡ Ok (schema_pieces schema) → TextReadsTo schema result }
     // Which fault it is, and where.
-    ensures exact { IfErr result (λ error. IsFaultOf (length text.now) error (lex_of text.now)) }
+    ensures exact { IfErr result (λ error. IsFaultOf text.now error) }
     ensures within { IfErr result (λ error. LiesIn (length text.now) error) }
 {
     match lex(alloc, text) {
@@ -73,7 +73,7 @@ pub fn parse_text(alloc: Global, text: &[u8]) -> Result<Vec<Declaration>, Schema
     ensures canonical { (schema : List DeclarationV) → IsSchema schema
         → text.now ≡ text_of schema → TextParsesTo schema result }
     // Which fault it is, and where.
-    ensures exact { IfErr result (λ error. IsFaultOf (length text.now) error (lex_of text.now)) }
+    ensures exact { IfErr result (λ error. IsFaultOf text.now error) }
     ensures within { IfErr result (λ error. LiesIn (length text.now) error) }
 {
     match read(alloc, text) {
@@ -97,7 +97,7 @@ pub fn format_text(alloc: Global, text: &[u8]) -> Result<Vec<u8>, SchemaError>
     ensures canonical { (schema : List DeclarationV) → IsSchema schema
         → text.now ≡ text_of schema → TextFormatsTo schema result }
     // Which fault it is, and where.
-    ensures exact { IfErr result (λ error. IsFaultOf (length text.now) error (lex_of text.now)) }
+    ensures exact { IfErr result (λ error. IsFaultOf text.now error) }
     ensures within { IfErr result (λ error. LiesIn (length text.now) error) }
 {
     match read(alloc, text) {

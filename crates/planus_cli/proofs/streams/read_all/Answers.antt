@@ -1,4 +1,4 @@
-use Rattle.std.proofs.Common.{◌≡◌, rules, take}
+use Rattle.std.proofs.Common.{rules, take}
 use Rattle.planus_cli.proofs.Taken.{taken_full, taken_all}
 use Rattle.planus_cli.proofs.streams.read_all.Goals as goal
 

@@ -1,4 +1,5 @@
-use Rattle.std.proofs.Common.{◌≡◌, [], Err, length, sym, ap, subst, ◌∙◌}
+use Rattle.planus_syntax.proofs.Placed.{string_whole}
+use Rattle.std.proofs.Common.{[], Err, length, sym, ap, subst, ◌∙◌}
 use Rattle.planus_syntax.specs.declared.lexer.LexFault.{LexFault}
 use Rattle.planus_syntax.specs.Tokens.{is_string_byte}
 use Rattle.planus_syntax.specs.Lexing.{quoted, lex_from, Read}
@@ -20,3 +21,8 @@ returns-in-None-clause-cuts c =
     ∙ no_string c.args.bytes.now c.split_string.result.0.now c.split_string.result.1.now
     c.split_string.ensures c.in-None.ensures
     ∙ ap failed (sym c.string_fault.ensures)
+
+pub returns-in-Some-clause-starts : goal.returns-in-Some-clause-starts
+returns-in-Some-clause-starts c =
+    string_whole c.args.bytes.now c.split_string.result.0.now c.split_string.result.1.now
+    c.in-Some.rest.now c.split_string.ensures.whole c.in-Some.ensures

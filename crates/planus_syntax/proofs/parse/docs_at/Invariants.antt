@@ -1,4 +1,4 @@
-use Rattle.std.proofs.Common.{◌≡◌, [], ◌∷◌, map, length}
+use Rattle.std.proofs.Common.{◌≡◌, length}
 use Rattle.planus_syntax.specs.Tokens.{pieces_of}
 use Rattle.planus_syntax.specs.Values.{names_of}
 use Rattle.planus_syntax.specs.Reading.{begins_doc, doc_at, list_at, with_items}

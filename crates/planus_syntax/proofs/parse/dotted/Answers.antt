@@ -1,10 +1,10 @@
-use Rattle.std.proofs.Common.{◌≡◌, ◌++◌, ◌∷◌, [], map, sym, ap, ◌∙◌}
+use Rattle.std.proofs.Common.{◌≡◌, ◌++◌, ◌∷◌, [], sym, ◌∙◌}
 use Rattle.std.proofs.lemmas.Result.{err_from_is_err_and}
 use Rattle.std.proofs.lemmas.List.{map_push}
 use Rattle.planus_syntax.specs.Tokens.{pieces_of}
 use Rattle.planus_syntax.specs.Values.{names_of}
-use Rattle.planus_syntax.specs.Reading.{begins_mark, dotted_at, list_at, with_items}
-use Rattle.planus_syntax.proofs.Many.{goes_on, ends, is_done, no_items}
+use Rattle.planus_syntax.specs.Reading.{begins_mark, dotted_at, list_at}
+use Rattle.planus_syntax.proofs.Many.{goes_on, ends, is_done}
 use Rattle.planus_syntax.proofs.Loops.{dotted_looped}
 use Rattle.planus_syntax.proofs.parse.dotted.Goals as goal
 

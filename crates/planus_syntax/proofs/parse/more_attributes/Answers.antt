@@ -1,10 +1,10 @@
-use Rattle.std.proofs.Common.{◌≡◌, ◌++◌, ◌∷◌, [], map, sym, ap, ◌∙◌}
+use Rattle.std.proofs.Common.{◌≡◌, ◌++◌, ◌∷◌, [], map, sym, ◌∙◌}
 use Rattle.std.proofs.lemmas.Result.{err_from_is_err_and}
 use Rattle.std.proofs.lemmas.List.{map_push}
 use Rattle.planus_syntax.specs.Tokens.{pieces_of}
 use Rattle.planus_syntax.specs.Values.{attribute_of}
 use Rattle.planus_syntax.specs.Reading.{begins_mark, next_attribute_at, list_at, with_items}
-use Rattle.planus_syntax.proofs.Many.{goes_on, ends, is_done, no_items}
+use Rattle.planus_syntax.proofs.Many.{goes_on, ends, is_done}
 use Rattle.planus_syntax.proofs.Loops.{attributes_looped}
 use Rattle.planus_syntax.proofs.parse.more_attributes.Goals as goal
 

@@ -1,4 +1,4 @@
-use Rattle.std.proofs.Common.{◌≡◌, length}
+use Rattle.std.proofs.Common.{length}
 use Rattle.planus_syntax.specs.Tokens.{pieces_of}
 use Rattle.planus_syntax.specs.Reading.{schema_at}
 use Rattle.planus_syntax.proofs.Composed.{is_found, is_only, is_no_other}

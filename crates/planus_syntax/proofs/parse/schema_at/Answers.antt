@@ -3,8 +3,8 @@ use Rattle.std.proofs.lemmas.Result.{err_from_is_err_and}
 use Rattle.std.proofs.lemmas.List.{map_push}
 use Rattle.planus_syntax.specs.Tokens.{pieces_of}
 use Rattle.planus_syntax.specs.Values.{declaration_of}
-use Rattle.planus_syntax.specs.Reading.{is_some, declaration_at, list_at, with_items}
-use Rattle.planus_syntax.proofs.Many.{goes_on, ends, is_done, no_items}
+use Rattle.planus_syntax.specs.Reading.{is_some, declaration_at, list_at}
+use Rattle.planus_syntax.proofs.Many.{goes_on, ends, is_done}
 use Rattle.planus_syntax.proofs.Loops.{declarations_looped, nothing_left}
 use Rattle.planus_syntax.proofs.parse.schema_at.Goals as goal
 

@@ -1,4 +1,4 @@
-use Rattle.std.proofs.Common.{◌≡◌, [], ◌∷◌, map, length}
+use Rattle.std.proofs.Common.{◌≡◌, map, length}
 use Rattle.planus_syntax.specs.Tokens.{pieces_of}
 use Rattle.planus_syntax.specs.Values.{declaration_of}
 use Rattle.planus_syntax.specs.Reading.{is_some, declaration_at, list_at, with_items}

@@ -1,6 +1,6 @@
-use Rattle.std.proofs.Common.{◌≡◌, sym, ap, ◌∙◌}
+use Rattle.std.proofs.Common.{ap, ◌∙◌}
 use Rattle.planus_syntax.specs.Tokens.{pieces_of}
-use Rattle.planus_syntax.proofs.Composed.{whole_pieces, never_lexed}
+use Rattle.planus_syntax.proofs.Composed.{whole_pieces}
 use Rattle.planus_syntax.proofs.text.read.Goals as goal
 
 pub returns-in-Ok-parse-clause-only : goal.returns-in-Ok-parse-clause-only
