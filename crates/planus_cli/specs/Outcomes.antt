@@ -1,10 +1,12 @@
 -- What becomes of the text of a schema.
-use Rattle.std.specs.Prelude.{◌≡◌, ◌==◌, ◌||◌, ℕ, Bool, true, false, not, List, codes}
+use Rattle.std.specs.Prelude.{◌≡◌, ℕ, Bool, true, false, not, List, [], ◌∷◌, codes, count_by}
 use Rattle.std.specs.Prelude.{Option, ◌⊎◌}
 use Rattle.std.specs.Str.{IsUtf8, IsValidUpTo}
 use Rattle.std.specs.Io.KnownBytes.{Appends, Keeps}
 use Rattle.planus_syntax.specs.declared.text.SchemaError.{SchemaError}
 use Rattle.planus_syntax.specs.declared.text.SchemaError.TheVariants as errors
+use Rattle.planus_syntax.specs.Tokens.{is_blank}
+use Rattle.planus_syntax.specs.Spelled.{Part, token, blank, comment, block}
 use Rattle.planus_syntax.specs.Values.{DeclarationV, text_of}
 use Rattle.planus_syntax.specs.Parsed.{IsFaultOf, Spells}
 use Rattle.planus_cli.specs.declared.outcome.Outcome.{Outcome}
@@ -54,7 +56,19 @@ Checks name text false before after =
 
 -- bytes that are no blank
 abbrev pub is_ink : ℕ → Bool
-is_ink b = not (b == 32 || (b == 10 || (b == 9 || b == 13)))
+is_ink b = not (is_blank b)
+
+-- how many bytes are no blank
+abbrev pub ink_of : List ℕ → ℕ
+ink_of bytes = count_by is_ink bytes
+
+-- a comment is among these parts, one that is no documentation
+abbrev pub has_comment : List Part → Bool
+has_comment [] = false
+has_comment (token p ∷ ps) = has_comment ps
+has_comment (blank b ∷ ps) = has_comment ps
+has_comment (comment w ∷ ps) = true
+has_comment (block w ∷ ps) = true
 
 -- no text is longer, in bytes
 abbrev pub greatest_text : ℕ

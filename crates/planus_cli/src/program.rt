@@ -3,7 +3,7 @@
 use crate::arguments::{CallFault, Command, Request, is_option, near, request_of};
 use crate::outcome::Outcome;
 use crate::streams::{GREATEST_TEXT, RunError, read_all, write_out};
-use crate::texts::{check, ink, outcome_of};
+use crate::texts::{check, has_comments, outcome_of};
 use std::alloc::AllocError;
 use std::env::Env;
 use std::io::{Read, Write};
@@ -130,7 +130,7 @@ fn format_one<R: Files + AllocGlobal, W: Write, X: Write>(
             Ok(FAULTY)
         }
         Outcome::Formatted(out) => {
-            let loses = ink(&out) < ink(text);
+            let loses = has_comments(text, &out);
             if how.write {
                 return write_back(rt, name, &out, loses && !how.drop_comments, errors);
             }

@@ -6,7 +6,9 @@ ghost use Rattle.std.specs.Io.KnownBytes.{Appends, Keeps};
 ghost use Rattle.planus_syntax.specs.Values.{AreWhole, DeclarationV};
 ghost use Rattle.planus_syntax.specs.Parsed.{LiesIn, Spells};
 ghost use Rattle.planus_cli.specs.Outcomes.{IsOutcome, IsTextOf, Checks, Reports, ReportsError};
-ghost use Rattle.planus_cli.specs.Outcomes.{ReportsBytes, is_ink as is_ink_lem};
+ghost use Rattle.planus_cli.specs.Outcomes.{has_comment, ink_of, is_ink as is_ink_lem};
+ghost use Rattle.planus_syntax.specs.Layout.{printed};
+ghost use Rattle.planus_syntax.specs.Spelled.{Part, AreParts, spelled, tokens_in};
 
 use crate::message::{lex_message, parse_message};
 use crate::outcome::Outcome;
@@ -84,8 +86,17 @@ fn is_ink(b: u8) -> bool
 }
 
 /// Returns how many bytes are no blank.
-pub fn ink(bytes: &[u8]) -> usize
-    ensures { result ≡ count_by is_ink_lem bytes.now }
+fn ink(bytes: &[u8]) -> usize
+    ensures { result ≡ ink_of bytes.now }
 {
     bytes.iter().filter(|b| is_ink(**b)).count()
+}
+
+/// Returns whether a text has comments that are no documentation. `out` is its canonical text, which
+/// lacks them.
+pub fn has_comments(text: &[u8], out: &[u8]) -> bool
+    ensures { (parts : List Part) → AreParts parts → text.now ≡ spelled parts
+        → out.now ≡ printed (tokens_in parts) → result ≡ has_comment parts }
+{
+    ink(out) < ink(text)
 }
