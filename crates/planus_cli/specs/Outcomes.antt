@@ -6,11 +6,15 @@ use Rattle.std.specs.Io.KnownBytes.{Appends, Keeps}
 use Rattle.planus_syntax.specs.declared.text.SchemaError.{SchemaError}
 use Rattle.planus_syntax.specs.declared.text.SchemaError.TheVariants as errors
 use Rattle.planus_syntax.specs.Tokens.{is_blank}
-use Rattle.planus_syntax.specs.Spelled.{Part, token, blank, comment, block}
+use Rattle.planus_syntax.specs.Layout.{printed}
+use Rattle.planus_syntax.specs.Spelled.{Part, token, blank, comment, block, AreParts}
+use Rattle.planus_syntax.specs.Spelled.{spelled, tokens_in}
 use Rattle.planus_syntax.specs.Values.{DeclarationV, text_of}
 use Rattle.planus_syntax.specs.Parsed.{IsFaultOf, Spells}
 use Rattle.planus_cli.specs.declared.outcome.Outcome.{Outcome}
 use Rattle.planus_cli.specs.declared.outcome.Outcome.TheVariants.{Formatted, Faulty}
+use Rattle.planus_cli.specs.declared.outcome.Printed.{Printed}
+use Rattle.planus_cli.specs.declared.outcome.Printed.TheVariants.{Text, Report}
 use Rattle.planus_cli.specs.Reports.{report_text, lex_message, parse_message}
 
 -- This is the report of this fault.
@@ -73,3 +77,18 @@ has_comment (block w ∷ ps) = true
 -- no text is longer, in bytes
 abbrev pub greatest_text : ℕ
 greatest_text = 16777216
+
+-- This says of a text, however it is spelled, whether it has a comment.
+abbrev pub SaysComments : List ℕ → List ℕ → Bool → Type 0
+SaysComments text out comments = (parts : List Part) → AreParts parts → text ≡ spelled parts
+    → out ≡ printed (tokens_in parts) → comments ≡ has_comment parts
+
+-- The canonical text was written, and nothing was said; or nothing was written, and the first fault
+-- was reported.
+abbrev pub Prints : List ℕ → List ℕ → Printed → Option (List ℕ) → Option (List ℕ)
+    → Option (List ℕ) → Option (List ℕ) → Type 0
+Prints name text (Text comments) before after unsaid said =
+    ((out : List ℕ) × Formats text out × SaysComments text out comments
+    × Appends before after out) × Keeps unsaid said
+Prints name text Report before after unsaid said = Keeps before after
+    × ((report : List ℕ) × Reports name text report × Appends unsaid said report)

@@ -8,3 +8,12 @@ pub enum Outcome {
     /// The report of its first fault.
     Faulty(Vec<u8>),
 }
+
+/// What was written of a text.
+#[derive(Clone, Copy, Debug, PartialEq, Eq)]
+pub enum Printed {
+    /// Its canonical text, and whether the text has comments that this lacks.
+    Text { comments: bool },
+    /// The report of its first fault.
+    Report,
+}

@@ -1,9 +1,9 @@
 //! The program: its words, the files that they name, and what is written of them.
 
 use crate::arguments::{CallFault, Command, Request, is_option, near, request_of};
-use crate::outcome::Outcome;
+use crate::outcome::{Outcome, Printed};
 use crate::streams::{GREATEST_TEXT, RunError, read_all, write_out};
-use crate::texts::{check, has_comments, outcome_of};
+use crate::texts::{check, format, has_comments, outcome_of};
 use std::alloc::AllocError;
 use std::env::Env;
 use std::io::{Read, Write};
@@ -116,12 +116,11 @@ struct Formatting {
     drop_comments: bool,
 }
 
-fn format_one<R: Files + AllocGlobal, W: Write, X: Write>(
+fn rewrite_one<R: Files + AllocGlobal, X: Write>(
     rt: &R,
     how: Formatting,
     name: &str,
     text: &[u8],
-    writer: &mut W,
     errors: &mut X,
 ) -> Result<u8, RunError> {
     match outcome_of(rt.alloc(), name, text)? {
@@ -130,12 +129,27 @@ fn format_one<R: Files + AllocGlobal, W: Write, X: Write>(
             Ok(FAULTY)
         }
         Outcome::Formatted(out) => {
-            let loses = has_comments(text, &out);
-            if how.write {
-                return write_back(rt, name, &out, loses && !how.drop_comments, errors);
-            }
-            write_out(writer, &out)?;
-            if loses && !how.drop_comments {
+            let refused = has_comments(text, &out) && !how.drop_comments;
+            write_back(rt, name, &out, refused, errors)
+        }
+    }
+}
+
+fn format_one<R: Files + AllocGlobal, W: Write, X: Write>(
+    rt: &R,
+    how: Formatting,
+    name: &str,
+    text: &[u8],
+    writer: &mut W,
+    errors: &mut X,
+) -> Result<u8, RunError> {
+    if how.write {
+        return rewrite_one(rt, how, name, text, errors);
+    }
+    match format(rt.alloc(), name, text, writer, errors)? {
+        Printed::Report => Ok(FAULTY),
+        Printed::Text { comments } => {
+            if comments && !how.drop_comments {
                 say(errors, &["planus: ", name, ": its comments are left out"])?;
             }
             Ok(CLEAN)

@@ -6,12 +6,13 @@ ghost use Rattle.std.specs.Io.KnownBytes.{Appends, Keeps};
 ghost use Rattle.planus_syntax.specs.Values.{AreWhole, DeclarationV};
 ghost use Rattle.planus_syntax.specs.Parsed.{LiesIn, Spells};
 ghost use Rattle.planus_cli.specs.Outcomes.{IsOutcome, IsTextOf, Checks, Reports, ReportsError};
+ghost use Rattle.planus_cli.specs.Outcomes.{Prints};
 ghost use Rattle.planus_cli.specs.Outcomes.{has_comment, ink_of, is_ink as is_ink_lem};
 ghost use Rattle.planus_syntax.specs.Layout.{printed};
 ghost use Rattle.planus_syntax.specs.Spelled.{Part, AreParts, spelled, tokens_in};
 
 use crate::message::{lex_message, parse_message};
-use crate::outcome::Outcome;
+use crate::outcome::{Outcome, Printed};
 use crate::report::report;
 use crate::streams::{RunError, write_out};
 use planus_syntax::{SchemaError, format_text};
@@ -92,11 +93,39 @@ fn ink(bytes: &[u8]) -> usize
     bytes.iter().filter(|b| is_ink(**b)).count()
 }
 
-/// Returns whether a text has comments that are no documentation. `out` is its canonical text, which
-/// lacks them.
+/// Returns whether a text has comments that are no documentation. `out` is its canonical text,
+/// which lacks them.
 pub fn has_comments(text: &[u8], out: &[u8]) -> bool
     ensures { (parts : List Part) → AreParts parts → text.now ≡ spelled parts
         → out.now ≡ printed (tokens_in parts) → result ≡ has_comment parts }
 {
     ink(out) < ink(text)
+}
+
+/// Writes the canonical text of a schema, or reports the first fault of its text. Returns what was
+/// written.
+///
+/// [`RunError::Write`] where writing failed.
+pub fn format<W: Write, X: Write>(
+    alloc: Global,
+    name: &str,
+    text: &[u8],
+    writer: &mut W,
+    errors: &mut X,
+) -> Result<Printed, RunError>
+    ensures { IfOk result (λ printed. Prints name.now text.now printed
+        (W.contents writer.old) (W.contents writer.new)
+        (X.contents errors.old) (X.contents errors.new)) }
+{
+    match outcome_of(alloc, name, text)? {
+        Outcome::Formatted(out) => {
+            let comments = has_comments(text, &out);
+            write_out(writer, &out)?;
+            Ok(Printed::Text { comments })
+        }
+        Outcome::Faulty(report) => {
+            write_out(errors, &report)?;
+            Ok(Printed::Report)
+        }
+    }
 }
