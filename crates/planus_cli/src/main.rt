@@ -7,6 +7,8 @@ mod outcome;
 mod program;
 mod report;
 mod streams;
+#[cfg(test)]
+mod tests;
 mod texts;
 
 use std::io;
