@@ -1,0 +1,19 @@
+//! What becomes of a text.
+
+/// What becomes of the text of a schema.
+#[derive(Debug, Drop)]
+pub enum Outcome {
+    /// Its canonical text.
+    Formatted(Vec<u8>),
+    /// The report of its first fault.
+    Faulty(Vec<u8>),
+}
+
+/// What was written of a text.
+#[derive(Clone, Copy, Debug, PartialEq, Eq)]
+pub enum Printed {
+    /// Its canonical text, and whether the text has comments that this lacks.
+    Text { comments: bool },
+    /// The report of its first fault.
+    Report,
+}

@@ -1,0 +1,10 @@
+pub mod Runs
+pub mod Scanning
+pub mod Marks
+pub mod Spelling
+pub mod Laid
+pub mod Many
+pub mod Loops
+pub mod Again
+pub mod Composed
+pub mod Placed

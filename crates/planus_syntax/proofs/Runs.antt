@@ -1,0 +1,55 @@
+-- A text is cut where a run ends.
+use Rattle.std.proofs.Common.{◌≡◌, ℕ, suc, ◌<◌, ◌≤◌, ◌+◌, List, [], ◌∷◌, length, take, drop, Bool, true, false, cond, refl, sym, subst, arith, Option, Some, None}
+use Rattle.std.specs.Prelude.{MatchOption, nat_lt, not}
+use Rattle.std.specs.List.{list_all, position, position_or_len}
+use Rattle.std.proofs.lemmas.List.{append-nil, take-append-drop}
+use Rattle.std.proofs.lemmas.Bool.Decides.{nat_tests}
+use Rattle.planus_syntax.specs.Tokens.{begins}
+use Rattle.planus_syntax.specs.Cutting.{Splits}
+
+-- where the first that fails stands
+abbrev pub end : (ℕ → Bool) → List ℕ → ℕ
+end p xs = position_or_len (λ b. not (p b)) xs
+
+before_at : (p : ℕ → Bool) (x : ℕ) (xs : List ℕ) (b : Bool) → p x ≡ b → list_all p (take (end p xs) xs) ≡ true → list_all p (take (cond (not (not b)) (1 + end p xs) 0) (x ∷ xs)) ≡ true
+before_at p x xs true e h = let k : 1 + end p xs ≡ suc (end p xs) = omega arith in rw k (rw e h)
+before_at p x xs false e h = refl
+
+before : (p : ℕ → Bool) (xs : List ℕ) → list_all p (take (end p xs) xs) ≡ true
+before p [] = refl
+before p (x ∷ xs) = before_at p x xs (p x) refl (before p xs)
+
+after_at : (p : ℕ → Bool) (x : ℕ) (xs : List ℕ) (b : Bool) → p x ≡ b → begins p (drop (end p xs) xs) ≡ false → begins p (drop (cond (not (not b)) (1 + end p xs) 0) (x ∷ xs)) ≡ false
+after_at p x xs true e h = let k : 1 + end p xs ≡ suc (end p xs) = omega arith in rw k h
+after_at p x xs false e h = e
+
+after : (p : ℕ → Bool) (xs : List ℕ) → begins p (drop (end p xs) xs) ≡ false
+after p [] = refl
+after p (x ∷ xs) = after_at p x xs (p x) refl (after p xs)
+
+all_at : (p : ℕ → Bool) (x : ℕ) (xs : List ℕ) (b : Bool) → p x ≡ b → (length xs ≤ end p xs → list_all p xs ≡ true) → suc (length xs) ≤ cond (not (not b)) (1 + end p xs) 0 → list_all p (x ∷ xs) ≡ true
+all_at p x xs true e h le = rw e (h (omega arith))
+all_at p x xs false e h le = absurd (omega arith)
+
+all_when : (p : ℕ → Bool) (xs : List ℕ) → length xs ≤ end p xs → list_all p xs ≡ true
+all_when p [] le = refl
+all_when p (x ∷ xs) le = all_at p x xs (p x) refl (all_when p xs) le
+
+abbrev SplitsAt : (ℕ → Bool) → List ℕ → Option ℕ → Type 0
+SplitsAt p xs r = MatchOption r (Splits p xs xs []) (λ i. (i < length xs) × Splits p xs (take i xs) (drop i xs))
+
+by_test : (p : ℕ → Bool) (xs : List ℕ) (b : Bool) → nat_lt (end p xs) (length xs) ≡ b → SplitsAt p xs (cond b (Some (end p xs)) None)
+by_test p xs true h = (grind (arith, nat_tests, h), record { whole = sym (take-append-drop (end p xs) xs); each = before p xs; stops = after p xs })
+by_test p xs false h = record { whole = sym (append-nil xs); each = all_when p xs (grind (arith, nat_tests, h)); stops = refl }
+
+pub splits_at : (p : ℕ → Bool) (xs : List ℕ) (r : Option ℕ) → r ≡ position (λ b. not (p b)) xs → SplitsAt p xs r
+splits_at p xs r h = subst (λ o. SplitsAt p xs o) (sym h) (by_test p xs (nat_lt (end p xs) (length xs)) refl)
+
+pub splits_none : (p : ℕ → Bool) (xs : List ℕ) → None ≡ position (λ b. not (p b)) xs → Splits p xs xs []
+splits_none p xs h = splits_at p xs None h
+
+pub splits_some : (p : ℕ → Bool) (xs : List ℕ) (i : ℕ) → Some i ≡ position (λ b. not (p b)) xs → (i < length xs) × Splits p xs (take i xs) (drop i xs)
+splits_some p xs i h = splits_at p xs (Some i) h
+
+pub splits : (p : ℕ → Bool) (xs : List ℕ) → Splits p xs (take (end p xs) xs) (drop (end p xs) xs)
+splits p xs = record { whole = sym (take-append-drop (end p xs) xs); each = before p xs; stops = after p xs }

@@ -1,0 +1,57 @@
+-- One token off the front of a text.
+use Rattle.std.specs.Prelude.{◌≡◌, ℕ, Bool, true, false, List, [], ◌∷◌, ◌++◌, Option, Some, None}
+use Rattle.std.specs.Prelude.{Result, Ok, Err}
+use Rattle.std.specs.List.{list_all}
+use Rattle.std.specs.Borrow.{Bor}
+use Rattle.planus_syntax.specs.declared.lexer.LexFault.{LexFault}
+use Rattle.planus_syntax.specs.declared.lexer.LexFault.TheVariants.{OpenString}
+use Rattle.planus_syntax.specs.declared.lexer.Stop.{Stop}
+use Rattle.planus_syntax.specs.declared.token.Lexeme.{Lexeme}
+use Rattle.planus_syntax.specs.declared.token.Lexeme.TheVariants as token
+use Rattle.planus_syntax.specs.Tokens.{Piece, word, number, text, doc, mark, begins, bytes_of}
+use Rattle.planus_syntax.specs.Lexing.{Read, with_front, lex_of, string_fault}
+
+abbrev pub cut_piece : Lexeme → Piece
+cut_piece (token.Word w) = word w.now
+cut_piece (token.Number w) = number w.now
+cut_piece (token.Text w) = text w.now
+cut_piece (token.Doc w) = doc w.now
+cut_piece (token.Mark b) = mark b
+
+-- a front all of whose bytes pass, and a rest that does not go on so
+pub record Splits (p : ℕ → Bool) (bytes front rest : List ℕ) : Type 0 where
+  pub whole : bytes ≡ front ++ rest
+  pub each : list_all p front ≡ true
+  pub stops : begins p rest ≡ false
+
+-- the rest ends the bytes
+abbrev pub Ends : List ℕ → List ℕ → Type 0
+Ends bytes rest = (front : List ℕ) × (bytes ≡ front ++ rest)
+
+-- The rest follows this token at the front, or ends the bytes where there is none.
+abbrev pub Starts : List ℕ → Option Lexeme → List ℕ → Type 0
+Starts bytes None rest = Ends bytes rest
+Starts bytes (Some t) rest = bytes ≡ bytes_of (cut_piece t) ++ rest
+
+abbrev pub pieces_in : Option Lexeme → List Piece
+pieces_in None = []
+pieces_in (Some t) = cut_piece t ∷ []
+
+-- what is read is this token and what is read of the rest
+abbrev pub Cuts : List ℕ → Result (Lexeme × Bor (List ℕ)) Stop → Type 0
+Cuts bytes (Ok x) = lex_of bytes ≡ with_front (cut_piece x.0 ∷ []) (lex_of x.1.now)
+Cuts bytes (Err stop) = lex_of bytes ≡ Err (stop.fault, stop.left)
+
+abbrev pub CutsSome : List ℕ → Result (Option Lexeme × Bor (List ℕ)) Stop → Type 0
+CutsSome bytes (Ok x) = lex_of bytes ≡ with_front (pieces_in x.0) (lex_of x.1.now)
+CutsSome bytes (Err stop) = lex_of bytes ≡ Err (stop.fault, stop.left)
+
+-- why a string ends before these bytes
+abbrev pub string_stop : List ℕ → LexFault
+string_stop [] = OpenString
+string_stop (b ∷ bs) = string_fault b
+
+-- a comment or documentation, of which `read` is what is read
+abbrev pub Skips : Read → Result (Bor (List ℕ)) Stop → Type 0
+Skips read (Ok rest) = read ≡ lex_of rest.now
+Skips read (Err stop) = read ≡ Err (stop.fault, stop.left)

@@ -1,0 +1,122 @@
+-- The tokens of a text: a machine that takes one byte after the other.
+use Rattle.std.specs.Prelude.{◌≡◌, ℕ, ◌==◌, ◌+◌, List, [], ◌∷◌, ◌++◌, length, if◌then◌else◌, Result}
+use Rattle.std.specs.Prelude.{Ok, Err}
+use Rattle.std.specs.Global.{Vec}
+use Rattle.planus_syntax.specs.declared.lexer.LexFault.{LexFault}
+use Rattle.planus_syntax.specs.declared.lexer.LexFault.TheVariants.{BadNumber, OpenString, Escape}
+use Rattle.planus_syntax.specs.declared.lexer.LexFault.TheVariants.{OpenComment, Strange}
+use Rattle.planus_syntax.specs.declared.lexer.LexError.{LexError}
+use Rattle.planus_syntax.specs.declared.lexer.LexError.TheVariants as errors
+use Rattle.planus_syntax.specs.declared.token.Token.{Token}
+use Rattle.planus_syntax.specs.Tokens.{Piece, word, number, text, doc, mark, pieces_of}
+use Rattle.planus_syntax.specs.Tokens.{is_word_byte, is_number_start, is_number_byte, is_number}
+use Rattle.planus_syntax.specs.Tokens.{is_blank, is_mark, is_string_byte}
+
+-- where the machine stands: between tokens; in a word, a number, a string or documentation, with
+-- the bytes so far; after one or two slashes; in a comment to the end of the line; in a comment
+-- to `*/`, and there after a `*`
+pub data State : Type 0 where
+  between : State
+  run : List ℕ → State
+  figures : List ℕ → State
+  quoted : List ℕ → State
+  slash : State
+  slashes : State
+  comment : State
+  documented : List ℕ → State
+  block : State
+  starred : State
+
+-- what a byte leads to: tokens that are whole now, and the next state
+abbrev pub Step : Type 0
+Step = Result (List Piece × State) LexFault
+
+abbrev pub number_piece : List ℕ → Result Piece LexFault
+number_piece w = if is_number w then Ok (number w) else Err BadNumber
+
+-- a byte that begins something
+abbrev pub opened : ℕ → Step
+opened b =
+    if is_number_start b then Ok ([], figures (b ∷ []))
+    else if is_word_byte b then Ok ([], run (b ∷ []))
+    else if is_blank b then Ok ([], between)
+    else if is_mark b then Ok (mark b ∷ [], between)
+    else if b == 34 then Ok ([], quoted [])
+    else if b == 47 then Ok ([], slash)
+    else Err Strange
+
+abbrev pub in_front : Piece → Step → Step
+in_front p (Ok x) = Ok (p ∷ x.0, x.1)
+in_front p (Err f) = Err f
+
+abbrev pub closed : Result Piece LexFault → Step → Step
+closed (Ok p) next = in_front p next
+closed (Err f) next = Err f
+
+-- why a string does not go on
+abbrev pub string_fault : ℕ → LexFault
+string_fault b = if b == 92 then Escape else OpenString
+
+abbrev pub step : State → ℕ → Step
+step between b = opened b
+step (run w) b =
+    if is_word_byte b then Ok ([], run (w ++ b ∷ [])) else closed (Ok (word w)) (opened b)
+step (figures w) b =
+    if is_number_byte b then Ok ([], figures (w ++ b ∷ [])) else closed (number_piece w) (opened b)
+step (quoted w) b =
+    if b == 34 then Ok (text w ∷ [], between)
+    else if is_string_byte b then Ok ([], quoted (w ++ b ∷ []))
+    else Err (string_fault b)
+step slash b =
+    if b == 47 then Ok ([], slashes) else if b == 42 then Ok ([], block) else Err Strange
+step slashes b =
+    if b == 47 then Ok ([], documented [])
+    else if b == 10 then Ok ([], between)
+    else Ok ([], comment)
+step comment b = if b == 10 then Ok ([], between) else Ok ([], comment)
+step (documented w) b =
+    if b == 10 then Ok (doc w ∷ [], between) else Ok ([], documented (w ++ b ∷ []))
+step block b = if b == 42 then Ok ([], starred) else Ok ([], block)
+step starred b =
+    if b == 47 then Ok ([], between)
+    else if b == 42 then Ok ([], starred)
+    else Ok ([], block)
+
+-- at the end of the text
+abbrev pub finished : State → Step
+finished between = Ok ([], between)
+finished (run w) = Ok (word w ∷ [], between)
+finished (figures w) = closed (number_piece w) (Ok ([], between))
+finished (quoted w) = Err OpenString
+finished slash = Err Strange
+finished slashes = Ok ([], between)
+finished comment = Ok ([], between)
+finished (documented w) = Ok (doc w ∷ [], between)
+finished block = Err OpenComment
+finished starred = Err OpenComment
+
+-- the tokens, or a fault and how many bytes are left where it is met
+abbrev pub Read : Type 0
+Read = Result (List Piece) (LexFault × ℕ)
+
+abbrev pub with_front : List Piece → Read → Read
+with_front front (Ok ps) = Ok (front ++ ps)
+with_front front (Err e) = Err e
+
+abbrev pub going : ℕ → Step → (State → Read) → Read
+going left (Ok x) more = with_front x.0 (more x.1)
+going left (Err f) more = Err (f, left)
+
+abbrev pub lex_from : State → List ℕ → Read
+lex_from s [] = going 0 (finished s) (λ _. Ok [])
+lex_from s (b ∷ bs) = going (length (b ∷ bs)) (step s b) (λ next. lex_from next bs)
+
+abbrev pub lex_of : List ℕ → Read
+lex_of bytes = lex_from between bytes
+
+-- what the code answers, of a text of this length
+abbrev pub Answers : ℕ → Result (Vec Token) LexError → Read → Type 0
+Answers len (Ok tokens) read = read ≡ Ok (pieces_of tokens.items)
+Answers len (Err errors.OutOfMemory) read = Unit {0}
+Answers len (Err (errors.Fault fault at)) read =
+    (left : ℕ) × (read ≡ Err (fault, left)) × (at + left ≡ len)

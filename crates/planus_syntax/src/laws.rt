@@ -1,0 +1,43 @@
+//! Laws. The functions do nothing: each states a law by its contract.
+
+ghost use Rattle.std.specs.Prelude.{◌≡◌, ℕ, List, [], true, Ok};
+ghost use Rattle.std.specs.List.{AllByRecursion};
+ghost use Rattle.planus_syntax.specs.Tokens.{Piece, is_lawful};
+ghost use Rattle.planus_syntax.specs.Layout.{printed};
+ghost use Rattle.planus_syntax.specs.Lexing.{lex_of};
+ghost use Rattle.planus_syntax.specs.Values.{DeclarationV, IsSchema, AreWhole};
+ghost use Rattle.planus_syntax.specs.Values.{schema_pieces, text_of};
+ghost use Rattle.planus_syntax.specs.Reading.{schema_at};
+ghost use Rattle.planus_syntax.specs.Spelled.{Part, AreParts, spelled, tokens_in};
+
+/// The canonical layout of tokens is a spelling of them.
+pub fn layout_spells()
+    ensures { (pieces : List Piece) → AllByRecursion (λ p. is_lawful p ≡ true) pieces
+        → (parts : List Part) × AreParts parts × (printed pieces ≡ spelled parts)
+        × (pieces ≡ tokens_in parts) }
+{}
+
+/// The declarations of the tokens that are written are those that were written.
+pub fn declarations_again()
+    ensures { (schema : List DeclarationV) → AreWhole schema
+        → schema_at (schema_pieces schema) ≡ Ok (schema, []) }
+{}
+
+/// No text is the canonical text of two schemas.
+pub fn one_schema()
+    ensures { (a b : List DeclarationV) → IsSchema a → IsSchema b → text_of a ≡ text_of b
+        → a ≡ b }
+{}
+
+/// However tokens are spelled, with blanks and comments between them, they are read.
+pub fn spelling_read()
+    ensures { (parts : List Part) → AreParts parts
+        → lex_of (spelled parts) ≡ Ok (tokens_in parts) }
+{}
+
+/// What is read was spelled so.
+pub fn spelling_found()
+    ensures { (bytes : List ℕ) (pieces : List Piece) → lex_of bytes ≡ Ok pieces
+        → (parts : List Part) × AreParts parts × (bytes ≡ spelled parts)
+        × (pieces ≡ tokens_in parts) }
+{}

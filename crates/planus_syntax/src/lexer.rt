@@ -1,0 +1,419 @@
+//! Bytes to tokens.
+
+ghost use Rattle.std.specs.Prelude.{◌≡◌, ◌++◌, ◌<◌, ◌≤◌, ◌+◌, ℕ, drop, length, IfOk, IfErr};
+ghost use Rattle.std.specs.Prelude.{MatchOption};
+ghost use Rattle.std.specs.Prelude.{Ok, false, Bool, true, List, [], ◌∷◌, ◌==◌, not};
+ghost use Rattle.std.specs.List.{list_all, position};
+ghost use Rattle.planus_syntax.specs.Tokens.{begins, piece_of, pieces_of};
+ghost use Rattle.planus_syntax.specs.Tokens.{is_word_byte as is_word_byte_lem};
+ghost use Rattle.planus_syntax.specs.Tokens.{is_mark as is_mark_lem};
+ghost use Rattle.planus_syntax.specs.Tokens.{is_number_start as is_number_start_lem};
+ghost use Rattle.planus_syntax.specs.Tokens.{is_number_byte as is_number_byte_lem};
+ghost use Rattle.planus_syntax.specs.Tokens.{is_blank as is_blank_lem};
+ghost use Rattle.planus_syntax.specs.Tokens.{is_string_byte as is_string_byte_lem};
+ghost use Rattle.planus_syntax.specs.Tokens.{is_line_byte as is_line_byte_lem};
+ghost use Rattle.planus_syntax.specs.Lexing.{Answers, block, lex_from, lex_of, slashes, with_front};
+ghost use Rattle.planus_syntax.specs.Cutting.{cut_piece, pieces_in, Cuts, CutsSome, Skips, Splits};
+ghost use Rattle.planus_syntax.specs.Cutting.{Ends, Starts};
+ghost use Rattle.planus_syntax.specs.Placing.{StandsAt};
+ghost use Rattle.planus_syntax.specs.Tokens.{Piece, bytes_of};
+ghost use Rattle.planus_syntax.specs.Cutting.{string_stop};
+ghost use Rattle.planus_syntax.specs.Spelled.{closes};
+
+use crate::number::is_number;
+use crate::token::{Lexeme, Token};
+use std::alloc::{AllocError, AllocFailed, Global};
+
+/// What is wrong with a text.
+#[derive(Clone, Copy, Debug, PartialEq, Eq)]
+pub enum LexFault {
+    /// What begins with a digit or a sign is no number. It ends here.
+    BadNumber,
+    /// A string has no end on its line.
+    OpenString,
+    /// A backslash stands in a string.
+    Escape,
+    /// A comment has no `*/`.
+    OpenComment,
+    /// A byte begins no token.
+    Strange,
+}
+
+/// Why a text has no tokens.
+#[derive(Clone, Copy, Debug, PartialEq, Eq)]
+pub(crate) enum LexError {
+    /// Memory was refused.
+    OutOfMemory,
+    /// The first fault, and how many bytes of the text stand before the place where it is met.
+    Fault { fault: LexFault, at: usize },
+}
+
+impl From<AllocError> for LexError {
+    ghost use Rattle.std.specs.Prelude.{◌≡◌};
+    ghost use Rattle.planus_syntax.specs.declared.lexer.LexError.TheVariants.{OutOfMemory};
+
+    ghost from_gives = { λ _ e. e ≡ OutOfMemory };
+
+    fn from(_error: AllocError) -> LexError {
+        LexError::OutOfMemory
+    }
+}
+
+impl<T: Drop> From<AllocFailed<T>> for LexError {
+    ghost use Rattle.std.specs.Prelude.{◌≡◌};
+    ghost use Rattle.planus_syntax.specs.declared.lexer.LexError.TheVariants.{OutOfMemory};
+
+    ghost from_gives = { λ _ e. e ≡ OutOfMemory };
+
+    fn from(_error: AllocFailed<T>) -> LexError {
+        LexError::OutOfMemory
+    }
+}
+
+fn is_word_byte(b: u8) -> bool
+    ensures { result ≡ is_word_byte_lem b }
+{
+    b.is_ascii_alphabetic() || b.is_ascii_digit() || b == b'_'
+}
+
+fn is_number_start(b: u8) -> bool
+    ensures { result ≡ is_number_start_lem b }
+{
+    b.is_ascii_digit() || b == b'+' || b == b'-'
+}
+
+fn is_number_byte(b: u8) -> bool
+    ensures { result ≡ is_number_byte_lem b }
+{
+    is_word_byte(b) || b == b'.' || b == b'+' || b == b'-'
+}
+
+fn is_blank(b: u8) -> bool
+    ensures { result ≡ is_blank_lem b }
+{
+    b == b' ' || b == b'\n' || b == b'\t' || b == b'\r'
+}
+
+fn is_mark(b: u8) -> bool
+    ensures { result ≡ is_mark_lem b }
+{
+    b"{}()[]:;,=.".iter().any(|mark| *mark == b)
+}
+
+fn is_string_byte(b: u8) -> bool
+    ensures { result ≡ is_string_byte_lem b }
+{
+    !(b == b'"' || b == b'\\' || b == b'\n')
+}
+
+fn is_line_byte(b: u8) -> bool
+    ensures { result ≡ is_line_byte_lem b }
+{
+    b != b'\n'
+}
+
+fn word_end(bytes: &[u8]) -> Option<usize>
+    ensures { result ≡ position (λ b. not (is_word_byte_lem b)) bytes.now }
+{
+    bytes.iter().position(|b| !is_word_byte(*b))
+}
+
+/// Cuts after the letters and digits at the front.
+fn split_word(bytes: &[u8]) -> (&[u8], &[u8])
+    ensures { Splits is_word_byte_lem bytes.now result.0.now result.1.now }
+{
+    match word_end(bytes) {
+        Some(n) => bytes.split_at(n),
+        None => (bytes, &[]),
+    }
+}
+
+fn number_end(bytes: &[u8]) -> Option<usize>
+    ensures { result ≡ position (λ b. not (is_number_byte_lem b)) bytes.now }
+{
+    bytes.iter().position(|b| !is_number_byte(*b))
+}
+
+/// Cuts after the bytes of a number at the front.
+fn split_number(bytes: &[u8]) -> (&[u8], &[u8])
+    ensures { Splits is_number_byte_lem bytes.now result.0.now result.1.now }
+{
+    match number_end(bytes) {
+        Some(n) => bytes.split_at(n),
+        None => (bytes, &[]),
+    }
+}
+
+fn string_end(bytes: &[u8]) -> Option<usize>
+    ensures { result ≡ position (λ b. not (is_string_byte_lem b)) bytes.now }
+{
+    bytes.iter().position(|b| !is_string_byte(*b))
+}
+
+/// Cuts after what stands before the end of a string.
+fn split_string(bytes: &[u8]) -> (&[u8], &[u8])
+    ensures { Splits is_string_byte_lem bytes.now result.0.now result.1.now }
+{
+    match string_end(bytes) {
+        Some(n) => bytes.split_at(n),
+        None => (bytes, &[]),
+    }
+}
+
+fn line_end(bytes: &[u8]) -> Option<usize>
+    ensures { result ≡ position (λ b. not (is_line_byte_lem b)) bytes.now }
+{
+    bytes.iter().position(|b| !is_line_byte(*b))
+}
+
+/// Cuts after what stands before the end of a line.
+fn split_line(bytes: &[u8]) -> (&[u8], &[u8])
+    ensures { Splits is_line_byte_lem bytes.now result.0.now result.1.now }
+{
+    match line_end(bytes) {
+        Some(n) => bytes.split_at(n),
+        None => (bytes, &[]),
+    }
+}
+
+/// Returns what follows this byte, if it stands at the front.
+fn after(bytes: &[u8], byte: u8) -> Option<&[u8]>
+    ensures { MatchOption result (begins (λ b. b == byte) bytes.now ≡ false)
+        (λ rest. bytes.now ≡ byte ∷ rest.now) }
+{
+    match bytes.split_first() {
+        Some((first, rest)) => { if *first == byte { Some(rest) } else { None } }
+        None => None,
+    }
+}
+
+/// A fault, and how many bytes are left where it is met.
+#[derive(Clone, Copy)]
+struct Stop {
+    fault: LexFault,
+    left: usize,
+}
+
+/// Reads a word.
+fn word_at(bytes: &[u8]) -> (Lexeme, &[u8])
+    requires start { begins is_word_byte_lem bytes.now ≡ true }
+    requires letter { begins is_number_start_lem bytes.now ≡ false }
+    ensures cuts { lex_of bytes.now ≡ with_front (cut_piece result.0 ∷ []) (lex_of result.1.now) }
+    ensures starts { bytes.now ≡ bytes_of (cut_piece result.0) ++ result.1.now }
+    ensures shorter { length result.1.now < length bytes.now }
+{
+    let (word, rest) = split_word(bytes);
+    (Lexeme::Word(word), rest)
+}
+
+/// Reads a number.
+fn number_at(bytes: &[u8]) -> Result<(Lexeme, &[u8]), Stop>
+    requires { begins is_number_start_lem bytes.now ≡ true }
+    ensures cuts { Cuts bytes.now result }
+    ensures starts { IfOk result (λ x. bytes.now ≡ bytes_of (cut_piece x.0) ++ x.1.now) }
+    ensures shorter { IfOk result (λ x. length x.1.now < length bytes.now) }
+    ensures within { IfErr result (λ stop. stop.left ≤ length bytes.now) }
+{
+    let (number, rest) = split_number(bytes);
+    if is_number(number) {
+        Ok((Lexeme::Number(number), rest))
+    } else {
+        Err(Stop {
+            fault: LexFault::BadNumber,
+            left: rest.len(),
+        })
+    }
+}
+
+fn string_fault(bytes: &[u8]) -> LexFault
+    ensures { result ≡ string_stop bytes.now }
+{
+    match bytes.split_first() {
+        Some((b'\\', _)) => LexFault::Escape,
+        _ => LexFault::OpenString,
+    }
+}
+
+/// Reads a string, from after its first quote.
+fn string_at(bytes: &[u8]) -> Result<(Lexeme, &[u8]), Stop>
+    ensures cuts { Cuts (34 ∷ bytes.now) result }
+    ensures starts { IfOk result (λ x. 34 ∷ bytes.now ≡ bytes_of (cut_piece x.0) ++ x.1.now) }
+    ensures shorter { IfOk result (λ x. length x.1.now < length bytes.now) }
+    ensures within { IfErr result (λ stop. stop.left ≤ length bytes.now) }
+{
+    let (text, rest) = split_string(bytes);
+    match after(rest, b'"') {
+        Some(rest) => Ok((Lexeme::Text(text), rest)),
+        None => Err(Stop {
+            fault: string_fault(rest),
+            left: rest.len(),
+        }),
+    }
+}
+
+/// Returns what follows `*/` at the front.
+fn after_end(bytes: &[u8]) -> Option<&[u8]>
+    ensures { MatchOption result (closes bytes.now ≡ false)
+        (λ rest. bytes.now ≡ 42 ∷ 47 ∷ rest.now) }
+{
+    match after(bytes, b'*') {
+        Some(rest) => after(rest, b'/'),
+        None => None,
+    }
+}
+
+/// Skips a comment, from after its `/*`.
+fn block_at(bytes: &[u8]) -> Result<&[u8], Stop>
+    ensures skips { Skips (lex_from block bytes.now) result }
+    ensures ends { IfOk result (λ rest. Ends bytes.now rest.now) }
+    ensures shorter { IfOk result (λ rest. length rest.now < length bytes.now) }
+    ensures within { IfErr result (λ stop. stop.left ≤ length bytes.now) }
+{
+    let mut rest = bytes;
+    'bytes: while let Some((_, next)) = rest.split_first() {
+        if let Some(end) = after_end(rest) {
+            return Ok(end);
+        }
+        rest = next;
+    }
+    Err(Stop {
+        fault: LexFault::OpenComment,
+        left: 0,
+    })
+}
+
+/// Reads a comment to the end of the line or documentation, from after two slashes.
+fn line_at(bytes: &[u8]) -> (Option<Lexeme>, &[u8])
+    ensures cuts { lex_from slashes bytes.now
+        ≡ with_front (pieces_in result.0) (lex_of result.1.now) }
+    ensures starts { Starts (47 ∷ 47 ∷ bytes.now) result.0 result.1.now }
+    ensures shorter { length result.1.now ≤ length bytes.now }
+{
+    match after(bytes, b'/') {
+        Some(rest) => {
+            let (line, rest) = split_line(rest);
+            (Some(Lexeme::Doc(line)), rest)
+        }
+        None => {
+            let (_, rest) = split_line(bytes);
+            (None, rest)
+        }
+    }
+}
+
+/// Reads a comment or documentation, from after its first slash.
+fn comment_at(bytes: &[u8]) -> Result<(Option<Lexeme>, &[u8]), Stop>
+    ensures cuts { CutsSome (47 ∷ bytes.now) result }
+    ensures starts { IfOk result (λ x. Starts (47 ∷ bytes.now) x.0 x.1.now) }
+    ensures shorter { IfOk result (λ x. length x.1.now < length bytes.now) }
+    ensures within { IfErr result (λ stop. stop.left ≤ length bytes.now) }
+{
+    if let Some(rest) = after(bytes, b'/') {
+        return Ok(line_at(rest));
+    }
+    match after(bytes, b'*') {
+        Some(rest) => Ok((None, block_at(rest)?)),
+        None => Err(Stop {
+            fault: LexFault::Strange,
+            left: bytes.len(),
+        }),
+    }
+}
+
+/// Reads the token at the front, if one begins there.
+fn token_at(bytes: &[u8]) -> Result<(Option<Lexeme>, &[u8]), Stop>
+    requires { 0 < length bytes.now }
+    ensures cuts { CutsSome bytes.now result }
+    ensures starts { IfOk result (λ x. Starts bytes.now x.0 x.1.now) }
+    ensures shorter { IfOk result (λ x. length x.1.now < length bytes.now) }
+    ensures within { IfErr result (λ stop. stop.left ≤ length bytes.now) }
+{
+    let Some((first, rest)) = bytes.split_first() else {
+        return Ok((None, bytes));
+    };
+    let first = *first;
+    if is_number_start(first) {
+        let (token, rest) = number_at(bytes)?;
+        Ok((Some(token), rest))
+    } else if is_word_byte(first) {
+        let (token, rest) = word_at(bytes);
+        Ok((Some(token), rest))
+    } else if is_blank(first) {
+        Ok((None, rest))
+    } else if is_mark(first) {
+        Ok((Some(Lexeme::Mark(first)), rest))
+    } else if first == b'"' {
+        let (token, rest) = string_at(rest)?;
+        Ok((Some(token), rest))
+    } else if first == b'/' {
+        comment_at(rest)
+    } else {
+        Err(Stop {
+            fault: LexFault::Strange,
+            left: bytes.len(),
+        })
+    }
+}
+
+fn owned(alloc: Global, lexeme: Lexeme) -> Result<Token, AllocError>
+    ensures { IfOk result (λ token. piece_of token ≡ cut_piece lexeme.entry) }
+{
+    match lexeme {
+        Lexeme::Word(bytes) => Ok(Token::Word(Vec::from_slice(alloc, bytes)?)),
+        Lexeme::Number(bytes) => Ok(Token::Number(Vec::from_slice(alloc, bytes)?)),
+        Lexeme::Text(bytes) => Ok(Token::Text(Vec::from_slice(alloc, bytes)?)),
+        Lexeme::Doc(bytes) => Ok(Token::Doc(Vec::from_slice(alloc, bytes)?)),
+        Lexeme::Mark(byte) => Ok(Token::Mark(byte)),
+    }
+}
+
+/// Returns the tokens of a text.
+pub(crate) fn lex(alloc: Global, text: &[u8]) -> Result<Vec<Token>, LexError>
+    ensures { Answers (length text.now) result (lex_of text.now) }
+{
+    let mut tokens = Vec::new(alloc);
+    let mut rest = text;
+    while !rest.is_empty() {
+        match token_at(rest) {
+            Ok((token, after)) => {
+                if let Some(token) = token {
+                    let token = owned(alloc, token)?;
+                    tokens.push(token)?;
+                }
+                rest = after;
+            }
+            Err(stop) => {
+                let at = text.len() - stop.left;
+                return Err(LexError::Fault {
+                    fault: stop.fault,
+                    at,
+                });
+            }
+        }
+    }
+    Ok(tokens)
+}
+
+/// Returns where the token of this index begins, or where the text ends.
+pub(crate) fn place_of(text: &[u8], index: usize) -> usize
+    ensures within { result ≤ length text.now }
+    ensures stands { (ps : List Piece) → lex_of text.now ≡ Ok ps → index ≤ length ps
+        → StandsAt text.now ps index result }
+{
+    let mut left = index;
+    let mut rest = text;
+    while !rest.is_empty() {
+        match token_at(rest) {
+            Ok((Some(_), after)) => {
+                if left == 0 {
+                    return text.len() - rest.len();
+                }
+                left -= 1;
+                rest = after;
+            }
+            Ok((None, after)) => rest = after,
+            Err(_) => return text.len() - rest.len(),
+        }
+    }
+    text.len()
+}

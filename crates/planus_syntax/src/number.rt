@@ -1,0 +1,155 @@
+//! Which bytes are a number.
+
+ghost use Rattle.std.specs.Prelude.{◌≡◌, if◌then◌else◌};
+ghost use Rattle.planus_syntax.specs.Tokens.{is_number as is_number_lem};
+ghost use Rattle.planus_syntax.specs.Tokens.{is_signed_name as is_signed_name_lem};
+ghost use Rattle.planus_syntax.specs.Tokens.{digits_after as digits_after_lem};
+ghost use Rattle.planus_syntax.specs.Tokens.{first_digit as first_digit_lem};
+ghost use Rattle.planus_syntax.specs.Tokens.{number_step as number_step_lem, is_end as is_end_lem};
+
+/// What was read of a number.
+#[derive(Clone, Copy)]
+pub(crate) enum NumberState {
+    /// Nothing.
+    Start,
+    /// A sign.
+    Sign,
+    /// A zero that is the first digit.
+    Zero,
+    /// Decimal digits.
+    Digits,
+    /// A point after digits, and digits after it or none.
+    Fraction,
+    /// The letter of an exponent.
+    Exponent,
+    /// The sign of an exponent.
+    ExponentSign,
+    /// The digits of an exponent.
+    ExponentDigits,
+    /// `0x`.
+    HexMark,
+    /// Hexadecimal digits.
+    HexDigits,
+    /// What is no number.
+    Wrong,
+}
+
+fn digits_after(state: NumberState, b: u8) -> NumberState
+    ensures { result ≡ digits_after_lem state b }
+{
+    if b.is_ascii_digit() {
+        state
+    } else if b == b'.' {
+        NumberState::Fraction
+    } else if b == b'e' || b == b'E' {
+        NumberState::Exponent
+    } else {
+        NumberState::Wrong
+    }
+}
+
+fn first_digit(b: u8) -> NumberState
+    ensures { result ≡ first_digit_lem b }
+{
+    if b == b'0' {
+        NumberState::Zero
+    } else if b.is_ascii_digit() {
+        NumberState::Digits
+    } else {
+        NumberState::Wrong
+    }
+}
+
+fn digit_or_wrong(state: NumberState, is_digit: bool) -> NumberState
+    ensures { result ≡ (if is_digit then state else NumberState.Wrong) }
+{
+    if is_digit { state } else { NumberState::Wrong }
+}
+
+fn exponent(b: u8) -> NumberState
+    ensures { result ≡ number_step_lem NumberState.Exponent b }
+{
+    if b == b'+' || b == b'-' {
+        NumberState::ExponentSign
+    } else {
+        digit_or_wrong(NumberState::ExponentDigits, b.is_ascii_digit())
+    }
+}
+
+fn fraction(b: u8) -> NumberState
+    ensures { result ≡ number_step_lem NumberState.Fraction b }
+{
+    if b.is_ascii_digit() {
+        NumberState::Fraction
+    } else if b == b'e' || b == b'E' {
+        NumberState::Exponent
+    } else {
+        NumberState::Wrong
+    }
+}
+
+fn number_step(state: NumberState, b: u8) -> NumberState
+    ensures { result ≡ number_step_lem state b }
+{
+    match state {
+        NumberState::Start => {
+            if b == b'+' || b == b'-' {
+                NumberState::Sign
+            } else {
+                first_digit(b)
+            }
+        }
+        NumberState::Sign => first_digit(b),
+        NumberState::Zero => {
+            if b == b'x' || b == b'X' {
+                NumberState::HexMark
+            } else {
+                digits_after(NumberState::Digits, b)
+            }
+        }
+        NumberState::Digits => digits_after(NumberState::Digits, b),
+        NumberState::Fraction => fraction(b),
+        NumberState::Exponent => exponent(b),
+        NumberState::ExponentSign | NumberState::ExponentDigits => {
+            digit_or_wrong(NumberState::ExponentDigits, b.is_ascii_digit())
+        }
+        NumberState::HexMark | NumberState::HexDigits => {
+            digit_or_wrong(NumberState::HexDigits, b.is_ascii_hexdigit())
+        }
+        NumberState::Wrong => NumberState::Wrong,
+    }
+}
+
+fn is_end(state: NumberState) -> bool
+    ensures { result ≡ is_end_lem state }
+{
+    match state {
+        NumberState::Zero
+        | NumberState::Digits
+        | NumberState::Fraction
+        | NumberState::ExponentDigits
+        | NumberState::HexDigits => true,
+        _ => false,
+    }
+}
+
+fn is_signed_name(bytes: &[u8]) -> bool
+    ensures { result ≡ is_signed_name_lem bytes.now }
+{
+    bytes == b"-inf".as_slice()
+        || bytes == b"+inf".as_slice()
+        || bytes == b"-nan".as_slice()
+        || bytes == b"+nan".as_slice()
+}
+
+/// Returns whether the bytes are a number: an integer, a hexadecimal integer, a float, or `inf` or
+/// `nan` with a sign.
+pub(crate) fn is_number(bytes: &[u8]) -> bool
+    ensures { result ≡ is_number_lem bytes.now }
+{
+    let mut state = NumberState::Start;
+    for b in bytes {
+        state = number_step(state, *b);
+    }
+    is_end(state) || is_signed_name(bytes)
+}

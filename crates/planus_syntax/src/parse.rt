@@ -1,0 +1,924 @@
+//! Tokens to declarations.
+
+ghost use Rattle.std.specs.Prelude.{◌≡◌, ◌∷◌, [], ℕ, List, length, Ok, map, IfOk};
+ghost use Rattle.std.specs.Option.{option_map};
+ghost use Rattle.planus_syntax.specs.Values.{DeclarationV, AreWhole, schema_pieces};
+ghost use Rattle.planus_syntax.specs.Parsed.{ParsesTo, AnswersParse};
+ghost use Rattle.planus_syntax.specs.Tokens.{pieces_of};
+ghost use Rattle.planus_syntax.specs.Values.{names_of, path_of, kind_of, literal_of, label_of};
+ghost use Rattle.planus_syntax.specs.Values.{attribute_of, field_of, record_of, digits_of};
+ghost use Rattle.planus_syntax.specs.Values.{variant_of, enumeration_of, member_of, union_of};
+ghost use Rattle.planus_syntax.specs.Values.{method_of, service_of, item_of, declaration_of};
+ghost use Rattle.planus_syntax.specs.Values.{schema_of};
+ghost use Rattle.planus_syntax.specs.Layout.{is_mark_of as is_mark_lem};
+ghost use Rattle.planus_syntax.specs.Reading.{Gives, list_at, with_items};
+ghost use Rattle.planus_syntax.specs.Reading.{begins_mark as begins_mark_lem};
+ghost use Rattle.planus_syntax.specs.Reading.{begins_doc as begins_doc_lem};
+ghost use Rattle.planus_syntax.specs.Reading.{begins_next as begins_next_lem};
+ghost use Rattle.planus_syntax.specs.Reading.{inside as inside_lem, is_some as is_some_lem};
+ghost use Rattle.planus_syntax.specs.Reading.{mark_at as mark_at_lem, word_at as word_at_lem};
+ghost use Rattle.planus_syntax.specs.Reading.{doc_at as doc_at_lem, number_at as number_at_lem};
+ghost use Rattle.planus_syntax.specs.Reading.{text_at as text_at_lem, label_at as label_at_lem};
+ghost use Rattle.planus_syntax.specs.Reading.{dotted_at as dotted_at_lem, path_at as path_at_lem};
+ghost use Rattle.planus_syntax.specs.Reading.{kind_at as kind_at_lem};
+ghost use Rattle.planus_syntax.specs.Reading.{brackets_at as brackets_at_lem};
+ghost use Rattle.planus_syntax.specs.Reading.{name_at as name_at_lem};
+ghost use Rattle.planus_syntax.specs.Reading.{literal_at as literal_at_lem};
+ghost use Rattle.planus_syntax.specs.Reading.{setting_at as setting_at_lem};
+ghost use Rattle.planus_syntax.specs.Reading.{default_at as default_at_lem};
+ghost use Rattle.planus_syntax.specs.Reading.{value_at as value_at_lem};
+ghost use Rattle.planus_syntax.specs.Reading.{target_at as target_at_lem};
+ghost use Rattle.planus_syntax.specs.Reading.{attribute_at as attribute_at_lem};
+ghost use Rattle.planus_syntax.specs.Reading.{next_attribute_at as next_attribute_at_lem};
+ghost use Rattle.planus_syntax.specs.Reading.{attributes_at as attributes_at_lem};
+ghost use Rattle.planus_syntax.specs.Reading.{field_at as field_at_lem};
+ghost use Rattle.planus_syntax.specs.Reading.{record_at as record_at_lem};
+ghost use Rattle.planus_syntax.specs.Reading.{comma_at as comma_at_lem};
+ghost use Rattle.planus_syntax.specs.Reading.{variant_at as variant_at_lem};
+ghost use Rattle.planus_syntax.specs.Reading.{next_variant_at as next_variant_at_lem};
+ghost use Rattle.planus_syntax.specs.Reading.{variants_at as variants_at_lem};
+ghost use Rattle.planus_syntax.specs.Reading.{enumeration_at as enumeration_at_lem};
+ghost use Rattle.planus_syntax.specs.Reading.{member_at as member_at_lem};
+ghost use Rattle.planus_syntax.specs.Reading.{next_member_at as next_member_at_lem};
+ghost use Rattle.planus_syntax.specs.Reading.{members_at as members_at_lem};
+ghost use Rattle.planus_syntax.specs.Reading.{union_at as union_at_lem};
+ghost use Rattle.planus_syntax.specs.Reading.{method_at as method_at_lem};
+ghost use Rattle.planus_syntax.specs.Reading.{service_at as service_at_lem};
+ghost use Rattle.planus_syntax.specs.Reading.{quoted_at as quoted_at_lem};
+ghost use Rattle.planus_syntax.specs.Reading.{rooted_at as rooted_at_lem};
+ghost use Rattle.planus_syntax.specs.Reading.{namespace_at as namespace_at_lem};
+ghost use Rattle.planus_syntax.specs.Reading.{declared_at as declared_at_lem};
+ghost use Rattle.planus_syntax.specs.Reading.{statement_at as statement_at_lem};
+ghost use Rattle.planus_syntax.specs.Reading.{item_at as item_at_lem};
+ghost use Rattle.planus_syntax.specs.Reading.{declaration_at as declaration_at_lem};
+ghost use Rattle.planus_syntax.specs.Reading.{schema_at as schema_at_lem};
+
+use crate::token::Token;
+use crate::value::{
+    Attribute, Declaration, Enumeration, Field, Item, Kind, Label, Literal, Member, Method, Path,
+    Record, Service, UnionBody, Variant,
+};
+use std::alloc::{AllocError, AllocFailed, Global};
+
+/// What should stand where other tokens do.
+#[derive(Clone, Copy, Debug, PartialEq, Eq)]
+pub enum ParseFault {
+    /// This mark.
+    Mark(u8),
+    /// A word.
+    Word,
+    /// A number.
+    Number,
+    /// A string.
+    Text,
+    /// A value: a number, a name, a string or `[]`.
+    Literal,
+    /// A word that begins a declaration, as `table`.
+    Declaration,
+}
+
+#[derive(Clone, Copy, Debug, PartialEq, Eq)]
+pub(crate) enum ReadError {
+    OutOfMemory,
+    /// A fault, and how many tokens are left where it stands.
+    Fault { fault: ParseFault, left: usize },
+}
+
+impl From<AllocError> for ReadError {
+    ghost use Rattle.std.specs.Prelude.{◌≡◌};
+    ghost use Rattle.planus_syntax.specs.declared.parse.ReadError.TheVariants.{OutOfMemory};
+
+    ghost from_gives = { λ _ e. e ≡ OutOfMemory };
+
+    fn from(_error: AllocError) -> ReadError {
+        ReadError::OutOfMemory
+    }
+}
+
+impl<T: Drop> From<AllocFailed<T>> for ReadError {
+    ghost use Rattle.std.specs.Prelude.{◌≡◌};
+    ghost use Rattle.planus_syntax.specs.declared.parse.ReadError.TheVariants.{OutOfMemory};
+
+    ghost from_gives = { λ _ e. e ≡ OutOfMemory };
+
+    fn from(_error: AllocFailed<T>) -> ReadError {
+        ReadError::OutOfMemory
+    }
+}
+
+fn begins_mark(tokens: &[Token], mark: u8) -> bool
+    ensures { result ≡ begins_mark_lem mark (pieces_of tokens.now) }
+{
+    match tokens.split_first() {
+        Some((Token::Mark(byte), _)) => *byte == mark,
+        _ => false,
+    }
+}
+
+fn begins_doc(tokens: &[Token]) -> bool
+    ensures { result ≡ begins_doc_lem (pieces_of tokens.now) }
+{
+    match tokens.split_first() {
+        Some((Token::Doc(_), _)) => true,
+        _ => false,
+    }
+}
+
+/// Returns whether a comma stands first, and no closing brace after it.
+fn begins_next(tokens: &[Token]) -> bool
+    ensures { result ≡ begins_next_lem (pieces_of tokens.now) }
+{
+    match tokens.split_first() {
+        Some((Token::Mark(byte), rest)) => *byte == b',' && !begins_mark(rest, b'}'),
+        _ => false,
+    }
+}
+
+fn is_some(tokens: &[Token]) -> bool
+    ensures { result ≡ is_some_lem (pieces_of tokens.now) }
+{
+    !tokens.is_empty()
+}
+
+fn inside(tokens: &[Token]) -> bool
+    ensures { result ≡ inside_lem (pieces_of tokens.now) }
+{
+    !tokens.is_empty() && !begins_mark(tokens, b'}')
+}
+
+/// Returns what follows this mark.
+fn mark_at(tokens: &[Token], mark: u8) -> Result<&[Token], ReadError>
+    ensures { Gives (λ rest. pieces_of rest.now) result
+        (mark_at_lem mark (pieces_of tokens.now)) }
+{
+    match tokens.split_first() {
+        Some((Token::Mark(byte), rest)) if *byte == mark => Ok(rest),
+        _ => Err(ReadError::Fault {
+            fault: ParseFault::Mark(mark),
+            left: tokens.len(),
+        }),
+    }
+}
+
+/// Reads a word.
+fn word_at(alloc: Global, tokens: &[Token]) -> Result<(Vec<u8>, &[Token]), ReadError>
+    ensures { Gives (λ x. (x.0.items, pieces_of x.1.now)) result
+        (word_at_lem (pieces_of tokens.now)) }
+{
+    match tokens.split_first() {
+        Some((Token::Word(bytes), rest)) => Ok((Vec::from_slice(alloc, bytes)?, rest)),
+        _ => Err(ReadError::Fault {
+            fault: ParseFault::Word,
+            left: tokens.len(),
+        }),
+    }
+}
+
+/// Reads a line of documentation.
+fn doc_at(alloc: Global, tokens: &[Token]) -> Result<(Vec<u8>, &[Token]), ReadError>
+    ensures { Gives (λ x. (x.0.items, pieces_of x.1.now)) result
+        (doc_at_lem (pieces_of tokens.now)) }
+{
+    match tokens.split_first() {
+        Some((Token::Doc(bytes), rest)) => Ok((Vec::from_slice(alloc, bytes)?, rest)),
+        _ => Err(ReadError::Fault {
+            fault: ParseFault::Word,
+            left: tokens.len(),
+        }),
+    }
+}
+
+/// Reads a number.
+fn number_at(alloc: Global, tokens: &[Token]) -> Result<(Vec<u8>, &[Token]), ReadError>
+    ensures { Gives (λ x. (x.0.items, pieces_of x.1.now)) result
+        (number_at_lem (pieces_of tokens.now)) }
+{
+    match tokens.split_first() {
+        Some((Token::Number(bytes), rest)) => Ok((Vec::from_slice(alloc, bytes)?, rest)),
+        _ => Err(ReadError::Fault {
+            fault: ParseFault::Number,
+            left: tokens.len(),
+        }),
+    }
+}
+
+/// Reads a string.
+fn text_at(alloc: Global, tokens: &[Token]) -> Result<(Vec<u8>, &[Token]), ReadError>
+    ensures { Gives (λ x. (x.0.items, pieces_of x.1.now)) result
+        (text_at_lem (pieces_of tokens.now)) }
+{
+    match tokens.split_first() {
+        Some((Token::Text(bytes), rest)) => Ok((Vec::from_slice(alloc, bytes)?, rest)),
+        _ => Err(ReadError::Fault {
+            fault: ParseFault::Text,
+            left: tokens.len(),
+        }),
+    }
+}
+
+/// Reads a word or a string as a name.
+fn label_at(alloc: Global, tokens: &[Token]) -> Result<(Label, &[Token]), ReadError>
+    ensures { Gives (λ x. (label_of x.0, pieces_of x.1.now)) result
+        (label_at_lem (pieces_of tokens.now)) }
+{
+    match tokens.split_first() {
+        Some((Token::Word(bytes), rest)) => Ok((
+            Label {
+                quoted: false,
+                name: Vec::from_slice(alloc, bytes)?,
+            },
+            rest,
+        )),
+        Some((Token::Text(bytes), rest)) => Ok((
+            Label {
+                quoted: true,
+                name: Vec::from_slice(alloc, bytes)?,
+            },
+            rest,
+        )),
+        _ => Err(ReadError::Fault {
+            fault: ParseFault::Word,
+            left: tokens.len(),
+        }),
+    }
+}
+
+#[tactic(auto, unfolding(crate::specs::Reading::dotted_at))]
+fn dotted_at(alloc: Global, tokens: &[Token]) -> Result<(Vec<u8>, &[Token]), ReadError>
+    ensures { Gives (λ x. (x.0.items, pieces_of x.1.now)) result
+        (dotted_at_lem (pieces_of tokens.now)) }
+{
+    let rest = mark_at(tokens, b'.')?;
+    word_at(alloc, rest)
+}
+
+fn dotted(alloc: Global, tokens: &[Token]) -> Result<(Vec<Vec<u8>>, &[Token]), ReadError>
+    ensures { Gives (λ x. (names_of x.0.items, pieces_of x.1.now)) result
+        (list_at (begins_mark_lem 46) dotted_at_lem (pieces_of tokens.now)) }
+{
+    let mut items = Vec::new(alloc);
+    let mut rest = tokens;
+    'items: while begins_mark(rest, b'.') {
+        let (item, after) = dotted_at(alloc, rest)?;
+        items.push(item)?;
+        rest = after;
+    }
+    Ok((items, rest))
+}
+
+/// Reads a name of one or more words.
+#[tactic(auto, unfolding(crate::specs::Reading::path_at))]
+fn path_at(alloc: Global, tokens: &[Token]) -> Result<(Path, &[Token]), ReadError>
+    ensures { Gives (λ x. (path_of x.0, pieces_of x.1.now)) result
+        (path_at_lem (pieces_of tokens.now)) }
+{
+    let (first, rest) = word_at(alloc, tokens)?;
+    let (more, rest) = dotted(alloc, rest)?;
+    Ok((Path { first, more }, rest))
+}
+
+/// Reads a type.
+#[tactic(auto, unfolding(crate::specs::Reading::kind_at))]
+fn kind_at(alloc: Global, tokens: &[Token]) -> Result<(Kind, &[Token]), ReadError>
+    ensures { Gives (λ x. (kind_of x.0, pieces_of x.1.now)) result
+        (kind_at_lem (pieces_of tokens.now)) }
+{
+    if begins_mark(tokens, b'[') {
+        let rest = mark_at(tokens, b'[')?;
+        let (path, rest) = path_at(alloc, rest)?;
+        let rest = mark_at(rest, b']')?;
+        Ok((Kind::Vector(path), rest))
+    } else {
+        let (path, rest) = path_at(alloc, tokens)?;
+        Ok((Kind::Single(path), rest))
+    }
+}
+
+/// Reads `[]`.
+#[tactic(auto, unfolding(crate::specs::Reading::brackets_at))]
+fn brackets_at(tokens: &[Token]) -> Result<(Literal, &[Token]), ReadError>
+    ensures { Gives (λ x. (literal_of x.0, pieces_of x.1.now)) result
+        (brackets_at_lem (pieces_of tokens.now)) }
+{
+    let rest = mark_at(tokens, b'[')?;
+    let rest = mark_at(rest, b']')?;
+    Ok((Literal::EmptyVector, rest))
+}
+
+#[tactic(auto, unfolding(crate::specs::Reading::name_at))]
+fn name_at(alloc: Global, tokens: &[Token]) -> Result<(Literal, &[Token]), ReadError>
+    ensures { Gives (λ x. (literal_of x.0, pieces_of x.1.now)) result
+        (name_at_lem (pieces_of tokens.now)) }
+{
+    let (path, rest) = path_at(alloc, tokens)?;
+    Ok((Literal::Name(path), rest))
+}
+
+/// Reads a value.
+fn literal_at(alloc: Global, tokens: &[Token]) -> Result<(Literal, &[Token]), ReadError>
+    ensures { Gives (λ x. (literal_of x.0, pieces_of x.1.now)) result
+        (literal_at_lem (pieces_of tokens.now)) }
+{
+    match tokens.split_first() {
+        Some((Token::Word(_), _)) => name_at(alloc, tokens),
+        Some((Token::Number(bytes), rest)) => {
+            Ok((Literal::Number(Vec::from_slice(alloc, bytes)?), rest))
+        }
+        Some((Token::Text(bytes), rest)) => {
+            Ok((Literal::Text(Vec::from_slice(alloc, bytes)?), rest))
+        }
+        Some((Token::Mark(b'['), _)) => brackets_at(tokens),
+        _ => Err(ReadError::Fault {
+            fault: ParseFault::Literal,
+            left: tokens.len(),
+        }),
+    }
+}
+
+/// Reads the value of an attribute, if it has one.
+#[tactic(auto, unfolding(crate::specs::Reading::setting_at))]
+fn setting_at(alloc: Global, tokens: &[Token]) -> Result<(Option<Literal>, &[Token]), ReadError>
+    ensures { Gives (λ x. (option_map literal_of x.0, pieces_of x.1.now)) result
+        (setting_at_lem (pieces_of tokens.now)) }
+{
+    if begins_mark(tokens, b':') {
+        let rest = mark_at(tokens, b':')?;
+        let (value, rest) = literal_at(alloc, rest)?;
+        Ok((Some(value), rest))
+    } else {
+        Ok((None, tokens))
+    }
+}
+
+/// Reads a default, if there is one.
+#[tactic(auto, unfolding(crate::specs::Reading::default_at))]
+fn default_at(alloc: Global, tokens: &[Token]) -> Result<(Option<Literal>, &[Token]), ReadError>
+    ensures { Gives (λ x. (option_map literal_of x.0, pieces_of x.1.now)) result
+        (default_at_lem (pieces_of tokens.now)) }
+{
+    if begins_mark(tokens, b'=') {
+        let rest = mark_at(tokens, b'=')?;
+        let (value, rest) = literal_at(alloc, rest)?;
+        Ok((Some(value), rest))
+    } else {
+        Ok((None, tokens))
+    }
+}
+
+/// Reads the value of a variant, if it has one.
+#[tactic(auto, unfolding(crate::specs::Reading::value_at))]
+fn value_at(alloc: Global, tokens: &[Token]) -> Result<(Option<Vec<u8>>, &[Token]), ReadError>
+    ensures { Gives (λ x. (digits_of x.0, pieces_of x.1.now)) result
+        (value_at_lem (pieces_of tokens.now)) }
+{
+    if begins_mark(tokens, b'=') {
+        let rest = mark_at(tokens, b'=')?;
+        let (value, rest) = number_at(alloc, rest)?;
+        Ok((Some(value), rest))
+    } else {
+        Ok((None, tokens))
+    }
+}
+
+/// Reads what an alias stands for, if a member is one.
+#[tactic(auto, unfolding(crate::specs::Reading::target_at))]
+fn target_at(alloc: Global, tokens: &[Token]) -> Result<(Option<Path>, &[Token]), ReadError>
+    ensures { Gives (λ x. (option_map path_of x.0, pieces_of x.1.now)) result
+        (target_at_lem (pieces_of tokens.now)) }
+{
+    if begins_mark(tokens, b':') {
+        let rest = mark_at(tokens, b':')?;
+        let (value, rest) = path_at(alloc, rest)?;
+        Ok((Some(value), rest))
+    } else {
+        Ok((None, tokens))
+    }
+}
+
+/// Reads an attribute.
+#[tactic(auto, unfolding(crate::specs::Reading::attribute_at))]
+fn attribute_at(alloc: Global, tokens: &[Token]) -> Result<(Attribute, &[Token]), ReadError>
+    ensures { Gives (λ x. (attribute_of x.0, pieces_of x.1.now)) result
+        (attribute_at_lem (pieces_of tokens.now)) }
+{
+    let (label, rest) = label_at(alloc, tokens)?;
+    let (value, rest) = setting_at(alloc, rest)?;
+    Ok((Attribute { label, value }, rest))
+}
+
+#[tactic(auto, unfolding(crate::specs::Reading::next_attribute_at))]
+fn next_attribute_at(alloc: Global, tokens: &[Token]) -> Result<(Attribute, &[Token]), ReadError>
+    ensures { Gives (λ x. (attribute_of x.0, pieces_of x.1.now)) result
+        (next_attribute_at_lem (pieces_of tokens.now)) }
+{
+    let rest = mark_at(tokens, b',')?;
+    attribute_at(alloc, rest)
+}
+
+fn more_attributes(
+    alloc: Global,
+    first: Attribute,
+    tokens: &[Token],
+) -> Result<(Vec<Attribute>, &[Token]), ReadError>
+    ensures { Gives (λ x. (map attribute_of x.0.items, pieces_of x.1.now)) result
+        (with_items (attribute_of first ∷ [])
+        (list_at (begins_mark_lem 44) next_attribute_at_lem (pieces_of tokens.now))) }
+{
+    let mut items = Vec::new(alloc);
+    items.push(first)?;
+    let mut rest = tokens;
+    'items: while begins_mark(rest, b',') {
+        let (item, after) = next_attribute_at(alloc, rest)?;
+        items.push(item)?;
+        rest = after;
+    }
+    Ok((items, rest))
+}
+
+/// Reads attributes in parentheses, if there are any.
+#[tactic(auto, unfolding(crate::specs::Reading::attributes_at))]
+fn attributes_at(alloc: Global, tokens: &[Token]) -> Result<(Vec<Attribute>, &[Token]), ReadError>
+    ensures { Gives (λ x. (map attribute_of x.0.items, pieces_of x.1.now)) result
+        (attributes_at_lem (pieces_of tokens.now)) }
+{
+    if begins_mark(tokens, b'(') {
+        let rest = mark_at(tokens, b'(')?;
+        let (first, rest) = attribute_at(alloc, rest)?;
+        let (items, rest) = more_attributes(alloc, first, rest)?;
+        let rest = mark_at(rest, b')')?;
+        Ok((items, rest))
+    } else {
+        Ok((Vec::new(alloc), tokens))
+    }
+}
+
+fn docs_at(alloc: Global, tokens: &[Token]) -> Result<(Vec<Vec<u8>>, &[Token]), ReadError>
+    ensures { Gives (λ x. (names_of x.0.items, pieces_of x.1.now)) result
+        (list_at begins_doc_lem doc_at_lem (pieces_of tokens.now)) }
+{
+    let mut items = Vec::new(alloc);
+    let mut rest = tokens;
+    'items: while begins_doc(rest) {
+        let (item, after) = doc_at(alloc, rest)?;
+        items.push(item)?;
+        rest = after;
+    }
+    Ok((items, rest))
+}
+
+/// Reads a field.
+#[tactic(auto, unfolding(crate::specs::Reading::field_at))]
+fn field_at(alloc: Global, tokens: &[Token]) -> Result<(Field, &[Token]), ReadError>
+    ensures { Gives (λ x. (field_of x.0, pieces_of x.1.now)) result
+        (field_at_lem (pieces_of tokens.now)) }
+{
+    let (docs, rest) = docs_at(alloc, tokens)?;
+    let (name, rest) = word_at(alloc, rest)?;
+    let rest = mark_at(rest, b':')?;
+    let (kind, rest) = kind_at(alloc, rest)?;
+    let (default, rest) = default_at(alloc, rest)?;
+    let (attributes, rest) = attributes_at(alloc, rest)?;
+    let rest = mark_at(rest, b';')?;
+    Ok((
+        Field {
+            docs,
+            name,
+            kind,
+            default,
+            attributes,
+        },
+        rest,
+    ))
+}
+
+fn fields(alloc: Global, tokens: &[Token]) -> Result<(Vec<Field>, &[Token]), ReadError>
+    ensures { Gives (λ x. (map field_of x.0.items, pieces_of x.1.now)) result
+        (list_at inside_lem field_at_lem (pieces_of tokens.now)) }
+{
+    let mut items = Vec::new(alloc);
+    let mut rest = tokens;
+    'items: while inside(rest) {
+        let (item, after) = field_at(alloc, rest)?;
+        items.push(item)?;
+        rest = after;
+    }
+    Ok((items, rest))
+}
+
+/// Reads a table or a struct, from its name on.
+#[tactic(auto, unfolding(crate::specs::Reading::record_at))]
+fn record_at(alloc: Global, tokens: &[Token]) -> Result<(Record, &[Token]), ReadError>
+    ensures { Gives (λ x. (record_of x.0, pieces_of x.1.now)) result
+        (record_at_lem (pieces_of tokens.now)) }
+{
+    let (name, rest) = word_at(alloc, tokens)?;
+    let (attributes, rest) = attributes_at(alloc, rest)?;
+    let rest = mark_at(rest, b'{')?;
+    let (fields, rest) = fields(alloc, rest)?;
+    let rest = mark_at(rest, b'}')?;
+    Ok((
+        Record {
+            name,
+            attributes,
+            fields,
+        },
+        rest,
+    ))
+}
+
+/// Reads a comma, if there is one.
+#[tactic(auto, unfolding(crate::specs::Reading::comma_at))]
+fn comma_at(tokens: &[Token]) -> Result<(bool, &[Token]), ReadError>
+    ensures { Gives (λ x. (x.0, pieces_of x.1.now)) result (comma_at_lem (pieces_of tokens.now)) }
+{
+    if begins_mark(tokens, b',') {
+        let rest = mark_at(tokens, b',')?;
+        Ok((true, rest))
+    } else {
+        Ok((false, tokens))
+    }
+}
+
+/// Reads a variant of an enum.
+#[tactic(auto, unfolding(crate::specs::Reading::variant_at))]
+fn variant_at(alloc: Global, tokens: &[Token]) -> Result<(Variant, &[Token]), ReadError>
+    ensures { Gives (λ x. (variant_of x.0, pieces_of x.1.now)) result
+        (variant_at_lem (pieces_of tokens.now)) }
+{
+    let (docs, rest) = docs_at(alloc, tokens)?;
+    let (name, rest) = word_at(alloc, rest)?;
+    let (value, rest) = value_at(alloc, rest)?;
+    Ok((Variant { docs, name, value }, rest))
+}
+
+#[tactic(auto, unfolding(crate::specs::Reading::next_variant_at))]
+fn next_variant_at(alloc: Global, tokens: &[Token]) -> Result<(Variant, &[Token]), ReadError>
+    ensures { Gives (λ x. (variant_of x.0, pieces_of x.1.now)) result
+        (next_variant_at_lem (pieces_of tokens.now)) }
+{
+    let rest = mark_at(tokens, b',')?;
+    variant_at(alloc, rest)
+}
+
+fn more_variants(
+    alloc: Global,
+    first: Variant,
+    tokens: &[Token],
+) -> Result<(Vec<Variant>, &[Token]), ReadError>
+    ensures { Gives (λ x. (map variant_of x.0.items, pieces_of x.1.now)) result
+        (with_items (variant_of first ∷ [])
+        (list_at begins_next_lem next_variant_at_lem (pieces_of tokens.now))) }
+{
+    let mut items = Vec::new(alloc);
+    items.push(first)?;
+    let mut rest = tokens;
+    'items: while begins_next(rest) {
+        let (item, after) = next_variant_at(alloc, rest)?;
+        items.push(item)?;
+        rest = after;
+    }
+    Ok((items, rest))
+}
+
+#[tactic(auto, unfolding(crate::specs::Reading::variants_at))]
+fn variants_at(alloc: Global, tokens: &[Token]) -> Result<(Vec<Variant>, &[Token]), ReadError>
+    ensures { Gives (λ x. (map variant_of x.0.items, pieces_of x.1.now)) result
+        (variants_at_lem (pieces_of tokens.now)) }
+{
+    let (first, rest) = variant_at(alloc, tokens)?;
+    more_variants(alloc, first, rest)
+}
+
+/// Reads an enum, from its name on.
+#[tactic(auto, unfolding(crate::specs::Reading::enumeration_at))]
+fn enumeration_at(alloc: Global, tokens: &[Token]) -> Result<(Enumeration, &[Token]), ReadError>
+    ensures { Gives (λ x. (enumeration_of x.0, pieces_of x.1.now)) result
+        (enumeration_at_lem (pieces_of tokens.now)) }
+{
+    let (name, rest) = word_at(alloc, tokens)?;
+    let rest = mark_at(rest, b':')?;
+    let (base, rest) = path_at(alloc, rest)?;
+    let (attributes, rest) = attributes_at(alloc, rest)?;
+    let rest = mark_at(rest, b'{')?;
+    let (variants, rest) = variants_at(alloc, rest)?;
+    let (comma, rest) = comma_at(rest)?;
+    let rest = mark_at(rest, b'}')?;
+    Ok((
+        Enumeration {
+            name,
+            base,
+            attributes,
+            variants,
+            comma,
+        },
+        rest,
+    ))
+}
+
+/// Reads a member of a union.
+#[tactic(auto, unfolding(crate::specs::Reading::member_at))]
+fn member_at(alloc: Global, tokens: &[Token]) -> Result<(Member, &[Token]), ReadError>
+    ensures { Gives (λ x. (member_of x.0, pieces_of x.1.now)) result
+        (member_at_lem (pieces_of tokens.now)) }
+{
+    let (docs, rest) = docs_at(alloc, tokens)?;
+    let (path, rest) = path_at(alloc, rest)?;
+    let (target, rest) = target_at(alloc, rest)?;
+    let (value, rest) = value_at(alloc, rest)?;
+    Ok((
+        Member {
+            docs,
+            path,
+            target,
+            value,
+        },
+        rest,
+    ))
+}
+
+#[tactic(auto, unfolding(crate::specs::Reading::next_member_at))]
+fn next_member_at(alloc: Global, tokens: &[Token]) -> Result<(Member, &[Token]), ReadError>
+    ensures { Gives (λ x. (member_of x.0, pieces_of x.1.now)) result
+        (next_member_at_lem (pieces_of tokens.now)) }
+{
+    let rest = mark_at(tokens, b',')?;
+    member_at(alloc, rest)
+}
+
+fn more_members(
+    alloc: Global,
+    first: Member,
+    tokens: &[Token],
+) -> Result<(Vec<Member>, &[Token]), ReadError>
+    ensures { Gives (λ x. (map member_of x.0.items, pieces_of x.1.now)) result
+        (with_items (member_of first ∷ [])
+        (list_at begins_next_lem next_member_at_lem (pieces_of tokens.now))) }
+{
+    let mut items = Vec::new(alloc);
+    items.push(first)?;
+    let mut rest = tokens;
+    'items: while begins_next(rest) {
+        let (item, after) = next_member_at(alloc, rest)?;
+        items.push(item)?;
+        rest = after;
+    }
+    Ok((items, rest))
+}
+
+#[tactic(auto, unfolding(crate::specs::Reading::members_at))]
+fn members_at(alloc: Global, tokens: &[Token]) -> Result<(Vec<Member>, &[Token]), ReadError>
+    ensures { Gives (λ x. (map member_of x.0.items, pieces_of x.1.now)) result
+        (members_at_lem (pieces_of tokens.now)) }
+{
+    let (first, rest) = member_at(alloc, tokens)?;
+    more_members(alloc, first, rest)
+}
+
+/// Reads a union, from its name on.
+#[tactic(auto, unfolding(crate::specs::Reading::union_at))]
+fn union_at(alloc: Global, tokens: &[Token]) -> Result<(UnionBody, &[Token]), ReadError>
+    ensures { Gives (λ x. (union_of x.0, pieces_of x.1.now)) result
+        (union_at_lem (pieces_of tokens.now)) }
+{
+    let (name, rest) = word_at(alloc, tokens)?;
+    let (attributes, rest) = attributes_at(alloc, rest)?;
+    let rest = mark_at(rest, b'{')?;
+    let (members, rest) = members_at(alloc, rest)?;
+    let (comma, rest) = comma_at(rest)?;
+    let rest = mark_at(rest, b'}')?;
+    Ok((
+        UnionBody {
+            name,
+            attributes,
+            members,
+            comma,
+        },
+        rest,
+    ))
+}
+
+/// Reads a method of a service.
+#[tactic(auto, unfolding(crate::specs::Reading::method_at))]
+fn method_at(alloc: Global, tokens: &[Token]) -> Result<(Method, &[Token]), ReadError>
+    ensures { Gives (λ x. (method_of x.0, pieces_of x.1.now)) result
+        (method_at_lem (pieces_of tokens.now)) }
+{
+    let (docs, rest) = docs_at(alloc, tokens)?;
+    let (name, rest) = word_at(alloc, rest)?;
+    let rest = mark_at(rest, b'(')?;
+    let (request, rest) = path_at(alloc, rest)?;
+    let rest = mark_at(rest, b')')?;
+    let rest = mark_at(rest, b':')?;
+    let (response, rest) = path_at(alloc, rest)?;
+    let (attributes, rest) = attributes_at(alloc, rest)?;
+    let rest = mark_at(rest, b';')?;
+    Ok((
+        Method {
+            docs,
+            name,
+            request,
+            response,
+            attributes,
+        },
+        rest,
+    ))
+}
+
+fn methods(alloc: Global, tokens: &[Token]) -> Result<(Vec<Method>, &[Token]), ReadError>
+    ensures { Gives (λ x. (map method_of x.0.items, pieces_of x.1.now)) result
+        (list_at inside_lem method_at_lem (pieces_of tokens.now)) }
+{
+    let mut items = Vec::new(alloc);
+    let mut rest = tokens;
+    'items: while inside(rest) {
+        let (item, after) = method_at(alloc, rest)?;
+        items.push(item)?;
+        rest = after;
+    }
+    Ok((items, rest))
+}
+
+/// Reads a service, from its name on.
+#[tactic(auto, unfolding(crate::specs::Reading::service_at))]
+fn service_at(alloc: Global, tokens: &[Token]) -> Result<(Service, &[Token]), ReadError>
+    ensures { Gives (λ x. (service_of x.0, pieces_of x.1.now)) result
+        (service_at_lem (pieces_of tokens.now)) }
+{
+    let (name, rest) = word_at(alloc, tokens)?;
+    let rest = mark_at(rest, b'{')?;
+    let (methods, rest) = methods(alloc, rest)?;
+    let rest = mark_at(rest, b'}')?;
+    Ok((Service { name, methods }, rest))
+}
+
+/// Reads a string and a semicolon.
+#[tactic(auto, unfolding(crate::specs::Reading::quoted_at))]
+fn quoted_at(alloc: Global, tokens: &[Token]) -> Result<(Vec<u8>, &[Token]), ReadError>
+    ensures { Gives (λ x. (x.0.items, pieces_of x.1.now)) result
+        (quoted_at_lem (pieces_of tokens.now)) }
+{
+    let (text, rest) = text_at(alloc, tokens)?;
+    let rest = mark_at(rest, b';')?;
+    Ok((text, rest))
+}
+
+/// Reads a name and a semicolon.
+#[tactic(auto, unfolding(crate::specs::Reading::rooted_at))]
+fn rooted_at(alloc: Global, tokens: &[Token]) -> Result<(Path, &[Token]), ReadError>
+    ensures { Gives (λ x. (path_of x.0, pieces_of x.1.now)) result
+        (rooted_at_lem (pieces_of tokens.now)) }
+{
+    let (path, rest) = path_at(alloc, tokens)?;
+    let rest = mark_at(rest, b';')?;
+    Ok((path, rest))
+}
+
+/// Reads the name of a namespace, or none, and a semicolon.
+#[tactic(auto, unfolding(crate::specs::Reading::namespace_at))]
+fn namespace_at(alloc: Global, tokens: &[Token]) -> Result<(Option<Path>, &[Token]), ReadError>
+    ensures { Gives (λ x. (option_map path_of x.0, pieces_of x.1.now)) result
+        (namespace_at_lem (pieces_of tokens.now)) }
+{
+    if begins_mark(tokens, b';') {
+        let rest = mark_at(tokens, b';')?;
+        Ok((None, rest))
+    } else {
+        let (path, rest) = rooted_at(alloc, tokens)?;
+        Ok((Some(path), rest))
+    }
+}
+
+/// Reads the name of an attribute and a semicolon.
+#[tactic(auto, unfolding(crate::specs::Reading::declared_at))]
+fn declared_at(alloc: Global, tokens: &[Token]) -> Result<(Label, &[Token]), ReadError>
+    ensures { Gives (λ x. (label_of x.0, pieces_of x.1.now)) result
+        (declared_at_lem (pieces_of tokens.now)) }
+{
+    let (label, rest) = label_at(alloc, tokens)?;
+    let rest = mark_at(rest, b';')?;
+    Ok((label, rest))
+}
+
+/// Reads a statement, from after its first word; `left` counts the tokens from that word on.
+#[tactic(auto, unfolding(crate::specs::Reading::statement_at))]
+fn statement_at<'a>(
+    alloc: Global,
+    key: &[u8],
+    left: usize,
+    tokens: &'a [Token],
+) -> Result<(Item, &'a [Token]), ReadError>
+    ensures { Gives (λ x. (item_of x.0, pieces_of x.1.now)) result
+        (statement_at_lem key.now left (pieces_of tokens.now)) }
+{
+    if key == b"include".as_slice() {
+        let (held, rest) = quoted_at(alloc, tokens)?;
+        Ok((Item::Include(held), rest))
+    } else if key == b"namespace".as_slice() {
+        let (held, rest) = namespace_at(alloc, tokens)?;
+        Ok((Item::Namespace(held), rest))
+    } else if key == b"attribute".as_slice() {
+        let (held, rest) = declared_at(alloc, tokens)?;
+        Ok((Item::Attribute(held), rest))
+    } else if key == b"root_type".as_slice() {
+        let (held, rest) = rooted_at(alloc, tokens)?;
+        Ok((Item::RootType(held), rest))
+    } else if key == b"file_identifier".as_slice() {
+        let (held, rest) = quoted_at(alloc, tokens)?;
+        Ok((Item::FileIdentifier(held), rest))
+    } else if key == b"file_extension".as_slice() {
+        let (held, rest) = quoted_at(alloc, tokens)?;
+        Ok((Item::FileExtension(held), rest))
+    } else {
+        Err(ReadError::Fault {
+            fault: ParseFault::Declaration,
+            left,
+        })
+    }
+}
+
+/// Reads an item, from after its first word.
+#[tactic(auto, unfolding(crate::specs::Reading::item_at))]
+fn item_at<'a>(
+    alloc: Global,
+    key: &[u8],
+    left: usize,
+    tokens: &'a [Token],
+) -> Result<(Item, &'a [Token]), ReadError>
+    ensures { Gives (λ x. (item_of x.0, pieces_of x.1.now)) result
+        (item_at_lem key.now left (pieces_of tokens.now)) }
+{
+    if key == b"table".as_slice() {
+        let (held, rest) = record_at(alloc, tokens)?;
+        Ok((Item::Table(held), rest))
+    } else if key == b"struct".as_slice() {
+        let (held, rest) = record_at(alloc, tokens)?;
+        Ok((Item::Struct(held), rest))
+    } else if key == b"enum".as_slice() {
+        let (held, rest) = enumeration_at(alloc, tokens)?;
+        Ok((Item::Enum(held), rest))
+    } else if key == b"union".as_slice() {
+        let (held, rest) = union_at(alloc, tokens)?;
+        Ok((Item::Union(held), rest))
+    } else if key == b"rpc_service".as_slice() {
+        let (held, rest) = service_at(alloc, tokens)?;
+        Ok((Item::Service(held), rest))
+    } else {
+        statement_at(alloc, key, left, tokens)
+    }
+}
+
+/// Reads a declaration.
+#[tactic(auto, unfolding(crate::specs::Reading::declaration_at))]
+fn declaration_at(alloc: Global, tokens: &[Token]) -> Result<(Declaration, &[Token]), ReadError>
+    ensures { Gives (λ x. (declaration_of x.0, pieces_of x.1.now)) result
+        (declaration_at_lem (pieces_of tokens.now)) }
+{
+    let (docs, start) = docs_at(alloc, tokens)?;
+    let (key, rest) = word_at(alloc, start)?;
+    let (item, rest) = item_at(alloc, &key, start.len(), rest)?;
+    Ok((Declaration { docs, item }, rest))
+}
+
+fn schema_at(alloc: Global, tokens: &[Token]) -> Result<Vec<Declaration>, ReadError>
+    ensures { Gives (λ v. (schema_of v.items, [])) result
+        (list_at is_some_lem declaration_at_lem (pieces_of tokens.now)) }
+{
+    let mut items = Vec::new(alloc);
+    let mut rest = tokens;
+    'items: while is_some(rest) {
+        let (item, after) = declaration_at(alloc, rest)?;
+        items.push(item)?;
+        rest = after;
+    }
+    Ok(items)
+}
+
+/// Why tokens are no declarations.
+#[derive(Clone, Copy, Debug, PartialEq, Eq)]
+pub(crate) enum ParseError {
+    /// Memory was refused.
+    OutOfMemory,
+    /// The first fault, and the index of the token where it stands.
+    Fault { fault: ParseFault, index: usize },
+}
+
+/// Returns the declarations that tokens spell, all of the tokens.
+pub(crate) fn parse(alloc: Global, tokens: &[Token]) -> Result<Vec<Declaration>, ParseError>
+    // What is read is written as these tokens.
+    ensures found { IfOk result (λ v. pieces_of tokens.now ≡ schema_pieces (schema_of v.items)) }
+    // The schema that these tokens write is read, unless memory is refused.
+    ensures only { (ds : List DeclarationV) → AreWhole ds
+        → pieces_of tokens.now ≡ schema_pieces ds → ParsesTo ds result }
+    // Where the first fault stands.
+    ensures exact { AnswersParse (length tokens.now) result
+        (schema_at_lem (pieces_of tokens.now)) }
+{
+    match schema_at(alloc, tokens) {
+        Ok(declarations) => Ok(declarations),
+        Err(ReadError::OutOfMemory) => Err(ParseError::OutOfMemory),
+        Err(ReadError::Fault { fault, left }) => {
+            let index = tokens.len().saturating_sub(left);
+            Err(ParseError::Fault { fault, index })
+        }
+    }
+}

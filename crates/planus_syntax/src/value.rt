@@ -1,0 +1,150 @@
+//! Declarations. Names, digits and strings are the bytes as they are written.
+
+/// A name of one or more words, with dots between them.
+#[derive(Debug, Drop)]
+pub struct Path {
+    pub first: Vec<u8>,
+    pub more: Vec<Vec<u8>>,
+}
+
+/// The type of a field.
+#[derive(Debug, Drop)]
+pub enum Kind {
+    /// A type by its name.
+    Single(Path),
+    /// A vector of that type, as `[int]`.
+    Vector(Path),
+}
+
+/// A default, or the value of an attribute.
+#[derive(Debug, Drop)]
+pub enum Literal {
+    /// A number, as it is written.
+    Number(Vec<u8>),
+    /// A name, as `Red`, `Color.Red`, `true`, `null` and `nan`.
+    Name(Path),
+    /// A string, as it is written between its quotes.
+    Text(Vec<u8>),
+    /// `[]`.
+    EmptyVector,
+}
+
+/// The name of an attribute: a word, or a string.
+#[derive(Debug, Drop)]
+pub struct Label {
+    pub quoted: bool,
+    pub name: Vec<u8>,
+}
+
+/// An attribute in parentheses, as `id: 3` and `required`.
+#[derive(Debug, Drop)]
+pub struct Attribute {
+    pub label: Label,
+    pub value: Option<Literal>,
+}
+
+/// A field of a table or of a struct.
+#[derive(Debug, Drop)]
+pub struct Field {
+    pub docs: Vec<Vec<u8>>,
+    pub name: Vec<u8>,
+    pub kind: Kind,
+    pub default: Option<Literal>,
+    pub attributes: Vec<Attribute>,
+}
+
+/// A table or a struct.
+#[derive(Debug, Drop)]
+pub struct Record {
+    pub name: Vec<u8>,
+    pub attributes: Vec<Attribute>,
+    pub fields: Vec<Field>,
+}
+
+/// A variant of an enum, with the digits of its value where it has one.
+#[derive(Debug, Drop)]
+pub struct Variant {
+    pub docs: Vec<Vec<u8>>,
+    pub name: Vec<u8>,
+    pub value: Option<Vec<u8>>,
+}
+
+/// An enum. `comma` says that a comma follows the last variant.
+#[derive(Debug, Drop)]
+pub struct Enumeration {
+    pub name: Vec<u8>,
+    pub base: Path,
+    pub attributes: Vec<Attribute>,
+    pub variants: Vec<Variant>,
+    pub comma: bool,
+}
+
+/// A member of a union: a table by its name, or an alias and the table, as `M: Monster`, with the
+/// digits of its value where it has one.
+#[derive(Debug, Drop)]
+pub struct Member {
+    pub docs: Vec<Vec<u8>>,
+    pub path: Path,
+    pub target: Option<Path>,
+    pub value: Option<Vec<u8>>,
+}
+
+/// A union. `comma` says that a comma follows the last member.
+#[derive(Debug, Drop)]
+pub struct UnionBody {
+    pub name: Vec<u8>,
+    pub attributes: Vec<Attribute>,
+    pub members: Vec<Member>,
+    pub comma: bool,
+}
+
+/// A method of a service.
+#[derive(Debug, Drop)]
+pub struct Method {
+    pub docs: Vec<Vec<u8>>,
+    pub name: Vec<u8>,
+    pub request: Path,
+    pub response: Path,
+    pub attributes: Vec<Attribute>,
+}
+
+/// A service, `rpc_service`.
+#[derive(Debug, Drop)]
+pub struct Service {
+    pub name: Vec<u8>,
+    pub methods: Vec<Method>,
+}
+
+/// What is declared.
+#[derive(Debug, Drop)]
+pub enum Item {
+    /// `include "FILE";`.
+    Include(Vec<u8>),
+    /// `namespace NAME;`, or `namespace;`.
+    Namespace(Option<Path>),
+    /// `attribute NAME;`.
+    Attribute(Label),
+    /// `table NAME { .. }`.
+    Table(Record),
+    /// `struct NAME { .. }`.
+    Struct(Record),
+    /// `enum NAME: TYPE { .. }`.
+    Enum(Enumeration),
+    /// `union NAME { .. }`.
+    Union(UnionBody),
+    /// `rpc_service NAME { .. }`.
+    Service(Service),
+    /// `root_type NAME;`.
+    RootType(Path),
+    /// `file_identifier "NAME";`.
+    FileIdentifier(Vec<u8>),
+    /// `file_extension "NAME";`.
+    FileExtension(Vec<u8>),
+}
+
+/// A declaration with its documentation: what follows `///` on each of its lines.
+#[derive(Debug, Drop)]
+pub struct Declaration {
+    pub docs: Vec<Vec<u8>>,
+    pub item: Item,
+}
