@@ -3,6 +3,8 @@
 //! once, and the table has what it did and no times.
 #![tactic(auto)]
 
+mod lists;
+mod monsters;
 mod reads;
 mod tables;
 mod works;
@@ -32,7 +34,13 @@ const PLAIN: &[(&str, Work)] = &[
     ),
     ("tables of 2 fields", Work::TwoFields),
     ("tables of 8 fields", Work::EightFields),
+    ("monsters in one buffer", Work::Monsters),
+    ("clear, monster, finish", Work::MonsterMessages),
     ("clear, weapon, finish", Work::Weapons),
+    (
+        "clear, weapon, finish after 10000 texts",
+        Work::WeaponsAfterTexts(10000),
+    ),
     ("requests for padding", Work::Requests),
     ("read a weapon", Work::ReadWeapons),
     ("read 2 of 8 fields", Work::ReadFields(2)),
@@ -52,6 +60,8 @@ const PLAIN: &[(&str, Work)] = &[
         Work::ReadNumbers(Walk::Windows),
     ),
     ("read a text of a list", Work::ReadTexts),
+    ("read a table of a list", Work::ReadTables),
+    ("read a union of a vector", Work::ReadUnions),
 ];
 
 /// The works with caches and their names, in the order of the table.
@@ -69,7 +79,13 @@ const CACHED: &[(&str, Work)] = &[
     ("cached: equal byte lists of 64 KiB", Work::ByteLists(65536)),
     ("cached: tables of 2 fields", Work::TwoFields),
     ("cached: tables of 8 fields", Work::EightFields),
+    ("cached: monsters in one buffer", Work::Monsters),
+    ("cached: clear, monster, finish", Work::MonsterMessages),
     ("cached: clear, weapon, finish", Work::Weapons),
+    (
+        "cached: weapons after 10000 texts",
+        Work::WeaponsAfterTexts(10000),
+    ),
     ("cached: clear, text, finish", Work::AfterTexts(0)),
     ("the same after 1000 texts", Work::AfterTexts(1000)),
     ("the same after 10000 texts", Work::AfterTexts(10000)),

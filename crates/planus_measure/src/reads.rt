@@ -45,7 +45,7 @@ fn root(buffer: &[u8]) -> Result<Table<'_>, Error> {
 }
 
 /// The number of a weapon and the length of its text.
-fn weapon(table: Table<'_>) -> Result<usize, Error> {
+pub fn weapon(table: Table<'_>) -> Result<usize, Error> {
     let damage = table.access::<u16>(1, "Weapon", "damage")?.unwrap_or(0);
     let name = table.access::<&str>(0, "Weapon", "name")?.unwrap_or("");
     Ok(usize::from(damage) + name.len())

@@ -1,10 +1,10 @@
 //! Tables that are written.
 
-ghost use Rattle.std.specs.Prelude.{◌-◌, ◌++◌};
+ghost use Rattle.std.specs.Prelude.{◌≡◌, ◌-◌, ◌++◌, codes};
 ghost use Rattle.std.specs.Int.{w16, w32, to_le_bytes};
 
 use crate::works::OPERATIONS;
-use planus::{BuildError, Builder, ObjectFill, ObjectWriter, Offset, TableWriter, Text};
+use planus::{BuildError, Builder, ObjectFill, ObjectWriter, Offset, TableKind, TableWriter, Text};
 
 /// Two fields of equal numbers.
 #[derive(Drop)]
@@ -56,7 +56,7 @@ impl ObjectFill for Eight {
 
 /// A text and a number.
 #[derive(Drop)]
-struct Weapon {
+pub struct Weapon {
     name: Offset<Text>,
     damage: u16,
 }
@@ -72,6 +72,18 @@ impl ObjectFill for Weapon {
     fn fill(&self, writer: &mut ObjectWriter<'_>) {
         writer.write::<Offset<Text>, Offset<Text>>(&self.name);
         writer.write::<u16, u16>(&self.damage);
+    }
+}
+
+impl TableKind for Weapon {
+    type Writer = TableWriter<8>;
+
+    ghost name = { codes "Weapon" };
+
+    fn name() -> &'static str
+        ensures { result.now ≡ codes "Weapon" }
+    {
+        "Weapon"
     }
 }
 
@@ -95,7 +107,8 @@ fn write_table_of_eight(builder: &mut Builder) -> Result<(), BuildError> {
     writer.finish(builder, &Eight { number: 7 })
 }
 
-fn write_weapon(builder: &mut Builder) -> Result<(), BuildError> {
+/// Writes a weapon.
+pub fn write_weapon(builder: &mut Builder) -> Result<(), BuildError> {
     let name = builder.create_string("Axe")?;
     let mut writer: TableWriter<8> = TableWriter::default();
     writer.write_entry::<Offset<Text>>(0);

@@ -3,7 +3,7 @@
 ghost use Rattle.std.specs.Prelude.{◌≡◌, length};
 
 use crate::reads::{self, MONSTER, NUMBERS, WEAPON, Walk};
-use crate::tables;
+use crate::{lists, monsters, tables};
 use planus::{BuildError, Builder, ByteList, Caches, Fill, Offset, Text};
 use planus_back::Promises;
 use std::alloc::{AllocError, Global};
@@ -55,6 +55,12 @@ pub enum Work {
     EightFields,
     /// A clear, a text, a table with it and a number, and a finish.
     Weapons,
+    /// The same, by a builder that had so many texts before.
+    WeaponsAfterTexts(usize),
+    /// Tables with a field of each kind, and what they refer to.
+    Monsters,
+    /// A clear, such a table, and a finish.
+    MonsterMessages,
     /// Requests for padding alone.
     Requests,
     /// A table from its buffer, a number and a text.
@@ -67,6 +73,10 @@ pub enum Work {
     ReadNumbers(Walk),
     /// Texts of 20 bytes of a vector.
     ReadTexts,
+    /// Tables of a vector, and their numbers and texts.
+    ReadTables,
+    /// Such tables of a vector of unions.
+    ReadUnions,
 }
 
 /// A filler of equal bytes.
@@ -162,7 +172,9 @@ fn push_texts_of(alloc: Global, texts: &mut Vec<String>, work: Work) -> Result<(
         Work::NewTexts(len) | Work::NewByteLists(len) => {
             push_different_texts(alloc, texts, OPERATIONS, len)
         }
-        Work::AfterTexts(count) => push_different_texts(alloc, texts, count, 20),
+        Work::AfterTexts(count) | Work::WeaponsAfterTexts(count) => {
+            push_different_texts(alloc, texts, count, 20)
+        }
         _ => Ok(()),
     }
 }
@@ -188,6 +200,8 @@ fn bytes_of(alloc: Global, work: Work) -> Result<Vec<u8>, AllocError> {
         Work::ReadWeapons => repeated(alloc, &WEAPON),
         Work::ReadFields(_) => repeated(alloc, &NUMBERS),
         Work::ReadMonsters => repeated(alloc, &MONSTER),
+        Work::ReadTables => lists::finished_tables(alloc),
+        Work::ReadUnions => lists::finished_unions(alloc),
         _ => Ok(Vec::new(alloc)),
     }
 }
@@ -348,16 +362,17 @@ impl Works {
         self.numbers = numbers_of(self.alloc, work)?;
         self.bytes = bytes_of(self.alloc, work)?;
         match work {
-            Work::AfterTexts(_) => self.write_before(),
+            Work::AfterTexts(_) | Work::WeaponsAfterTexts(_) => self.write_before(),
             Work::ReadNumbers(_) => self.finish_numbers(),
             Work::ReadTexts => self.finish_texts(),
             _ => Ok(()),
         }
     }
 
-    /// Puts a builder with caches in the place of the one before, and writes the texts.
+    /// Puts a builder with caches in the place of the one before, and writes the texts by both.
     fn write_before(&mut self) -> Result<(), BuildError> {
         self.caching = builder_of(self.alloc, 0, Caches::all())?;
+        write_texts(&mut self.builder, self.texts.as_slice())?;
         write_texts(&mut self.caching, self.texts.as_slice())?;
         Ok(())
     }
@@ -417,12 +432,16 @@ fn round_by(
         Work::GrowingParts(size) => write_growing_parts(alloc, size).ok(),
         Work::TwoFields => tables::write_two(builder).ok(),
         Work::EightFields => tables::write_eight(builder).ok(),
-        Work::Weapons => tables::write_weapons(builder).ok(),
+        Work::Weapons | Work::WeaponsAfterTexts(_) => tables::write_weapons(builder).ok(),
+        Work::Monsters => monsters::write_monsters(builder).ok(),
+        Work::MonsterMessages => monsters::write_monster_messages(builder).ok(),
         Work::Requests => request_padding(),
         Work::ReadWeapons => reads::weapons(bytes).ok(),
         Work::ReadFields(count) => reads::fields(bytes, count).ok(),
         Work::ReadMonsters => reads::monsters(bytes).ok(),
         Work::ReadNumbers(walk) => reads::walked(bytes, walk).ok(),
         Work::ReadTexts => reads::texts(bytes).ok(),
+        Work::ReadTables => lists::tables(bytes).ok(),
+        Work::ReadUnions => lists::unions(bytes).ok(),
     }
 }
