@@ -94,7 +94,7 @@ module _ {T : Type 0} (P Q : T → Type 0) (more : (x : T) → P x → Q x) wher
   then_read (Ok x) h = more x h
   then_read (Err e) h = elim h [ ]
 
--- The same of what a content is made of, of which more follows.
+-- The same for what a content is made of, of which more follows.
 made_of : {X Y T : Type 0} (reads : Reads T) (May : List ℕ → X → Type 0) (content : X → Content)
     (IsRead : List ℕ → X → T → Type 0) (part : Y → X) (MayBe : List ℕ → Y → Type 0)
     (IsSo : List ℕ → Y → T → Type 0) → ((B : List ℕ) (y : Y) → MayBe B y → May B (part y))

@@ -9,7 +9,7 @@ use Rattle.planus.specs.TableChecks.{content_fault, field_fault, fields_fault}
 use Rattle.planus.specs.inner.Declaring.{slots_of}
 use Rattle.planus.specs.declared.faults.Why.{Why}
 
--- the faults are the same by what is the same of each step that is named
+-- the faults are the same by what is the same for each step that is named
 module _ (f g : Kind → ℕ → Option Why) (same : (kind : Kind) (n : ℕ) → f kind n ≡ g kind n) where
   same_content : (content : FieldStep) → content_fault f content ≡ content_fault g content
   same_content (number_field width n) = refl

@@ -27,7 +27,7 @@ value_kind named distance e = by_tags named.tags e
     by_tags None e = refl
     by_tags (Some tags) e = (cc)
 
--- what has tags, or references, is a vector of unions
+-- what has tags, or references, is a union vector
 tags_kind : (named : Named) (distance : ℕ) → tags_distance named ≡ Some distance → kind_named named ≡ a_union_vector
 tags_kind named distance e = by_tags named.tags e
   where

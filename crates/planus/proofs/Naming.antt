@@ -190,7 +190,7 @@ module _ (replay : ReplayState) (steps : List Step) (h : HasTaken replay steps) 
   named_fault : name_fault replay kind root ≡ fault_of kind (named_step steps root)
   named_fault = by_test (nat_lt root replay.first) refl
 
--- the first fault is the same by what is the same of each
+-- the first fault is the same by what is the same for each
 same_first : {X : Type 0} (f g : X → Option Why) → ((x : X) → f x ≡ g x) → (xs : List X) → first_fault f xs ≡ first_fault g xs
 same_first f g same [] = refl
 same_first f g same (x ∷ xs) = ap (λ o. option_or o (first_fault f xs)) (same x) ∙ ap (option_or (g x)) (same_first f g same xs)

@@ -47,7 +47,7 @@ module _ (part : Part) (before a b : Written) (x : Placed part before a) (y : Pl
       ∙ ap (λ padding. part.bytes_at y.place ++ replicate padding 0 ++ before.bytes) same_padding ∙ sym y.bytes)
       (x.promises ∙ ap (λ place. promise_of place part.alignment ∷ before.promises) same_place ∙ sym y.promises)
 
--- an entry is put down in one way
+-- an entry is written in one way
 abbrev Same : ℕ → Past → ℕ → Past → Type 0
 Same d a e b = (d ≡ e) × (a ≡ b)
 

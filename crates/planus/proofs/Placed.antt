@@ -107,7 +107,7 @@ pub put_in_turn : (earlier : Option ℕ) (part : Part) (shared : Option Contents
 put_in_turn (Some d) part shared before distance after put sized power h = subst IsPlacedInTurn (sym put.1) h
 put_in_turn None part shared before distance after put sized power h = added_in_turn part shared before distance after put (sized put.placed.place) power h
 
--- entries that are put down are placed in turn
+-- entries that are written are placed in turn
 pub all_in_turn : (switches : Switches) (entries : List Entry) (got : List ℕ) (before : Past)
     (all : List ℕ) (after : Past) → AreFit entries
     → PutsAll switches entries got before all after → IsPlacedInTurn before → IsPlacedInTurn after

@@ -1,4 +1,4 @@
--- What is read of the unions and of the vectors of unions of a table that was written.
+-- What is read of the unions and of the union vectors of a table that was written.
 use Rattle.std.proofs.Common.{◌≡◌, ℕ, ◌+◌, ◌*◌, ◌<◌, ◌≤◌, max, List, [], ◌∷◌, refl, sym, subst, ap, ◌∙◌, arith, Bool, true, false, Option, Some, None, Result, Ok, Err, inl, inr}
 use Rattle.std.specs.Prelude.{◌≢◌, ◌==◌, map, if◌then◌else◌, IsOkAnd, IsSomeAnd, ⊤}
 use Rattle.std.specs.Int.{w8, to_le_bytes}
@@ -224,7 +224,7 @@ tags_of_unions B (union_and tag content others) (union ∷ unions) hold =
 tags_of_unions B no_unions (union ∷ unions) hold = elim hold [ ]
 tags_of_unions B (union_and tag content others) [] hold = elim hold [ ]
 
--- where both fields refer to a vector of unions
+-- where both fields refer to a union vector
 abbrev pub RefersToUnions : List ℕ → Field → Field → List (ℕ × ℕ) → Type 0
 RefersToUnions B one next items =
     (tags_at values_at : ℕ) × (one ≡ tags tags_at) × (next ≡ values_field values_at)
@@ -253,7 +253,7 @@ refer_to_unions B contents one next holds next_holds =
     )
 
 module _ (T E : Type 0) where
-  -- an answer to a vector of unions where both references stand
+  -- an answer to a union vector where both references stand
   some_unions : (B : List ℕ) (k tags_at values_at : ℕ) (items : List (ℕ × ℕ))
       → Stands B (at_both (position_of B tags_at) (position_of B values_at)) (union_vector items)
       → (r : Result (Option (VectorOf (UnionSliceView T E))) ErrorKind)

@@ -30,7 +30,7 @@ small_field_first = refl
 object_too_large : can_hold 6 (record { slot = 0; size = 65536; alignment = 1 } ∷ []) ≡ false
 object_too_large = refl
 
--- a union in slots 0 and 1, and a vector of unions in slots 4 and 5
+-- a union in slots 0 and 1, and a union vector in slots 4 and 5
 unions_have_neighbours : are_neighbours ((0, 1) ∷ (4, 5) ∷ []) ≡ true
 unions_have_neighbours = refl
 

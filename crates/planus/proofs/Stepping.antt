@@ -75,7 +75,7 @@ asks entry got old past is_past refused =
           (within (shared_as old.switches entry.contents) part old past.written.promises refused.lacks);
     }
 
--- entries that were refused memory come to where it may be refused, and so do those that were put down
+-- entries that were refused memory come to where it may be refused, and so do those that were written
 entries_refused : (entries : List Entry) (got : List ℕ) (old new : builder.State) (past : Past) → WritesEntries entries got old (Err OutOfMemory) new → IsPast old past
     → ComesToRefusedEntry old.switches entries got past
 entries_refused [] got old new past h is_past = tt
@@ -172,7 +172,7 @@ text_advanced content old (Err ReplayTooLarge) new h =
     stops {A = Offset Text} offset_named (WritesText content) (text content) (value.text content) old refl refl (λ offset after put. by_entry (text_entry content) old.builder offset after put) h.0 (inl h.1)
 text_advanced content old (Err (BadStep number why)) new h = absurd h
 
--- a byte list
+-- a byte vector
 pub bytes_advanced : (content : List ℕ) (old : ReplayState) (answer : Result (Unit {0}) ReplayError) (new : ReplayState)
     → WritesValue {A = Offset (ListOf ℕ)} offset_named (WritesByteList content) old answer new → Advanced old (bytes content) answer new
 bytes_advanced content old (Ok done) new noted = record {
@@ -378,7 +378,7 @@ module _ (front : Front) (root : ℕ) (identifier : Option (List ℕ)) (entry : 
     switches = finishes.puts.switches;
   }
 
-  -- a finish that was put down, and refused memory to be given
+  -- a finish that was written, and refused memory to be given
   pub finish_not_given : (old : ReplayState) (offset : Offset (Unit {0})) → value_at (values_listed old) root ≡ Some offset.distance
       → (answer : Result (Bor (List ℕ)) BuildError) (lent : Bor (List ℕ)) (new : builder.State) → answer ≡ Ok lent
       → FrontLeaves offset entry old.builder answer new → Stopped old (finish front root identifier) ReplayOutOfMemory

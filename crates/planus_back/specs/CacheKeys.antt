@@ -15,7 +15,7 @@ vtable_in bytes =
 
 -- The bytes behind the count at the front of these bytes; none where they, or the count, aren't
 -- wholly there.
--- The format: a text and a byte list begin with a count, a number of 4 bytes.
+-- The format: a text and a byte vector begin with a count, a number of 4 bytes.
 abbrev pub bytes_in : List ℕ → Option (List ℕ)
 bytes_in bytes =
     if nat_le 4 (length bytes)

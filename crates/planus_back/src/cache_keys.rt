@@ -20,7 +20,7 @@ pub trait GetCacheKey {
 /// The kind of vtables: a key is a vtable whole, with its own size in front.
 pub struct VTable;
 
-/// The kind of texts and byte lists: a key is the bytes behind the count.
+/// The kind of texts and byte vectors: a key is the bytes behind the count.
 pub struct ByteVec;
 
 /// As many of the last bytes as the distance.

@@ -163,7 +163,7 @@ fn same(left: &[u8], right: &[u8]) -> bool
     left.len() == right.len() && same_words(left, right)
 }
 
-// The same of as many. The last 8 are compared first, and then 8 at a time, since most of what is
+// The same for as many. The last 8 are compared first, and then 8 at a time, since most of what is
 // compared is short.
 #[inline]
 fn same_words(left: &[u8], right: &[u8]) -> bool

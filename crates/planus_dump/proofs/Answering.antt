@@ -266,7 +266,7 @@ union_answer table i None h = union_absent table i h
 union_answer table i (Some tagged) (tag, there, shows) =
     (record { tag = tag; offset = slot_of table (i + 1) }, union_there table i tag there, record { tag = shows.tag_is; bytes = shows.place_is.bytes; offset = shows.place_is.offset })
 
--- vectors of unions
+-- union vectors
 union_vector_rest : List ℕ → ℕ → ℕ → List Clause
 union_vector_rest S f g =
     clause (items_at S f + count_at S f ≤ length S) InvalidLength ∷ clause (items_at S g + count_at S g * 4 ≤ length S) InvalidLength

@@ -251,7 +251,7 @@ module _ (table : Table) (i : ℕ) where
     broken = λ text. (broken_back text, λ h. union_broken h.0 h.1 ∙ ap Err (sym h.2));
   }
 
-  -- a vector of unions
+  -- a union vector
   no_vector : NoUnionVector table i → unions_at (table_seen table) i ≡ Ok None
   no_vector (inl short) = let ends : nat_lt slots (2 * i + 4) ≡ true = lt-ltb slots (2 * i + 4) short in rw ends refl
   no_vector (inr (both, first, second)) =

@@ -46,7 +46,7 @@ truth_event S f path inside h = value_event path (leaf_at LeafBool S f) (truth_t
 some_same : (a b : ℕ) → Some a ≡ Some b → a ≡ b
 some_same a b e = cc
 
--- an item that is a number or a truth value, and such a field
+-- an item that is a number or a bool, and such a field
 pub plain_item_event : (E : TableEvents) (item : Item) (size : ℕ) (S : List ℕ) (f : ℕ) (path : List ℕ) → plain_size item ≡ Some size → f + size ≤ length S → HasNoSpace path
     → HaveNoFault (item_events E item S f path)
 plain_item_event E U16 size S f path e inside h = let same : 2 ≡ size = some_same 2 size e in unsigned_event w16 S f path (omega arith) h
@@ -97,7 +97,7 @@ pub text_event : (S : List ℕ) (f : ℕ) (content path : List ℕ) → TextTher
 text_event S f content path there h =
     value_event path (leaf_at LeafText S f) (quoted (content_at S f)) (all_pass (text_clauses S f) (text_tests S f) (quoted (content_at S f)) (text_matches S f) (text_holds S f content there).0) h
 
--- a byte list
+-- a byte vector
 pub byte_list_matches : (S : List ℕ) (f : ℕ) → Matches (byte_list_clauses S f) (byte_list_tests S f)
 byte_list_matches S f =
     head_matches S f (clause (items_at S f + count_at S f ≤ length S) InvalidLength ∷ []) (test (nat_le (items_at S f + count_at S f) (length S)) InvalidLength ∷ [])
@@ -134,14 +134,14 @@ answered_vector stride S f items a =
     let holds : AllHold (vector_clauses S f stride) × (items.position ≡ items_at S f) × (items.count ≡ count_at S f) = vector_holds S f stride items.position items.count a.there in
     record { vector = vector_passes stride S f holds.0; position = holds.1; count = holds.2 }
 
--- a byte list is a vector of items of one byte
+-- a byte vector is a vector of items of one byte
 pub bytes_vector : (S : List ℕ) (f : ℕ) (content : List ℕ) → ByteListThere S f content → VectorIs 1 S f
 bytes_vector S f content there =
     let h : AllHold (byte_list_clauses S f) = (byte_list_holds S f content there).0 in
     let inside : items_at S f + count_at S f * 1 ≤ length S = omega (arith, h.1.1.1.0) in
     vector_passes 1 S f (h.0, (h.1.0, (h.1.1.0, (inside, tt))))
 
--- a vector of unions: that its tests pass, and where its parts lie
+-- a union vector: that its tests pass, and where its parts lie
 pub record AnsweredUnions (S : List ℕ) (f g : ℕ) (items : UnionItems) : Type 0 where
   pub is : union_vector_at S f g ≡ Ok (record { tags = drop (items_at S f) S; references = drop (items_at S g) S; count = count_at S f })
   pub tags : items.tags ≡ items_at S f

@@ -61,7 +61,7 @@ list_no_fault E item S f path v h each =
     subst (λ (a : Result SeenItems (List ℕ)). HaveNoFault (list_events E item path a)) (sym v.is)
     ((lines_told path h).list (count_at S f), items_no_fault E item (drop (items_at S f) S) path (count_at S f) 0 (λ j least below. each j (omega arith)))
 
--- a list of numbers or truth values
+-- a list of numbers or bools
 plain_list_no_fault : (E : TableEvents) (item : Item) (size : ℕ) (S : List ℕ) (f : ℕ) (path : List ℕ) → plain_size item ≡ Some size → VectorIs size S f → HasNoSpace path
     → HaveNoFault (place_events E (ListOf item) S f path)
 plain_list_no_fault E item size S f path is v h =
@@ -101,7 +101,7 @@ module _ (steps : List Step) (given : Finish) (values : AllByRecursion (ValueHol
   item_no_fault (Table index) n d start f path is e leads h = tables index n d start f path is e leads h
   item_no_fault _ n d start f path is e leads h = absurd is
 
-  -- a byte list
+  -- a byte vector
   byte_list_by : (d start f : ℕ) (path : List ℕ) (step : Step) (v : Value) → IsByteList (Some step) → value_of given.places step ≡ Some v → ReadsBack given.bytes (at (position_of given.bytes d)) v
       → Leads given.bytes (start + f) (position_of given.bytes d) → HasNoSpace path → HaveNoFault (leaf_events LeafBytes (drop start given.bytes) f path)
   byte_list_by d start f path (bytes content) v is e reads leads h =
@@ -327,7 +327,7 @@ module _ (B : List ℕ) (k : ℕ) (entries : List (ℕ × Field)) (seen : Seen) 
           let second : (Slot seen.slots (i + 1) == 0) ≡ true = eq-eqb (Slot seen.slots (i + 1)) 0 next_zero in
           rw (first, second) refl
 
--- the events of a union's slots and of a vector of unions's, as these are answered
+-- the events of a union's slots and of a union vector's, as these are answered
 union_field_by : (E : TableEvents) (schema : Schema) (index : ℕ) (object path : List ℕ) (r : Result (Option SeenUnion) (List ℕ)) (o : Option SeenUnion) → r ≡ Ok o
     → HaveNoFault (union_field_events E schema index object path (Ok o)) → HaveNoFault (union_field_events E schema index object path r)
 union_field_by E schema index object path r o e h = subst (λ (a : Result (Option SeenUnion) (List ℕ)). HaveNoFault (union_field_events E schema index object path a)) (sym e) h
@@ -365,7 +365,7 @@ union_is seen i tag q p both slot next some more byte =
         let offset : tagged_union seen i (Some tag) ≡ Ok (Some (record { tag = tag; offset = Slot seen.slots (i + 1) })) = rw (is, one, two) refl in
         inr (known ∙ offset ∙ ap (λ n. Ok (Some (let u : SeenUnion = record { tag = tag; offset = n } in u))) next)
 
--- a vector of unions that is there
+-- a union vector that is there
 unions_is : (seen : Seen) (i q p : ℕ) → 2 * i + 4 ≤ length seen.slots → Slot seen.slots i ≡ q → Slot seen.slots (i + 1) ≡ p → q ≢ 0 → p ≢ 0
     → unions_at seen i ≡ some_of (union_vector_at seen.object q p)
 unions_is seen i q p both slot next some more =
@@ -419,7 +419,7 @@ module _ (steps : List Step) (given : Finish) (values : AllByRecursion (ValueHol
           (references_lead given.bytes (k + Slot seen.slots (i + 1)) d leads) h))
   union_no_fault index _ _ is same next = absurd is
 
-  -- the items of a vector of unions
+  -- the items of a union vector
   union_vector_items_no_fault : (index q p t d : ℕ) (step : Step) (v : Value) → IsVectorOfUnions steps IsTable (slice_get schema.unions.items index) (Some step) → value_of given.places step ≡ Some v
       → ReadsBack given.bytes (at_both (position_of given.bytes t) (position_of given.bytes d)) v
       → Leads given.bytes (k + q) (position_of given.bytes t) → Leads given.bytes (k + p) (position_of given.bytes d)
@@ -451,7 +451,7 @@ module _ (steps : List Step) (given : Finish) (values : AllByRecursion (ValueHol
       )
   union_vector_items_no_fault index q p t d _ v is e reads tags references = absurd is
 
-  -- a vector of unions
+  -- a union vector
   union_vector_no_fault : (index : ℕ) (o p : Option FieldStep) → IsUnionVector steps IsTable (slice_get schema.unions.items index) o p → SameSlot given.places o (field_at entries i)
       → SameSlot given.places p (field_at entries (i + 1)) → HaveNoFault (kind_events E schema (UnionVector index) i seen path)
   union_vector_no_fault index None None is same next = unions_by E schema index path (unions_at seen i) None (unions_none given.bytes k entries seen sees i same next) tt

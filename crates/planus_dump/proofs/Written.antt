@@ -144,7 +144,7 @@ module _ (steps : List Step) (given : Finish) (values : AllByRecursion (ValueHol
   same_named : (o : Option Named) (a b : Named) → o ≡ Some a → o ≡ Some b → a ≡ b
   same_named o a b e h = cc
 
-  -- a vector of unions, where it has both distances
+  -- a union vector, where it has both distances
   pub lists_held : (n t d : ℕ) → distance_at tags_distance given.places n ≡ Some t → distance_at references_distance given.places n ≡ Some d
       → Held steps given.places given.bytes (at_both (position_of given.bytes t) (position_of given.bytes d)) n
   lists_held n t d e h =

@@ -65,7 +65,7 @@ fn tables_in(buffer: &[u8]) -> Result<Vector<'_, Result<TableRef<'_, Weapon>, Er
     ).map_err(|kind| kind.with_error_location("Tables", "root", 0))
 }
 
-/// Reads the weapons of a vector of unions, and returns the sum.
+/// Reads the weapons of a union vector, and returns the sum.
 pub fn unions(buffer: &[u8]) -> Result<usize, Error> {
     let mut sum: usize = 0;
     for item in unions_in(buffer)? {

@@ -39,9 +39,9 @@ pub enum Work {
     AfterTexts(usize),
     /// Lists of 64 texts, of 0 to 63 bytes.
     TextLists,
-    /// Equal byte lists of this size.
+    /// Equal byte vectors of this size.
     ByteLists(usize),
-    /// Different byte lists of this size, of at least 7.
+    /// Different byte vectors of this size, of at least 7.
     NewByteLists(usize),
     /// Lists of so many numbers of 4 bytes.
     NumberLists(usize),
@@ -75,7 +75,7 @@ pub enum Work {
     ReadTexts,
     /// Tables of a vector, and their numbers and texts.
     ReadTables,
-    /// Such tables of a vector of unions.
+    /// Such tables of a union vector.
     ReadUnions,
 }
 

@@ -280,7 +280,7 @@ text_answer S start f count items bytes (Err e) head same ok err =
     no_text_of_head S f count e read.holds read.counted
     (subst (λ l. FirstBroken (text_of_clauses l count) e) (same ∙ read.bytes) err)
 
--- a byte list
+-- a byte vector
 pub byte_list_there :
     (S : List ℕ) (f : ℕ) → AllHold (byte_list_clauses S f)
     → ByteListThere S f (take (count_at S f) (drop (items_at S f) S))

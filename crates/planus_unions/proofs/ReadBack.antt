@@ -1,4 +1,4 @@
--- A vector of unions that stands is returned.
+-- A union vector that stands is returned.
 use Rattle.std.proofs.Common.{◌≡◌, ℕ, zero, suc, ◌+◌, ◌≤◌, List, [], ◌∷◌, length, take, drop, ap, ◌∙◌, sym}
 use Rattle.std.proofs.Common.{Result, Ok, Err, Some, arith}
 use Rattle.std.specs.Prelude.{IsOkAnd, slice_index}

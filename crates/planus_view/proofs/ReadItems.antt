@@ -24,7 +24,7 @@ vector_there S start f stride items head there shows fits =
     subst (λ n. n * stride ≤ length (slice_bytes head.0)) shows.counted fits in
     record { head = there; inside = omega (arith, word, behind, rest, all) }
 
--- tags and references that are there, but not as many, are no vector of unions
+-- tags and references that are there, but not as many, are no union vector
 pub counts_differ : (S : List ℕ) (f g tags tag_count values value_count : ℕ) → VectorThere S f 1 tags tag_count
     → VectorThere S g 4 values value_count → (tag_count ≡ value_count → ⊥)
     → FirstBroken (union_vector_clauses S f g) (UnionVectorLengthsMismatched tag_count value_count)

@@ -1,4 +1,4 @@
--- An entry whose part is put into the room made for it is put down, and one whose contents are found
+-- An entry whose part is put into the room made for it is written, and one whose contents are found
 -- is as well.
 use Rattle.std.proofs.Common.{◌≡◌, ℕ, ◌+◌, ◌-◌, ◌*◌, ◌≤◌, List, [], ◌∷◌, ◌++◌, length, drop, Bool, true, false}
 use Rattle.std.proofs.Common.{replicate, refl, sym, ap, ◌∙◌, subst, arith, append_assoc}
@@ -460,7 +460,7 @@ module _ (contents : List ℕ) (part : Part) (a : Inside) (mid : Backed) (s : Sh
       (at_its_place vtable_in n.bytes place contents (new_length part.size part.alignment place a.backing padded n bytes room length_is put) stands)
       are_kept)
 
-  -- a part that was planned is put down
+  -- a part that was planned is written
   pub begun : (kind : Kind) (plan : Plan) (padded n : Backed) (bytes : List ℕ)
       → FindsOrPlans (contents_in kind) contents part.size part.alignment a.backing (shares_of kind a) (Ok (Planned plan)) mid s → Pads plan mid padded
       → part.bytes_at plan.place ≡ bytes → length bytes ≡ part.size → PutsBytes bytes padded n → contents_in kind n.bytes ≡ Some contents
@@ -469,7 +469,7 @@ module _ (contents : List ℕ) (part : Part) (a : Inside) (mid : Backed) (s : Sh
   begun kind plan padded n bytes h pads bytes_are length_is put stands are_kept =
       in_room kind plan.place padded n bytes h.0 (makes_room part.size part.alignment a.backing mid padded plan h.1.0 h.1.1 pads) h.1.2 bytes_are length_is put stands are_kept
 
-  -- one whose contents are found is put down
+  -- one whose contents are found is written
   pub found_again : (kind : Kind) (distance : ℕ) → FindsOrPlans (contents_in kind) contents part.size part.alignment a.backing (shares_of kind a) (Ok (Found distance)) mid s
       → PutsDown (shared_entry kind contents part) [] (state_of a) distance (state_of (with_shares kind a mid s))
   found_again texts distance h =
@@ -489,7 +489,7 @@ module _ (contents : List ℕ) (part : Part) (a : Inside) (mid : Backed) (s : Sh
   not_begun vtables error h =
       rw h.1.1 (shared_refused vtables contents part [] a.backing (state_of a).switches (state_of a).holdings error mid h.0 h.1.0)
 
--- a builder that put down an entry, or refused one, still has a past
+-- a builder that written an entry, or refused one, still has a past
 pub still_sound : (entry : Entry) (got : List ℕ) (old new : State) (distance : ℕ) → (past : Past) × IsPast old past → PutsDown entry got old distance new → (past : Past) × IsPast new past
 still_sound entry got old new distance sound put = let after = put.puts sound.0 sound.1 in (after.0, after.2)
 

@@ -106,7 +106,7 @@ module _ (vtable : List ℕ) (body : Part) (old new : Backed) (first second thir
     word_put = rw (← same) (planned_put (word_part first.place) two third third_plans refl (omega (arith, within, count, none)));
   }
 
--- where equal vtables aren't written once, parts that are put are the entries of a table, put down
+-- where equal vtables aren't written once, parts that are put are the entries of a table, written
 module _ (vtable : List ℕ) (body : Part) (a : Inside) (off : a.vtables.on ≡ false) (is_vtable : vtable_in vtable ≡ Some vtable) where
   vtable_down : (place : ℕ) (new : Backed) → PutsPart (vtable_part vtable) a.backing place new → PutsDown (vtable_entry vtable) [] (state_of a) place (state_of (record a { backing = new }))
   vtable_down place new h =
@@ -139,7 +139,7 @@ module _ (vtable : List ℕ) (body : Part) (a : Inside) (off : a.vtables.on ≡ 
   puts_table_if true new h = puts_table new h
   puts_table_if false new h = ap (λ backing. state_of (record a { backing = backing })) h
 
--- a builder that put down a table, or did nothing, still has a past
+-- a builder that written a table, or did nothing, still has a past
 pub table_sound : (put : Bool) (vtable : List ℕ) (body : Part) (old new : State) → (past : Past) × IsPast old past → PutsTableIf put vtable body old new → (past : Past) × IsPast new past
 table_sound true vtable body old new sound h =
     let first = still_sound (vtable_entry vtable) [] old h.first h.vtable_at sound h.vtable_put in

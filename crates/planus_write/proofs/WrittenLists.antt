@@ -80,7 +80,7 @@ refused_by_size part got old power far = record {
       };
 }
 
--- what a part is put down behind doesn't matter to it
+-- what a part is written behind doesn't matter to it
 pub put_behind : (part : Part) (before got : List ℕ) (old : State) (distance : ℕ) (new : State) → WritesEntry (unshared_entry part) before old (Ok distance) new → WritesEntry (unshared_entry part) got old (Ok distance) new
 put_behind part before got old distance new h = record { grows = h.grows; reached = h.reached; fits = h.fits; puts = h.puts; room = h.room; switches = h.switches }
 

@@ -1,4 +1,4 @@
--- A vector of unions is written: its references and their count, its tags and their count.
+-- A union vector is written: its references and their count, its tags and their count.
 use Rattle.std.proofs.Common.{◌≡◌, ℕ, List, [], ◌∷◌, ◌++◌, length, map, refl, ap, ◌∙◌, subst, inl, inr}
 use Rattle.std.specs.Prelude.{Ok, Err}
 use Rattle.planus_write.specs.Past.{Entry, unshared_entry}

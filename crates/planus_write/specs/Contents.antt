@@ -1,4 +1,4 @@
--- What a value holds as a field of a table, in the words of its caller.
+-- What a value holds as a field of a table, as its caller would say it.
 use Rattle.std.specs.Prelude.{◌≡◌, ℕ, List, [], ◌∷◌, Option}
 use Rattle.std.specs.Prelude.{Some, None, Ok, ⊤}
 use Rattle.planus_read.specs.Values.{Value, Field, Plain, plain, reference, tags}
@@ -13,10 +13,10 @@ use Rattle.planus_write.specs.declared.union_offset.UnionOffset.{UnionOffset}
 use Rattle.planus_write.specs.declared.union_vector_offset.UnionVectorOffset.{UnionVectorOffset}
 
 mutual
-  -- What a field holds: a number or a truth value; a reference to a value; a reference to a list of
-  -- references to values; or a reference to what was written before, at this distance. A vector of
-  -- unions has two fields, one that refers to its tags and one that refers to its values: they are those
-  -- of a list of these unions, or of one that was written before.
+  -- What a field holds: a number or a bool; a reference to a value; a reference to a vector of
+  -- references to values; or a reference to a value written before, at this distance. A union
+  -- vector has two fields, references to its tags and to its values: those of a vector of these
+  -- unions, or of one written before.
   pub data Content : Type 0 where
     item : Plain → Content
     value : Value → Content
@@ -27,12 +27,12 @@ mutual
     written_tags : ℕ → Content
     written_values : ℕ → Content
 
-  -- The unions of a vector: the tag of each, and what the reference to its value holds.
+  -- The unions of a vector: each one's tag, and what its reference holds.
   pub data Unions : Type 0 where
     no_unions : Unions
     union_and : ℕ → Content → Unions → Unions
 
--- some tags, and what the reference to the value of each holds, as such unions
+-- tags, each with what its reference holds, as such unions
 abbrev pub as_unions : List (ℕ × Content) → Unions
 as_unions [] = no_unions
 as_unions (one ∷ others) = union_and one.0 one.1 (as_unions others)
@@ -41,7 +41,7 @@ as_unions (one ∷ others) = union_and one.0 one.1 (as_unions others)
 abbrev pub named_at : ℕ → Named
 named_at distance = record { distance = distance; tags = None }
 
--- the values are kept at these distances, one by one
+-- the values are stored at these distances, one by one
 abbrev pub AllKept : Past → List Value → List ℕ → Type 0
 AllKept past [] [] = ⊤
 AllKept past (one ∷ others) (distance ∷ distances) =
@@ -49,13 +49,13 @@ AllKept past (one ∷ others) (distance ∷ distances) =
 AllKept past [] (distance ∷ distances) = ⊥
 AllKept past (one ∷ others) [] = ⊥
 
--- the same of a vector of unions
+-- the same for a union vector
 abbrev pub named_at_both : (tags_at values_at : ℕ) → Named
 named_at_both tags_at values_at = record { distance = values_at; tags = Some tags_at }
 
 abbrev mutual
-  -- The field holds this. What it refers to is kept; of what was written before that is the caller's
-  -- to know.
+  -- The field holds this, and the value it refers to is stored. What was written before is for the
+  -- caller to know.
   pub FieldIs : Past → Content → Field → Type 0
   FieldIs past (item content) field = field ≡ plain content
   FieldIs past (value content) field =
@@ -76,7 +76,7 @@ abbrev mutual
   FieldIs past (written_tags distance) field = field ≡ tags distance
   FieldIs past (written_values distance) field = field ≡ values_field distance
 
-  -- Unions, each a tag and a distance, have these tags, and the references to their values hold these.
+  -- Unions, each a tag and a distance, have these tags, and their references hold these.
   pub UnionsAre : Past → Unions → List (ℕ × ℕ) → Type 0
   UnionsAre past no_unions [] = ⊤
   UnionsAre past (union_and tag content others) (union ∷ unions) =
@@ -84,11 +84,11 @@ abbrev mutual
   UnionsAre past no_unions (union ∷ unions) = ⊥
   UnionsAre past (union_and tag content others) [] = ⊥
 
--- from a past a builder came to one in which this holds
+-- from one history to another in which this holds
 abbrev pub Comes : Past → State → (Past → Type 0) → Type 0
 Comes past new Holds = (after : Past) × IsPast new after × Extends past after × Holds after
 
--- Once a value is prepared, the field that it becomes holds its content.
+-- Once a value is prepared, its field holds the value's content.
 pub record PreparesContent {X A : Type 0} (may : X → State → Type 0) (outcome : X → Outcome A)
     (content : X → Content) (field : A → Field) : Type 0 where
   pub comes :
@@ -96,7 +96,7 @@ pub record PreparesContent {X A : Type 0} (may : X → State → Type 0) (outcom
       → outcome x old (Ok prepared) new → IsPast old past
       → Comes past new (λ after. FieldIs after (content x) (field prepared))
 
--- A union, written before, has this tag, and a reference to its value holds this; or it is left out.
+-- A union written before has this tag, and its reference holds this; or it is left out.
 abbrev pub UnionHolds : {T : Type 0} → Past → Option (ℕ × Content) → Option (UnionOffset T) → Type 0
 UnionHolds past None None = ⊤
 UnionHolds past (Some content) (Some union) =
@@ -104,7 +104,7 @@ UnionHolds past (Some content) (Some union) =
 UnionHolds past None (Some union) = ⊥
 UnionHolds past (Some content) None = ⊥
 
--- The same of a union that is always there, as one of a vector.
+-- The same for a union that is always present, such as an item.
 pub record PreparesUnionItem {X T : Type 0} (may : X → State → Type 0)
     (outcome : X → Outcome (UnionOffset T)) (content : X → ℕ × Content) : Type 0 where
   pub comes :
@@ -112,7 +112,7 @@ pub record PreparesUnionItem {X T : Type 0} (may : X → State → Type 0)
       → outcome x old (Ok prepared) new → IsPast old past
       → Comes past new (λ after. UnionHolds after (Some (content x)) (Some prepared))
 
--- The two fields of a vector of unions hold these; or it is left out.
+-- The two fields of a union vector hold these; or it is left out.
 abbrev pub UnionVectorHolds : {T : Type 0} → Past → Option (Content × Content)
     → Option (UnionVectorOffset T) → Type 0
 UnionVectorHolds past None None = ⊤
@@ -126,6 +126,6 @@ UnionVectorHolds past (Some contents) None = ⊥
 abbrev pub unions_hold : List (ℕ × Content) → Content × Content
 unions_hold contents = (union_tags (as_unions contents), union_values (as_unions contents))
 
--- the tag of a union that was written before, and what the reference to its value holds
+-- a union written before: its tag, and what its reference holds
 abbrev pub written_union : {T : Type 0} → UnionOffset T → ℕ × Content
 written_union union = (union.tag, written (union_reach union))

@@ -5,7 +5,7 @@ use Rattle.planus_read.specs.Values.{Field}
 use Rattle.planus_write.specs.Items.{Item}
 use Rattle.planus_write.specs.Tables.{IsField, field_item, field_size}
 
--- What is written in a table with this size, alignment, bytes and reach is this field of the format.
+-- What is written with this size, alignment, bytes and reach is this field of the format.
 pub record IsItem (size alignment : ℕ) (leaves : Item) (reach : ℕ) (field : Field) : Type 0 where
   pub size_is : field_size field ≡ size
   pub alignment_is : field_alignment field ≡ alignment

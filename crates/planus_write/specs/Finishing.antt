@@ -1,4 +1,4 @@
--- What a finish answers, and how it leaves the builder.
+-- The result of a finish, and the builder after it.
 use Rattle.std.specs.Prelude.{◌≡◌, ℕ, List, [], length, Result, Ok, Err, Option, ⊤}
 use Rattle.std.specs.Borrow.{follows_so, MutBor, Bor, Fml}
 use mathlib.Core.Option.{none}
@@ -10,52 +10,52 @@ use Rattle.planus_write.specs.declared.errors.BuildError.{BuildError}
 use Rattle.planus_write.specs.declared.offset.Offset.{Offset}
 use Rattle.planus_write.specs.contracts.builder.Builder.{the_row}
 
--- Words were put in front of all that was written; then no byte is still to come up to a length that
--- keeps every promise.
+-- The entry's bytes were prepended to all that was written, at a length that keeps every alignment
+-- constraint without padding.
 pub record PutsInFront (entry : Entry) (old : State) (distance : ℕ) (new : State) : Type 0 where
   pub puts : PutsDown entry [] old distance new
   pub whole : distance ≡ length new.bytes
   pub kept : new.delayed ≡ 0
 
--- such words were put down, or refused
+-- such bytes were prepended, or the call failed
 abbrev pub WritesFront : Entry → Outcome ℕ
 WritesFront entry old (Ok distance) new = PutsInFront entry old distance new
 WritesFront entry old (Err error) new = Refuses entry [] old error new
 
--- the finish of a prepared root was put down
+-- the finish of a prepared root was written
 abbrev pub Finishes : ℕ → Option (List ℕ) → State → ℕ → State → Type 0
 Finishes root identifier old distance new =
     PutsInFront (finish_entry root identifier) old distance new
 
--- the finish of a prepared root was put down, or refused
+-- the finish of a prepared root was written, or the call failed
 abbrev pub WritesRoot : ℕ → Option (List ℕ) → Outcome ℕ
 WritesRoot root identifier = WritesFront (finish_entry root identifier)
 
--- the same with the size in front
+-- the same, size-prefixed
 abbrev pub WritesSizedRoot : ℕ → Option (List ℕ) → Outcome ℕ
 WritesSizedRoot root identifier = WritesFront (sized_finish_entry root identifier)
 
--- The root is prepared, and then the finish is put down.
+-- The root is prepared, and then the finish is written.
 abbrev pub FinishDoes : {T : Type 0} → Outcome (Offset T) → Option (List ℕ) → Outcome ℕ
 FinishDoes {T} prepare identifier = then_does prepare (λ root. WritesRoot root.distance identifier)
 
--- The root is prepared, and then the finish with the size in front is put down.
+-- The root is prepared, and then the size-prefixed finish is written.
 abbrev pub SizedFinishDoes : {T : Type 0} → Outcome (Offset T) → Option (List ℕ) → Outcome ℕ
 SizedFinishDoes {T} prepare identifier =
     then_does prepare (λ root. WritesSizedRoot root.distance identifier)
 
--- How a call that puts words in front leaves the builder, by what it answers: the bytes that it
--- lends are all of the builder's.
+-- The builder after a call that prepends bytes, by its result: the slice lent is all of the
+-- builder's bytes.
 abbrev pub LendsAll : Outcome ℕ → State → Result (Bor (List ℕ)) BuildError → State → Type 0
 LendsAll does old (Ok bytes) new = does old (Ok (length new.bytes)) new × (bytes.now ≡ new.bytes)
 LendsAll does old (Err error) new = does old (Err error) new
 
--- the bytes that it lends: all of the builder's, as it leaves it
+-- the slice lent: all of the builder's bytes after the call
 abbrev pub GivesAll : Outcome ℕ → State → List ℕ → Type 0
 GivesAll does old bytes =
     (new : State) × does old (Ok (length new.bytes)) new × (bytes ≡ new.bytes)
 
--- how a finish leaves the builder, and what it lends
+-- the builder after a finish, and the slice lent
 abbrev pub FinishLeaves : {T : Type 0} → Outcome (Offset T) → Option (List ℕ) → State
     → Result (Bor (List ℕ)) BuildError → State → Type 0
 FinishLeaves {T} prepare identifier = LendsAll (FinishDoes prepare identifier)
@@ -64,7 +64,7 @@ abbrev pub FinishGives : {T : Type 0} → Outcome (Offset T) → Option (List �
     → Type 0
 FinishGives {T} prepare identifier = GivesAll (FinishDoes prepare identifier)
 
--- the same of a finish with the size in front
+-- the same for a size-prefixed finish
 abbrev pub SizedFinishLeaves : {T : Type 0} → Outcome (Offset T) → Option (List ℕ) → State
     → Result (Bor (List ℕ)) BuildError → State → Type 0
 SizedFinishLeaves {T} prepare identifier = LendsAll (SizedFinishDoes prepare identifier)
@@ -73,6 +73,6 @@ abbrev pub SizedFinishGives : {T : Type 0} → Outcome (Offset T) → Option (Li
     → Type 0
 SizedFinishGives {T} prepare identifier = GivesAll (SizedFinishDoes prepare identifier)
 
--- the builder is left so, once the bytes that are lent are given back
+-- the builder is so once the lent slice is given back
 abbrev pub EndsAs : MutBor State → (State → Type 0) → Fml
 EndsAs builder Leaves = follows_so the_row the_row builder.ghost_name none (λ _ _. ⊤) Leaves

@@ -1,12 +1,11 @@
--- What is held of the contents of one kind, so that equal ones are found again.
+-- What is remembered of the contents of one kind, to find equal ones.
 use Rattle.std.specs.Prelude.{◌≡◌, ℕ, ◌<◌, ◌++◌, List, length, slice_index, Option, Some, MatchOption}
 use Rattle.std.specs.Prelude.{◌↔◌, ◌⊎◌}
 use mathlib.Core.Logic.{◌≢◌}
 use Rattle.planus_back.specs.CacheKeys.{key_at}
 use Rattle.planus_back.specs.Caches.{Held, Has, Fits}
 
--- While the contents are few, the distances at which they stand; and what a cache holds of them once
--- they are many.
+-- The distances of few contents; or the view of the cache of many.
 pub data Holding : Type 0 where
   few : List ℕ → Holding
   many : Held → Holding
@@ -25,25 +24,24 @@ Holds (many held) distance = Has held distance
 abbrev pub HoldsNothing : Holding → Type 0
 HoldsNothing holding = (distance : ℕ) → ¬ Holds holding distance
 
--- the distances are those of before, and this one
+-- the distances of before, and this one
 abbrev pub HoldsMore : Holding → ℕ → Holding → Type 0
 HoldsMore old distance new = (other : ℕ) → Holds new other ↔ (Holds old other ⊎ (other ≡ distance))
 
--- it fits the bytes: at each of its distances contents stand
+-- it fits the bytes: contents are encoded at each of its distances
 abbrev pub HoldingFits : FindContents → Holding → List ℕ → Type 0
 HoldingFits contents_in (few distances) bytes =
     (i : ℕ) → i < length distances
     → (contents : List ℕ) × (key_at contents_in bytes (slice_index distances i) ≡ Some contents)
 HoldingFits contents_in (many held) bytes = Fits contents_in held bytes
 
--- it fits whatever is put in front of the bytes, if the contents then stand at the distance
+-- it fits the bytes whatever is prepended, if the contents are then at the distance
 abbrev pub FitsInFront : FindContents → List ℕ → List ℕ → ℕ → Holding → Type 0
 FitsInFront contents_in bytes contents distance holding =
     (front : List ℕ) → key_at contents_in (front ++ bytes) distance ≡ Some contents
     → HoldingFits contents_in holding (front ++ bytes)
 
--- what is found of contents: a distance that is held at which they stand, or none where there is
--- none
+-- the result of a lookup: a remembered distance of these contents, or none
 abbrev pub FindsHeld : FindContents → Holding → List ℕ → List ℕ → Option ℕ → Type 0
 FindsHeld contents_in holding bytes contents answer =
     MatchOption answer

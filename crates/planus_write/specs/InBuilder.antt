@@ -1,11 +1,11 @@
--- What is in a builder: what was written there since the last clear.
+-- What is in a builder: what was written since the last clear.
 use Rattle.std.specs.Prelude.{◌≤◌, List, length}
 use Rattle.std.specs.List.{AllByRecursion}
 use Rattle.planus_write.specs.State.{State, Grows}
 use Rattle.planus_write.specs.declared.offset.Offset.{Offset}
 use Rattle.planus_write.specs.declared.union_offset.UnionOffset.{UnionOffset}
 
--- the offset lies in the bytes of the builder, and so may be referred to
+-- the offset is in the builder's bytes, and so may be referred to
 abbrev pub IsIn : {T : Type 0} → State → Offset T → Type 0
 IsIn builder offset = offset.distance ≤ length builder.bytes
 

@@ -1,4 +1,4 @@
--- Which kind of an error of input and output a refused write is.
+-- The `io::ErrorKind` of a failed write.
 use Rattle.std.specs.declared.io.ErrorKind.{ErrorKind}
 use Rattle.std.specs.declared.io.ErrorKind.TheVariants as kind
 use Rattle.planus_write.specs.declared.errors.BuildError.{BuildError}

@@ -1,4 +1,4 @@
--- What is kept of what was written: it stands where it is named, and is aligned.
+-- What it means that a value is stored: it is encoded at its distances, and aligned.
 use Rattle.std.specs.Prelude.{ℕ, ◌-◌, ◌≤◌, List, ◌++◌, length, Option, Some, None, ⊤}
 use Rattle.std.specs.List.{AllByRecursion}
 use Rattle.std.specs.Int.{◌∣◌}
@@ -12,13 +12,13 @@ use Rattle.planus_write.specs.Shared.{Kind, texts, byte_lists, vtables, Seen}
 use Rattle.planus_write.specs.Past.{Past}
 use Rattle.planus_write.specs.Parts.{Named, position_in}
 
--- the tags that a value is named by lie in so many bytes, if it has any
+-- the distance of a union vector's tags, if any, is at most n
 abbrev pub TagsReached : ℕ → Option ℕ → Type 0
 TagsReached length None = ⊤
 TagsReached length (Some tags) = tags ≤ length
 
--- The value stands in what was written, at the distances that it is named by, and is aligned in all
--- bytes that end in this and whose length keeps the promises.
+-- The value is encoded in what was written, at its distances, and is aligned in all bytes that end
+-- in this and whose length keeps the constraints.
 pub record IsKept (past : Past) (value : Value) (named : Named) : Type 0 where
   pub reached : named.distance ≤ length past.written.bytes
   pub tags_reached : TagsReached (length past.written.bytes) named.tags
@@ -27,8 +27,8 @@ pub record IsKept (past : Past) (value : Value) (named : Named) : Type 0 where
       → AlignedAt (front ++ past.written.bytes)
       (moved (length front) (position_in past.written.bytes named)) value
 
--- Contents that were seen: a text or a byte list of these bytes is kept at the distance; of a
--- vtable its bytes stand, at a multiple of 2.
+-- Cached contents: a string or a byte vector of these bytes is stored at the distance; a vtable's
+-- bytes are there, at a multiple of 2.
 abbrev pub KindIsKept : Past → Kind → List ℕ → ℕ → Type 0
 KindIsKept past texts bytes distance =
     IsKept past (text bytes) (record { distance = distance; tags = None })

@@ -1,4 +1,4 @@
--- Whether a part can be placed behind this number of bytes: within the greatest place, and within the room.
+-- Whether a part can be placed after n bytes: within the greatest place, and within the room.
 use Rattle.std.specs.Prelude.{ℕ, ◌+◌, ◌<◌, ◌≤◌, List}
 use Rattle.planus_back.specs.Padding.{IsLeastPadding, greatest_place}
 use Rattle.planus_back.specs.Promises.{Promise}
@@ -18,7 +18,7 @@ abbrev pub ExceedsLimit : ℕ → ℕ → ℕ → List Promise → Type 0
 ExceedsLimit len size alignment promises =
     WithPadding len size alignment promises (λ padding. greatest_place < len + padding + size)
 
--- It isn't too large, but doesn't fit the room.
+-- It isn't too large, but exceeds the room.
 abbrev pub ExceedsRoom : ℕ → ℕ → ℕ → ℕ → List Promise → Type 0
 ExceedsRoom len room size alignment promises =
     WithPadding len size alignment promises

@@ -1,4 +1,4 @@
--- What lists hold once they are written.
+-- What vectors hold once they are written.
 use Rattle.std.specs.Prelude.{ℕ, List, [], map, Ok}
 use Rattle.planus_read.specs.Values.{reference}
 use Rattle.planus_write.specs.Items.{Item}
@@ -10,15 +10,14 @@ use Rattle.planus_write.specs.Preparing.{WritesEntries}
 use Rattle.planus_write.specs.State.{State, IsPast}
 use Rattle.planus_write.specs.Contents.{Content, FieldIs, Comes}
 
--- a list of items was written, or refused: its items are prepared, and then its entries put down
+-- a vector was written, or the call failed: its items are prepared, and then its entries written
 abbrev pub WritesItems : {Y A : Type 0} → (List Y → Outcome (List A)) → (A → Item)
     → (size alignment : ℕ) → List Y → Outcome ℕ
 WritesItems prepares leaves size alignment ys =
     then_does (prepares ys)
     (λ items. AnswersLast (WritesEntries (list_entries size alignment (map leaves items)) []))
 
--- What is asked of items of which there are lists: once a list of them is written, a reference to it
--- holds this.
+-- The law of items of a vector: once the vector is written, a reference to it holds this.
 pub record ListHasContent {Y A : Type 0} (all_may : List Y → State → Type 0)
     (prepares : List Y → Outcome (List A)) (leaves : A → Item) (size alignment : ℕ)
     (list : List Y → Content) : Type 0 where

@@ -1,18 +1,18 @@
--- What a writer of an object's fields has written, and what is left to it.
+-- What a writer of an object's fields has written, and what is left.
 use Rattle.std.specs.Prelude.{ℕ, ◌-◌, List, ◌++◌, length, take}
 use Rattle.planus_write.specs.Items.{Item}
 use Rattle.planus_write.specs.declared.object_writer.ObjectWriter.{ObjectWriter}
 use base.Fml.{GName}
 
--- The body of a table while it is written: the bytes so far, how many are still to be written, and
--- the place of the next of them. All of them lie behind this reference.
+-- The body of a table while it is written: the bytes so far, how many are left, and the next one's
+-- place. All are after this reference.
 pub record ObjectBody : Type 0 where
   pub written : List ℕ
   pub remaining : ℕ
   pub place : ℕ
   pub reference : GName
 
--- the body that a writer is at
+-- the body at which a writer is
 abbrev pub body_of : ObjectWriter → ObjectBody
 body_of writer = record {
   written = take writer.at writer.bytes.now;
@@ -21,7 +21,7 @@ body_of writer = record {
   reference = writer.bytes.ghost_name;
 }
 
--- so many bytes more are written, which are these by their place
+-- n bytes more are written, these by their place
 abbrev pub wrote : ℕ → Item → ObjectBody → ObjectBody
 wrote size item body = record {
   written = body.written ++ item body.place;

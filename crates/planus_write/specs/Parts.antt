@@ -1,4 +1,4 @@
--- The parts of each value, in the order in which they are written.
+-- The parts of each value, in the order written.
 use Rattle.std.specs.Prelude.{◌≡◌, ℕ, ◌+◌, ◌-◌, ◌*◌, ◌<◌, ◌≤◌, ◌^◌, max, List, [], ◌∷◌, ◌++◌, length}
 use Rattle.std.specs.Prelude.{map, Option, Some, None, ⊤}
 use Rattle.std.specs.List.{AllByRecursion}
@@ -14,8 +14,8 @@ use Rattle.planus_write.specs.Past.{Entry, unshared_entry}
 use Rattle.planus_write.specs.Items.{Item, plain_item, reference_item}
 use Rattle.planus_write.specs.Tables.{IsTable, table_entries}
 
--- A text is one part, aligned to 4: its count, its bytes and a zero byte.
--- The format: a text is a vector of bytes with a zero byte behind it that the count leaves out.
+-- A string is one part, aligned to 4: its count, its bytes and a zero byte. The format: a string is
+-- a vector of bytes followed by a zero byte that the count excludes.
 abbrev pub text_part : List ℕ → Part
 text_part bytes =
     record {
@@ -34,7 +34,7 @@ text_entry bytes =
       part = λ got promises. text_part bytes;
     }
 
--- A byte list is one part, aligned to 4: its count and its bytes.
+-- A byte vector is one part, aligned to 4: its count and its bytes.
 abbrev pub byte_list_part : List ℕ → Part
 byte_list_part bytes = record {
   size = length bytes + 4;
@@ -42,20 +42,20 @@ byte_list_part bytes = record {
   bytes_at = λ place. to_le_bytes w32 (length bytes) ++ bytes;
 }
 
--- equal byte lists may be written once
+-- equal byte vectors may be written once
 abbrev pub byte_list_entry : List ℕ → Entry
 byte_list_entry bytes = record {
   contents = Some (record { kind = byte_lists; bytes = bytes });
   part = λ got promises. byte_list_part bytes;
 }
 
--- The bytes of items, one after another: the first at the place, and each next one nearer to the
--- end by the size.
+-- The bytes of items, one after another: the first at the place, each next one nearer to the end by
+-- the size.
 abbrev pub items_bytes : ℕ → ℕ → List Item → List ℕ
 items_bytes size place [] = []
 items_bytes size place (item ∷ items) = item place ++ items_bytes size (place - size) items
 
--- the items of a list as one part, aligned as they are, but at least to 4
+-- the items of a vector as one part, with their alignment, but at least 4
 abbrev pub items_part : (size alignment : ℕ) → List Item → Part
 items_part size alignment items = record {
   size = length items * size;
@@ -68,17 +68,17 @@ abbrev pub count_part : ℕ → Part
 count_part count =
     record { size = 4; alignment = 1; bytes_at = λ place. to_le_bytes w32 count }
 
--- A list: its items, and then its count in front of them.
--- The format: a vector is a count of 4 bytes, which its items follow.
+-- A vector: its items, and then its count before them. The format: a vector is a count of 4 bytes,
+-- followed by its items.
 abbrev pub list_entries : (size alignment : ℕ) → List Item → List Entry
 list_entries size alignment items =
     unshared_entry (items_part size alignment items) ∷ unshared_entry (count_part (length items)) ∷ []
 
--- the tags of a vector of unions as one part, aligned to 4
+-- the tags of a union vector as one part, aligned to 4
 abbrev pub tags_part : List ℕ → Part
 tags_part tags = record { size = length tags; alignment = 4; bytes_at = λ place. tags }
 
--- the tags, and then their count in front of them
+-- the tags, and then their count before them
 abbrev pub tags_entries : List ℕ → List Entry
 tags_entries tags = unshared_entry (tags_part tags) ∷ unshared_entry (count_part (length tags)) ∷ []
 
@@ -89,19 +89,19 @@ tags_in items = map (λ item. item.0) items
 abbrev pub distances_in : List (ℕ × ℕ) → List ℕ
 distances_in items = map (λ item. item.1) items
 
--- A vector of unions: the list of its references, and in front of that the list of its tags.
--- The format: a vector of unions is two vectors of equal count: tags of one byte, and references.
+-- A union vector: its vector of references, and before it its vector of tags. The format: a union
+-- vector is two vectors of equal count: tags of one byte, and references.
 abbrev pub union_entries : List (ℕ × ℕ) → List Entry
 union_entries items =
     list_entries 4 4 (map reference_item (distances_in items)) ++ tags_entries (tags_in items)
 
--- the bytes of a file identifier, none where there is none
+-- the bytes of a file identifier, if any
 abbrev pub identifier_bytes : Option (List ℕ) → List ℕ
 identifier_bytes None = []
 identifier_bytes (Some bytes) = bytes
 
--- Words in front of all that was written, as one part. Its alignment is the greatest of 4 and every
--- alignment that was promised.
+-- Bytes before all that was written, as one part. Its alignment is the greatest of 4 and every
+-- alignment constraint.
 abbrev pub front_part : ℕ → (ℕ → List ℕ) → List Promise → Part
 front_part size words promises =
     record { size = size; alignment = greatest_alignment 4 promises; bytes_at = words }
@@ -110,15 +110,13 @@ abbrev pub front_entry : ℕ → (ℕ → List ℕ) → Entry
 front_entry size words =
     record { contents = None; part = λ got promises. front_part size words promises }
 
--- the root word, which is the place less the root's distance, and behind it the file identifier, if
--- there is one
+-- the root word, its place less the root's distance, followed by the file identifier, if any
 abbrev pub root_words : ℕ → Option (List ℕ) → ℕ → List ℕ
 root_words root identifier place =
     to_le_bytes w32 (place - root) ++ identifier_bytes identifier
 
--- A finish is one part: the root word and the file identifier, if there is one.
--- The format: a buffer begins with a reference to its root; four bytes that identify the file may
--- follow.
+-- A finish is one part: the root word and the file identifier, if any. The format: a buffer begins
+-- with a reference to its root; four bytes that identify the file may follow.
 abbrev pub finish_part : ℕ → Option (List ℕ) → List Promise → Part
 finish_part root identifier promises =
     front_part (length (identifier_bytes identifier) + 4) (root_words root identifier) promises
@@ -127,15 +125,15 @@ abbrev pub finish_entry : ℕ → Option (List ℕ) → Entry
 finish_entry root identifier =
     front_entry (length (identifier_bytes identifier) + 4) (root_words root identifier)
 
--- the size word, which is the place less its own 4 bytes, and behind it the words of a finish, which
--- are so much nearer to the end
+-- the size word, its place less its own 4 bytes, followed by the words of a finish, nearer to the
+-- end by 4
 abbrev pub sized_words : ℕ → Option (List ℕ) → ℕ → List ℕ
 sized_words root identifier place =
     to_le_bytes w32 (place - 4) ++ root_words root identifier (place - 4)
 
--- A finish with the size in front is one part too: the size word, and then the words of a finish.
--- The format: a size-prefixed buffer begins with an unsigned number of 4 bytes, which says how many
--- bytes follow it; the buffer is aligned from that number on.
+-- A size-prefixed finish is one part too: the size word, then the words of a finish. The format: a
+-- size-prefixed buffer begins with an unsigned number of 4 bytes, the number of bytes that follow;
+-- the buffer is aligned from that number on.
 abbrev pub sized_finish_part : ℕ → Option (List ℕ) → List Promise → Part
 sized_finish_part root identifier promises =
     front_part (length (identifier_bytes identifier) + 8) (sized_words root identifier) promises
@@ -144,21 +142,21 @@ abbrev pub sized_finish_entry : ℕ → Option (List ℕ) → Entry
 sized_finish_entry root identifier =
     front_entry (length (identifier_bytes identifier) + 8) (sized_words root identifier)
 
--- bytes that a filler leaves at the part's place
+-- the bytes that a filler writes at the part's place
 abbrev pub filled_part : ℕ → ℕ → (ℕ → ℕ → List ℕ) → Part
 filled_part size alignment leaves =
     record { size = size; alignment = alignment; bytes_at = λ place. leaves place size }
 
--- The items of a plain list have its size, which is above 0 and a multiple of their alignment; and
--- that is a power of two.
+-- Items of a plain vector: each of this size, a positive multiple of the alignment, which is a
+-- power of two.
 pub record IsPlainList (size alignment : ℕ) (items : List (List ℕ)) : Type 0 where
   pub sizes : AllByRecursion (λ item. length item ≡ size) items
   pub positive : 0 < size
   pub multiple : alignment ∣ size
   pub power : (k : ℕ) × (alignment ≡ 2 ^ k)
 
--- The values that can be written in front of so many bytes: what they refer to lies in these bytes,
--- and the items of a plain list, and the fields of a table, are such.
+-- The values that can be written before n bytes: their references lead into these bytes, and the
+-- items of a plain vector, and the fields of a table, are as the format asks.
 abbrev pub IsWritten : ℕ → Value → Type 0
 IsWritten before (text bytes) = ⊤
 IsWritten before (byte_list bytes) = ⊤
@@ -168,7 +166,7 @@ IsWritten before (reference_list distances) =
 IsWritten before (union_vector items) = AllByRecursion (λ item. item.1 ≤ before) items
 IsWritten before (table entries) = IsTable before entries
 
--- The entries of a value, in the order in which they are put down.
+-- The entries of a value, in the order written.
 abbrev pub entries_of : Value → List Entry
 entries_of (text bytes) = text_entry bytes ∷ []
 entries_of (byte_list bytes) = byte_list_entry bytes ∷ []
@@ -178,8 +176,8 @@ entries_of (reference_list distances) = list_entries 4 4 (map reference_item dis
 entries_of (union_vector items) = union_entries items
 entries_of (table entries) = table_entries entries
 
--- The distances by which a value is named: its own, or of a vector of unions that of its references and
--- that of its tags.
+-- The distances of a value: its own; for a union vector that of its references and that of its
+-- tags.
 pub record Named : Type 0 where
   pub distance : ℕ
   pub tags : Option ℕ
@@ -195,13 +193,13 @@ abbrev pub second_of : List ℕ → ℕ
 second_of (first ∷ second ∷ rest) = second
 second_of _ = 0
 
--- What a value is named by, once its entries got these distances: the last of them; of a vector of unions
--- the second, which the count of its references got, and the last, which that of its tags got.
+-- The distances of a value whose entries got these: the last of them; for a union vector the
+-- second, of the count of its references, and the last, of the count of its tags.
 abbrev pub named_by : Value → List ℕ → Named
 named_by (union_vector items) got = record { distance = second_of got; tags = Some (last_of got) }
 named_by value got = record { distance = last_of got; tags = None }
 
--- the positions of what is named by one distance, or by two
+-- the positions for one distance, or for two
 abbrev pub position_with : List ℕ → ℕ → Option ℕ → Position
 position_with B distance None = at (position_of B distance)
 position_with B distance (Some tags) = at_both (position_of B tags) (position_of B distance)

@@ -1,11 +1,11 @@
--- What was written since the last clear, and how one part more is put down.
+-- The history since the last clear, and how one part more is written.
 use Rattle.std.specs.Prelude.{◌≡◌, ℕ, List, [], ◌∷◌, ◌++◌, Option, Some, None, ◌⊎◌}
 use Rattle.planus_back.specs.Promises.{Promise}
 use Rattle.planus_back.specs.Parts.{Part, Written, Placed, IsTooLarge}
 use Rattle.planus_write.specs.Shared.{Contents, Switches, Seen, shared_as, earlier_distance, and_seen}
 
--- The bytes and what was promised of them; the contents that were written to be shared, and where;
--- and the parts and their places, in the order in which they were placed.
+-- The bytes and their alignment constraints; the contents that were cached, and where; and the
+-- parts and their places, in order.
 pub record Past : Type 0 where
   pub written : Written
   pub seen : List Seen
@@ -22,8 +22,8 @@ no_past = record {
       [];
 }
 
--- One entry of a write: the contents by which it may be shared, if it may, and its part. That may
--- depend on the distances that the write's entries before it got, and on the promises made before.
+-- One entry of a write: the contents by which it may be shared, if any, and its part, which may
+-- depend on the distances of the write's earlier entries and on the constraints so far.
 pub record Entry : Type 0 where
   pub contents : Option Contents
   pub part : List ℕ → List Promise → Part
@@ -35,7 +35,7 @@ unshared_entry part = record { contents = None; part = λ got promises. part }
 abbrev pub part_after : Entry → List ℕ → Past → Part
 part_after entry got past = entry.part got past.written.promises
 
--- The part is placed by least padding, and added to what was written.
+-- The part is placed with the least padding, and added to the history.
 pub record Adds (part : Part) (shared : Option Contents) (before : Past) (distance : ℕ)
     (after : Past) : Type 0 where
   pub placed : Placed part before.written after.written
@@ -44,24 +44,24 @@ pub record Adds (part : Part) (shared : Option Contents) (before : Past) (distan
   pub parts : after.parts ≡ before.parts ++ part ∷ []
   pub places : after.places ≡ before.places ++ distance ∷ []
 
--- The distance is that at which equal contents were found, and nothing is written; or else the part
--- is added.
+-- The distance is that of equal contents found, and nothing is written; otherwise the part is
+-- added.
 abbrev pub PutsAfter : Option ℕ → Part → Option Contents → Past → ℕ → Past → Type 0
 PutsAfter (Some earlier) part shared before distance after = (distance ≡ earlier) × (after ≡ before)
 PutsAfter None part shared before distance after = Adds part shared before distance after
 
--- where the contents of an entry were seen, if they were and it is shared
+-- where the entry's contents were cached, if they were and it is shared
 abbrev pub found_before : Switches → Entry → Past → Option ℕ
 found_before switches entry past = earlier_distance past.seen (shared_as switches entry.contents)
 
--- One entry is put down, behind those that got these distances, and gets this distance.
+-- One entry is written, after those that got these distances, and gets this distance.
 abbrev pub Puts : Switches → Entry → List ℕ → Past → ℕ → Past → Type 0
 Puts switches entry got before distance after =
     PutsAfter (found_before switches entry before) (part_after entry got before)
     (shared_as switches entry.contents)
     before distance after
 
--- The entries are put down one after another, and all get these distances.
+-- The entries are written one after another, and get these distances.
 abbrev pub PutsAll : Switches → List Entry → List ℕ → Past → List ℕ → Past → Type 0
 PutsAll switches [] got before all after = (all ≡ got) × (after ≡ before)
 PutsAll switches (entry ∷ entries) got before all after =
@@ -74,7 +74,7 @@ pub record PutsTooLarge (switches : Switches) (entry : Entry) (got : List ℕ)
   pub is_new : found_before switches entry before ≡ None
   pub too_large : IsTooLarge (part_after entry got before) before.written
 
--- Putting down the entries comes to one whose part is too large.
+-- Writing the entries comes to one whose part is too large.
 abbrev pub ComesToTooLarge : Switches → List Entry → List ℕ → Past → Type 0
 ComesToTooLarge switches [] got before = ⊥
 ComesToTooLarge switches (entry ∷ entries) got before =

@@ -1,4 +1,4 @@
--- How a builder puts down one entry.
+-- How a builder writes one entry.
 use Rattle.std.specs.Prelude.{◌≡◌, ℕ, ◌+◌, ◌≤◌, List, [], ◌++◌, length, Option}
 use Rattle.std.specs.Prelude.{Some, None, Result, Ok, Err, ◌⊎◌}
 use Rattle.planus_back.specs.Promises.{Promise}
@@ -11,12 +11,12 @@ use Rattle.planus_write.specs.State.{State, IsPast}
 use Rattle.planus_write.specs.declared.errors.BuildError.{BuildError}
 use Rattle.planus_write.specs.declared.errors.BuildError.TheVariants.{OutOfMemory, TooLarge}
 
--- What a call does: the builder before, the answer, and the builder after.
+-- What a call does: the builder before, the result, and the builder after.
 abbrev pub Outcome : Type 0 → Type 1
 Outcome A = State → Result A BuildError → State → Type 0
 
--- One call, and then another that takes its answer. A refusal of the first is that of both;
--- where the second is refused, the first is done.
+-- One call, and then another that takes its result. An error of the first is that of both; if the
+-- second fails, the first is done.
 abbrev pub then_does : {A B : Type 0} → Outcome A → (A → Outcome B) → Outcome B
 then_does {A} {B} first second old (Ok b) new = (a : A) × (between : State)
     × first old (Ok a) between × second a between (Ok b) new
@@ -25,8 +25,8 @@ then_does {A} {B} first second old (Err error) new =
     ⊎ ((a : A) × (between : State) × first old (Ok a) between
     × second a between (Err error) new)
 
--- The entry was put down, whatever was written before, and got this distance. Where padding and
--- part fit the room, the room falls by their bytes.
+-- The entry was written, for any history, and got this distance. Where padding and part fit the
+-- room, the room falls by their bytes.
 pub record PutsDown (entry : Entry) (got : List ℕ) (old : State) (distance : ℕ)
     (new : State) : Type 0 where
   pub grows : (front : List ℕ) × (new.bytes ≡ front ++ old.bytes)
@@ -38,8 +38,8 @@ pub record PutsDown (entry : Entry) (got : List ℕ) (old : State) (distance : �
       → length new.bytes + new.room ≡ length old.bytes + old.room
   pub switches : new.switches ≡ old.switches
 
--- Memory may have been refused for padding and part, which aren't too large; where the part is
--- shared, it may also have been refused to the cache.
+-- Memory may have been refused for padding and part, which aren't too large; for a shared part,
+-- also to the cache.
 abbrev pub MayLackMemory : Option Contents → Part → State → List Promise → Type 0
 MayLackMemory None part old promises =
     ExceedsRoom (length old.bytes) old.room part.size part.alignment promises
@@ -59,26 +59,26 @@ RefusedFor entry got old TooLarge = (past : Past) → IsPast old past
 RefusedFor entry got old OutOfMemory = (past : Past) → IsPast old past
     → RefusedMemory entry got old past
 
--- How a refused entry leaves the builder, by the contents by which it is shared: as it was; but
--- where it is shared, room may have been made for its part before its cache was refused memory.
+-- The builder after a failed entry, by the contents by which it is shared: as it was; a shared one
+-- may have got room for its part before its cache was refused memory.
 abbrev pub LeftAsItWas : BuildError → Option Contents → State → State → Type 0
 LeftAsItWas OutOfMemory (Some contents) old new =
     (old.room ≤ new.room) × (new ≡ record old { room = new.room })
 LeftAsItWas OutOfMemory None old new = new ≡ old
 LeftAsItWas TooLarge shared old new = new ≡ old
 
--- The entry was refused, and no byte, no promise and no contents that were seen have changed.
+-- The entry failed; no byte, constraint or cached contents have changed.
 pub record Refuses (entry : Entry) (got : List ℕ) (old : State) (error : BuildError)
     (new : State) : Type 0 where
   pub unchanged : LeftAsItWas error (shared_as old.switches entry.contents) old new
   pub cause : RefusedFor entry got old error
 
--- The entry was put down and got the distance that is answered, or it was refused.
+-- The entry was written and got the returned distance, or it failed.
 abbrev pub WritesEntry : Entry → List ℕ → Outcome ℕ
 WritesEntry entry got old (Ok distance) new = PutsDown entry got old distance new
 WritesEntry entry got old (Err error) new = Refuses entry got old error new
 
--- The same where the answer doesn't tell the distance: it is the length afterwards.
+-- The same where the result doesn't name the distance: it is the length afterwards.
 abbrev pub WritesPart : Entry → Outcome (Unit {0})
 WritesPart entry old (Ok done) new = WritesEntry entry [] old (Ok (length new.bytes)) new
 WritesPart entry old (Err error) new = WritesEntry entry [] old (Err error) new

@@ -1,4 +1,4 @@
--- What the preparing of a value may do.
+-- What preparing a value may do.
 use Rattle.std.specs.Prelude.{◌≡◌, ℕ, ◌+◌, ◌*◌, ◌≤◌, List, [], ◌∷◌, ◌++◌, length, map}
 use Rattle.std.specs.Prelude.{slice_get, Some, Result, Ok, Err, Vec}
 use Rattle.std.specs.declared.alloc.Global.{Global}
@@ -12,24 +12,24 @@ use Rattle.planus_write.specs.declared.errors.BuildError.{BuildError}
 use Rattle.planus_write.specs.declared.errors.BuildError.TheVariants.{OutOfMemory}
 use Rattle.planus_write.specs.declared.offset.Offset.{Offset}
 
--- What is asked of everything that can be prepared, by when it may be, what that does, and how far
--- from the end of the bytes the answer refers.
+-- The laws of everything that can be prepared, by its precondition, its outcome, and the greatest
+-- distance to which the result refers.
 pub record IsLawful {X A : Type 0} (may : X → State → Type 0) (outcome : X → Outcome A)
     (reach : A → ℕ) : Type 0 where
-  -- the bytes before are the end of the bytes after, and every promise stays
+  -- the old bytes are the end of the new ones, and every constraint is kept
   pub grows : (x : X) (old : State) (answer : Result A BuildError) (new : State) → may x old
       → outcome x old answer new → Grows old new
-  -- what is answered refers to what lies in the bytes
+  -- the result refers into the bytes
   pub reaches : (x : X) (old : State) (answer : A) (new : State) → may x old
       → outcome x old (Ok answer) new → reach answer ≤ length new.bytes
   -- what may be prepared may also be prepared later
   pub stays : (x : X) (old new : State) → Grows old new → may x old → may x new
 
--- this is answered, and nothing is done
+-- this is returned, and nothing is done
 abbrev pub Answers : {A : Type 0} → A → Outcome A
 Answers {A} answered old answer new = (answer ≡ Ok answered) × (new ≡ old)
 
--- the distance is answered as an offset
+-- the distance is returned as an offset
 abbrev pub AsOffset : {T : Type 0} → Outcome ℕ → Outcome (Offset T)
 AsOffset {T} writes old (Ok offset) new = writes old (Ok offset.distance) new
 AsOffset {T} writes old (Err error) new = writes old (Err error) new
@@ -42,12 +42,12 @@ IsPrepared offset = Answers offset
 abbrev pub WritesText : {T : Type 0} → List ℕ → Outcome (Offset T)
 WritesText text old answer new = AsOffset (WritesEntry (text_entry text) []) old answer new
 
--- a byte list was written, or refused
+-- a byte vector was written, or the call failed
 abbrev pub WritesByteList : {T : Type 0} → List ℕ → Outcome (Offset T)
 WritesByteList bytes old answer new =
     AsOffset (WritesEntry (byte_list_entry bytes) []) old answer new
 
--- Memory was had, or it was refused; the builder is as it was.
+-- Memory was reserved or refused; the builder is as it was.
 abbrev pub TakesMemory : Outcome (Unit {0})
 TakesMemory old (Ok done) new = new ≡ old
 TakesMemory old (Err error) new = (error ≡ OutOfMemory) × (new ≡ old)
@@ -59,15 +59,15 @@ PreparesAll {X} {A} prepare (x ∷ xs) =
     then_does (prepare x)
     (λ first. then_does (PreparesAll prepare xs) (λ others. Answers (first ∷ others)))
 
--- The entries were put down, one after another, behind those that got these distances; all
--- distances are answered.
+-- The entries were written, one after another, after those that got these distances; all distances
+-- are returned.
 abbrev pub WritesEntries : List Entry → List ℕ → Outcome (List ℕ)
 WritesEntries [] got = Answers got
 WritesEntries (entry ∷ entries) got =
     then_does (WritesEntry entry got)
     (λ distance. WritesEntries entries (got ++ distance ∷ []))
 
--- the last of the distances is answered
+-- the last of the distances is returned
 abbrev pub AnswersLast : Outcome (List ℕ) → Outcome ℕ
 AnswersLast writes = then_does writes (λ got. Answers (last_of got))
 
@@ -79,28 +79,28 @@ PreparesItems {X} {A} prepare xs = then_does TakesMemory (λ had. PreparesAll pr
 abbrev pub AllMay : {X : Type 0} → (X → State → Type 0) → List X → State → Type 0
 AllMay {X} may xs state = AllByRecursion (λ x. may x state) xs
 
--- What is asked of items of which there are lists: by when the items of a list may be prepared, what
--- that does, and how far from the end of the bytes each that is prepared refers.
+-- The laws of items of vectors: their precondition, their outcome, and the greatest distance to
+-- which each prepared one refers.
 pub record AreLawful {X A : Type 0} (may : X → State → Type 0) (outcome : X → Outcome A)
     (all_may : List X → State → Type 0) (prepares : List X → Outcome (List A))
     (reach : A → ℕ) : Type 0 where
-  -- the items of a list may be prepared where each of them may
+  -- the items of a vector may be prepared where each of them may
   pub each_may : (xs : List X) (old : State) → all_may xs old → AllMay may xs old
-  -- the bytes before are the end of the bytes after, and every promise stays
+  -- the old bytes are the end of the new ones, and every constraint is kept
   pub grow : (xs : List X) (old : State) (answer : Result (List A) BuildError) (new : State)
       → all_may xs old → prepares xs old answer new → Grows old new
-  -- what is answered refers to what lies in the bytes
+  -- the results refer into the bytes
   pub reach_all : (xs : List X) (old : State) (values : List A) (new : State) → all_may xs old
       → prepares xs old (Ok values) new
       → AllByRecursion (λ value. reach value ≤ length new.bytes) values
   -- what may be prepared may also be prepared later
   pub stay : (xs : List X) (old new : State) → Grows old new → all_may xs old → all_may xs new
-  -- items that are prepared one after another are prepared
+  -- items prepared one after another are prepared
   pub one_by_one : (xs : List X) (old : State) (values : List A) (new : State) → all_may xs old
       → PreparesAll outcome xs old (Ok values) new → prepares xs old (Ok values) new
 
--- A list was written, or refused: its items are prepared, and then its entries are put down, whose
--- items leave these bytes.
+-- A vector was written, or the call failed: its items are prepared, and then its entries written,
+-- whose items have these bytes.
 abbrev pub WritesList : {X A T : Type 0} → (List X → Outcome (List A)) → (A → Item)
     → (size alignment : ℕ) → List X → Outcome (Offset T)
 WritesList {X} {A} {T} prepares leaves size alignment xs old answer new =
@@ -109,18 +109,18 @@ WritesList {X} {A} {T} prepares leaves size alignment xs old answer new =
     (λ items. AnswersLast (WritesEntries (list_entries size alignment (map leaves items)) [])))
     old answer new
 
--- A list of prepared items was written, or refused: its entries are put down.
+-- A vector of prepared items was written, or the call failed.
 abbrev pub WritesPrepared : {T : Type 0} → (size alignment : ℕ) → List Item → Outcome (Offset T)
 WritesPrepared {T} size alignment items old answer new =
     AsOffset (AnswersLast (WritesEntries (list_entries size alignment items) [])) old answer new
 
--- prepared items, without where they lie in memory
+-- prepared items, without their location in memory
 abbrev pub prepared_list : {A : Type 0} → Result (Vec A Global) BuildError → Result (List A) BuildError
 prepared_list {A} (Ok items) = Ok items.items
 prepared_list {A} (Err error) = Err error
 
--- Items of this size may stand one after another from the place on: what each refers to lies
--- behind it.
+-- Items of this size may be encoded one after another from the place on: each refers to a value
+-- after itself.
 pub record MayStand {A : Type 0} (reach : A → ℕ) (size place : ℕ) (items : List A) : Type 0 where
   pub inside : length items * size ≤ place
   pub reached : (i : ℕ) (item : A) → slice_get items i ≡ Some item → reach item + i * size ≤ place

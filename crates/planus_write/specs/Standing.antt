@@ -1,4 +1,4 @@
--- What entries that were put down come to: the values that they are the entries of stand.
+-- What written entries come to: their values are encoded.
 use Rattle.std.specs.Prelude.{ℕ, ◌≤◌, List, [], length, Option, Ok, Err}
 use Rattle.planus_back.specs.Parts.{Written, Placed}
 use Rattle.planus_read.specs.Bytes.{BytesStand}
@@ -14,13 +14,13 @@ use Rattle.planus_write.specs.declared.errors.BuildError.TheVariants.{TooLarge}
 use Rattle.planus_write.specs.Parts.{finish_part, identifier_bytes, IsWritten, entries_of, Named}
 use Rattle.planus_write.specs.Parts.{named_by, sized_finish_part}
 
--- What is kept stays so, whatever is written in front of it.
+-- What is stored stays so, whatever is prepended.
 abbrev pub KeptStays : Type 0
 KeptStays = (before after : Past) (value : Value) (named : Named) → Extends before after
     → IsKept before value named → IsKept after value named
 
--- Once the entries of a value are put down, and all that was seen is kept, the value is kept by
--- what it is named by, and still all that was seen is. What it refers to lies in what was written
+-- Once the entries of a value are written, and all that was cached is stored, the value is stored
+-- at its distances, and all that was cached still is. Its references lead into what was written
 -- before.
 abbrev pub ValuesAreKept : Type 0
 ValuesAreKept =
@@ -29,8 +29,8 @@ ValuesAreKept =
     → PutsAll switches (entries_of value) [] before got after
     → IsKept after value (named_by value got) × AllSeenKept after × Extends before after
 
--- Entries that a builder put down are put down in every past that it may have; and where it was
--- refused one that is too large, so they come to that.
+-- Entries that a builder wrote are written in every history it may have; where one was too large,
+-- every history comes to that.
 abbrev pub EntriesArePut : Type 0
 EntriesArePut =
     (entries : List Entry) (got : List ℕ) (old : State) (all : List ℕ) (new : State) (past : Past)
@@ -43,7 +43,7 @@ EntriesAreTooLarge =
     → WritesEntries entries got old (Err TooLarge) new → IsPast old past
     → ComesToTooLarge old.switches entries got past
 
--- The reference of a finish that was placed leads to the root, if that lies in what was written
+-- The reference of a finish that was placed leads to the root, if that is in what was written
 -- before.
 abbrev pub FinishesLead : Type 0
 FinishesLead =
@@ -58,9 +58,8 @@ FinishesAreIdentified =
     → Placed (finish_part root identifier before.promises) before after
     → BytesStand after.bytes 4 (identifier_bytes identifier)
 
--- Where a finish with the size in front was placed, the size says how many bytes follow it; the
--- reference behind it leads to the root, if that lies in what was written before; and the identifier
--- stands behind that.
+-- After a size-prefixed finish the size is the number of bytes that follow it; the reference after
+-- it leads to the root, if that is in what was written before; and the identifier follows that.
 pub record SizedFinishStands (root : ℕ) (identifier : Option (List ℕ)) (before after : Written)
     : Type 0 where
   pub size : IsPrefixed after.bytes

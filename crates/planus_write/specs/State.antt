@@ -9,7 +9,7 @@ use Rattle.planus_write.specs.Past.{Past}
 use Rattle.planus_write.specs.Kept.{AllSeenKept}
 use Rattle.planus_back.specs.Promises.{Promise}
 
--- what is held of each kind of contents
+-- what is remembered of each kind of contents
 pub record Holdings : Type 0 where
   pub held_texts : Holding
   pub held_byte_lists : Holding
@@ -26,8 +26,8 @@ contents_in texts = bytes_in
 contents_in byte_lists = bytes_in
 contents_in vtables = vtable_in
 
--- Its bytes; the remainder and the mask that describe its promises; how many bytes fit without
--- memory; which equal contents it writes once; and what is held of them.
+-- Its bytes; the remainder and the mask that describe its alignment constraints; how many bytes fit
+-- without memory; its cache settings; and what is remembered of contents.
 pub record State : Type 0 where
   pub bytes : List ℕ
   pub delayed : ℕ
@@ -36,7 +36,7 @@ pub record State : Type 0 where
   pub switches : Switches
   pub holdings : Holdings
 
--- What is held of a kind fits the bytes, and contents are found there exactly where they were seen.
+-- What is remembered of a kind fits the bytes, and finds contents exactly where they were cached.
 pub record FindsSeen (state : State) (seen : List Seen) (kind : Kind) : Type 0 where
   pub fits : HoldingFits (contents_in kind) (holding_of state.holdings kind) state.bytes
   pub finds : (bytes : List ℕ) (distance : ℕ)
@@ -44,22 +44,22 @@ pub record FindsSeen (state : State) (seen : List Seen) (kind : Kind) : Type 0 w
       ↔ (Holds (holding_of state.holdings kind) distance
       × (key_at (contents_in kind) state.bytes distance ≡ Some bytes))
 
--- This may be what was written: the builder has its bytes, describes its promises, and finds the
--- contents that were seen, all of which are kept.
+-- A possible history: the builder has its bytes, describes its constraints, and finds its cached
+-- contents, all of which are stored.
 pub record IsPast (state : State) (past : Past) : Type 0 where
   pub bytes : past.written.bytes ≡ state.bytes
   pub described : Describes (length state.bytes) state.delayed state.mask past.written.promises
   pub seen : (kind : Kind) → FindsSeen state past.seen kind
   pub kept : AllSeenKept past
 
--- All that was written is still there, and all that was promised.
+-- All that was written is still there, and all constraints.
 pub record Extends (before after : Past) : Type 0 where
   pub bytes : (front : List ℕ) × (after.written.bytes ≡ front ++ before.written.bytes)
   pub promises : (more : List Promise) × (after.written.promises ≡ more ++ before.written.promises)
   pub seen : (more : List Seen) × (after.seen ≡ more ++ before.seen)
 
--- The old bytes are the end of the new ones, and whatever was written before, all of it is still
--- there. The switches are as they were.
+-- The old bytes are the end of the new ones, and all of any history is still there. The cache
+-- settings are as they were.
 pub record Grows (old new : State) : Type 0 where
   pub bytes : (front : List ℕ) × (new.bytes ≡ front ++ old.bytes)
   pub past : (past : Past) → IsPast old past → (after : Past) × IsPast new after

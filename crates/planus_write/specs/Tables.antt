@@ -1,4 +1,4 @@
--- The parts of a table: its vtable, its body, and the word in front of that.
+-- The parts of a table: its vtable, its body, and the word before it.
 use Rattle.std.specs.Prelude.{◌≡◌, ℕ, zero, suc, ◌+◌, ◌-◌, ◌*◌, ◌<◌, ◌≤◌, ◌^◌, ◌==◌, max, List, []}
 use Rattle.std.specs.Prelude.{◌∷◌, ◌++◌, length, Some, None, if◌then◌else◌, ⊤, pos, ◌-ℤ◌}
 use Rattle.std.specs.List.{AllByRecursion}
@@ -18,7 +18,7 @@ field_item (reference distance) = reference_item distance
 field_item (tags distance) = reference_item distance
 field_item (values distance) = reference_item distance
 
--- how many they are: a plain item's own, and 4 of a reference
+-- the size of a field: a plain item's own, 4 for a reference
 abbrev pub field_size : Field → ℕ
 field_size (plain item) = length item.bytes
 field_size (reference distance) = 4
@@ -26,7 +26,7 @@ field_size (tags distance) = 4
 field_size (values distance) = 4
 
 -- An entry of a table: a field of this size and alignment in bytes is declared for the slot. The
--- fields stand in the body one behind the other, as they are declared.
+-- fields follow one another in the body, as declared.
 pub record Declared : Type 0 where
   pub slot : ℕ
   pub size : ℕ
@@ -47,21 +47,21 @@ abbrev pub slots_used : List Declared → ℕ
 slots_used [] = 0
 slots_used (one ∷ declared) = max (one.slot + 1) (slots_used declared)
 
--- how far from the object's start the field of a slot stands, if the first of these stands at this
--- distance from it; 0 of a slot without one
+-- the offset of a slot's field from the object's start, if the first field is at this one; 0 for an
+-- absent field
 abbrev pub offset_in : ℕ → List Declared → ℕ → ℕ
 offset_in from [] slot = 0
 offset_in from (one ∷ declared) slot =
     if one.slot == slot then from else offset_in (from + one.size) declared slot
 
--- two bytes each of so many slots, from this one on
+-- two bytes for each of n slots, from this one on
 abbrev pub offsets_bytes : List Declared → ℕ → ℕ → List ℕ
 offsets_bytes declared slot zero = []
 offsets_bytes declared slot (suc n) =
     to_le_bytes w16 (offset_in 4 declared slot) ++ offsets_bytes declared (slot + 1) n
 
 -- The format: a vtable has its own size and the object's, two bytes each, and then two bytes a
--- slot: the field's distance from the object's start, 0 of an absent one. The object is the word
+-- slot: the field's offset from the object's start, 0 for an absent one. The object is the word
 -- that leads to the vtable, and the body.
 abbrev pub vtable_of : (slots : ℕ) → List Declared → List ℕ
 vtable_of slots declared =
@@ -137,11 +137,11 @@ abbrev pub first_of : List ℕ → ℕ
 first_of [] = 0
 first_of (distance ∷ distances) = distance
 
--- the word is that of the vtable, which was put down first
+-- the word is that of the vtable, which was written first
 abbrev pub word_entry : Entry
 word_entry = record { contents = None; part = λ got promises. word_part (first_of got) }
 
--- A table of so many slots: its vtable, its body, and its word.
+-- A table of this many slots: its vtable, its body, and its word.
 abbrev pub object_entries : (slots : ℕ) → List Declared → Item → List Entry
 object_entries slots declared body =
     vtable_entry (vtable_of slots declared) ∷ unshared_entry (object_part declared body) ∷ word_entry ∷ []
@@ -150,8 +150,8 @@ abbrev pub table_entries : List (ℕ × Field) → List Entry
 table_entries entries =
     object_entries (slot_count entries) (declared_of entries) (λ place. body_bytes place entries)
 
--- A field of a table that is written in front of so many bytes: a plain item is some bytes, whose
--- alignment is a power of two and divides their number; a reference leads into these bytes.
+-- A field of a table written before n bytes: a plain item is some bytes, whose alignment is a power
+-- of two and divides their number; a reference leads into these bytes.
 abbrev pub IsField : ℕ → Field → Type 0
 IsField before (plain item) = (0 < length item.bytes) × (item.alignment ∣ length item.bytes)
     × ((k : ℕ) × (item.alignment ≡ 2 ^ k))
@@ -171,7 +171,7 @@ abbrev pub SlotsOnce : List (ℕ × Field) → Type 0
 SlotsOnce [] = ⊤
 SlotsOnce (entry ∷ entries) = (field_at entries entry.0 ≡ None) × SlotsOnce entries
 
--- A table that can be written in front of so many bytes.
+-- A table that can be written before n bytes.
 pub record IsTable (before : ℕ) (entries : List (ℕ × Field)) : Type 0 where
   pub fields : AllByRecursion (λ entry. IsField before entry.1) entries
   pub falling : Falling entries

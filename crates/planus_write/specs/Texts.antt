@@ -1,4 +1,4 @@
--- The texts of why a write is refused.
+-- The messages of errors of writes.
 use Rattle.std.specs.Prelude.{ℕ, List, codes}
 use Rattle.planus_write.specs.declared.errors.BuildError.{BuildError}
 use Rattle.planus_write.specs.declared.errors.BuildError.TheVariants.{OutOfMemory, TooLarge}

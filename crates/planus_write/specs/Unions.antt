@@ -1,4 +1,4 @@
--- What the writing of unions and of lists of them does.
+-- The effect of writing unions and vectors of them.
 use Rattle.std.specs.Prelude.{◌≡◌, ℕ, max, List, [], map, Result, Ok, Err}
 use Rattle.planus_write.specs.Parts.{tags_entries, union_entries, second_of, last_of}
 use Rattle.planus_write.specs.State.{State}
@@ -10,11 +10,11 @@ use Rattle.planus_write.specs.declared.unions.PreparedUnions.{PreparedUnions}
 use Rattle.planus_write.specs.declared.union_offset.UnionOffset.{UnionOffset}
 use Rattle.planus_write.specs.declared.union_vector_offset.UnionVectorOffset.{UnionVectorOffset}
 
--- how far from the end of the bytes a union refers
+-- the greatest distance to which a union refers
 abbrev pub union_reach : {T : Type 0} → UnionOffset T → ℕ
 union_reach union = union.offset.distance
 
--- how far a vector of unions refers, by its tags and by its references
+-- the greatest distance of a union vector, of its tags and its references
 abbrev pub union_vector_reach : {T : Type 0} → UnionVectorOffset T → ℕ
 union_vector_reach vector = max vector.tags.distance vector.values.distance
 
@@ -22,15 +22,14 @@ union_vector_reach vector = max vector.tags.distance vector.values.distance
 abbrev pub item_of : {T : Type 0} → UnionOffset T → ℕ × ℕ
 item_of union = (union.tag, union.offset.distance)
 
--- of the distances that the entries of a vector of unions got, those of its references and of its tags are
--- answered as offsets
+-- of the distances of a union vector's entries, those of its references and of its tags are
+-- returned as offsets
 abbrev pub AsUnionVector : {T : Type 0} → Outcome (List ℕ) → Outcome (UnionVectorOffset T)
 AsUnionVector {T} writes old (Ok vector) new = (got : List ℕ) × writes old (Ok got) new
     × (vector.values.distance ≡ second_of got) × (vector.tags.distance ≡ last_of got)
 AsUnionVector {T} writes old (Err error) new = writes old (Err error) new
 
--- Unions were prepared, one after another: these are their tags and what they refer to; or one was
--- refused.
+-- Unions were prepared, one after another, with these tags and references; or one failed.
 abbrev pub PreparesUnions : {X T : Type 0} → (X → Outcome (UnionOffset T)) → List X → State
     → Result PreparedUnions BuildError → State → Type 0
 PreparesUnions {X} {T} prepare xs old (Ok unions) new = (all : List (UnionOffset T))
@@ -39,12 +38,13 @@ PreparesUnions {X} {T} prepare xs old (Ok unions) new = (all : List (UnionOffset
     × (unions.values.items ≡ map (λ union. union.offset) all)
 PreparesUnions {X} {T} prepare xs old (Err error) new = PreparesItems prepare xs old (Err error) new
 
--- the tags of a vector of unions were written, or refused
+-- the tags of a union vector were written, or the call failed
 abbrev pub WritesTags : {T : Type 0} → List ℕ → Outcome (Offset T)
 WritesTags {T} tags old answer new =
     AsOffset (AnswersLast (WritesEntries (tags_entries tags) [])) old answer new
 
--- A vector of unions was written, or refused: they are prepared, and then its entries are put down.
+-- A union vector was written, or the call failed: its unions are prepared, and then its entries
+-- written.
 abbrev pub WritesUnionVector : {X T : Type 0} → (X → Outcome (UnionOffset T)) → List X
     → Outcome (UnionVectorOffset T)
 WritesUnionVector {X} {T} prepare xs old answer new =

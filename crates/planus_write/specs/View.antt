@@ -1,4 +1,4 @@
--- What the fields of a builder say to its callers.
+-- A builder's fields, as its callers see them.
 use Rattle.std.specs.Prelude.{ℕ, ◌+◌, ◌≤◌, ◌^◌, List, length}
 use Rattle.planus_back.specs.Padding.{greatest_place}
 use Rattle.planus_write.specs.Shared.{Switches}
@@ -21,7 +21,7 @@ switches_of caches = record {
   vtables_on = caches.vtables;
 }
 
--- what is backed by bytes and promises
+-- the bytes and constraints of a backing
 abbrev pub backed_of : backing.Inside → Backed
 backed_of a = record {
   bytes = a.inner.bytes;
@@ -34,7 +34,7 @@ backed_of a = record {
 abbrev pub IsSmall : backing.Inside → Type 0
 IsSmall a = length a.inner.bytes ≤ greatest_place
 
--- the state that backed bytes are, with what is shared, and what is held of that
+-- the state of a backing, with the cache settings and what is remembered
 abbrev pub state_from : Backed → Switches → Holdings → State
 state_from backed switches holdings = record {
   bytes = backed.bytes;
@@ -63,7 +63,7 @@ state_of a =
 abbrev pub IsSound : builder.Inside → Type 0
 IsSound a = (past : Past) × IsPast (state_of a) past
 
--- a writer of a table is its fields
+-- a writer of a table, by its fields
 abbrev pub writer_of : {N : ℕ} → table_writer.Inside N → Writer
 writer_of a = record {
   vtable = a.vtable;
@@ -72,8 +72,8 @@ writer_of a = record {
   mask = a.mask;
 }
 
--- Its sizes are those of a vtable and an object, and its alignment is one of a part. Where there is
--- room for both sizes, it has been told some entries.
+-- Its sizes are those of a vtable and an object, and its alignment is that of a part. Where there
+-- is room for both sizes, it has been told some entries.
 pub record IsWriter {N : ℕ} (a : table_writer.Inside N) : Type 0 where
   pub small : a.object_size ≤ 65535
   pub vtable_small : a.vtable_size ≤ 65534

@@ -23,7 +23,7 @@ pub(crate) struct Plan {
     pub(crate) place: u32,
 }
 
-/// Bytes that grow at their front, and what was promised of them. While a part is put down, its
+/// Bytes that grow at their front, and what was promised of them. While a part is written, its
 /// promise is made before its bytes are there.
 #[derive(Debug, Drop)]
 pub(crate) struct Backing {
@@ -181,7 +181,7 @@ impl Backing {
         self.inner.put_slice(bytes);
     }
 
-    // The same of bytes that are often none, where nothing is copied then.
+    // The same for bytes that are often none, where nothing is copied then.
     #[inline]
     pub(crate) fn put_if_any(&mut self, bytes: &[u8])
         requires room { length bytes.now ≤ self.old.room }

@@ -26,7 +26,7 @@ use std::marker::Model;
 /// let bytes = builder.finish(text, None).map_err(refused)?;
 /// ```
 ///
-/// Equal texts, byte lists and vtables are written once, as far as its [`Caches`] say: the second
+/// Equal texts, byte vectors and vtables are written once, as far as its [`Caches`] say: the second
 /// one since the last clear gets the distance of the first. Nothing is written then, and no memory
 /// is taken.
 #[derive(Debug, Drop)]
@@ -66,7 +66,7 @@ impl Builder {
     ghost use Rattle.planus_write.specs.Finishing.{WritesSizedRoot};
     ghost use Rattle.planus_read.specs.SizePrefixed.{IsPrefixed};
 
-    /// Returns an empty builder, which writes equal texts, byte lists and vtables once;
+    /// Returns an empty builder, which writes equal texts, byte vectors and vtables once;
     /// [`BuildError::OutOfMemory`] where memory is refused.
     pub fn new(alloc: Global) -> Result<Builder, BuildError>
         ensures past { IfOk result (λ builder. IsPast builder no_past) }
@@ -200,7 +200,7 @@ impl Builder {
         }
     }
 
-    // A byte list as one part.
+    // A byte vector as one part.
     #[inline]
     pub(crate) fn write_byte_list<T, L: ByteItems>(
         &mut self,
@@ -368,15 +368,15 @@ impl Builder {
     }
 
     /// Writes a list: the items are prepared in order and written as one part, aligned as they are
-    /// but at least to 4 bytes, and then the count of 4 bytes in front of them; or a byte list, as
-    /// one part of a count and the bytes, unless an equal byte list is found. Returns its offset.
+    /// but at least to 4 bytes, and then the count of 4 bytes in front of them; or a byte vector, as
+    /// one part of a count and the bytes, unless an equal byte vector is found. Returns its offset.
     /// Nothing is written for an offset; each offset among the arguments must be one that this
     /// builder returned since the last clear.
     ///
     /// [`BuildError::TooLarge`] where a part's place would be above 2147483647 bytes from the end;
     /// [`BuildError::OutOfMemory`] where memory for the prepared items is refused, which numbers,
-    /// truth values and offsets need none of; or a part doesn't fit [`Builder::room`] and memory is
-    /// refused, or memory to find a byte list again is. What was written before the refused write
+    /// bools and offsets need none of; or a part doesn't fit [`Builder::room`] and memory is
+    /// refused, or memory to find a byte vector again is. What was written before the refused write
     /// stays, and nothing after it is begun.
     pub fn create_vector<P: Primitive, X: WriteAsOffset<List<P>> + Drop>(
         &mut self,
@@ -388,7 +388,7 @@ impl Builder {
         list.prepare(self)
     }
 
-    /// Writes a vector of unions: they are prepared in order, and their references are written as
+    /// Writes a union vector: they are prepared in order, and their references are written as
     /// one part, aligned to 4 bytes, with a count of 4 bytes in front of them, and then their tags
     /// in the same way. Returns the offsets of both vectors. Nothing is written for these offsets;
     /// each offset among them must be one that this builder returned since the last clear.

@@ -59,7 +59,7 @@ impl<'a> fmt::Debug for SignedList<'a> {
     }
 }
 
-/// The items of a byte list.
+/// The items of a byte vector.
 pub(crate) trait ByteItems {
     /// Their bytes.
     ghost bytes_of: { Self → List ℕ };
@@ -163,7 +163,7 @@ impl<'a> ByteItems for SignedList<'a> {
     }
 }
 
-/// The items of a byte list, as they stand in its part.
+/// The items of a byte vector, as they stand in its part.
 #[derive(Drop)]
 pub(crate) struct Copied<'a, L: ByteItems> {
     pub(crate) items: &'a L,

@@ -11,7 +11,7 @@ pub struct Caches {
     pub vtables: bool,
     /// Equal texts.
     pub texts: bool,
-    /// Equal byte lists, of `u8` or of `i8`.
+    /// Equal byte vectors, of `u8` or of `i8`.
     pub bytes: bool,
     /// The bits of a hash that are used. With 0 all hashes are equal, which costs time alone.
     pub hash_mask: u64,

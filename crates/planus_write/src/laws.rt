@@ -13,14 +13,14 @@ pub fn what_is_in_stays_in<T>()
     ensures unions { AllUnionsStayIn T }
 {}
 
-/// What a call put down, as its contract says, is put down in every past of the builder, so that
+/// What a call written, as its contract says, is written in every past of the builder, so that
 /// the laws of pasts speak of it; and where a call was refused what is too large, so it is there.
 pub fn entries_are_put()
     ensures put { EntriesArePut }
     ensures too_large { EntriesAreTooLarge }
 {}
 
-/// A value whose entries are put down, where what was seen before is kept and what it refers to was
+/// A value whose entries are written, where what was seen before is kept and what it refers to was
 /// written before, stands at what it is named by, and is aligned in all finished bytes that end in
 /// it, also where equal contents were found; and it stays so, whatever is written in front of it.
 pub fn written_values_are_kept()

@@ -24,7 +24,7 @@ use crate::offset::Offset;
 use crate::union_offset::UnionOffset;
 use crate::union_vector_offset::UnionVectorOffset;
 
-/// What stands in a table or in a list with a fixed size: a number, a truth value or a reference.
+/// What stands in a table or in a list with a fixed size: a number, a bool or a reference.
 pub trait Primitive: Sized {
     ghost ALIGNMENT: { ℕ };
 
@@ -51,7 +51,7 @@ pub trait Primitive: Sized {
 /// What is written in place as a `P`.
 ///
 /// The ghost member `reach` is how far from the end of the buffer it refers, in bytes: 0 for a
-/// number or a truth value, the distance for an offset. `leaves` names the bytes that it writes, by
+/// number or a bool, the distance for an offset. `leaves` names the bytes that it writes, by
 /// their place.
 pub trait WriteAsPrimitive<P: Primitive> {
     ghost reach: { Self → ℕ };
@@ -123,7 +123,7 @@ pub trait WriteAsUnion<T> {
     ghost has_content: { PreparesUnionItem may outcome content };
 }
 
-/// What a builder can write as a vector of unions of kind `T`.
+/// What a builder can write as a union vector of kind `T`.
 ///
 /// The ghost members `may` and `outcome` are as those of [`WriteAsOffset`].
 pub trait WriteAsUnionVector<T> {
@@ -178,7 +178,7 @@ pub trait VectorWrite<P: Primitive>: Sized {
         ensures { outcome self.now builder.old result builder.new };
 
     /// Returns the items themselves where each of them is what stands in the list, as a number, a
-    /// truth value and an offset are: preparing them does nothing, and a list asks for no memory
+    /// bool and an offset are: preparing them does nothing, and a list asks for no memory
     /// for prepared ones. `None` where items are to be prepared, one after another.
     fn as_prepared(items: &[Self]) -> Option<&[Self::Value]>
         ensures { MatchOption result
@@ -201,7 +201,7 @@ pub trait VectorWrite<P: Primitive>: Sized {
     /// As [`WriteAsOffset`]'s, with the reach of the prepared item as the distance.
     ghost is_lawful: { IsLawful may outcome Self.Value.reach };
 
-    /// The same of the items of a list.
+    /// The same for the items of a list.
     ghost are_lawful: { AreLawful may outcome all_may prepares Self.Value.reach };
 
     /// Once the list is written, the field holds this.

@@ -1,10 +1,10 @@
-//! Offsets of vectors of unions.
+//! Offsets of union vectors.
 
 use crate::offset::{List, Offset};
 use std::alloc::AllocError;
 use std::marker::PhantomData;
 
-/// A vector of unions of kind `T` that a builder has written: the offset of the list of its tags,
+/// A union vector of kind `T` that a builder has written: the offset of the list of its tags,
 /// and that of the list of its references. As a field it takes two slots, the tags' first.
 pub struct UnionVectorOffset<T> {
     tags: Offset<List<u8>>,
@@ -30,7 +30,7 @@ impl<T> Copy for UnionVectorOffset<T> {}
 impl<T> UnionVectorOffset<T> {
     ghost use Rattle.std.specs.Prelude.{◌≡◌};
 
-    /// Returns the vector of unions of a list of tags and a list of as many references.
+    /// Returns the union vector of a list of tags and a list of as many references.
     #[inline]
     pub fn new(
         tags_offset: Offset<List<u8>>,

@@ -44,7 +44,7 @@ fn prepare_unions<T, U: WriteAsUnion<T>>(
     Ok(PreparedUnions { tags, values })
 }
 
-/// The tags of a vector of unions, as one part, and the count in front of them.
+/// The tags of a union vector, as one part, and the count in front of them.
 fn write_tags(builder: &mut Builder, tags: &[u8]) -> Result<Offset<List<u8>>, BuildError>
     ensures { WritesTags tags.now builder.old result builder.new }
 {
@@ -59,7 +59,7 @@ fn write_tags(builder: &mut Builder, tags: &[u8]) -> Result<Offset<List<u8>>, Bu
     Ok(Offset::at(place))
 }
 
-/// A vector of unions: they are prepared in order, and then their references are written, and in
+/// A union vector: they are prepared in order, and then their references are written, and in
 /// front of these their tags.
 pub(crate) fn write_union_vector<T, U: WriteAsUnion<T>>(
     builder: &mut Builder,

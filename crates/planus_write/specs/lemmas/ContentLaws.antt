@@ -98,7 +98,7 @@ ready_prepared {A} {may} content field is = record {
       (subst (λ (b : A). FieldIs past (content a) (field b)) same (is a past)));
 }
 
--- the same of a value that is always there
+-- the same for a value that is always there
 pub content_prepared_as : {X Y A : Type 0} {may : X → State → Type 0} {outcome : X → Outcome A}
     {content : X → Content} {field : A → Field} (of : Y → X)
     → PreparesContent may outcome content field
@@ -106,7 +106,7 @@ pub content_prepared_as : {X Y A : Type 0} {may : X → State → Type 0} {outco
     (λ y. content (of y)) field
 content_prepared_as of lawful = record { comes = λ y. lawful.comes (of y) }
 
--- a value whose entries are put down
+-- a value whose entries are written
 pub value_added : (content : Value) (old : State) (got : List ℕ) (new : State) (past : Past)
     → WritesEntries (entries_of content) [] old (Ok got) new → IsPast old past
     → IsWritten (length past.written.bytes) content
@@ -128,7 +128,7 @@ text_prepared bytes = record {
       (added.0, added.1, added.2, (offset.distance, refl, added.3)));
 }
 
--- a byte list
+-- a byte vector
 pub byte_list_prepared : {T X : Type 0} {may : X → State → Type 0} (bytes : X → List ℕ)
     → PreparesContent {A = Offset T} may (λ x old answer new. WritesByteList (bytes x) old answer new)
     (λ x. value (byte_list (bytes x))) (λ offset. reference offset.distance)

@@ -42,7 +42,7 @@ reference_is_item distance = record {
   stands = λ before reached. reached;
 }
 
--- the references of a vector of unions
+-- the references of a union vector
 pub tags_are_item : (distance : ℕ)
     → IsItem 4 4 (reference_item distance) distance (tags_field distance)
 tags_are_item distance = record {

@@ -1,4 +1,4 @@
--- Texts and byte lists are kept once their entries are put down.
+-- Texts and byte vectors are kept once their entries are written.
 use Rattle.std.proofs.Common.{◌≡◌, ℕ, ◌+◌, ◌-◌, ◌<◌, ◌≤◌, ◌^◌, List, [], ◌∷◌, ◌++◌, length, take}
 use Rattle.std.proofs.Common.{replicate, refl, sym, ap, ◌∙◌, subst, arith, Option, Some, None}
 use Rattle.std.proofs.Common.{append_assoc, length-append, Bool, true, false, inl, inr, bytes_eq}
@@ -36,7 +36,7 @@ text_at_front content pad B small =
       ap (take (length (content ++ 0 ∷ []))) again ∙ take-append_seam (content ++ 0 ∷ []) (pad ++ B),
     )
 
--- so does a byte list
+-- so does a byte vector
 byte_list_at_front : (content pad B : List ℕ) → length content < 2 ^ 32
     → Stands (((to_le_bytes w32 (length content) ++ content) ++ pad) ++ B) (at 0)
     (value.byte_list content)
@@ -141,7 +141,7 @@ added_kept kind content part shared is_shared before distance after all kept add
       | inr some ↦ subst (λ (s : Option Contents). AllByRecursion (SeenIsKept after) (and_seen s distance before.seen)) (sym some) (kept, old)
     ])
 
--- the same of a part that isn't shared
+-- the same for a part that isn't shared
 pub alone_kept : (part : Part) (before : Past) (distance : ℕ) (after : Past) → AllSeenKept before
     → Adds part None before distance after → AllSeenKept after
 alone_kept part before distance after all adds =
@@ -180,7 +180,7 @@ module _ (kind : Kind) (part : List ℕ → Part) (new_kept : NewAreKept kind pa
       subst (λ past. ContentsKept kind content before distance past) (sym put.1)
       (subst (λ n. KindIsKept before kind content n) (sym put.0) seen_there, all, extends_itself before)
 
--- once an entry of contents is put down, they are kept
+-- once an entry of contents is written, they are kept
 pub put_kept : (kind : Kind) (part : List ℕ → Part) → NewAreKept kind part
     → (switches : Switches) (content got : List ℕ) (before : Past) (distance : ℕ) (after : Past)
     → AllSeenKept before
@@ -190,7 +190,7 @@ put_kept kind part new_kept switches content got before distance after all put =
     let shared : Option Contents = shared_as switches (Some (record { kind = kind; bytes = content })) in
     put_shared kind part new_kept content before distance after all shared (shared_or_not switches (record { kind = kind; bytes = content })) (earlier_distance before.seen shared) refl put
 
--- the same of a value that is this one entry
+-- the same for a value that is this one entry
 pub contents_kept : (kind : Kind) (part : List ℕ → Part) → NewAreKept kind part
     → (switches : Switches) (content : List ℕ) (before : Past) (got : List ℕ) (after : Past)
     → AllSeenKept before

@@ -1,4 +1,4 @@
--- Lists are kept once their items and their count are put down.
+-- Lists are kept once their items and their count are written.
 use Rattle.std.proofs.Common.{◌≡◌, ℕ, ◌+◌, ◌-◌, ◌*◌, ◌<◌, ◌≤◌, ◌^◌, max, List, [], ◌∷◌, ◌++◌}
 use Rattle.std.proofs.Common.{length, map, take, drop, replicate, refl, sym, ap, ◌∙◌, subst, arith}
 use Rattle.std.proofs.Common.{Some, None, append_assoc, length-append, inl, inr, true, lit<}
@@ -216,7 +216,7 @@ module _ {X : Type 0} (item_of : X → Item) (size alignment : ℕ) (xs : List X
         (list.stands after.written.bytes place (omega (arith, place_is)) fits (sym (after_ends (list.sized place))) (counted list.positive) (bytes_there (list.sized place)))
         (λ front keep. list.aligned (front ++ after.written.bytes) (length front) (list_aligned (list.sized place) list.power list.divides front keep))
 
--- once the entries of a list are put down, it is kept, and all that was seen still is
+-- once the entries of a list are written, it is kept, and all that was seen still is
 pub list_kept : {X : Type 0} (item_of : X → Item) (size alignment : ℕ) (xs : List X) (value : Value)
     (switches : Switches) (before : Past) (got : List ℕ) (after : Past)
     → IsListOf item_of size alignment (length before.written.bytes) xs value → AllSeenKept before

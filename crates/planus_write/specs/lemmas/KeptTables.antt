@@ -1,4 +1,4 @@
--- Tables are kept once their vtable, their body and their word are put down.
+-- Tables are kept once their vtable, their body and their word are written.
 use Rattle.std.proofs.Common.{◌≡◌, ℕ, ◌+◌, ◌-◌, ◌*◌, ◌<◌, ◌≤◌, ◌^◌, List, [], ◌∷◌, ◌++◌, length}
 use Rattle.std.proofs.Common.{take, drop, replicate, refl, sym, ap, ◌∙◌, subst, arith, Some, None}
 use Rattle.std.proofs.Common.{append_assoc, length-append}
@@ -216,7 +216,7 @@ module _ (entries : List (ℕ × Field)) (before first second after : Past) (v b
   added_kept : IsKept after (value.table entries) (record { distance = x; tags = None })
   added_kept = kept_at_front after (value.table entries) x after_ends table_stands table_aligned
 
--- once the entries of a table are put down, it is kept, and all that was seen still is
+-- once the entries of a table are written, it is kept, and all that was seen still is
 pub table_kept : (entries : List (ℕ × Field)) (switches : Switches) (before : Past) (got : List ℕ)
     (after : Past)
     → IsTable (length before.written.bytes) entries → AllSeenKept before

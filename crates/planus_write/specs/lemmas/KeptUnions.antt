@@ -1,4 +1,4 @@
--- Vectors of unions are kept once their references and their tags are put down.
+-- Vectors of unions are kept once their references and their tags are written.
 use Rattle.std.proofs.Common.{◌≡◌, ℕ, ◌+◌, ◌-◌, ◌*◌, ◌≤◌, List, [], ◌∷◌, length, map, refl, sym, ap}
 use Rattle.std.proofs.Common.{◌∙◌, subst, arith, Some, None, lit<}
 use mathlib.Core.Path.{fun_ext}
@@ -37,7 +37,7 @@ tags_part_is tags =
     ap (λ n. record { size = n; alignment = 4; bytes_at = λ place. tags }) size
     ∙ ap (λ (bytes_at : ℕ → List ℕ). record { size = length (map tag_item tags) * 1; alignment = 4; bytes_at = bytes_at }) (fun_ext (λ place. sym (tags_bytes place tags)))
 
--- tags are a byte list
+-- tags are a byte vector
 tags_are : (before : ℕ) (tags : List ℕ) → IsListOf tag_item 1 1 before tags (value.byte_list tags)
 tags_are before tags = record {
   sized = λ place. (let e = ap length (tags_bytes place tags) in omega (arith, e));
@@ -60,7 +60,7 @@ unions_aligned : (k : ℕ) (items : List (ℕ × ℕ)) → ItemsStand (λ positi
 unions_aligned k [] h = tt
 unions_aligned k (item ∷ items) h = (h.0, unions_aligned (k + 4) items h.1)
 
--- Where the references of unions are kept, and so are the tags, the vector of unions is.
+-- Where the references of unions are kept, and so are the tags, the union vector is.
 both_kept : (past : Past) (items : List (ℕ × ℕ)) (references tags : ℕ)
     → IsKept past (value.reference_list (distances_in items)) (record { distance = references; tags = None })
     → IsKept past (value.byte_list (tags_in items)) (record { distance = tags; tags = None })
@@ -74,7 +74,7 @@ both_kept past items references tags first second = record {
       (second.aligned front keep, (list.0, unions_aligned _ items list.1));
 }
 
--- once the entries of a vector of unions are put down, it is kept, and all that was seen still is
+-- once the entries of a union vector are written, it is kept, and all that was seen still is
 pub union_vector_kept : (switches : Switches) (items : List (ℕ × ℕ)) (before : Past) (got : List ℕ) (after : Past)
     → AllByRecursion (λ item. item.1 ≤ length before.written.bytes) items → AllSeenKept before
     → PutsAll switches (union_entries items) [] before got after

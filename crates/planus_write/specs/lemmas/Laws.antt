@@ -110,7 +110,7 @@ put_after_extends (Some d) part shared before distance after put =
 put_after_extends None part shared before distance after put =
     added_extends part shared before distance after put
 
--- an entry that is put down extends what was written
+-- an entry that is written extends what was written
 pub put_extends : (switches : Switches) (entry : Entry) (got : List ℕ) (before : Past)
     (distance : ℕ) (after : Past)
     → Puts switches entry got before distance after → Extends before after
@@ -119,7 +119,7 @@ put_extends switches entry got before distance after put =
     (shared_as switches entry.contents)
     before distance after put
 
--- one entry put down grows the builder by it
+-- one entry written grows the builder by it
 pub entry_grows : (entry : Entry) (got : List ℕ) (old : State) (distance : ℕ) (new : State)
     → PutsDown entry got old distance new → Grows old new
 entry_grows entry got old distance new put = record {
@@ -153,7 +153,7 @@ reached_still distance old new grows reached =
     = ap length grows.bytes.1 ∙ length-append grows.bytes.0 old.bytes in
     omega (arith, e, reached)
 
--- an entry that is put down, or refused, grows the builder
+-- an entry that is written, or refused, grows the builder
 pub writes_entry_grows : (entry : Entry) (got : List ℕ) (old : State) (answer : Result ℕ BuildError)
     (new : State) → WritesEntry entry got old answer new → Grows old new
 writes_entry_grows entry got old (Ok distance) new done = entry_grows entry got old distance new done

@@ -36,7 +36,7 @@ list_prepared items lawful = record {
       lawful.comes (items x) old offset.distance new past mays done is_past;
 }
 
--- what a list's entries are put down over
+-- what a list's entries are written over
 record IsPut {Y A : Type 0} (prepares : List Y → Outcome (List A)) (leaves : A → Item)
     (size alignment : ℕ) (ys : List Y) (old : State) (distance : ℕ) (new : State) : Type 0 where
   items : List A
@@ -88,7 +88,7 @@ all_sized : {X : Type 0} (bytes : X → List ℕ) (size : ℕ) → ((x : X) → 
 all_sized bytes size sized [] = tt
 all_sized bytes size sized (x ∷ xs) = (sized x, all_sized bytes size sized xs)
 
--- a list of numbers or of truth values
+-- a list of numbers or of bools
 pub plain_list_has_content : {Y : Type 0} {all_may : List Y → State → Type 0} (bytes : Y → List ℕ)
     (size alignment : ℕ) → IsLayout size alignment → ((y : Y) → length (bytes y) ≡ size)
     → ListHasContent all_may Answers (λ y. plain_item (bytes y)) size alignment

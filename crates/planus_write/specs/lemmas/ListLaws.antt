@@ -247,7 +247,7 @@ module _ {X A : Type 0} (all_may : List X → State → Type 0) (prepares : List
       (entries_grow (written items) [] between)
       (λ got after put. answers_grow (last_of got) after)))
 
-  -- the count that was put down last lies in the bytes
+  -- the count that was written last lies in the bytes
   pub list_reaches : (items : List A) (old : State) (got : List ℕ) (new : State)
       → WritesEntries (written items) [] old (Ok got) new → last_of got ≤ length new.bytes
   list_reaches items old got new h =
@@ -279,7 +279,7 @@ list_is_lawful {all_may = all_may} {prepares = prepares} {leaves = leaves} size 
       stays = λ y old new grows h. lawful.stay (items_of y) old new grows h;
     }
 
--- A list of items that need no preparing is put down by its entries alone.
+-- A list of items that need no preparing is written by its entries alone.
 pub ready_list_is_put : {A T : Type 0} (leaves : A → Item) (size alignment : ℕ) (xs : List A)
     (old : State) (offset : Offset T) (new : State)
     → WritesList Answers leaves size alignment xs old (Ok offset) new

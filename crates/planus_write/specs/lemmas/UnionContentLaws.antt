@@ -1,4 +1,4 @@
--- The laws of what unions and vectors of unions hold once they are prepared.
+-- The laws of what unions and union vectors hold once they are prepared.
 use Rattle.std.specs.Prelude.{◌≡◌, ℕ, ◌≤◌, List, [], ◌∷◌, length, map, Some, Ok}
 use Rattle.std.specs.List.{AllByRecursion}
 use Rattle.std.proofs.Common.{refl, subst, sym}
@@ -55,7 +55,7 @@ module _ {X T : Type 0} {may : X → State → Type 0} {outcome : X → Outcome 
             (sym done.3.3.1) ((near.3.0, first, far.3.0), (reached, far.3.1))),
       )
 
-  -- a vector of them is put down
+  -- a vector of them is written
   pub vector_comes : (xs : List X) (old : State) (vector : UnionVectorOffset T) (new : State) (past : Past)
       → AllMay may xs old → WritesUnionVector outcome xs old (Ok vector) new → IsPast old past
       → Comes past new

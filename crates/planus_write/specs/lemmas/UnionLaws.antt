@@ -19,7 +19,7 @@ pub union_offset_is_lawful : {T : Type 0}
     → IsLawful {X = UnionOffset T} (λ union old. union_reach union ≤ length old.bytes) Answers union_reach
 union_offset_is_lawful {T} = written_is_lawful (λ (union : UnionOffset T). union_reach union)
 
--- so is a vector of unions
+-- so is a union vector
 pub union_vector_offset_is_lawful : {T : Type 0}
     → IsLawful {X = UnionVectorOffset T} (λ vector old. union_vector_reach vector ≤ length old.bytes)
     Answers union_vector_reach
@@ -59,7 +59,7 @@ module _ {X T : Type 0} (may : X → State → Type 0) (outcome : X → Outcome 
       (subst (λ (state : State). (second.0 ≤ length state.bytes) × (fourth.0 ≤ length state.bytes)) (sym fourth.3.1)
       (still, fourth.2.reached))
 
-  -- a vector of unions is lawful
+  -- a union vector is lawful
   pub union_vector_is_lawful : {Y : Type 0} (items_of : Y → List X)
       → IsLawful {X = Y} {A = UnionVectorOffset T} (λ y old. AllMay may (items_of y) old)
       (λ y old answer new. WritesUnionVector outcome (items_of y) old answer new) union_vector_reach
@@ -75,7 +75,7 @@ module _ {X T : Type 0} (may : X → State → Type 0) (outcome : X → Outcome 
     stays = λ y old new grows h. may_still may outcome union_reach lawful (items_of y) old new grows h;
   }
 
--- A vector of unions that are written already is put down by its entries alone.
+-- A union vector that are written already is written by its entries alone.
 pub ready_union_vector_is_put : {T : Type 0} (unions : List (UnionOffset T)) (old : State)
     (vector : UnionVectorOffset T) (new : State)
     → WritesUnionVector Answers unions old (Ok vector) new
