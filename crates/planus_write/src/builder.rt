@@ -544,6 +544,7 @@ impl Builder {
     }
 
     // The root word, and the identifier behind it, as one part with the greatest alignment so far.
+    #[inline]
     fn write_root(&mut self, root: u32, identifier: Option<[u8; 4]>) -> Result<u32, BuildError>
         requires { root ≤ length self.old.bytes }
         ensures { WritesRoot root identifier self.old result self.new }
@@ -558,6 +559,7 @@ impl Builder {
 
     // The size word, the root word behind it, and the identifier behind that, as one part with the
     // greatest alignment so far.
+    #[inline]
     fn write_sized_root(
         &mut self,
         root: u32,
