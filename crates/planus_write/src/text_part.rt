@@ -21,6 +21,7 @@ impl<'a> Overwrite for TextPart<'a> {
         let (middle, zero) = behind.split_at_mut(text.len());
         count.copy_from_slice(&(text.len() as u32).to_le_bytes());
         zero.copy_from_slice(&[0]);
+        // Last, so that nothing is kept across a copy that may be long.
         middle.copy_from_slice(text);
     }
 }
