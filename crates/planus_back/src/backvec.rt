@@ -224,8 +224,8 @@ impl BackVec {
         self.start = start;
     }
 
-    /// Puts `padding` zeros in front, and in front of them `n` bytes, all of which the writer writes,
-    /// over whatever was there. There is room for both. The writer gets `place`, as in
+    /// Puts `padding` zeros in front, and in front of them `n` bytes, all of which the writer
+    /// writes, over whatever was there. There is room for both. The writer gets `place`, as in
     /// [`BackVec::put_overwritten`].
     #[inline(always)]
     pub fn put_overwritten_padded<W: Overwrite>(

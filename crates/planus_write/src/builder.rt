@@ -181,8 +181,8 @@ impl Builder {
         self.vtables.clear();
     }
 
-    // A text as one part. There are two functions of one body, so that nothing of the search for equal
-    // texts is in the code where it isn't on.
+    // A text as one part. There are two functions of one body, so that nothing of the search for
+    // equal texts is in the code where it isn't on.
     #[inline]
     pub(crate) fn write_text(&mut self, text: &str) -> Result<Offset<Text>, BuildError>
         ensures { WritesText text.now self.old result self.new }
