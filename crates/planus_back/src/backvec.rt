@@ -224,6 +224,31 @@ impl BackVec {
         self.start = start;
     }
 
+    /// Puts `padding` zeros in front, and in front of them `n` bytes, all of which the writer
+    /// writes, over whatever was there. There is room for both. The writer gets `place`, as in
+    /// [`BackVec::put_overwritten`].
+    #[inline(always)]
+    pub fn put_overwritten_padded<W: Overwrite>(
+        &mut self,
+        padding: usize,
+        place: u32,
+        n: usize,
+        writer: &W,
+    )
+        requires room { padding + n ≤ self.old.room }
+        requires fits { W.fits writer.now place n }
+        ensures bytes { self.new.bytes
+            ≡ W.leaves writer.now place n ++ (replicate padding 0 ++ self.old.bytes) }
+        ensures count { length (W.leaves writer.now place n) ≡ n }
+        ensures room { self.new.room + (padding + n) ≡ self.old.room }
+    {
+        let end = self.start - padding;
+        let start = end - n;
+        self.start = start;
+        self.block.put_zeros(end, padding);
+        self.block.put_overwritten(start, place, n, writer);
+    }
+
     /// Puts two parts and a slice in front at once. The first part is the bytes of a slice, with
     /// `first_padding` zeros behind them. The second lies in front of that: `n` bytes, all of which
     /// the writer writes, over whatever was there, with `padding` zeros behind them. The bytes of

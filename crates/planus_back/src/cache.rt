@@ -218,7 +218,8 @@ impl<C: GetCacheKey> Cache<C> {
     }
 
     // The first of the distances before it at which the key stands.
-    #[inline(always)]
+    #[cold]
+    #[inline(never)]
     fn earlier_in<K: Key>(&self, bucket: Bucket, serialized: &[u8], key: &K) -> Option<u32>
         ensures { FoundAmong C.key_in (listed_at self.now.earlier bucket.number) serialized.now
             (K.bytes_of key.now) result }

@@ -138,7 +138,8 @@ impl Promises {
             return Err(TooLarge);
         }
         let next = Promises {
-            delayed: ahead - padding,
+            // What the padding leaves, taken by a mask, so that it doesn't wait for the padding.
+            delayed: ahead & !mask,
             // The greater one, since each is one less than a power of two.
             mask: self.mask | mask,
         };

@@ -1,3 +1,4 @@
 pub mod Backed
 pub mod Sharing
 pub mod WholeTables
+pub mod Written

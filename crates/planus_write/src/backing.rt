@@ -193,28 +193,6 @@ impl Backing {
         }
     }
 
-    // The bytes of three slices as a part that is planned, and the padding behind it, for which
-    // there is room.
-    #[inline]
-    pub(crate) fn put_planned_slices(
-        &mut self,
-        plan: &Plan,
-        first: &[u8],
-        second: &[u8],
-        third: &[u8],
-    )
-        requires room { plan.now.padding + length (first.now ++ second.now ++ third.now)
-            ≤ self.old.room }
-        requires within { length (first.now ++ second.now ++ third.now)
-            + (plan.now.padding + length self.old.bytes) ≤ greatest_place }
-        ensures { (padded : Backed) × Pads plan.now self.old padded
-            × PutsBytes (first.now ++ second.now ++ third.now) padded self.new }
-    {
-        self.inner
-            .put_three_padded(plan.padding, first, second, third);
-        self.promises = plan.promises;
-    }
-
     // The bytes of three slices, for which there is room.
     #[inline]
     pub(crate) fn put_three(&mut self, first: &[u8], second: &[u8], third: &[u8])
@@ -226,29 +204,20 @@ impl Backing {
         self.inner.put_three_padded(0, first, second, third);
     }
 
-    // A count of 4 bytes, and behind it as many bytes of the writer's, as a part that is planned, and
-    // the padding behind it, for which there is room.
+    // The writer's bytes as a part that is planned, and the padding behind it, for which there is
+    // room.
     #[inline(always)]
-    pub(crate) fn put_planned_list<W: Overwrite>(&mut self, plan: &Plan, count: u32, writer: &W)
-        requires room { plan.now.padding + (count + 4) ≤ self.old.room }
-        requires within { count + 4 + (plan.now.padding + length self.old.bytes) ≤ greatest_place }
-        requires place { 4 ≤ plan.now.place }
-        requires fits { W.fits writer.now (plan.now.place - 4) count }
+    pub(crate) fn put_planned_over<W: Overwrite>(&mut self, plan: &Plan, size: usize, writer: &W)
+        requires room { plan.now.padding + size ≤ self.old.room }
+        requires within { size + (plan.now.padding + length self.old.bytes) ≤ greatest_place }
+        requires fits { W.fits writer.now plan.now.place size }
         ensures put { (padded : Backed) × Pads plan.now self.old padded
-            × PutsBytes (to_le_bytes w32 count ++ W.leaves writer.now (plan.now.place - 4) count)
-            padded self.new }
-        ensures count { length (W.leaves writer.now (plan.now.place - 4) count) ≡ count }
+            × PutsBytes (W.leaves writer.now plan.now.place size) padded self.new }
+        ensures count { length (W.leaves writer.now plan.now.place size) ≡ size }
     {
-        self.inner.put_two_parts(
-            plan.padding,
-            &[],
-            0,
-            plan.place - 4,
-            count as usize,
-            writer,
-            &count.to_le_bytes(),
-        );
         self.promises = plan.promises;
+        self.inner
+            .put_overwritten_padded(plan.padding, plan.place, size, writer);
     }
 
     // The writer's bytes, for which there is room.

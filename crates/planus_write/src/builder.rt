@@ -1,19 +1,23 @@
 //! The builder.
 ghost use Rattle.std.specs.Prelude.{◌≡◌, ◌+◌, ◌≤◌, ◌^◌, [], length, IsTrue, ◌↔◌, IfOk, IfErr, ℕ};
-ghost use Rattle.std.specs.Prelude.{Some};
+ghost use Rattle.std.specs.Prelude.{Some, true, false};
 ghost use Rattle.planus_back.specs.Promises.{IsPowerOfTwo};
 ghost use Rattle.planus_back.specs.Padding.{greatest_place};
 ghost use Rattle.planus_back.specs.CacheKeys.{vtable_in};
-ghost use Rattle.planus_write.specs.Parts.{identifier_bytes};
+ghost use Rattle.planus_write.specs.Parts.{identifier_bytes, text_entry, byte_list_entry};
+ghost use Rattle.planus_write.specs.inner.Written.{place_of};
 
 use crate::backing::{Backing, WORD_MASK, word_between};
 use crate::byte_lists::{ByteItems, ByteList, Copied};
 use crate::caches::Caches;
 use crate::errors::BuildError;
+use crate::list_part::ListPart;
 use crate::offset::{List, Offset, Text};
 use crate::sharing::{Lookup, Sharing, find_or_plan};
+use crate::text_part::TextPart;
 use crate::traits::{Primitive, WriteAsOffset, WriteAsUnionVector};
 use crate::union_vector_offset::UnionVectorOffset;
+use crate::written::Written;
 use planus_back::{ByteVec, Fill, Overwrite, VTable};
 use std::alloc::Global;
 use std::marker::Model;
@@ -177,30 +181,61 @@ impl Builder {
         self.vtables.clear();
     }
 
-    // A text as one part.
+    // A text as one part. There are two functions of one body, so that nothing of the search for
+    // equal texts is in the code where it isn't on.
     #[inline]
     pub(crate) fn write_text(&mut self, text: &str) -> Result<Offset<Text>, BuildError>
         ensures { WritesText text.now self.old result self.new }
     {
+        if self.texts.is_on() {
+            self.write_shared_text(text).offset()
+        } else {
+            self.write_new_text(text).offset()
+        }
+    }
+
+    #[inline(never)]
+    fn write_shared_text(&mut self, text: &str) -> Written
+        requires { self.old.switches.texts_on ≡ true }
+        ensures { WritesEntry (text_entry text.now) [] self.old (place_of result) self.new }
+    {
+        Written::from(self.write_text_if(true, text))
+    }
+
+    #[inline(never)]
+    fn write_new_text(&mut self, text: &str) -> Written
+        requires { self.old.switches.texts_on ≡ false }
+        ensures { WritesEntry (text_entry text.now) [] self.old (place_of result) self.new }
+    {
+        Written::from(self.write_text_if(false, text))
+    }
+
+    // A text as one part, unless it is shared and an equal one is found.
+    #[inline(always)]
+    fn write_text_if(&mut self, shared: bool, text: &str) -> Result<u32, BuildError>
+        requires { self.old.switches.texts_on ≡ shared }
+        ensures { WritesEntry (text_entry text.now) [] self.old result self.new }
+    {
         let bytes = text.as_bytes();
         let size = bytes.len() + 5;
         match find_or_plan(
+            shared,
             &mut self.backing,
             &mut self.texts,
             &ByteList(bytes),
             size,
             WORD_MASK,
         )? {
-            Lookup::Found(distance) => Ok(Offset::at(distance)),
+            Lookup::Found(distance) => Ok(distance),
             Lookup::Planned(plan) => {
-                let count = (bytes.len() as u32).to_le_bytes();
-                self.backing.put_planned_slices(&plan, &count, bytes, &[0]);
-                Ok(Offset::at(plan.place))
+                let part = TextPart(bytes);
+                self.backing.put_planned_over(&plan, size, &part);
+                Ok(plan.place)
             }
         }
     }
 
-    // A byte vector as one part.
+    // A byte vector as one part, in the same way.
     #[inline]
     pub(crate) fn write_byte_list<T, L: ByteItems>(
         &mut self,
@@ -208,19 +243,51 @@ impl Builder {
     ) -> Result<Offset<T>, BuildError>
         ensures { WritesByteList (L.bytes_of list.now) self.old result self.new }
     {
-        let count = list.count();
+        if self.byte_lists.is_on() {
+            self.write_shared_list(list).offset()
+        } else {
+            self.write_new_list(list).offset()
+        }
+    }
+
+    #[inline(never)]
+    fn write_shared_list<L: ByteItems>(&mut self, list: &L) -> Written
+        requires { self.old.switches.byte_lists_on ≡ true }
+        ensures { WritesEntry (byte_list_entry (L.bytes_of list.now)) [] self.old (place_of result)
+            self.new }
+    {
+        Written::from(self.write_list_if(true, list))
+    }
+
+    #[inline(never)]
+    fn write_new_list<L: ByteItems>(&mut self, list: &L) -> Written
+        requires { self.old.switches.byte_lists_on ≡ false }
+        ensures { WritesEntry (byte_list_entry (L.bytes_of list.now)) [] self.old (place_of result)
+            self.new }
+    {
+        Written::from(self.write_list_if(false, list))
+    }
+
+    // A byte list as one part, unless it is shared and an equal one is found.
+    #[inline(always)]
+    fn write_list_if<L: ByteItems>(&mut self, shared: bool, list: &L) -> Result<u32, BuildError>
+        requires { self.old.switches.byte_lists_on ≡ shared }
+        ensures { WritesEntry (byte_list_entry (L.bytes_of list.now)) [] self.old result self.new }
+    {
+        let size = list.count() + 4;
         match find_or_plan(
+            shared,
             &mut self.backing,
             &mut self.byte_lists,
             list,
-            count + 4,
+            size,
             WORD_MASK,
         )? {
-            Lookup::Found(distance) => Ok(Offset::at(distance)),
+            Lookup::Found(distance) => Ok(distance),
             Lookup::Planned(plan) => {
-                let items = Copied { items: list };
-                self.backing.put_planned_list(&plan, count as u32, &items);
-                Ok(Offset::at(plan.place))
+                let part = ListPart { items: list };
+                self.backing.put_planned_over(&plan, size, &part);
+                Ok(plan.place)
             }
         }
     }
@@ -236,12 +303,30 @@ impl Builder {
     }
 
     // A vtable as one part. Its own size stands in front.
-    #[inline(never)]
+    #[inline]
     pub(crate) fn write_vtable(&mut self, bytes: &[u8]) -> Result<u32, BuildError>
         requires { vtable_in bytes.now ≡ Some bytes.now }
         ensures { WritesEntry (vtable_entry bytes.now) [] self.old result self.new }
     {
+        self.write_any_vtable(bytes).place()
+    }
+
+    #[inline(never)]
+    fn write_any_vtable(&mut self, bytes: &[u8]) -> Written
+        requires { vtable_in bytes.now ≡ Some bytes.now }
+        ensures { WritesEntry (vtable_entry bytes.now) [] self.old (place_of result) self.new }
+    {
+        Written::from(self.write_vtable_once(bytes))
+    }
+
+    // A vtable as one part, unless vtables are shared and an equal one is found.
+    #[inline(always)]
+    fn write_vtable_once(&mut self, bytes: &[u8]) -> Result<u32, BuildError>
+        requires { vtable_in bytes.now ≡ Some bytes.now }
+        ensures { WritesEntry (vtable_entry bytes.now) [] self.old result self.new }
+    {
         match find_or_plan(
+            self.vtables.is_on(),
             &mut self.backing,
             &mut self.vtables,
             &ByteList(bytes),
@@ -250,7 +335,9 @@ impl Builder {
         )? {
             Lookup::Found(distance) => Ok(distance),
             Lookup::Planned(plan) => {
-                self.backing.put_planned_slices(&plan, bytes, &[], &[]);
+                let items = &ByteList(bytes);
+                self.backing
+                    .put_planned_over(&plan, bytes.len(), &Copied { items });
                 Ok(plan.place)
             }
         }
@@ -457,6 +544,7 @@ impl Builder {
     }
 
     // The root word, and the identifier behind it, as one part with the greatest alignment so far.
+    #[inline]
     fn write_root(&mut self, root: u32, identifier: Option<[u8; 4]>) -> Result<u32, BuildError>
         requires { root ≤ length self.old.bytes }
         ensures { WritesRoot root identifier self.old result self.new }
@@ -471,6 +559,7 @@ impl Builder {
 
     // The size word, the root word behind it, and the identifier behind that, as one part with the
     // greatest alignment so far.
+    #[inline]
     fn write_sized_root(
         &mut self,
         root: u32,

@@ -217,9 +217,11 @@ pub(crate) fn plan_shared<C: GetCacheKey, L: ByteItems>(
     Ok(plan)
 }
 
-// Finds equal contents, or makes room for a part of `size` bytes, as `plan_shared` does.
+// Finds equal contents, if they are shared, or makes room for a part of `size` bytes, as
+// `plan_shared` does.
 #[inline(always)]
 pub(crate) fn find_or_plan<C: GetCacheKey, L: ByteItems>(
+    shared: bool,
     backing: &mut Backing,
     sharing: &mut Sharing<C>,
     contents: &L,
@@ -228,11 +230,12 @@ pub(crate) fn find_or_plan<C: GetCacheKey, L: ByteItems>(
 ) -> Result<Lookup, BuildError>
     requires power { IsPowerOfTwo (mask + 1) }
     requires bound { mask + 1 ≤ 2 ^ 30 }
+    requires on { sharing.old.on ≡ shared }
     requires fits { HoldingFits C.key_in sharing.old.holding backing.old.bytes }
     ensures { FindsOrPlans C.key_in (L.bytes_of contents.now) size (mask + 1)
         backing.old sharing.old result backing.new sharing.new }
 {
-    if !sharing.on {
+    if !shared {
         return Ok(Lookup::Planned(backing.plan_room(size, mask)?));
     }
     let bucket = sharing.bucket_of(contents);

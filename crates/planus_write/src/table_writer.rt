@@ -72,7 +72,7 @@ impl<'a, F: ObjectFill> Overwrite for Body<'a, F> {
 
     ghost leaves = { λ body place n. F.leaves body.filler.now place };
 
-    #[inline]
+    #[inline(always)]
     fn overwrite(&self, place: u32, bytes: &mut [u8]) {
         let filler = self.filler;
         let mut writer = ObjectWriter::new(bytes, place);

@@ -1,9 +1,9 @@
-use Rattle.std.proofs.Common.{◌≡◌, ℕ, ◌+◌, max, sym, subst, ◌∙◌, inl, inr, arith, bit_and, bit_or}
+use Rattle.std.proofs.Common.{◌≡◌, ℕ, ◌+◌, ◌-◌, ◌%◌, ◌<◌, ◌≤◌, ◌^◌, max, sym, subst, ◌∙◌, inl, inr, arith, bit_and, bit_or}
 use Rattle.std.proofs.lemmas.Bool.{cases_lt}
-use Rattle.std.proofs.lemmas.Nat.{and_le_r, and_comm}
+use Rattle.std.proofs.lemmas.Nat.{and_le_r, and_comm, and-not}
 use Rattle.std.proofs.Math.Nat.{mod-eq_of_lt}
 use lib.Bits.{or_add_and}
-use Rattle.planus_back.proofs.Asked.{Asked, asked_for, padding_for, and_below}
+use Rattle.planus_back.proofs.Asked.{Asked, asked_for, ahead, padding_for, next_for, and_below}
 use Rattle.planus_back.proofs.PaddingLaws.{keeps_every}
 use Rattle.planus_back.specs.Promises.{IsPowerOfTwo}
 use Rattle.planus_back.specs.Requests.{Delay}
@@ -28,17 +28,33 @@ granted c = asked_for (record { delayed = c.self.inside.delayed; mask = c.self.i
 one_mask : (c : goal.After-struct_known-3-1) → bit_or c.self.inside.mask c.args.mask ≡ max c.self.inside.mask c.args.mask
 one_mask c = or_is_max c.self.inside.mask c.args.mask c.self.invariant.power c.requires.power
 
+-- the bits outside of a mask are what those in it leave
+outside_of : (n mask : ℕ) → n < 2 ^ 64 → mask < 2 ^ 64 → bit_and n (18446744073709551615 - mask) ≡ n - bit_and n mask
+outside_of n mask small within =
+    let sum : bit_and (18446744073709551615 - mask) n + bit_and mask n ≡ n = and-not 64 mask n within small in
+    omega (arith, sum, and_comm n mask, and_comm n (18446744073709551615 - mask))
+
+rest_for : (delay : Delay) (size asked : ℕ) → delay.mask + 1 ≤ 2 ^ 30 → asked + 1 ≤ 2 ^ 30
+    → bit_and (ahead delay size) (18446744073709551615 - asked) ≡ (next_for delay size asked).delayed
+rest_for delay size asked bound small =
+    let below : ahead delay size ≤ delay.mask = and_le_r ((delay.delayed + (18446744073709551616 - size)) % 18446744073709551616) delay.mask in
+    outside_of (ahead delay size) asked (omega (arith, below, bound)) (omega (arith, small))
+
+one_rest : (c : goal.After-struct_known-3-1) → bit_and (ahead (record { delayed = c.self.inside.delayed; mask = c.self.inside.mask }) c.args.size) (18446744073709551615 - c.args.mask)
+    ≡ (next_for (record { delayed = c.self.inside.delayed; mask = c.self.inside.mask }) c.args.size c.args.mask).delayed
+one_rest c = rest_for (record { delayed = c.self.inside.delayed; mask = c.self.inside.mask }) c.args.size c.args.mask c.self.invariant.bound c.requires.bound
+
 pub returns-clause-least : goal.returns-clause-least
 returns-clause-least c = rw (← c.self.view_is) ((granted c).least)
 
 pub returns-clause-those : goal.returns-clause-those
-returns-clause-those c = rw (← c.self.view_is, one_mask c) ((granted c).those)
+returns-clause-those c = rw (← c.self.view_is, one_mask c, one_rest c) ((granted c).those)
 
 pub returns-clause-least_padding : goal.returns-clause-least_padding
 returns-clause-least_padding c = rw (← c.self.view_is) ((granted c).least_padding)
 
 pub returns-clause-described : goal.returns-clause-described
-returns-clause-described c = rw (← c.self.view_is, one_mask c) ((granted c).described)
+returns-clause-described c = rw (← c.self.view_is, one_mask c, one_rest c) ((granted c).described)
 
 pub returns-clause-kept : goal.returns-clause-kept
 returns-clause-kept c =
@@ -63,5 +79,5 @@ pub invariant_of-next : goal.invariant_of-next
 invariant_of-next c = record {
   power = subst (λ x. IsPowerOfTwo (x + 1)) (sym (one_mask c)) (greater_is_power c.self.inside.mask c.args.mask c.self.invariant.power c.requires.power);
   bound = omega (arith, one_mask c);
-  rest = omega (arith, and_le_r, one_mask c);
+  rest = omega (arith, and_le_r, one_mask c, one_rest c);
 }

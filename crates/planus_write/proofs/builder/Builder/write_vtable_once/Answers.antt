@@ -1,5 +1,4 @@
-use Rattle.std.proofs.Common.{◌≡◌, ◌++◌, [], length, replicate, sym, ap, subst, ◌∙◌, Ok, Some, append_assoc}
-use Rattle.std.proofs.lemmas.List.{append-nil}
+use Rattle.std.proofs.Common.{◌≡◌, ◌++◌, [], length, replicate, refl, ap, subst, ◌∙◌, Ok, Some, append_assoc}
 use Rattle.std.proofs.lemmas.Result.{err_from_is_err_and}
 use Rattle.planus_back.specs.CacheKeys.{vtable_in}
 use Rattle.planus_write.specs.Tables.{vtable_entry, vtable_part}
@@ -13,26 +12,24 @@ use Rattle.planus_write.proofs.ContentsInFront.{vtable_in_front}
 use Rattle.planus_write.specs.lemmas.KeptTables.{new_vtables}
 use Rattle.planus_write.proofs.PlannedRoom.{makes_room}
 use Rattle.planus_write.proofs.PlacedParts.{begun, found_again, not_begun, new_bytes, still_sound, left_sound}
-use Rattle.planus_write.proofs.builder.Builder.write_vtable.Goals as goal
+use Rattle.planus_write.proofs.builder.Builder.write_vtable_once.Goals as goal
 
 pub find_or_plan-requires-clause-fits : goal.find_or_plan-requires-clause-fits
 find_or_plan-requires-clause-fits c = (c.self.invariant.1.seen vtables).fits
 
-put : (c : goal.After-put_planned_slices) → PutsDown (vtable_entry c.args.bytes.now) [] (state_of c.self.inside) c.in-Planned.plan.place (state_of (record c.self.inside { backing = c.put_planned_slices.new.self; vtables = c.find_or_plan.new.sharing }))
+put : (c : goal.After-put_planned_over) → PutsDown (vtable_entry c.args.bytes.now) [] (state_of c.self.inside) c.in-Planned.plan.place (state_of (record c.self.inside { backing = c.put_planned_over.new.self; vtables = c.find_or_plan.new.sharing }))
 put c =
     let bytes = c.args.bytes.now in
     let plan = c.in-Planned.plan in
     let old = c.self.inside.backing in
     let started : FindsOrPlans vtable_in bytes (length bytes) 2 old c.self.inside.vtables (Ok (Planned plan)) c.find_or_plan.new.backing c.find_or_plan.new.sharing =
     subst (λ (start : Lookup). FindsOrPlans vtable_in bytes (length bytes) 2 old c.self.inside.vtables (Ok start) c.find_or_plan.new.backing c.find_or_plan.new.sharing) c.in-Planned.is c.in_ok-distance.ensures in
-    let there = c.put_planned_slices.ensures in
+    let there = c.put_planned_over.ensures.put in
     let room = makes_room (length bytes) 2 old c.find_or_plan.new.backing there.0 plan started.1.0 started.1.1 there.1 in
-    let whole = (bytes ++ []) ++ [] in
-    let same : bytes ≡ whole = sym (append-nil (bytes ++ []) ∙ append-nil bytes) in
-    let front : c.put_planned_slices.new.self.bytes ≡ bytes ++ (replicate room.padding 0 ++ old.bytes) =
-    new_bytes (length bytes) 2 plan.place old there.0 c.put_planned_slices.new.self whole room (ap length (sym same)) there.2 ∙ append_assoc whole (replicate room.padding 0) old.bytes ∙ ap (λ xs. xs ++ (replicate room.padding 0 ++ old.bytes)) (sym same) in
-    let in_front : vtable_in c.put_planned_slices.new.self.bytes ≡ Some bytes = ap vtable_in front ∙ vtable_in_front bytes (replicate room.padding 0 ++ old.bytes) bytes c.requires in
-    begun bytes (vtable_part bytes) c.self.inside c.find_or_plan.new.backing c.find_or_plan.new.sharing vtables plan there.0 c.put_planned_slices.new.self whole started there.1 same (ap length (sym same)) there.2 in_front (new_vtables bytes)
+    let front : c.put_planned_over.new.self.bytes ≡ bytes ++ (replicate room.padding 0 ++ old.bytes) =
+    new_bytes (length bytes) 2 plan.place old there.0 c.put_planned_over.new.self bytes room refl there.2 ∙ append_assoc bytes (replicate room.padding 0) old.bytes in
+    let in_front : vtable_in c.put_planned_over.new.self.bytes ≡ Some bytes = ap vtable_in front ∙ vtable_in_front bytes (replicate room.padding 0 ++ old.bytes) bytes c.requires in
+    begun bytes (vtable_part bytes) c.self.inside c.find_or_plan.new.backing c.find_or_plan.new.sharing vtables plan there.0 c.put_planned_over.new.self bytes started there.1 refl refl there.2 in_front (new_vtables bytes)
 
 pub invariant_of-self-in-Planned : goal.invariant_of-self-in-Planned
 invariant_of-self-in-Planned c = still_sound (vtable_entry c.args.bytes.now) [] (state_of c.self.inside) _ c.in-Planned.plan.place c.self.invariant (put c)

@@ -1,4 +1,4 @@
-use Rattle.std.proofs.Common.{◌≡◌, ◌+◌, ◌++◌, [], ◌∷◌, length, replicate, refl, sym, ap, subst, arith, Ok, length-append}
+use Rattle.std.proofs.Common.{◌≡◌, ◌+◌, ◌++◌, [], ◌∷◌, length, replicate, refl, subst, arith, Ok, length-append}
 use Rattle.std.proofs.lemmas.Result.{err_from_is_err_and}
 use Rattle.planus_back.specs.CacheKeys.{bytes_in}
 use Rattle.planus_write.specs.Parts.{text_entry, text_part}
@@ -13,7 +13,7 @@ use Rattle.planus_write.proofs.ContentsInFront.{text_in_front}
 use Rattle.planus_write.specs.lemmas.KeptContents.{new_texts}
 use Rattle.planus_write.proofs.PlannedRoom.{makes_room}
 use Rattle.planus_write.proofs.PlacedParts.{begun, found_again, not_begun, new_bytes, still_sound, left_sound}
-use Rattle.planus_write.proofs.builder.Builder.write_text.Goals as goal
+use Rattle.planus_write.proofs.builder.Builder.write_text_if.Goals as goal
 
 pub find_or_plan-requires-clause-power : goal.find_or_plan-requires-clause-power
 find_or_plan-requires-clause-power c = (2, refl)
@@ -21,37 +21,36 @@ find_or_plan-requires-clause-power c = (2, refl)
 pub find_or_plan-requires-clause-fits : goal.find_or_plan-requires-clause-fits
 find_or_plan-requires-clause-fits c = (c.self.invariant.1.seen texts).fits
 
-put : (c : goal.After-at-in-Planned) → PutsDown (text_entry c.as_bytes-bytes.result.now) [] (state_of c.self.inside) c.in-Planned.plan.place (state_of (record c.self.inside { backing = c.put_planned_slices.new.self; texts = c.find_or_plan.new.sharing }))
+put : (c : goal.After-put_planned_over) → PutsDown (text_entry c.as_bytes-bytes.result.now) [] (state_of c.self.inside) c.in-Planned.plan.place (state_of (record c.self.inside { backing = c.put_planned_over.new.self; texts = c.find_or_plan.new.sharing }))
 put c =
     let text = c.as_bytes-bytes.result.now in
     let plan = c.in-Planned.plan in
-    let count = c.to_le_bytes-count.result in
     let old = c.self.inside.backing in
+    let whole = (to_le_bytes w32 (length text) ++ text) ++ 0 ∷ [] in
     let started : FindsOrPlans bytes_in text (length text + 5) 4 old c.self.inside.texts (Ok (Planned plan)) c.find_or_plan.new.backing c.find_or_plan.new.sharing =
     subst (λ (start : Lookup). FindsOrPlans bytes_in text (length text + 5) 4 old c.self.inside.texts (Ok start) c.find_or_plan.new.backing c.find_or_plan.new.sharing) c.in-Planned.is c.in_ok-distance.ensures in
-    let there = c.put_planned_slices.ensures in
+    let there = c.put_planned_over.ensures.put in
     let room = makes_room (length text + 5) 4 old c.find_or_plan.new.backing there.0 plan started.1.0 started.1.1 there.1 in
-    let same : (to_le_bytes w32 (length text) ++ text) ++ 0 ∷ [] ≡ (count ++ text) ++ 0 ∷ [] = ap (λ xs. (xs ++ text) ++ 0 ∷ []) (sym c.to_le_bytes-count.ensures) in
-    let long : length ((count ++ text) ++ 0 ∷ []) ≡ length text + 5 = rw c.to_le_bytes-count.ensures (simp length-append (omega arith)) in
+    let long : length whole ≡ length text + 5 = simp length-append (omega arith) in
     let fits = started.1.0.fits in
     let place = started.1.0.is_place in
-    begun text (text_part text) c.self.inside c.find_or_plan.new.backing c.find_or_plan.new.sharing texts plan there.0 c.put_planned_slices.new.self ((count ++ text) ++ 0 ∷ []) started there.1 same long there.2
-    (text_in_front text count (replicate room.padding 0) old.bytes c.put_planned_slices.new.self.bytes (omega (arith, fits, place)) c.to_le_bytes-count.ensures
-    (new_bytes (length text + 5) 4 plan.place old there.0 c.put_planned_slices.new.self ((count ++ text) ++ 0 ∷ []) room long there.2))
+    begun text (text_part text) c.self.inside c.find_or_plan.new.backing c.find_or_plan.new.sharing texts plan there.0 c.put_planned_over.new.self whole started there.1 refl long there.2
+    (text_in_front text (to_le_bytes w32 (length text)) (replicate room.padding 0) old.bytes c.put_planned_over.new.self.bytes (omega (arith, fits, place)) refl
+    (new_bytes (length text + 5) 4 plan.place old there.0 c.put_planned_over.new.self whole room long there.2))
     (new_texts text)
 
 pub invariant_of-self-in-Planned : goal.invariant_of-self-in-Planned
 invariant_of-self-in-Planned c = still_sound (text_entry c.as_bytes-bytes.result.now) [] (state_of c.self.inside) _ c.in-Planned.plan.place c.self.invariant (put c)
 
 pub returns-in-Planned : goal.returns-in-Planned
-returns-in-Planned c = rw (← c.self.view_is, ← c.as_bytes-bytes.ensures.value, c.at-in-Planned.ensures) (put c)
+returns-in-Planned c = rw (← c.self.view_is, ← c.as_bytes-bytes.ensures.value) (put c)
 
 pub returns-in-Found : goal.returns-in-Found
 returns-in-Found c =
     let text = c.as_bytes-bytes.result.now in
     let started : FindsOrPlans bytes_in text (length text + 5) 4 c.self.inside.backing c.self.inside.texts (Ok (Found c.in-Found.distance)) c.find_or_plan.new.backing c.find_or_plan.new.sharing =
     subst (λ (start : Lookup). FindsOrPlans bytes_in text (length text + 5) 4 c.self.inside.backing c.self.inside.texts (Ok start) c.find_or_plan.new.backing c.find_or_plan.new.sharing) c.in-Found.is c.in_ok-distance.ensures in
-    rw (← c.self.view_is, ← c.as_bytes-bytes.ensures.value, c.at.ensures)
+    rw (← c.self.view_is, ← c.as_bytes-bytes.ensures.value)
     (found_again text (text_part text) c.self.inside c.find_or_plan.new.backing c.find_or_plan.new.sharing texts c.in-Found.distance started)
 
 refused : (c : goal.After-from_residual) → Refuses (text_entry c.as_bytes-bytes.result.now) [] (state_of c.self.inside) c.in_err-distance.field-0.0 (state_of (record c.self.inside { backing = c.find_or_plan.new.backing; texts = c.find_or_plan.new.sharing }))
