@@ -1,4 +1,4 @@
--- What the type of a slice of bytes says of them.
+-- What the type of a byte slice implies.
 use Rattle.std.specs.Prelude.{ℕ, ◌<◌, List, slice_index}
 
 -- each is a byte

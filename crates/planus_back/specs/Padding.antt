@@ -1,18 +1,17 @@
--- The least padding between what is written and the next part in front of it.
--- A place is the distance from the end to a part's first byte; the last byte has distance 1.
+-- The least padding between what is written and the next part before it. A place is the distance
+-- from the end to a part's first byte; the last byte has distance 1.
 use Rattle.std.specs.Prelude.{ℕ, ◌+◌, ◌≤◌, List, ◌∷◌}
 use Rattle.planus_back.specs.Promises.{Promise, CanBeKept}
 
--- No place is greater: the greatest signed number of 4 bytes.
+-- The greatest place: the greatest signed number of 4 bytes.
 abbrev pub greatest_place : ℕ
 greatest_place = 2147483647
 
--- that a part stands aligned at its place
+-- the constraint that a part is aligned at its place
 abbrev pub promise_of : ℕ → ℕ → Promise
 promise_of place alignment = record { distance = place; alignment = alignment }
 
--- In front of that many bytes, with this much padding, some length keeps the promises so far and
--- that of the part.
+-- Before n bytes, with this much padding, some length keeps the constraints so far and the part's.
 abbrev pub CanPad : ℕ → List Promise → ℕ → ℕ → ℕ → Type 0
 CanPad length promises size alignment padding =
     CanBeKept (promise_of (length + padding + size) alignment ∷ promises)
@@ -22,8 +21,7 @@ pub record IsLeast (Holds : ℕ → Type 0) (n : ℕ) : Type 0 where
   pub holds : Holds n
   pub least : (m : ℕ) → Holds m → n ≤ m
 
--- With this padding and with none that is less, some length keeps the promises so far and that of
--- the part.
+-- With this padding and no smaller one, some length keeps the constraints so far and the part's.
 abbrev pub IsLeastPadding : ℕ → List Promise → ℕ → ℕ → ℕ → Type 0
 IsLeastPadding length promises size alignment padding =
     IsLeast (CanPad length promises size alignment) padding

@@ -1,4 +1,4 @@
--- Parts, and how the next one is placed in front of what is written.
+-- Parts, and how the next one is placed before what is written.
 use Rattle.std.specs.Prelude.{◌≡◌, ℕ, ◌+◌, ◌<◌, ◌≤◌, List, ◌∷◌, ◌++◌, length, replicate}
 use Rattle.planus_back.specs.Promises.{Promise}
 use Rattle.planus_back.specs.Padding.{greatest_place, promise_of, IsLeastPadding}
@@ -9,13 +9,13 @@ pub record Part : Type 0 where
   pub alignment : ℕ
   pub bytes_at : ℕ → List ℕ
 
--- what is written so far, and what was promised of it
+-- what is written so far, and its constraints
 pub record Written : Type 0 where
   pub bytes : List ℕ
   pub promises : List Promise
 
--- The part is placed: least padding, then the part in front of it, and its promise beside those
--- before.
+-- The part is placed: least padding, then the part before it, and its constraint besides the
+-- earlier ones.
 pub record Placed (part : Part) (before after : Written) : Type 0 where
   pub padding : ℕ
   pub place : ℕ

@@ -4,7 +4,7 @@ use Rattle.planus_back.specs.Promises.{Promise, CanBeKept}
 use Rattle.planus_back.specs.Padding.{promise_of, IsLeastPadding}
 use Rattle.planus_back.specs.Parts.{Part}
 
--- Each part lies in front of the one before it, and the first in front of this many bytes.
+-- Each part is before the previous one, and the first before n bytes.
 abbrev pub LieInOrder : ℕ → List Part → List ℕ → Type 0
 LieInOrder length [] [] = ⊤
 LieInOrder length (part ∷ parts) (place ∷ places) = (length + part.size ≤ place)
@@ -19,13 +19,13 @@ promises_at (part ∷ parts) [] = []
 promises_at (part ∷ parts) (place ∷ places) =
     promise_of place part.alignment ∷ promises_at parts places
 
--- Places of the parts: in order, and some length keeps what all of them promise.
+-- Places of the parts: in order, and some length keeps all constraints.
 pub record IsPlacing (parts : List Part) (places : List ℕ) : Type 0 where
   pub in_order : LieInOrder 0 parts places
   pub kept : CanBeKept (promises_at parts places)
 
--- The places that the parts get one by one, each by the least padding, from that many bytes and
--- these promises on.
+-- The places that the parts get one by one, each by the least padding, from n bytes and these
+-- constraints on.
 abbrev pub PlacedInTurn : ℕ → List Promise → List Part → List ℕ → Type 0
 PlacedInTurn length promises [] [] = ⊤
 PlacedInTurn length promises (part ∷ parts) (place ∷ places) =

@@ -1,13 +1,11 @@
--- Promises of alignment, and the finished lengths that keep them.
--- The format: a number stands at a multiple of its size from the buffer's start. A writer that
--- works from the back doesn't know the start before the end, so each part that it places is a
--- promise on the finished length.
+-- Alignment constraints, here called promises, and the finished lengths that keep them. The format:
+-- a number is at a multiple of its size from the buffer's start. A writer from the back doesn't
+-- know the start until the end, so each part it places constrains the finished length.
 use Rattle.std.specs.Prelude.{◌≡◌, ℕ, ◌-◌, ◌^◌, ◌≤◌, max, List, [], ◌∷◌}
 use Rattle.std.specs.Int.{◌∣◌}
 use Rattle.std.specs.List.{AllByRecursion}
 
--- What stands at this distance from the end is to stand at a multiple of the alignment from the
--- start.
+-- The byte at this distance from the end is to be at a multiple of the alignment from the start.
 pub record Promise : Type 0 where
   pub distance : ℕ
   pub alignment : ℕ
@@ -16,21 +14,21 @@ pub record Promise : Type 0 where
 abbrev pub IsPowerOfTwo : ℕ → Type 0
 IsPowerOfTwo a = (k : ℕ) × (a ≡ 2 ^ k)
 
--- A length keeps a promise where it reaches the distance, and the alignment divides what lies in
--- front of it.
+-- A length keeps a constraint if it reaches the distance, and the alignment divides the number of
+-- bytes before it.
 pub record Keeps (length : ℕ) (promise : Promise) : Type 0 where
   pub reaches : promise.distance ≤ length
   pub aligns : promise.alignment ∣ (length - promise.distance)
 
--- the set of the lengths that keep every promise of the list
+-- the set of lengths that keep every constraint
 abbrev pub Keep : List Promise → ℕ → Type 0
 Keep promises length = AllByRecursion (Keeps length) promises
 
--- some length keeps every promise of the list
+-- some length keeps every constraint
 abbrev pub CanBeKept : List Promise → Type 0
 CanBeKept promises = (length : ℕ) × Keep promises length
 
--- the greatest of a number and every alignment that was promised
+-- the greatest of a number and every alignment
 abbrev pub greatest_alignment : ℕ → List Promise → ℕ
 greatest_alignment least [] = least
 greatest_alignment least (promise ∷ promises) =

@@ -1,4 +1,4 @@
--- What a request for one part grants, said of the lengths that are described.
+-- What a request for one part grants, by the lengths described.
 use Rattle.std.specs.Prelude.{◌≡◌, ℕ, ◌+◌, ◌*◌, ◌<◌, ◌↔◌, List}
 use Rattle.planus_back.specs.Promises.{Promise, Keeps}
 use Rattle.planus_back.specs.Padding.{greatest_place, promise_of}
@@ -9,7 +9,7 @@ pub record Delay : Type 0 where
   pub delayed : ℕ
   pub mask : ℕ
 
--- The finished length is one of those that are described in front of that many bytes.
+-- The finished length is one of those described before n bytes.
 abbrev pub IsDescribed : Delay → ℕ → ℕ → Type 0
 IsDescribed delay length finished = (k : ℕ)
     × (finished ≡ length + delay.delayed + k * (delay.mask + 1))
@@ -20,18 +20,18 @@ LeavesSome delay length size alignment padding =
     (finished : ℕ) × IsDescribed delay length finished
     × Keeps finished (promise_of (length + padding + size) alignment)
 
--- In front of a part at this place, the later value describes exactly those described lengths that
--- hold the part and align it.
+-- Before a part at this place, the later value describes exactly those described lengths that hold
+-- the part and align it.
 abbrev pub DescribesThose : Delay → ℕ → Delay → ℕ → ℕ → Type 0
 DescribesThose before length after place alignment =
     (finished : ℕ) → IsDescribed after place finished
     ↔ (IsDescribed before length finished × Keeps finished (promise_of place alignment))
 
--- At this length, the value describes all of these promises.
+-- At this length, the value describes all of these constraints.
 abbrev pub DescribesAll : Delay → ℕ → List Promise → Type 0
 DescribesAll delay length promises = Describes length delay.delayed delay.mask promises
 
--- A least padding puts the part further from the end than any place may be.
+-- A least padding puts the part past the greatest place.
 abbrev pub PassesGreatestPlace : (ℕ → Type 0) → ℕ → ℕ → Type 0
 PassesGreatestPlace IsPadding length size = (padding : ℕ) × IsPadding padding
     × (greatest_place < length + padding + size)

@@ -1,6 +1,6 @@
 -- The text of an error.
 use Rattle.std.specs.Prelude.{ℕ, List, codes}
 
--- a part would lie too far from the end
+-- a part would be too far from the end
 abbrev pub too_large_text : List ℕ
 too_large_text = codes "too large"

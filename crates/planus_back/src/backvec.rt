@@ -1,4 +1,4 @@
-//! A byte vector that grows towards its front.
+//! A byte vector that grows at its front.
 ghost use Rattle.std.specs.Prelude.{◌≡◌, ℕ, ◌+◌, ◌≤◌, List, [], ◌++◌, length};
 ghost use Rattle.std.specs.Prelude.{replicate, IfOk, OnOk, OnErr, IsOk};
 
@@ -8,10 +8,10 @@ use std::alloc::{AllocError, Global};
 use std::marker::Model;
 use std::{fmt, mem};
 
-/// The least number of bytes that a vector asks memory for.
+/// The least number of bytes of an allocation.
 const LEAST_CAPACITY: usize = 16;
 
-/// A list of bytes that grows at its front.
+/// A byte vector that grows at its front.
 pub struct BackVec {
     // The vector's bytes are the end of the block.
     block: Block,
@@ -38,8 +38,8 @@ impl Drop for BackVec {
 }
 
 impl BackVec {
-    /// Returns an empty vector, with room for `n` bytes and at least 16. Asks for that many bytes
-    /// of memory, and is refused only where the memory is.
+    /// Creates an empty vector with room for `n` bytes and at least 16. Requests that much memory,
+    /// and fails only if the allocation does.
     pub fn with_capacity(alloc: Global, n: usize) -> Result<BackVec, AllocError>
         ensures bytes { IfOk result (λ v. v.bytes ≡ []) }
         ensures room { IfOk result (λ v. n ≤ v.room) }
@@ -52,7 +52,7 @@ impl BackVec {
         })
     }
 
-    /// Returns the allocator that the vector takes memory from.
+    /// Returns the vector's allocator.
     pub fn alloc(&self) -> Global {
         self.block.alloc()
     }
@@ -65,7 +65,7 @@ impl BackVec {
         self.block.capacity() - self.start
     }
 
-    /// Returns how many more bytes fit in front without memory.
+    /// Returns how many more bytes fit without memory.
     #[inline]
     pub fn room(&self) -> usize
         ensures { result ≡ self.now.room }
@@ -81,7 +81,7 @@ impl BackVec {
         self.block.as_slice(self.start)
     }
 
-    /// Takes all bytes away. The memory is kept, so that there is room for as many bytes more.
+    /// Removes all bytes, and keeps the memory as room.
     pub fn clear(&mut self)
         ensures bytes { self.new.bytes ≡ [] }
         ensures room { self.new.room ≡ length self.old.bytes + self.old.room }
@@ -90,9 +90,8 @@ impl BackVec {
         self.start = self.block.capacity();
     }
 
-    /// Makes room for `n` more bytes in front, and leaves the bytes as they are. Takes no memory
-    /// where there is room already. A refusal changes nothing; a number of bytes above `usize::MAX`
-    /// counts as refused.
+    /// Makes room for `n` more bytes, without memory if there is room already. Changes nothing on
+    /// failure; a size above `usize::MAX` fails.
     #[inline]
     pub fn reserve(&mut self, n: usize) -> Result<(), AllocError>
         ensures ok { OnOk result (n ≤ self.new.room) }
@@ -130,7 +129,7 @@ impl BackVec {
         Ok(())
     }
 
-    /// Puts the bytes of the slice in front. There is room for them.
+    /// Prepends the bytes of the slice, into room that is there.
     #[inline]
     pub fn put_slice(&mut self, bytes: &[u8])
         requires { length bytes.now ≤ self.old.room }
@@ -142,8 +141,8 @@ impl BackVec {
         self.start = start;
     }
 
-    /// Puts `padding` zeros in front, and in front of them the bytes of three slices, those of the
-    /// first foremost. There is room for all of them.
+    /// Prepends `padding` zeros, and before them the bytes of three slices in order, into room that
+    /// is there.
     #[inline]
     pub fn put_three_padded(&mut self, padding: usize, first: &[u8], second: &[u8], third: &[u8])
         requires { padding + length (first.now ++ second.now ++ third.now) ≤ self.old.room }
@@ -163,7 +162,7 @@ impl BackVec {
         self.start = start;
     }
 
-    /// Puts `n` zeros in front. There is room for them.
+    /// Prepends `n` zeros, into room that is there.
     #[inline]
     pub fn put_zeros(&mut self, n: usize)
         requires { n ≤ self.old.room }
@@ -175,8 +174,8 @@ impl BackVec {
         self.start = start;
     }
 
-    /// Puts `n` bytes in front, which the filler writes over zeros. There is room for them.
-    /// The filler gets `place`, as in [`BackVec::extend_write`].
+    /// Prepends `n` bytes that the filler writes over zeros, into room that is there. It gets
+    /// `place`, as in [`BackVec::extend_write`].
     #[inline]
     pub fn put_filled<F: Fill>(&mut self, place: u32, n: usize, filler: &F)
         requires room { n ≤ self.old.room }
@@ -190,8 +189,8 @@ impl BackVec {
         self.start = start;
     }
 
-    /// Puts `padding` zeros in front, and in front of them `n` bytes, which the filler writes over
-    /// zeros. There is room for both. The filler gets `place`, as in [`BackVec::extend_write`].
+    /// Prepends `padding` zeros, and before them `n` bytes that the filler writes over zeros, into
+    /// room that is there. It gets `place`, as in [`BackVec::extend_write`].
     #[inline]
     pub fn put_filled_padded<F: Fill>(&mut self, padding: usize, place: u32, n: usize, filler: &F)
         requires room { padding + n ≤ self.old.room }
@@ -208,9 +207,8 @@ impl BackVec {
         self.start = start;
     }
 
-    /// Puts `n` bytes in front, all of which the writer writes, over whatever was there. There is
-    /// room for them. The writer gets `place`: the distance in bytes from the end of the
-    /// buffer to the first of them.
+    /// Prepends `n` bytes, all written by the writer without zeroing, into room that is there. It
+    /// gets `place`: the distance in bytes from the end of the buffer to the first of them.
     #[inline(always)]
     pub fn put_overwritten<W: Overwrite>(&mut self, place: u32, n: usize, writer: &W)
         requires room { n ≤ self.old.room }
@@ -224,9 +222,8 @@ impl BackVec {
         self.start = start;
     }
 
-    /// Puts `padding` zeros in front, and in front of them `n` bytes, all of which the writer
-    /// writes, over whatever was there. There is room for both. The writer gets `place`, as in
-    /// [`BackVec::put_overwritten`].
+    /// Prepends `padding` zeros, and before them `n` bytes, all written by the writer without
+    /// zeroing, into room that is there. It gets `place`, as in [`BackVec::put_overwritten`].
     #[inline(always)]
     pub fn put_overwritten_padded<W: Overwrite>(
         &mut self,
@@ -249,11 +246,10 @@ impl BackVec {
         self.block.put_overwritten(start, place, n, writer);
     }
 
-    /// Puts two parts and a slice in front at once. The first part is the bytes of a slice, with
-    /// `first_padding` zeros behind them. The second lies in front of that: `n` bytes, all of which
-    /// the writer writes, over whatever was there, with `padding` zeros behind them. The bytes of
-    /// `front` are the foremost. There is room for all of them. The writer gets `place`, as in
-    /// [`BackVec::put_overwritten`].
+    /// Prepends two parts and a slice at once, into room that is there. The first part is the bytes
+    /// of a slice, followed by `first_padding` zeros. Before it is the second: `n` bytes, all
+    /// written by the writer without zeroing, followed by `padding` zeros. The bytes of `front`
+    /// come first. The writer gets `place`, as in [`BackVec::put_overwritten`].
     #[inline(always)]
     pub fn put_two_parts<W: Overwrite>(
         &mut self,

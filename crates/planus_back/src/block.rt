@@ -1,4 +1,4 @@
-//! A block of memory that is written from its end towards its front.
+//! A block of memory, written from its end to its front.
 ghost use Rattle.std.specs.Prelude.{◌≡◌, ◌+◌, ◌≤◌, ℕ, ◌++◌, length, take, drop, replicate, IfOk};
 ghost use Rattle.std.specs.Prelude.{false};
 ghost use Rattle.core.specs.Mem.Slots.Ownership.{Filled, SameOutside};
@@ -12,25 +12,24 @@ use core::slots::Slots;
 use std::alloc::{AllocError, Global};
 use std_alloc::room::may_hold;
 
-/// How many places in front of a part are made ready with it, where a part is the first to be
-/// written there.
+/// How many places before a part are initialized with it, if it is the first to be written there.
 const AHEAD: usize = 256;
 
 /// What zeros are copied from.
 const ZEROS: [u8; 4096] = [0; 4096];
 
-/// A block of places. Who writes to it knows from which place on each holds a byte.
+/// A block of places. Its writer knows from which place on each holds a byte.
 pub struct Block {
     base: *mut u8,
     places: Slots<u8>,
-    // Each place from here on holds a byte. It isn't kept up at each write: what is written in
-    // front of it counts from the next call of `keep_initialized` on.
+    // Each place from here on holds a byte. Not updated at each write: what is written before it
+    // counts from the next call of `keep_initialized` on.
     initialized: usize,
     deed: Deed<u8, Global>,
     alloc: Global,
 }
 
-// Puts `n` zeros into the places from `at` on.
+// Zeroes `n` places from `at` on.
 fn zero(places: &mut Slots<u8>, at: usize, n: usize)
     requires { at + n ≤ slots_len places.old }
     ensures items { slots_items places.new
@@ -49,7 +48,7 @@ fn zero(places: &mut Slots<u8>, at: usize, n: usize)
 }
 
 impl Block {
-    /// A block of `capacity` places that hold nothing. Asks for memory once.
+    /// Allocates a block of `capacity` uninitialized places.
     pub(crate) fn new(alloc: Global, capacity: usize) -> Result<Block, AllocError>
         ensures { IfOk result (λ b. HoldsFrom b capacity × (capacity_of b ≡ capacity)) }
     {
@@ -80,7 +79,7 @@ impl Block {
         deallocate(&alloc, places, deed);
     }
 
-    /// The allocator that the block was taken from.
+    /// The block's allocator.
     pub(crate) fn alloc(&self) -> Global {
         self.alloc
     }
@@ -93,7 +92,7 @@ impl Block {
         self.places.len()
     }
 
-    /// The bytes from the place `from` on, all of which hold one.
+    /// The bytes from the place `from` on, all of which are initialized.
     #[inline]
     pub(crate) fn as_slice(&self, from: usize) -> &[u8]
         requires { HoldsFrom self.now from }
@@ -102,7 +101,7 @@ impl Block {
         lend(&self.places, self.base, from, self.places.len() - from)
     }
 
-    /// Puts the bytes of the slice from the place `at` on, up to places that hold bytes.
+    /// Writes the bytes of the slice from the place `at` on, up to initialized places.
     #[inline]
     pub(crate) fn put_slice(&mut self, at: usize, bytes: &[u8])
         requires { HoldsFrom self.old (at + length bytes.now) }
@@ -111,8 +110,8 @@ impl Block {
         self.places.copy_in(at, bytes);
     }
 
-    /// Puts `n` zeros from the place `at` on, up to places that hold bytes. Padding is mostly below
-    /// 8 bytes, and is then one store of 8 where there is room for it.
+    /// Writes `n` zeros from the place `at` on, up to initialized places. Padding is mostly below 8
+    /// bytes, and then one store of 8 if there is room for it.
     #[inline]
     pub(crate) fn put_zeros(&mut self, at: usize, n: usize)
         requires { HoldsFrom self.old (at + n) }
@@ -137,8 +136,8 @@ impl Block {
         zero(&mut self.places, at, n);
     }
 
-    /// Lets the filler write `n` bytes from the place `at` on, over zeros, up to places that hold
-    /// bytes.
+    /// Lets the filler write `n` bytes from the place `at` on, over zeros, up to initialized
+    /// places.
     #[inline]
     pub(crate) fn put_filled<F: Fill>(&mut self, at: usize, place: u32, n: usize, filler: &F)
         requires holds { HoldsFrom self.old (at + n) }
@@ -150,8 +149,8 @@ impl Block {
         filler.fill(place, lend_mut(&mut self.places, self.base, at, n));
     }
 
-    /// Lets the writer write `n` bytes from the place `at` on, over whatever is there, up to places
-    /// that hold bytes.
+    /// Lets the writer write `n` bytes from the place `at` on, without zeroing, up to initialized
+    /// places.
     #[inline(always)]
     pub(crate) fn put_overwritten<W: Overwrite>(
         &mut self,
@@ -169,8 +168,8 @@ impl Block {
         writer.overwrite(place, lend_mut(&mut self.places, self.base, at, n));
     }
 
-    // Makes each place from `at` up to the start of what is held hold a byte, since a place that
-    // holds nothing can't be lent.
+    // Initializes each place from `at` to the start of what is held, since an uninitialized place
+    // can't be lent.
     #[inline]
     fn make_ready(&mut self, at: usize, start: usize)
         requires holds { HoldsFrom self.old start }
@@ -182,8 +181,7 @@ impl Block {
         }
     }
 
-    // Puts zeros into those of the places that may never have been written, from a little in front
-    // of `at` on.
+    // Zeroes those of the places that may never have been written, from a little before `at` on.
     #[cold]
     #[inline(never)]
     fn fill_fresh(&mut self, at: usize, start: usize)
@@ -198,7 +196,7 @@ impl Block {
         self.initialized = from;
     }
 
-    /// Remembers that each place from `start` on was written, whatever is put there later.
+    /// Remembers that each place from `start` on was written, whatever is written there later.
     pub(crate) fn keep_initialized(&mut self, start: usize)
         requires { HoldsFrom self.old start }
         ensures holds { HoldsFrom self.new (capacity_of self.old) }

@@ -1,9 +1,8 @@
-//! Where a cache has the distances of a key.
+//! The bucket of a key in a cache.
 
-/// Where a cache has the distances of a key, or would have them. It is good for the cache that told
-/// it, until that changes.
+/// The bucket of a key in a cache. Valid for the cache that returned it, until that changes.
 #[derive(Clone, Copy)]
 pub struct Bucket {
-    // The hash of its keys, cut by the cache's mask.
+    // The hash of its keys, masked by the cache.
     pub(crate) number: u64,
 }

@@ -1,4 +1,4 @@
-//! A cache of what stands in bytes that grow at their front.
+//! A cache of contents of bytes that grow at their front.
 ghost use Rattle.std.specs.Prelude.{◌≡◌, map, OnOk, OnErr, IfOk, nat_eq, option_to_list};
 ghost use Rattle.std.specs.Map.{lookup};
 ghost use Rattle.std.specs.Int.{w8, cast_unsigned};
@@ -15,14 +15,13 @@ use std::collections::HashMap;
 use std::collections::hash_map::Entry;
 use std::marker::{Model, PhantomData};
 
-/// The distances at which keys of one kind stand in some bytes, so that an equal key is found.
+/// The distances of keys of one kind in some bytes, by which an equal key is found.
 ///
-/// To its callers it is a set of distances that fits some bytes: at each of them a key stands
-/// there. Bytes that are put in front keep the fit. Which hash is used, and which of its bits, no
-/// answer depends on.
+/// To its callers it is a set of distances that fits some bytes: a key is at each of them.
+/// Prepended bytes keep the fit. No result depends on the hash or on its bits used.
 #[derive(Drop)]
 pub struct Cache<C> {
-    // The last distance at which a key stands, by the key's hash, cut by the mask.
+    // The last distance of a key, by the key's masked hash.
     last: HashMap<u64, u32, Handed>,
     // The distances before it. Mostly there are none, and then they take no memory.
     earlier: HashMap<u64, Vec<u32>, Handed>,
@@ -44,7 +43,7 @@ impl<C> Model for Cache<C> {
     } };
 }
 
-/// The first of these distances at which the key stands.
+/// The first of these distances where the key is.
 #[inline]
 fn find_among<C: GetCacheKey, K: Key>(distances: &[u32], serialized: &[u8], key: &K) -> Option<u32>
     ensures { FoundAmong C.key_in distances.now serialized.now (K.bytes_of key.now) result }
@@ -59,8 +58,7 @@ fn find_among<C: GetCacheKey, K: Key>(distances: &[u32], serialized: &[u8], key:
     None
 }
 
-/// Returns the first of some distances at which a key stands in the bytes, and `None` where it
-/// stands at none of them.
+/// Returns the first of some distances where a key is in the bytes, or `None`.
 #[inline]
 pub fn find_key<C: GetCacheKey>(distances: &[u32], serialized: &[u8], key: &[u8]) -> Option<u32>
     ensures { FoundAmong C.key_in distances.now serialized.now key.now result }
@@ -68,7 +66,7 @@ pub fn find_key<C: GetCacheKey>(distances: &[u32], serialized: &[u8], key: &[u8]
     find_among::<C, Bytes<'_>>(distances, serialized, &Bytes(key))
 }
 
-/// [`find_key`] of a key of signed numbers, each of which is a byte.
+/// [`find_key`] of a key of signed numbers, each one byte.
 pub fn find_signed_key<C: GetCacheKey>(
     distances: &[u32],
     serialized: &[u8],
@@ -80,7 +78,7 @@ pub fn find_signed_key<C: GetCacheKey>(
     find_among::<C, Signed<'_>>(distances, serialized, &Signed(key))
 }
 
-/// Adds a distance to those that are not the last at a hash. A refusal changes nothing.
+/// Adds a distance to those that are not the last at a hash. Changes nothing on failure.
 fn put_aside(
     earlier: &mut HashMap<u64, Vec<u32>, Handed>,
     alloc: Global,
@@ -103,8 +101,7 @@ fn put_aside(
     Ok(())
 }
 
-/// Puts a distance in the place of the last one at a hash, which is put aside. A refusal changes
-/// nothing.
+/// Replaces the last distance at a hash, which is put aside. Changes nothing on failure.
 #[cold]
 #[inline(never)]
 fn replace_last(
@@ -126,7 +123,7 @@ fn replace_last(
     Ok(())
 }
 
-/// Adds a distance to those at a hash. A refusal changes nothing.
+/// Adds a distance to those at a hash. Changes nothing on failure.
 #[inline]
 fn add(
     last: &mut HashMap<u64, u32, Handed>,
@@ -155,8 +152,8 @@ fn add(
 }
 
 impl<C: GetCacheKey> Cache<C> {
-    /// Returns an empty cache, which uses the bits of a hash that are set in `hash_mask`; with 0
-    /// all hashes are equal.
+    /// Creates an empty cache that uses the bits of a hash set in `hash_mask`; with 0 all hashes
+    /// are equal.
     pub fn new(alloc: Global, hash_mask: u64) -> Result<Cache<C>, AllocError>
         ensures { IfOk result IsEmpty }
     {
@@ -194,7 +191,7 @@ impl<C: GetCacheKey> Cache<C> {
         }
     }
 
-    // Where the distances of a key in whatever form are.
+    // The bucket of a key in either form.
     #[tactic(auto, unfolding(crate::specs::Caches::IsBucketOf, crate::specs::Numbers::number_of))]
     fn bucket_by<K: Key>(&self, key: &K) -> Bucket
         ensures { IsBucketOf self.now (K.bytes_of key.now) result }
@@ -204,7 +201,7 @@ impl<C: GetCacheKey> Cache<C> {
         }
     }
 
-    // The last distance in a bucket, if the key stands there.
+    // The last distance in a bucket, if the key is there.
     #[inline(always)]
     fn last_in<K: Key>(&self, bucket: Bucket, serialized: &[u8], key: &K) -> Option<u32>
         ensures { FoundAmong C.key_in
@@ -217,7 +214,7 @@ impl<C: GetCacheKey> Cache<C> {
         }
     }
 
-    // The first of the distances before it at which the key stands.
+    // The first of the earlier distances where the key is.
     #[cold]
     #[inline(never)]
     fn earlier_in<K: Key>(&self, bucket: Bucket, serialized: &[u8], key: &K) -> Option<u32>
@@ -230,7 +227,7 @@ impl<C: GetCacheKey> Cache<C> {
         }
     }
 
-    // What `get_in` answers for a key in whatever form.
+    // `get_in` for a key in either form.
     #[inline(never)]
     fn get_by<K: Key>(&self, bucket: Bucket, serialized: &[u8], key: &K) -> Option<u32>
         requires fits { Fits C.key_in self.now serialized.now }
@@ -243,8 +240,8 @@ impl<C: GetCacheKey> Cache<C> {
         }
     }
 
-    /// Returns a distance of the set at which the key stands in the bytes, which the cache fits,
-    /// and `None` where there is none.
+    /// Returns a distance of the set where the key is in the bytes, or `None`. The cache must fit
+    /// the bytes.
     pub fn get(&self, serialized: &[u8], key: &[u8]) -> Option<u32>
         requires { Fits C.key_in self.now serialized.now }
         ensures { IsFound C.key_in self.now serialized.now key.now result }
@@ -252,8 +249,8 @@ impl<C: GetCacheKey> Cache<C> {
         self.get_in(self.bucket_of(key), serialized, key)
     }
 
-    /// Adds the distance at which the key stands, or is about to: the cache fits all bytes that it
-    /// fitted before and in which the key stands there. It is unchanged where memory is refused.
+    /// Adds the distance where the key is, or is about to be: the cache fits all bytes that it
+    /// fitted before and that have the key there. Unchanged on failure.
     pub fn insert(&mut self, key: &[u8], distance: u32) -> Result<(), AllocError>
         ensures ok { OnOk result (Adds self.old distance self.new) }
         ensures fits { OnOk result
@@ -264,15 +261,15 @@ impl<C: GetCacheKey> Cache<C> {
         self.insert_in(bucket, distance)
     }
 
-    /// Returns where the distances of a key are, or would be. Who looks for a key and then adds it
-    /// asks this once, since each byte of the key is looked at.
+    /// Returns the bucket of a key. A lookup followed by an insertion calls this once, since it
+    /// reads each byte of the key.
     pub fn bucket_of(&self, key: &[u8]) -> Bucket
         ensures { IsBucketOf self.now key.now result }
     {
         self.bucket_by(&Bytes(key))
     }
 
-    /// [`Cache::bucket_of`] of a key of signed numbers, each of which is a byte.
+    /// [`Cache::bucket_of`] of a key of signed numbers, each one byte.
     pub fn bucket_of_signed(&self, key: &[i8]) -> Bucket
         ensures { IsBucketOf self.now (map (λ number. cast_unsigned w8 number) key.now) result }
     {
@@ -288,7 +285,7 @@ impl<C: GetCacheKey> Cache<C> {
         self.get_by(bucket, serialized, &Bytes(key))
     }
 
-    /// [`Cache::get_in`] of a key of signed numbers, each of which is a byte.
+    /// [`Cache::get_in`] of a key of signed numbers, each one byte.
     pub fn get_signed_in(&self, bucket: Bucket, serialized: &[u8], key: &[i8]) -> Option<u32>
         requires fits { Fits C.key_in self.now serialized.now }
         requires bucket { IsBucketOf self.now (map (λ number. cast_unsigned w8 number) key.now)
@@ -299,7 +296,7 @@ impl<C: GetCacheKey> Cache<C> {
         self.get_by(bucket, serialized, &Signed(key))
     }
 
-    /// [`Cache::insert`] of a key of which only its bucket is told.
+    /// [`Cache::insert`] given only the key's bucket.
     pub fn insert_in(&mut self, bucket: Bucket, distance: u32) -> Result<(), AllocError>
         ensures ok { OnOk result (Adds self.old distance self.new) }
         ensures fits { OnOk result

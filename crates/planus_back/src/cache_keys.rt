@@ -4,26 +4,25 @@ ghost use Rattle.std.specs.Prelude.{if◌then◌else◌};
 ghost use Rattle.std.specs.Option.{option_copied};
 ghost use Rattle.planus_back.specs.CacheKeys.{key_at, vtable_in, bytes_in};
 
-/// A kind of what stands in a buffer, by what two of it are equal.
+/// A kind of contents of a buffer, by what makes two equal.
 ///
-/// The ghost member `key_in` names the key of what stands at the front of some bytes, if it stands
-/// there.
+/// The ghost member `key_in` is the key of the contents at the front of some bytes, if it is whole.
 pub trait GetCacheKey {
     ghost key_in: { List ℕ → Option (List ℕ) };
 
-    /// Returns the key of what stands at a distance in bytes from the end, and `None` where the
-    /// key, or the size or the count by which it is read, doesn't lie wholly in `serialized`.
+    /// Returns the key of the contents at a distance in bytes from the end, or `None` if the key,
+    /// or the size or count before it, isn't wholly in `serialized`.
     fn key_at(serialized: &[u8], distance: u32) -> Option<&[u8]>
         ensures { option_copied result ≡ key_at key_in serialized.now distance };
 }
 
-/// The kind of vtables: a key is a vtable whole, with its own size in front.
+/// The kind of vtables: a key is a whole vtable, its own size first.
 pub struct VTable;
 
-/// The kind of texts and byte vectors: a key is the bytes behind the count.
+/// The kind of strings and byte vectors: a key is the bytes after the count.
 pub struct ByteVec;
 
-/// As many of the last bytes as the distance.
+/// The last bytes, as many as the distance.
 fn last_bytes(serialized: &[u8], distance: u32) -> Option<&[u8]>
     ensures { option_copied result ≡ (if nat_le distance (length serialized.now)
         then Some (drop (length serialized.now - distance) serialized.now) else None) }

@@ -1,6 +1,6 @@
-//! The memory behind a vector: a block of places, where it begins, and the right to give it back.
+//! The memory behind a vector: a block of places, its address, and the right to free it.
 //!
-//! All that touches a pointer stands here.
+//! All code that touches a pointer is here.
 ghost use Rattle.std.specs.Prelude.{◌≡◌, ◌+◌, ◌≤◌, ℕ, IfOk, take, drop};
 ghost use Rattle.std.specs.Borrow.{sem};
 ghost use Rattle.std.specs.Vec.Ownership.{FitsInBlock};
@@ -16,7 +16,7 @@ use std::marker::{Model, PhantomData};
 use std::mem::{align_of, size_of};
 use std::slice;
 
-/// The right to give the block of `len` places at `at` back to `alloc`. It takes no space.
+/// The right to free the block of `len` places at `at` by `alloc`. It takes no space.
 pub struct Deed<T, A: Allocator> {
     mark: PhantomData<*const (T, A)>,
     ghost at: { Ptr },
@@ -56,8 +56,8 @@ pub(crate) fn lend_mut<'a, T>(
     unsafe { slice::from_raw_parts_mut(base.add(from), len) }
 }
 
-/// A block of `len` places that hold nothing: where it begins, its places, and the right to give it
-/// back.
+/// Allocates a block of `len` uninitialized places: its address, its places, and the right to free
+/// it.
 pub(crate) fn allocate<T, A: Allocator>(
     alloc: &A,
     len: usize,
@@ -76,7 +76,7 @@ pub(crate) fn allocate<T, A: Allocator>(
     }
 }
 
-/// Gives a block back. What its places hold is forgotten.
+/// Frees a block. The contents of its places are forgotten.
 pub(crate) fn deallocate<T, A: Allocator>(alloc: &A, slots: Slots<T>, deed: Deed<T, A>)
     requires { (deed.at ≡ slots_ptr slots) × (deed.len ≡ slots_len slots) × (deed.alloc ≡ alloc.now) }
 {

@@ -3,16 +3,15 @@ ghost use Rattle.std.specs.Prelude.{◌≡◌, ℕ, List, length, replicate};
 
 /// Writes the bytes of one part.
 ///
-/// The ghost member `fits` says of a value when it may be called with a place and a number of
-/// bytes, and `leaves` which bytes it writes there. They may depend on the place, as those of a
-/// reference do.
+/// The ghost member `fits` is the precondition for a place and a number of bytes, and `leaves` the
+/// bytes written. They may depend on the place, as a reference does.
 pub trait Fill {
     ghost fits: { Self → ℕ → ℕ → Type 0 };
 
     ghost leaves: { Self → ℕ → ℕ → List ℕ };
 
-    /// Writes the part's bytes over `bytes`, which are zeros before. `place` is the distance in
-    /// bytes from the end of the buffer to the part's first byte.
+    /// Writes the part's bytes over `bytes`, which are zeros. `place` is the distance in bytes from
+    /// the end of the buffer to the part's first byte.
     fn fill(&self, place: u32, bytes: &mut [u8])
         requires may { fits self.now place (length bytes.old) }
         requires zeroed { bytes.old ≡ replicate (length bytes.old) 0 }
@@ -21,7 +20,7 @@ pub trait Fill {
 
 /// Writes all bytes of one part, whatever was there before.
 ///
-/// Its ghost members say the same as those of [`Fill`].
+/// Its ghost members are as those of [`Fill`].
 pub trait Overwrite {
     ghost fits: { Self → ℕ → ℕ → Type 0 };
 

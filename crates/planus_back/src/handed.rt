@@ -1,8 +1,8 @@
-//! The hasher of a map whose keys are hashes already.
+//! The identity hasher, for a map whose keys are hashes already.
 
 use std::hash::{BuildHasher, Hasher};
 
-/// Hands on the last number of 8 bytes that it is fed.
+/// Returns the last number of 8 bytes that it is fed.
 #[derive(Clone, Copy)]
 pub struct Handed {
     number: u64,

@@ -1,26 +1,26 @@
-//! What is looked for in a cache: bytes, as they are or as signed numbers.
+//! Keys of a cache: bytes, as they are or as signed numbers.
 ghost use Rattle.std.specs.Prelude.{◌≡◌, ◌↔◌, ℕ, ◌<◌, List, length, map, IsTrue, MatchOption};
 ghost use Rattle.std.specs.Int.{w8, w64, cast_unsigned, from_le_bytes};
 ghost use Rattle.planus_back.specs.Bytes.{AreBytes};
 ghost use Rattle.planus_back.specs.Hashes.{fold_of, number_with, last_number, first_number, Splits};
 ghost use Rattle.planus_back.specs.Hashes.{hash_of};
 
-/// What the first of the two hashes of a key begins with. This and the next two are digits of pi:
-/// odd numbers of which none is near a multiple of another.
+/// The first hash of a key starts from this. This and the next two are digits of pi: odd, and none
+/// near a multiple of another.
 const FIRST: u64 = 2611923443488327891;
 
-/// What the second of them begins with.
+/// The second hash starts from this.
 const SECOND: u64 = 589684135938649225;
 
-/// What the second word of a pair is mixed with.
+/// The second word of a pair is mixed with this.
 const MIXED: u64 = 4983270260364809079;
 
-/// Bytes, in whatever form, that can be hashed and compared.
+/// Bytes, in either form, that can be hashed and compared.
 pub(crate) trait Key {
     ghost bytes_of: { Self → List ℕ };
 
-    // The hash of the bytes: 16 at a time by two hashes in turn, so that none waits for the other,
-    // and then the last 8, some of which may have been among these.
+    // The hash of the bytes: 16 at a time by two hashes in turn, so that neither waits for the
+    // other, and then the last 8, some of which may have been among these.
     fn hash(&self) -> u64
         ensures { result ≡ hash_of (bytes_of self.now) };
 
@@ -37,7 +37,7 @@ pub(crate) struct Bytes<'a>(pub(crate) &'a [u8]);
 #[derive(Drop)]
 pub(crate) struct Signed<'a>(pub(crate) &'a [i8]);
 
-// The two halves of a product, as one number: each bit of it depends on all bits of both numbers.
+// The two halves of a product, as one number: each bit of it depends on all bits of both factors.
 #[inline(always)]
 fn fold(left: u64, right: u64) -> u64
     ensures { result ≡ fold_of left right }
@@ -54,7 +54,7 @@ fn join(number: u64, byte: u8) -> u64
     number.wrapping_mul(256).wrapping_add(byte as u64)
 }
 
-// The last 8 bytes as a number, or all of them where they are fewer.
+// The last 8 bytes as a number, or all of them if fewer.
 #[inline]
 fn last_of(bytes: &[u8]) -> u64
     ensures { result ≡ last_number bytes.now }
@@ -69,7 +69,7 @@ fn last_of(bytes: &[u8]) -> u64
     number
 }
 
-// The first 8 bytes as a number, 0 where they are fewer.
+// The first 8 bytes as a number, 0 if there are fewer.
 #[inline(always)]
 fn first_of(bytes: &[u8]) -> u64
     ensures { result ≡ first_number bytes.now }
@@ -80,7 +80,7 @@ fn first_of(bytes: &[u8]) -> u64
     }
 }
 
-// The first two words and what is behind them, if there are 16 bytes.
+// The first two words and the rest, if there are 16 bytes.
 #[inline(always)]
 fn split_words(bytes: &[u8]) -> Option<(u64, u64, &[u8])>
     ensures { MatchOption result (length bytes.now < 16)
@@ -100,7 +100,7 @@ fn byte_of(number: i8) -> u8
     number.cast_unsigned()
 }
 
-// The number that 8 bytes are which are signed numbers.
+// The number of 8 bytes given as signed numbers.
 #[inline]
 fn word_of(numbers: &[i8; 8]) -> u64
     ensures { result ≡ from_le_bytes w64 (map (λ number. cast_unsigned w8 number) numbers.now) }
@@ -117,7 +117,7 @@ fn word_of(numbers: &[i8; 8]) -> u64
     ])
 }
 
-// The number of the last 8 bytes which are signed numbers, or of all of them.
+// The number of the last 8 bytes given as signed numbers, or of all of them.
 #[inline]
 fn last_of_signed(numbers: &[i8]) -> u64
     ensures { result ≡ last_number (map (λ number. cast_unsigned w8 number) numbers.now) }
@@ -132,7 +132,7 @@ fn last_of_signed(numbers: &[i8]) -> u64
     joined
 }
 
-// The number of the first 8 bytes which are signed numbers, 0 where they are fewer.
+// The number of the first 8 bytes given as signed numbers, 0 if there are fewer.
 #[inline(always)]
 fn first_of_signed(numbers: &[i8]) -> u64
     ensures { result ≡ first_number (map (λ number. cast_unsigned w8 number) numbers.now) }
@@ -143,7 +143,7 @@ fn first_of_signed(numbers: &[i8]) -> u64
     }
 }
 
-// The first two words of bytes which are signed numbers, and what is behind them, if there are 16.
+// The first two words of bytes given as signed numbers, and the rest, if there are 16.
 #[inline(always)]
 fn split_signed_words(numbers: &[i8]) -> Option<(u64, u64, &[i8])>
     ensures { MatchOption result (length numbers.now < 16)
@@ -163,8 +163,8 @@ fn same(left: &[u8], right: &[u8]) -> bool
     left.len() == right.len() && same_words(left, right)
 }
 
-// The same for as many. The last 8 are compared first, and then 8 at a time, since most of what is
-// compared is short.
+// The same for equal lengths. The last 8 are compared first, then 8 at a time, since most keys are
+// short.
 #[inline]
 fn same_words(left: &[u8], right: &[u8]) -> bool
     requires left { AreBytes left.now }

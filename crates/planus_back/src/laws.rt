@@ -1,5 +1,5 @@
-//! Laws of promises, padding and places. The functions do nothing: each states a law by its
-//! contract.
+//! Laws of alignment constraints, padding and places. Each function states a law by its contract,
+//! and does nothing.
 ghost use Rattle.std.specs.Prelude.{◌≡◌, ℕ, ◌+◌, ◌<◌, ◌≤◌, List, [], ◌∷◌, ◌++◌};
 ghost use Rattle.std.specs.List.{AllByRecursion};
 ghost use Rattle.planus_back.specs.Caches.{Held, Fits, EmptyFits};
@@ -16,19 +16,19 @@ pub fn empty_caches_fit<C: GetCacheKey>()
     ensures { EmptyFits C.key_in }
 {}
 
-/// Bytes that are put in front keep the fit of a cache.
+/// Prepended bytes keep the fit of a cache.
 pub fn fit_is_kept<C: GetCacheKey>()
     ensures { (held : Held) (front bytes : List ℕ) → Fits C.key_in held bytes
         → Fits C.key_in held (front ++ bytes) }
 {}
 
-/// The padding of one write is below the alignment that it asks for.
+/// The padding of one write is below its alignment.
 pub fn padding_is_below_alignment()
     ensures { (length : ℕ) (promises : List Promise) (size alignment padding : ℕ) → 0 < alignment
         → IsLeastPadding length promises size alignment padding → padding < alignment }
 {}
 
-/// There is a least padding in front of every part, as long as the promises before are described.
+/// There is a least padding before every part, if the constraints so far are described.
 pub fn least_padding_exists()
     ensures { (length delayed mask : ℕ) (promises : List Promise) (size alignment : ℕ)
         → Describes length delayed mask promises
@@ -43,8 +43,8 @@ pub fn least_padding_is_unique()
         → IsLeastPadding length promises size alignment b → a ≡ b }
 {}
 
-/// A part with the greatest alignment of all, as the first word of a finished buffer has it, ends
-/// at a length that keeps every promise, where all of them were made of what is written.
+/// A part with the greatest alignment of all, such as the first word of a finished buffer, ends at
+/// a length that keeps every constraint of what is written.
 pub fn greatest_alignment_keeps_every_promise()
     ensures { (length : ℕ) (promises : List Promise) (size alignment padding : ℕ)
         → AllByRecursion (λ (p : Promise). IsPowerOfTwo p.alignment) promises
@@ -55,9 +55,8 @@ pub fn greatest_alignment_keeps_every_promise()
         (length + padding + size) }
 {}
 
-/// The least padding in front of each part in turn gives every part the least place that it has in
-/// any placing of the same parts in the same order. So the finished length is the least that this
-/// order allows.
+/// The least padding before each part in turn gives every part the least place that it has in any
+/// placing of the same parts in the same order. So the finished length is the least in this order.
 pub fn least_padding_gives_the_least_places()
     ensures { (parts : List Part) (places others : List ℕ)
         → AllByRecursion (λ (part : Part). IsPowerOfTwo part.alignment) parts

@@ -1,12 +1,12 @@
 //! The lowest layer of a flatbuffers writer that works from the back.
 //!
-//! [`BackVec`] is a byte vector that grows towards its front, the end of a block of raw memory: the
-//! module `block` says which of its places hold bytes, and all that touches a pointer is in
-//! `cells`. [`Promises`] keeps, in a remainder and a mask, exactly the finished lengths at which
-//! every part placed so far stands aligned, and names the least padding in front of the next one.
-//! [`Fill`] and [`Overwrite`] write the bytes of one part in place. [`Cache`] finds what stands in
-//! a buffer by its contents. [`laws`] states what the definitions of padding, places and caches are
-//! good for, and [`plain`] finds the least padding by trying.
+//! [`BackVec`] is a byte vector that grows at its front, the end of a block of raw memory: the
+//! module `block` knows which of its places are initialized, and all code that touches a pointer is
+//! in `cells`. [`Promises`] keeps, in a remainder and a mask, exactly the finished lengths that
+//! align every part placed so far, and computes the least padding before the next. [`Fill`] and
+//! [`Overwrite`] write the bytes of one part in place. [`Cache`] finds contents of a buffer.
+//! [`laws`] states laws over the definitions of padding, places and caches, and [`plain`] finds the
+//! least padding by trial.
 #![tactic(auto)]
 
 pub mod backvec;

@@ -1,11 +1,11 @@
-//! The least padding by trying: plain and slow, to compare with.
+//! The least padding by trial: plain and slow, to compare with.
 ghost use Rattle.std.specs.Prelude.{◌≡◌, ℕ, ◌+◌, ◌*◌, ◌^◌, ◌<◌, ◌≤◌, ◌↔◌, ◌∷◌, IsTrue, MatchOption};
 ghost use Rattle.planus_back.specs.Promises.{Keeps, Keep, CanBeKept};
 ghost use Rattle.planus_back.specs.Padding.{promise_of, CanPad, IsLeastPadding};
 ghost use Rattle.planus_back.specs.Pairs.{promises_of, period, AlignmentsAboveZero};
 ghost use Rattle.planus_back.specs.Pairs.{DistancesWithin};
 
-// Tells whether a finished length keeps one promise.
+// Returns whether a finished length keeps one constraint.
 fn keeps_one(length: usize, distance: usize, alignment: usize) -> bool
     requires { 0 < alignment }
     ensures { IsTrue result ↔ Keeps length (promise_of distance alignment) }
@@ -16,7 +16,7 @@ fn keeps_one(length: usize, distance: usize, alignment: usize) -> bool
     (length - distance) % alignment == 0
 }
 
-// Tells whether a finished length keeps every promise.
+// Returns whether a finished length keeps every constraint.
 fn keeps(length: usize, promises: &[(usize, usize)]) -> bool
     requires { AlignmentsAboveZero promises.now }
     ensures { IsTrue result ↔ Keep (promises_of promises.now) length }
@@ -30,7 +30,7 @@ fn keeps(length: usize, promises: &[(usize, usize)]) -> bool
     }
 }
 
-// The number of bytes after which lengths keep the promises again as before.
+// The number of bytes after which lengths keep the constraints again as before.
 fn period(promises: &[(usize, usize)]) -> usize
     requires positive { AlignmentsAboveZero promises.now }
     requires small { period promises.now < 2 ^ 32 }
@@ -42,7 +42,7 @@ fn period(promises: &[(usize, usize)]) -> usize
     }
 }
 
-// Tells whether some finished length keeps the promises and that of a part at this place.
+// Returns whether some finished length keeps the constraints and that of a part at this place.
 fn can_stand(place: usize, alignment: usize, promises: &[(usize, usize)], tries: usize) -> bool
     requires above_zero { 0 < alignment }
     requires positive { AlignmentsAboveZero promises.now }
@@ -59,11 +59,11 @@ fn can_stand(place: usize, alignment: usize, promises: &[(usize, usize)], tries:
     false
 }
 
-/// The least padding for a part of `size` bytes with this alignment, in front of `len` bytes of
-/// which these promises were made; each promise is a pair of a distance from the end and an
-/// alignment, in bytes. None where no padding will do.
+/// Returns the least padding for a part of `size` bytes with this alignment, before `len` bytes
+/// with these constraints, each a pair of a distance from the end and an alignment, in bytes; or
+/// `None` if no padding will do.
 ///
-/// It tries paddings from 0 on, and for each of them finished lengths. The alignments need not be
+/// Tries paddings from 0 on, and for each of them finished lengths. The alignments need not be
 /// powers of two, but are above 0; no distance is above `len`; and all numbers are small, since
 /// every length up to the product of the alignments is tried.
 pub fn least_padding(

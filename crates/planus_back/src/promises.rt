@@ -1,4 +1,4 @@
-//! The promises of alignment that the parts placed so far have made.
+//! The alignment constraints of the parts placed so far.
 ghost use Rattle.std.specs.Prelude.{◌≡◌, ℕ, ◌+◌, ◌*◌, ◌^◌, ◌<◌, ◌≤◌, max, List, [], ◌∷◌, IfOk};
 ghost use Rattle.std.specs.Prelude.{IfErr};
 ghost use Rattle.planus_back.specs.Promises.{Promise, IsPowerOfTwo, Keep, greatest_alignment};
@@ -10,10 +10,10 @@ use std::error::Error;
 use std::fmt;
 use std::marker::Model;
 
-/// No part lies further from the end, in bytes: the greatest signed number of 4 bytes.
+/// The greatest distance of a part from the end, in bytes: the greatest signed number of 4 bytes.
 const GREATEST_PLACE: usize = 2147483647;
 
-/// A part would lie too far from the end of the buffer: its place would be above 2147483647.
+/// A part would be too far from the end of the buffer: its place would be above 2147483647.
 #[derive(Clone, Copy, Debug, PartialEq, Eq)]
 pub struct TooLarge;
 
@@ -30,12 +30,12 @@ impl fmt::Display for TooLarge {
 
 impl Error for TooLarge {}
 
-/// The finished lengths at which every part placed so far stands aligned.
+/// The finished lengths that align every part placed so far.
 ///
-/// In a flatbuffer each number stands at a multiple of its size from the buffer's start. A writer
-/// that works from the back doesn't know the start yet, so each part that it places is a promise on
-/// the finished length. All of them are kept by exactly the lengths `len + delayed() + k * (mask()
-/// + 1)`, where `len` is the number of bytes so far.
+/// In a flatbuffer each number is at a multiple of its size from the buffer's start. A writer from
+/// the back doesn't know the start yet, so each part that it places constrains the finished length.
+/// All constraints are kept by exactly the lengths `len + delayed() + k * (mask() + 1)`, where
+/// `len` is the number of bytes so far.
 #[derive(Clone, Copy, Debug, PartialEq, Eq)]
 pub struct Promises {
     delayed: usize,
@@ -56,7 +56,7 @@ impl Model for Promises {
 }
 
 impl Promises {
-    /// Returns no promise yet, in front of no bytes: every length keeps them.
+    /// Creates the value without constraints, before no bytes: every length keeps them.
     pub const fn new() -> Promises
         ensures delayed { result.delayed ≡ 0 }
         ensures mask { result.mask ≡ 0 }
@@ -68,8 +68,8 @@ impl Promises {
         }
     }
 
-    /// Returns how many bytes at least are still to come, in front of those so far, up to a length
-    /// that keeps every promise.
+    /// Returns the least number of bytes to be added to those so far for a length that keeps every
+    /// constraint.
     #[inline]
     pub fn delayed(&self) -> usize
         ensures { result ≡ self.now.delayed }
@@ -77,7 +77,7 @@ impl Promises {
         self.delayed
     }
 
-    /// Returns one less than the greatest alignment promised so far, or 0.
+    /// Returns one less than the greatest alignment so far, or 0.
     #[inline]
     pub fn mask(&self) -> usize
         ensures mask { result ≡ self.now.mask }
@@ -92,15 +92,15 @@ impl Promises {
         self.mask
     }
 
-    /// Returns the least padding, in bytes, for a part of `size` bytes in front of the `len` bytes
-    /// so far, such that every promise and the part's own alignment `mask + 1` can still be kept;
-    /// and the promises with that of the part, in front of it.
+    /// Returns the least padding, in bytes, for a part of `size` bytes before the `len` bytes so
+    /// far, such that every constraint and the part's own alignment `mask + 1` can be kept; and the
+    /// constraints with the part's.
     ///
-    /// `mask + 1` is a power of two up to 2^30, and `len` at most 2147483647. [`TooLarge`] where
-    /// `len`, the padding and `size` together are above 2147483647.
+    /// Requires `mask + 1` to be a power of two up to 2^30, and `len` to be at most 2147483647.
+    /// [`TooLarge`] if `len`, the padding and `size` together are above 2147483647.
     ///
-    /// Where no alignment so far is greater than the part's, the length with the part keeps every
-    /// promise.
+    /// If no alignment so far is greater than the part's, the length with the part keeps every
+    /// constraint.
     #[inline]
     pub fn request(
         self,
@@ -133,12 +133,13 @@ impl Promises {
     {
         let ahead = self.delayed.wrapping_sub(size) & self.mask;
         let padding = ahead & mask;
-        // The size is compared first, so that the sum doesn't pass the greatest `usize`.
+        // The size is compared first, so that the sum can't overflow.
         if size > GREATEST_PLACE || len + padding + size > GREATEST_PLACE {
             return Err(TooLarge);
         }
         let next = Promises {
-            // What the padding leaves, taken by a mask, so that it doesn't wait for the padding.
+            // The part of `ahead` above the padding, by a mask, so that it doesn't wait for the
+            // padding.
             delayed: ahead & !mask,
             // The greater one, since each is one less than a power of two.
             mask: self.mask | mask,

@@ -1,4 +1,4 @@
-//! The bytes of a builder, and the promises made of them.
+//! The bytes of a builder, and their alignment constraints.
 ghost use Rattle.std.specs.Prelude.{◌≡◌, ◌+◌, ◌≤◌, ◌^◌, [], ◌++◌, List, length, IfOk, ℕ};
 ghost use Rattle.std.specs.Prelude.{pos, ◌-◌, ◌-ℤ◌};
 ghost use Rattle.std.specs.Int.{w32, to_le_bytes, cast_unsigned};
@@ -14,8 +14,7 @@ use std::marker::Model;
 /// One less than the alignment of a count or a reference.
 pub(crate) const WORD_MASK: usize = 3;
 
-/// The place of a part and the padding behind it, and the promises that are made once it stands
-/// there.
+/// The place of a part and its padding, and the constraints once it is there.
 #[derive(Drop)]
 pub(crate) struct Plan {
     pub(crate) promises: Promises,
@@ -23,8 +22,8 @@ pub(crate) struct Plan {
     pub(crate) place: u32,
 }
 
-/// Bytes that grow at their front, and what was promised of them. While a part is written, its
-/// promise is made before its bytes are there.
+/// Bytes that grow at their front, and their alignment constraints. A part's constraint is added
+/// before its bytes.
 #[derive(Debug, Drop)]
 pub(crate) struct Backing {
     inner: BackVec,
@@ -50,7 +49,7 @@ impl Backing {
     ghost use Rattle.planus_write.specs.inner.Backed.{PlansRoom};
     ghost use Rattle.planus_write.specs.inner.WholeTables.{PutsPartsIf};
 
-    // No bytes, and room for so many.
+    // No bytes, and room for this many.
     pub(crate) fn with_capacity(alloc: Global, capacity: usize) -> Result<Backing, AllocError>
         ensures bytes { IfOk result (λ backing. backing.bytes ≡ []) }
         ensures room { IfOk result (λ backing. capacity ≤ backing.room) }
@@ -99,8 +98,7 @@ impl Backing {
         self.promises = Promises::new();
     }
 
-    // The place of a part of `size` bytes and the padding behind it, if it isn't too large. No
-    // memory is asked for.
+    // The place and padding of a part of `size` bytes, if it isn't too large. Takes no memory.
     #[inline]
     pub(crate) fn plan_part(&self, size: usize, mask: usize) -> Result<Plan, BuildError>
         requires power { IsPowerOfTwo (mask + 1) }
@@ -110,8 +108,7 @@ impl Backing {
         plan_after(self.promises, self.inner.len(), size, mask)
     }
 
-    // Room for `n` more bytes, in memory that is asked for where they don't fit. Nothing else is
-    // changed.
+    // Makes room for `n` more bytes, and changes nothing else.
     #[inline]
     pub(crate) fn reserve(&mut self, n: usize) -> Result<(), BuildError>
         ensures { Reserves n self.old result self.new }
@@ -120,7 +117,7 @@ impl Backing {
         Ok(())
     }
 
-    // The padding behind a part that is planned, and the promise of its place.
+    // Writes the padding of a planned part, and adds its constraint.
     #[inline]
     pub(crate) fn pad(&mut self, plan: &Plan)
         requires room { plan.now.padding ≤ self.old.room }
@@ -131,7 +128,7 @@ impl Backing {
         self.promises = plan.promises;
     }
 
-    // The plan of a part of `size` bytes, and room for it and the padding behind it.
+    // Plans a part of `size` bytes, and makes room for it and its padding.
     #[inline]
     pub(crate) fn plan_room(&mut self, size: usize, mask: usize) -> Result<Plan, BuildError>
         requires power { IsPowerOfTwo (mask + 1) }
@@ -143,7 +140,7 @@ impl Backing {
         Ok(plan)
     }
 
-    // Room for a part of `size` bytes, and the padding behind it. Returns the part's place.
+    // Makes room for a part of `size` bytes, and writes its padding. Returns the part's place.
     #[inline]
     pub(crate) fn make_room(&mut self, size: usize, mask: usize) -> Result<u32, BuildError>
         requires power { IsPowerOfTwo (mask + 1) }
@@ -155,8 +152,7 @@ impl Backing {
         Ok(plan.place)
     }
 
-    // The filler's bytes as a part that is planned, and the padding behind it, for which there is
-    // room.
+    // Writes the filler's bytes as a planned part, and its padding, into room that is there.
     #[inline]
     pub(crate) fn put_planned<F: Fill>(&mut self, plan: &Plan, size: usize, filler: &F)
         requires room { plan.now.padding + size ≤ self.old.room }
@@ -181,7 +177,7 @@ impl Backing {
         self.inner.put_slice(bytes);
     }
 
-    // The same for bytes that are often none, where nothing is copied then.
+    // The same for bytes that are often none: nothing is copied then.
     #[inline]
     pub(crate) fn put_if_any(&mut self, bytes: &[u8])
         requires room { length bytes.now ≤ self.old.room }
@@ -193,7 +189,7 @@ impl Backing {
         }
     }
 
-    // The bytes of three slices, for which there is room.
+    // Prepends the bytes of three slices, into room that is there.
     #[inline]
     pub(crate) fn put_three(&mut self, first: &[u8], second: &[u8], third: &[u8])
         requires room { length (first.now ++ second.now ++ third.now) ≤ self.old.room }
@@ -204,8 +200,7 @@ impl Backing {
         self.inner.put_three_padded(0, first, second, third);
     }
 
-    // The writer's bytes as a part that is planned, and the padding behind it, for which there is
-    // room.
+    // Writes the writer's bytes as a planned part, and its padding, into room that is there.
     #[inline(always)]
     pub(crate) fn put_planned_over<W: Overwrite>(&mut self, plan: &Plan, size: usize, writer: &W)
         requires room { plan.now.padding + size ≤ self.old.room }
@@ -220,7 +215,7 @@ impl Backing {
             .put_overwritten_padded(plan.padding, plan.place, size, writer);
     }
 
-    // The writer's bytes, for which there is room.
+    // Prepends the writer's bytes, into room that is there.
     #[inline(always)]
     pub(crate) fn put_overwritten<W: Overwrite>(&mut self, place: u32, size: usize, writer: &W)
         requires room { size ≤ self.old.room }
@@ -232,9 +227,8 @@ impl Backing {
         self.inner.put_overwritten(place, size, writer);
     }
 
-    // A vtable, the body of a table, which the writer writes, and its word, all at once, into room
-    // that there is. Answers whether they were put: nothing is changed where one of them is too
-    // large or where they don't fit the room.
+    // Writes a vtable, the body of a table and its word at once, into room that is there. Returns
+    // whether it did: nothing is changed where one is too large or the room doesn't suffice.
     #[inline(always)]
     pub(crate) fn put_table<W: Overwrite>(
         &mut self,
@@ -293,8 +287,8 @@ impl Backing {
     }
 }
 
-// The place of a part of `size` bytes and the padding behind it, in front of `len` bytes of which
-// that was promised, if it isn't too large.
+// The place and padding of a part of `size` bytes, before `len` bytes with these constraints, if it
+// isn't too large.
 #[inline(always)]
 fn plan_after(promises: Promises, len: usize, size: usize, mask: usize) -> Result<Plan, BuildError>
     requires power { IsPowerOfTwo (mask + 1) }
@@ -314,7 +308,7 @@ fn plan_after(promises: Promises, len: usize, size: usize, mask: usize) -> Resul
     })
 }
 
-// The word of a table at a distance from the end, whose vtable is at another one.
+// The word of a table at one distance from the end, whose vtable is at another.
 #[inline]
 pub(crate) fn word_between(vtable: u32, table: u32) -> [u8; 4]
     requires vtable { vtable ≤ greatest_place }

@@ -30,9 +30,8 @@ use std::marker::Model;
 /// let bytes = builder.finish(text, None).map_err(refused)?;
 /// ```
 ///
-/// Equal texts, byte vectors and vtables are written once, as far as its [`Caches`] say: the second
-/// one since the last clear gets the distance of the first. Nothing is written then, and no memory
-/// is taken.
+/// Equal strings, byte vectors and vtables are written once if their [`Caches`] setting is on:
+/// later ones, until a clear, get the distance of the first, and take no bytes and no memory.
 #[derive(Debug, Drop)]
 pub struct Builder {
     backing: Backing,
@@ -70,8 +69,8 @@ impl Builder {
     ghost use Rattle.planus_write.specs.Finishing.{WritesSizedRoot};
     ghost use Rattle.planus_read.specs.SizePrefixed.{IsPrefixed};
 
-    /// Returns an empty builder, which writes equal texts, byte vectors and vtables once;
-    /// [`BuildError::OutOfMemory`] where memory is refused.
+    /// Creates an empty builder that writes equal strings, byte vectors and vtables once.
+    /// [`BuildError::OutOfMemory`] if an allocation fails.
     pub fn new(alloc: Global) -> Result<Builder, BuildError>
         ensures past { IfOk result (λ builder. IsPast builder no_past) }
         ensures switches { IfOk result (λ builder. builder.switches ≡ all_on) }
@@ -80,7 +79,7 @@ impl Builder {
         Builder::with_capacity(alloc, 0)
     }
 
-    /// Returns the same with room for `capacity` bytes.
+    /// Creates such a builder with room for `capacity` bytes.
     pub fn with_capacity(alloc: Global, capacity: usize) -> Result<Builder, BuildError>
         ensures past { IfOk result (λ builder. IsPast builder no_past) }
         ensures room { IfOk result (λ builder. capacity ≤ builder.room) }
@@ -90,8 +89,8 @@ impl Builder {
         Builder::with_caches(alloc, capacity, Caches::all())
     }
 
-    /// Returns an empty builder with room for `capacity` bytes, which writes equal contents once
-    /// where `caches` says so; [`BuildError::OutOfMemory`] where memory is refused.
+    /// Creates an empty builder with room for `capacity` bytes and these cache settings.
+    /// [`BuildError::OutOfMemory`] if an allocation fails.
     pub fn with_caches(
         alloc: Global,
         capacity: usize,
@@ -134,7 +133,7 @@ impl Builder {
         self.backing.as_slice()
     }
 
-    /// Returns how many more bytes fit in front without memory.
+    /// Returns how many more bytes fit without memory.
     #[inline]
     pub fn room(&self) -> usize
         ensures { result ≡ self.now.room }
@@ -142,7 +141,7 @@ impl Builder {
         self.backing.room()
     }
 
-    /// Returns the offset of what was written last: it begins at the front of the bytes.
+    /// Returns the offset of the last part: the front of the bytes.
     #[inline]
     pub fn current_offset<T>(&self) -> Offset<T>
         ensures { result.distance ≡ length self.now.bytes }
@@ -150,8 +149,8 @@ impl Builder {
         Offset::at(self.backing.len() as u32)
     }
 
-    /// Returns whether an offset lies in the bytes, as one does that this builder returned since
-    /// the last clear: it may be referred to.
+    /// Returns whether an offset is in the bytes, as those returned since the last clear are: it
+    /// may be referred to.
     #[inline]
     pub fn has<T>(&self, offset: &Offset<T>) -> bool
         ensures { IsTrue result ↔ IsIn self.now offset.now }
@@ -159,8 +158,8 @@ impl Builder {
         offset.distance() as usize <= self.len()
     }
 
-    /// Says, to a caller whose argument is a builder, that something may have been written: clauses
-    /// that speak of every past of a builder speak of one. It does nothing.
+    /// States that the builder has some history, of which clauses about every history can then
+    /// speak, when a caller was passed the builder. Does nothing.
     #[inline]
     pub fn has_a_past(&self)
         ensures { (past : Past) × IsPast self.now past }
@@ -168,8 +167,8 @@ impl Builder {
         let _backing = &self.backing;
     }
 
-    /// Removes all bytes and promises, and forgets which contents were written. The memory of
-    /// the bytes is kept, so that there is room for as many bytes more.
+    /// Removes all bytes and constraints, and forgets the contents written. Keeps the memory as
+    /// room.
     pub fn clear(&mut self)
         ensures past { IsPast self.new no_past }
         ensures room { self.new.room ≡ length self.old.bytes + self.old.room }
@@ -181,8 +180,8 @@ impl Builder {
         self.vtables.clear();
     }
 
-    // A text as one part. There are two functions of one body, so that nothing of the search for
-    // equal texts is in the code where it isn't on.
+    // A string as one part. The two functions share one body, so that the code without a cache has
+    // nothing of the lookup.
     #[inline]
     pub(crate) fn write_text(&mut self, text: &str) -> Result<Offset<Text>, BuildError>
         ensures { WritesText text.now self.old result self.new }
@@ -210,7 +209,7 @@ impl Builder {
         Written::from(self.write_text_if(false, text))
     }
 
-    // A text as one part, unless it is shared and an equal one is found.
+    // A string as one part, unless it is shared and an equal one is found.
     #[inline(always)]
     fn write_text_if(&mut self, shared: bool, text: &str) -> Result<u32, BuildError>
         requires { self.old.switches.texts_on ≡ shared }
@@ -268,7 +267,7 @@ impl Builder {
         Written::from(self.write_list_if(false, list))
     }
 
-    // A byte list as one part, unless it is shared and an equal one is found.
+    // A byte vector as one part, unless it is shared and an equal one is found.
     #[inline(always)]
     fn write_list_if<L: ByteItems>(&mut self, shared: bool, list: &L) -> Result<u32, BuildError>
         requires { self.old.switches.byte_lists_on ≡ shared }
@@ -292,7 +291,7 @@ impl Builder {
         }
     }
 
-    // The count of a list, right in front of its items.
+    // The count of a vector, directly before its items.
     #[inline]
     pub(crate) fn write_count(&mut self, count: u32) -> Result<u32, BuildError>
         ensures { WritesEntry (unshared_entry (count_part count)) [] self.old result self.new }
@@ -302,7 +301,7 @@ impl Builder {
         Ok(place)
     }
 
-    // A vtable as one part. Its own size stands in front.
+    // A vtable as one part. Its own size comes first.
     #[inline]
     pub(crate) fn write_vtable(&mut self, bytes: &[u8]) -> Result<u32, BuildError>
         requires { vtable_in bytes.now ≡ Some bytes.now }
@@ -343,7 +342,7 @@ impl Builder {
         }
     }
 
-    // The word of a table, right in front of its body, which leads to the vtable at this distance.
+    // The word of a table, directly before its body, leading to the vtable at this distance.
     #[inline]
     pub(crate) fn write_word(&mut self, vtable: u32) -> Result<u32, BuildError>
         requires { vtable ≤ greatest_place }
@@ -355,8 +354,8 @@ impl Builder {
         Ok(place)
     }
 
-    // Puts the three parts of a table down at once, where equal vtables aren't written once and
-    // there is room for all of it. Answers whether it did: else nothing is changed.
+    // Writes the three parts of a table at once, if vtables aren't shared and there is room.
+    // Returns whether it did; otherwise nothing is changed.
     #[inline(always)]
     pub(crate) fn put_table<W: Overwrite>(
         &mut self,
@@ -381,17 +380,17 @@ impl Builder {
         self.backing.alloc()
     }
 
-    /// Writes a part of `size` bytes, aligned to `alignment_mask + 1`, whose bytes the filler
-    /// writes over zeros. It gets the part's place: the distance in bytes from the end of the
-    /// buffer to the part's first byte.
+    /// Writes a part of `size` bytes, aligned to `alignment_mask + 1`. The filler writes its bytes
+    /// over zeros, and gets its place: the distance in bytes from the end of the buffer to its
+    /// first byte.
     ///
-    /// The filler may be called with `size` bytes at every place from `len() + size` to `len() +
-    /// size + alignment_mask` that is at most 2147483647, and `alignment_mask + 1` is a power of
+    /// Requires the filler to accept `size` bytes at every place from `len() + size` to `len() +
+    /// size + alignment_mask` that is at most 2147483647, and `alignment_mask + 1` to be a power of
     /// two up to 2^30.
     ///
-    /// [`BuildError::TooLarge`] where the part would begin more than 2147483647 bytes from the end,
-    /// before memory is asked for; [`BuildError::OutOfMemory`] where padding and part don't fit
-    /// [`Builder::room`] and memory is refused. Nothing is changed then.
+    /// [`BuildError::TooLarge`], before memory is requested, if the part would begin more than
+    /// 2147483647 bytes from the end; [`BuildError::OutOfMemory`] if padding and part exceed
+    /// [`Builder::room`] and an allocation fails. Nothing is changed then.
     pub fn write_with<F: Fill>(
         &mut self,
         size: usize,
@@ -411,9 +410,8 @@ impl Builder {
         Ok(())
     }
 
-    /// Writes a part as [`Builder::write_with`] does, under the same conditions, but by a writer of
-    /// all its `size` bytes, whatever stood there before: nothing is zeroed first. A refusal is
-    /// that of [`Builder::write_with`].
+    /// Writes a part like [`Builder::write_with`], with the same requirements and errors, but
+    /// without zeroing: the writer writes all `size` bytes.
     #[inline(always)]
     pub fn write_over<W: Overwrite>(
         &mut self,
@@ -435,15 +433,14 @@ impl Builder {
         Ok(())
     }
 
-    /// Writes a text: one part of a count of 4 bytes, its bytes and a zero byte, aligned to 4
-    /// bytes. Returns its offset. Nothing is written for an offset, which must be one that this
-    /// builder returned since the last clear, nor where an equal text is found that was written
-    /// since then.
+    /// Writes a string as one part: a count of 4 bytes, its bytes and a zero byte, aligned to 4
+    /// bytes. Returns its offset. Nothing is written for an offset, which this builder must have
+    /// returned since the last clear, nor where an equal cached string is found.
     ///
-    /// [`BuildError::TooLarge`] where the part's place would be above 2147483647 bytes from the
-    /// end; [`BuildError::OutOfMemory`] where it doesn't fit [`Builder::room`] and memory is
-    /// refused, or memory to find the text again is. Then no byte and no promise is changed, and
-    /// the same texts are found as before.
+    /// [`BuildError::TooLarge`] if the part's place would be above 2147483647 bytes from the end;
+    /// [`BuildError::OutOfMemory`] if it exceeds [`Builder::room`] and an allocation fails, or the
+    /// cache's does. Then no byte and no constraint is changed, and the same strings are found as
+    /// before.
     pub fn create_string<X: WriteAsOffset<Text> + Drop>(
         &mut self,
         value: X,
@@ -454,17 +451,16 @@ impl Builder {
         value.prepare(self)
     }
 
-    /// Writes a list: the items are prepared in order and written as one part, aligned as they are
-    /// but at least to 4 bytes, and then the count of 4 bytes in front of them; or a byte vector, as
-    /// one part of a count and the bytes, unless an equal byte vector is found. Returns its offset.
-    /// Nothing is written for an offset; each offset among the arguments must be one that this
-    /// builder returned since the last clear.
+    /// Writes a vector: the items are prepared in order and written as one part, with their
+    /// alignment but at least 4 bytes, and then the count of 4 bytes before them; or a byte vector,
+    /// as one part of count and bytes, unless an equal cached one is found. Returns its offset.
+    /// Nothing is written for an offset; this builder must have returned each offset among the
+    /// arguments since the last clear.
     ///
-    /// [`BuildError::TooLarge`] where a part's place would be above 2147483647 bytes from the end;
-    /// [`BuildError::OutOfMemory`] where memory for the prepared items is refused, which numbers,
-    /// bools and offsets need none of; or a part doesn't fit [`Builder::room`] and memory is
-    /// refused, or memory to find a byte vector again is. What was written before the refused write
-    /// stays, and nothing after it is begun.
+    /// [`BuildError::TooLarge`] if a part's place would be above 2147483647 bytes from the end;
+    /// [`BuildError::OutOfMemory`] if an allocation fails: for prepared items (numbers, bools and
+    /// offsets need none), for a part that exceeds [`Builder::room`], or for the cache. What was
+    /// written before the failed write stays, and nothing after it is begun.
     pub fn create_vector<P: Primitive, X: WriteAsOffset<List<P>> + Drop>(
         &mut self,
         list: X,
@@ -475,10 +471,10 @@ impl Builder {
         list.prepare(self)
     }
 
-    /// Writes a union vector: they are prepared in order, and their references are written as
-    /// one part, aligned to 4 bytes, with a count of 4 bytes in front of them, and then their tags
-    /// in the same way. Returns the offsets of both vectors. Nothing is written for these offsets;
-    /// each offset among them must be one that this builder returned since the last clear.
+    /// Writes a union vector: the unions are prepared in order, then their references are written
+    /// as one part, aligned to 4 bytes, with a count of 4 bytes before it, then their tags
+    /// likewise. Returns the offsets of both vectors. Nothing is written for such offsets; this
+    /// builder must have returned each offset among them since the last clear.
     ///
     /// A refusal is that of [`Builder::create_vector`].
     pub fn create_union_vector<T, X: WriteAsUnionVector<T> + Drop>(
@@ -491,16 +487,15 @@ impl Builder {
         vector.prepare(self)
     }
 
-    /// Prepares the root, and puts in front of everything its reference, and behind that the file
-    /// identifier, if there is one. The length is then such that every part since the last clear
-    /// stands aligned. Returns all bytes. An offset as the root must be one that this builder
-    /// returned since the last clear.
+    /// Prepares the root, and prepends its reference and the file identifier, if any, with padding
+    /// that aligns every part since the last clear. Returns all bytes. This builder must have
+    /// returned an offset as the root since the last clear.
     ///
-    /// Writing may go on afterwards, and finish again.
+    /// Writing may continue afterwards, up to another finish.
     ///
-    /// [`BuildError::TooLarge`] and [`BuildError::OutOfMemory`] as where the root is prepared
-    /// ([`WriteAsOffset::prepare`]), and then as in [`Builder::write_with`]. A root that was
-    /// written for this call stays then; the reference and the identifier leave nothing behind.
+    /// [`BuildError::TooLarge`] and [`BuildError::OutOfMemory`] as in preparing the root
+    /// ([`WriteAsOffset::prepare`]), then as in [`Builder::write_with`]. A root written for this
+    /// call stays then; the reference and the identifier leave nothing.
     pub fn finish<T, X: WriteAsOffset<T> + Drop>(
         &mut self,
         root: X,
@@ -517,13 +512,12 @@ impl Builder {
         Ok(self.as_slice())
     }
 
-    /// Prepares the root, and puts in front of everything a number of 4 bytes, which says how many
-    /// bytes follow it, behind that the root's reference, and behind that the file identifier, if
-    /// there is one. Every part since the last clear then stands aligned from that number on.
-    /// Returns all bytes, which can stand in front of others in a stream. An offset as the root
-    /// must be one that this builder returned since the last clear.
+    /// Prepares the root, and prepends the number of following bytes (4 bytes), the root's
+    /// reference and the file identifier, if any. Every part since the last clear is aligned from
+    /// that number on. Returns all bytes, which can precede others in a stream. This builder must
+    /// have returned an offset as the root since the last clear.
     ///
-    /// Writing may go on afterwards, and finish again.
+    /// Writing may continue afterwards, up to another finish.
     ///
     /// A refusal is that of [`Builder::finish`].
     pub fn finish_size_prefixed<T, X: WriteAsOffset<T> + Drop>(
@@ -543,7 +537,7 @@ impl Builder {
         Ok(self.as_slice())
     }
 
-    // The root word, and the identifier behind it, as one part with the greatest alignment so far.
+    // The root word and the identifier as one part with the greatest alignment so far.
     #[inline]
     fn write_root(&mut self, root: u32, identifier: Option<[u8; 4]>) -> Result<u32, BuildError>
         requires { root ≤ length self.old.bytes }
@@ -557,8 +551,8 @@ impl Builder {
         Ok(place)
     }
 
-    // The size word, the root word behind it, and the identifier behind that, as one part with the
-    // greatest alignment so far.
+    // The size word, the root word and the identifier as one part with the greatest alignment so
+    // far.
     #[inline]
     fn write_sized_root(
         &mut self,

@@ -1,4 +1,4 @@
-//! A reference that is written as what it leads to.
+//! A reference written as what it refers to.
 
 use std::alloc::AllocError;
 use std::fmt;

@@ -1,4 +1,4 @@
-//! Lists of bytes, whose items need no preparing.
+//! Byte vectors, whose items need no preparing.
 ghost use Rattle.std.specs.Prelude.{◌≡◌, ◌<◌, ◌≤◌, ◌^◌, ℕ, List, length, map};
 ghost use Rattle.std.specs.Int.{w8, cast_unsigned};
 ghost use Rattle.planus_back.specs.Padding.{greatest_place};
@@ -9,11 +9,11 @@ use crate::lists::write_each;
 use planus_back::{Bucket, Cache, GetCacheKey, Overwrite, find_key, find_signed_key};
 use std::fmt;
 
-/// A list of `u8`: a count of 4 bytes, and the bytes.
+/// A vector of `u8`: a count of 4 bytes, and the bytes.
 #[derive(Clone, Copy)]
 pub struct ByteList<'a>(pub &'a [u8]);
 
-/// A list of `i8`: a count of 4 bytes, and the numbers' bytes.
+/// A vector of `i8`: a count of 4 bytes, and the numbers' bytes.
 #[derive(Clone, Copy)]
 pub struct SignedList<'a>(pub &'a [i8]);
 
@@ -69,17 +69,17 @@ pub(crate) trait ByteItems {
         ensures number { result ≡ length (bytes_of self.now) }
         ensures small { result < 2 ^ 63 };
 
-    /// Writes them over other bytes, which are as many.
+    /// Copies them over as many other bytes.
     fn copy_to(&self, bytes: &mut [u8])
         requires size { length bytes.old ≡ length (bytes_of self.now) }
         requires small { length bytes.old ≤ greatest_place }
         ensures { bytes.new ≡ bytes_of self.now };
 
-    /// Returns where a cache has the distances of them, or would have them.
+    /// Returns the bucket of a cache for them.
     fn bucket_in<C: GetCacheKey>(&self, cache: &Cache<C>) -> Bucket
         ensures { IsBucketOf cache.now (bytes_of self.now) result };
 
-    /// Looks for them there, in a cache that fits the bytes.
+    /// Looks them up in that bucket. The cache must fit the bytes.
     fn find_in<C: GetCacheKey>(
         &self,
         bucket: Bucket,
@@ -163,7 +163,7 @@ impl<'a> ByteItems for SignedList<'a> {
     }
 }
 
-/// The items of a byte vector, as they stand in its part.
+/// The items of a byte vector, as encoded in its part.
 #[derive(Drop)]
 pub(crate) struct Copied<'a, L: ByteItems> {
     pub(crate) items: &'a L,

@@ -1,10 +1,10 @@
 //! Which contents a builder writes once.
 ghost use Rattle.std.specs.Prelude.{◌≡◌, ◌-◌, ◌^◌, true};
 
-/// Which contents a builder writes once: equal ones are found by the hashes of their bytes.
+/// Which contents a builder writes once: equal ones are found by the hash of their bytes.
 ///
-/// The hash has no secret. Who chooses the contents can make them collide, and each of them is then
-/// compared with all that collided before: turn the cache off for contents that a stranger chooses.
+/// The hash has no secret: who chooses the contents can make them collide, and each is then
+/// compared with all that collided before. Turn the cache off for untrusted contents.
 #[derive(Clone, Copy, Debug, PartialEq, Eq)]
 pub struct Caches {
     /// Equal vtables.
@@ -13,13 +13,12 @@ pub struct Caches {
     pub texts: bool,
     /// Equal byte vectors, of `u8` or of `i8`.
     pub bytes: bool,
-    /// The bits of a hash that are used. With 0 all hashes are equal, which costs time alone.
+    /// The bits of a hash that are used. With 0 all hashes are equal, which only costs time.
     pub hash_mask: u64,
 }
 
 impl Caches {
-    /// Returns that equal contents of every kind are written once, and all bits of their hashes are
-    /// used.
+    /// Returns settings with every cache on, using all bits of the hashes.
     pub const fn all() -> Caches
         ensures vtables { result.vtables ≡ true }
         ensures texts { result.texts ≡ true }

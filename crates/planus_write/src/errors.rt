@@ -5,13 +5,13 @@ use std::alloc::AllocError;
 use std::error::Error;
 use std::{fmt, io};
 
-/// Why a write is refused. A refused placement leaves bytes, promises and what the caches find as
-/// they were; what was written before it stays.
+/// Why a write fails. A failed placement leaves bytes, constraints and what the caches find
+/// unchanged; what was written before it stays.
 #[derive(Clone, Copy, Debug, PartialEq, Eq)]
 pub enum BuildError {
     /// Memory was refused.
     OutOfMemory,
-    /// The part would begin more than 2147483647 bytes from the end. No memory was asked for.
+    /// The part would begin more than 2147483647 bytes from the end. No memory was requested.
     TooLarge,
 }
 
@@ -55,7 +55,7 @@ impl From<TooLarge> for BuildError {
 }
 
 /// An error of the kind [`io::ErrorKind::OutOfMemory`], or of the kind
-/// [`io::ErrorKind::FileTooLarge`] with the text of this one.
+/// [`io::ErrorKind::FileTooLarge`] with this one's message.
 impl From<BuildError> for io::Error {
     ghost use Rattle.std.specs.Prelude.{◌≡◌};
     ghost use Rattle.std.specs.IoError.{error_kind};

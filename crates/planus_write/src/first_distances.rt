@@ -1,12 +1,12 @@
-//! Where the first contents of a kind stand.
+//! The distances of the first contents of a kind.
 ghost use Rattle.std.specs.Prelude.{◌≡◌, ◌≤◌, ◌++◌, ℕ, List, [], ◌∷◌, true, false, take};
 
 use std::marker::Model;
 
-/// So many contents are found sooner by looking at each of them than by a hash.
+/// Up to this many contents, comparing each is faster than hashing.
 const GREATEST_COUNT: usize = 16;
 
-/// The distances at which contents stand, which are few enough that each is looked at.
+/// The distances of contents, few enough to compare with each.
 #[derive(Drop)]
 pub(crate) struct FirstDistances {
     distances: [u32; 16],
@@ -40,7 +40,7 @@ impl FirstDistances {
         &self.distances[..self.count]
     }
 
-    // Adds a distance at the end where there is room for it, and answers whether there was.
+    // Appends a distance if there is room for it. Returns whether there was.
     #[inline]
     pub(crate) fn push(&mut self, distance: u32) -> bool
         ensures pushed { result ≡ true → self.new ≡ self.old ++ distance ∷ [] }

@@ -6,7 +6,7 @@ ghost use Rattle.planus_back.specs.Padding.{greatest_place};
 use crate::byte_lists::ByteItems;
 use planus_back::Overwrite;
 
-/// The items of a byte list, which stand in its part behind their count.
+/// The items of a byte vector, which follow their count in its part.
 #[derive(Drop)]
 pub(crate) struct ListPart<'a, L: ByteItems> {
     pub(crate) items: &'a L,

@@ -1,4 +1,4 @@
-//! Lists: the items of any type, and the count in front of them.
+//! Vectors: the items of any type, and the count before them.
 ghost use Rattle.std.specs.Prelude.{◌≡◌, ◌+◌, ◌*◌, ◌≤◌, ◌^◌, ℕ, length, map, max, IfOk};
 ghost use Rattle.std.specs.List.{AllByRecursion};
 ghost use Rattle.planus_back.specs.Promises.{IsPowerOfTwo};
@@ -14,8 +14,8 @@ use crate::traits::{Primitive, VectorWrite, WriteAsPrimitive};
 use planus_back::Overwrite;
 use std::marker::PhantomData;
 
-/// Writes the values one after another over `bytes`, which are exactly theirs. `place` is the
-/// distance in bytes from the end of the buffer to the first of them.
+/// Writes the values one after another over all of `bytes`. `place` is the distance in bytes from
+/// the end of the buffer to the first.
 #[inline]
 pub(crate) fn write_each<P: Primitive, V: WriteAsPrimitive<P>>(
     values: &[V],
@@ -35,7 +35,7 @@ pub(crate) fn write_each<P: Primitive, V: WriteAsPrimitive<P>>(
     }
 }
 
-/// The prepared items of a list, as they stand in its part.
+/// The prepared items of a vector, as encoded in its part.
 #[derive(Drop)]
 struct Items<'a, P: Primitive, T: VectorWrite<P>> {
     values: &'a [T::Value],
@@ -79,7 +79,7 @@ fn prepare_items<P: Primitive, T: VectorWrite<P>>(
     Ok(values)
 }
 
-/// One less than the alignment of the items of a list: their own, but at least that of its count.
+/// One less than the alignment of the items of a vector: their own, but at least that of its count.
 #[inline]
 fn items_mask<P: Primitive>() -> usize
     ensures greatest { result + 1 ≡ max P.ALIGNMENT 4 }
@@ -89,7 +89,7 @@ fn items_mask<P: Primitive>() -> usize
     P::ALIGNMENT.max(WORD_MASK + 1) - 1
 }
 
-/// A list of prepared items: they are written as one part, and the count in front of them.
+/// Writes prepared items as one part, and the count before them.
 pub(crate) fn write_prepared<P: Primitive, T: VectorWrite<P>>(
     builder: &mut Builder,
     values: &[T::Value],
@@ -110,7 +110,7 @@ pub(crate) fn write_prepared<P: Primitive, T: VectorWrite<P>>(
     Ok(Offset::at(place))
 }
 
-/// A list: its items are prepared in order, unless they need none, and then written.
+/// Prepares the items in order, unless they need none, and writes the vector.
 pub(crate) fn write_list<P: Primitive, T: VectorWrite<P>>(
     builder: &mut Builder,
     items: &[T],

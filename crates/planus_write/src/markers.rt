@@ -1,7 +1,7 @@
-//! What a builder of a union's fields is told of them.
+//! States of a union's fields in their builder.
 
 /// A field that isn't there yet.
 pub struct Uninitialized;
 
-/// A field that is there, with the tag of its variant.
+/// A present field, with the tag of its variant.
 pub struct Initialized<const N: u8, T>(pub T);

@@ -4,8 +4,8 @@ ghost use Rattle.planus_write.specs.Items.{Item};
 
 use crate::traits::{Primitive, WriteAsPrimitive};
 
-/// The fields of a table's object, which are written one behind the other. Contracts see it as the
-/// body that it is at: the bytes so far, how many remain, and the place of the next of them.
+/// The fields of a table's object, written one after another. In contracts it is the body at which
+/// it is: the bytes so far, how many remain, and the next one's place.
 #[derive(Drop)]
 pub struct ObjectWriter<'a> {
     bytes: &'a mut [u8],
@@ -18,7 +18,8 @@ pub struct ObjectWriter<'a> {
 impl<'a> ObjectWriter<'a> {
     ghost use Rattle.planus_write.specs.ObjectWriting.{body_of, wrote};
 
-    // All of `bytes`, the first of which has this distance in bytes from the end of the buffer.
+    // Creates a writer over all of `bytes`, the first of which has this distance in bytes from the
+    // end.
     pub(crate) fn new(bytes: &'a mut [u8], place: u32) -> ObjectWriter<'a>
         requires { length bytes.old ≤ place }
         ensures { body_of result ≡ record {
@@ -35,7 +36,7 @@ impl<'a> ObjectWriter<'a> {
         }
     }
 
-    /// Returns the number of bytes that are still to be written.
+    /// Returns the number of bytes left to be written.
     #[inline]
     pub fn remaining(&self) -> usize
         ensures { result ≡ (body_of self.now).remaining }
@@ -43,7 +44,8 @@ impl<'a> ObjectWriter<'a> {
         self.bytes.len().saturating_sub(self.at)
     }
 
-    /// Writes a field. `P::SIZE` bytes remain, and what it refers to lies behind it.
+    /// Writes a field. Requires `P::SIZE` bytes to remain, and its reference to lead to a later
+    /// byte.
     #[inline]
     pub fn write<P: Primitive, T: WriteAsPrimitive<P>>(&mut self, value: &T)
         requires room { P.SIZE ≤ (body_of self.old).remaining }
@@ -59,10 +61,10 @@ impl<'a> ObjectWriter<'a> {
     }
 }
 
-/// The fields of a table, in the order in which they were declared.
+/// The fields of a table, in the order declared.
 ///
 /// The ghost member `size` is the number of their bytes, and `leaves` names these by the place of
-/// the first of them. `reach` is how far from the end of the buffer they refer, in bytes.
+/// the first. `reach` is the greatest distance from the end to which they refer, in bytes.
 pub trait ObjectFill {
     ghost use Rattle.planus_write.specs.ObjectWriting.{body_of, wrote};
 

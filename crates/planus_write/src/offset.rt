@@ -1,18 +1,18 @@
-//! Offsets: what a builder calls the values that it has written.
+//! Offsets of written values.
 
 use std::alloc::AllocError;
 use std::marker::PhantomData;
 
-/// The kind of an offset to a text.
+/// The kind of an offset to a string.
 pub struct Text;
 
-/// The kind of an offset to a list of `P`.
+/// The kind of an offset to a vector of `P`.
 pub struct List<P> {
     _marker: PhantomData<P>,
 }
 
-/// A value of kind `T` that a builder has written, by its distance in bytes from the end of the
-/// buffer to its first byte.
+/// A written value of kind `T`, by the distance in bytes from the end of the buffer to its first
+/// byte.
 pub struct Offset<T> {
     distance: u32,
     _marker: PhantomData<T>,
@@ -54,7 +54,7 @@ impl<T> Offset<T> {
         self.distance
     }
 
-    /// Returns the same offset, with its kind forgotten.
+    /// Returns the same offset without its kind.
     #[inline]
     pub fn downcast(&self) -> Offset<()>
         ensures { result.distance ≡ self.now.distance }

@@ -15,21 +15,21 @@ use std::alloc::{AllocError, Global};
 use std::fmt;
 use std::marker::Model;
 
-/// What a look for equal contents comes to.
+/// The result of looking for equal contents.
 pub(crate) enum Lookup {
-    /// Equal contents stand at this distance from the end, and nothing is to be written.
+    /// Equal contents are at this distance from the end, and nothing is to be written.
     Found(u32),
     /// There is room for the part, which is planned.
     Planned(Plan),
 }
 
-/// Contents of one kind, found again if equal ones are to be written once.
+/// Contents of one kind, remembered if equal ones are to be written once.
 #[derive(Drop)]
 pub(crate) struct Sharing<C> {
     on: bool,
-    // Where contents stand while they are few.
+    // The distances of contents while they are few.
     first: FirstDistances,
-    // Whether they are so many that the cache has all of them. It is empty before.
+    // Whether the cache has all contents. It is empty before.
     is_many: bool,
     cache: Cache<C>,
 }
@@ -51,7 +51,7 @@ impl<C> Model for Sharing<C> {
 }
 
 impl<C: GetCacheKey> Sharing<C> {
-    // Nothing is found yet, and nothing ever will be if this isn't on.
+    // Creates an empty one. Nothing is remembered unless `on`.
     pub(crate) fn new(alloc: Global, on: bool, hash_mask: u64) -> Result<Sharing<C>, AllocError>
         ensures on { IfOk result (λ sharing. sharing.on ≡ on) }
         ensures empty { IfOk result (λ sharing. HoldsNothing sharing.holding) }
@@ -72,7 +72,7 @@ impl<C: GetCacheKey> Sharing<C> {
         self.on
     }
 
-    // Where the cache has the contents, or would have them, if they are looked for there.
+    // The cache's bucket of the contents, if they are looked up there.
     #[inline(always)]
     fn bucket_of<L: ByteItems>(&self, contents: &L) -> Option<Bucket>
         ensures { LooksIn self.now.holding (L.bytes_of contents.now) result }
@@ -83,7 +83,7 @@ impl<C: GetCacheKey> Sharing<C> {
         None
     }
 
-    // The distance at which equal contents stand in the bytes.
+    // The distance of equal contents in the bytes.
     #[inline(always)]
     fn find_in<L: ByteItems>(
         &self,
@@ -102,7 +102,7 @@ impl<C: GetCacheKey> Sharing<C> {
         }
     }
 
-    // The contents stand at the distance, or are about to. A refusal of memory changes nothing.
+    // Remembers contents that are, or are about to be, at the distance. Changes nothing on failure.
     #[inline(always)]
     fn keep_in<L: ByteItems>(
         &mut self,
@@ -148,8 +148,8 @@ impl<C: GetCacheKey> Sharing<C> {
     }
 }
 
-// Lets an empty cache have the distances at which the first contents stand in the bytes, and that of
-// others, which are about to stand there. A refusal of memory leaves it empty.
+// Fills an empty cache with the first distances of contents in the bytes, and that of others, about
+// to be there. It stays empty on failure.
 #[cold]
 #[inline(never)]
 fn spill<C: GetCacheKey, L: ByteItems>(
@@ -172,7 +172,7 @@ fn spill<C: GetCacheKey, L: ByteItems>(
     filled
 }
 
-// The same, but a refusal leaves some of the distances.
+// The same, but some of the distances stay on failure.
 fn fill<C: GetCacheKey, L: ByteItems>(
     cache: &mut Cache<C>,
     first: &[u32],
@@ -193,8 +193,8 @@ fn fill<C: GetCacheKey, L: ByteItems>(
     cache.insert_in(contents.bucket_in(cache), distance)
 }
 
-// Makes room for a part of `size` bytes whose contents aren't found, in this order: it may be too
-// large; the memory of padding and part; that of the cache.
+// Makes room for a part of `size` bytes whose contents aren't found. Fails in this order: too
+// large, memory for padding and part, memory for the cache.
 #[inline(always)]
 pub(crate) fn plan_shared<C: GetCacheKey, L: ByteItems>(
     backing: &mut Backing,
@@ -217,8 +217,7 @@ pub(crate) fn plan_shared<C: GetCacheKey, L: ByteItems>(
     Ok(plan)
 }
 
-// Finds equal contents, if they are shared, or makes room for a part of `size` bytes, as
-// `plan_shared` does.
+// Finds equal contents, if shared, or makes room for a part of `size` bytes as `plan_shared` does.
 #[inline(always)]
 pub(crate) fn find_or_plan<C: GetCacheKey, L: ByteItems>(
     shared: bool,

@@ -1,4 +1,4 @@
-//! Tables: an object of fields, and a vtable that says where they are.
+//! Tables: an object of fields, and a vtable with their offsets.
 ghost use Rattle.std.specs.Prelude.{◌≡◌, ◌+◌, ◌≤◌, ◌++◌, ℕ, List, [], ◌∷◌, length, take, drop};
 ghost use Rattle.std.specs.Int.{w16, to_le_bytes};
 ghost use Rattle.planus_read.specs.Bytes.{BytesStand};
@@ -13,8 +13,8 @@ use crate::traits::Primitive;
 use planus_back::Overwrite;
 use std::marker::Model;
 
-/// Writes a table: first each field that is there is declared, and then all of them are written.
-/// `N` bytes are kept for the vtable: 4, and 2 for each slot up to the greatest that is declared.
+/// Writes a table: each present field is declared first, and then all are written. `N` bytes are
+/// reserved for the vtable: 4, and 2 for each slot up to the greatest one declared.
 #[derive(Drop)]
 pub struct TableWriter<const N: usize> {
     vtable: [u8; N],
@@ -49,7 +49,7 @@ impl<const N: usize> Default for TableWriter<N> {
     }
 }
 
-/// Writes a number of two bytes over those at a position.
+/// Overwrites two bytes at a position by a number.
 #[inline]
 fn put_pair(bytes: &mut [u8], at: usize, number: u16)
     requires { at + 2 ≤ length bytes.old }
@@ -81,8 +81,8 @@ impl<'a, F: ObjectFill> Overwrite for Body<'a, F> {
 }
 
 impl<const N: usize> TableWriter<N> {
-    /// Says, to a caller whose argument is a writer, that it was told some list of entries: clauses
-    /// that speak of every such list speak of one, where `N` is at least 4. It does nothing.
+    /// States that the writer was told some list of entries, of which clauses about every such list
+    /// can then speak, when a caller was passed the writer and `N` is at least 4. Does nothing.
     #[inline]
     pub fn was_told(&self)
         ensures { 4 ≤ N → (declared : List Declared) × WasTold self.now declared }
@@ -92,9 +92,10 @@ impl<const N: usize> TableWriter<N> {
 
     /// Declares a field for a slot.
     ///
-    /// The slot's two bytes lie in the first `N` bytes of a vtable and in 65534, nothing is
-    /// declared for it yet, and the object is at most 65535 bytes with the field. For the fields to
-    /// stand aligned, no field's alignment is above that of the field before it.
+    /// Declares a field for a slot. Requires the slot's two bytes to be in the first `N` bytes of
+    /// the vtable and in 65534, nothing to be declared for it yet, the object to have at most 65535
+    /// bytes with the field, and, for the fields to be aligned, no field's alignment to exceed that
+    /// of the one before.
     #[inline]
     pub fn write_entry<P: Primitive>(&mut self, slot: usize)
         requires inside { slot_position slot + 2 ≤ N }
@@ -121,16 +122,16 @@ impl<const N: usize> TableWriter<N> {
     }
 
     /// Writes the table: its vtable, unless an equal one is found, the fields that the filler
-    /// writes, and the word in front of them by which they lead to the vtable. The table is then
-    /// what was written last: [`Builder::current_offset`].
+    /// writes, and the word before them that leads to the vtable. The table is then at
+    /// [`Builder::current_offset`].
     ///
-    /// `N` is at least 4, the filler writes as many bytes as were declared, and what it refers to
-    /// lies in the builder's bytes.
+    /// Requires `N` to be at least 4, and the filler to write as many bytes as declared, with
+    /// references into the builder's bytes.
     ///
-    /// [`BuildError::TooLarge`] where a part's place would be above 2147483647 bytes from the end;
-    /// [`BuildError::OutOfMemory`] where a part doesn't fit [`Builder::room`] and memory is
-    /// refused, or memory to find the vtable again is. What was written before the refused write
-    /// stays, and nothing after it is begun.
+    /// [`BuildError::TooLarge`] if a part's place would be above 2147483647 bytes from the end;
+    /// [`BuildError::OutOfMemory`] if a part exceeds [`Builder::room`] and an allocation fails, or
+    /// the cache's does. What was written before the failed write stays, and nothing after it is
+    /// begun.
     #[inline(always)]
     pub fn finish<F: ObjectFill>(self, builder: &mut Builder, filler: &F) -> Result<(), BuildError>
         requires enough { 4 ≤ N }

@@ -5,7 +5,7 @@ ghost use Rattle.planus_back.specs.Padding.{greatest_place};
 
 use planus_back::Overwrite;
 
-/// The bytes of a text, which stand in its part between their count and a zero byte.
+/// The bytes of a string, which are in its part between their count and a zero byte.
 #[derive(Drop)]
 pub(crate) struct TextPart<'a>(pub(crate) &'a [u8]);
 

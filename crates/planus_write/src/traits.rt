@@ -24,18 +24,17 @@ use crate::offset::Offset;
 use crate::union_offset::UnionOffset;
 use crate::union_vector_offset::UnionVectorOffset;
 
-/// What stands in a table or in a list with a fixed size: a number, a bool or a reference.
+/// What is encoded with a fixed size in a table or a vector: a number, a bool or a reference.
 pub trait Primitive: Sized {
     ghost ALIGNMENT: { ℕ };
 
     ghost SIZE: { ℕ };
 
-    /// Its first byte stands at a multiple of this number of bytes from the start of a buffer.
+    /// Its first byte is at a multiple of this number of bytes from the start of a buffer.
     const ALIGNMENT: usize;
 
-    /// A name for one less than [`Primitive::ALIGNMENT`], and no more than a name: no contract says
-    /// its value, nothing here reads it, and nothing is said of an implementation that gives
-    /// another one. What is promised of an alignment is promised of [`Primitive::ALIGNMENT`].
+    /// A name for one less than [`Primitive::ALIGNMENT`], and nothing more: no contract mentions
+    /// it, and nothing here reads it.
     const ALIGNMENT_MASK: usize = Self::ALIGNMENT - 1;
 
     /// Its size in bytes.
@@ -48,58 +47,56 @@ pub trait Primitive: Sized {
     ghost is_small: { ALIGNMENT ≤ 1073741824 };
 }
 
-/// What is written in place as a `P`.
+/// A value that is written in place as a `P`.
 ///
-/// The ghost member `reach` is how far from the end of the buffer it refers, in bytes: 0 for a
-/// number or a bool, the distance for an offset. `leaves` names the bytes that it writes, by
-/// their place.
+/// The ghost member `reach` is the distance from the end to which it refers, in bytes: 0 for a
+/// number or a bool. `leaves` names the bytes written, by their place.
 pub trait WriteAsPrimitive<P: Primitive> {
     ghost reach: { Self → ℕ };
 
     ghost leaves: { Self → Item };
 
-    /// The field of a table that it is.
+    /// The value as a field of a table.
     ghost field: { Self → Field };
 
-    /// Writes all of `bytes`, of which there are exactly `P::SIZE`. `place` is the distance in
-    /// bytes from the end of the buffer to the first of them; what is referred to lies behind it.
+    /// Writes all `P::SIZE` bytes of `bytes`. `place` is the distance in bytes from the end of the
+    /// buffer to the first; a reference leads to a later byte.
     fn write(&self, bytes: &mut [u8], place: u32)
         requires size { length bytes.old ≡ P.SIZE }
         requires reach { reach self.now ≤ place }
         ensures { bytes.new ≡ leaves self.now place };
 
-    /// The field has the size and the alignment of a `P`, and the bytes that are written.
+    /// The field has the size and alignment of a `P`, and the bytes written.
     ghost is_item: { (value : Self)
         → IsItem P.SIZE P.ALIGNMENT (leaves value) (reach value) (field value) };
 }
 
-/// What a builder can write as a value of kind `T`.
+/// A value that a builder can write as one of kind `T`.
 ///
-/// The ghost member `may` says when a value may be prepared: every offset that it holds has a
-/// distance of at most the builder's length. `outcome` names what preparing it does: the builder
-/// before, the result, and the builder after.
+/// The ghost member `may` is the precondition: every offset in the value has a distance of at most
+/// the builder's length. `outcome` is what preparing it does: the builder before, the result, and
+/// the builder after.
 pub trait WriteAsOffset<T> {
     ghost may: { Self → State → Type 0 };
 
     ghost outcome: { Self → State → Result (Offset T) BuildError → State → Type 0 };
 
-    /// Writes the value, if it isn't an offset already, and returns its offset.
+    /// Writes the value, unless it is an offset already, and returns its offset.
     ///
-    /// [`BuildError::TooLarge`] where a part's place would be above 2147483647 bytes from the end;
-    /// [`BuildError::OutOfMemory`] where memory is refused: for the prepared items of a list,
-    /// unless they need no preparing, for a part that doesn't fit the builder's room, or to find
-    /// contents again that are shared. A refusal leaves what was written before it, and nothing of
-    /// the refused write.
+    /// [`BuildError::TooLarge`] if a part's place would be above 2147483647 bytes from the end;
+    /// [`BuildError::OutOfMemory`] if an allocation fails: for the prepared items of a vector,
+    /// unless they need no preparing, for a part that exceeds the builder's room, or for a cache.
+    /// What was written before the failed write stays, and nothing of it.
     fn prepare(&self, builder: &mut Builder) -> std::result::Result<Offset<T>, BuildError>
         requires { may self.now builder.old }
         ensures { outcome self.now builder.old result builder.new };
 
-    /// The bytes before are the end of the bytes after, every promise stays, and the switches do;
-    /// the distance that is returned is at most the builder's length.
+    /// The old bytes are the end of the new ones, every constraint is kept, and so are the cache
+    /// settings; the returned distance is at most the builder's length.
     ghost is_lawful: { IsLawful may outcome (λ offset. offset.distance) };
 }
 
-/// What a builder can write as a union of kind `T`.
+/// A value that a builder can write as a union of kind `T`.
 ///
 /// The ghost members `may` and `outcome` are as those of [`WriteAsOffset`].
 pub trait WriteAsUnion<T> {
@@ -110,8 +107,8 @@ pub trait WriteAsUnion<T> {
     /// The tag, and what the reference to the value holds.
     ghost content: { Self → ℕ × Content };
 
-    /// Writes the variant's value, if that isn't written already, and returns its tag and its
-    /// offset. A refusal is that of [`WriteAsOffset::prepare`].
+    /// Writes the variant's value, unless it is written already, and returns its tag and offset.
+    /// Fails like [`WriteAsOffset::prepare`].
     fn prepare(&self, builder: &mut Builder) -> std::result::Result<UnionOffset<T>, BuildError>
         requires { may self.now builder.old }
         ensures { outcome self.now builder.old result builder.new };
@@ -119,11 +116,11 @@ pub trait WriteAsUnion<T> {
     /// As [`WriteAsOffset`]'s.
     ghost is_lawful: { IsLawful may outcome union_reach };
 
-    /// Once the union is prepared, it has this tag and holds this.
+    /// Once prepared, the union has this tag and holds this.
     ghost has_content: { PreparesUnionItem may outcome content };
 }
 
-/// What a builder can write as a union vector of kind `T`.
+/// A value that a builder can write as a union vector of kind `T`.
 ///
 /// The ghost members `may` and `outcome` are as those of [`WriteAsOffset`].
 pub trait WriteAsUnionVector<T> {
@@ -131,9 +128,8 @@ pub trait WriteAsUnionVector<T> {
 
     ghost outcome: { Self → State → Result (UnionVectorOffset T) BuildError → State → Type 0 };
 
-    /// Writes the list of the references and in front of it the list of the tags, if they aren't
-    /// written already, and returns their offsets. A refusal is that of
-    /// [`Builder::create_union_vector`].
+    /// Writes the vector of references and before it that of the tags, unless they are written
+    /// already, and returns their offsets. Fails like [`Builder::create_union_vector`].
     fn prepare(
         &self,
         builder: &mut Builder,
@@ -145,13 +141,13 @@ pub trait WriteAsUnionVector<T> {
     ghost is_lawful: { IsLawful may outcome union_vector_reach };
 }
 
-/// What a builder can write as an item of a list of `P`.
+/// A value that a builder can write as an item of a vector of `P`.
 ///
-/// The ghost members `may` and `outcome` are as those of [`WriteAsOffset`]; `all_may` and `prepares`
-/// are those of the items of a list, all of them: as a rule each item may be prepared, and memory is
-/// taken for the prepared ones, which are then prepared in order.
+/// The ghost members `may` and `outcome` are as those of [`WriteAsOffset`]; `all_may` and
+/// `prepares` are those of all items of a vector: usually each may be prepared, and memory is taken
+/// for the prepared ones, which are then prepared in order.
 pub trait VectorWrite<P: Primitive>: Sized {
-    /// What stands in the list: the item, prepared.
+    /// The prepared item, as encoded in the vector.
     type Value: WriteAsPrimitive<P> + Drop;
 
     ghost STRIDE: { ℕ };
@@ -164,22 +160,22 @@ pub trait VectorWrite<P: Primitive>: Sized {
 
     ghost prepares: { List Self → Outcome (List Self.Value) };
 
-    /// What a field holds that refers to the list of these items.
+    /// What a field holds that refers to a vector of these items.
     ghost list: { List Self → Content };
 
     /// Returns the number of bytes from one item to the next.
     fn stride() -> usize
         ensures { result ≡ STRIDE };
 
-    /// Writes what the item refers to, if that isn't written already. A refusal is that of
+    /// Writes what the item refers to, unless it is written already. Fails like
     /// [`WriteAsOffset::prepare`].
     fn prepare(&self, builder: &mut Builder) -> std::result::Result<Self::Value, BuildError>
         requires { may self.now builder.old }
         ensures { outcome self.now builder.old result builder.new };
 
-    /// Returns the items themselves where each of them is what stands in the list, as a number, a
-    /// bool and an offset are: preparing them does nothing, and a list asks for no memory
-    /// for prepared ones. `None` where items are to be prepared, one after another.
+    /// Returns the items themselves if they need no preparing, like numbers, bools and offsets: a
+    /// vector then takes no memory for prepared ones. `None` if they are to be prepared one after
+    /// another.
     fn as_prepared(items: &[Self]) -> Option<&[Self::Value]>
         ensures { MatchOption result
             ((old new : State) (answer : Result (List Self.Value) BuildError)
@@ -187,23 +183,22 @@ pub trait VectorWrite<P: Primitive>: Sized {
             → prepares items.now old answer new)
             (λ values. (old : State) → prepares items.now old (Ok values.now) old) };
 
-    /// Writes all of `bytes`: the items one after another, each [`VectorWrite::stride`] bytes
-    /// behind the one before. `place` is the distance in bytes from the end of the buffer to the
-    /// first of them.
+    /// Writes all of `bytes`: the items one after another, [`VectorWrite::stride`] bytes each.
+    /// `place` is the distance in bytes from the end of the buffer to the first.
     fn write_values(values: &[Self::Value], bytes: &mut [u8], place: u32)
         requires size { length bytes.old ≡ length values.now * STRIDE }
         requires may { MayStand Self.Value.reach STRIDE place values.now }
         ensures { bytes.new ≡ items_bytes STRIDE place (map Self.Value.leaves values.now) };
 
-    /// Items stand one behind the other without a gap.
+    /// Items follow one another without a gap.
     ghost is_size: { STRIDE ≡ P.SIZE };
 
     /// As [`WriteAsOffset`]'s, with the reach of the prepared item as the distance.
     ghost is_lawful: { IsLawful may outcome Self.Value.reach };
 
-    /// The same for the items of a list.
+    /// The same for the items of a vector.
     ghost are_lawful: { AreLawful may outcome all_may prepares Self.Value.reach };
 
-    /// Once the list is written, the field holds this.
+    /// Once the vector is written, the field holds this.
     ghost has_list: { ListHasContent all_may prepares Self.Value.leaves P.SIZE P.ALIGNMENT list };
 }

@@ -4,8 +4,8 @@ use crate::offset::Offset;
 use std::alloc::AllocError;
 use std::marker::PhantomData;
 
-/// A union of kind `T` that a builder has written: the tag of its variant, and the offset of the
-/// variant's value. As a field it takes two slots, the tag's and the reference's.
+/// A written union of kind `T`: the tag of its variant, and the offset of its value. As a field it
+/// takes two slots, the tag's and the reference's.
 pub struct UnionOffset<T> {
     tag: u8,
     offset: Offset<()>,
@@ -30,7 +30,7 @@ impl<T> Copy for UnionOffset<T> {}
 impl<T> UnionOffset<T> {
     ghost use Rattle.std.specs.Prelude.{◌≡◌};
 
-    /// Returns the union of a tag, which is above 0 in a field, and the offset of its value.
+    /// Returns the union of a tag, above 0 in a field, and the offset of its value.
     #[inline]
     pub fn new(tag: u8, offset: Offset<()>) -> UnionOffset<T>
         ensures tag { result.tag ≡ tag }

@@ -4,8 +4,8 @@ use crate::offset::{List, Offset};
 use std::alloc::AllocError;
 use std::marker::PhantomData;
 
-/// A union vector of kind `T` that a builder has written: the offset of the list of its tags,
-/// and that of the list of its references. As a field it takes two slots, the tags' first.
+/// A written union vector of kind `T`: the offset of its vector of tags, and that of its vector of
+/// references. As a field it takes two slots, the tags' first.
 pub struct UnionVectorOffset<T> {
     tags: Offset<List<u8>>,
     values: Offset<List<Offset<()>>>,
@@ -30,7 +30,7 @@ impl<T> Copy for UnionVectorOffset<T> {}
 impl<T> UnionVectorOffset<T> {
     ghost use Rattle.std.specs.Prelude.{◌≡◌};
 
-    /// Returns the union vector of a list of tags and a list of as many references.
+    /// Returns the union vector of a vector of tags and one of as many references.
     #[inline]
     pub fn new(
         tags_offset: Offset<List<u8>>,
@@ -46,7 +46,7 @@ impl<T> UnionVectorOffset<T> {
         }
     }
 
-    /// Returns the offset of the list of the tags.
+    /// Returns the offset of the vector of tags.
     #[inline]
     pub fn tags_offset(&self) -> Offset<List<u8>>
         ensures { result ≡ self.now.tags }
@@ -54,7 +54,7 @@ impl<T> UnionVectorOffset<T> {
         self.tags
     }
 
-    /// Returns the offset of the list of the references.
+    /// Returns the offset of the vector of references.
     #[inline]
     pub fn values_offset(&self) -> Offset<List<Offset<()>>>
         ensures { result ≡ self.now.values }

@@ -1,4 +1,4 @@
-//! Vectors of unions: their references and their tags, each a list with its count.
+//! Union vectors: their references and their tags, each a vector with its count.
 ghost use Rattle.std.specs.Prelude.{◌≡◌, ◌≤◌, length, IfOk};
 ghost use Rattle.std.specs.List.{AllByRecursion};
 ghost use Rattle.planus_write.specs.Preparing.{AllMay};
@@ -13,7 +13,7 @@ use crate::offset::{List, Offset};
 use crate::traits::WriteAsUnion;
 use crate::union_vector_offset::UnionVectorOffset;
 
-/// Unions, prepared: the tag of each, and its reference.
+/// Prepared unions: the tag of each, and its reference.
 #[derive(Drop)]
 struct PreparedUnions {
     tags: Vec<u8>,
@@ -44,7 +44,7 @@ fn prepare_unions<T, U: WriteAsUnion<T>>(
     Ok(PreparedUnions { tags, values })
 }
 
-/// The tags of a union vector, as one part, and the count in front of them.
+/// The tags of a union vector as one part, and the count before them.
 fn write_tags(builder: &mut Builder, tags: &[u8]) -> Result<Offset<List<u8>>, BuildError>
     ensures { WritesTags tags.now builder.old result builder.new }
 {
@@ -59,8 +59,7 @@ fn write_tags(builder: &mut Builder, tags: &[u8]) -> Result<Offset<List<u8>>, Bu
     Ok(Offset::at(place))
 }
 
-/// A union vector: they are prepared in order, and then their references are written, and in
-/// front of these their tags.
+/// Prepares the unions in order, and writes their references, and before these their tags.
 pub(crate) fn write_union_vector<T, U: WriteAsUnion<T>>(
     builder: &mut Builder,
     items: &[U],

@@ -5,8 +5,8 @@ ghost use Rattle.planus_write.specs.inner.Written.{place_of};
 use crate::errors::BuildError;
 use crate::offset::Offset;
 
-/// The distance from the end of what was written, or why it wasn't. Unlike a [`Result`] of both, it
-/// is returned in registers.
+/// The distance of a written part from the end, or the error. Unlike a [`Result`] of both, it is
+/// returned in registers.
 pub(crate) enum Written {
     At(u32),
     LacksMemory,
@@ -27,7 +27,7 @@ impl From<Result<u32, BuildError>> for Written {
 }
 
 impl Written {
-    // The distance, or why there is none.
+    // The distance, or the error.
     #[inline(always)]
     pub(crate) fn place(self) -> Result<u32, BuildError>
         ensures { result ≡ place_of self }

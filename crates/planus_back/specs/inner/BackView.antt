@@ -3,7 +3,7 @@ use Rattle.planus_back.specs.BackBytes.{BackBytes}
 use Rattle.planus_back.specs.inner.Blocks.{HoldsFrom, bytes_from}
 use Rattle.planus_back.specs.declared.backvec.BackVec.TheInside.{Inside}
 
--- the block's bytes from the start on, and the room in front of them
+-- the block's bytes from the start on, and the room before them
 abbrev pub back_bytes : Inside → BackBytes
 back_bytes a = record { bytes = bytes_from a.block a.start; room = a.start }
 

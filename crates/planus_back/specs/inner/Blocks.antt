@@ -13,7 +13,7 @@ capacity_of b = slots_len b.places
 abbrev pub bytes_from : Block → ℕ → List ℕ
 bytes_from b k = drop k (slots_items b.places)
 
--- the pointer and the right to give the block back are those of the places, and each place from
+-- the pointer and the right to free the block are those of the places, and each place from
 -- `initialized` on holds a byte
 pub record IsBlock (b : Block) : Type 0 where
   pub inside : InBlock b.base
@@ -21,20 +21,20 @@ pub record IsBlock (b : Block) : Type 0 where
   pub deed : (b.deed.at ≡ slots_ptr b.places) × (b.deed.len ≡ capacity_of b) × (b.deed.alloc ≡ b.alloc)
   pub initialized : Filled (slots_filled b.places) b.initialized (capacity_of b)
 
--- each place from the start on holds a byte too, also where it lies in front of `initialized`
+-- each place from the start on holds a byte too, even before `initialized`
 pub record HoldsFrom (b : Block) (start : ℕ) : Type 0 where
   pub block : IsBlock b
   pub within : start ≤ capacity_of b
   pub filled : Filled (slots_filled b.places) start (capacity_of b)
 
--- the block holds the bytes from the place on, and behind them what it held
+-- the block holds the bytes from the place on, followed by what it held
 pub record Puts (b : Block) (at : ℕ) (part : List ℕ) (b' : Block) : Type 0 where
   pub holds : HoldsFrom b' at
   pub capacity : capacity_of b' ≡ capacity_of b
   pub bytes : bytes_from b' at ≡ part ++ bytes_from b (at + length part)
 
--- what stood in the first block from `start` on stands in the second, in which each place from `at`
--- on holds a byte
+-- what was in the first block from `start` on is in the second, whose places from `at` on each hold
+-- a byte
 pub record Readies (b : Block) (at start : ℕ) (b' : Block) : Type 0 where
   pub holds : HoldsFrom b' at
   pub capacity : capacity_of b' ≡ capacity_of b

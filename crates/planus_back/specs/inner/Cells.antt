@@ -1,4 +1,4 @@
--- What the places of a block become, where a run of them is lent to be written.
+-- The places of a block after a run of them was lent to be written.
 use Rattle.core.specs.Prelude.{ℕ, ◌+◌, List, ◌++◌, take, drop}
 use Rattle.core.specs.List.{refill, length_refill}
 use Rattle.core.specs.declared.slots.Slots.{Slots}
@@ -6,7 +6,7 @@ use Rattle.core.specs.contracts.slots.Slots.{the_row}
 use Rattle.std.specs.Borrow.{Fml, RattleType, MutBor, Array, Lends}
 
 module _ {X : Type 0} where
-  -- the values, with those of the run in the place of the `len` from the place `from` on
+  -- the values, with those of the run in place of the `len` from the place `from` on
   abbrev pub items_with_run : Slots X → ℕ → ℕ → List X → List X
   items_with_run a from len run = refill a.len a.items (take from a.items ++ (run ++ drop (from + len) a.items))
 

@@ -1,4 +1,4 @@
--- Which remainders and masks a value of `Promises` has.
+-- Which remainders and masks a `Promises` has.
 use Rattle.std.specs.Prelude.{◌+◌, ◌≤◌, ◌^◌}
 use Rattle.planus_back.specs.Promises.{IsPowerOfTwo}
 use Rattle.planus_back.specs.Requests.{Delay}

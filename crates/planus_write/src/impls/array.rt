@@ -1,4 +1,4 @@
-//! Lists of items that lie in an array: they are written as those of a slice.
+//! Vectors of items in an array, written as those of a slice.
 ghost use Rattle.planus_write.specs.Preparing.{AllMay, WritesList};
 ghost use Rattle.planus_write.specs.lemmas.ListLaws.{list_is_lawful};
 ghost use Rattle.planus_write.specs.lemmas.UnionLaws.{union_vector_is_lawful};

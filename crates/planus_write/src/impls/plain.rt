@@ -1,4 +1,4 @@
-//! Values of a fixed layout in place and as items of lists: one implementation for all of them.
+//! Values of a fixed layout, in place and as items of vectors: one implementation for all.
 ghost use Rattle.std.specs.Prelude.{map, refl, ⊤};
 ghost use Rattle.planus_read.specs.Values.{plain, plain_list};
 ghost use Rattle.planus_write.specs.Contents.{value};

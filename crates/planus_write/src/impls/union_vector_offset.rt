@@ -1,4 +1,4 @@
-//! Vectors of unions that are written already.
+//! Union vectors that are written already.
 ghost use Rattle.std.specs.Prelude.{◌≤◌, length};
 ghost use Rattle.planus_write.specs.Preparing.{Answers};
 ghost use Rattle.planus_write.specs.Unions.{union_vector_reach};
