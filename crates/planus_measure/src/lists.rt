@@ -1,4 +1,4 @@
-//! Vectors of tables and of unions that are read.
+//! Reads of vectors of tables and of unions.
 
 use crate::reads::{WEAPON, weapon};
 use crate::tables::Weapon;
@@ -16,7 +16,7 @@ fn push_number(bytes: &mut Vec<u8>, number: u32) -> Result<(), AllocError> {
     bytes.extend_from_slice(&number.to_le_bytes())
 }
 
-/// Adds a list of references to one weapon, and then the weapon, whose table is 4 bytes in it.
+/// Appends a vector of references to one weapon, whose table is 4 bytes into the weapon's bytes.
 fn push_weapons(bytes: &mut Vec<u8>) -> Result<(), AllocError> {
     push_number(bytes, OPERATIONS as u32)?;
     let mut reference = 4 * OPERATIONS as u32 + 4;
@@ -27,7 +27,7 @@ fn push_weapons(bytes: &mut Vec<u8>) -> Result<(), AllocError> {
     bytes.extend_from_slice(&WEAPON)
 }
 
-/// A reference to a list of weapons, and the list.
+/// Returns a reference to a vector of weapons, and the vector.
 pub fn finished_tables(alloc: Global) -> Result<Vec<u8>, AllocError> {
     let mut bytes = Vec::new(alloc);
     push_number(&mut bytes, 4)?;
@@ -35,7 +35,7 @@ pub fn finished_tables(alloc: Global) -> Result<Vec<u8>, AllocError> {
     Ok(bytes)
 }
 
-/// References to a list of tags and to a list of weapons, and the lists.
+/// Returns references to a vector of tags and to one of weapons, and the vectors.
 pub fn finished_unions(alloc: Global) -> Result<Vec<u8>, AllocError> {
     let mut bytes = Vec::new(alloc);
     push_number(&mut bytes, 8)?;
@@ -48,7 +48,7 @@ pub fn finished_unions(alloc: Global) -> Result<Vec<u8>, AllocError> {
     Ok(bytes)
 }
 
-/// Reads the weapons of a list, and returns the sum.
+/// Reads the weapons of a vector and returns the sum.
 pub fn tables(buffer: &[u8]) -> Result<usize, Error> {
     let mut sum: usize = 0;
     for item in tables_in(buffer)? {
@@ -65,7 +65,7 @@ fn tables_in(buffer: &[u8]) -> Result<Vector<'_, Result<TableRef<'_, Weapon>, Er
     ).map_err(|kind| kind.with_error_location("Tables", "root", 0))
 }
 
-/// Reads the weapons of a union vector, and returns the sum.
+/// Reads the weapons of a union vector and returns the sum.
 pub fn unions(buffer: &[u8]) -> Result<usize, Error> {
     let mut sum: usize = 0;
     for item in unions_in(buffer)? {
@@ -82,7 +82,7 @@ fn unions_in(buffer: &[u8]) -> Result<UnionVector<'_, TaggedPlace<'_>>, Error> {
     ).map_err(|kind| kind.with_error_location("Unions", "root", 0))
 }
 
-/// The sum of a union's weapon, which has tag 1, and 0 for another tag.
+/// Returns the sum of a union's weapon (tag 1), 0 for another tag.
 fn held(union: TaggedPlace<'_>) -> Result<usize, Error> {
     if union.tag() != 1 {
         return Ok(0);

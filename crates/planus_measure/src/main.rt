@@ -1,6 +1,6 @@
-//! Measures the calls of the builder and the readers, and prints a table of nanoseconds an
-//! operation. The first argument is the number of rounds of each work; without one, each work runs
-//! once, and the table has what it did and no times.
+//! Measures calls of the builder and the readers, and prints a table of nanoseconds per operation.
+//! The first argument is the number of rounds; without it each work runs once and no times are
+//! printed.
 #![tactic(auto)]
 
 mod lists;
@@ -14,7 +14,7 @@ use std::time::Instant;
 use std::{env, io};
 use works::{OPERATIONS, Work, Works};
 
-/// The works without caches and their names, in the order of the table.
+/// The works without caches, in the table's order.
 const PLAIN: &[(&str, Work)] = &[
     ("texts of 3 bytes", Work::Texts(3, 3)),
     ("texts of 100 bytes", Work::Texts(100, 100)),
@@ -64,7 +64,7 @@ const PLAIN: &[(&str, Work)] = &[
     ("read a union of a vector", Work::ReadUnions),
 ];
 
-/// The works with caches and their names, in the order of the table.
+/// The works with caches, in the table's order.
 const CACHED: &[(&str, Work)] = &[
     ("cached: different texts of 20 bytes", Work::NewTexts(20)),
     ("cached: different texts of 100 bytes", Work::NewTexts(100)),
@@ -92,7 +92,7 @@ const CACHED: &[(&str, Work)] = &[
     ("the same after 100000 texts", Work::AfterTexts(100000)),
 ];
 
-/// The number of rounds that was asked for, 0 where none was.
+/// Returns the number of rounds of the first argument, or 0.
 fn rounds(rt: &HostRuntime) -> io::Result<u64> {
     let mut args = env::args(rt)?;
     let _program = args.next();
@@ -102,8 +102,7 @@ fn rounds(rt: &HostRuntime) -> io::Result<u64> {
     }
 }
 
-/// Prints what one round does, and the nanoseconds that an operation takes, if rounds are asked
-/// for.
+/// Prints the result of one round and, with rounds, the nanoseconds per operation.
 fn measure(
     rt: &HostRuntime,
     works: &mut Works,

@@ -1,4 +1,4 @@
-//! Monsters that are written: tables with a field of each kind, and what they refer to.
+//! Writes of monsters: a field of each kind, and the values they refer to.
 
 ghost use Rattle.std.specs.Prelude.{◌≡◌, ◌≤◌, length, codes, IfOk};
 ghost use Rattle.planus.specs.write.InBuilder.{IsIn, AllIn, AllUnionsIn};
@@ -13,7 +13,7 @@ use planus::{
 /// The kind of a monster.
 struct Monster;
 
-/// The kind of what a monster holds.
+/// The kind of a monster's equipment.
 struct Equipment;
 
 impl TableKind for Monster {
@@ -28,8 +28,7 @@ impl TableKind for Monster {
     }
 }
 
-/// Writes a monster with these weapons, this equipment and this loot, and a number, a text and a
-/// list of bytes.
+/// Writes a monster with these weapons, equipment and loot, a number, a string and a byte vector.
 fn write_fields(
     builder: &mut Builder,
     weapons: &[Offset<Weapon>],
@@ -52,8 +51,7 @@ fn write_fields(
     create_table::<Monster, _>(builder, fields)
 }
 
-/// Writes a weapon, and a monster that has it as its one weapon, as its equipment and twice as
-/// loot.
+/// Writes a weapon and a monster that refers to it as weapon, equipment and twice as loot.
 fn write_monster(builder: &mut Builder) -> Result<Offset<Monster>, BuildError>
     ensures { IfOk result (λ offset. offset.distance ≤ length builder.new.bytes) }
 {
@@ -63,7 +61,7 @@ fn write_monster(builder: &mut Builder) -> Result<Offset<Monster>, BuildError>
     write_fields(builder, &[axe], held, &[held, held])
 }
 
-/// Writes monsters, and returns the length of all.
+/// Writes monsters and returns the final length.
 pub fn write_monsters(builder: &mut Builder) -> Result<usize, BuildError> {
     builder.clear();
     for _ in 0..OPERATIONS {
@@ -72,7 +70,7 @@ pub fn write_monsters(builder: &mut Builder) -> Result<usize, BuildError> {
     Ok(builder.len())
 }
 
-/// Clears, writes a monster and finishes it, and returns the sum of the lengths.
+/// Clears, writes and finishes monsters, and returns the sum of the lengths.
 pub fn write_monster_messages(builder: &mut Builder) -> Result<usize, BuildError> {
     let mut sum: usize = 0;
     for _ in 0..OPERATIONS {

@@ -4,20 +4,20 @@ use planus::errors::{Error, ErrorKind};
 use planus::table_reader::Table;
 use planus::{Place, SliceWithStartOffset, TableRead, TaggedPlace, Vector};
 
-/// A finished table with the text `Axe` in slot 0 and the number 24 of 2 bytes in slot 1.
+/// A finished table: the string `Axe` in slot 0, 24 as `u16` in slot 1.
 pub const WEAPON: [u8; 32] = [
     4, 0, 0, 0, 244, 255, 255, 255, 16, 0, 0, 0, 24, 0, 0, 0, 8, 0, 10, 0, 4, 0, 8, 0, 3, 0, 0, 0,
     65, 120, 101, 0,
 ];
 
-/// A finished table with the numbers 1 to 8, of 2 bytes each, in slots 0 to 7.
+/// A finished table: 1 to 8 as `u16` in slots 0 to 7.
 pub const NUMBERS: [u8; 44] = [
     4, 0, 0, 0, 236, 255, 255, 255, 1, 0, 2, 0, 3, 0, 4, 0, 5, 0, 6, 0, 7, 0, 8, 0, 20, 0, 20, 0,
     4, 0, 6, 0, 8, 0, 10, 0, 12, 0, 14, 0, 16, 0, 18, 0,
 ];
 
-/// A finished table with the number 80 of 2 bytes in slot 0, the text `Orc` in slot 1, a list of
-/// one table in slot 3, and that table as a union of tag 1 in slots 4 and 5.
+/// A finished table: 80 as `u16` in slot 0, the string `Orc` in slot 1, a vector of one table in
+/// slot 3, and that table as a union of tag 1 in slots 4 and 5.
 pub const MONSTER: [u8; 84] = [
     4, 0, 0, 0, 236, 255, 255, 255, 40, 0, 0, 0, 28, 0, 0, 0, 40, 0, 0, 0, 80, 0, 1, 0, 16, 0, 19,
     0, 16, 0, 4, 0, 0, 0, 8, 0, 18, 0, 12, 0, 1, 0, 0, 0, 12, 0, 0, 0, 3, 0, 0, 0, 79, 114, 99, 0,
@@ -25,7 +25,7 @@ pub const MONSTER: [u8; 84] = [
     101, 0,
 ];
 
-/// How the numbers of a vector are reached.
+/// How the items of a vector are reached.
 #[derive(Clone, Copy)]
 pub enum Walk {
     /// By an iterator over all.
@@ -44,14 +44,14 @@ fn root(buffer: &[u8]) -> Result<Table<'_>, Error> {
     Table::from_buffer(piece, 0).map_err(|kind| kind.with_error_location("Table", "root", 0))
 }
 
-/// The number of a weapon and the length of its text.
+/// Returns a weapon's number plus the length of its string.
 pub fn weapon(table: Table<'_>) -> Result<usize, Error> {
     let damage = table.access::<u16>(1, "Weapon", "damage")?.unwrap_or(0);
     let name = table.access::<&str>(0, "Weapon", "name")?.unwrap_or("");
     Ok(usize::from(damage) + name.len())
 }
 
-/// The sum of the first fields of a table.
+/// Returns the sum of a table's first fields.
 fn numbers(table: Table<'_>, count: usize) -> Result<usize, Error> {
     let mut sum: usize = 0;
     for slot in 0..count {
@@ -61,7 +61,7 @@ fn numbers(table: Table<'_>, count: usize) -> Result<usize, Error> {
     Ok(sum)
 }
 
-/// The number of a monster, the length of its text, the number of its weapons and its tag.
+/// Returns the sum of a monster's number, string length, weapon count and tag.
 fn monster(table: Table<'_>) -> Result<usize, Error> {
     let hp = table.access::<u16>(0, "Monster", "hp")?.unwrap_or(100);
     let name = table.access_required::<&str>(1, "Monster", "name")?;
@@ -74,7 +74,7 @@ fn monster(table: Table<'_>) -> Result<usize, Error> {
     )
 }
 
-/// Reads each of the weapons, and returns the sum.
+/// Reads the weapons and returns the sum.
 pub fn weapons(buffers: &[u8]) -> Result<usize, Error> {
     let mut sum: usize = 0;
     for buffer in buffers.chunks_exact(WEAPON.len()) {
@@ -83,7 +83,7 @@ pub fn weapons(buffers: &[u8]) -> Result<usize, Error> {
     Ok(sum)
 }
 
-/// Reads as many fields of each of the tables of eight, and returns the sum.
+/// Reads that many fields of each table and returns the sum.
 pub fn fields(buffers: &[u8], count: usize) -> Result<usize, Error> {
     let mut sum: usize = 0;
     for buffer in buffers.chunks_exact(NUMBERS.len()) {
@@ -92,7 +92,7 @@ pub fn fields(buffers: &[u8], count: usize) -> Result<usize, Error> {
     Ok(sum)
 }
 
-/// Reads each of the monsters, and returns the sum.
+/// Reads the monsters and returns the sum.
 pub fn monsters(buffers: &[u8]) -> Result<usize, Error> {
     let mut sum: usize = 0;
     for buffer in buffers.chunks_exact(MONSTER.len()) {
@@ -110,7 +110,7 @@ fn sum_of(numbers: Vector<'_, u32>) -> usize {
     sum
 }
 
-/// The sum of some numbers, each reached by its position.
+/// The sum by `get`.
 fn sum_by_positions(numbers: Vector<'_, u32>) -> usize {
     let mut sum: usize = 0;
     for at in 0..numbers.len() {
@@ -119,7 +119,7 @@ fn sum_by_positions(numbers: Vector<'_, u32>) -> usize {
     sum
 }
 
-/// The sum of some numbers, by pieces of 16.
+/// The sum by chunks of 16.
 fn sum_by_chunks(numbers: Vector<'_, u32>) -> usize {
     let mut sum: usize = 0;
     for chunk in numbers.chunks(16) {
@@ -128,7 +128,7 @@ fn sum_by_chunks(numbers: Vector<'_, u32>) -> usize {
     sum
 }
 
-/// The sum of all windows of 4 numbers.
+/// The sum of all windows of 4.
 fn sum_by_windows(numbers: Vector<'_, u32>) -> usize {
     let mut sum: usize = 0;
     for window in numbers.windows(4) {
@@ -137,7 +137,7 @@ fn sum_by_windows(numbers: Vector<'_, u32>) -> usize {
     sum
 }
 
-/// Reads a finished list of numbers, and returns the sum.
+/// Reads a finished vector of numbers and returns the sum.
 pub fn walked(buffer: &[u8], walk: Walk) -> Result<usize, ErrorKind> {
     let piece = SliceWithStartOffset::new(buffer, 0);
     let list = <Vector<'_, u32> as TableRead<'_>>::from_buffer(piece, 0)?;
@@ -149,7 +149,7 @@ pub fn walked(buffer: &[u8], walk: Walk) -> Result<usize, ErrorKind> {
     })
 }
 
-/// Reads a finished list of texts, and returns the sum of their lengths.
+/// Reads a finished vector of strings and returns the sum of their lengths.
 pub fn texts(buffer: &[u8]) -> Result<usize, Error> {
     let mut sum: usize = 0;
     for text in texts_in(buffer)? {

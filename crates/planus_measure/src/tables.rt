@@ -116,7 +116,7 @@ pub fn write_weapon(builder: &mut Builder) -> Result<(), BuildError> {
     writer.finish(builder, &Weapon { name, damage: 24 })
 }
 
-/// Writes tables of two fields, and returns the length of all.
+/// Writes tables of two fields and returns the final length.
 pub fn write_two(builder: &mut Builder) -> Result<usize, BuildError> {
     builder.clear();
     for _ in 0..OPERATIONS {
@@ -125,7 +125,7 @@ pub fn write_two(builder: &mut Builder) -> Result<usize, BuildError> {
     Ok(builder.len())
 }
 
-/// Writes tables of eight fields, and returns the length of all.
+/// Writes tables of eight fields and returns the final length.
 pub fn write_eight(builder: &mut Builder) -> Result<usize, BuildError> {
     builder.clear();
     for _ in 0..OPERATIONS {
@@ -134,7 +134,7 @@ pub fn write_eight(builder: &mut Builder) -> Result<usize, BuildError> {
     Ok(builder.len())
 }
 
-/// Clears, writes a weapon and finishes it, and returns the sum of the lengths.
+/// Clears, writes and finishes weapons, and returns the sum of the lengths.
 pub fn write_weapons(builder: &mut Builder) -> Result<usize, BuildError> {
     let mut sum: usize = 0;
     for _ in 0..OPERATIONS {

@@ -1,4 +1,4 @@
-//! What is measured: rounds of equal operations.
+//! The works: rounds of equal operations.
 
 ghost use Rattle.std.specs.Prelude.{◌≡◌, length};
 
@@ -8,10 +8,10 @@ use planus::{BuildError, Builder, ByteList, Caches, Fill, Offset, Text};
 use planus_back::Promises;
 use std::alloc::{AllocError, Global};
 
-/// The number of operations in a round.
+/// Operations per round.
 pub const OPERATIONS: usize = 1000;
 
-/// A hundred letters, of which texts are the first few.
+/// A hundred letters; strings are prefixes of it.
 const LETTERS: &str =
     "abcdefghijklmnopqrstuvwxyzabcdefghijklmnopqrstuvwxyzabcdefghijklmnopqrstuvwxyzabcdefghijklmnopqrstuv";
 
@@ -23,57 +23,57 @@ const NO_CACHES: Caches = Caches {
     hash_mask: 0,
 };
 
-/// One kind of operation. Sizes are in bytes. Where nothing else is said, the builder has room for
-/// what is written. One with caches finds equal contents and writes them once.
+/// One kind of operation. Sizes are in bytes. Unless noted, the builder has room for what is
+/// written; with caches, equal contents are found.
 #[derive(Clone, Copy)]
 pub enum Work {
-    /// Texts whose sizes go round from the first number up to the second.
+    /// Strings whose sizes cycle from the first number to the second.
     Texts(usize, usize),
-    /// Texts of 100 bytes, in a new builder that grows.
+    /// Strings of 100 bytes, in a new builder without room.
     GrowingTexts,
-    /// Different texts of this size, of at least 7.
+    /// Different strings of this size, at least 7.
     NewTexts(usize),
-    /// Texts of 20 bytes, of which few stand often and many once or twice.
+    /// Strings of 20 bytes: a few are frequent, many rare.
     OftenTexts,
-    /// A clear, a text and a finish, by a new builder with caches that had so many texts before.
+    /// A clear, a string and a finish, on a builder with caches that once held this many strings.
     AfterTexts(usize),
-    /// Lists of 64 texts, of 0 to 63 bytes.
+    /// Vectors of 64 strings, of 0 to 63 bytes.
     TextLists,
-    /// Equal byte vectors of this size.
+    /// Equal byte lists of this size.
     ByteLists(usize),
-    /// Different byte vectors of this size, of at least 7.
+    /// Different byte vectors of this size, at least 7.
     NewByteLists(usize),
-    /// Lists of so many numbers of 4 bytes.
+    /// Vectors of this many `u32`s.
     NumberLists(usize),
     /// Parts of this size.
     Parts(usize),
-    /// Parts of this size, in a new builder that grows.
+    /// Parts of this size, in a new builder without room.
     GrowingParts(usize),
-    /// Tables of two numbers of 2 bytes.
+    /// Tables of two `u16`s.
     TwoFields,
-    /// Tables of eight numbers of 2 bytes.
+    /// Tables of eight `u16`s.
     EightFields,
-    /// A clear, a text, a table with it and a number, and a finish.
+    /// A clear, a string, a table with it and a number, and a finish.
     Weapons,
-    /// The same, by a builder that had so many texts before.
+    /// The same on a builder that once held this many strings.
     WeaponsAfterTexts(usize),
-    /// Tables with a field of each kind, and what they refer to.
+    /// Tables with a field of each kind, and the values they refer to.
     Monsters,
-    /// A clear, such a table, and a finish.
+    /// A clear, such a table and a finish.
     MonsterMessages,
     /// Requests for padding alone.
     Requests,
-    /// A table from its buffer, a number and a text.
+    /// A table read from its buffer, a number and a string.
     ReadWeapons,
-    /// A table of eight numbers from its buffer, and so many of them.
+    /// A table of eight numbers read from its buffer, and this many of them.
     ReadFields(usize),
-    /// A table of five fields from its buffer, with a list and a union, and all of them.
+    /// A table of five fields read from its buffer, with a vector and a union, and all of them.
     ReadMonsters,
-    /// Numbers of 4 bytes of a vector, 16 an operation, reached in this way.
+    /// `u32`s of a vector, 16 per operation, reached this way.
     ReadNumbers(Walk),
-    /// Texts of 20 bytes of a vector.
+    /// Strings of 20 bytes of a vector.
     ReadTexts,
-    /// Tables of a vector, and their numbers and texts.
+    /// Tables of a vector, with their numbers and strings.
     ReadTables,
     /// Such tables of a union vector.
     ReadUnions,
@@ -101,8 +101,7 @@ pub struct Works {
     alloc: Global,
     builder: Box<Builder>,
     caching: Box<Builder>,
-    // Of the work that is measured, what is written, or the buffers that are read, one behind the
-    // other.
+    // The values written, or the buffers read one after another, by the current work.
     texts: Vec<String>,
     bytes: Vec<u8>,
     numbers: Vec<u32>,
@@ -114,7 +113,7 @@ fn push_text(alloc: Global, texts: &mut Vec<String>, text: &str) -> Result<(), A
     Ok(())
 }
 
-/// Adds so many texts, whose sizes go round from `least` up to `most` bytes.
+/// Appends strings whose sizes cycle from `least` to `most` bytes.
 fn push_texts(
     alloc: Global,
     texts: &mut Vec<String>,
@@ -130,13 +129,13 @@ fn push_texts(
     Ok(())
 }
 
-/// A number of 7 digits, and then letters.
+/// Returns a number of 7 digits followed by letters.
 fn different_text(alloc: Global, number: usize, letters: &str) -> Result<String, AllocError> {
     let number = number.saturating_add(1000000);
     Ok(format!(in alloc; "{number}{letters}")?)
 }
 
-/// Adds so many texts of `len` bytes, of which no two are equal.
+/// Appends different strings of `len` bytes.
 fn push_different_texts(
     alloc: Global,
     texts: &mut Vec<String>,
@@ -150,8 +149,7 @@ fn push_different_texts(
     Ok(())
 }
 
-/// Adds texts of 20 bytes, of which few stand often: in an order that has nothing to do with how
-/// often they do.
+/// Appends strings of 20 bytes, a few of them frequent, in an order unrelated to frequency.
 fn push_often_texts(alloc: Global, texts: &mut Vec<String>) -> Result<(), AllocError> {
     let letters = LETTERS.get(..13).unwrap_or("");
     for at in 0..OPERATIONS {
@@ -161,7 +159,7 @@ fn push_often_texts(alloc: Global, texts: &mut Vec<String>) -> Result<(), AllocE
     Ok(())
 }
 
-/// Adds the texts of a kind of operation, none where it needs none.
+/// Appends the strings that the work needs.
 fn push_texts_of(alloc: Global, texts: &mut Vec<String>, work: Work) -> Result<(), AllocError> {
     match work {
         Work::Texts(least, most) => push_texts(alloc, texts, OPERATIONS, least, most),
@@ -179,7 +177,7 @@ fn push_texts_of(alloc: Global, texts: &mut Vec<String>, work: Work) -> Result<(
     }
 }
 
-/// The numbers of a kind of operation, none where it needs none.
+/// Returns the numbers that the work needs.
 fn numbers_of(alloc: Global, work: Work) -> Result<Vec<u32>, AllocError> {
     match work {
         Work::NumberLists(len) => equal_numbers(alloc, len),
@@ -193,7 +191,7 @@ fn equal_numbers(alloc: Global, len: usize) -> Result<Vec<u32>, AllocError> {
     vec![in alloc; 7; len]
 }
 
-/// The bytes of a kind of operation, none where it needs none.
+/// Returns the bytes that the work needs.
 fn bytes_of(alloc: Global, work: Work) -> Result<Vec<u8>, AllocError> {
     match work {
         Work::ByteLists(len) => vec![in alloc; 7; len],
@@ -236,7 +234,7 @@ fn finished_texts(
     Ok(Vec::from_slice(alloc, builder.finish(list, None)?)?)
 }
 
-/// Writes each text, and returns the length of all.
+/// Writes each string and returns the final length.
 fn write_texts(builder: &mut Builder, texts: &[String]) -> Result<usize, BuildError> {
     builder.clear();
     for text in texts {
@@ -245,7 +243,7 @@ fn write_texts(builder: &mut Builder, texts: &[String]) -> Result<usize, BuildEr
     Ok(builder.len())
 }
 
-/// Clears, writes a text and finishes it, and returns the sum of the lengths.
+/// Clears, writes and finishes each string, and returns the sum of the lengths.
 fn write_messages(builder: &mut Builder) -> Result<usize, BuildError> {
     let mut sum: usize = 0;
     for _ in 0..OPERATIONS {
@@ -255,7 +253,7 @@ fn write_messages(builder: &mut Builder) -> Result<usize, BuildError> {
     Ok(sum)
 }
 
-/// Writes lists of these texts, and returns the length of all.
+/// Writes vectors of these strings and returns the final length.
 fn write_text_lists(builder: &mut Builder, texts: &[String]) -> Result<usize, BuildError> {
     builder.clear();
     for _ in 0..OPERATIONS {
@@ -264,7 +262,7 @@ fn write_text_lists(builder: &mut Builder, texts: &[String]) -> Result<usize, Bu
     Ok(builder.len())
 }
 
-/// Writes these bytes as lists, and returns the length of all.
+/// Writes these bytes as vectors and returns the final length.
 fn write_byte_lists(builder: &mut Builder, bytes: &[u8]) -> Result<usize, BuildError> {
     builder.clear();
     for _ in 0..OPERATIONS {
@@ -273,7 +271,7 @@ fn write_byte_lists(builder: &mut Builder, bytes: &[u8]) -> Result<usize, BuildE
     Ok(builder.len())
 }
 
-/// Writes the bytes of each text as a list, and returns the length of all.
+/// Writes each string's bytes as a vector and returns the final length.
 fn write_texts_as_bytes(builder: &mut Builder, texts: &[String]) -> Result<usize, BuildError> {
     builder.clear();
     for text in texts {
@@ -282,7 +280,7 @@ fn write_texts_as_bytes(builder: &mut Builder, texts: &[String]) -> Result<usize
     Ok(builder.len())
 }
 
-/// Writes these numbers as lists, and returns the length of all.
+/// Writes these numbers as vectors and returns the final length.
 fn write_number_lists(builder: &mut Builder, numbers: &[u32]) -> Result<usize, BuildError> {
     builder.clear();
     for _ in 0..OPERATIONS {
@@ -291,7 +289,7 @@ fn write_number_lists(builder: &mut Builder, numbers: &[u32]) -> Result<usize, B
     Ok(builder.len())
 }
 
-/// Writes parts of so many bytes, and returns the length of all.
+/// Writes parts of this many bytes and returns the final length.
 fn write_parts(builder: &mut Builder, size: usize) -> Result<usize, BuildError> {
     builder.clear();
     for _ in 0..OPERATIONS {
@@ -300,8 +298,8 @@ fn write_parts(builder: &mut Builder, size: usize) -> Result<usize, BuildError> 
     Ok(builder.len())
 }
 
-/// Asks for padding for parts of 1 to 8 bytes in turn, aligned to 8, each in front of those before,
-/// and returns the place of the last.
+/// Requests padding for parts of 1 to 8 bytes aligned to 8, one in front of another, and returns
+/// the last place.
 fn request_padding() -> Option<usize> {
     let mut promises = Promises::new();
     let mut len: usize = 0;
@@ -323,18 +321,18 @@ fn next_padding(promises: Promises, len: usize, size: usize) -> Option<(Promises
     promises.request(len, size, 7).ok()
 }
 
-/// Writes each text in a new builder, which has no room, and returns the length of all.
+/// Writes each string in a new builder without room and returns the final length.
 fn write_growing_texts(alloc: Global, texts: &[String]) -> Result<usize, BuildError> {
     write_texts(&mut Builder::with_caches(alloc, 0, NO_CACHES)?, texts)
 }
 
-/// Writes parts of so many bytes in a new builder, which has no room, and returns the length of all.
+/// Writes parts of this many bytes in a new builder without room and returns the final length.
 fn write_growing_parts(alloc: Global, size: usize) -> Result<usize, BuildError> {
     write_parts(&mut Builder::with_caches(alloc, 0, NO_CACHES)?, size)
 }
 
-/// A builder with room for so many bytes. It is boxed, since what holds two of them would have a
-/// long type, which makes its proofs slow.
+/// Returns a builder with room for this many bytes, boxed: a struct of two unboxed builders has a
+/// long type, which slows its proofs.
 fn builder_of(alloc: Global, room: usize, caches: Caches) -> Result<Box<Builder>, BuildError> {
     match Box::new(alloc, Builder::with_caches(alloc, room, caches)?) {
         Ok(builder) => Ok(builder),
@@ -343,7 +341,7 @@ fn builder_of(alloc: Global, room: usize, caches: Caches) -> Result<Box<Builder>
 }
 
 impl Works {
-    /// A builder without caches and one with them, and what they write.
+    /// Creates a builder without caches and one with them.
     pub fn new(alloc: Global) -> Result<Works, BuildError> {
         Ok(Works {
             alloc,
@@ -355,7 +353,7 @@ impl Works {
         })
     }
 
-    /// Makes what a kind of operation needs that others don't.
+    /// Prepares what this work alone needs.
     fn prepare(&mut self, work: Work) -> Result<(), BuildError> {
         self.texts.clear();
         push_texts_of(self.alloc, &mut self.texts, work)?;
@@ -369,7 +367,7 @@ impl Works {
         }
     }
 
-    /// Puts a builder with caches in the place of the one before, and writes the texts by both.
+    /// Replaces the cached builder by a new one that has held the strings.
     fn write_before(&mut self) -> Result<(), BuildError> {
         self.caching = builder_of(self.alloc, 0, Caches::all())?;
         write_texts(&mut self.builder, self.texts.as_slice())?;
@@ -377,26 +375,26 @@ impl Works {
         Ok(())
     }
 
-    /// Finishes a list of the numbers, to be read.
+    /// Finishes a vector of the numbers, to be read.
     fn finish_numbers(&mut self) -> Result<(), BuildError> {
         self.bytes = finished_list(self.alloc, &mut self.builder, &self.numbers)?;
         Ok(())
     }
 
-    /// Finishes a list of the texts, to be read.
+    /// Finishes a vector of the strings, to be read.
     fn finish_texts(&mut self) -> Result<(), BuildError> {
         self.bytes = finished_texts(self.alloc, &mut self.builder, self.texts.as_slice())?;
         Ok(())
     }
 
-    /// The first round of a kind of operation, as [`Works::round`] is.
+    /// Prepares a work and runs its first [`Works::round`].
     pub fn first_round(&mut self, work: Work, with_caches: bool) -> Option<usize> {
         self.prepare(work).ok()?;
         self.round(work, with_caches)
     }
 
-    /// One round of a kind of operation, by the builder with caches or the other one. Returns the
-    /// number of bytes that were written, or the sum of what was read; `None` where it was refused.
+    /// Runs one round with or without caches. Returns the bytes written or the sum read; `None` if
+    /// a call failed.
     pub fn round(&mut self, work: Work, with_caches: bool) -> Option<usize> {
         let texts = self.texts.as_slice();
         let bytes = self.bytes.as_slice();
@@ -409,7 +407,7 @@ impl Works {
     }
 }
 
-/// One round of a kind of operation by a builder.
+/// Runs one round on this builder.
 fn round_by(
     builder: &mut Builder,
     alloc: Global,

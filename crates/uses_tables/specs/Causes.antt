@@ -14,6 +14,6 @@ abbrev pub origin_of : CauseRef → Option Table
 origin_of (cause.Entry view) = None
 origin_of (cause.Origin view) = Some view.table
 
--- an entry for the tag 1, an origin for 2
+-- tag 1 an entry, tag 2 an origin
 abbrev pub cause_variants : List (UnionVariant CauseRef)
 cause_variants = table_variant 1 entry_of ∷ table_variant 2 origin_of ∷ []

@@ -15,6 +15,6 @@ abbrev pub ship_of : OwnerRef → Option Table
 ship_of (owner.Name name) = None
 ship_of (owner.Ship ship) = Some ship.table
 
--- a name for the tag 1, a ship for 2
+-- tag 1 a name, tag 2 a ship
 abbrev pub owner_variants : List (UnionVariant OwnerRef)
 owner_variants = text_variant 1 name_of ∷ table_variant 2 ship_of ∷ []

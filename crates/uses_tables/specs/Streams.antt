@@ -1,4 +1,4 @@
--- Streams of buffers with their sizes in front, one behind another.
+-- Streams of size-prefixed buffers, one after another.
 use Rattle.std.specs.Prelude.{◌≡◌, ℕ, ◌<◌, List, [], ◌∷◌, ◌++◌, length, map, Option, Some, None}
 use Rattle.planus.specs.read.declared.errors.ErrorKind.{ErrorKind}
 use Rattle.planus.specs.read.Clauses.{FirstBroken}
@@ -11,8 +11,7 @@ use Rattle.planus.specs.write.Preparing.{WritesText}
 use Rattle.planus.specs.write.Finishing.{SizedFinishGives}
 use Rattle.uses_tables.specs.declared.stream.Records.{Records}
 
--- What a builder of which nothing was written gives for a finish of this text with the size in front
--- was put behind a stream.
+-- What an empty builder's size-prefixed finish of this string returns was appended to the stream.
 pub record IsAppended (text old new : List ℕ) : Type 0 where
   pub builder : State
   pub past : IsPast builder no_past
@@ -21,19 +20,18 @@ pub record IsAppended (text old new : List ℕ) : Type 0 where
   pub size : IsPrefixed buffer
   pub behind : new ≡ old ++ buffer
 
--- The stream begins with buffers that have these contents behind their sizes, in order, and then
--- the rest is left.
+-- The stream begins with size-prefixed buffers of these contents, in order, followed by the rest.
 abbrev pub BeginsWith : List ℕ → List (List ℕ) → List ℕ → Type 0
 BeginsWith stream [] rest = stream ≡ rest
 BeginsWith stream (content ∷ contents) rest =
     (next : List ℕ) × PrefixedThere stream content next × BeginsWith next contents rest
 
--- Why no more is read: nothing is left; or what is left can't be read, for this reason.
+-- Why reading ends: nothing is left, or what is left fails with this error.
 abbrev pub EndsFor : Option ErrorKind → List ℕ → Type 0
 EndsFor None rest = rest ≡ []
 EndsFor (Some error) rest = (0 < length rest) × FirstBroken (prefixed_clauses rest) error
 
--- All buffers of the stream are read, up to its end or to the first that can't be read.
+-- All buffers of the stream are read, up to its end or the first that fails.
 pub record ReadsAll (stream : List ℕ) (records : Records) : Type 0 where
   pub rest : List ℕ
   pub begins : BeginsWith stream (map slice_bytes records.pieces.items) rest

@@ -24,7 +24,7 @@ use planus::{
     WriteAsOptional, create_table, fields, text_required,
 };
 
-/// A callsign: it is written as a text, and always there.
+/// A callsign, always present and encoded as a string.
 #[derive(Clone, Copy)]
 pub struct Callsign<'a>(pub &'a str);
 
@@ -71,7 +71,7 @@ impl Boat {
         create_table::<Boat, _>(builder, fields)
     }
 
-    /// Returns the callsign of a boat that is read.
+    /// Returns a boat's callsign.
     pub fn callsign<'a>(boat: &TableRef<'a, Boat>) -> Result<&'a str>
         ensures { IsTextRequired boat.now.table 0 (codes "Boat") (codes "callsign") result }
     {

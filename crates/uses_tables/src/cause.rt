@@ -1,10 +1,10 @@
-//! Why an entry is there, of the schema `union Cause { Entry, Origin }`.
+//! The cause of an entry, of the schema `union Cause { Entry, Origin }`.
 use crate::entry::EntryRef;
 use crate::origin::OriginRef;
 use planus::errors::ErrorKind;
 use planus::{SliceWithStartOffset, TableRead, TableReadUnion};
 
-/// The kind of a union that is a cause: an entry with tag 1, an origin with tag 2.
+/// The kind of a union that is a cause: tag 1 an entry, tag 2 an origin.
 pub struct Cause;
 
 /// A cause in a buffer.

@@ -38,8 +38,8 @@ pub struct Entry;
 /// An entry in a buffer.
 pub type EntryRef<'a> = TableRef<'a, Entry>;
 
-/// What an entry has, as `Entry::create` takes it. Its origin, its cause and its parents are
-/// written already.
+/// The fields of an entry, as `Entry::create` takes them. Its origin, cause and parents are written
+/// already.
 #[derive(Drop)]
 pub struct EntryFields<'a> {
     pub at: u64,
@@ -53,7 +53,7 @@ pub struct EntryFields<'a> {
 }
 
 impl Entry {
-    /// Writes an entry. Retries of 3 are left out. With `Ok` it is there with exactly these fields,
+    /// Writes an entry. Retries of 3 are left out. With `Ok` it is kept with exactly these fields,
     /// whatever was written before.
     pub fn create(
         builder: &mut Builder,
@@ -84,14 +84,14 @@ impl Entry {
         create_table::<Entry, _>(builder, fields)
     }
 
-    /// Returns when it was, 0 where nothing is said of it.
+    /// Returns the time, 0 if absent.
     pub fn at(entry: &EntryRef<'_>) -> Result<u64>
         ensures { IsPlainFieldOr u64_shape 0 entry.now.table 0 (codes "Entry") (codes "at") result }
     {
         plain_field_or(&entry.table, 0, 0, "Entry", "at")
     }
 
-    /// Returns how often it was tried again, 3 where nothing is said of it.
+    /// Returns the number of retries, 3 if absent.
     pub fn retries(entry: &EntryRef<'_>) -> Result<u16>
         ensures { IsPlainFieldOr u16_shape 3 entry.now.table 1 (codes "Entry") (codes "retries") result }
     {
@@ -105,14 +105,14 @@ impl Entry {
         text_required(&entry.table, 2, "Entry", "text")
     }
 
-    /// Returns its tags, or `None` where there are none.
+    /// Returns the tags, or `None` if absent.
     pub fn tags<'a>(entry: &EntryRef<'a>) -> Result<Option<Vector<'a, Result<&'a str>>>>
         ensures { IsTextVector entry.now.table 3 (codes "Entry") (codes "tags") result }
     {
         text_vector(&entry.table, 3, "Entry", "tags")
     }
 
-    /// Returns where it comes from, or `None` where nothing is said of it.
+    /// Returns the origin, or `None` if absent.
     pub fn origin<'a>(entry: &EntryRef<'a>) -> Result<Option<OriginRef<'a>>>
         ensures { IsTableField Origin (λ origin. origin.table) entry.now.table 4 (codes "Entry")
             (codes "origin") result }
@@ -120,7 +120,7 @@ impl Entry {
         table_field(&entry.table, 4, "Entry", "origin")
     }
 
-    /// Returns why it is there, or `None` where nothing is said of it.
+    /// Returns the cause, or `None` if absent.
     pub fn cause<'a>(entry: &EntryRef<'a>) -> Result<Option<CauseRef<'a>>>
         ensures { IsUnionField (ReadsVariants cause_variants) entry.now.table 5 (codes "Entry")
             (codes "cause") Cause result }
@@ -128,14 +128,14 @@ impl Entry {
         union_field::<Cause, CauseRef<'a>>(&entry.table, 5, "Entry", "cause")
     }
 
-    /// Returns the entries that it follows, or `None` where there are none.
+    /// Returns the parents, or `None` if absent.
     pub fn parents<'a>(entry: &EntryRef<'a>) -> Result<Option<Vector<'a, Result<EntryRef<'a>>>>>
         ensures { IsTableVector Entry entry.now.table 7 (codes "Entry") (codes "parents") result }
     {
         table_vector(&entry.table, 7, "Entry", "parents")
     }
 
-    /// Returns how grave it is, `Info` where nothing is said of it.
+    /// Returns the level, `Info` if absent.
     pub fn level(entry: &EntryRef<'_>) -> Result<Level>
         ensures { IsPlainFieldOr level_shape Level.INFO entry.now.table 8 (codes "Entry")
             (codes "level") result }

@@ -1,11 +1,12 @@
-//! What a site has, of the schema `enum Features : uint8 (bit_flags) { Water, Power, Road }`.
+//! The features of a site, of the schema `enum Features : uint8 (bit_flags) { Water, Power, Road
+//! }`.
 ghost use Rattle.std.specs.Prelude.{◌≡◌, ◌==◌, bit_and, bit_or};
 ghost use Rattle.uses_tables.specs.Structs.{features_shape};
 
 use planus::errors::ErrorKind;
 use planus::{Plain, PlainField, SliceWithStartOffset, put_fields, read_fields};
 
-/// What a site has: any of these, each by a bit of its own. Bits that have no name are kept.
+/// A set of features, one bit each. Unnamed bits are kept.
 #[derive(Clone, Copy, Debug, PartialEq)]
 pub struct Features {
     /// The bits.
@@ -22,7 +23,7 @@ impl Features {
     /// A road.
     pub const ROAD: Features = Features { bits: 4 };
 
-    /// Returns whether all of these are among them.
+    /// Returns whether all of these are in the set.
     pub fn has(&self, others: Features) -> bool
         ensures { result ≡ (bit_and self.now.bits others.bits == others.bits) }
     {

@@ -1,5 +1,4 @@
-//! When something was where, of the schema
-//! `struct Fix { when: uint64; at: Pos; kind: Kind; }`.
+//! A position at a time, of the schema `struct Fix { when: uint64; at: Pos; kind: Kind; }`.
 ghost use Rattle.uses_tables.specs.Structs.{fix_shape};
 
 use crate::kind::Kind;

@@ -28,7 +28,7 @@ pub struct Fleet;
 pub type Named<'a> = Variant<1, Text, &'a str>;
 
 impl Fleet {
-    /// Writes a fleet, and the names of its owner and of its captains.
+    /// Writes a fleet with the names of its owner and captains.
     pub fn create(
         builder: &mut Builder,
         owner: &str,
@@ -50,7 +50,7 @@ impl Fleet {
         create_table::<Fleet, _>(builder, fields)
     }
 
-    /// Returns the owner of a fleet that is read, or `None` where there is none.
+    /// Returns a fleet's owner, or `None` if absent.
     pub fn owner<'a>(fleet: &TableRef<'a, Fleet>) -> Result<Option<OwnerRef<'a>>>
         ensures { IsUnionField (ReadsVariants owner_variants) fleet.now.table 0 (codes "Fleet")
             (codes "owner") Owner result }
@@ -58,7 +58,7 @@ impl Fleet {
         union_field::<Owner, OwnerRef<'a>>(&fleet.table, 0, "Fleet", "owner")
     }
 
-    /// Returns its captains, or `None` where nothing is said of them.
+    /// Returns a fleet's captains, or `None` if absent.
     pub fn captains<'a>(
         fleet: &TableRef<'a, Fleet>,
     ) -> Result<Option<UnionVector<'a, OwnerRef<'a>>>>

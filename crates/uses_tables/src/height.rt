@@ -1,4 +1,4 @@
-//! How high something is, of the schema `enum Level : int16 { Low = -300, Mid = 0, High = 300 }`.
+//! A height, of the schema `enum Level : int16 { Low = -300, Mid = 0, High = 300 }`.
 ghost use Rattle.uses_tables.specs.Heights.{height_shape};
 
 use planus::errors::ErrorKind;

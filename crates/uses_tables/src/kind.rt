@@ -1,4 +1,4 @@
-//! What a site is, of the schema `enum Kind : uint8 { Car = 0, Bike = 1, Ship = 2 }`.
+//! The kind of a site, of the schema `enum Kind : uint8 { Car = 0, Bike = 1, Ship = 2 }`.
 ghost use Rattle.uses_tables.specs.Kinds.{kind_shape};
 
 use planus::errors::ErrorKind;

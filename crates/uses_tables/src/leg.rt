@@ -1,4 +1,4 @@
-//! From where to where, of the schema `struct Leg { from: Fix; to: Fix; }`.
+//! A leg of a journey, of the schema `struct Leg { from: Fix; to: Fix; }`.
 ghost use Rattle.uses_tables.specs.Structs.{leg_shape};
 
 use crate::fix::Fix;

@@ -4,13 +4,13 @@ ghost use Rattle.uses_tables.specs.Levels.{level_shape};
 use planus::errors::ErrorKind;
 use planus::{Plain, PlainField, SliceWithStartOffset};
 
-/// How grave an entry is, of the schema `enum Level : uint8 { Info, Warning, Fault }`, by its
+/// The level of an entry, of the schema `enum Level : uint8 { Info, Warning, Fault }`, as its
 /// number.
 #[derive(Clone, Copy, Debug, PartialEq)]
 pub struct Level(pub u8);
 
 impl Level {
-    /// A word for those who read along.
+    /// For information only.
     pub const INFO: Level = Level(0);
     /// Something that is worth a look.
     pub const WARNING: Level = Level(1);

@@ -1,8 +1,7 @@
-//! Examples of a user's own types, written and read back in place. Tables, each from a list of its
-//! fields: ships, ports, fleets, boats and voyages; entries of a log, with their origins and causes.
-//! Structs, enums, flags and floats: sites with their positions, fixes, legs, kinds and features;
-//! samples; and probes with their readings and heights. The names of a list of ships, a stream of
-//! buffers, and a list of numbers.
+//! Examples of a user's own types, written and read back in place. Tables: ships, ports, fleets,
+//! boats, voyages, and log entries with origins and causes. Structs, enums, flags and floats:
+//! sites, samples and probes. Also the names of a vector of ships, a stream of buffers, and a
+//! vector of numbers.
 #![tactic(auto)]
 
 mod boat;

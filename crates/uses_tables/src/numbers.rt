@@ -1,4 +1,4 @@
-//! A list that is there once it is written: proved from what the calls and the laws say alone.
+//! A vector that is kept, proved from the contracts and laws alone.
 
 ghost use Rattle.std.specs.Prelude.{map, IfOk, None};
 ghost use Rattle.std.specs.Int.{w16, to_le_bytes};
@@ -10,8 +10,8 @@ ghost use Rattle.planus.specs.write.Kept.{IsKept};
 use planus::laws::write_laws;
 use planus::{BuildError, Builder, List, Offset};
 
-/// Writes a list of numbers of 2 bytes. Whatever was written before, the list is kept at the
-/// distance that is answered: it stands there, aligned in all finished bytes that end in these.
+/// Writes a vector of `u16`s. Whatever was written before, it is kept at the returned distance,
+/// aligned in all finished bytes that end in these.
 pub fn create_numbers(
     builder: &mut Builder,
     numbers: &[u16],

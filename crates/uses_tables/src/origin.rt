@@ -1,4 +1,4 @@
-//! Where an entry comes from, of the schema `table Origin { host: string; port: uint16; }`.
+//! The origin of an entry, of the schema `table Origin { host: string; port: uint16; }`.
 ghost use Rattle.std.specs.Prelude.{◌≡◌, ◌≤◌, length, codes, IfOk};
 ghost use Rattle.planus.specs.read.Shapes.{u16_shape};
 ghost use Rattle.planus.specs.write.State.{Grows};
@@ -19,7 +19,7 @@ pub struct Origin;
 pub type OriginRef<'a> = TableRef<'a, Origin>;
 
 impl Origin {
-    /// Writes an origin. With `Ok` it is there with exactly these fields, whatever was written
+    /// Writes an origin. With `Ok` it is kept with exactly these fields, whatever was written
     /// before.
     pub fn create(
         builder: &mut Builder,
@@ -38,14 +38,14 @@ impl Origin {
         create_table::<Origin, _>(builder, fields)
     }
 
-    /// Returns the host, or `None` where there is none.
+    /// Returns the host, or `None` if absent.
     pub fn host<'a>(origin: &OriginRef<'a>) -> Result<Option<&'a str>>
         ensures { IsTextField origin.now.table 0 (codes "Origin") (codes "host") result }
     {
         text_field(&origin.table, 0, "Origin", "host")
     }
 
-    /// Returns the port, 0 where there is none.
+    /// Returns the port, 0 if absent.
     pub fn port(origin: &OriginRef<'_>) -> Result<u16>
         ensures { IsPlainFieldOr u16_shape 0 origin.now.table 1 (codes "Origin") (codes "port") result }
     {

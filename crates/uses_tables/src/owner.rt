@@ -1,4 +1,4 @@
-//! Who owns a port, of the schema `union Owner { name: string, ship: Ship }`.
+//! The owner of a port, of the schema `union Owner { name: string, ship: Ship }`.
 ghost use Rattle.std.specs.Prelude.{◌≡◌, codes};
 ghost use Rattle.planus.specs.Unions.{ReadsVariants};
 ghost use Rattle.uses_tables.specs.Owners.{owner_variants};
@@ -7,7 +7,7 @@ use crate::ship::ShipRef;
 use planus::errors::ErrorKind;
 use planus::{SliceWithStartOffset, TableRead, TableReadUnion, VectorReadUnion, read_view};
 
-/// The kind of a union that is an owner: a name with tag 1, a ship with tag 2.
+/// The kind of a union that is an owner: tag 1 a name, tag 2 a ship.
 pub struct Owner;
 
 /// An owner in a buffer.

@@ -1,4 +1,4 @@
-//! Ports: tables with a union and with fields of other kinds, of the schema
+//! Ports: tables with a union and fields of other kinds, of the schema
 //!
 //! ```text
 //! table Port {
@@ -36,7 +36,7 @@ use planus::{
 /// The kind of an offset to a port.
 pub struct Port;
 
-/// What a port has, as `Port::create` takes it.
+/// The fields of a port, as `Port::create` takes them.
 #[derive(Drop)]
 pub struct PortFields<'a> {
     pub owner: Option<UnionOffset<Owner>>,
@@ -49,8 +49,8 @@ pub struct PortFields<'a> {
 }
 
 impl Port {
-    /// Writes a port, whose owner, ships and shares are written already. A depth of -5
-    /// is left out, and so are shares of which there are none.
+    /// Writes a port, whose owner, ships and shares are written already. A depth of -5 and absent
+    /// shares are left out.
     pub fn create(
         builder: &mut Builder,
         port: PortFields<'_>,
@@ -92,7 +92,7 @@ impl Port {
         create_table::<Port, _>(builder, fields)
     }
 
-    /// Returns the owner of a port that is read, or `None` where there is none.
+    /// Returns a port's owner, or `None` if absent.
     pub fn owner<'a>(port: &TableRef<'a, Port>) -> Result<Option<OwnerRef<'a>>>
         ensures { IsUnionField (ReadsVariants owner_variants) port.now.table 0 (codes "Port")
             (codes "owner") Owner result }
@@ -100,14 +100,14 @@ impl Port {
         union_field::<Owner, OwnerRef<'a>>(&port.table, 0, "Port", "owner")
     }
 
-    /// Returns who has shares of it, or `None` where nothing is said of it.
+    /// Returns a port's shareholders, or `None` if absent.
     pub fn shares<'a>(port: &TableRef<'a, Port>) -> Result<Option<UnionVector<'a, OwnerRef<'a>>>>
         ensures { IsUnionVector port.now.table 7 (codes "Port") (codes "shares") result }
     {
         union_vector(&port.table, 7, "Port", "shares")
     }
 
-    /// Returns its ships, or `None` where there are none.
+    /// Returns a port's ships, or `None` if absent.
     pub fn ships<'a>(
         port: &TableRef<'a, Port>,
     ) -> Result<Option<Vector<'a, Result<TableRef<'a, Ship>>>>>
@@ -116,7 +116,7 @@ impl Port {
         table_vector(&port.table, 2, "Port", "ships")
     }
 
-    /// Returns its depth, -5 where there is none.
+    /// Returns a port's depth, -5 if absent.
     pub fn depth(port: &TableRef<'_, Port>) -> Result<i16>
         ensures { IsPlainFieldOr i16_shape (negsuc 4) port.now.table 4 (codes "Port")
             (codes "depth") result }
@@ -125,7 +125,7 @@ impl Port {
     }
 }
 
-/// Returns a ship of a port's, or `None` where the port doesn't have it.
+/// Returns a ship of a port, or `None` out of bounds.
 pub fn ship_at<'a>(
     ships: &Vector<'a, Result<TableRef<'a, Ship>>>,
     index: usize,
@@ -135,7 +135,7 @@ pub fn ship_at<'a>(
     table_item(ships.get(index))
 }
 
-/// Returns one who has shares, or `None` where there are fewer.
+/// Returns a shareholder, or `None` out of bounds.
 pub fn share_at<'a>(
     shares: &UnionVector<'a, OwnerRef<'a>>,
     index: usize,

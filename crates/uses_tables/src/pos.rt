@@ -1,4 +1,4 @@
-//! Where something is, of the schema `struct Pos { lat: int32; lon: int32; alt: int16; }`.
+//! A position, of the schema `struct Pos { lat: int32; lon: int32; alt: int16; }`.
 ghost use Rattle.uses_tables.specs.Structs.{pos_shape};
 
 use planus::errors::ErrorKind;

@@ -10,7 +10,7 @@ use crate::level::Level;
 use crate::origin::OriginRef;
 use planus::{BuildError, Builder, Error, Offset, Vector, laws, read_root};
 
-/// Why an entry can't be written, or not be read.
+/// Why an entry could not be written or read.
 #[derive(Clone, Copy, Debug)]
 pub enum LogError {
     /// It can't be written.
@@ -39,8 +39,7 @@ impl From<Error> for LogError {
     }
 }
 
-/// Writes an entry as the root of a buffer, and reads its text. With `Ok` this is the text of the
-/// argument.
+/// Writes an entry as the root of a buffer and reads its string: with `Ok`, that of the argument.
 pub fn text_read_back<'b>(
     builder: &'b mut Builder,
     entry: EntryFields<'_>,
@@ -57,7 +56,7 @@ pub fn text_read_back<'b>(
     Ok(Entry::text(&root)?)
 }
 
-/// What is read of an entry: its eight fields, each in place.
+/// The eight fields read of an entry, each in place.
 #[derive(Drop)]
 pub struct EntryRead<'a> {
     pub at: u64,
@@ -70,10 +69,9 @@ pub struct EntryRead<'a> {
     pub level: Level,
 }
 
-/// Writes an entry as the root of a buffer, and reads it. With `Ok` each field is that of the
-/// argument: its numbers and its text are the same, its tags are read as the items of a vector, and
-/// its origin, its cause and its parents, which were written before, as views with all their
-/// contents.
+/// Writes an entry as the root of a buffer and reads it. With `Ok` each field is that of the
+/// argument: numbers and string are equal, tags are read as items of a vector, and the origin,
+/// cause and parents written before as views with all their contents.
 pub fn all_read_back<'b>(
     builder: &'b mut Builder,
     entry: EntryFields<'_>,

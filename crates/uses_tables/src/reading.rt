@@ -1,4 +1,4 @@
-//! What an instrument shows, of the schema
+//! A reading of an instrument, of the schema
 //!
 //! ```text
 //! struct Reading (force_align: 16) { on: bool; tiny: int8; port: uint16; count: uint32; total: int64;

@@ -1,4 +1,5 @@
-//! Samples: tables of the schema `table Sample { exact: double = 0.0; rough: float; series: [double]; }`.
+//! Samples: tables of the schema `table Sample { exact: double = 0.0; rough: float; series:
+//! [double]; }`.
 
 ghost use Rattle.std.specs.Prelude.{◌≡◌, ◌≤◌, [], ◌∷◌, length, codes, IfOk};
 ghost use lib.Ieee.{eq as equal_floats};
@@ -18,14 +19,14 @@ use planus::{
 /// The kind of an offset to a sample.
 pub struct Sample;
 
-/// What a sample is exactly, where nothing is said of it.
+/// The default of `exact`.
 pub const USUAL: f64 = 0.0;
 
-/// What a sample is roughly, where nothing is said of it.
+/// The default of `rough`.
 pub const ROUGHLY: f32 = 0.0;
 
 impl Sample {
-    /// Writes a sample. What is exactly 0, with either sign, is left out.
+    /// Writes a sample. An `exact` of 0, of either sign, is left out.
     pub fn create(
         builder: &mut Builder,
         exact: f64,
@@ -51,21 +52,21 @@ impl Sample {
         create_table::<Sample, _>(builder, fields)
     }
 
-    /// Returns what it is exactly, 0 where nothing is said of it.
+    /// Returns `exact`, 0 if absent.
     pub fn exact(sample: &TableRef<'_, Sample>) -> Result<f64>
         ensures { IsPlainFieldOr f64_shape USUAL sample.now.table 0 (codes "Sample") (codes "exact") result }
     {
         plain_field_or(&sample.table, 0, USUAL, "Sample", "exact")
     }
 
-    /// Returns what it is roughly, 0 where nothing is said of it.
+    /// Returns `rough`, 0 if absent.
     pub fn rough(sample: &TableRef<'_, Sample>) -> Result<f32>
         ensures { IsPlainFieldOr f32_shape ROUGHLY sample.now.table 1 (codes "Sample") (codes "rough") result }
     {
         plain_field_or(&sample.table, 1, ROUGHLY, "Sample", "rough")
     }
 
-    /// Returns its series, or `None` where there is none.
+    /// Returns the series, or `None` if absent.
     pub fn series<'a>(sample: &TableRef<'a, Sample>) -> Result<Option<Vector<'a, f64>>>
         ensures { IsPlainVector sample.now.table 2 (codes "Sample") (codes "series") result }
     {

@@ -24,9 +24,9 @@ use planus::{
 pub struct Ship;
 
 impl Ship {
-    /// Writes a ship: its name, its cargo if there is one, and the table that refers to them. A
-    /// hull of 100 is left out. Whatever was written before, the ship is there with `Ok`, and all
-    /// that was kept before still is.
+    /// Writes a ship: its name, its cargo if given, and the table that refers to them. A hull of
+    /// 100 is left out. With `Ok` the ship is kept whatever was written before, and so is all that
+    /// was kept before.
     ///
     /// [`BuildError::TooLarge`] and [`BuildError::OutOfMemory`] as of [`Builder::create_vector`].
     pub fn create(
@@ -71,14 +71,14 @@ impl<'a> ShipRef<'a> {
         text_required(&self.table, 0, "Ship", "name")
     }
 
-    /// Returns its hull, 100 where there is none.
+    /// Returns the hull, 100 if absent.
     pub fn hull(&self) -> Result<u16>
         ensures { IsPlainFieldOr u16_shape 100 self.now.table 1 (codes "Ship") (codes "hull") result }
     {
         plain_field_or(&self.table, 1, 100, "Ship", "hull")
     }
 
-    /// Returns its cargo, or `None` where there is none.
+    /// Returns the cargo, or `None` if absent.
     pub fn cargo(&self) -> Result<Option<Vector<'a, u32>>>
         ensures { IsPlainVector self.now.table 2 (codes "Ship") (codes "cargo") result }
     {

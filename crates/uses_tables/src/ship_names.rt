@@ -1,4 +1,4 @@
-//! The names of all ships of a list.
+//! The names of all ships of a vector.
 
 ghost use Rattle.std.specs.Prelude.{◌≡◌, ◌<◌, ◌+◌, ◌*◌, ℕ, List, length};
 ghost use Rattle.std.specs.Result.{IsOkAnd};
@@ -13,12 +13,12 @@ use planus::laws::{read_laws, view_laws};
 use planus::{Error, Result, SliceWithStartOffset, TableRead, TableRef, Vector, text_required};
 use std::alloc::{AllocError, AllocFailed, Global};
 
-/// Why the names of a list can't be had.
+/// Why the names could not be returned.
 #[derive(Clone, Copy, Debug)]
 pub enum NamesError {
     /// Memory for them was refused.
     OutOfMemory,
-    /// One of them, or its ship, can't be read.
+    /// A name or its ship could not be read.
     Read(Error),
 }
 
@@ -52,7 +52,7 @@ impl From<Error> for NamesError {
     }
 }
 
-// The name of a ship of a list. Where the reference there leads to a table with a name, it is that.
+// The name of a ship of a vector, where its reference leads to a table with a name.
 fn name_at<'a>(
     ships: &Vector<'a, std::result::Result<TableRef<'a, Ship>, Error>>,
     index: usize,
@@ -68,8 +68,8 @@ fn name_at<'a>(
     text_required(&ship.table, 0, "Ship", "name")
 }
 
-/// Returns the names of the ships of a list. Where each is a table with a text as its name, these
-/// are those texts, or else memory for them was refused.
+/// Returns the names of the ships of a vector: exactly these strings where each is a table with a
+/// string as its name, unless memory is refused.
 pub fn names<'a>(
     alloc: Global,
     ships: &Vector<'a, std::result::Result<TableRef<'a, Ship>, Error>>,
@@ -87,9 +87,8 @@ pub fn names<'a>(
     Ok(names)
 }
 
-/// Returns the names of the ships of a buffer whose root is a list of them. Where the reference at
-/// the front leads to a list of tables with texts as their names, these are those texts, or else
-/// memory for them was refused.
+/// Returns the names of the ships of a buffer whose root is a vector of them: exactly these strings
+/// where each is a table with a string as its name, unless memory is refused.
 pub fn names_in(alloc: Global, bytes: &[u8]) -> std::result::Result<Vec<&str>, NamesError>
     ensures { (k : ℕ) (distances : List ℕ) (names : List (List ℕ)) → Leads bytes.now 0 k
         → NamedTablesStand bytes.now k distances names → AreNames names result }

@@ -31,7 +31,7 @@ use planus::{
 /// The kind of an offset to a site.
 pub struct Site;
 
-/// The heat of a site of which none is said.
+/// The default of a site's heat.
 pub const USUAL_HEAT: f32 = 1.0;
 
 /// What a site has.
@@ -75,36 +75,35 @@ impl Site {
         create_table::<Site, _>(builder, fields)
     }
 
-    /// Returns the home, or `None` where there is none.
+    /// Returns the home, or `None` if absent.
     pub fn home(site: &TableRef<'_, Site>) -> Result<Option<Pos>>
         ensures { IsPlainField pos_shape site.now.table 0 (codes "Site") (codes "home") result }
     {
         plain_field(&site.table, 0, "Site", "home")
     }
 
-    /// Returns the track, or `None` where there is none.
+    /// Returns the track, or `None` if absent.
     pub fn track<'a>(site: &TableRef<'a, Site>) -> Result<Option<Vector<'a, Pos>>>
         ensures { IsPlainVector site.now.table 1 (codes "Site") (codes "track") result }
     {
         plain_vector(&site.table, 1, "Site", "track")
     }
 
-    /// Returns the fix, or `None` where there is none.
+    /// Returns the fix, or `None` if absent.
     pub fn fix(site: &TableRef<'_, Site>) -> Result<Option<Fix>>
         ensures { IsPlainField fix_shape site.now.table 2 (codes "Site") (codes "fix") result }
     {
         plain_field(&site.table, 2, "Site", "fix")
     }
 
-    /// Returns the kind, `Bike` where there is none.
+    /// Returns the kind, `Bike` if absent.
     pub fn kind(site: &TableRef<'_, Site>) -> Result<Kind>
         ensures { IsPlainFieldOr kind_shape Bike site.now.table 3 (codes "Site") (codes "kind") result }
     {
         plain_field_or(&site.table, 3, Kind::Bike, "Site", "kind")
     }
 
-    /// Returns the kind, or another one in place of a number that is no kind's, as a later schema may
-    /// have it.
+    /// Returns the kind, or another one for an unknown number, as of a later schema.
     pub fn kind_or(site: &TableRef<'_, Site>, other: Kind) -> Result<Kind>
         ensures { IsKnownOr other (IsPlainFieldOr kind_shape Bike site.now.table 3 (codes "Site")
             (codes "kind")) result }
@@ -112,29 +111,28 @@ impl Site {
         known_or(Site::kind(site), other)
     }
 
-    /// Returns the heat, 1 where there is none.
+    /// Returns the heat, 1 if absent.
     pub fn heat(site: &TableRef<'_, Site>) -> Result<f32>
         ensures { IsPlainFieldOr f32_shape USUAL_HEAT site.now.table 4 (codes "Site") (codes "heat") result }
     {
         plain_field_or(&site.table, 4, USUAL_HEAT, "Site", "heat")
     }
 
-    /// Returns the kinds, or `None` where there are none. Each is read as a `Result`, since its number
-    /// may be no kind's.
+    /// Returns the kinds, or `None` if absent. Each is a `Result`: its number may be unknown.
     pub fn kinds<'a>(site: &TableRef<'a, Site>) -> Result<Option<Vector<'a, Result<Kind>>>>
         ensures { IsPlainVector site.now.table 5 (codes "Site") (codes "kinds") result }
     {
         plain_vector(&site.table, 5, "Site", "kinds")
     }
 
-    /// Returns the leg, or `None` where there is none.
+    /// Returns the leg, or `None` if absent.
     pub fn leg(site: &TableRef<'_, Site>) -> Result<Option<Leg>>
         ensures { IsPlainField leg_shape site.now.table 6 (codes "Site") (codes "leg") result }
     {
         plain_field(&site.table, 6, "Site", "leg")
     }
 
-    /// Returns what it has, nothing where nothing is said of it.
+    /// Returns the features, none if absent.
     pub fn features(site: &TableRef<'_, Site>) -> Result<Features>
         ensures { IsPlainFieldOr features_shape Features.NOTHING site.now.table 7 (codes "Site")
             (codes "features") result }
@@ -143,8 +141,8 @@ impl Site {
     }
 }
 
-/// Returns a point of a track, or `None` where the track doesn't have it. Of the vector of some
-/// positions it is the position of this number.
+/// Returns a point of a track, or `None` out of bounds. For a vector of positions it is the
+/// position at this index.
 pub fn point(track: &Vector<'_, Pos>, index: usize) -> Option<Pos>
     ensures { (B : list ℕ) (positions : list Pos) (pos : Pos) → ArePlain B positions track.now
         → slice_get positions index ≡ Some pos → pos_shape.fits pos → result ≡ Some pos }

@@ -5,7 +5,7 @@ use crate::pos::Pos;
 use crate::site::{Site, SiteFields};
 use planus::{BuildError, Builder, Error, TableRef, read_root};
 
-/// Why a site can't be written, or not be read.
+/// Why a site could not be written or read.
 #[derive(Clone, Copy, Debug)]
 pub enum SiteError {
     /// It can't be written.
@@ -34,8 +34,7 @@ impl From<Error> for SiteError {
     }
 }
 
-/// Writes a site as the root of a buffer, and reads its home. With `Ok` this is the home of the
-/// argument.
+/// Writes a site as the root of a buffer and reads its home: with `Ok`, that of the argument.
 pub fn home_read_back(builder: &mut Builder, site: SiteFields<'_>) -> Result<Option<Pos>, SiteError>
     ensures { IfOk result (λ home. home ≡ site.entry.home) }
 {

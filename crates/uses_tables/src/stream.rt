@@ -1,4 +1,4 @@
-//! A stream of buffers with their sizes in front, one behind another.
+//! A stream of size-prefixed buffers, one after another.
 
 ghost use Rattle.std.specs.Prelude.{IfOk};
 ghost use Rattle.uses_tables.specs.Streams.{IsAppended, ReadsAll};
@@ -12,11 +12,11 @@ use std::alloc::{AllocError, Global};
 pub struct Records<'a> {
     /// The buffers without their sizes, in order.
     pub pieces: Vec<SliceWithStartOffset<'a>>,
-    /// What is wrong with what follows them, if anything does.
+    /// The error of what follows them, if any.
     pub fault: Option<ErrorKind>,
 }
 
-/// Writes a text as a buffer with its size in front, behind what the stream has.
+/// Writes a string as a size-prefixed buffer and appends it to the stream.
 pub fn append(stream: &mut Vec<u8>, builder: &mut Builder, text: &str) -> Result<(), BuildError>
     ensures { IfOk result (λ done. IsAppended text.now stream.old.items stream.new.items) }
 {
@@ -26,8 +26,8 @@ pub fn append(stream: &mut Vec<u8>, builder: &mut Builder, text: &str) -> Result
     Ok(())
 }
 
-/// Reads the buffers of a stream one by one: all up to its end, or up to the first that can't be
-/// read, as where the stream was cut.
+/// Reads the buffers of a stream one by one, up to its end or the first that fails, as where the
+/// stream was cut.
 pub fn read_all<'a>(alloc: Global, stream: &'a [u8]) -> Result<Records<'a>, AllocError>
     ensures { IfOk result (ReadsAll stream.now) }
 {

@@ -33,8 +33,8 @@ use planus::{
 /// The kind of a voyage, and of an offset to one.
 pub struct Voyage;
 
-/// What a voyage has, as `Voyage::create` takes it. Its ships, its owner and who has shares of it
-/// are written already.
+/// The fields of a voyage, as `Voyage::create` takes them. Its ships, owner and shares are written
+/// already.
 #[derive(Drop)]
 pub struct VoyageFields<'a> {
     pub id: u64,
@@ -80,8 +80,8 @@ pub struct VoyageFields<'a> {
 }
 
 impl Voyage {
-    /// Writes a voyage. A crew of 1 and a frost of -5 are left out, and so are shares of which there
-    /// are none. With `Ok` it is there with exactly these fields, whatever was written before.
+    /// Writes a voyage. A crew of 1, a frost of -5 and absent shares are left out. With `Ok` it is
+    /// kept with exactly these fields, whatever was written before.
     pub fn create(
         builder: &mut Builder,
         voyage: VoyageFields<'_>,
@@ -152,7 +152,7 @@ impl Voyage {
         create_table::<Voyage, _>(builder, fields)
     }
 
-    /// Returns the owner of a voyage that is read, or `None` where there is none.
+    /// Returns a voyage's owner, or `None` if absent.
     pub fn owner<'a>(voyage: &TableRef<'a, Voyage>) -> Result<Option<OwnerRef<'a>>>
         ensures { IsUnionField (ReadsVariants owner_variants) voyage.now.table 17 (codes "Voyage")
             (codes "owner") Owner result }
@@ -160,7 +160,7 @@ impl Voyage {
         union_field::<Owner, OwnerRef<'a>>(&voyage.table, 17, "Voyage", "owner")
     }
 
-    /// Returns who has shares of it, or `None` where nothing is said of it.
+    /// Returns a voyage's shareholders, or `None` if absent.
     pub fn shares<'a>(
         voyage: &TableRef<'a, Voyage>,
     ) -> Result<Option<UnionVector<'a, OwnerRef<'a>>>>
