@@ -35,7 +35,8 @@ abbrev pub SameIf : {G T : Type 0} → (G → T → Type 0) → Option G → Opt
 SameIf IsRead None found = found ≡ None
 SameIf IsRead (Some given) found = IsSomeAnd found (IsRead given)
 
-module _ {X G T : Type 0} (kind : FieldKind X G T) (table : Table) (slot : ℕ) (type_ method : List ℕ)
+module _ {X G T : Type 0} (kind : FieldKind X G T) (table : Table) (slot : ℕ)
+    (type_ method : List ℕ)
   where
     -- What a call returns for a slot's optional field, under the names in an error's location.
     pub record IsField (r : Result (Option T) Error) : Type 0 where
@@ -102,7 +103,8 @@ bytes_kind = record {
   IsRead = λ B bytes found. found.now ≡ bytes;
 }
 
-abbrev pub IsBytesField : Table → ℕ → List ℕ → List ℕ → Result (Option (Bor (List ℕ))) Error → Type 0
+abbrev pub IsBytesField : Table → ℕ → List ℕ → List ℕ → Result (Option (Bor (List ℕ))) Error
+    → Type 0
 IsBytesField = IsField bytes_kind
 
 abbrev pub IsBytesRequired : Table → ℕ → List ℕ → List ℕ → Result (Bor (List ℕ)) Error → Type 0
@@ -149,7 +151,8 @@ module _ {T R : Type 0} {kind : PlainGhosts R} where
 
   -- a vector of tables of kind K that were written before
   abbrev pub tables_kind :
-      (K : Type 0) → FieldKind (List (Offset K)) (Bor (List (Offset K))) (VectorOf (SliceView T R kind))
+      (K : Type 0)
+      → FieldKind (List (Offset K)) (Bor (List (Offset K))) (VectorOf (SliceView T R kind))
   tables_kind K = record {
     reads = reads_vector T kind;
     May = λ B offsets. ⊤;

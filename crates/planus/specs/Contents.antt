@@ -31,7 +31,8 @@ FieldsAre past [] (field ∷ fields) = ⊥
 FieldsAre past (content ∷ contents) [] = ⊥
 
 -- a table with exactly these contents is stored at the distance, with the values it refers to
-pub record TableIsKept (past : Past) (contents : List (ℕ × Option Content)) (distance : ℕ) : Type 0 where
+pub record TableIsKept (past : Past) (contents : List (ℕ × Option Content)) (distance : ℕ)
+    : Type 0 where
   pub fields : List (ℕ × Field)
   pub are : FieldsAre past (there_of contents) fields
   pub table_kept : IsKept past (table fields) (named_at distance)

@@ -1,6 +1,7 @@
 -- What a field of each kind holds, for contracts of callers.
 use Rattle.std.specs.Prelude.{ℕ, List, [], ◌∷◌, map, Bool, Option, Some, ℤ}
-use Rattle.std.specs.Int.{Width, w8, w16, w32, w64, to_le_bytes, cast_unsigned, cast_signed, from_bool}
+use Rattle.std.specs.Int.{Width, w8, w16, w32, w64, to_le_bytes, cast_unsigned, cast_signed}
+use Rattle.std.specs.Int.{from_bool}
 use Rattle.std.specs.Ordering.{int_eq}
 use Rattle.planus_read.specs.Plain.{Shape}
 use Rattle.planus_read.specs.Values.{Value, text, byte_list, plain_list, reference_list}
@@ -39,17 +40,20 @@ holds_i8 number =
 abbrev pub holds_i16 : ℤ → Option Content
 holds_i16 number =
     Some
-    (item (record { bytes = to_le_bytes w16 (cast_unsigned w16 (as_signed w16 number)); alignment = 2 }))
+    (item (record
+    { bytes = to_le_bytes w16 (cast_unsigned w16 (as_signed w16 number)); alignment = 2 }))
 
 abbrev pub holds_i32 : ℤ → Option Content
 holds_i32 number =
     Some
-    (item (record { bytes = to_le_bytes w32 (cast_unsigned w32 (as_signed w32 number)); alignment = 4 }))
+    (item (record
+    { bytes = to_le_bytes w32 (cast_unsigned w32 (as_signed w32 number)); alignment = 4 }))
 
 abbrev pub holds_i64 : ℤ → Option Content
 holds_i64 number =
     Some
-    (item (record { bytes = to_le_bytes w64 (cast_unsigned w64 (as_signed w64 number)); alignment = 8 }))
+    (item (record
+    { bytes = to_le_bytes w64 (cast_unsigned w64 (as_signed w64 number)); alignment = 8 }))
 
 -- a signed number equals another, such as its default
 abbrev pub equals_i8 : ℤ → ℤ → Bool

@@ -1,5 +1,6 @@
 -- What is returned for the items of vectors.
-use Rattle.std.specs.Prelude.{◌≡◌, ℕ, ◌*◌, List, Option, Some, Result, IsOkAnd, IsSomeAnd, slice_get}
+use Rattle.std.specs.Prelude.{◌≡◌, ℕ, ◌*◌, List, Option, Some, Result, IsOkAnd, IsSomeAnd}
+use Rattle.std.specs.Prelude.{slice_get}
 use Rattle.std.specs.Borrow.{Bor}
 use Rattle.std.specs.Str.{IsUtf8}
 use Rattle.planus_read.specs.declared.located.Error.{Error}

@@ -28,7 +28,8 @@ AreOnce switches steps listed =
 -- Every finish of every run names equal strings, or byte vectors, by one distance, if cached.
 abbrev pub EqualContentsHaveOneDistance : Type 0
 EqualContentsHaveOneDistance =
-    (switches : Switches) (steps : List Step) (finished : List Finish) → Runs switches steps finished
+    (switches : Switches) (steps : List Step) (finished : List Finish)
+    → Runs switches steps finished
     → AllByRecursion (λ given. AreOnce switches steps given.places) finished
 
 -- one of these entries has the contents and got this distance

@@ -1,5 +1,6 @@
 -- What is read from a table that was written, by what its fields hold.
-use Rattle.std.specs.Prelude.{◌≡◌, ℕ, ◌+◌, ◌≤◌, ◌==◌, List, [], ◌∷◌, length, drop, Bool, true, not, ◌&&◌, if◌then◌else◌}
+use Rattle.std.specs.Prelude.{◌≡◌, ℕ, ◌+◌, ◌≤◌, ◌==◌, List, [], ◌∷◌, length, drop, Bool, true, not}
+use Rattle.std.specs.Prelude.{◌&&◌, if◌then◌else◌}
 use Rattle.std.specs.Prelude.{Option, Some, None, Result, Ok, IsOkAnd, IsSomeAnd, IsTrue, ⊤}
 use Rattle.planus_read.specs.declared.errors.ErrorKind.{ErrorKind}
 use Rattle.planus_read.specs.declared.located.Error.{Error}
@@ -97,14 +98,16 @@ content_at [] slot = None
 content_at (one ∷ contents) slot = if one.0 == slot then one.1 else content_at contents slot
 
 -- A table with exactly these contents is encoded in B at the distance, with what it refers to.
-pub record TableStands (B : List ℕ) (contents : List (ℕ × Option Content)) (distance : ℕ) : Type 0 where
+pub record TableStands (B : List ℕ) (contents : List (ℕ × Option Content)) (distance : ℕ)
+    : Type 0 where
   pub fields : List (ℕ × Field)
   pub hold : FieldsHold B (there_of contents) fields
   pub apart : IsTrue (are_apart contents)
   pub stands : Stands B (at (position_of B distance)) (table fields)
 
 -- The table that was read is in B, and the slot holds this, or nothing.
-pub record SlotHolds (B : List ℕ) (read : Table) (slot : ℕ) (content : Option Content) : Type 0 where
+pub record SlotHolds (B : List ℕ) (read : Table) (slot : ℕ) (content : Option Content)
+    : Type 0 where
   pub position : ℕ
   pub entries : List (ℕ × Field)
   pub fields : HasFields B position entries read

@@ -36,7 +36,8 @@ module _ {T : Type 0} {size alignment : ℕ} (shape : Shape T size alignment) wh
 
   -- What a call returns for a slot's optional field, under the names in an error's location.
   pub record IsPlainField
-      (table : Table) (slot : ℕ) (type_ method : List ℕ) (r : Result (Option T) Error) : Type 0 where
+      (table : Table) (slot : ℕ) (type_ method : List ℕ) (r : Result (Option T) Error)
+      : Type 0 where
     pub answer : Located (FieldAnswer reads_plain table slot) type_ method (table_start table) r
     pub read_back :
         (B : List ℕ) (x : Option T) → SlotHolds B table slot (holds_if (holds_plain shape) x)
@@ -75,6 +76,7 @@ IsPlainResult {T} {kind} vector i r =
 -- An item whose read may fail is read as the value at its index.
 abbrev pub PlainResultsReadBack : {T : Type 0} → PlainGhosts T → Type 0
 PlainResultsReadBack {T} kind =
-    (B : List ℕ) (xs : List T) (x : T) (vector : VectorOf (SliceView (Result T Error) T kind)) (i : ℕ)
+    (B : List ℕ) (xs : List T) (x : T) (vector : VectorOf (SliceView (Result T Error) T kind))
+    (i : ℕ)
     (r : Option (Result T Error)) → ArePlain B xs vector → slice_get xs i ≡ Some x
     → kind.shape.fits x → GetsItem (λ v. count_of v) IsPlainResult vector i r → r ≡ Some (Ok x)

@@ -72,7 +72,8 @@ reads_unions S start f g r =
     Answer (shown (ShowsUnionVector S start) (union_vector_reading S f g)) r
 
 -- the union vector of these items, wherever they are in B
-abbrev pub AreUnions : {T E : Type 0} → List ℕ → List (ℕ × ℕ) → VectorOf (UnionSliceView T E) → Type 0
+abbrev pub AreUnions : {T E : Type 0} → List ℕ → List (ℕ × ℕ) → VectorOf (UnionSliceView T E)
+    → Type 0
 AreUnions {T} {E} B items vector = (kt kv : ℕ) × IsUnionVectorOf T E B kt kv items vector
 
 -- the union vector with these tags, whose values hold these in B
@@ -88,7 +89,8 @@ pub record UnionVectorSlotsReadBack (T E : Type 0) {X : Type 0} (May : List ℕ 
   pub optional :
       (B : List ℕ) (read : Table) (slot : ℕ) (x : X) → SlotHolds B read slot (Some (tags_of x))
       → SlotHolds B read (slot + 1) (Some (values_of x)) → May B x
-      → (type_ method : List ℕ) (offset : ℕ) (r : Result (Option (VectorOf (UnionSliceView T E))) Error)
+      → (type_ method : List ℕ) (offset : ℕ)
+      (r : Result (Option (VectorOf (UnionSliceView T E))) Error)
       → Located (UnionVectorAnswer reads_unions read slot) type_ method offset r
       → IsOkAnd r (λ found. IsSomeAnd found (IsRead B x))
   pub required :
@@ -124,7 +126,8 @@ abbrev pub AbsentUnionVectorsReadBack : (T E : Type 0) → Type 0
 AbsentUnionVectorsReadBack T E =
     (B : List ℕ) (read : Table) (slot : ℕ) → SlotHolds B read slot None
     → SlotHolds B read (slot + 1) None
-    → (type_ method : List ℕ) (offset : ℕ) (r : Result (Option (VectorOf (UnionSliceView T E))) Error)
+    → (type_ method : List ℕ) (offset : ℕ)
+    (r : Result (Option (VectorOf (UnionSliceView T E))) Error)
     → Located (UnionVectorAnswer reads_unions read slot) type_ method offset r → r ≡ Ok None
 
 -- A required union vector is missing then.

@@ -46,12 +46,14 @@ module _ {T R : Type 0} (kind : PlainGhosts R) where
       pub item :
           (i : ℕ) (bytes : List ℕ) → slice_get texts i ≡ Some bytes → IsUtf8 bytes
           → (type_ method : List ℕ) (offset : ℕ) (r : Result (Bor (List ℕ)) Error)
-          → Located (Answer (shown ShowsBytes (text_reading (item_bytes vector) (item_offset kind i))))
+          → Located (Answer
+          (shown ShowsBytes (text_reading (item_bytes vector) (item_offset kind i))))
           type_ method offset r
           → IsOkAnd r (λ found. found.now ≡ bytes)
 
   -- the vector has the count of these distances, and each table there is read at its index
-  pub record ItemsAreTables (K : Type 0) (B distances : List ℕ) (vector : VectorOf (SliceView T R kind))
+  pub record ItemsAreTables (K : Type 0) (B distances : List ℕ)
+      (vector : VectorOf (SliceView T R kind))
       : Type 0 where
     pub count : count_of vector ≡ length distances
     pub item :
@@ -94,7 +96,8 @@ module _ (T : Type 0) {R : Type 0} (kind : PlainGhosts R) where
   -- So it is for references to strings in B.
   abbrev pub TextItemsReadBack : Type 0
   TextItemsReadBack =
-      (B : List ℕ) (texts : List (List ℕ)) (distances : List ℕ) (vector : VectorOf (SliceView T R kind))
+      (B : List ℕ) (texts : List (List ℕ)) (distances : List ℕ)
+      (vector : VectorOf (SliceView T R kind))
       → AllStand B (map text texts) distances → AreReferences kind B distances vector
       → ItemsAreTexts kind texts vector
 

@@ -55,7 +55,8 @@ SameValue ones others (table entries) (table other) =
 SameValue ones others _ _ = ⊥
 
 -- the same values of one step
-pub record SamePlace (steps : List Step) (ones others : List Listed) (one other : Listed) : Type 0 where
+pub record SamePlace (steps : List Step) (ones others : List Listed) (one other : Listed)
+    : Type 0 where
   pub same_step : one.step ≡ other.step
   pub step : Step
   pub there : slice_get steps one.step ≡ Some step

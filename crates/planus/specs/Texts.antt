@@ -23,4 +23,5 @@ why_text RisingAlignment = codes "rising alignment"
 abbrev pub replay_error_text : ReplayError → List ℕ
 replay_error_text OutOfMemory = codes "out of memory"
 replay_error_text TooLarge = codes "too large"
-replay_error_text (BadStep step why) = codes "step " ++ (decimal step ++ (codes ": " ++ why_text why))
+replay_error_text (BadStep step why) =
+    codes "step " ++ (decimal step ++ (codes ": " ++ why_text why))

@@ -1,5 +1,6 @@
 -- What is returned for unions, for union vectors, and for their items.
-use Rattle.std.specs.Prelude.{◌≡◌, ℕ, ◌+◌, ◌*◌, List, [], ◌∷◌, map, Option, Some, None, Result, Ok, IsOkAnd}
+use Rattle.std.specs.Prelude.{◌≡◌, ℕ, ◌+◌, ◌*◌, List, [], ◌∷◌, map, Option, Some, None, Result, Ok}
+use Rattle.std.specs.Prelude.{IsOkAnd}
 use Rattle.std.specs.Prelude.{IsSomeAnd, MatchOption, ⊤, slice_get, slice_index}
 use Rattle.planus_read.specs.declared.located.Error.{Error}
 use Rattle.planus_read.specs.declared.table_reader.Table.{Table}
@@ -37,12 +38,15 @@ module _ {U : Type 0} (reads : ReadsBoth U) (table : Table) (slot : ℕ) (type_ 
         (B : List ℕ) (variants : List (UnionVariant U)) → HasVariants reads variants
         → (given : Option (UnionOffset K)) → SlotHolds B table slot (holds_union_tag given)
         → SlotHolds B table (slot + 1) (holds_union_value given)
-        → MatchOption given ⊤ (λ union. UnionStands variants B union.tag (written union.offset.distance))
-        → IsOkAnd r (SameIf (λ union. IsUnion variants B union.tag (written union.offset.distance)) given)
+        → MatchOption given ⊤
+        (λ union. UnionStands variants B union.tag (written union.offset.distance))
+        → IsOkAnd r (SameIf (λ union. IsUnion variants B union.tag (written union.offset.distance))
+        given)
 
   -- the same for a required union
   pub record IsUnionRequired (r : Result U Error) : Type 0 where
-    pub answer : Located (Required (UnionAnswer reads table slot)) type_ method (table_start table) r
+    pub answer : Located (Required (UnionAnswer reads table slot)) type_ method (table_start table)
+        r
     pub read_back :
         (B : List ℕ) (variants : List (UnionVariant U)) → HasVariants reads variants
         → (tag : ℕ) (content : Content) → SlotHolds B table slot (tag_content (Some (tag, content)))
@@ -69,7 +73,8 @@ module _ {T E : Type 0} where
 
   module _ (table : Table) (slot : ℕ) (type_ method : List ℕ) where
     -- what a call returns for the optional union vector of a slot and the next
-    pub record IsUnionVector (r : Result (Option (VectorOf (UnionSliceView T E))) Error) : Type 0 where
+    pub record IsUnionVector (r : Result (Option (VectorOf (UnionSliceView T E))) Error)
+        : Type 0 where
       pub answer :
           Located (UnionVectorAnswer reads_unions table slot) type_ method (table_start table) r
       pub read_back :
@@ -77,7 +82,8 @@ module _ {T E : Type 0} where
           → SlotHolds B table (slot + 1) (holds_values_of unions)
           → IsOkAnd r (λ found. IsSomeAnd found (AreUnionsOf B unions))
       pub left_out :
-          (B : List ℕ) → SlotHolds B table slot None → SlotHolds B table (slot + 1) None → r ≡ Ok None
+          (B : List ℕ) → SlotHolds B table slot None → SlotHolds B table (slot + 1) None
+          → r ≡ Ok None
       pub read_back_any :
           (B : List ℕ) (unions : List (ℕ × Content))
           → SlotHolds B table slot (tags_content (any_unions_hold unions))
@@ -91,7 +97,8 @@ module _ {T E : Type 0} where
           → IsOkAnd r (λ found. IsSomeAnd found (AreUnionsOf B (map written_item unions.items)))
 
     -- the same for a required union vector
-    pub record IsUnionVectorRequired (r : Result (VectorOf (UnionSliceView T E)) Error) : Type 0 where
+    pub record IsUnionVectorRequired (r : Result (VectorOf (UnionSliceView T E)) Error)
+        : Type 0 where
       pub answer :
           Located (Required (UnionVectorAnswer reads_unions table slot)) type_ method
           (table_start table) r
@@ -110,7 +117,8 @@ module _ {T E : Type 0} where
 
   -- what is returned for an item of such a vector, none out of bounds
   pub record IsUnionItem {U : Type 0} (reads : ReadsBoth U) (name : List ℕ)
-      (vector : VectorOf (UnionSliceView T E)) (index : ℕ) (r : Option (Result U Error)) : Type 0 where
+      (vector : VectorOf (UnionSliceView T E)) (index : ℕ) (r : Option (Result U Error))
+      : Type 0 where
     pub answer :
         GetsItem (λ v. count_of v)
         (λ v i. Located

@@ -49,7 +49,8 @@ module _ {U : Type 0} where
   abbrev pub ReadsTagged : List (UnionVariant U) → ReadsBoth U
   ReadsTagged [] S start tag f r = ⊥
   ReadsTagged (variant ∷ variants) S start tag f r =
-      ((tag ≡ tag_of variant) × ReadsVariant variant S start f r) ⊎ ReadsTagged variants S start tag f r
+      ((tag ≡ tag_of variant) × ReadsVariant variant S start f r)
+      ⊎ ReadsTagged variants S start tag f r
 
   -- no variant has the tag, or one does
   abbrev pub IsUnknown : List (UnionVariant U) → ℕ → Type 0
@@ -107,4 +108,5 @@ module _ {U : Type 0} where
   abbrev pub IsUnion : List (UnionVariant U) → List ℕ → ℕ → Content → U → Type 0
   IsUnion [] B tag content union = ⊥
   IsUnion (variant ∷ variants) B tag content union =
-      ((tag ≡ tag_of variant) × IsVariant variant B content union) ⊎ IsUnion variants B tag content union
+      ((tag ≡ tag_of variant) × IsVariant variant B content union)
+      ⊎ IsUnion variants B tag content union

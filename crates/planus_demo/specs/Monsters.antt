@@ -10,7 +10,8 @@ use Rattle.planus_write.specs.declared.union_vector_offset.UnionVectorOffset.{Un
 use Rattle.planus_write.specs.Contents.{Content}
 use Rattle.planus.specs.Contents.{tag_content, tags_content, value_content, values_content}
 use Rattle.planus.specs.Preparing.{WritesFields}
-use Rattle.planus.specs.TableFields.{field_in, list_tags_in, list_values_in, union_tag_in, union_value_in}
+use Rattle.planus.specs.TableFields.{field_in, list_tags_in, list_values_in, union_tag_in}
+use Rattle.planus.specs.TableFields.{union_value_in}
 
 -- a monster was written, its fields being prepared by slot, or there is an error
 abbrev pub WritesMonster : {H N I W K T : Type 0} → Outcome (Option H) → (H → Field) → Outcome N

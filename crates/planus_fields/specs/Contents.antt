@@ -20,7 +20,8 @@ HoldsIf past (Some content) field None = ⊥
 
 -- Once an optional value is prepared, its field holds its content.
 pub record PreparesOptional {X A : Type 0} (may : X → State → Type 0)
-    (outcome : X → Outcome (Option A)) (content : X → Option Content) (field : A → Field) : Type 0 where
+    (outcome : X → Outcome (Option A)) (content : X → Option Content) (field : A → Field)
+    : Type 0 where
   pub comes :
       (x : X) (old : State) (prepared : Option A) (new : State) (past : Past) → may x old
       → outcome x old (Ok prepared) new → IsPast old past
@@ -28,7 +29,8 @@ pub record PreparesOptional {X A : Type 0} (may : X → State → Type 0)
 
 -- Once a union is prepared, it has its tag and its content.
 pub record PreparesUnion {X T : Type 0} (may : X → State → Type 0)
-    (outcome : X → Outcome (Option (UnionOffset T))) (content : X → Option (ℕ × Content)) : Type 0 where
+    (outcome : X → Outcome (Option (UnionOffset T))) (content : X → Option (ℕ × Content))
+    : Type 0 where
   pub comes :
       (x : X) (old : State) (prepared : Option (UnionOffset T)) (new : State) (past : Past)
       → may x old → outcome x old (Ok prepared) new → IsPast old past
@@ -36,7 +38,8 @@ pub record PreparesUnion {X T : Type 0} (may : X → State → Type 0)
 
 -- Once a union vector is prepared, its two fields hold these.
 pub record PreparesUnionVector {X T : Type 0} (may : X → State → Type 0)
-    (outcome : X → Outcome (Option (UnionVectorOffset T))) (contents : X → Option (Content × Content)) : Type 0 where
+    (outcome : X → Outcome (Option (UnionVectorOffset T)))
+    (contents : X → Option (Content × Content)) : Type 0 where
   pub comes :
       (x : X) (old : State) (prepared : Option (UnionVectorOffset T)) (new : State) (past : Past)
       → may x old → outcome x old (Ok prepared) new → IsPast old past

@@ -4,7 +4,8 @@
 use Rattle.std.specs.Prelude.{◌≡◌, ℕ, ◌+◌, ◌*◌, ◌≤◌, List, Some, None, Option, ⊤, pos, ◌-ℤ◌}
 use Rattle.std.specs.Int.{w16, ◌∣◌}
 use Rattle.planus_read.specs.Bytes.{Num, Int}
-use Rattle.planus_read.specs.Values.{Value, text, byte_list, plain_list, reference_list, union_vector}
+use Rattle.planus_read.specs.Values.{Value, text, byte_list, plain_list, reference_list}
+use Rattle.planus_read.specs.Values.{union_vector}
 use Rattle.planus_read.specs.Values.{table, Field, plain, reference, tags, values}
 use Rattle.planus_read.specs.Values.{field_at, vtable_size}
 use Rattle.planus_read.specs.Stands.{Position, at, at_both, ItemsStand}

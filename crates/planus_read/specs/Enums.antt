@@ -1,7 +1,9 @@
 -- Enums: variants with numbers, encoded as these.
-use Rattle.std.specs.Prelude.{◌≡◌, ℕ, ℤ, pos, Bool, nat_eq, List, [], ◌∷◌, Option, Some, None, IsSome}
+use Rattle.std.specs.Prelude.{◌≡◌, ℕ, ℤ, pos, Bool, nat_eq, List, [], ◌∷◌, Option, Some, None}
+use Rattle.std.specs.Prelude.{IsSome}
 use Rattle.std.specs.Prelude.{if◌then◌else◌, Result, Ok, Err, FitsSigned}
-use Rattle.std.specs.Int.{Width, w8, w16, w32, w64, byte_len, to_le_bytes, cast_signed, cast_unsigned}
+use Rattle.std.specs.Int.{Width, w8, w16, w32, w64, byte_len, to_le_bytes, cast_signed}
+use Rattle.std.specs.Int.{cast_unsigned}
 use Rattle.std.specs.Option.{option_and_then}
 use Rattle.std.specs.Ordering.{int_eq}
 use Rattle.std.proofs.Common.{refl, sym, subst, ap, ◌∙◌, to_z-of_z}
@@ -13,7 +15,8 @@ use Rattle.planus_read.specs.Clauses.{clause}
 use Rattle.planus_read.specs.Plain.{IsLayout, NumberFits, Shape}
 use Rattle.planus_read.specs.Reading.{number}
 use Rattle.planus_read.specs.lemmas.EnumLaws.{is_some, same_value}
-use Rattle.planus_read.specs.lemmas.NumberLaws.{AreBytes, one_byte, two_bytes, four_bytes, eight_bytes}
+use Rattle.planus_read.specs.lemmas.NumberLaws.{AreBytes, one_byte, two_bytes, four_bytes}
+use Rattle.planus_read.specs.lemmas.NumberLaws.{eight_bytes}
 use Rattle.planus_read.specs.lemmas.NumberLaws.{layout_of_one, layout_of_two, layout_of_four}
 use Rattle.planus_read.specs.lemmas.NumberLaws.{layout_of_eight, bytes_number, stood_by}
 
@@ -23,7 +26,8 @@ variant_in equal [] n = None
 variant_in equal (one ∷ others) n = if equal n one.0 then Some one.1 else variant_in equal others n
 
 -- a variant's number, by which it is found
-pub record Numbered {E N : Type 0} (equal : N → N → Bool) (variants : List (N × E)) (x : E) : Type 0 where
+pub record Numbered {E N : Type 0} (equal : N → N → Bool) (variants : List (N × E)) (x : E)
+    : Type 0 where
   pub number : N
   pub found : variant_in equal variants number ≡ Some x
 
@@ -34,31 +38,35 @@ abbrev pub enum_shape :
     → ((n : N) → Fits n → NumberFits width (bits n)) → ((n : N) → Fits n → read_as (bits n) ≡ n)
     → (tag : N → ℤ) (equal : N → N → Bool) (variants : List (N × E))
     → ((x : E) → Numbered equal variants x) → Shape E (byte_len width) (byte_len width)
-enum_shape {E} {N} width are layout bits read_as Fits few again tag equal variants numbers = record {
-  encoded = λ x. to_le_bytes width (bits (numbers x).number);
-  fits = λ x. Fits (numbers x).number;
-  There = λ S f x.
-      option_and_then (λ n. variant_in equal variants (read_as n)) (Num S f width) ≡ Some x;
-  clauses = λ S f.
-      clause (IsSome (variant_in equal variants (read_as (number S f width))))
-      (UnknownEnumTag (record { tag = tag (read_as (number S f width)) })) ∷ [];
-  layout = layout;
-  sized = λ x. are.sized (bits (numbers x).number);
-  holds = λ S f x fits stands. (
-    (let same : read_as (number S f width) ≡ (numbers x).number =
-        ap read_as (bytes_number width are S f (bits (numbers x).number) (few (numbers x).number fits) stands)
-        ∙ again (numbers x).number fits in
-        subst (λ (v : Option E). IsSome v)
-        (sym (ap (variant_in equal variants) same ∙ (numbers x).found)) (is_some x)),
-    tt,
-  );
-  again = λ S f x y fits stands there.
-      (let stood : variant_in equal variants (read_as (bits (numbers x).number)) ≡ Some y =
-      stood_by (λ n. variant_in equal variants (read_as n)) width are S f (bits (numbers x).number) y
-      (few (numbers x).number fits) stands there in
-      same_value
-      (sym stood ∙ ap (variant_in equal variants) (again (numbers x).number fits) ∙ (numbers x).found));
-}
+enum_shape {E} {N} width are layout bits read_as Fits few again tag equal variants numbers =
+    record {
+      encoded = λ x. to_le_bytes width (bits (numbers x).number);
+      fits = λ x. Fits (numbers x).number;
+      There = λ S f x.
+          option_and_then (λ n. variant_in equal variants (read_as n)) (Num S f width) ≡ Some x;
+      clauses = λ S f.
+          clause (IsSome (variant_in equal variants (read_as (number S f width))))
+          (UnknownEnumTag (record { tag = tag (read_as (number S f width)) })) ∷ [];
+      layout = layout;
+      sized = λ x. are.sized (bits (numbers x).number);
+      holds = λ S f x fits stands. (
+        (let same : read_as (number S f width) ≡ (numbers x).number =
+            ap read_as (bytes_number width are S f (bits (numbers x).number)
+            (few (numbers x).number fits) stands)
+            ∙ again (numbers x).number fits in
+            subst (λ (v : Option E). IsSome v)
+            (sym (ap (variant_in equal variants) same ∙ (numbers x).found)) (is_some x)),
+        tt,
+      );
+      again = λ S f x y fits stands there.
+          (let stood : variant_in equal variants (read_as (bits (numbers x).number)) ≡ Some y =
+          stood_by (λ n. variant_in equal variants (read_as n)) width are S f (bits (numbers x).number)
+          y
+          (few (numbers x).number fits) stands there in
+          same_value
+          (sym stood ∙ ap (variant_in equal variants) (again (numbers x).number fits)
+          ∙ (numbers x).found));
+    }
 
 -- an enum of unsigned numbers, and one of signed numbers
 abbrev pub unsigned_enum :

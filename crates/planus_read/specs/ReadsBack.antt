@@ -9,7 +9,8 @@ use Rattle.planus_read.specs.declared.place.TaggedPlace.{TaggedPlace}
 use Rattle.planus_read.specs.declared.table_reader.Table.{Table}
 use Rattle.planus_read.specs.Bytes.{BytesStand, position_of}
 use Rattle.planus_read.specs.Clauses.{Answer, shown}
-use Rattle.planus_read.specs.Values.{Value, text, byte_list, plain_list, reference_list, union_vector}
+use Rattle.planus_read.specs.Values.{Value, text, byte_list, plain_list, reference_list}
+use Rattle.planus_read.specs.Values.{union_vector}
 use Rattle.planus_read.specs.Values.{table, Field, plain, reference, tags, values}
 use Rattle.planus_read.specs.Stands.{Position, at, at_both, Stands, FieldStands}
 use Rattle.planus_read.specs.Places.{IsPlace, IsTaggedPlace, LeadsOn, TaggedLeadsOn}

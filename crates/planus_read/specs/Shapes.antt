@@ -9,9 +9,11 @@ use Rattle.planus_read.specs.Bytes.{BytesStand}
 use Rattle.planus_read.specs.Floats.{FloatFits, FloatThere}
 use Rattle.planus_read.specs.Plain.{IsLayout, NumberFits, Shape}
 use Rattle.planus_read.specs.Reading.{NumberThere, SignedThere, TruthThere}
-use Rattle.planus_read.specs.lemmas.NumberLaws.{AreBytes, one_byte, two_bytes, four_bytes, eight_bytes}
+use Rattle.planus_read.specs.lemmas.NumberLaws.{AreBytes, one_byte, two_bytes, four_bytes}
+use Rattle.planus_read.specs.lemmas.NumberLaws.{eight_bytes}
 use Rattle.planus_read.specs.lemmas.NumberLaws.{layout_of_one, layout_of_two, layout_of_four}
-use Rattle.planus_read.specs.lemmas.NumberLaws.{layout_of_eight, stood, stood_as, is_byte, truth_fits}
+use Rattle.planus_read.specs.lemmas.NumberLaws.{layout_of_eight, stood, stood_as, is_byte}
+use Rattle.planus_read.specs.lemmas.NumberLaws.{truth_fits}
 use Rattle.planus_read.specs.lemmas.NumberLaws.{truth_bytes, one_byte_is}
 
 -- a number of a width
@@ -40,7 +42,8 @@ signed_shape width are layout = record {
   sized = λ z. are.sized (cast_unsigned width z);
   holds = λ S f z fits stands. tt;
   again = λ S f z y fits stands there.
-      stood_as (cast_signed width) width are S f (cast_unsigned width z) y (are.unsigned z fits) stands
+      stood_as (cast_signed width) width are S f (cast_unsigned width z) y (are.unsigned z fits)
+      stands
       there
       ∙ to_z-of_z fits;
 }
@@ -87,7 +90,8 @@ i8_shape = record {
   again = λ S f z y fits stands there.
       (let may = one_byte.unsigned z fits in
       stood_as (cast_signed w8) w8 one_byte S f (cast_unsigned w8 z) y may
-      (subst (λ bytes. BytesStand S f bytes) (sym (one_byte_is (cast_unsigned w8 z) may)) stands) there
+      (subst (λ bytes. BytesStand S f bytes) (sym (one_byte_is (cast_unsigned w8 z) may)) stands)
+      there
       ∙ to_z-of_z fits);
 }
 

@@ -3,7 +3,8 @@ use Rattle.std.specs.Prelude.{◌≡◌, ℕ, ◌+◌, ◌*◌, ◌≤◌, ◌<�
 use Rattle.std.specs.Prelude.{Option, Some, None, ⊤, pos, ◌-ℤ◌}
 use Rattle.std.specs.Int.{w16, w32}
 use Rattle.planus_read.specs.Bytes.{Num, Int, BytesStand}
-use Rattle.planus_read.specs.Values.{Value, text, byte_list, plain_list, reference_list, union_vector}
+use Rattle.planus_read.specs.Values.{Value, text, byte_list, plain_list, reference_list}
+use Rattle.planus_read.specs.Values.{union_vector}
 use Rattle.planus_read.specs.Values.{table, Field, plain, reference, tags, values}
 use Rattle.planus_read.specs.Values.{field_at, vtable_size}
 

@@ -67,11 +67,13 @@ abbrev mutual
   FieldIs past (written distance) field = field ≡ reference distance
   FieldIs past (union_tags contents) field =
       (tags_at values_at : ℕ) × (field ≡ tags tags_at)
-      × ((unions : List (ℕ × ℕ)) × IsKept past (union_vector unions) (named_at_both tags_at values_at)
+      × ((unions : List (ℕ × ℕ))
+      × IsKept past (union_vector unions) (named_at_both tags_at values_at)
       × UnionsAre past contents unions)
   FieldIs past (union_values contents) field =
       (tags_at values_at : ℕ) × (field ≡ values_field values_at)
-      × ((unions : List (ℕ × ℕ)) × IsKept past (union_vector unions) (named_at_both tags_at values_at)
+      × ((unions : List (ℕ × ℕ))
+      × IsKept past (union_vector unions) (named_at_both tags_at values_at)
       × UnionsAre past contents unions)
   FieldIs past (written_tags distance) field = field ≡ tags distance
   FieldIs past (written_values distance) field = field ≡ values_field distance

@@ -19,7 +19,8 @@ AllUnionsIn builder unions = AllByRecursion (λ union. IsIn builder union.offset
 
 -- What is in a builder still is when it has grown.
 abbrev pub StaysIn : Type 0 → Type 0
-StaysIn T = (offset : Offset T) (old new : State) → Grows old new → IsIn old offset → IsIn new offset
+StaysIn T = (offset : Offset T) (old new : State) → Grows old new → IsIn old offset
+    → IsIn new offset
 
 abbrev pub AllStayIn : Type 0 → Type 0
 AllStayIn T =

@@ -1,11 +1,13 @@
 -- The parts of each value, in the order written.
-use Rattle.std.specs.Prelude.{◌≡◌, ℕ, ◌+◌, ◌-◌, ◌*◌, ◌<◌, ◌≤◌, ◌^◌, max, List, [], ◌∷◌, ◌++◌, length}
+use Rattle.std.specs.Prelude.{◌≡◌, ℕ, ◌+◌, ◌-◌, ◌*◌, ◌<◌, ◌≤◌, ◌^◌, max, List, [], ◌∷◌, ◌++◌}
+use Rattle.std.specs.Prelude.{length}
 use Rattle.std.specs.Prelude.{map, Option, Some, None, ⊤}
 use Rattle.std.specs.List.{AllByRecursion}
 use Rattle.std.specs.Int.{w32, to_le_bytes, ◌∣◌}
 use Rattle.planus_back.specs.Promises.{Promise, greatest_alignment}
 use Rattle.planus_back.specs.Parts.{Part}
-use Rattle.planus_read.specs.Values.{Value, text, byte_list, plain_list, reference_list, union_vector}
+use Rattle.planus_read.specs.Values.{Value, text, byte_list, plain_list, reference_list}
+use Rattle.planus_read.specs.Values.{union_vector}
 use Rattle.planus_read.specs.Values.{table}
 use Rattle.planus_read.specs.Bytes.{position_of}
 use Rattle.planus_read.specs.Stands.{Position, at, at_both}
@@ -72,7 +74,8 @@ count_part count =
 -- followed by its items.
 abbrev pub list_entries : (size alignment : ℕ) → List Item → List Entry
 list_entries size alignment items =
-    unshared_entry (items_part size alignment items) ∷ unshared_entry (count_part (length items)) ∷ []
+    unshared_entry (items_part size alignment items) ∷ unshared_entry (count_part (length items))
+    ∷ []
 
 -- the tags of a union vector as one part, aligned to 4
 abbrev pub tags_part : List ℕ → Part

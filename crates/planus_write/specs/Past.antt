@@ -2,7 +2,8 @@
 use Rattle.std.specs.Prelude.{◌≡◌, ℕ, List, [], ◌∷◌, ◌++◌, Option, Some, None, ◌⊎◌}
 use Rattle.planus_back.specs.Promises.{Promise}
 use Rattle.planus_back.specs.Parts.{Part, Written, Placed, IsTooLarge}
-use Rattle.planus_write.specs.Shared.{Contents, Switches, Seen, shared_as, earlier_distance, and_seen}
+use Rattle.planus_write.specs.Shared.{Contents, Switches, Seen, shared_as, earlier_distance}
+use Rattle.planus_write.specs.Shared.{and_seen}
 
 -- The bytes and their alignment constraints; the contents that were cached, and where; and the
 -- parts and their places, in order.

@@ -115,7 +115,8 @@ WritesPrepared {T} size alignment items old answer new =
     AsOffset (AnswersLast (WritesEntries (list_entries size alignment items) [])) old answer new
 
 -- prepared items, without their location in memory
-abbrev pub prepared_list : {A : Type 0} → Result (Vec A Global) BuildError → Result (List A) BuildError
+abbrev pub prepared_list : {A : Type 0} → Result (Vec A Global) BuildError
+    → Result (List A) BuildError
 prepared_list {A} (Ok items) = Ok items.items
 prepared_list {A} (Err error) = Err error
 

@@ -144,7 +144,8 @@ word_entry = record { contents = None; part = λ got promises. word_part (first_
 -- A table of this many slots: its vtable, its body, and its word.
 abbrev pub object_entries : (slots : ℕ) → List Declared → Item → List Entry
 object_entries slots declared body =
-    vtable_entry (vtable_of slots declared) ∷ unshared_entry (object_part declared body) ∷ word_entry ∷ []
+    vtable_entry (vtable_of slots declared) ∷ unshared_entry (object_part declared body)
+    ∷ word_entry ∷ []
 
 abbrev pub table_entries : List (ℕ × Field) → List Entry
 table_entries entries =

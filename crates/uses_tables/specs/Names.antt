@@ -1,5 +1,6 @@
 -- The names of ships.
-use Rattle.std.specs.Prelude.{◌≡◌, ℕ, ◌+◌, ◌*◌, ◌<◌, codes, List, [], length, map, drop, get_or, Option, Result, Ok, Err, Vec}
+use Rattle.std.specs.Prelude.{◌≡◌, ℕ, ◌+◌, ◌*◌, ◌<◌, codes, List, [], length, map, drop, get_or}
+use Rattle.std.specs.Prelude.{Option, Result, Ok, Err, Vec}
 use Rattle.std.specs.Borrow.{Bor}
 use Rattle.std.specs.Str.{IsUtf8}
 use Rattle.std.specs.declared.alloc.Global.{Global}
@@ -28,7 +29,8 @@ pub record NamedTableStands (B : List ℕ) (distance : ℕ) (name : List ℕ) : 
 
 -- A vector of references to these distances is encoded at k of B, and at each distance a table
 -- whose name is the string of the same index.
-pub record NamedTablesStand (B : List ℕ) (k : ℕ) (distances : List ℕ) (names : List (List ℕ)) : Type 0 where
+pub record NamedTablesStand (B : List ℕ) (k : ℕ) (distances : List ℕ) (names : List (List ℕ))
+    : Type 0 where
   pub list : Stands B (at k) (reference_list distances)
   pub count : length names ≡ length distances
   pub each :
@@ -42,7 +44,8 @@ items_view B k count = record { bytes = drop (k + 4) B; start = k + 4; count = c
 -- the result for the ship of a view's item
 abbrev pub ItemIs : View → ℕ → Result (TableRef Ship) Error → Type 0
 ItemIs view index r =
-    Located (Answer (shown (ShowsView view.bytes view.start) (table_reading view.bytes (index * 4))))
+    Located (Answer
+    (shown (ShowsView view.bytes view.start) (table_reading view.bytes (index * 4))))
     (codes "[ShipRef]") (codes "get") view.start r
 
 -- exactly these strings, or refused memory

@@ -15,13 +15,15 @@ use Rattle.uses_tables.specs.declared.leg.Leg.{Leg}
 
 abbrev pub pos_shape : Shape Pos 12 4
 pos_shape = struct_shape
-    (field (λ p. p.lat) i32_shape (field (λ p. p.lon) i32_shape (field (λ p. p.alt) i16_shape no_more)))
+    (field (λ p. p.lat) i32_shape
+    (field (λ p. p.lon) i32_shape (field (λ p. p.alt) i16_shape no_more)))
     (struct_layout 2 3 (lit≤ tt) (lit< tt)) (λ v. record { lat = v.0; lon = v.1.0; alt = v.1.1.0 })
     (λ p. refl)
 
 abbrev pub fix_shape : Shape Fix 24 8
 fix_shape = struct_shape
-    (field (λ f. f.when) u64_shape (field (λ f. f.at) pos_shape (field (λ f. f.kind) kind_shape no_more)))
+    (field (λ f. f.when) u64_shape
+    (field (λ f. f.at) pos_shape (field (λ f. f.kind) kind_shape no_more)))
     (struct_layout 3 3 (lit≤ tt) (lit< tt)) (λ v. record { when = v.0; at = v.1.0; kind = v.1.1.0 })
     (λ f. refl)
 

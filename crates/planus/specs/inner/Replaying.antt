@@ -16,7 +16,8 @@ use Rattle.planus_write.specs.declared.offset.Offset.{Offset}
 use Rattle.planus_write.specs.declared.union_offset.UnionOffset.{UnionOffset}
 use Rattle.planus.specs.Steps.{Step, clear}
 use Rattle.planus.specs.Kinds.{Kind, a_value, kind_of, kind_named}
-use Rattle.planus.specs.Runs.{State, Listed, Advances, StepTooLarge, StepRefused, fits_width, value_at, union_of}
+use Rattle.planus.specs.Runs.{State, Listed, Advances, StepTooLarge, StepRefused, fits_width}
+use Rattle.planus.specs.Runs.{value_at, union_of}
 use Rattle.planus.specs.Runs.{all_of}
 use Rattle.planus.specs.Replays.{finish_given, check_by, first_fault, union_fault, is_clear}
 use Rattle.planus.specs.inner.Names.{written_named, name_of, listed_from, fault_since, IsReached}

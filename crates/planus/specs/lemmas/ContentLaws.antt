@@ -22,7 +22,8 @@ fields_stay before after [] (field ∷ fields) extends are = are
 fields_stay before after (content ∷ contents) [] extends are = are
 
 -- the content of a list of one field
-pub only_field : {A : Type 0} (past : Past) (slot : ℕ) (content : Option Content) (field : A → Field)
+pub only_field
+    : {A : Type 0} (past : Past) (slot : ℕ) (content : Option Content) (field : A → Field)
     (prepared : Option A) → HoldsIf past content field prepared
     → FieldsAre past (there_of ((slot, content) ∷ [])) (field_in slot field prepared)
 only_field past slot None field None holds = tt

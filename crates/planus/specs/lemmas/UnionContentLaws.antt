@@ -21,7 +21,8 @@ pub union_value_holds : {T U : Type 0} (offset_of : UnionOffset T → Offset U)
     → ((union : UnionOffset T) → (offset_of union).distance ≡ union_reach union)
     → (before after : Past) (content : Option (ℕ × Content)) (union : Option (UnionOffset T))
     → Extends before after → UnionHolds before content union
-    → HoldsIf after (value_content content) (λ offset. reference offset.distance) (option_map offset_of union)
+    → HoldsIf after (value_content content) (λ offset. reference offset.distance)
+    (option_map offset_of union)
 union_value_holds offset_of is before after None None extends holds = tt
 union_value_holds offset_of is before after (Some content) (Some union) extends holds =
     field_stays before after content.1 _ extends
@@ -32,7 +33,8 @@ union_value_holds offset_of is before after (Some content) None extends holds = 
 pub union_tag_holds : {T : Type 0} (before after : Past) (content : Option (ℕ × Content))
     (union : Option (UnionOffset T)) → UnionHolds before content union
     → HoldsIf after (tag_content content)
-    (λ tag. plain (record { bytes = to_le_bytes w8 tag; alignment = 1 })) (option_map (λ union. union.tag) union)
+    (λ tag. plain (record { bytes = to_le_bytes w8 tag; alignment = 1 }))
+    (option_map (λ union. union.tag) union)
 union_tag_holds before after None None holds = tt
 union_tag_holds before after (Some content) (Some union) holds =
     ap (λ (tag : ℕ). plain (record { bytes = to_le_bytes w8 tag; alignment = 1 })) holds.0
@@ -41,8 +43,10 @@ union_tag_holds before after (Some content) None holds = holds
 
 -- a union vector: its two fields
 module _ {T A : Type 0} (of : UnionVectorOffset T → A) (field : A → Field) where
-  pub list_tags_hold : ((vector : UnionVectorOffset T) → field (of vector) ≡ tags vector.tags.distance)
-      → (before after : Past) (contents : Option (Content × Content)) (vector : Option (UnionVectorOffset T))
+  pub list_tags_hold
+      : ((vector : UnionVectorOffset T) → field (of vector) ≡ tags vector.tags.distance)
+      → (before after : Past) (contents : Option (Content × Content))
+      (vector : Option (UnionVectorOffset T))
       → Extends before after → UnionVectorHolds before contents vector
       → HoldsIf after (tags_content contents) field (option_map of vector)
   list_tags_hold is before after None None extends holds = tt
@@ -52,8 +56,10 @@ module _ {T A : Type 0} (of : UnionVectorOffset T → A) (field : A → Field) w
   list_tags_hold is before after None (Some vector) extends holds = holds
   list_tags_hold is before after (Some contents) None extends holds = holds
 
-  pub list_values_hold : ((vector : UnionVectorOffset T) → field (of vector) ≡ values_field vector.values.distance)
-      → (before after : Past) (contents : Option (Content × Content)) (vector : Option (UnionVectorOffset T))
+  pub list_values_hold
+      : ((vector : UnionVectorOffset T) → field (of vector) ≡ values_field vector.values.distance)
+      → (before after : Past) (contents : Option (Content × Content))
+      (vector : Option (UnionVectorOffset T))
       → Extends before after → UnionVectorHolds before contents vector
       → HoldsIf after (values_content contents) field (option_map of vector)
   list_values_hold is before after None None extends holds = tt

@@ -15,7 +15,8 @@ use Rattle.planus_write.specs.Contents.{PreparesUnionItem}
 use Rattle.planus.specs.Variants.{WritesVariant}
 
 -- it is lawful if the preparing of its value is
-pub variant_is_lawful : {X Y K T : Type 0} {may : Y → State → Type 0} {outcome : Y → Outcome (Offset K)}
+pub variant_is_lawful
+    : {X Y K T : Type 0} {may : Y → State → Type 0} {outcome : Y → Outcome (Offset K)}
     (tag : ℕ) (of : X → Y) → IsLawful may outcome (λ offset. offset.distance)
     → IsLawful {A = UnionOffset T} (λ x old. may (of x) old)
     (λ x old answer new. WritesVariant tag (outcome (of x)) old answer new) union_reach
@@ -28,13 +29,15 @@ variant_is_lawful {X} {Y} {K} {T} {may} {outcome} tag of lawful =
     grows x old (Err error) new may done = lawful.grows (of x) old (Err error) new may done
 
     reaches : (x : X) (old : State) (union : UnionOffset T) (new : State) → may (of x) old
-        → WritesVariant tag (outcome (of x)) old (Ok union) new → union_reach union ≤ length new.bytes
+        → WritesVariant tag (outcome (of x)) old (Ok union) new
+        → union_reach union ≤ length new.bytes
     reaches x old union new may done =
         subst (λ (d : ℕ). d ≤ length new.bytes) (sym done.1.2)
         (lawful.reaches (of x) old done.1.0 new may done.1.1)
 
 -- once prepared, it has the tag, and its reference holds what the value holds
-pub variant_prepared : {X Y K T : Type 0} {may : Y → State → Type 0} {outcome : Y → Outcome (Offset K)}
+pub variant_prepared
+    : {X Y K T : Type 0} {may : Y → State → Type 0} {outcome : Y → Outcome (Offset K)}
     {content : Y → Content} (tag : ℕ) (of : X → Y)
     → PreparesContent may outcome content (λ offset. reference offset.distance)
     → PreparesUnionItem {T = T} (λ x old. may (of x) old)
@@ -42,7 +45,8 @@ pub variant_prepared : {X Y K T : Type 0} {may : Y → State → Type 0} {outcom
     (λ x. (tag, content (of x)))
 variant_prepared {X} {Y} {K} {T} {may} {outcome} {content} tag of lawful = record { comes = comes }
   where
-    comes : (x : X) (old : State) (union : UnionOffset T) (new : State) (past : Past) → may (of x) old
+    comes : (x : X) (old : State) (union : UnionOffset T) (new : State) (past : Past)
+        → may (of x) old
         → WritesVariant tag (outcome (of x)) old (Ok union) new → IsPast old past
         → Comes past new (λ after. UnionHolds after (Some (tag, content (of x))) (Some union))
     comes x old union new past may done is_past =

@@ -18,7 +18,8 @@ bytes_from b k = drop k (slots_items b.places)
 pub record IsBlock (b : Block) : Type 0 where
   pub inside : InBlock b.base
   pub base : b.base ≡ slots_ptr b.places
-  pub deed : (b.deed.at ≡ slots_ptr b.places) × (b.deed.len ≡ capacity_of b) × (b.deed.alloc ≡ b.alloc)
+  pub deed : (b.deed.at ≡ slots_ptr b.places) × (b.deed.len ≡ capacity_of b)
+      × (b.deed.alloc ≡ b.alloc)
   pub initialized : Filled (slots_filled b.places) b.initialized (capacity_of b)
 
 -- each place from the start on holds a byte too, even before `initialized`

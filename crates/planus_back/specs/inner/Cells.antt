@@ -8,7 +8,8 @@ use Rattle.std.specs.Borrow.{Fml, RattleType, MutBor, Array, Lends}
 module _ {X : Type 0} where
   -- the values, with those of the run in place of the `len` from the place `from` on
   abbrev pub items_with_run : Slots X → ℕ → ℕ → List X → List X
-  items_with_run a from len run = refill a.len a.items (take from a.items ++ (run ++ drop (from + len) a.items))
+  items_with_run a from len run =
+      refill a.len a.items (take from a.items ++ (run ++ drop (from + len) a.items))
 
   -- the same places with these values
   abbrev pub slots_with_run : Slots X → ℕ → ℕ → List X → Slots X
@@ -17,10 +18,15 @@ module _ {X : Type 0} where
     len = a.len;
     items = items_with_run a from len run;
     filled = a.filled;
-    ok = (length_refill a.len a.items (take from a.items ++ (run ++ drop (from + len) a.items)) a.ok.0, a.ok.1);
+    ok = (
+      length_refill a.len a.items (take from a.items ++ (run ++ drop (from + len) a.items))
+          a.ok.0,
+      a.ok.1,
+    );
     small = a.small;
   }
 
 -- r is the run of the places of a: when the borrow ends, they hold what was written through it
-abbrev pub lends_run : (R : RattleType) → MutBor (Slots R.Denot) → ℕ → ℕ → MutBor (List R.Denot) → Fml
+abbrev pub lends_run : (R : RattleType) → MutBor (Slots R.Denot) → ℕ → ℕ → MutBor (List R.Denot)
+    → Fml
 lends_run R a from len r = Lends (the_row R) (Array R 0) a r (slots_with_run a.now from len)

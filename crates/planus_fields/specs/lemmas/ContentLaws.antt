@@ -24,14 +24,17 @@ left_out_prepared {X} {A} {may} {outcome} {content} {field} is_default Default d
   where
     holds : (x : X) (prepared : Option A) (new : State) (past : Past) (b : Bool) → is_default x ≡ b
         → Comes past new (λ after. HoldsIf after (unless b (Some (content x))) field prepared)
-        → Comes past new (λ after. HoldsIf after (unless (is_default x) (Some (content x))) field prepared)
+        → Comes past new
+        (λ after. HoldsIf after (unless (is_default x) (Some (content x))) field prepared)
     holds x prepared new past b is there =
-        subst (λ (b : Bool). Comes past new (λ after. HoldsIf after (unless b (Some (content x))) field prepared))
+        subst (λ (b : Bool). Comes past new
+        (λ after. HoldsIf after (unless b (Some (content x))) field prepared))
         (sym is) there
 
     written : (x : X) (old : State) (found : A) (new : State) (past : Past) (b : Bool) → may x old
         → is_default x ≡ b → (Default x → ⊥) → outcome x old (Ok found) new → IsPast old past
-        → Comes past new (λ after. HoldsIf after (unless (is_default x) (Some (content x))) field (Some found))
+        → Comes past new
+        (λ after. HoldsIf after (unless (is_default x) (Some (content x))) field (Some found))
     written x old found new past false may is other done is_past =
         holds x (Some found) new past false is (lawful.comes x old found new past may done is_past)
     written x old found new past true may is other done is_past =
@@ -39,7 +42,8 @@ left_out_prepared {X} {A} {may} {outcome} {content} {field} is_default Default d
 
     comes : (x : X) (old : State) (prepared : Option A) (new : State) (past : Past) → may x old
         → LeftOutWhere (Default x) (outcome x) old (Ok prepared) new → IsPast old past
-        → Comes past new (λ after. HoldsIf after (unless (is_default x) (Some (content x))) field prepared)
+        → Comes past new
+        (λ after. HoldsIf after (unless (is_default x) (Some (content x))) field prepared)
     comes x old None new past may done is_past =
         holds x None new past true ((decides x).1 done.0)
         (stays_there past old new (λ after. ⊤) done.1 is_past tt)
@@ -56,18 +60,21 @@ always_prepared lawful =
 
 -- one always left out
 pub never_prepared : {X A : Type 0} {may : X → State → Type 0} {field : A → Field}
-    → PreparesOptional {X = X} may (λ x old answer new. Answers None old answer new) (λ x. None) field
+    → PreparesOptional {X = X} may (λ x old answer new. Answers None old answer new) (λ x. None)
+    field
 never_prepared {X} {A} {may} {field} = record {
   comes = λ x old prepared new past may done is_past.
       (let same : None ≡ prepared = cc in
-      subst (λ (prepared : Option A). Comes past new (λ after. HoldsIf after None field prepared)) same
+      subst (λ (prepared : Option A). Comes past new (λ after. HoldsIf after None field prepared))
+      same
       (stays_there past old new (λ after. ⊤) done.1 is_past tt));
 }
 
 -- an optional field
 pub optional_prepared : {X A : Type 0} {may : X → State → Type 0} {outcome : X → Outcome (Option A)}
     {content : X → Option Content} {field : A → Field} → PreparesOptional may outcome content field
-    → PreparesOptional (λ x old. MayIf may x old) (λ x old answer new. PreparesIf outcome x old answer new)
+    → PreparesOptional (λ x old. MayIf may x old)
+    (λ x old answer new. PreparesIf outcome x old answer new)
     (λ x. holds_if content x) field
 optional_prepared {X} {A} {may} {outcome} {content} {field} lawful = record { comes = prepared }
   where
@@ -77,7 +84,8 @@ optional_prepared {X} {A} {may} {outcome} {content} {field} lawful = record { co
     prepared None old None new past may done is_past =
         stays_there past old new (λ after. ⊤) done.1 is_past tt
     prepared None old (Some found) new past may done is_past = cc
-    prepared (Some x) old found new past may done is_past = lawful.comes x old found new past may done is_past
+    prepared (Some x) old found new past may done is_past =
+        lawful.comes x old found new past may done is_past
 
 -- what is prepared as something else
 pub prepared_as : {X Y A : Type 0} {may : X → State → Type 0} {outcome : X → Outcome (Option A)}

@@ -47,7 +47,8 @@ left_out_always_is_lawful {X} {A} {reach} =
 pub optional_is_lawful : {X A : Type 0} {may : X → State → Type 0}
     {outcome : X → Outcome (Option A)} {reach : A → ℕ}
     → IsLawful may outcome (reach_if reach)
-    → IsLawful (MayIf may) (λ x old answer new. PreparesIf outcome x old answer new) (reach_if reach)
+    → IsLawful (MayIf may) (λ x old answer new. PreparesIf outcome x old answer new)
+    (reach_if reach)
 optional_is_lawful {X} {A} {may} {outcome} {reach} lawful =
     record { grows = grows; reaches = reaches; stays = stays }
   where

@@ -29,7 +29,8 @@ module _ {X T : Type 0} {may : X → State → Type 0} {outcome : X → Outcome 
       (λ y. Some (unions_hold (map content (items y))))
   unions_prepared {Y} items = record { comes = comes }
     where
-      comes : (y : Y) (old : State) (prepared : Option (UnionVectorOffset T)) (new : State) (past : Past)
+      comes : (y : Y) (old : State) (prepared : Option (UnionVectorOffset T)) (new : State)
+          (past : Past)
           → AllMay may (items y) old
           → LeftOutWhere ⊥ (WritesUnionVector outcome (items y)) old (Ok prepared) new
           → IsPast old past
@@ -42,7 +43,8 @@ module _ {X T : Type 0} {may : X → State → Type 0} {outcome : X → Outcome 
   -- the same for one left out where it is empty
   pub unions_or_none_prepared : {Y : Type 0} (items : Y → List X)
       → PreparesUnionVector (λ y old. AllMay may (items y) old)
-      (λ y old answer new. LeftOutWhere (items y ≡ []) (WritesUnionVector outcome (items y)) old answer new)
+      (λ y old answer new. LeftOutWhere (items y ≡ []) (WritesUnionVector outcome (items y)) old
+      answer new)
       (λ y. any_unions_hold (map content (items y)))
   unions_or_none_prepared {Y} items = record {
     comes = λ y old prepared new past mays done is_past.
@@ -53,7 +55,8 @@ module _ {X T : Type 0} {may : X → State → Type 0} {outcome : X → Outcome 
           (past : Past) → AllMay may xs old
           → LeftOutWhere (xs ≡ []) (WritesUnionVector outcome xs) old (Ok prepared) new
           → IsPast old past
-          → Comes past new (λ after. UnionVectorHolds after (any_unions_hold (map content xs)) prepared)
+          → Comes past new
+          (λ after. UnionVectorHolds after (any_unions_hold (map content xs)) prepared)
       comes [] old None new past mays done is_past =
           stays_there past old new (λ after. ⊤) done.1 is_past tt
       comes [] old (Some vector) new past mays done is_past = absurd (done.0 refl)
@@ -63,27 +66,34 @@ module _ {X T : Type 0} {may : X → State → Type 0} {outcome : X → Outcome 
 
 -- an optional union vector
 pub optional_union_vector_prepared : {X T : Type 0} {may : X → State → Type 0}
-    {outcome : X → Outcome (Option (UnionVectorOffset T))} {contents : X → Option (Content × Content)}
+    {outcome : X → Outcome (Option (UnionVectorOffset T))}
+    {contents : X → Option (Content × Content)}
     → PreparesUnionVector may outcome contents
-    → PreparesUnionVector (λ x old. MayIf may x old) (λ x old answer new. PreparesIf outcome x old answer new)
+    → PreparesUnionVector (λ x old. MayIf may x old)
+    (λ x old answer new. PreparesIf outcome x old answer new)
     (λ x. union_vector_if contents x)
-optional_union_vector_prepared {X} {T} {may} {outcome} {contents} lawful = record { comes = prepared }
+optional_union_vector_prepared {X} {T} {may} {outcome} {contents} lawful =
+    record { comes = prepared }
   where
-    prepared : (x : Option X) (old : State) (prepared : Option (UnionVectorOffset T)) (new : State) (past : Past)
+    prepared : (x : Option X) (old : State) (prepared : Option (UnionVectorOffset T)) (new : State)
+        (past : Past)
         → MayIf may x old → PreparesIf outcome x old (Ok prepared) new → IsPast old past
         → Comes past new (λ after. UnionVectorHolds after (union_vector_if contents x) prepared)
     prepared None old None new past may done is_past =
         stays_there past old new (λ after. ⊤) done.1 is_past tt
     prepared None old (Some found) new past may done is_past = cc
-    prepared (Some x) old found new past may done is_past = lawful.comes x old found new past may done is_past
+    prepared (Some x) old found new past may done is_past =
+        lawful.comes x old found new past may done is_past
 
 -- a union vector that is written already
 pub union_vector_offset_prepared : {T : Type 0} {may : UnionVectorOffset T → State → Type 0}
-    → PreparesUnionVector may (λ vector old answer new. LeftOutWhere ⊥ (Answers vector) old answer new)
+    → PreparesUnionVector may
+    (λ vector old answer new. LeftOutWhere ⊥ (Answers vector) old answer new)
     (λ vector. Some (written_tags vector.tags.distance, written_values vector.values.distance))
 union_vector_offset_prepared {T} {may} = record { comes = comes }
   where
-    comes : (vector : UnionVectorOffset T) (old : State) (prepared : Option (UnionVectorOffset T)) (new : State)
+    comes : (vector : UnionVectorOffset T) (old : State) (prepared : Option (UnionVectorOffset T))
+        (new : State)
         (past : Past) → may vector old → LeftOutWhere ⊥ (Answers vector) old (Ok prepared) new
         → IsPast old past
         → Comes past new
@@ -120,31 +130,37 @@ always_union_prepared {X} {T} {may} {outcome} {content} lawful = record { comes 
 pub optional_union_prepared : {X T : Type 0} {may : X → State → Type 0}
     {outcome : X → Outcome (Option (UnionOffset T))} {content : X → Option (ℕ × Content)}
     → PreparesUnion may outcome content
-    → PreparesUnion (λ x old. MayIf may x old) (λ x old answer new. PreparesIf outcome x old answer new)
+    → PreparesUnion (λ x old. MayIf may x old)
+    (λ x old answer new. PreparesIf outcome x old answer new)
     (λ x. union_if content x)
 optional_union_prepared {X} {T} {may} {outcome} {content} lawful = record { comes = prepared }
   where
-    prepared : (x : Option X) (old : State) (prepared : Option (UnionOffset T)) (new : State) (past : Past)
+    prepared : (x : Option X) (old : State) (prepared : Option (UnionOffset T)) (new : State)
+        (past : Past)
         → MayIf may x old → PreparesIf outcome x old (Ok prepared) new → IsPast old past
         → Comes past new (λ after. UnionHolds after (union_if content x) prepared)
     prepared None old None new past may done is_past =
         stays_there past old new (λ after. ⊤) done.1 is_past tt
     prepared None old (Some found) new past may done is_past = cc
-    prepared (Some x) old found new past may done is_past = lawful.comes x old found new past may done is_past
+    prepared (Some x) old found new past may done is_past =
+        lawful.comes x old found new past may done is_past
 
 -- a union always left out
 pub never_union_prepared : {X T : Type 0} {may : X → State → Type 0}
-    → PreparesUnion {X = X} {T = T} may (λ x old answer new. Answers None old answer new) (λ x. None)
+    → PreparesUnion {X = X} {T = T} may (λ x old answer new. Answers None old answer new)
+    (λ x. None)
 never_union_prepared {X} {T} {may} = record {
   comes = λ x old prepared new past may done is_past.
       (let same : None ≡ prepared = cc in
-      subst (λ (prepared : Option (UnionOffset T)). Comes past new (λ after. UnionHolds after None prepared)) same
+      subst (λ (prepared : Option (UnionOffset T)). Comes past new
+      (λ after. UnionHolds after None prepared)) same
       (stays_there past old new (λ after. ⊤) done.1 is_past tt));
 }
 
 -- a union that is prepared as something else
 pub union_prepared_as : {X Y T : Type 0} {may : X → State → Type 0}
-    {outcome : X → Outcome (Option (UnionOffset T))} {content : X → Option (ℕ × Content)} (of : Y → X)
+    {outcome : X → Outcome (Option (UnionOffset T))} {content : X → Option (ℕ × Content)}
+    (of : Y → X)
     → PreparesUnion may outcome content
     → PreparesUnion (λ y old. may (of y) old) (λ y old answer new. outcome (of y) old answer new)
     (λ y. content (of y))
@@ -152,18 +168,22 @@ union_prepared_as of lawful = record { comes = λ y. lawful.comes (of y) }
 
 -- a union vector always left out
 pub never_union_vector_prepared : {X T : Type 0} {may : X → State → Type 0}
-    → PreparesUnionVector {X = X} {T = T} may (λ x old answer new. Answers None old answer new) (λ x. None)
+    → PreparesUnionVector {X = X} {T = T} may (λ x old answer new. Answers None old answer new)
+    (λ x. None)
 never_union_vector_prepared {X} {T} {may} = record {
   comes = λ x old prepared new past may done is_past.
       (let same : None ≡ prepared = cc in
-      subst (λ (prepared : Option (UnionVectorOffset T)). Comes past new (λ after. UnionVectorHolds after None prepared)) same
+      subst (λ (prepared : Option (UnionVectorOffset T)). Comes past new
+      (λ after. UnionVectorHolds after None prepared)) same
       (stays_there past old new (λ after. ⊤) done.1 is_past tt));
 }
 
 -- a union vector that is prepared as something else
 pub union_vector_prepared_as : {X Y T : Type 0} {may : X → State → Type 0}
-    {outcome : X → Outcome (Option (UnionVectorOffset T))} {contents : X → Option (Content × Content)}
+    {outcome : X → Outcome (Option (UnionVectorOffset T))}
+    {contents : X → Option (Content × Content)}
     (of : Y → X) → PreparesUnionVector may outcome contents
-    → PreparesUnionVector (λ y old. may (of y) old) (λ y old answer new. outcome (of y) old answer new)
+    → PreparesUnionVector (λ y old. may (of y) old)
+    (λ y old answer new. outcome (of y) old answer new)
     (λ y. contents (of y))
 union_vector_prepared_as of lawful = record { comes = λ y. lawful.comes (of y) }

@@ -1,26 +1,33 @@
 -- Laws for numbers: their layouts, and the number of bytes.
-use Rattle.std.specs.Prelude.{◌≡◌, ℕ, ◌+◌, ℤ, List, [], ◌∷◌, length, take, drop, Bool, true, false, not, ◌==◌, Option, Some, None, nat_le, if◌then◌else◌, FitsSigned}
-use Rattle.std.specs.Int.{Width, w8, w16, w32, w64, byte_len, to_le_bytes, from_le_bytes, cast_unsigned, from_bool}
+use Rattle.std.specs.Prelude.{◌≡◌, ℕ, ◌+◌, ℤ, List, [], ◌∷◌, length, take, drop, Bool, true, false}
+use Rattle.std.specs.Prelude.{not, ◌==◌, Option, Some, None, nat_le, if◌then◌else◌, FitsSigned}
+use Rattle.std.specs.Int.{Width, w8, w16, w32, w64, byte_len, to_le_bytes, from_le_bytes}
+use Rattle.std.specs.Int.{cast_unsigned, from_bool}
 use Rattle.std.specs.Option.{option_map, option_and_then}
 use Rattle.std.proofs.Common.{refl, sym, ap, ◌∙◌, lit≤, lit<}
 use Rattle.std.proofs.Math.Facts.{Fits-of_z}
 use Rattle.std.proofs.Math.Nat.{mod-eq_of_lt, dvd-mul_left}
-use Rattle.std.proofs.lemmas.Nat.{from_le_bytes-to_le_bytes_2, from_le_bytes-to_le_bytes_4, from_le_bytes-to_le_bytes_8}
+use Rattle.std.proofs.lemmas.Nat.{from_le_bytes-to_le_bytes_2, from_le_bytes-to_le_bytes_4}
+use Rattle.std.proofs.lemmas.Nat.{from_le_bytes-to_le_bytes_8}
 use Rattle.planus_read.specs.Bytes.{Num, BytesStand}
 use Rattle.planus_read.specs.Plain.{IsLayout, NumberFits}
 use Rattle.planus_read.specs.Reading.{number, NumberThere}
 
 pub layout_of_one : IsLayout 1 1
-layout_of_one = record { power = (0, lit≤ tt, refl); positive = lit< tt; multiple = dvd-mul_left 1 1 }
+layout_of_one =
+    record { power = (0, lit≤ tt, refl); positive = lit< tt; multiple = dvd-mul_left 1 1 }
 
 pub layout_of_two : IsLayout 2 2
-layout_of_two = record { power = (1, lit≤ tt, refl); positive = lit< tt; multiple = dvd-mul_left 2 1 }
+layout_of_two =
+    record { power = (1, lit≤ tt, refl); positive = lit< tt; multiple = dvd-mul_left 2 1 }
 
 pub layout_of_four : IsLayout 4 4
-layout_of_four = record { power = (2, lit≤ tt, refl); positive = lit< tt; multiple = dvd-mul_left 4 1 }
+layout_of_four =
+    record { power = (2, lit≤ tt, refl); positive = lit< tt; multiple = dvd-mul_left 4 1 }
 
 pub layout_of_eight : IsLayout 8 8
-layout_of_eight = record { power = (3, lit≤ tt, refl); positive = lit< tt; multiple = dvd-mul_left 8 1 }
+layout_of_eight =
+    record { power = (3, lit≤ tt, refl); positive = lit< tt; multiple = dvd-mul_left 8 1 }
 
 -- a number of the width is this many bytes, from which it is made again
 pub record AreBytes (width : Width) : Type 0 where
@@ -76,7 +83,8 @@ stood width are S f n m fits stands there =
     ∙ bytes_number width are S f n fits stands
 
 -- so is what is computed from it
-pub stood_as : {A : Type 0} (g : ℕ → A) (width : Width) → AreBytes width → (S : List ℕ) (f n : ℕ) (y : A)
+pub stood_as : {A : Type 0} (g : ℕ → A) (width : Width) → AreBytes width
+    → (S : List ℕ) (f n : ℕ) (y : A)
     → NumberFits width n → BytesStand S f (to_le_bytes width n)
     → option_map g (Num S f width) ≡ Some y → y ≡ g n
 stood_as {A} g width are S f n y fits stands there = at (Num S f width) refl there
@@ -87,7 +95,8 @@ stood_as {A} g width are S f n y fits stands there = at (Num S f width) refl the
         let same : y ≡ g m = cc in same ∙ ap g (stood width are S f n m fits stands e)
 
 -- so is what may be computed from it
-pub stood_by : {A : Type 0} (g : ℕ → Option A) (width : Width) → AreBytes width → (S : List ℕ) (f n : ℕ) (y : A)
+pub stood_by : {A : Type 0} (g : ℕ → Option A) (width : Width) → AreBytes width
+    → (S : List ℕ) (f n : ℕ) (y : A)
     → NumberFits width n → BytesStand S f (to_le_bytes width n)
     → option_and_then g (Num S f width) ≡ Some y → g n ≡ Some y
 stood_by {A} g width are S f n y fits stands there = at (Num S f width) refl there

@@ -34,7 +34,8 @@ pub place_is : (f k : ℕ) → place f k ≡ f + k
 place_is f zero = omega arith
 place_is f (suc n) = refl
 
-pub behind : (S : List ℕ) (f k n m : ℕ) (bytes : List ℕ) → n ≡ m → BytesStand S (place f k + n) bytes
+pub behind : (S : List ℕ) (f k n m : ℕ) (bytes : List ℕ) → n ≡ m
+    → BytesStand S (place f k + n) bytes
     → BytesStand S (place f (k + m)) bytes
 behind S f k n m bytes same stands =
     let first = place_is f k in let second = place_is f (k + m) in

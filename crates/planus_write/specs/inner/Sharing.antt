@@ -1,5 +1,6 @@
 -- How contents that may be shared are looked up, and how they are remembered.
-use Rattle.std.specs.Prelude.{◌≡◌, ◌+◌, ◌≤◌, List, Bool, true, false, Option, Some, None, Result, Ok}
+use Rattle.std.specs.Prelude.{◌≡◌, ◌+◌, ◌≤◌, List, Bool, true, false, Option, Some, None, Result}
+use Rattle.std.specs.Prelude.{Ok}
 use Rattle.std.specs.Prelude.{ℕ, Err, length}
 use Rattle.planus_back.specs.Caches.{IsBucketOf}
 use Rattle.planus_back.specs.Padding.{greatest_place}

@@ -114,8 +114,14 @@ pub value_added : (content : Value) (old : State) (got : List ℕ) (new : State)
     → Comes past new (λ after. IsKept after content (named_at (last_of got)))
 value_added content old got new past writes is_past is_written named =
     let placed = entries_put (entries_of content) [] old got new past writes is_past in
-    let kept = values_are_kept old.switches content past got placed.0 is_written is_past.kept placed.1 in
-    (placed.0, placed.2, kept.2, subst (λ (name : Named). IsKept placed.0 content name) named kept.0)
+    let kept = values_are_kept old.switches content past got placed.0 is_written is_past.kept
+    placed.1 in (
+      placed.0,
+      placed.2,
+      kept.2,
+      subst (λ (name : Named). IsKept placed.0 content name) named
+          kept.0,
+    )
 
 -- a text
 pub text_prepared : {T X : Type 0} {may : X → State → Type 0} (bytes : X → List ℕ)
@@ -130,7 +136,8 @@ text_prepared bytes = record {
 
 -- a byte vector
 pub byte_list_prepared : {T X : Type 0} {may : X → State → Type 0} (bytes : X → List ℕ)
-    → PreparesContent {A = Offset T} may (λ x old answer new. WritesByteList (bytes x) old answer new)
+    → PreparesContent {A = Offset T} may
+    (λ x old answer new. WritesByteList (bytes x) old answer new)
     (λ x. value (byte_list (bytes x))) (λ offset. reference offset.distance)
 byte_list_prepared bytes = record {
   comes = λ x old offset new past may done is_past.

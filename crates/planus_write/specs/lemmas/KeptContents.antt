@@ -31,9 +31,11 @@ text_at_front : (content pad B : List ℕ) → length content < 2 ^ 32
     → Stands (((to_le_bytes w32 (length content) ++ content ++ 0 ∷ []) ++ pad) ++ B) (at 0)
     (value.text content)
 text_at_front content pad B small =
-    let again : ((content ++ 0 ∷ []) ++ pad) ++ B ≡ (content ++ 0 ∷ []) ++ (pad ++ B) = append_assoc (content ++ 0 ∷ []) pad B in (
+    let again : ((content ++ 0 ∷ []) ++ pad) ++ B ≡ (content ++ 0 ∷ []) ++ (pad ++ B) =
+    append_assoc (content ++ 0 ∷ []) pad B in (
       front_number (length content) (((content ++ 0 ∷ []) ++ pad) ++ B) small,
-      ap (take (length (content ++ 0 ∷ []))) again ∙ take-append_seam (content ++ 0 ∷ []) (pad ++ B),
+      ap (take (length (content ++ 0 ∷ []))) again
+          ∙ take-append_seam (content ++ 0 ∷ []) (pad ++ B),
     )
 
 -- so does a byte vector
@@ -53,12 +55,18 @@ new_value : (part : Part) (value : Value) (shared : Option Contents) (before : P
     → ((B : List ℕ) (k : ℕ) → part.alignment ∣ k → AlignedAt B (at k) value)
     → IsKept after value (record { distance = distance; tags = None })
 new_value part value shared before distance after adds sized there aligns =
-    let at_end : length after.written.bytes ≡ adds.placed.place = length_after part before.written after.written adds.placed sized in
+    let at_end : length after.written.bytes ≡ adds.placed.place =
+    length_after part before.written after.written adds.placed sized in
     kept_at_front after value distance (at_end ∙ sym adds.at) there
     (λ front keep.
-    let kept : Keeps (length (front ++ after.written.bytes)) (promise_of adds.placed.place part.alignment) = (subst (λ ps. Keep ps (length (front ++ after.written.bytes))) adds.placed.promises keep).0 in
-    let e : length (front ++ after.written.bytes) - adds.placed.place ≡ length front = omega (arith, length-append front after.written.bytes, at_end) in
-    aligns (front ++ after.written.bytes) (length front) (subst (λ k. part.alignment ∣ k) e kept.aligns))
+    let kept : Keeps (length (front ++ after.written.bytes))
+    (promise_of adds.placed.place part.alignment) =
+    (subst (λ ps. Keep ps (length (front ++ after.written.bytes))) adds.placed.promises
+    keep).0 in
+    let e : length (front ++ after.written.bytes) - adds.placed.place ≡ length front =
+    omega (arith, length-append front after.written.bytes, at_end) in
+    aligns (front ++ after.written.bytes) (length front)
+    (subst (λ k. part.alignment ∣ k) e kept.aligns))
 
 -- Contents of a kind are kept where this part is added.
 abbrev pub AreKept : Kind → List ℕ → Part → Type 0
@@ -73,17 +81,27 @@ NewAreKept kind part = (content : List ℕ) → AreKept kind content (part conte
 pub new_texts : NewAreKept texts text_part
 new_texts content shared before distance after adds =
     let fits : adds.placed.place ≤ 2147483647 = adds.placed.fits in
-    let is_place : adds.placed.place ≡ length before.written.bytes + adds.placed.padding + (length content + 5) = adds.placed.is_place in
-    new_value (text_part content) (value.text content) shared before distance after adds (text_size content adds.placed.place)
-    (subst (λ B. Stands B (at 0) (value.text content)) (sym adds.placed.bytes) (text_at_front content (replicate adds.placed.padding 0) before.written.bytes (omega (arith, fits, is_place))))
+    let is_place : adds.placed.place
+    ≡ length before.written.bytes + adds.placed.padding + (length content + 5) =
+    adds.placed.is_place in
+    new_value (text_part content) (value.text content) shared before distance after adds
+    (text_size content adds.placed.place)
+    (subst (λ B. Stands B (at 0) (value.text content)) (sym adds.placed.bytes)
+    (text_at_front content (replicate adds.placed.padding 0) before.written.bytes
+    (omega (arith, fits, is_place))))
     (λ B k h. h)
 
 pub new_byte_lists : NewAreKept byte_lists byte_list_part
 new_byte_lists content shared before distance after adds =
     let fits : adds.placed.place ≤ 2147483647 = adds.placed.fits in
-    let is_place : adds.placed.place ≡ length before.written.bytes + adds.placed.padding + (length content + 4) = adds.placed.is_place in
-    new_value (byte_list_part content) (value.byte_list content) shared before distance after adds (byte_list_size content adds.placed.place)
-    (subst (λ B. Stands B (at 0) (value.byte_list content)) (sym adds.placed.bytes) (byte_list_at_front content (replicate adds.placed.padding 0) before.written.bytes (omega (arith, fits, is_place))))
+    let is_place : adds.placed.place
+    ≡ length before.written.bytes + adds.placed.padding + (length content + 4) =
+    adds.placed.is_place in
+    new_value (byte_list_part content) (value.byte_list content) shared before distance after adds
+    (byte_list_size content adds.placed.place)
+    (subst (λ B. Stands B (at 0) (value.byte_list content)) (sym adds.placed.bytes)
+    (byte_list_at_front content (replicate adds.placed.padding 0) before.written.bytes
+    (omega (arith, fits, is_place))))
     (λ B k h. h)
 
 -- contents that were found were seen under their kind
@@ -104,27 +122,37 @@ and_parts false b e = (cc)
 
 found_kept : (past : Past) (seen : List Seen) (kind : Kind) (bytes : List ℕ) (d : ℕ)
     → AllByRecursion (SeenIsKept past) seen
-    → distance_seen seen (record { kind = kind; bytes = bytes }) ≡ Some d → KindIsKept past kind bytes d
+    → distance_seen seen (record { kind = kind; bytes = bytes }) ≡ Some d
+    → KindIsKept past kind bytes d
 found_kept past [] kind bytes d h e = (cc)
 found_kept past (one ∷ seen) kind bytes d h e =
-    by_test (λ later. found_kept past seen kind bytes d h.1 later) (same_contents one.contents (record { kind = kind; bytes = bytes })) refl e
+    by_test (λ later. found_kept past seen kind bytes d h.1 later)
+    (same_contents one.contents (record { kind = kind; bytes = bytes })) refl e
   where
-    by_test : (distance_seen seen (record { kind = kind; bytes = bytes }) ≡ Some d → KindIsKept past kind bytes d) → (equal : Bool) → same_contents one.contents (record { kind = kind; bytes = bytes }) ≡ equal
-        → (if equal then Some one.distance else distance_seen seen (record { kind = kind; bytes = bytes })) ≡ Some d → KindIsKept past kind bytes d
+    by_test : (distance_seen seen (record { kind = kind; bytes = bytes }) ≡ Some d
+        → KindIsKept past kind bytes d) → (equal : Bool)
+        → same_contents one.contents (record { kind = kind; bytes = bytes }) ≡ equal
+        → (if equal then Some one.distance else distance_seen seen
+        (record { kind = kind; bytes = bytes })) ≡ Some d → KindIsKept past kind bytes d
     by_test further true equal e =
-        let both = and_parts (same_kind one.contents.kind kind) (bytes_eq one.contents.bytes bytes) equal in
+        let both = and_parts (same_kind one.contents.kind kind) (bytes_eq one.contents.bytes bytes)
+        equal in
         let at : one.distance ≡ d = cc in
         subst (λ n. KindIsKept past kind bytes n) at
-        (subst (λ xs. KindIsKept past kind xs one.distance) ((bytes_eq-Decides one.contents.bytes bytes).0 both.1)
-        (subst (λ k. KindIsKept past k one.contents.bytes one.distance) (same_of one.contents.kind kind both.0) h.0))
+        (subst (λ xs. KindIsKept past kind xs one.distance)
+        ((bytes_eq-Decides one.contents.bytes bytes).0 both.1)
+        (subst (λ k. KindIsKept past k one.contents.bytes one.distance)
+        (same_of one.contents.kind kind both.0) h.0))
     by_test further false equal e = further e
 
 pub shared_or_not : (switches : Switches) (contents : Contents)
-    → (shared_as switches (Some contents) ≡ None) ⊎ (shared_as switches (Some contents) ≡ Some contents)
+    → (shared_as switches (Some contents) ≡ None)
+    ⊎ (shared_as switches (Some contents) ≡ Some contents)
 shared_or_not switches contents = by_test (is_on switches contents.kind)
   where
     by_test : (on : Bool)
-        → ((if on then Some contents else None) ≡ None) ⊎ ((if on then Some contents else None) ≡ Some contents)
+        → ((if on then Some contents else None) ≡ None)
+        ⊎ ((if on then Some contents else None) ≡ Some contents)
     by_test true = inr refl
     by_test false = inl refl
 
@@ -132,13 +160,21 @@ shared_or_not switches contents = by_test (is_on switches contents.kind)
 pub added_kept : (kind : Kind) (content : List ℕ) (part : Part) (shared : Option Contents)
     → (shared ≡ None) ⊎ (shared ≡ Some (record { kind = kind; bytes = content }))
     → (before : Past) (distance : ℕ) (after : Past) → AllSeenKept before
-    → KindIsKept after kind content distance → Adds part shared before distance after → AllSeenKept after
+    → KindIsKept after kind content distance → Adds part shared before distance after
+    → AllSeenKept after
 added_kept kind content part shared is_shared before distance after all kept adds =
     let extends = added_extends part shared before distance after adds in
-    let old : AllByRecursion (SeenIsKept after) before.seen = seen_stays before after extends before.seen all in
-    subst (AllByRecursion (SeenIsKept after)) (sym adds.seen) (elim is_shared as (λ _. AllByRecursion (SeenIsKept after) (and_seen shared distance before.seen)) [
-      | inl none ↦ subst (λ (s : Option Contents). AllByRecursion (SeenIsKept after) (and_seen s distance before.seen)) (sym none) old
-      | inr some ↦ subst (λ (s : Option Contents). AllByRecursion (SeenIsKept after) (and_seen s distance before.seen)) (sym some) (kept, old)
+    let old : AllByRecursion (SeenIsKept after) before.seen =
+    seen_stays before after extends before.seen all in
+    subst (AllByRecursion (SeenIsKept after)) (sym adds.seen)
+    (elim is_shared as
+    (λ _. AllByRecursion (SeenIsKept after) (and_seen shared distance before.seen)) [
+      | inl none ↦ subst
+          (λ (s : Option Contents). AllByRecursion (SeenIsKept after)
+          (and_seen s distance before.seen)) (sym none) old
+      | inr some ↦ subst
+          (λ (s : Option Contents). AllByRecursion (SeenIsKept after)
+          (and_seen s distance before.seen)) (sym some) (kept, old)
     ])
 
 -- the same for a part that isn't shared
@@ -150,7 +186,8 @@ alone_kept part before distance after all adds =
 
 -- what one entry comes to, whose contents are of a kind: they are kept, and all that was seen still is
 abbrev pub ContentsKept : Kind → List ℕ → Past → ℕ → Past → Type 0
-ContentsKept kind content before distance after = KindIsKept after kind content distance × AllSeenKept after × Extends before after
+ContentsKept kind content before distance after = KindIsKept after kind content distance
+    × AllSeenKept after × Extends before after
 
 module _ (kind : Kind) (part : List ℕ → Part) (new_kept : NewAreKept kind part) (content : List ℕ)
     (before : Past) (distance : ℕ) (after : Past) (all : AllSeenKept before) where
@@ -173,28 +210,50 @@ module _ (kind : Kind) (part : List ℕ → Part) (new_kept : NewAreKept kind pa
       → ContentsKept kind content before distance after
   put_shared shared is_shared None e put = put_new shared is_shared put
   put_shared shared is_shared (Some d) e put =
-      let seen_there : KindIsKept before kind content d = elim is_shared as (λ _. KindIsKept before kind content d) [
-        | inl none ↦ (let f : earlier_distance before.seen None ≡ Some d = subst (λ (s : Option Contents). earlier_distance before.seen s ≡ Some d) none e in absurd (cc))
-        | inr some ↦ found_kept before before.seen kind content d all (subst (λ (s : Option Contents). earlier_distance before.seen s ≡ Some d) some e)
+      let seen_there : KindIsKept before kind content d =
+      elim is_shared as (λ _. KindIsKept before kind content d) [
+        | inl none ↦
+            (let f : earlier_distance before.seen None ≡ Some d =
+            subst (λ (s : Option Contents). earlier_distance before.seen s ≡ Some d) none e in
+            absurd (cc))
+        | inr some ↦ found_kept before before.seen kind content d all
+            (subst (λ (s : Option Contents). earlier_distance before.seen s ≡ Some d) some e)
       ] in
-      subst (λ past. ContentsKept kind content before distance past) (sym put.1)
-      (subst (λ n. KindIsKept before kind content n) (sym put.0) seen_there, all, extends_itself before)
+      subst (λ past. ContentsKept kind content before distance past) (sym put.1) (
+        subst (λ n. KindIsKept before kind content n) (sym put.0) seen_there,
+        all,
+        extends_itself
+            before,
+      )
 
 -- once an entry of contents is written, they are kept
 pub put_kept : (kind : Kind) (part : List ℕ → Part) → NewAreKept kind part
     → (switches : Switches) (content got : List ℕ) (before : Past) (distance : ℕ) (after : Past)
     → AllSeenKept before
-    → Puts switches (record { contents = Some (record { kind = kind; bytes = content }); part = λ got promises. part content }) got before distance after
+    → Puts switches
+    (record {
+      contents = Some (record { kind = kind; bytes = content });
+      part =
+          λ got promises. part content;
+    }) got before distance after
     → ContentsKept kind content before distance after
 put_kept kind part new_kept switches content got before distance after all put =
-    let shared : Option Contents = shared_as switches (Some (record { kind = kind; bytes = content })) in
-    put_shared kind part new_kept content before distance after all shared (shared_or_not switches (record { kind = kind; bytes = content })) (earlier_distance before.seen shared) refl put
+    let shared : Option Contents =
+    shared_as switches (Some (record { kind = kind; bytes = content })) in
+    put_shared kind part new_kept content before distance after all shared
+    (shared_or_not switches (record { kind = kind; bytes = content }))
+    (earlier_distance before.seen shared) refl put
 
 -- the same for a value that is this one entry
 pub contents_kept : (kind : Kind) (part : List ℕ → Part) → NewAreKept kind part
     → (switches : Switches) (content : List ℕ) (before : Past) (got : List ℕ) (after : Past)
     → AllSeenKept before
-    → PutsAll switches (record { contents = Some (record { kind = kind; bytes = content }); part = λ got promises. part content } ∷ []) [] before got after
+    → PutsAll switches
+    (record {
+      contents = Some (record { kind = kind; bytes = content });
+      part =
+          λ got promises. part content;
+    } ∷ []) [] before got after
     → ContentsKept kind content before (last_of got) after
 contents_kept kind part new_kept switches content before got after all puts =
     let put = put_kept kind part new_kept switches content [] before puts.0 puts.1 all puts.2 in

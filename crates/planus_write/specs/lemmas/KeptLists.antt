@@ -36,15 +36,22 @@ use Rattle.planus_write.specs.lemmas.Staying.{seen_stays}
 divide_greater : (a : ℕ) → IsPowerOfTwo a → (a ∣ max a 4) × (4 ∣ max a 4)
 divide_greater a power =
     elim (cases_lt a 4) as (λ _. (a ∣ max a 4) × (4 ∣ max a 4)) [
-      | inl small ↦ (let e : 4 ≡ max a 4 = omega (arith, small) in subst (λ m. (a ∣ m) × (4 ∣ m)) e (power_divides a 4 power (2, refl) (omega (arith, small)), dvd_refl 4))
-      | inr large ↦ (let e : a ≡ max a 4 = omega (arith, large) in subst (λ m. (a ∣ m) × (4 ∣ m)) e (dvd_refl a, power_divides 4 a (2, refl) power large))
+      | inl small ↦
+          (let e : 4 ≡ max a 4 =
+          omega (arith, small) in subst (λ m. (a ∣ m) × (4 ∣ m)) e
+          (power_divides a 4 power (2, refl) (omega (arith, small)), dvd_refl 4))
+      | inr large ↦
+          (let e : a ≡ max a 4 =
+          omega (arith, large) in subst (λ m. (a ∣ m) × (4 ∣ m)) e
+          (dvd_refl a, power_divides 4 a (2, refl) power large))
     ]
 
 -- the items of a list whose first stands aligned all do
 items_aligned : {X : Type 0} (size alignment k : ℕ) (xs : List X) → alignment ∣ size → alignment ∣ k
     → ItemsStand (λ position item. alignment ∣ position) k size xs
 items_aligned size alignment k [] divides h = tt
-items_aligned size alignment k (x ∷ xs) divides h = (h, items_aligned size alignment (k + size) xs divides (dvd-add alignment h divides))
+items_aligned size alignment k (x ∷ xs) divides h =
+    (h, items_aligned size alignment (k + size) xs divides (dvd-add alignment h divides))
 
 -- items of one size, each good
 module _ {X : Type 0} (item_of : X → Item) (size : ℕ) (IsGood : X → Type 0)
@@ -55,8 +62,10 @@ module _ {X : Type 0} (item_of : X → Item) (size : ℕ) (IsGood : X → Type 0
   items_length [] good place = let e : 0 ≡ 0 * size = omega arith in e
   items_length (x ∷ xs) good place =
       let first : length (item_of x place) ≡ size = sized x good.0 place in
-      let rest : length (items_bytes size (place - size) (map item_of xs)) ≡ length xs * size = items_length xs good.1 (place - size) in
-      length-append (item_of x place) (items_bytes size (place - size) (map item_of xs)) ∙ omega (arith, first, rest)
+      let rest : length (items_bytes size (place - size) (map item_of xs)) ≡ length xs * size =
+      items_length xs good.1 (place - size) in
+      length-append (item_of x place) (items_bytes size (place - size) (map item_of xs))
+      ∙ omega (arith, first, rest)
 
   -- where their bytes stand, and one stands where its bytes do, all stand
   module _ (B : List ℕ) (before : ℕ) (StandsAt : ℕ → X → Type 0)
@@ -68,10 +77,14 @@ module _ {X : Type 0} (item_of : X → Item) (size : ℕ) (IsGood : X → Type 0
     items_stand [] good k place within fits ends there = tt
     items_stand (x ∷ xs) good k place within fits ends there =
         let rest : List ℕ = items_bytes size (place - size) (map item_of xs) in
-        let both : BytesStand B k (item_of x place) × BytesStand B (k + length (item_of x place)) rest = parts_stand B (item_of x place) rest k there in
-        let behind : BytesStand B (k + size) rest = subst (λ n. BytesStand B (k + n) rest) (sized x good.0 place) both.1 in (
+        let both : BytesStand B k (item_of x place)
+        × BytesStand B (k + length (item_of x place)) rest =
+        parts_stand B (item_of x place) rest k there in
+        let behind : BytesStand B (k + size) rest =
+        subst (λ n. BytesStand B (k + n) rest) (sized x good.0 place) both.1 in (
           stands x good.0 k place (omega (arith, within)) fits ends both.0,
-          items_stand xs good.1 (k + size) (place - size) (omega (arith, within)) (omega (arith, fits)) (omega (arith, within, ends)) behind,
+          items_stand xs good.1 (k + size) (place - size) (omega (arith, within))
+              (omega (arith, fits)) (omega (arith, within, ends)) behind,
         )
 
 -- What a list of these items is as a value, that are written behind so many bytes: where its count
@@ -92,14 +105,17 @@ pub plain_items : (size alignment before : ℕ) (items : List (List ℕ))
     → IsPlainList size alignment items
     → IsListOf plain_item size alignment before items (value.plain_list size alignment items)
 plain_items size alignment before items written = record {
-  sized = items_length plain_item size (λ item. length item ≡ size) (λ item h place. h) items written.sizes;
+  sized = items_length plain_item size (λ item. length item ≡ size) (λ item h place. h) items
+      written.sizes;
   positive = written.positive;
   power = written.power;
   divides = written.multiple;
   stands = λ B place within fits ends count there. (
     count,
-    items_stand plain_item size (λ item. length item ≡ size) (λ item h place. h) B before (PlainStands size B)
-        (λ item good k at inside small goes bytes. (good, bytes)) items written.sizes 4 place within fits ends there,
+    items_stand plain_item size (λ item. length item ≡ size) (λ item h place. h) B before
+        (PlainStands size B)
+        (λ item good k at inside small goes bytes. (good, bytes)) items written.sizes 4 place within
+        fits ends there,
   );
   aligned = λ B k h. h;
 }
@@ -116,16 +132,19 @@ pub reference_items : (before : ℕ) (distances : List ℕ)
     → AllByRecursion (λ distance. distance ≤ before) distances
     → IsListOf reference_item 4 4 before distances (value.reference_list distances)
 reference_items before distances behind = record {
-  sized = items_length reference_item 4 (λ distance. distance ≤ before) (λ distance h place. refl) distances behind;
+  sized = items_length reference_item 4 (λ distance. distance ≤ before) (λ distance h place. refl)
+      distances behind;
   positive = lit< tt;
   power = (2, refl);
   divides = dvd_refl 4;
   stands = λ B place within fits ends count there. (
     count,
-    items_stand reference_item 4 (λ distance. distance ≤ before) (λ distance h place. refl) B before (ReferenceStands B)
+    items_stand reference_item 4 (λ distance. distance ≤ before) (λ distance h place. refl) B before
+        (ReferenceStands B)
         (λ distance good k at inside small goes bytes. (
           at - distance,
-          number_there B k (at - distance) (omega (arith, small)) (omega (arith, inside, goes)) bytes,
+          number_there B k (at - distance) (omega (arith, small)) (omega (arith, inside, goes))
+              bytes,
           omega (arith, good, inside, goes),
         )) distances behind 4 place within fits ends there,
   );
@@ -144,16 +163,22 @@ module _ {X : Type 0} (item_of : X → Item) (size alignment : ℕ) (xs : List X
   place = items.placed.place
 
   place_is : place ≡ length before.written.bytes + items.placed.padding + length xs * size
-  place_is = items.placed.is_place ∙ ap (λ n. length before.written.bytes + items.placed.padding + n * size) (length-map xs item_of)
+  place_is = items.placed.is_place
+      ∙ ap (λ n. length before.written.bytes + items.placed.padding + n * size)
+      (length-map xs item_of)
 
   whole : after.written.bytes ≡ to_le_bytes w32 (length xs) ++ between.written.bytes
   whole =
       count.placed.bytes
-      ∙ ap (λ n. (to_le_bytes w32 (length listed) ++ replicate n 0) ++ between.written.bytes) (unpadded 4 (λ place. to_le_bytes w32 (length listed)) between.written after.written count.placed)
+      ∙ ap (λ n. (to_le_bytes w32 (length listed) ++ replicate n 0) ++ between.written.bytes)
+      (unpadded 4 (λ place. to_le_bytes w32 (length listed)) between.written after.written
+      count.placed)
       ∙ ap (λ n. to_le_bytes w32 n ++ between.written.bytes) (length-map xs item_of)
 
-  promised : after.written.promises ≡ promise_of count.placed.place 1 ∷ promise_of place (max alignment 4) ∷ before.written.promises
-  promised = count.placed.promises ∙ ap (λ ps. promise_of count.placed.place 1 ∷ ps) items.placed.promises
+  promised : after.written.promises ≡ promise_of count.placed.place 1
+      ∷ promise_of place (max alignment 4) ∷ before.written.promises
+  promised = count.placed.promises
+      ∙ ap (λ ps. promise_of count.placed.place 1 ∷ ps) items.placed.promises
 
   extends_first : Extends before between
   extends_first = added_extends (items_part size alignment listed) None before first between items
@@ -162,10 +187,14 @@ module _ {X : Type 0} (item_of : X → Item) (size alignment : ℕ) (xs : List X
   extends_second = added_extends (count_part (length listed)) None between second after count
 
   seen_between : AllSeenKept before → AllSeenKept between
-  seen_between all = subst (AllByRecursion (SeenIsKept between)) (sym items.seen) (seen_stays before between extends_first before.seen all)
+  seen_between all =
+      subst (AllByRecursion (SeenIsKept between)) (sym items.seen)
+      (seen_stays before between extends_first before.seen all)
 
   seen_after : AllSeenKept before → AllSeenKept after
-  seen_after all = subst (AllByRecursion (SeenIsKept after)) (sym count.seen) (seen_stays between after extends_second between.seen (seen_between all))
+  seen_after all =
+      subst (AllByRecursion (SeenIsKept after)) (sym count.seen)
+      (seen_stays between after extends_second between.seen (seen_between all))
 
   extends_both : Extends before after
   extends_both = extends_on before between after extends_first extends_second
@@ -174,37 +203,51 @@ module _ {X : Type 0} (item_of : X → Item) (size alignment : ℕ) (xs : List X
   counted positive =
       let fits : place ≤ 2147483647 = items.placed.fits in
       let fewer : length xs ≤ length xs * size = le-mul_of_pos_right (length xs) positive in
-      subst (λ B. Num B 0 w32 ≡ Some (length xs)) (sym whole) (front_number (length xs) between.written.bytes (omega (arith, fits, place_is, fewer)))
+      subst (λ B. Num B 0 w32 ≡ Some (length xs)) (sym whole)
+      (front_number (length xs) between.written.bytes (omega (arith, fits, place_is, fewer)))
 
   module _ (sized : length (items_bytes size place listed) ≡ length xs * size) where
     between_ends : length between.written.bytes ≡ place
-    between_ends = length_after (items_part size alignment listed) before.written between.written items.placed (sized ∙ ap (λ n. n * size) (sym (length-map xs item_of)))
+    between_ends =
+        length_after (items_part size alignment listed) before.written between.written items.placed
+        (sized ∙ ap (λ n. n * size) (sym (length-map xs item_of)))
 
     after_ends : length after.written.bytes ≡ 4 + place
-    after_ends = ap length whole ∙ length-append (to_le_bytes w32 (length xs)) between.written.bytes ∙ ap (λ n. 4 + n) between_ends
+    after_ends =
+        ap length whole ∙ length-append (to_le_bytes w32 (length xs)) between.written.bytes
+        ∙ ap (λ n. 4 + n) between_ends
 
     at_second : length after.written.bytes ≡ second
-    at_second = length_after (count_part (length listed)) between.written after.written count.placed refl ∙ sym count.at
+    at_second = length_after (count_part (length listed)) between.written after.written count.placed
+        refl ∙ sym count.at
 
     bytes_there : BytesStand after.written.bytes 4 (items_bytes size place listed)
     bytes_there =
         let bytes : List ℕ = items_bytes size place listed in
         subst (λ B. take (length bytes) (drop 4 B) ≡ bytes) (sym whole)
-        (ap (take (length bytes)) (items.placed.bytes ∙ append_assoc bytes (replicate items.placed.padding 0) before.written.bytes) ∙ take-append_seam bytes (replicate items.placed.padding 0 ++ before.written.bytes))
+        (ap (take (length bytes))
+        (items.placed.bytes
+        ∙ append_assoc bytes (replicate items.placed.padding 0) before.written.bytes)
+        ∙ take-append_seam bytes (replicate items.placed.padding 0 ++ before.written.bytes))
 
     list_aligned : IsPowerOfTwo alignment → alignment ∣ size → (front : List ℕ)
         → Keep after.written.promises (length (front ++ after.written.bytes))
         → ListAligned (length front) size alignment xs
     list_aligned power divides front keep =
         let finished : ℕ = length (front ++ after.written.bytes) in
-        let kept : Keeps finished (promise_of place (max alignment 4)) = (subst (λ ps. Keep ps finished) promised keep).1.0 in
-        let e : finished - place ≡ length front + 4 = omega (arith, length-append front after.written.bytes, after_ends) in
-        let greater : max alignment 4 ∣ (length front + 4) = subst (λ n. max alignment 4 ∣ n) e kept.aligns in
-        let both : (alignment ∣ max alignment 4) × (4 ∣ max alignment 4) = divide_greater alignment power in
+        let kept : Keeps finished (promise_of place (max alignment 4)) =
+        (subst (λ ps. Keep ps finished) promised keep).1.0 in
+        let e : finished - place ≡ length front + 4 =
+        omega (arith, length-append front after.written.bytes, after_ends) in
+        let greater : max alignment 4 ∣ (length front + 4) =
+        subst (λ n. max alignment 4 ∣ n) e kept.aligns in
+        let both : (alignment ∣ max alignment 4)
+        × (4 ∣ max alignment 4) = divide_greater alignment power in
         let four : 4 ∣ (length front + 4) = dvd_trans 4 both.1 greater in
         let back : length front + 4 - 4 ≡ length front = omega arith in (
           subst (λ n. 4 ∣ n) back (dvd-sub 4 four (dvd_refl 4)),
-          items_aligned size alignment (length front + 4) xs divides (dvd_trans alignment both.0 greater),
+          items_aligned size alignment (length front + 4) xs divides
+              (dvd_trans alignment both.0 greater),
         )
 
   module _ (value : Value)
@@ -213,8 +256,11 @@ module _ {X : Type 0} (item_of : X → Item) (size alignment : ℕ) (xs : List X
     added_kept =
         let fits : place ≤ 2147483647 = items.placed.fits in
         kept_at_front after value second (at_second (list.sized place))
-        (list.stands after.written.bytes place (omega (arith, place_is)) fits (sym (after_ends (list.sized place))) (counted list.positive) (bytes_there (list.sized place)))
-        (λ front keep. list.aligned (front ++ after.written.bytes) (length front) (list_aligned (list.sized place) list.power list.divides front keep))
+        (list.stands after.written.bytes place (omega (arith, place_is)) fits
+        (sym (after_ends (list.sized place))) (counted list.positive)
+        (bytes_there (list.sized place)))
+        (λ front keep. list.aligned (front ++ after.written.bytes) (length front)
+        (list_aligned (list.sized place) list.power list.divides front keep))
 
 -- once the entries of a list are written, it is kept, and all that was seen still is
 pub list_kept : {X : Type 0} (item_of : X → Item) (size alignment : ℕ) (xs : List X) (value : Value)
@@ -225,8 +271,16 @@ pub list_kept : {X : Type 0} (item_of : X → Item) (size alignment : ℕ) (xs :
     × AllSeenKept after × Extends before after
 list_kept item_of size alignment xs value switches before got after list all puts =
     let then = puts.3 in
-    let kept = added_kept item_of size alignment xs before puts.1 then.1 puts.0 then.0 puts.2 then.2 value list in
-    let seen = seen_after item_of size alignment xs before puts.1 then.1 puts.0 then.0 puts.2 then.2 all in
-    let extends = extends_both item_of size alignment xs before puts.1 then.1 puts.0 then.0 puts.2 then.2 in
-    subst (λ past. IsKept past value (record { distance = last_of got; tags = None }) × AllSeenKept past × Extends before past) (sym then.3.1)
-    (subst (λ n. IsKept then.1 value (record { distance = n; tags = None })) (sym (ap last_of then.3.0)) kept, seen, extends)
+    let kept = added_kept item_of size alignment xs before puts.1 then.1 puts.0 then.0 puts.2 then.2
+    value list in
+    let seen = seen_after item_of size alignment xs before puts.1 then.1 puts.0 then.0 puts.2 then.2
+    all in
+    let extends =
+    extends_both item_of size alignment xs before puts.1 then.1 puts.0 then.0 puts.2 then.2 in
+    subst (λ past. IsKept past value (record { distance = last_of got; tags = None })
+    × AllSeenKept past × Extends before past) (sym then.3.1) (
+      subst (λ n. IsKept then.1 value (record { distance = n; tags = None }))
+          (sym (ap last_of then.3.0)) kept,
+      seen,
+      extends,
+    )

@@ -33,9 +33,12 @@ tags_bytes place (tag ∷ tags) = ap (λ (rest : List ℕ). tag ∷ rest) (tags_
 -- and so is their part
 tags_part_is : (tags : List ℕ) → tags_part tags ≡ items_part 1 1 (map tag_item tags)
 tags_part_is tags =
-    let size : length tags ≡ length (map tag_item tags) * 1 = (let e = length-map tags tag_item in omega (arith, e)) in
+    let size : length tags ≡ length (map tag_item tags) * 1 =
+    (let e = length-map tags tag_item in omega (arith, e)) in
     ap (λ n. record { size = n; alignment = 4; bytes_at = λ place. tags }) size
-    ∙ ap (λ (bytes_at : ℕ → List ℕ). record { size = length (map tag_item tags) * 1; alignment = 4; bytes_at = bytes_at }) (fun_ext (λ place. sym (tags_bytes place tags)))
+    ∙ ap (λ (bytes_at : ℕ → List ℕ). record
+    { size = length (map tag_item tags) * 1; alignment = 4; bytes_at = bytes_at })
+    (fun_ext (λ place. sym (tags_bytes place tags)))
 
 -- tags are a byte vector
 tags_are : (before : ℕ) (tags : List ℕ) → IsListOf tag_item 1 1 before tags (value.byte_list tags)
@@ -44,25 +47,29 @@ tags_are before tags = record {
   positive = lit< tt;
   power = (0, refl);
   divides = dvd_refl 1;
-  stands = λ B place within fits ends count there. (count, subst (λ bytes. BytesStand B 4 bytes) (tags_bytes place tags) there);
+  stands = λ B place within fits ends count there.
+      (count, subst (λ bytes. BytesStand B 4 bytes) (tags_bytes place tags) there);
   aligned = λ B k h. h.0;
 }
 
 -- all the distances of unions are such
-distances_reached : (before : ℕ) (items : List (ℕ × ℕ)) → AllByRecursion (λ item. item.1 ≤ before) items
+distances_reached : (before : ℕ) (items : List (ℕ × ℕ))
+    → AllByRecursion (λ item. item.1 ≤ before) items
     → AllByRecursion (λ distance. distance ≤ before) (distances_in items)
 distances_reached before [] h = tt
 distances_reached before (item ∷ items) h = (h.0, distances_reached before items h.1)
 
 -- unions are aligned where their references are
-unions_aligned : (k : ℕ) (items : List (ℕ × ℕ)) → ItemsStand (λ position item. 4 ∣ position) k 4 (distances_in items)
+unions_aligned : (k : ℕ) (items : List (ℕ × ℕ))
+    → ItemsStand (λ position item. 4 ∣ position) k 4 (distances_in items)
     → ItemsStand (λ position item. 4 ∣ position) k 4 items
 unions_aligned k [] h = tt
 unions_aligned k (item ∷ items) h = (h.0, unions_aligned (k + 4) items h.1)
 
 -- Where the references of unions are kept, and so are the tags, the union vector is.
 both_kept : (past : Past) (items : List (ℕ × ℕ)) (references tags : ℕ)
-    → IsKept past (value.reference_list (distances_in items)) (record { distance = references; tags = None })
+    → IsKept past (value.reference_list (distances_in items))
+    (record { distance = references; tags = None })
     → IsKept past (value.byte_list (tags_in items)) (record { distance = tags; tags = None })
     → IsKept past (value.union_vector items) (record { distance = references; tags = Some tags })
 both_kept past items references tags first second = record {
@@ -75,10 +82,12 @@ both_kept past items references tags first second = record {
 }
 
 -- once the entries of a union vector are written, it is kept, and all that was seen still is
-pub union_vector_kept : (switches : Switches) (items : List (ℕ × ℕ)) (before : Past) (got : List ℕ) (after : Past)
+pub union_vector_kept
+    : (switches : Switches) (items : List (ℕ × ℕ)) (before : Past) (got : List ℕ) (after : Past)
     → AllByRecursion (λ item. item.1 ≤ length before.written.bytes) items → AllSeenKept before
     → PutsAll switches (union_entries items) [] before got after
-    → IsKept after (value.union_vector items) (record { distance = second_of got; tags = Some (last_of got) })
+    → IsKept after (value.union_vector items)
+    (record { distance = second_of got; tags = Some (last_of got) })
     × AllSeenKept after × Extends before after
 union_vector_kept switches items before got after reached all puts =
     let second = puts.3 in
@@ -86,17 +95,35 @@ union_vector_kept switches items before got after reached all puts =
     let fourth = third.3 in
     let distances : List ℕ = distances_in items in
     let tags : List ℕ = tags_in items in
-    let references = list_kept reference_item 4 4 distances (value.reference_list distances) switches before (puts.0 ∷ second.0 ∷ []) second.1
-    (reference_items (length before.written.bytes) distances (distances_reached (length before.written.bytes) items reached)) all
+    let references =
+    list_kept reference_item 4 4 distances (value.reference_list distances) switches before
+    (puts.0 ∷ second.0 ∷ []) second.1
+    (reference_items (length before.written.bytes) distances
+    (distances_reached (length before.written.bytes) items reached)) all
     (puts.0, puts.1, puts.2, (second.0, second.1, second.2, (refl, refl))) in
-    let listed = list_kept tag_item 1 1 tags (value.byte_list tags) switches second.1 (third.0 ∷ fourth.0 ∷ []) fourth.1
+    let listed =
+    list_kept tag_item 1 1 tags (value.byte_list tags) switches second.1
+    (third.0 ∷ fourth.0 ∷ []) fourth.1
     (tags_are (length second.1.written.bytes) tags) references.1 (
       third.0,
       third.1,
       subst (λ (part : Part). Adds part None second.1 third.0 third.1) (tags_part_is tags) third.2,
-      (fourth.0, fourth.1, subst (λ n. Adds (count_part n) None third.1 fourth.0 fourth.1) (sym (length-map tags tag_item)) fourth.2, (refl, refl)),
+      (
+        fourth.0,
+        fourth.1,
+        subst (λ n. Adds (count_part n) None third.1 fourth.0 fourth.1)
+            (sym (length-map tags tag_item)) fourth.2,
+        (refl, refl),
+      ),
     ) in
     let both = both_kept fourth.1 items second.0 fourth.0
-    (kept_stays second.1 fourth.1 (value.reference_list distances) (record { distance = second.0; tags = None }) listed.2 references.0) listed.0 in
-    subst (λ past. IsKept past (value.union_vector items) (record { distance = second_of got; tags = Some (last_of got) }) × AllSeenKept past × Extends before past) (sym fourth.3.1)
-    (subst (λ (all : List ℕ). IsKept fourth.1 (value.union_vector items) (record { distance = second_of all; tags = Some (last_of all) })) (sym fourth.3.0) both, listed.1, extends_on before second.1 fourth.1 references.2 listed.2)
+    (kept_stays second.1 fourth.1 (value.reference_list distances)
+    (record { distance = second.0; tags = None }) listed.2 references.0) listed.0 in
+    subst (λ past. IsKept past (value.union_vector items)
+    (record { distance = second_of got; tags = Some (last_of got) }) × AllSeenKept past
+    × Extends before past) (sym fourth.3.1) (
+      subst (λ (all : List ℕ). IsKept fourth.1 (value.union_vector items)
+          (record { distance = second_of all; tags = Some (last_of all) })) (sym fourth.3.0) both,
+      listed.1,
+      extends_on before second.1 fourth.1 references.2 listed.2,
+    )

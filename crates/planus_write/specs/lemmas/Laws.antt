@@ -156,7 +156,8 @@ reached_still distance old new grows reached =
 -- an entry that is written, or refused, grows the builder
 pub writes_entry_grows : (entry : Entry) (got : List ℕ) (old : State) (answer : Result ℕ BuildError)
     (new : State) → WritesEntry entry got old answer new → Grows old new
-writes_entry_grows entry got old (Ok distance) new done = entry_grows entry got old distance new done
+writes_entry_grows entry got old (Ok distance) new done =
+    entry_grows entry got old distance new done
 writes_entry_grows entry got old (Err error) new done =
     left_grows error (shared_as old.switches entry.contents) old new done.unchanged
 

@@ -64,8 +64,10 @@ is_put prepares leaves size alignment ys old distance new done = record {
 
 -- the same where the items need no preparing
 ready_put : {Y : Type 0} (leaves : Y → Item) (size alignment : ℕ) (ys : List Y) (old : State)
-    (distance : ℕ) (new : State) → WritesItems Answers leaves size alignment ys old (Ok distance) new
-    → (got : List ℕ) × WritesEntries (list_entries size alignment (map leaves ys)) [] old (Ok got) new
+    (distance : ℕ) (new : State)
+    → WritesItems Answers leaves size alignment ys old (Ok distance) new
+    → (got : List ℕ)
+    × WritesEntries (list_entries size alignment (map leaves ys)) [] old (Ok got) new
     × (distance ≡ last_of got)
 ready_put {Y} leaves size alignment ys old distance new done =
     let put = is_put Answers leaves size alignment ys old distance new done in
@@ -77,7 +79,8 @@ ready_put {Y} leaves size alignment ys old distance new done =
           put.prepared.1
           (subst
           (λ (items : List Y).
-          WritesEntries (list_entries size alignment (map leaves items)) [] put.between (Ok put.got) new)
+          WritesEntries (list_entries size alignment (map leaves items)) [] put.between (Ok put.got)
+          new)
           items put.put),
       put.at,
     )
@@ -97,7 +100,8 @@ plain_list_has_content bytes size alignment layout sized = record {
   comes = λ ys old distance new past mays done is_past.
       (let content = plain_list size alignment (map bytes ys) in
       let put = ready_put (λ y. plain_item (bytes y)) size alignment ys old distance new done in
-      let entries : list_entries size alignment (map (λ y. plain_item (bytes y)) ys) ≡ entries_of content
+      let entries : list_entries size alignment (map (λ y. plain_item (bytes y)) ys)
+      ≡ entries_of content
       = ap (list_entries size alignment) (plain_items_are bytes ys) in
       let added = value_added content old put.0 new past
       (subst (λ (all : List Entry). WritesEntries all [] old (Ok put.0) new) entries put.1) is_past
@@ -113,7 +117,8 @@ plain_list_has_content bytes size alignment layout sized = record {
 -- offsets that may be prepared lie in what was written
 offsets_lie : {T : Type 0} (offsets : List (Offset T)) (old : State) (past : Past) → IsPast old past
     → AllIn old offsets
-    → AllByRecursion (λ distance. distance ≤ length past.written.bytes) (map (λ offset. offset.distance) offsets)
+    → AllByRecursion (λ distance. distance ≤ length past.written.bytes)
+    (map (λ offset. offset.distance) offsets)
 offsets_lie [] old past is_past may = tt
 offsets_lie (offset ∷ offsets) old past is_past may = (
   subst (λ (bytes : List ℕ). offset.distance ≤ length bytes) (sym is_past.bytes) may.0,
@@ -138,15 +143,18 @@ pub offset_list_has_content : {T : Type 0}
     (λ offsets. value (reference_list (map (λ offset. offset.distance) offsets)))
 offset_list_has_content {T} = record {
   comes = λ offsets old distance new past mays done is_past.
-      (let put = ready_put (λ (offset : Offset T). reference_item offset.distance) 4 4 offsets old distance new done in
+      (let put = ready_put (λ (offset : Offset T). reference_item offset.distance) 4 4 offsets old
+      distance new done in
       let added = value_added (reference_list (distances_of offsets)) old put.0 new past
-      (subst (λ (all : List Entry). WritesEntries all [] old (Ok put.0) new) (references_are offsets) put.1) is_past
+      (subst (λ (all : List Entry). WritesEntries all [] old (Ok put.0) new)
+      (references_are offsets) put.1) is_past
       (offsets_lie offsets old past is_past mays) refl in
       (added.0, added.1, added.2, (last_of put.0, ap (λ d. reference d) put.2, added.3)));
 }
 
 -- values that are kept lie in what was written
-kept_lie : (past : Past) (contents : List Value) (distances : List ℕ) → AllKept past contents distances
+kept_lie : (past : Past) (contents : List Value) (distances : List ℕ)
+    → AllKept past contents distances
     → AllByRecursion (λ distance. distance ≤ length past.written.bytes) distances
 kept_lie past [] [] kept = tt
 kept_lie past (content ∷ contents) (distance ∷ distances) kept =
@@ -156,7 +164,8 @@ kept_lie past (content ∷ contents) [] kept = elim kept [ ]
 
 module _ {X S : Type 0} {may : X → State → Type 0} {outcome : X → Outcome (Offset S)}
     (lawful : IsLawful may outcome (λ offset. offset.distance)) (content : X → Value)
-    (prepares : PreparesContent may outcome (λ x. value (content x)) (λ offset. reference offset.distance)) where
+    (prepares : PreparesContent may outcome (λ x. value (content x))
+    (λ offset. reference offset.distance)) where
   -- one value of several is prepared
   one_prepared : (x : X) (old : State) (offset : Offset S) (new : State) (past : Past) → may x old
       → outcome x old (Ok offset) new → IsPast old past
@@ -210,8 +219,10 @@ module _ {X S : Type 0} {may : X → State → Type 0} {outcome : X → Outcome 
         let prepared = subst
         (λ (state : State). PreparesAll outcome xs state (Ok put.items) put.between)
         put.prepared.2 put.prepared.3 in
-        let all = all_prepared xs old put.items put.between past (each xs old mays) prepared is_past in
-        let added = value_added (reference_list (distances_of put.items)) put.between put.got new all.0
+        let all = all_prepared xs old put.items put.between past (each xs old mays) prepared
+        is_past in
+        let added = value_added (reference_list (distances_of put.items)) put.between put.got new
+        all.0
         (subst (λ (all : List Entry). WritesEntries all [] put.between (Ok put.got) new)
         (references_are put.items) put.put) all.1
         (kept_lie all.0 (map content xs) (distances_of put.items) all.3) refl in (
@@ -236,8 +247,12 @@ all_as : {X Y A : Type 0} (outcome : X → Outcome A) (of : Y → X) (ys : List 
     → PreparesAll (λ y old answer new. outcome (of y) old answer new) ys old (Ok items) new
     → PreparesAll outcome (map of ys) old (Ok items) new
 all_as outcome of [] old items new done = done
-all_as outcome of (y ∷ ys) old items new done =
-    (done.0, done.1, done.2, (done.3.0, done.3.1, all_as outcome of ys done.1 done.3.0 done.3.1 done.3.2, done.3.3))
+all_as outcome of (y ∷ ys) old items new done = (
+  done.0,
+  done.1,
+  done.2,
+  (done.3.0, done.3.1, all_as outcome of ys done.1 done.3.0 done.3.1 done.3.2, done.3.3),
+)
 
 -- lists of them hold what lists of the others hold
 pub list_prepared_as : {X Y A : Type 0} {may : X → State → Type 0} {outcome : X → Outcome A}
@@ -254,7 +269,8 @@ list_prepared_as {X} {Y} {A} {outcome = outcome} {prepares = prepares} of are la
         done.0,
         done.1,
         are.one_by_one (map of ys) old done.0 done.1 mays
-            (subst (λ (state : State). PreparesAll outcome (map of ys) state (Ok done.0) done.1) done.2.2
+            (subst (λ (state : State). PreparesAll outcome (map of ys) state (Ok done.0) done.1)
+            done.2.2
             (all_as outcome of ys done.2.1 done.0 done.1 done.2.3)),
         done.3,
       ) is_past;

@@ -84,7 +84,8 @@ module _ {X A : Type 0} (may : X → State → Type 0) (outcome : X → Outcome 
       → AllByRecursion (λ a. reach a ≤ length new.bytes) all
   all_reach [] old all new h done =
       let none : all ≡ [] = cc in
-      subst (λ (items : List A). AllByRecursion (λ a. reach a ≤ length new.bytes) items) (sym none) tt
+      subst (λ (items : List A). AllByRecursion (λ a. reach a ≤ length new.bytes) items) (sym none)
+      tt
   all_reach (x ∷ xs) old all new h done =
       let still = may_still xs old done.1 (lawful.grows x old (Ok done.0) done.1 h.0 done.2) h.1 in
       let others : List A = done.3.0 in
@@ -163,7 +164,8 @@ free_items_are_lawful {X} {A} {outcome} {reach} lawful = record {
   one_by_one = λ xs old values new h done. (tt, old, refl, done);
 }
   where
-    items : AreLawful (λ x old. ⊤) outcome (λ xs old. AllMay (λ x old. ⊤) xs old) (λ xs. PreparesItems outcome xs) reach
+    items : AreLawful (λ x old. ⊤) outcome (λ xs old. AllMay (λ x old. ⊤) xs old)
+        (λ xs. PreparesItems outcome xs) reach
     items = items_are_lawful lawful
 
 -- items that are prepared as others are lawful where these are
@@ -173,15 +175,17 @@ pub items_are_lawful_as : {X Y A : Type 0} {may : X → State → Type 0} {outco
     → AreLawful (λ y old. may (of y) old) (λ y old answer new. outcome (of y) old answer new)
     (λ ys old. all_may (map of ys) old)
     (λ ys. PreparesItems (λ y old answer new. outcome (of y) old answer new) ys) reach
-items_are_lawful_as {X} {Y} {A} {may} {outcome} {all_may} {prepares} {reach} of lawful are = record {
-  each_may = λ ys old h. each ys old h;
-  grow = λ ys old answer new h done. items.grow ys old answer new (each ys old h) done;
-  reach_all = λ ys old values new h done. items.reach_all ys old values new (each ys old h) done;
-  stay = λ ys old new grows h. are.stay (map of ys) old new grows h;
-  one_by_one = λ ys old values new h done. (tt, old, refl, done);
-}
+items_are_lawful_as {X} {Y} {A} {may} {outcome} {all_may} {prepares} {reach} of lawful are =
+    record {
+      each_may = λ ys old h. each ys old h;
+      grow = λ ys old answer new h done. items.grow ys old answer new (each ys old h) done;
+      reach_all = λ ys old values new h done. items.reach_all ys old values new (each ys old h) done;
+      stay = λ ys old new grows h. are.stay (map of ys) old new grows h;
+      one_by_one = λ ys old values new h done. (tt, old, refl, done);
+    }
   where
-    each : (ys : List Y) (old : State) → all_may (map of ys) old → AllMay (λ y old. may (of y) old) ys old
+    each : (ys : List Y) (old : State) → all_may (map of ys) old
+        → AllMay (λ y old. may (of y) old) ys old
     each ys old h = all_may_of may of ys old (are.each_may (map of ys) old h)
 
     items : AreLawful (λ y old. may (of y) old) (λ y old answer new. outcome (of y) old answer new)
@@ -202,7 +206,8 @@ ready_are_lawful {A} all_may {reach} each reached still = record {
   grow = λ xs old answer new h done. unchanged_grows old new done.1;
   reach_all = λ xs old values new h done.
       let same : values ≡ xs = cc in
-      subst (λ (state : State). AllByRecursion (λ x. reach x ≤ length state.bytes) values) (sym done.1)
+      subst (λ (state : State). AllByRecursion (λ x. reach x ≤ length state.bytes) values)
+      (sym done.1)
       (subst (λ (items : List A). AllByRecursion (λ x. reach x ≤ length old.bytes) items) (sym same)
       (reached xs old h));
   stay = still;
@@ -267,7 +272,8 @@ list_is_lawful {all_may = all_may} {prepares = prepares} {leaves = leaves} size 
     lawful =
     record {
       grows = λ y old answer new h done.
-          list_grows all_may prepares (λ xs old h answer new done. lawful.grow xs old answer new h done)
+          list_grows all_may prepares
+          (λ xs old h answer new done. lawful.grow xs old answer new h done)
           leaves size alignment (items_of y) old h answer new done;
       reaches = λ y old offset new h done.
           let same : offset.distance ≡ last_of done.3.0 = cc in
@@ -283,7 +289,8 @@ list_is_lawful {all_may = all_may} {prepares = prepares} {leaves = leaves} size 
 pub ready_list_is_put : {A T : Type 0} (leaves : A → Item) (size alignment : ℕ) (xs : List A)
     (old : State) (offset : Offset T) (new : State)
     → WritesList Answers leaves size alignment xs old (Ok offset) new
-    → (got : List ℕ) × WritesEntries (list_entries size alignment (map leaves xs)) [] old (Ok got) new
+    → (got : List ℕ)
+    × WritesEntries (list_entries size alignment (map leaves xs)) [] old (Ok got) new
     × (offset.distance ≡ last_of got)
 ready_list_is_put {A} {T} leaves size alignment xs old offset new h =
     let items : h.0 ≡ xs = cc in
@@ -306,12 +313,14 @@ ready_list_is_put {A} {T} leaves size alignment xs old offset new h =
     )
 
 -- It is refused where its entries are.
-pub ready_list_is_refused : {A : Type 0} (T : Type 0) (leaves : A → Item) (size alignment : ℕ) (xs : List A)
+pub ready_list_is_refused
+    : {A : Type 0} (T : Type 0) (leaves : A → Item) (size alignment : ℕ) (xs : List A)
     (old : State) (error : BuildError) (new : State)
     → WritesList {T = T} Answers leaves size alignment xs old (Err error) new
     → WritesEntries (list_entries size alignment (map leaves xs)) [] old (Err error) new
 ready_list_is_refused T leaves size alignment xs old error new (inl h) = (cc)
-ready_list_is_refused {A} T leaves size alignment xs old error new (inr (items, mid, h, inl refused)) =
+ready_list_is_refused {A} T leaves size alignment xs old error new
+    (inr (items, mid, h, inl refused)) =
     let same : items ≡ xs = cc in
     subst
     (λ (state : State).

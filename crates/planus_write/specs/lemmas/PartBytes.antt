@@ -22,7 +22,10 @@ use Rattle.planus_write.specs.Kept.{IsKept}
 -- the place of a part whose bytes are as many as its size is the length with it
 pub length_after : (part : Part) (before after : Written) (placed : Placed part before after)
     → length (part.bytes_at placed.place) ≡ part.size → length after.bytes ≡ placed.place
-length_after part before after placed sized = ap length placed.bytes ∙ simp (length-append, length-replicate) (let h = sized in let g = placed.is_place in omega arith)
+length_after part before after placed sized =
+    ap length placed.bytes
+    ∙ simp (length-append, length-replicate)
+    (let h = sized in let g = placed.is_place in omega arith)
 
 pub text_size : (content : List ℕ) (place : ℕ)
     → length ((text_part content).bytes_at place) ≡ (text_part content).size
@@ -33,12 +36,18 @@ pub byte_list_size : (content : List ℕ) (place : ℕ)
 byte_list_size content place = simp length-append (omega arith)
 
 pub finish_size : (root : ℕ) (identifier : Option (List ℕ)) (before : Written) (place : ℕ)
-    → length ((finish_part root identifier before.promises).bytes_at place) ≡ (finish_part root identifier before.promises).size
-finish_size root identifier before place = let e : 4 + length (identifier_bytes identifier) ≡ length (identifier_bytes identifier) + 4 = omega arith in simp length-append (omega arith)
+    → length ((finish_part root identifier before.promises).bytes_at place)
+    ≡ (finish_part root identifier before.promises).size
+finish_size root identifier before place =
+    let e : 4 + length (identifier_bytes identifier) ≡ length (identifier_bytes identifier) + 4 =
+    omega arith in simp length-append (omega arith)
 
 pub sized_finish_size : (root : ℕ) (identifier : Option (List ℕ)) (before : Written) (place : ℕ)
-    → length ((sized_finish_part root identifier before.promises).bytes_at place) ≡ (sized_finish_part root identifier before.promises).size
-sized_finish_size root identifier before place = let e : 8 + length (identifier_bytes identifier) ≡ length (identifier_bytes identifier) + 8 = omega arith in simp length-append (omega arith)
+    → length ((sized_finish_part root identifier before.promises).bytes_at place)
+    ≡ (sized_finish_part root identifier before.promises).size
+sized_finish_size root identifier before place =
+    let e : 8 + length (identifier_bytes identifier) ≡ length (identifier_bytes identifier) + 8 =
+    omega arith in simp length-append (omega arith)
 
 four_fit : (m : ℕ) → nat_le 4 (suc (suc (suc (suc m)))) ≡ true
 four_fit m = grind (arith, nat_tests)
@@ -46,7 +55,8 @@ four_fit m = grind (arith, nat_tests)
 -- the number at the front of the bytes
 pub front_number : (n : ℕ) (rest : List ℕ) → n < 2 ^ 32
     → Num (to_le_bytes w32 n ++ rest) 0 w32 ≡ Some n
-front_number n rest small = rw (four_fit (length rest)) (ap Some (from_le_bytes-to_le_bytes_4 n small))
+front_number n rest small =
+    rw (four_fit (length rest)) (ap Some (from_le_bytes-to_le_bytes_4 n small))
 
 eight_fit : (m : ℕ) → nat_le 8 (suc (suc (suc (suc (suc (suc (suc (suc m)))))))) ≡ true
 eight_fit m = grind (arith, nat_tests)
@@ -54,20 +64,24 @@ eight_fit m = grind (arith, nat_tests)
 -- the one behind it
 pub second_number : (m n : ℕ) (rest : List ℕ) → n < 2 ^ 32
     → Num (to_le_bytes w32 m ++ (to_le_bytes w32 n ++ rest)) 4 w32 ≡ Some n
-second_number m n rest small = rw (eight_fit (length rest)) (ap Some (from_le_bytes-to_le_bytes_4 n small))
+second_number m n rest small =
+    rw (eight_fit (length rest)) (ap Some (from_le_bytes-to_le_bytes_4 n small))
 
 -- what stands at the front of what was written is kept at its length
 pub kept_at_front : (past : Past) (value : Value) (distance : ℕ)
     → length past.written.bytes ≡ distance
     → Stands past.written.bytes (at 0) value
-    → ((front : List ℕ) → Keep past.written.promises (length (front ++ past.written.bytes)) → AlignedAt (front ++ past.written.bytes) (at (length front)) value)
+    → ((front : List ℕ) → Keep past.written.promises (length (front ++ past.written.bytes))
+    → AlignedAt (front ++ past.written.bytes) (at (length front)) value)
     → IsKept past value (record { distance = distance; tags = None })
 kept_at_front past value distance at_end there aligned = record {
   reached = omega (arith, at_end);
   tags_reached = tt;
-  stands = subst (λ k. Stands past.written.bytes (at k) value) (let e : 0 ≡ length past.written.bytes - distance = omega (arith, at_end) in e) there;
+  stands = subst (λ k. Stands past.written.bytes (at k) value)
+      (let e : 0 ≡ length past.written.bytes - distance = omega (arith, at_end) in e) there;
   aligned = λ front keep.
-      let e : length front ≡ length front + (length past.written.bytes - distance) = omega (arith, at_end) in
+      let e : length front ≡ length front + (length past.written.bytes - distance) =
+      omega (arith, at_end) in
       subst (λ k. AlignedAt (front ++ past.written.bytes) (at k) value) e (aligned front keep);
 }
 
@@ -76,11 +90,20 @@ pub unpadded : (size : ℕ) (bytes_at : ℕ → List ℕ) (before after : Writte
     (placed : Placed (record { size = size; alignment = 1; bytes_at = bytes_at }) before after)
     → placed.padding ≡ 0
 unpadded size bytes_at before after placed =
-    let padded : CanPad (length before.bytes) before.promises size 1 placed.padding = placed.is_least.holds in
+    let padded : CanPad (length before.bytes) before.promises size 1 placed.padding =
+    placed.is_least.holds in
     let reaches : length before.bytes + placed.padding + size ≤ padded.0 = padded.1.0.reaches in
     let can : CanPad (length before.bytes) before.promises size 1 0 = (
       padded.0,
-      (record { reaches = omega (arith, reaches); aligns = divides_multiple 1 (padded.0 - (length before.bytes + 0 + size)) (padded.0 - (length before.bytes + 0 + size)) (omega arith) }, padded.1.1),
+      (
+        record {
+          reaches = omega (arith, reaches);
+          aligns =
+              divides_multiple 1 (padded.0 - (length before.bytes + 0 + size))
+              (padded.0 - (length before.bytes + 0 + size)) (omega arith);
+        },
+        padded.1.1,
+      ),
     ) in
     let le : placed.padding ≤ 0 = placed.is_least.least 0 can in
     omega (arith, le)

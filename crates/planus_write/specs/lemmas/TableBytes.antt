@@ -71,13 +71,15 @@ slot_there : (B : List ℕ) (entries : List (ℕ × Field)) (n slot s i : ℕ) �
     → BytesStand B (s + 2 * i) (to_le_bytes w16 (field_offset 4 entries (slot + i)))
 slot_there B entries zero slot s i below there = absurd (omega (arith, below))
 slot_there B entries (suc n) slot s zero below there =
-    let both = parts_stand B (to_le_bytes w16 (field_offset 4 entries slot)) (slots_bytes entries (slot + 1) n) s there in
+    let both = parts_stand B (to_le_bytes w16 (field_offset 4 entries slot))
+    (slots_bytes entries (slot + 1) n) s there in
     let at : s ≡ s + 2 * 0 = omega arith in
     let of : slot ≡ slot + 0 = omega arith in
     subst (λ k. BytesStand B k (to_le_bytes w16 (field_offset 4 entries (slot + 0)))) at
     (subst (λ j. BytesStand B s (to_le_bytes w16 (field_offset 4 entries j))) of both.0)
 slot_there B entries (suc n) slot s (suc i) below there =
-    let both = parts_stand B (to_le_bytes w16 (field_offset 4 entries slot)) (slots_bytes entries (slot + 1) n) s there in
+    let both = parts_stand B (to_le_bytes w16 (field_offset 4 entries slot))
+    (slots_bytes entries (slot + 1) n) s there in
     let at : s + 2 + 2 * i ≡ s + 2 * (suc i) = omega arith in
     let of : slot + 1 + i ≡ slot + suc i = omega arith in
     subst (λ k. BytesStand B k (to_le_bytes w16 (field_offset 4 entries (slot + suc i)))) at
@@ -119,8 +121,10 @@ offset_inside : (entries : List (ℕ × Field)) (from slot : ℕ)
 offset_inside [] from slot = omega arith
 offset_inside (entry ∷ entries) from slot =
     let next : ℕ = from + field_size entry.1 in
-    let rest : field_offset next entries slot ≤ next + body_size entries = offset_inside entries next slot in
-    tested (λ q field. q ≤ from + (field_size entry.1 + body_size entries)) (entry.0 == slot) from (field_offset next entries slot) None None (omega arith) (omega (arith, rest))
+    let rest : field_offset next entries slot ≤ next + body_size entries =
+    offset_inside entries next slot in
+    tested (λ q field. q ≤ from + (field_size entry.1 + body_size entries)) (entry.0 == slot) from
+    (field_offset next entries slot) None None (omega arith) (omega (arith, rest))
 
 -- What a slot's number says of the table at k: 0 of an absent field, else where it stands.
 abbrev FieldFound : List ℕ → ℕ → ℕ → Option Field → Type 0
@@ -139,12 +143,21 @@ module _ (B : List ℕ) (before k : ℕ) where
   fields_stand (entry ∷ entries) from place slot good inside fits ends behind there =
       let size : ℕ = field_size entry.1 in
       let rest : List ℕ = body_bytes (place - size) entries in
-      let both : BytesStand B (k + from) (field_item entry.1 place) × BytesStand B (k + from + length (field_item entry.1 place)) rest = parts_stand B (field_item entry.1 place) rest (k + from) there in
-      let here : FieldStands B (k + from) entry.1 = field_there B before entry.1 (k + from) place good.0 (omega (arith, inside)) fits ends both.0 in
-      let at : k + from + length (field_item entry.1 place) ≡ k + (from + size) = let e = item_length entry.1 place in omega (arith, e) in
-      let next : BytesStand B (k + (from + size)) rest = subst (λ n. BytesStand B n rest) at both.1 in
-      let further = fields_stand entries (from + size) (place - size) slot good.1 (omega (arith, inside)) (omega (arith, fits)) (omega (arith, inside, ends)) (omega (arith, behind)) next in
-      tested (FieldFound B k) (entry.0 == slot) from (field_offset (from + size) entries slot) (Some entry.1) (field_at entries slot) (behind, here) further
+      let both : BytesStand B (k + from) (field_item entry.1 place)
+      × BytesStand B (k + from + length (field_item entry.1 place)) rest =
+      parts_stand B (field_item entry.1 place) rest (k + from) there in
+      let here : FieldStands B (k + from) entry.1 =
+      field_there B before entry.1 (k + from) place good.0 (omega (arith, inside)) fits ends
+      both.0 in
+      let at : k + from + length (field_item entry.1 place) ≡ k + (from + size) = let e =
+      item_length entry.1 place in omega (arith, e) in
+      let next : BytesStand B (k + (from + size)) rest =
+      subst (λ n. BytesStand B n rest) at both.1 in
+      let further =
+      fields_stand entries (from + size) (place - size) slot good.1 (omega (arith, inside))
+      (omega (arith, fits)) (omega (arith, inside, ends)) (omega (arith, behind)) next in
+      tested (FieldFound B k) (entry.0 == slot) from (field_offset (from + size) entries slot)
+      (Some entry.1) (field_at entries slot) (behind, here) further
 
 -- the alignment of a field is a power of two, and divides its size
 field_power : (before : ℕ) (field : Field) → IsField before field
@@ -185,7 +198,8 @@ module _ (before k : ℕ) where
       let next : b ∣ (k + (from + size)) = subst (λ n. b ∣ n) at (dvd-add b here of.1) in
       let rest = falling_rest entry entries falling in
       let further = fields_aligned entries (from + size) slot b good.1 rest.1 of.0 next rest.0 in
-      tested (FieldAligned k) (entry.0 == slot) from (field_offset (from + size) entries slot) (Some entry.1) (field_at entries slot) here further
+      tested (FieldAligned k) (entry.0 == slot) from (field_offset (from + size) entries slot)
+      (Some entry.1) (field_at entries slot) here further
 
 -- the greater of two powers of two is one
 greater_power : (a b : ℕ) → IsPowerOfTwo a → IsPowerOfTwo b → IsPowerOfTwo (max a b)
@@ -204,7 +218,8 @@ body_power before [] good = ((2, refl), omega arith, tt)
 body_power before (entry ∷ entries) good =
     let rest = body_power before entries good.1 in
     let least : 4 ≤ body_alignment entries = rest.1 in (
-      greater_power (field_alignment entry.1) (body_alignment entries) (field_power before entry.1 good.0).0 rest.0,
+      greater_power (field_alignment entry.1) (body_alignment entries)
+          (field_power before entry.1 good.0).0 rest.0,
       omega (arith, least),
       omega arith,
     )
@@ -219,17 +234,22 @@ module _ (B : List ℕ) (t : ℕ) (entries : List (ℕ × Field))
   pub size_there : vtable_size entries ≤ 65534 → Num B t w16 ≡ Some (vtable_size entries)
   size_there fits =
       short_there B t (vtable_size entries) (omega (arith, fits)) (omega (arith, inside))
-      (parts_stand B (to_le_bytes w16 (vtable_size entries)) (to_le_bytes w16 (object_size entries) ++ slots_are) t there).0
+      (parts_stand B (to_le_bytes w16 (vtable_size entries))
+      (to_le_bytes w16 (object_size entries) ++ slots_are) t there).0
 
   pub offset_there : object_size entries ≤ 65535 → (i : ℕ) → 2 * i + 6 ≤ vtable_size entries
       → Num B (t + 4 + 2 * i) w16 ≡ Some (field_offset 4 entries i)
   offset_there fits i within =
-      let behind = (parts_stand B (to_le_bytes w16 (vtable_size entries)) (to_le_bytes w16 (object_size entries) ++ slots_are) t there).1 in
-      let slots : BytesStand B (t + 2 + 2) slots_are = (parts_stand B (to_le_bytes w16 (object_size entries)) slots_are (t + 2) behind).1 in
+      let behind =
+      (parts_stand B (to_le_bytes w16 (vtable_size entries))
+      (to_le_bytes w16 (object_size entries) ++ slots_are) t there).1 in
+      let slots : BytesStand B (t + 2 + 2) slots_are =
+      (parts_stand B (to_le_bytes w16 (object_size entries)) slots_are (t + 2) behind).1 in
       let at : t + 2 + 2 + 2 * i ≡ t + 4 + 2 * i = omega arith in
       let of : 0 + i ≡ i = omega arith in
       let small : field_offset 4 entries i ≤ 4 + body_size entries = offset_inside entries 4 i in
-      short_there B (t + 4 + 2 * i) (field_offset 4 entries i) (omega (arith, small, fits)) (omega (arith, within, inside))
+      short_there B (t + 4 + 2 * i) (field_offset 4 entries i) (omega (arith, small, fits))
+      (omega (arith, within, inside))
       (subst (λ s. BytesStand B s (to_le_bytes w16 (field_offset 4 entries i))) at
       (subst (λ j. BytesStand B (t + 2 + 2 + 2 * i) (to_le_bytes w16 (field_offset 4 entries j))) of
       (slot_there B entries (slot_count entries) 0 (t + 2 + 2) i (omega (arith, within)) slots)))

@@ -29,7 +29,8 @@ module _ {X T : Type 0} {may : X → State → Type 0} {outcome : X → Outcome 
   Come xs unions new after = UnionsAre after (as_unions (map content xs)) (map item_of unions)
       × AllByRecursion (λ union. union.1 ≤ length new.bytes) (map item_of unions)
 
-  unions_come : (xs : List X) (old : State) (unions : List (UnionOffset T)) (new : State) (past : Past)
+  unions_come : (xs : List X) (old : State) (unions : List (UnionOffset T)) (new : State)
+      (past : Past)
       → AllMay may xs old → PreparesAll outcome xs old (Ok unions) new → IsPast old past
       → Comes past new (Come xs unions new)
   unions_come [] old unions new past mays done is_past =
@@ -42,7 +43,8 @@ module _ {X T : Type 0} {may : X → State → Type 0} {outcome : X → Outcome 
       let rest = may_still may outcome union_reach lawful xs old between
       (lawful.grows x old (Ok done.0) between mays.0 done.2) mays.1 in
       let far = unions_come xs between done.3.0 done.3.1 near.0 rest done.3.2 near.1 in
-      let first = field_stays near.0 far.0 (content x).1 (reference (union_reach done.0)) far.2 near.3.1 in
+      let first = field_stays near.0 far.0 (content x).1 (reference (union_reach done.0)) far.2
+      near.3.1 in
       let reached = reached_still (union_reach done.0) between done.3.1
       (all_grow may outcome union_reach lawful xs between rest (Ok done.3.0) done.3.1 done.3.2)
       (lawful.reaches x old done.0 between mays.0 done.2) in
@@ -56,7 +58,8 @@ module _ {X T : Type 0} {may : X → State → Type 0} {outcome : X → Outcome 
       )
 
   -- a vector of them is written
-  pub vector_comes : (xs : List X) (old : State) (vector : UnionVectorOffset T) (new : State) (past : Past)
+  pub vector_comes
+      : (xs : List X) (old : State) (vector : UnionVectorOffset T) (new : State) (past : Past)
       → AllMay may xs old → WritesUnionVector outcome xs old (Ok vector) new → IsPast old past
       → Comes past new
       (λ after. UnionVectorHolds after (Some (unions_hold (map content xs))) (Some vector))
@@ -66,9 +69,11 @@ module _ {X T : Type 0} {may : X → State → Type 0} {outcome : X → Outcome 
       done.2.2 done.2.3 in
       let all = unions_come xs old done.0 done.1 past mays prepared is_past in
       let pairs = map item_of done.0 in
-      let inside = subst (λ (bytes : List ℕ). AllByRecursion (λ union. union.1 ≤ length bytes) pairs)
+      let inside =
+      subst (λ (bytes : List ℕ). AllByRecursion (λ union. union.1 ≤ length bytes) pairs)
       (sym all.1.bytes) all.3.1 in
-      let placed = entries_put (entries_of (union_vector pairs)) [] done.1 h.0 new all.0 done.3 all.1 in
+      let placed =
+      entries_put (entries_of (union_vector pairs)) [] done.1 h.0 new all.0 done.3 all.1 in
       let kept = values_are_kept done.1.switches (union_vector pairs) all.0 h.0 placed.0 inside
       all.1.kept placed.1 in
       let stands = subst
@@ -94,7 +99,8 @@ written_union_prepared {T} {may} = record {
       (let same : union ≡ prepared = cc in
       stays_there past old new
       (λ after. UnionHolds after (Some (written_union union)) (Some prepared)) done.1 is_past
-      (subst (λ (found : UnionOffset T). UnionHolds past (Some (written_union union)) (Some found)) same
+      (subst (λ (found : UnionOffset T). UnionHolds past (Some (written_union union)) (Some found))
+      same
       (refl, refl)));
 }
 
@@ -102,6 +108,7 @@ written_union_prepared {T} {may} = record {
 pub union_item_prepared_as : {X Y T : Type 0} {may : X → State → Type 0}
     {outcome : X → Outcome (UnionOffset T)} {content : X → ℕ × Content} (of : Y → X)
     → PreparesUnionItem may outcome content
-    → PreparesUnionItem (λ y old. may (of y) old) (λ y old answer new. outcome (of y) old answer new)
+    → PreparesUnionItem (λ y old. may (of y) old)
+    (λ y old answer new. outcome (of y) old answer new)
     (λ y. content (of y))
 union_item_prepared_as of lawful = record { comes = λ y. lawful.comes (of y) }

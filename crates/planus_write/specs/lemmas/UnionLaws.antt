@@ -16,12 +16,14 @@ use Rattle.planus_write.specs.declared.union_vector_offset.UnionVectorOffset.{Un
 
 -- a union that is written already is lawful
 pub union_offset_is_lawful : {T : Type 0}
-    → IsLawful {X = UnionOffset T} (λ union old. union_reach union ≤ length old.bytes) Answers union_reach
+    → IsLawful {X = UnionOffset T} (λ union old. union_reach union ≤ length old.bytes) Answers
+    union_reach
 union_offset_is_lawful {T} = written_is_lawful (λ (union : UnionOffset T). union_reach union)
 
 -- so is a union vector
 pub union_vector_offset_is_lawful : {T : Type 0}
-    → IsLawful {X = UnionVectorOffset T} (λ vector old. union_vector_reach vector ≤ length old.bytes)
+    → IsLawful {X = UnionVectorOffset T}
+    (λ vector old. union_vector_reach vector ≤ length old.bytes)
     Answers union_vector_reach
 union_vector_offset_is_lawful {T} =
     written_is_lawful (λ (vector : UnionVectorOffset T). union_vector_reach vector)
@@ -53,10 +55,15 @@ module _ {X T : Type 0} (may : X → State → Type 0) (outcome : X → Outcome 
       let third = second.3 in
       let fourth = third.3 in
       let same : got ≡ h.0 ∷ second.0 ∷ third.0 ∷ fourth.0 ∷ [] = cc in
-      let further = reached_still second.0 second.1 third.1 (entry_grows _ _ second.1 third.0 third.1 third.2) second.2.reached in
-      let still = reached_still second.0 third.1 fourth.1 (entry_grows _ _ third.1 fourth.0 fourth.1 fourth.2) further in
-      subst (λ (all : List ℕ). (second_of all ≤ length new.bytes) × (last_of all ≤ length new.bytes)) (sym same)
-      (subst (λ (state : State). (second.0 ≤ length state.bytes) × (fourth.0 ≤ length state.bytes)) (sym fourth.3.1)
+      let further =
+      reached_still second.0 second.1 third.1 (entry_grows _ _ second.1 third.0 third.1 third.2)
+      second.2.reached in
+      let still = reached_still second.0 third.1 fourth.1
+      (entry_grows _ _ third.1 fourth.0 fourth.1 fourth.2) further in
+      subst (λ (all : List ℕ). (second_of all ≤ length new.bytes)
+      × (last_of all ≤ length new.bytes)) (sym same)
+      (subst (λ (state : State). (second.0 ≤ length state.bytes) × (fourth.0 ≤ length state.bytes))
+      (sym fourth.3.1)
       (still, fourth.2.reached))
 
   -- a union vector is lawful
@@ -72,7 +79,8 @@ module _ {X T : Type 0} (may : X → State → Type 0) (outcome : X → Outcome 
         let values = done.2 in
         let tags = done.3 in
         omega (arith, second, last, values, tags);
-    stays = λ y old new grows h. may_still may outcome union_reach lawful (items_of y) old new grows h;
+    stays = λ y old new grows h. may_still may outcome union_reach lawful (items_of y) old new grows
+        h;
   }
 
 -- A union vector that are written already is written by its entries alone.
