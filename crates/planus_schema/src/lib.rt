@@ -1,8 +1,16 @@
 //! What a schema of flatbuffers means: names, types, slots, layouts and defaults.
 #![tactic(auto)]
 
+mod attributes;
+mod fault;
+mod head;
+mod kind;
+mod lookup;
 mod number;
 mod scalar;
+mod schema;
 
+pub use fault::{Fault, Problem};
 pub use number::Number;
 pub use scalar::Scalar;
+pub use schema::{Base, FieldType};
