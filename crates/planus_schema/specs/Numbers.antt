@@ -93,6 +93,10 @@ is_float Float = true
 is_float Double = true
 is_float s = false
 
+abbrev pub is_bool : Scalar → Bool
+is_bool Boolean = true
+is_bool s = false
+
 -- the values of an integer type end here, above and below zero; a `bool` is 0 or 1
 abbrev pub greatest : Scalar → ℕ
 greatest Boolean = 1

@@ -2,10 +2,12 @@
 #![tactic(auto)]
 
 mod attributes;
+mod enums;
 mod fault;
 mod head;
 mod kind;
 mod lookup;
+mod names;
 mod number;
 mod scalar;
 mod schema;
@@ -13,4 +15,7 @@ mod schema;
 pub use fault::{Fault, Problem};
 pub use number::Number;
 pub use scalar::Scalar;
-pub use schema::{Base, FieldType};
+pub use schema::{
+    Base, Body, Enum, EnumValue, FieldType, Struct, StructField, Table, TableField, Union,
+    UnionMember, Value,
+};

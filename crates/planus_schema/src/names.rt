@@ -1,10 +1,10 @@
 //! Names that are copied, and names that are used up.
 
-ghost use Rattle.std.specs.Prelude.{◌≡◌, ◌×◌, ◌++◌, ◌∷◌, [], true, false, map, IfOk, OnOk, IsTrue};
-ghost use Rattle.std.specs.List.{list_any, IsDistinct};
+ghost use Rattle.std.specs.Prelude.{◌≡◌, IfOk};
+ghost use Rattle.std.specs.List.{list_any};
 ghost use Rattle.std.specs.Str.{bytes_eq};
 ghost use Rattle.planus_syntax.specs.Values.{names_of};
-ghost use Rattle.planus_schema.specs.Sound.{Takes};
+ghost use Rattle.planus_schema.specs.Distinct.{Takes};
 
 use std::alloc::{AllocError, Global};
 

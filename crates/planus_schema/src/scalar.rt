@@ -5,7 +5,7 @@ ghost use Rattle.std.specs.Str.{bytes_eq};
 ghost use Rattle.planus_schema.specs.Numbers.{scalar_named as scalar_named_lem, scalar_size};
 ghost use Rattle.planus_schema.specs.Numbers.{is_float as is_float_lem, is_signed as is_signed_lem};
 ghost use Rattle.planus_schema.specs.Numbers.{greatest as greatest_lem, least as least_lem};
-ghost use Rattle.planus_schema.specs.Numbers.{fits as fits_lem};
+ghost use Rattle.planus_schema.specs.Numbers.{fits as fits_lem, is_bool as is_bool_lem};
 
 use crate::number::Number;
 
@@ -81,6 +81,16 @@ impl Scalar {
     {
         match self {
             Scalar::Float | Scalar::Double => true,
+            _ => false,
+        }
+    }
+
+    /// Returns whether it is `bool`.
+    pub fn is_bool(self) -> bool
+        ensures { result ≡ is_bool_lem self }
+    {
+        match self {
+            Scalar::Bool => true,
             _ => false,
         }
     }
