@@ -15,3 +15,10 @@ pub record IsAdded (old : List (List ℕ)) (name : List ℕ) (new : List (List �
 abbrev pub Takes : Bool → List (List ℕ) → List ℕ → List (List ℕ) → Type 0
 Takes true old name new = IsAdded old name new
 Takes false old name new = Unit {0}
+
+-- each item of one list with that of the other at its place
+abbrev pub Each2 : {A B : Type 0} → (A → B → Type 0) → List A → List B → Type 0
+Each2 R [] [] = Unit {0}
+Each2 R [] (y ∷ ys) = ⊥
+Each2 R (x ∷ xs) [] = ⊥
+Each2 R (x ∷ xs) (y ∷ ys) = R x y × Each2 R xs ys

@@ -11,6 +11,7 @@ mod names;
 mod number;
 mod scalar;
 mod schema;
+mod structs;
 
 pub use fault::{Fault, Problem};
 pub use number::Number;
