@@ -4,6 +4,7 @@ ghost use Rattle.std.specs.Prelude.{◌≡◌, ◌≤◌, ◌-◌, List, length,
 ghost use Rattle.planus_syntax.specs.Tokens.{Piece, pieces_of};
 ghost use Rattle.planus_syntax.specs.Placing.{StandsAt};
 ghost use Rattle.planus_syntax.specs.Lexing.{lex_of};
+ghost use Rattle.planus_syntax.specs.declared.text.SchemaError.TheVariants.{OutOfMemory};
 ghost use Rattle.planus_syntax.specs.Values.{AreWhole, DeclarationV, IsSchema, schema_of};
 ghost use Rattle.planus_syntax.specs.Values.{schema_pieces, text_of};
 ghost use Rattle.planus_syntax.specs.Parsed.{IsFaultOf, LiesIn, Spells};
@@ -121,6 +122,9 @@ pub fn place_from_end(alloc: Global, text: &[u8], left: usize) -> Result<usize, 
     ensures within { IfOk result (λ at. at ≤ length text.now) }
     ensures stands { (ps : List Piece) → lex_of text.now ≡ Ok ps
         → IfOk result (λ at. StandsAt text.now ps (length ps - left) at) }
+    // A text that has tokens has the place, unless memory is refused.
+    ensures only { (ps : List Piece) → lex_of text.now ≡ Ok ps
+        → IfErr result (λ error. error ≡ OutOfMemory) }
 {
     match lex(alloc, text) {
         Ok(tokens) => Ok(place_of(text, tokens.len().saturating_sub(left))),

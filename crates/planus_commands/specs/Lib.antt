@@ -1,0 +1,4 @@
+pub mod Arguments
+pub mod Said
+pub mod Reports
+pub mod Outcomes
