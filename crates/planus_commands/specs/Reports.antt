@@ -28,19 +28,22 @@ first_line bytes = take (position_or_len is_feed bytes) bytes
 abbrev pub below : ℕ → ℕ
 below b = if b == 9 then 9 else 32
 
--- Where it is, from 1 on: the line, and the column in bytes. Then the fault, and the line.
-abbrev pub head_text : List ℕ → List ℕ → List ℕ → List ℕ
-head_text name before message =
+-- Where it is, from 1 on: the line, and the column in bytes.
+abbrev pub place_text : List ℕ → List ℕ → List ℕ
+place_text name before =
     name ++ (codes ":" ++ (decimal (1 + count_by is_feed before)
-    ++ (codes ":" ++ (decimal (1 + length (last_line before))
-    ++ (codes ": " ++ (message ++ codes "\n"))))))
+    ++ (codes ":" ++ (decimal (1 + length (last_line before)) ++ codes ": "))))
+
+-- a line, and a mark below the end of its front
+abbrev pub marked_text : List ℕ → List ℕ → List ℕ
+marked_text front rest =
+    front ++ (first_line rest ++ (codes "\n" ++ (map below front ++ codes "^\n")))
 
 -- the report of a fault in a text, at the byte with this index
 abbrev pub report_text : List ℕ → List ℕ → ℕ → List ℕ → List ℕ
 report_text name text at message =
-    head_text name (take at text) message
-    ++ (last_line (take at text) ++ (first_line (drop at text)
-    ++ (codes "\n" ++ (map below (last_line (take at text)) ++ codes "^\n"))))
+    place_text name (take at text) ++ (message ++ (codes "\n"
+    ++ marked_text (last_line (take at text)) (drop at text)))
 
 -- ---- messages
 

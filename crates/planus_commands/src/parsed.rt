@@ -24,7 +24,7 @@ pub fn parse_or_report(alloc: Global, name: &str, text: &[u8]) -> Result<Parsed,
 {
     match std::str::from_utf8(text) {
         Err(error) => {
-            let message = "the text is not UTF-8";
+            let message = b"the text is not UTF-8";
             let out = report(alloc, name, text, error.valid_up_to(), message)?;
             Ok(Parsed::Faulty(out))
         }

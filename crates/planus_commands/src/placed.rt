@@ -14,7 +14,7 @@ pub fn placed_report(
     name: &str,
     text: &[u8],
     left: usize,
-    message: &str,
+    message: &[u8],
 ) -> Result<Vec<u8>, AllocError>
     ensures { IfOk result (λ out. ReportsAt name.now text.now left message.now out.items) }
 {

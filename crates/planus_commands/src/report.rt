@@ -4,7 +4,7 @@ ghost use Rattle.std.specs.Prelude.{◌≡◌, ◌≤◌, ◌++◌, ◌+◌, ◌
 ghost use Rattle.std.specs.Prelude.{position, IfOk, OnOk};
 ghost use Rattle.std.specs.String.{string_bytes};
 ghost use Rattle.planus_commands.specs.Reports.{below as below_lem, first_line as first_line_lem};
-ghost use Rattle.planus_commands.specs.Reports.{head_text, is_feed as is_feed_lem};
+ghost use Rattle.planus_commands.specs.Reports.{marked_text, place_text, is_feed as is_feed_lem};
 ghost use Rattle.planus_commands.specs.Reports.{last_line as last_line_lem, report_text};
 
 use std::alloc::{AllocError, Global};
@@ -71,14 +71,26 @@ fn put_below(out: &mut Vec<u8>, bytes: &[u8]) -> Result<(), AllocError>
     Ok(())
 }
 
-/// Returns the place and the message.
-fn head(alloc: Global, name: &str, before: &[u8], message: &str) -> Result<String, AllocError>
-    ensures { IfOk result (λ text. string_bytes text
-        ≡ head_text name.now before.now message.now) }
+/// Returns the place.
+fn head(alloc: Global, name: &str, before: &[u8]) -> Result<String, AllocError>
+    ensures { IfOk result (λ text. string_bytes text ≡ place_text name.now before.now) }
 {
     let line = feeds(before) + 1;
     let column = last_line(before).len() + 1;
-    format!(in alloc; "{name}:{line}:{column}: {message}\n")
+    format!(in alloc; "{name}:{line}:{column}: ")
+}
+
+/// Appends a line, which `front` and the first line of `rest` are, and a mark below the end of
+/// `front`.
+fn put_marked(out: &mut Vec<u8>, front: &[u8], rest: &[u8]) -> Result<(), AllocError>
+    ensures { OnOk result (out.new.items ≡ out.old.items ++ marked_text front.now rest.now) }
+{
+    out.extend_from_slice(front)?;
+    out.extend_from_slice(first_line(rest))?;
+    out.push(b'\n')?;
+    put_below(out, front)?;
+    out.extend_from_slice(b"^\n")?;
+    Ok(())
 }
 
 /// Returns the report of a fault in this text, at the byte of index `at`.
@@ -87,20 +99,17 @@ pub fn report(
     name: &str,
     text: &[u8],
     at: usize,
-    message: &str,
+    message: &[u8],
 ) -> Result<Vec<u8>, AllocError>
     requires { at ≤ length text.now }
     ensures { IfOk result (λ out. out.items
         ≡ report_text name.now text.now at message.now) }
 {
     let (before, rest) = text.split_at(at);
-    let front = last_line(before);
-    let head = head(alloc, name, before, message)?;
+    let head = head(alloc, name, before)?;
     let mut out = Vec::from_slice(alloc, head.as_bytes())?;
-    out.extend_from_slice(front)?;
-    out.extend_from_slice(first_line(rest))?;
+    out.extend_from_slice(message)?;
     out.push(b'\n')?;
-    put_below(&mut out, front)?;
-    out.extend_from_slice(b"^\n")?;
+    put_marked(&mut out, last_line(before), rest)?;
     Ok(out)
 }

@@ -194,12 +194,12 @@ fn load_include<R: Files + AllocGlobal, S: Read, X: Write>(
     let path = std::str::from_utf8(path).unwrap_or("");
     let found = included(rt, folders, source.name.as_str(), path)?;
     let message = match found {
-        None => "the included file can't be found",
+        None => b"the included file can't be found".as_slice(),
         Some(name) => {
             if left > 0 {
                 return load(rt, folders, left - 1, name.as_str(), sources, input, errors);
             }
-            "more than 64 files include one another"
+            b"more than 64 files include one another"
         }
     };
     let report = placed_report(

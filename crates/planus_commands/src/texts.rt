@@ -31,9 +31,9 @@ pub(crate) fn error_report(
 {
     match error {
         SchemaError::OutOfMemory => Err(AllocError),
-        SchemaError::Token { fault, at } => report(alloc, name, text, at, lex_message(fault)),
+        SchemaError::Token { fault, at } => report(alloc, name, text, at, lex_message(fault).as_bytes()),
         SchemaError::Declaration { fault, at, .. } => {
-            report(alloc, name, text, at, parse_message(fault))
+            report(alloc, name, text, at, parse_message(fault).as_bytes())
         }
     }
 }
@@ -48,7 +48,7 @@ pub fn outcome_of(alloc: Global, name: &str, text: &[u8]) -> Result<Outcome, All
 {
     match std::str::from_utf8(text) {
         Err(error) => {
-            let message = "the text is not UTF-8";
+            let message = b"the text is not UTF-8";
             let out = report(alloc, name, text, error.valid_up_to(), message)?;
             Ok(Outcome::Faulty(out))
         }
