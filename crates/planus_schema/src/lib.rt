@@ -2,6 +2,7 @@
 #![tactic(auto)]
 
 mod attributes;
+mod defaults;
 mod enums;
 mod fault;
 mod head;
