@@ -1,3 +1,4 @@
 pub mod Lists
 pub mod EnumLemmas
 pub mod StructLemmas
+pub mod UnionLemmas

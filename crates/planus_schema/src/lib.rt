@@ -13,6 +13,7 @@ mod number;
 mod scalar;
 mod schema;
 mod structs;
+mod unions;
 
 pub use fault::{Fault, Problem};
 pub use number::Number;
