@@ -2,3 +2,4 @@ pub mod Lists
 pub mod EnumLemmas
 pub mod StructLemmas
 pub mod UnionLemmas
+pub mod TableLemmas

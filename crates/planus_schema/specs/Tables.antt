@@ -66,6 +66,11 @@ abbrev pub all_names : List TableField → List Name
 all_names [] = []
 all_names (f ∷ fs) = names_taken f ++ all_names fs
 
+-- the names after those of a field were added
+pub record AreNamed (old taken new : List Name) : Type 0 where
+  pub added : new ≡ old ++ taken
+  pub distinct : AreDistinct old → AreDistinct new
+
 -- scalars and enums
 abbrev pub is_number_base : Base → Bool
 is_number_base (base.Scalar s) = true

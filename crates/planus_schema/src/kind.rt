@@ -68,7 +68,7 @@ pub(crate) fn item_of_head<'b>(heads: &'b [Head], index: usize) -> Option<&'b It
     }
 }
 
-fn head_base(heads: &[Head], index: usize) -> Option<Base>
+pub(crate) fn head_base(heads: &[Head], index: usize) -> Option<Base>
     ensures { result ≡ base_of_head (item_at (map head_of heads.now) index) index }
 {
     match item_of_head(heads, index) {

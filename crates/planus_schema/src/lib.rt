@@ -12,7 +12,9 @@ mod names;
 mod number;
 mod scalar;
 mod schema;
+mod slots;
 mod structs;
+mod tables;
 mod unions;
 
 pub use fault::{Fault, Problem};

@@ -220,7 +220,7 @@ fn is_alignment(n: usize) -> bool
 }
 
 /// Returns the number that an attribute has.
-fn setting_number(attribute: &Attribute) -> Option<u64>
+pub(crate) fn setting_number(attribute: &Attribute) -> Option<u64>
     ensures { IfSome result (λ n. n ≡ literal_number (attribute_of attribute.now).value) }
 {
     match &attribute.value {
