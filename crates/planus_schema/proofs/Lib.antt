@@ -3,3 +3,4 @@ pub mod EnumLemmas
 pub mod StructLemmas
 pub mod UnionLemmas
 pub mod TableLemmas
+pub mod SchemaLemmas

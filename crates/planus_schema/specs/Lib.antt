@@ -6,3 +6,4 @@ pub mod Structs
 pub mod Unions
 pub mod Defaults
 pub mod Tables
+pub mod Schemas
