@@ -1,3 +1,6 @@
 pub mod Lists
 pub mod EnumLemmas
 pub mod StructLemmas
+pub mod UnionLemmas
+pub mod TableLemmas
+pub mod SchemaLemmas

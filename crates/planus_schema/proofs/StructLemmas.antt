@@ -1,5 +1,5 @@
 -- One more field.
-use Rattle.std.proofs.Common.{◌≡◌, ℕ, ◌+◌, ◌<◌, ◌≤◌, max, Bool, true, false, List, [], ◌∷◌, ◌++◌, length, map, take, get_or, refl, sym, ap, subst, ◌∙◌, arith}
+use Rattle.std.proofs.Common.{◌≡◌, ℕ, ◌+◌, ◌<◌, ◌≤◌, max, Bool, true, false, List, [], ◌∷◌, ◌++◌, length, map, take, drop, get_or, suc, add-one, drop-cons, refl, sym, ap, subst, ◌∙◌, arith}
 use Rattle.std.specs.Prelude.{fold}
 use Rattle.std.proofs.lemmas.List.{map_push}
 use Rattle.std.proofs.lemmas.List.Sums.{fold-append}
@@ -31,3 +31,10 @@ map_next f xs i x h e = ap (map f) (take-snoc xs i x h e) ∙ map_push f (take i
 pub taken : (b : Bool) (old : List (List ℕ)) (name : List ℕ) (new : List (List ℕ)) → b ≡ true → Takes b old name new → IsAdded old name new
 taken true old name new e h = h
 taken false old name new e h = absurd cc
+
+-- the item at the front of those that are left
+pub map_rest : {A B : Type 0} (f : A → B) (xs : List A) (i : ℕ) (x : A) → i < length xs → x ≡ get_or xs i x → map f (drop i xs) ≡ f x ∷ map f (drop (i + 1) xs)
+map_rest f xs i x h e = ap (map f) (drop-next xs i x h e)
+  where
+    drop-next : {A : Type 0} (xs : List A) (i : ℕ) (x : A) → i < length xs → x ≡ get_or xs i x → drop i xs ≡ x ∷ drop (i + 1) xs
+    drop-next xs i x h e = rw add-one (drop-cons xs i x h ∙ ap (λ y. y ∷ drop (suc i) xs) (sym e))

@@ -17,7 +17,7 @@ use Rattle.planus_schema.specs.declared.schema.Value.TheVariants as value
 use Rattle.planus_schema.specs.Numbers.{integer_of, is_integer, is_float, is_bool, fits, zero_number}
 use Rattle.planus_schema.specs.Numbers.{is_hexadecimal, without_sign, scalar_named}
 use Rattle.planus_schema.specs.Names.{HeadV, item_at}
-use Rattle.planus_schema.specs.Enums.{number_of, settled, is_flags, enum_numbers, same_number}
+use Rattle.planus_schema.specs.Enums.{number_of, settled, is_flags, numbers_from, same_number}
 
 -- ---- what a default is
 
@@ -79,20 +79,103 @@ value_named w flags previous (v ∷ vs) =
     if bytes_eq v.name w then Some (settled flags (number_of previous v.value))
     else value_named w flags (Some (number_of previous v.value)) vs
 
-abbrev pub last_of : Name → List Name → Name
-last_of w [] = w
-last_of w (n ∷ ns) = last_of n ns
-
 abbrev pub as_integer : Option Number → Option ValueV
 as_integer None = None
 as_integer (Some n) = Some (integer n)
 
--- a name of a value; with words before it, the last of them is the name of the enum
-abbrev pub enum_named : EnumerationV → PathV → Option ValueV
-enum_named e p = named_in p.more
+-- the word alone, or the word after the name of the enum
+abbrev pub value_name : EnumerationV → PathV → Option Name
+value_name e p = name_in p.more
   where
-    named_in : List Name → Option ValueV
-    named_in [] = as_integer (value_named p.first (is_flags e) None e.variants)
-    named_in (n ∷ []) = if bytes_eq p.first e.name
-        then as_integer (value_named n (is_flags e) None e.variants) else None
-    named_in (n ∷ m ∷ ns) = None
+    name_in : List Name → Option Name
+    name_in [] = Some p.first
+    name_in (n ∷ []) = if bytes_eq p.first e.name then Some n else None
+    name_in (n ∷ m ∷ ns) = None
+
+abbrev pub value_in : EnumerationV → Option Name → Option ValueV
+value_in e None = None
+value_in e (Some w) = as_integer (value_named w (is_flags e) None e.variants)
+
+abbrev pub enum_named : EnumerationV → PathV → Option ValueV
+enum_named e p = value_in e (value_name e p)
+
+-- one of the values, or with `bit_flags` any number of the type
+abbrev pub is_among_values : EnumerationV → Number → Bool
+is_among_values e n = if is_flags e then fits_in (scalar_named e.base.first)
+    else list_any (λ v. same_number v n) (numbers_from None e.variants)
+  where
+    fits_in : Option Scalar → Bool
+    fits_in None = false
+    fits_in (Some s) = fits s n
+
+abbrev pub among_values : EnumerationV → Number → Option ValueV
+among_values e n = if is_among_values e n then Some (integer n) else None
+
+abbrev pub enum_default : EnumerationV → LiteralV → Option ValueV
+enum_default e (numeral w) =
+    if is_integer w then among_values e (integer_of w) else None
+enum_default e (named p) = absent_or p (enum_named e p)
+enum_default e (quote w) = None
+enum_default e nothing = None
+
+abbrev pub text_default : LiteralV → Option ValueV
+text_default (numeral w) = None
+text_default (named p) = None
+text_default (quote w) = Some (text w)
+text_default nothing = None
+
+abbrev pub vector_default : LiteralV → Option ValueV
+vector_default (numeral w) = None
+vector_default (named p) = None
+vector_default (quote w) = None
+vector_default nothing = Some empty
+
+abbrev pub enum_at : Option ItemV → Option EnumerationV
+enum_at None = None
+enum_at (Some (include w)) = None
+enum_at (Some (namespace p)) = None
+enum_at (Some (attribute l)) = None
+enum_at (Some (table r)) = None
+enum_at (Some (struct r)) = None
+enum_at (Some (enumeration e)) = Some e
+enum_at (Some (union u)) = None
+enum_at (Some (service s)) = None
+enum_at (Some (root p)) = None
+enum_at (Some (identifier w)) = None
+enum_at (Some (extension w)) = None
+
+abbrev pub default_in : Option EnumerationV → LiteralV → Option ValueV
+default_in None l = None
+default_in (Some e) l = enum_default e l
+
+abbrev pub base_default : List HeadV → Base → LiteralV → Option ValueV
+base_default hs (base.Scalar s) l = scalar_default s l
+base_default hs base.Text l = text_default l
+base_default hs (base.Enum i) l = default_in (enum_at (item_at hs i)) l
+base_default hs (base.Struct i) l = None
+base_default hs (base.Table i) l = None
+base_default hs (base.Union i) l = None
+
+-- without a literal: zero, if it is a value, and none for what isn't a scalar or an enum
+abbrev pub zero_default : List HeadV → Base → Option (Option ValueV)
+zero_default hs (base.Scalar s) =
+    Some (Some (if is_float s then float (codes "0") else integer zero_number))
+zero_default hs base.Text = Some None
+zero_default hs (base.Enum i) = zero_in (enum_at (item_at hs i))
+  where
+    zero_in : Option EnumerationV → Option (Option ValueV)
+    zero_in None = None
+    zero_in (Some e) = if is_among_values e zero_number then Some (Some (integer zero_number)) else None
+zero_default hs (base.Struct i) = Some None
+zero_default hs (base.Table i) = Some None
+zero_default hs (base.Union i) = Some None
+
+abbrev pub some_default : Option ValueV → Option (Option ValueV)
+some_default None = None
+some_default (Some v) = Some (Some v)
+
+-- the default of a field of this type; `None` where the literal is none
+abbrev pub default_said : List HeadV → FieldType → Option LiteralV → Option (Option ValueV)
+default_said hs t None = if t.vector then Some None else zero_default hs t.base
+default_said hs t (Some l) =
+    some_default (if t.vector then vector_default l else base_default hs t.base l)

@@ -5,3 +5,5 @@ pub mod Enums
 pub mod Structs
 pub mod Unions
 pub mod Defaults
+pub mod Tables
+pub mod Schemas

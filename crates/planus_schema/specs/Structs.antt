@@ -7,6 +7,7 @@ use Rattle.planus_schema.specs.declared.schema.Base.{Base}
 use Rattle.planus_schema.specs.declared.schema.Base.TheVariants as base
 use Rattle.planus_schema.specs.declared.schema.Body.{Body}
 use Rattle.planus_schema.specs.declared.schema.Body.TheVariants as body
+use Rattle.planus_schema.specs.declared.schema.Declared.{Declared}
 use Rattle.planus_schema.specs.declared.schema.Struct.{Struct}
 use Rattle.planus_schema.specs.declared.schema.StructField.{StructField}
 use Rattle.planus_schema.specs.declared.structs.Measure.{Measure}
@@ -15,6 +16,9 @@ use Rattle.planus_schema.specs.Names.{HeadV, type_named, setting, has, is_set}
 use Rattle.planus_schema.specs.Distinct.{AreDistinct, Each2}
 
 -- ---- sizes
+
+abbrev pub body_in : Declared → Body
+body_in d = d.body
 
 abbrev pub measure_of_body : Option Body → Option Measure
 measure_of_body None = None

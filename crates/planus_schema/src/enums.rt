@@ -52,7 +52,7 @@ fn next_number(previous: Option<Number>) -> Option<Number>
 }
 
 /// Returns the number of a variant: the one that is given, or one more than that before it.
-fn number_of(previous: Option<Number>, variant: &Variant) -> Option<Number>
+pub(crate) fn number_of(previous: Option<Number>, variant: &Variant) -> Option<Number>
     ensures number { IfSome result (λ n. n ≡ number_of_lem previous (variant_of variant.now).value) }
     ensures spelled { IfSome result (λ _. is_spelled (variant_of variant.now) ≡ true) }
 {
@@ -70,7 +70,7 @@ fn power_of_two(n: u64) -> u64
 }
 
 /// Returns the value of a number: with `flags`, the bit that it says.
-fn value_of(flags: bool, number: Number) -> Option<Number>
+pub(crate) fn value_of(flags: bool, number: Number) -> Option<Number>
     ensures { IfSome result (λ n. n ≡ settled flags number) }
 {
     if !flags {
@@ -85,7 +85,7 @@ fn value_of(flags: bool, number: Number) -> Option<Number>
     }
 }
 
-fn same_number(a: Number, b: Number) -> bool
+pub(crate) fn same_number(a: Number, b: Number) -> bool
     ensures { result ≡ same_number_lem a b }
 {
     (if a.negative { b.negative } else { !b.negative }) && a.magnitude == b.magnitude

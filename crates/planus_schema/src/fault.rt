@@ -1,5 +1,7 @@
 //! What is wrong with a schema.
 
+ghost use Rattle.std.specs.Prelude.{◌<◌, ◌≤◌, length, OnOk};
+
 use std::alloc::{AllocError, AllocFailed};
 
 /// What is wrong.
@@ -82,6 +84,15 @@ pub struct Fault {
     pub left: usize,
 }
 
+/// Why files have no meaning.
+#[derive(Debug, Drop)]
+pub enum Refusal {
+    /// Memory was refused.
+    OutOfMemory,
+    /// From one to twenty faults.
+    Faults(Vec<Fault>),
+}
+
 /// Why a part of a schema has no meaning.
 #[derive(Clone, Copy)]
 pub(crate) enum Stop {
@@ -89,6 +100,17 @@ pub(crate) enum Stop {
     OutOfMemory,
     /// What is wrong, and where.
     Wrong { problem: Problem, left: usize },
+}
+
+impl From<AllocError> for Refusal {
+    ghost use Rattle.std.specs.Prelude.{◌≡◌};
+    ghost use Rattle.planus_schema.specs.declared.fault.Refusal.TheVariants.{OutOfMemory};
+
+    ghost from_gives = { λ _ e. e ≡ OutOfMemory };
+
+    fn from(_error: AllocError) -> Refusal {
+        Refusal::OutOfMemory
+    }
 }
 
 impl From<AllocError> for Stop {
@@ -105,4 +127,24 @@ impl<T: Drop> From<AllocFailed<T>> for Stop {
 
 pub(crate) fn wrong(problem: Problem, left: usize) -> Stop {
     Stop::Wrong { problem, left }
+}
+
+/// Adds a fault, unless there are twenty.
+pub(crate) fn note(faults: &mut Vec<Fault>, file: usize, stop: Stop) -> Result<(), AllocError>
+    ensures some { OnOk result (0 < length faults.new.items) }
+    ensures most { OnOk result (length faults.old.items ≤ 20 → length faults.new.items ≤ 20) }
+{
+    match stop {
+        Stop::OutOfMemory => Err(AllocError),
+        Stop::Wrong { problem, left } => {
+            if faults.len() < 20 {
+                faults.push(Fault {
+                    problem,
+                    file,
+                    left,
+                })?;
+            }
+            Ok(())
+        }
+    }
 }

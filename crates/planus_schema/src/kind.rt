@@ -58,11 +58,21 @@ pub(crate) fn head_at<'a, 'b>(heads: &'b [Head<'a>], index: usize) -> Option<&'b
     heads.get(index)
 }
 
-fn head_base(heads: &[Head], index: usize) -> Option<Base>
-    ensures { result ≡ base_of_head (item_at (map head_of heads.now) index) index }
+/// Returns what the declaration of this index says.
+pub(crate) fn item_of_head<'b>(heads: &'b [Head], index: usize) -> Option<&'b Item>
+    ensures { option_map (λ i. item_of i.now) result ≡ item_at (map head_of heads.now) index }
 {
     match head_at(heads, index) {
-        Some(head) => item_base(&head.declaration.item, index),
+        Some(head) => Some(&head.declaration.item),
+        None => None,
+    }
+}
+
+pub(crate) fn head_base(heads: &[Head], index: usize) -> Option<Base>
+    ensures { result ≡ base_of_head (item_at (map head_of heads.now) index) index }
+{
+    match item_of_head(heads, index) {
+        Some(item) => item_base(item, index),
         None => None,
     }
 }

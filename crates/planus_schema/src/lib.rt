@@ -2,21 +2,28 @@
 #![tactic(auto)]
 
 mod attributes;
+mod defaults;
 mod enums;
 mod fault;
 mod head;
 mod kind;
 mod lookup;
+mod meaning;
 mod names;
 mod number;
 mod scalar;
 mod schema;
+mod slots;
+mod statements;
 mod structs;
+mod tables;
+mod unions;
 
-pub use fault::{Fault, Problem};
+pub use fault::{Fault, Problem, Refusal};
+pub use meaning::{file_index, resolve};
 pub use number::Number;
 pub use scalar::Scalar;
 pub use schema::{
-    Base, Body, Enum, EnumValue, FieldType, Struct, StructField, Table, TableField, Union,
-    UnionMember, Value,
+    Base, Body, Declared, Enum, EnumValue, FieldType, Schema, Statements, Struct, StructField,
+    Table, TableField, Union, UnionMember, Value,
 };

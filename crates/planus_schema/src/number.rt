@@ -81,7 +81,7 @@ fn is_negative(digits: &[u8]) -> bool
     }
 }
 
-fn without_sign(digits: &[u8]) -> &[u8]
+pub(crate) fn without_sign(digits: &[u8]) -> &[u8]
     ensures { result.now ≡ without_sign_lem digits.now }
 {
     match digits.split_first() {
@@ -90,7 +90,7 @@ fn without_sign(digits: &[u8]) -> &[u8]
     }
 }
 
-fn is_hexadecimal(digits: &[u8]) -> bool
+pub(crate) fn is_hexadecimal(digits: &[u8]) -> bool
     ensures { result ≡ is_hexadecimal_lem digits.now }
 {
     match digits {

@@ -116,3 +116,28 @@ pub enum Body {
     Enum(Enum),
     Union(Union),
 }
+
+/// A declaration of a table, a struct, an enum or a union. `name` is its full name with dots, and
+/// `file` the index of its file.
+#[derive(Debug, Drop)]
+pub struct Declared {
+    pub name: Vec<u8>,
+    pub docs: Vec<Vec<u8>>,
+    pub file: usize,
+    pub body: Body,
+}
+
+/// What the last statement of each kind says. `root` is the index of a table.
+#[derive(Debug, Drop)]
+pub struct Statements {
+    pub root: Option<usize>,
+    pub identifier: Option<Vec<u8>>,
+    pub extension: Option<Vec<u8>>,
+}
+
+/// What the files of a schema mean. An index is a place in `declarations`.
+#[derive(Debug, Drop)]
+pub struct Schema {
+    pub declarations: Vec<Declared>,
+    pub statements: Statements,
+}

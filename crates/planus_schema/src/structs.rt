@@ -8,7 +8,7 @@ ghost use Rattle.planus_schema.specs.Structs.{measure_in, measure_of_body as mea
 ghost use Rattle.planus_schema.specs.Structs.{IsNext, IsStruct, SaysStruct, SaysStructField};
 ghost use Rattle.planus_schema.specs.Structs.{is_alignment as is_alignment_lem, is_plain};
 ghost use Rattle.planus_schema.specs.Structs.{alignment_said, literal_number, Laid};
-ghost use Rattle.planus_schema.specs.Structs.{greatest_alignment};
+ghost use Rattle.planus_schema.specs.Structs.{greatest_alignment, body_in};
 ghost use Rattle.planus_schema.specs.Distinct.{AreDistinct, Each2};
 
 use crate::attributes::{has, setting};
@@ -17,7 +17,7 @@ use crate::head::Head;
 use crate::kind::type_of;
 use crate::names::{copied, take_name};
 use crate::number::integer;
-use crate::schema::{Base, Body, Struct, StructField};
+use crate::schema::{Base, Body, Declared, Struct, StructField};
 use planus_syntax::{Attribute, Field, Literal, Path, Record};
 use std::alloc::Global;
 
@@ -44,14 +44,23 @@ fn body_measure(body: &Body) -> Option<Measure>
     }
 }
 
-fn body_at(bodies: &[Body], index: usize) -> Option<&Body>
-    ensures { option_map (λ b. b.now) result ≡ slice_get bodies.now index }
+fn declared_at(bodies: &[Declared], index: usize) -> Option<&Declared>
+    ensures { option_map (λ d. d.now) result ≡ slice_get bodies.now index }
 {
     bodies.get(index)
 }
 
-fn measure_at(bodies: &[Body], index: usize) -> Option<Measure>
-    ensures { result ≡ measure_of_body_lem (slice_get bodies.now index) }
+fn body_at(bodies: &[Declared], index: usize) -> Option<&Body>
+    ensures { option_map (λ b. b.now) result ≡ slice_get (map body_in bodies.now) index }
+{
+    match declared_at(bodies, index) {
+        Some(declared) => Some(&declared.body),
+        None => None,
+    }
+}
+
+fn measure_at(bodies: &[Declared], index: usize) -> Option<Measure>
+    ensures { result ≡ measure_of_body_lem (slice_get (map body_in bodies.now) index) }
 {
     match body_at(bodies, index) {
         Some(body) => body_measure(body),
@@ -60,8 +69,8 @@ fn measure_at(bodies: &[Body], index: usize) -> Option<Measure>
 }
 
 /// Returns the size and the alignment of a value in a struct.
-fn measure_of(bodies: &[Body], base: Base) -> Option<Measure>
-    ensures { result ≡ measure_in bodies.now base }
+fn measure_of(bodies: &[Declared], base: Base) -> Option<Measure>
+    ensures { result ≡ measure_in (map body_in bodies.now) base }
 {
     match base {
         Base::Scalar(scalar) => Some(Measure {
@@ -113,8 +122,8 @@ fn base_in_struct(
 }
 
 /// Returns the size and the alignment of a field, which are those of a declaration before.
-fn measure_in_struct(bodies: &[Body], base: Base, left: usize) -> Result<Measure, Stop>
-    ensures measure { IfOk result (λ m. measure_in bodies.now base ≡ Some m) }
+fn measure_in_struct(bodies: &[Declared], base: Base, left: usize) -> Result<Measure, Stop>
+    ensures measure { IfOk result (λ m. measure_in (map body_in bodies.now) base ≡ Some m) }
     ensures some { IfOk result (λ m. 0 < m.alignment) }
     ensures small { IfOk result (λ m. m.alignment ≤ 32) }
     ensures fits { IfOk result (λ m. m.size ≤ 65535) }
@@ -136,14 +145,14 @@ fn measure_in_struct(bodies: &[Body], base: Base, left: usize) -> Result<Measure
 fn struct_field(
     alloc: Global,
     heads: &[Head],
-    bodies: &[Body],
+    bodies: &[Declared],
     space: Option<&Path>,
     field: &Field,
     at: usize,
 ) -> Result<StructField, Stop>
     requires { at ≤ 65535 }
     ensures says { IfOk result (λ f. SaysStructField (map head_of heads.now) (space_of space.entry)
-        bodies.now (field_of field.now) f) }
+        (map body_in bodies.now) (field_of field.now) f) }
     ensures placed { IfOk result (λ f. IsNext f.alignment at f.distance) }
     ensures within { IfOk result (λ f. f.distance + f.size ≤ 65535) }
 {
@@ -182,12 +191,12 @@ fn greater(a: usize, b: usize) -> usize
 fn struct_fields(
     alloc: Global,
     heads: &[Head],
-    bodies: &[Body],
+    bodies: &[Declared],
     space: Option<&Path>,
     declared: &[Field],
 ) -> Result<Layout, Stop>
     ensures says { IfOk result (λ l. Each2 (SaysStructField (map head_of heads.now)
-        (space_of space.entry) bodies.now) (map field_of declared.now) l.fields.items) }
+        (space_of space.entry) (map body_in bodies.now)) (map field_of declared.now) l.fields.items) }
     ensures laid { IfOk result (λ l. Laid 0 l.fields.items l.end) }
     ensures within { IfOk result (λ l. l.end ≤ 65535) }
     ensures greatest { IfOk result (λ l. l.alignment ≡ greatest_alignment l.fields.items) }
@@ -220,7 +229,7 @@ fn is_alignment(n: usize) -> bool
 }
 
 /// Returns the number that an attribute has.
-fn setting_number(attribute: &Attribute) -> Option<u64>
+pub(crate) fn setting_number(attribute: &Attribute) -> Option<u64>
     ensures { IfSome result (λ n. n ≡ literal_number (attribute_of attribute.now).value) }
 {
     match &attribute.value {
@@ -258,13 +267,13 @@ fn alignment_of(attributes: &[Attribute], greatest: usize, left: usize) -> Resul
 pub(crate) fn struct_of(
     alloc: Global,
     heads: &[Head],
-    bodies: &[Body],
+    bodies: &[Declared],
     space: Option<&Path>,
     declared: &Record,
     left: usize,
 ) -> Result<Struct, Stop>
     ensures says { IfOk result (λ s. SaysStruct (map head_of heads.now) (space_of space.entry)
-        bodies.now (record_of declared.now) s) }
+        (map body_in bodies.now) (record_of declared.now) s) }
     ensures sound { IfOk result (λ s. IsStruct s) }
 {
     if declared.fields.is_empty() {
