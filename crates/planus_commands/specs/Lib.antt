@@ -2,3 +2,5 @@ pub mod Arguments
 pub mod Said
 pub mod Reports
 pub mod Outcomes
+pub mod Problems
+pub mod Checks

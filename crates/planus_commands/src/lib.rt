@@ -9,6 +9,7 @@ mod message;
 mod outcome;
 mod parsed;
 mod placed;
+mod problem;
 mod program;
 mod report;
 mod rewrite;

@@ -6,7 +6,7 @@ ghost use Rattle.planus_commands.specs.Arguments.{request_of as request_lem};
 ghost use Rattle.planus_commands.specs.Said.{said_of, SaysIf};
 
 use crate::arguments::{Command, Request, Words, request_of};
-use crate::checking::check_sources;
+use crate::checking::check_files;
 use crate::rewrite::{Formatting, format_file};
 use crate::said::{CLEAN, FAILED, FAULTY, say as say_of};
 use crate::sources::{Sources, load_all};
@@ -28,7 +28,7 @@ fn check_file<R: Files + AllocGlobal, S: Read, X: Write>(
     if status != CLEAN {
         return Ok(status);
     }
-    if check_sources(rt.alloc(), &sources.read, errors)? {
+    if check_files(rt.alloc(), &sources.files, &sources.declarations, errors)? {
         Ok(CLEAN)
     } else {
         Ok(FAULTY)

@@ -1,10 +1,12 @@
 //! The files of a schema: each is read once, after those that it includes.
 
+use crate::checking::File;
 use crate::include::{file_beside, file_in};
 use crate::parsed::{Parsed, parse_or_report};
 use crate::placed::placed_report;
 use crate::said::{CLEAN, FAILED, FAULTY};
 use crate::streams::{GREATEST_TEXT, RunError, read_all, say, write_out};
+use planus_schema::file_index;
 use planus_syntax::{Declaration, Item};
 use std::alloc::{AllocError, Global};
 use std::fs;
@@ -14,19 +16,12 @@ use std::rt::Files;
 /// No files include one another more deeply.
 const GREATEST_DEPTH: usize = 64;
 
-/// A file that was read.
-#[derive(Debug, Drop)]
-pub struct Source {
-    pub name: String,
-    pub text: Vec<u8>,
-    pub declarations: Vec<Declaration>,
-}
-
-/// The files so far, and the names of those that were begun.
+/// The names of the files that were begun; and those that were read, with what they declare.
 #[derive(Debug, Drop)]
 pub struct Sources {
-    pub begun: Vec<String>,
-    pub read: Vec<Source>,
+    pub begun: Vec<Vec<u8>>,
+    pub files: Vec<File>,
+    pub declarations: Vec<Vec<Declaration>>,
 }
 
 impl Sources {
@@ -34,21 +29,19 @@ impl Sources {
     pub fn new(alloc: Global) -> Sources {
         Sources {
             begun: Vec::new(alloc),
-            read: Vec::new(alloc),
+            files: Vec::new(alloc),
+            declarations: Vec::new(alloc),
         }
     }
 
-    fn has_begun(&self, name: &str) -> bool {
-        self.begun.iter().any(|begun| begun.as_str() == name)
-    }
-
     fn begin(&mut self, alloc: Global, name: &str) -> Result<(), AllocError> {
-        self.begun.push(String::from_str(alloc, name)?)?;
+        self.begun.push(Vec::from_slice(alloc, name.as_bytes())?)?;
         Ok(())
     }
 
-    fn add(&mut self, source: Source) -> Result<(), AllocError> {
-        self.read.push(source)?;
+    fn add(&mut self, file: File, declarations: Vec<Declaration>) -> Result<(), AllocError> {
+        self.files.push(file)?;
+        self.declarations.push(declarations)?;
         Ok(())
     }
 }
@@ -130,7 +123,7 @@ fn load<R: Files + AllocGlobal, S: Read, X: Write>(
     input: &mut S,
     errors: &mut X,
 ) -> Result<u8, RunError> {
-    if sources.has_begun(name) {
+    if file_index(&sources.begun, name.as_bytes()).is_some() {
         return Ok(CLEAN);
     }
     let alloc = rt.alloc();
@@ -144,13 +137,19 @@ fn load<R: Files + AllocGlobal, S: Read, X: Write>(
             Ok(FAULTY)
         }
         Parsed::Declarations(declarations) => {
-            let source = Source {
-                name: String::from_str(alloc, name)?,
-                text,
-                declarations,
-            };
-            let status = load_includes(rt, folders, left, &source, sources, input, errors)?;
-            sources.add(source)?;
+            let name = String::from_str(alloc, name)?;
+            let file = File { name, text };
+            let status = load_includes(
+                rt,
+                folders,
+                left,
+                &file,
+                &declarations,
+                sources,
+                input,
+                errors,
+            )?;
+            sources.add(file, declarations)?;
             Ok(status)
         }
     }
@@ -161,17 +160,18 @@ fn load_includes<R: Files + AllocGlobal, S: Read, X: Write>(
     rt: &R,
     folders: &[&str],
     left: usize,
-    source: &Source,
+    file: &File,
+    declarations: &[Declaration],
     sources: &mut Sources,
     input: &mut S,
     errors: &mut X,
 ) -> Result<u8, RunError> {
     let mut worst = CLEAN;
-    for declaration in &source.declarations {
+    for declaration in declarations {
         if let Item::Include(path) = &declaration.item {
             let place = declaration.left;
             let status = load_include(
-                rt, folders, left, source, path, place, sources, input, errors,
+                rt, folders, left, file, path, place, sources, input, errors,
             )?;
             worst = worst.max(status);
         }
@@ -184,7 +184,7 @@ fn load_include<R: Files + AllocGlobal, S: Read, X: Write>(
     rt: &R,
     folders: &[&str],
     left: usize,
-    source: &Source,
+    file: &File,
     path: &[u8],
     place: usize,
     sources: &mut Sources,
@@ -192,7 +192,7 @@ fn load_include<R: Files + AllocGlobal, S: Read, X: Write>(
     errors: &mut X,
 ) -> Result<u8, RunError> {
     let path = std::str::from_utf8(path).unwrap_or("");
-    let found = included(rt, folders, source.name.as_str(), path)?;
+    let found = included(rt, folders, file.name.as_str(), path)?;
     let message = match found {
         None => b"the included file can't be found".as_slice(),
         Some(name) => {
@@ -202,13 +202,7 @@ fn load_include<R: Files + AllocGlobal, S: Read, X: Write>(
             b"more than 64 files include one another"
         }
     };
-    let report = placed_report(
-        rt.alloc(),
-        source.name.as_str(),
-        &source.text,
-        place,
-        message,
-    )?;
+    let report = placed_report(rt.alloc(), file.name.as_str(), &file.text, place, message)?;
     write_out(errors, &report)?;
     Ok(FAULTY)
 }

@@ -31,7 +31,13 @@ pub(crate) fn error_report(
 {
     match error {
         SchemaError::OutOfMemory => Err(AllocError),
-        SchemaError::Token { fault, at } => report(alloc, name, text, at, lex_message(fault).as_bytes()),
+        SchemaError::Token { fault, at } => report(
+            alloc,
+            name,
+            text,
+            at,
+            lex_message(fault).as_bytes(),
+        ),
         SchemaError::Declaration { fault, at, .. } => {
             report(alloc, name, text, at, parse_message(fault).as_bytes())
         }
