@@ -4,3 +4,4 @@ pub mod StructLemmas
 pub mod UnionLemmas
 pub mod TableLemmas
 pub mod SchemaLemmas
+pub mod SoundLemmas

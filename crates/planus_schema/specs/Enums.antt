@@ -8,7 +8,7 @@ use Rattle.planus_schema.specs.declared.scalar.Scalar.{Scalar}
 use Rattle.planus_schema.specs.declared.schema.Enum.{Enum}
 use Rattle.planus_schema.specs.declared.schema.EnumValue.{EnumValue}
 use Rattle.planus_schema.specs.Numbers.{integer_of, is_integer, zero_number, following, fits}
-use Rattle.planus_schema.specs.Numbers.{scalar_named, is_float, is_bool, is_signed}
+use Rattle.planus_schema.specs.Numbers.{scalar_named, is_float, is_bool}
 use Rattle.planus_schema.specs.Names.{has}
 use Rattle.planus_schema.specs.Distinct.{AreDistinct}
 
@@ -57,9 +57,9 @@ same_number a b = (if a.negative then b.negative else not b.negative) && a.magni
 abbrev pub number_of_value : EnumValue → Number
 number_of_value v = v.number
 
--- an integer type, and with `bit_flags` one with no negative values
-abbrev pub is_integer_type : Bool → Scalar → Bool
-is_integer_type flags s = not (is_float s) && not (is_bool s) && not (flags && is_signed s)
+-- an integer type
+abbrev pub is_integer_type : Scalar → Bool
+is_integer_type s = not (is_float s) && not (is_bool s)
 
 -- a value was added
 pub record IsValueAdded (s : Scalar) (v : VariantV) (n : Number) (old new : List EnumValue) : Type 0
@@ -83,7 +83,7 @@ pub record AreValues (s : Scalar) (flags : Bool) (vs : List VariantV) (values : 
 
 -- its values are distinct, and each is one of its type
 pub record IsEnum (e : Enum) : Type 0 where
-  pub integer : is_integer_type e.flags e.scalar ≡ true
+  pub integer : is_integer_type e.scalar ≡ true
   pub within : list_all (λ v. fits e.scalar v.number) e.values.items ≡ true
   pub distinct : IsDistinct same_number (map number_of_value e.values.items)
   pub names : AreDistinct (map (λ v. v.name.items) e.values.items)

@@ -7,3 +7,4 @@ pub mod Unions
 pub mod Defaults
 pub mod Tables
 pub mod Schemas
+pub mod Sound

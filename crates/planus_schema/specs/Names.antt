@@ -138,21 +138,21 @@ abbrev pub base_of_word : Name → Option Base
 base_of_word w = if bytes_eq w (codes "string") then Some base.Text
     else option_map base.Scalar (scalar_named w)
 
+abbrev pub plain_of : List Name → Name → Option Base
+plain_of [] w = base_of_word w
+plain_of (n ∷ ns) w = None
+
 -- `string` and a scalar type by their names
 abbrev pub plain_base : PathV → Option Base
-plain_base p = base_of_more p.more p.first
-  where
-    base_of_more : List Name → Name → Option Base
-    base_of_more [] w = base_of_word w
-    base_of_more (n ∷ ns) w = None
+plain_base p = plain_of p.more p.first
+
+abbrev pub base_or : Option Base → Option Base → Option Base
+base_or None o = o
+base_or (Some b) o = Some b
 
 -- the type that a name means in this namespace
 abbrev pub base_named : List HeadV → List Name → PathV → Option Base
-base_named hs space p = or_found (plain_base p)
-  where
-    or_found : Option Base → Option Base
-    or_found None = base_found hs (found hs space (words_of p))
-    or_found (Some b) = Some b
+base_named hs space p = base_or (plain_base p) (base_found hs (found hs space (words_of p)))
 
 abbrev pub type_named : List HeadV → List Name → KindV → Option FieldType
 type_named hs space (single p) =

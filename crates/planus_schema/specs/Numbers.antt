@@ -121,9 +121,6 @@ least s = 0
 abbrev pub fits : Scalar → Number → Bool
 fits s n = if n.negative then nat_le n.magnitude (least s) else nat_le n.magnitude (greatest s)
 
-abbrev pub is_signed : Scalar → Bool
-is_signed s = nat_le 1 (least s)
-
 -- both names of a scalar type
 abbrev pub scalar_named : List ℕ → Option Scalar
 scalar_named w =

@@ -21,20 +21,20 @@ use crate::schema::{Enum, EnumValue};
 use planus_syntax::{Enumeration, Path, Variant};
 use std::alloc::Global;
 
-fn is_integer_type(flags: bool, scalar: Scalar) -> bool
-    ensures { result ≡ is_integer_type_lem flags scalar }
+fn is_integer_type(scalar: Scalar) -> bool
+    ensures { result ≡ is_integer_type_lem scalar }
 {
-    !scalar.is_float() && !scalar.is_bool() && !(flags && scalar.is_signed())
+    !scalar.is_float() && !scalar.is_bool()
 }
 
 /// Returns the integer type of an enum.
-fn integer_type(path: &Path, flags: bool) -> Result<Scalar, Stop>
+fn integer_type(path: &Path) -> Result<Scalar, Stop>
     ensures single { IfOk result (λ _. (path_of path.now).more ≡ []) }
     ensures named { IfOk result (λ s. scalar_named_lem (path_of path.now).first ≡ Some s) }
-    ensures integer { IfOk result (λ s. is_integer_type_lem flags s ≡ true) }
+    ensures integer { IfOk result (λ s. is_integer_type_lem s ≡ true) }
 {
     match scalar_named(&path.first) {
-        Some(scalar) if path.more.is_empty() && is_integer_type(flags, scalar) => Ok(scalar),
+        Some(scalar) if path.more.is_empty() && is_integer_type(scalar) => Ok(scalar),
         _ => Err(wrong(Problem::NoIntegerType, path.left)),
     }
 }
@@ -165,7 +165,7 @@ pub(crate) fn enum_of(alloc: Global, declared: &Enumeration) -> Result<Enum, Sto
     ensures sound { IfOk result (λ e. IsEnum e) }
 {
     let flags = has(&declared.attributes, b"bit_flags");
-    let scalar = integer_type(&declared.base, flags)?;
+    let scalar = integer_type(&declared.base)?;
     check_names(alloc, &declared.variants)?;
     let values = enum_values(alloc, scalar, flags, &declared.variants)?;
     Ok(Enum {

@@ -21,10 +21,8 @@ pub enum Problem {
     ValueTaken,
     /// A member of the union before it has this number.
     TagTaken,
-    /// The type of an enum is no integer type.
+    /// The type of an enum is no integer type, or it is `bool`.
     NoIntegerType,
-    /// The type of an enum with `bit_flags` has negative values.
-    SignedFlags,
     /// A value is no integer that the type of the enum holds.
     ValueOutOfRange,
     /// The number of a member is not from 1 to 255.
@@ -71,6 +69,8 @@ pub enum Problem {
     RootIsNoTable,
     /// The identifier has not four bytes.
     WrongIdentifier,
+    /// A method of the service before it has this name.
+    MethodNameTaken,
     /// The request or the response of a method is no table.
     MethodIsNoTable,
 }

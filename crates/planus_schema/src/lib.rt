@@ -2,6 +2,7 @@
 #![tactic(auto)]
 
 mod attributes;
+mod checks;
 mod defaults;
 mod enums;
 mod fault;

@@ -8,6 +8,7 @@ ghost use Rattle.planus_schema.specs.Distinct.{AreDistinct, IsAdded};
 ghost use Rattle.planus_schema.specs.Structs.{body_in};
 ghost use Rattle.planus_schema.specs.Schemas.{IsBody, SaysBody, IsDeclared, AreDeclared, Means};
 ghost use Rattle.planus_schema.specs.Schemas.{IsRefusal, IsAppended};
+ghost use Rattle.planus_schema.specs.Sound.{IsSound};
 
 use crate::enums::enum_of;
 use crate::fault::{Fault, Problem, Refusal, Stop, note, wrong};
@@ -174,11 +175,8 @@ fn check_names(alloc: Global, heads: &[Head], faults: &mut Vec<Fault>) -> Result
     Ok(())
 }
 
-/// Returns what files mean. An included file stands before those that include it, since a struct
-/// holds only structs and enums that are declared before it.
-///
-/// The error has up to twenty faults.
-pub fn resolve(alloc: Global, files: &[Vec<Declaration>]) -> Result<Schema, Refusal>
+/// Returns what files mean, or what is wrong with them.
+fn settle(alloc: Global, files: &[Vec<Declaration>]) -> Result<Schema, Refusal>
     ensures means { IfOk result (λ s. Means (map (λ f. schema_of f.items) files.now) s) }
     ensures faults { IfErr result (λ e. IsRefusal e) }
 {
@@ -194,5 +192,21 @@ pub fn resolve(alloc: Global, files: &[Vec<Declaration>]) -> Result<Schema, Refu
         })
     } else {
         Err(Refusal::Faults(faults))
+    }
+}
+
+/// Returns what files mean. An included file stands before those that include it, since a struct
+/// holds only structs and enums that are declared before it.
+///
+/// The error has up to twenty faults.
+pub fn resolve(alloc: Global, files: &[Vec<Declaration>]) -> Result<Schema, Refusal>
+    ensures means { IfOk result (λ s. Means (map (λ f. schema_of f.items) files.now) s) }
+    // Whatever it was read from, it is sound.
+    ensures sound { IfOk result (λ s. IsSound s) }
+    ensures faults { IfErr result (λ e. IsRefusal e) }
+{
+    match settle(alloc, files) {
+        Ok(schema) => Ok(schema),
+        Err(refusal) => Err(refusal),
     }
 }

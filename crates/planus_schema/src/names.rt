@@ -20,7 +20,7 @@ pub(crate) fn copied(alloc: Global, words: &[Vec<u8>]) -> Result<Vec<Vec<u8>>, A
     Ok(out)
 }
 
-fn is_among(names: &[Vec<u8>], name: &[u8]) -> bool
+pub(crate) fn is_among(names: &[Vec<u8>], name: &[u8]) -> bool
     ensures { result ≡ list_any (λ w. bytes_eq w.items name.now) names.now }
 {
     names.iter().any(|word| word.as_slice() == name)

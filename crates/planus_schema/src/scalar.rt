@@ -3,7 +3,7 @@
 ghost use Rattle.std.specs.Prelude.{◌≡◌, ◌||◌};
 ghost use Rattle.std.specs.Str.{bytes_eq};
 ghost use Rattle.planus_schema.specs.Numbers.{scalar_named as scalar_named_lem, scalar_size};
-ghost use Rattle.planus_schema.specs.Numbers.{is_float as is_float_lem, is_signed as is_signed_lem};
+ghost use Rattle.planus_schema.specs.Numbers.{is_float as is_float_lem};
 ghost use Rattle.planus_schema.specs.Numbers.{greatest as greatest_lem, least as least_lem};
 ghost use Rattle.planus_schema.specs.Numbers.{fits as fits_lem, is_bool as is_bool_lem};
 
@@ -93,13 +93,6 @@ impl Scalar {
             Scalar::Bool => true,
             _ => false,
         }
-    }
-
-    /// Returns whether it has negative integers.
-    pub fn is_signed(self) -> bool
-        ensures { result ≡ is_signed_lem self }
-    {
-        least(self) >= 1
     }
 
     /// Returns whether this integer is a value of the type. A float type has only 0.

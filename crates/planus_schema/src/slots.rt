@@ -72,8 +72,8 @@ pub(crate) fn slot_of(field: &Field, kind: FieldType, ids: bool, next: usize) ->
     }
     match id_of(field) {
         Some(id) if width(kind) <= id + 1 => Ok(id),
-        Some(_) => Err(wrong(Problem::WrongId, field.left)),
-        None => Err(wrong(Problem::IdMissing, field.left)),
+        None if !has(&field.attributes, b"id") => Err(wrong(Problem::IdMissing, field.left)),
+        _ => Err(wrong(Problem::WrongId, field.left)),
     }
 }
 

@@ -6,6 +6,7 @@ ghost use Rattle.planus_schema.specs.Names.{head_of, space_of, path_in, base_nam
 ghost use Rattle.planus_schema.specs.Schemas.{said_of, after, after_file, after_files, IsFour};
 ghost use Rattle.planus_schema.specs.Schemas.{no_statements};
 
+use crate::checks::{check_item, custom_attributes};
 use crate::fault::{Fault, Problem, Stop, note, wrong};
 use crate::head::{Head, space_after};
 use crate::kind::base_of;
@@ -29,6 +30,7 @@ fn state(
     alloc: Global,
     heads: &[Head],
     space: Option<&Path>,
+    custom: &[Vec<u8>],
     declaration: &Declaration,
     statements: &mut Statements,
 ) -> Result<(), Stop>
@@ -37,6 +39,7 @@ fn state(
     ensures four { OnOk result (IsFour (said_of statements.old).identifier
         → IsFour (said_of statements.new).identifier) }
 {
+    check_item(alloc, heads, space, custom, &declaration.item)?;
     match &declaration.item {
         Item::RootType(path) => {
             statements.root = Some(root_of(alloc, heads, space, path)?);
@@ -60,6 +63,7 @@ fn state_or_note(
     alloc: Global,
     heads: &[Head],
     space: Option<&Path>,
+    custom: &[Vec<u8>],
     declaration: &Declaration,
     file: usize,
     statements: &mut Statements,
@@ -73,7 +77,7 @@ fn state_or_note(
     ensures kept { OnOk result (faults.new.items ≡ [] → faults.old.items ≡ []) }
     ensures most { OnOk result (length faults.old.items ≤ 20 → length faults.new.items ≤ 20) }
 {
-    match state(alloc, heads, space, declaration, statements) {
+    match state(alloc, heads, space, custom, declaration, statements) {
         Ok(()) => Ok(()),
         Err(stop) => note(faults, file, stop),
     }
@@ -82,6 +86,7 @@ fn state_or_note(
 fn state_file(
     alloc: Global,
     heads: &[Head],
+    custom: &[Vec<u8>],
     file: usize,
     declarations: &[Declaration],
     statements: &mut Statements,
@@ -97,7 +102,16 @@ fn state_file(
 {
     let mut space = None;
     'declarations: for declaration in declarations {
-        state_or_note(alloc, heads, space, declaration, file, statements, faults)?;
+        state_or_note(
+            alloc,
+            heads,
+            space,
+            custom,
+            declaration,
+            file,
+            statements,
+            faults,
+        )?;
         space = space_after(space, declaration);
     }
     Ok(())
@@ -122,9 +136,18 @@ pub(crate) fn statements(
         identifier: None,
         extension: None,
     };
+    let custom = custom_attributes(alloc, files)?;
     let mut file = 0;
     'files: for declarations in files {
-        state_file(alloc, heads, file, declarations, &mut statements, faults)?;
+        state_file(
+            alloc,
+            heads,
+            &custom,
+            file,
+            declarations,
+            &mut statements,
+            faults,
+        )?;
         file += 1;
     }
     Ok(statements)
