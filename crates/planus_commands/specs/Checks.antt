@@ -11,6 +11,7 @@ use Rattle.planus_syntax.specs.Lexing.{lex_of}
 use Rattle.planus_syntax.specs.Placing.{StandsAt}
 use Rattle.planus_syntax.specs.Values.{DeclarationV}
 use Rattle.planus_schema.specs.Schemas.{Means, AreFaults}
+use Rattle.planus_schema.specs.Sound.{IsSound}
 use Rattle.planus_schema.specs.declared.fault.Fault.{Fault}
 use Rattle.planus_schema.specs.declared.schema.Schema.{Schema}
 use Rattle.planus_commands.specs.declared.checking.File.{File}
@@ -62,10 +63,10 @@ AreReports files [] out = out ≡ []
 AreReports files (fault ∷ faults) out =
     Joins (IsReportIn (slice_get files fault.file) fault) (AreReports files faults) out
 
--- The files mean a schema, and nothing is said; or from one to twenty faults are reported.
+-- The files mean a sound schema, and nothing is said; or from one to twenty faults are reported.
 abbrev pub ChecksFiles : List File → List (List DeclarationV) → Bool
     → Option (List ℕ) → Option (List ℕ) → Type 0
 ChecksFiles files declarations true before after =
-    ((s : Schema) × Means declarations s) × Keeps before after
+    ((s : Schema) × Means declarations s × IsSound s) × Keeps before after
 ChecksFiles files declarations false before after = (faults : List Fault) × AreFaults faults
     × ((out : List ℕ) × AreReports files faults out × Appends before after out)

@@ -19,7 +19,6 @@ after problem.MemberNameTaken = codes ": a member before it has this name, or it
 after problem.ValueTaken = codes ": a value before it is the same number"
 after problem.TagTaken = codes ": a member before it has the same number"
 after problem.NoIntegerType = codes " is no integer type"
-after problem.SignedFlags = codes ": the type of `bit_flags` is unsigned"
 after problem.ValueOutOfRange = codes ": the type of the enum does not hold this number"
 after problem.TagOutOfRange = codes ": the number of a member is from 1 to 255"
 after problem.MemberIsNoTable = codes " is no table; unions of structs and strings are not supported"
@@ -43,6 +42,7 @@ after problem.WrongNested = codes ": `nested_flatbuffer` stands at a `[ubyte]` a
 after problem.UnknownAttribute = []
 after problem.RootIsNoTable = codes " is no table"
 after problem.WrongIdentifier = codes ": the identifier has four bytes"
+after problem.MethodNameTaken = codes ": a method before it has this name"
 after problem.MethodIsNoTable = codes " is no table"
 
 abbrev pub problem_text : Problem → List ℕ → List ℕ

@@ -31,7 +31,6 @@ fn after(problem: Problem) -> &'static str
         Problem::ValueTaken => ": a value before it is the same number",
         Problem::TagTaken => ": a member before it has the same number",
         Problem::NoIntegerType => " is no integer type",
-        Problem::SignedFlags => ": the type of `bit_flags` is unsigned",
         Problem::ValueOutOfRange => ": the type of the enum does not hold this number",
         Problem::TagOutOfRange => ": the number of a member is from 1 to 255",
         Problem::MemberIsNoTable => " is no table; unions of structs and strings are not supported",
@@ -59,6 +58,7 @@ fn after(problem: Problem) -> &'static str
         Problem::UnknownAttribute => "",
         Problem::RootIsNoTable => " is no table",
         Problem::WrongIdentifier => ": the identifier has four bytes",
+        Problem::MethodNameTaken => ": a method before it has this name",
         Problem::MethodIsNoTable => " is no table",
     }
 }
