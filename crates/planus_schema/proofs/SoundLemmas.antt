@@ -1,5 +1,5 @@
 -- A schema that files mean is sound.
-use Rattle.std.proofs.Common.{◌≡◌, ℕ, zero, suc, ◌+◌, ◌<◌, Bool, true, false, cond, List, [], ◌∷◌, ◌++◌, length, map, refl, sym, ap, subst, ◌∙◌, append_assoc, add-one, arith, length-append}
+use Rattle.std.proofs.Common.{◌≡◌, ℕ, zero, suc, ◌+◌, ◌<◌, Bool, true, false, cond, List, [], ◌∷◌, ◌++◌, length, map, refl, sym, ap, subst, ◌∙◌, append_assoc, length-append}
 use Rattle.std.specs.Prelude.{Option, Some, None, slice_get, codes}
 use Rattle.std.specs.Option.{option_map}
 use Rattle.std.specs.List.{AllByRecursion}
@@ -17,7 +17,7 @@ use Rattle.planus_schema.specs.declared.schema.TableField.{TableField}
 use Rattle.planus_schema.specs.declared.schema.UnionMember.{UnionMember}
 use Rattle.planus_schema.specs.declared.structs.Measure.{Measure}
 use Rattle.planus_schema.specs.Numbers.{scalar_named}
-use Rattle.planus_schema.specs.Names.{HeadV, base_of_item, base_of_head, base_found, base_of_word, plain_of, plain_base, base_or, base_named, type_named, found, words_of, words_in, space_after, setting, heads_of}
+use Rattle.planus_schema.specs.Names.{HeadV, base_of_item, base_of_head, base_found, plain_of, plain_base, base_or, base_named, type_named, found, words_of, words_in, space_after, setting, heads_of}
 use Rattle.planus_schema.specs.Distinct.{AreDistinct, Each2}
 use Rattle.planus_schema.specs.Structs.{measure_of_body, measure_in, body_in, SaysStructField}
 use Rattle.planus_schema.specs.Unions.{SaysMember, target_of}

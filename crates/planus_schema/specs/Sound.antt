@@ -1,5 +1,5 @@
 -- What a schema is, whatever it was read from.
-use Rattle.std.specs.Prelude.{◌≡◌, ℕ, ◌+◌, ◌<◌, List, [], ◌∷◌, length, map, Option, Some, None}
+use Rattle.std.specs.Prelude.{◌≡◌, ℕ, ◌+◌, ◌<◌, List, [], ◌∷◌, map, Option, Some, None}
 use Rattle.std.specs.Prelude.{slice_get}
 use Rattle.std.specs.List.{AllByRecursion}
 use Rattle.planus_schema.specs.declared.schema.Base.{Base}
@@ -12,7 +12,6 @@ use Rattle.planus_schema.specs.declared.schema.StructField.{StructField}
 use Rattle.planus_schema.specs.declared.schema.Table.{Table}
 use Rattle.planus_schema.specs.declared.schema.TableField.{TableField}
 use Rattle.planus_schema.specs.declared.schema.Union.{Union}
-use Rattle.planus_schema.specs.declared.schema.UnionMember.{UnionMember}
 use Rattle.planus_schema.specs.declared.schema.Schema.{Schema}
 use Rattle.planus_schema.specs.Distinct.{AreDistinct}
 use Rattle.planus_schema.specs.Structs.{measure_in, body_in}

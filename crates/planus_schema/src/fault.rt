@@ -45,7 +45,7 @@ pub enum Problem {
     WrongAlignment,
     /// A default is no value of the field's type.
     WrongDefault,
-    /// A default is no value of the enum.
+    /// Zero, which is the default where none is given, is no value of the enum.
     UnknownValue,
     /// A scalar is `required`.
     RequiredScalar,
@@ -55,7 +55,7 @@ pub enum Problem {
     WrongId,
     /// The `id`s of a table are not all the numbers from 0 on, each once.
     IdsWithGap,
-    /// A table has more than 32764 slots.
+    /// A table has more than 32765 slots.
     TooManySlots,
     /// A `key` is no scalar, enum or string.
     WrongKey,
