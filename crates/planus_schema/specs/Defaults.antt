@@ -14,7 +14,8 @@ use Rattle.planus_schema.specs.declared.schema.Base.TheVariants as base
 use Rattle.planus_schema.specs.declared.schema.FieldType.{FieldType}
 use Rattle.planus_schema.specs.declared.schema.Value.{Value}
 use Rattle.planus_schema.specs.declared.schema.Value.TheVariants as value
-use Rattle.planus_schema.specs.Numbers.{integer_of, is_integer, is_float, is_bool, fits, zero_number}
+use Rattle.planus_schema.specs.Numbers.{integer_of, is_integer, is_float, is_bool, fits}
+use Rattle.planus_schema.specs.Numbers.{zero_number}
 use Rattle.planus_schema.specs.Numbers.{is_hexadecimal, without_sign, scalar_named}
 use Rattle.planus_schema.specs.Names.{HeadV, item_at}
 use Rattle.planus_schema.specs.Enums.{number_of, settled, is_flags, numbers_from, same_number}
@@ -49,7 +50,8 @@ abbrev pub absent_or : PathV → Option ValueV → Option ValueV
 absent_or p o = if is_word (codes "null") p then Some absent else o
 
 abbrev pub whole_number : Scalar → List ℕ → Option ValueV
-whole_number s w = if is_integer w && fits s (integer_of w) then Some (integer (integer_of w)) else None
+whole_number s w =
+    if is_integer w && fits s (integer_of w) then Some (integer (integer_of w)) else None
 
 abbrev pub truth : Number
 truth = record { negative = false; magnitude = 1 }
@@ -59,7 +61,8 @@ named_bool p = if is_word (codes "true") p then Some (integer truth)
     else if is_word (codes "false") p then Some (integer zero_number) else None
 
 abbrev pub named_float : PathV → Option ValueV
-named_float p = if is_word (codes "nan") p || is_word (codes "inf") p then Some (float p.first) else None
+named_float p =
+    if is_word (codes "nan") p || is_word (codes "inf") p then Some (float p.first) else None
 
 -- digits that are not hexadecimal
 abbrev pub float_number : List ℕ → Option ValueV

@@ -90,7 +90,7 @@ impl Problem {
             Problem::ValueOutOfRange => "the type of the enum does not hold this value",
             Problem::TagOutOfRange => "the number of a member must be from 1 to 255",
             Problem::MemberIsNoTable => {
-                "a member of a union must be a table; structs and strings in unions are not supported"
+                "a member of a union must be a table; structs and strings are not supported"
             }
             Problem::NoStructField => "a field of a struct must be a scalar, an enum or a struct",
             Problem::DeclaredLater => "a type in a struct must be declared before the struct",
