@@ -88,7 +88,8 @@ fn table_named(
     left: usize,
 ) -> Result<usize, Stop>
     ensures { IfOk result (λ i. base_found (map head_of heads.now)
-        (found_lem (map head_of heads.now) (space_of space.entry) (text.now ∷ [])) ≡ Some (Base.Table i)) }
+        (found_lem (map head_of heads.now) (space_of space.entry) (text.now ∷ []))
+        ≡ Some (Base.Table i)) }
 {
     let path = path_of_text(alloc, text, left)?;
     match found(alloc, heads, space, &path)? {
