@@ -1,6 +1,7 @@
 -- Defaults.
-use Rattle.std.specs.Prelude.{◌≡◌, ℕ, Bool, true, false, ◌&&◌, ◌||◌, not, if◌then◌else◌}
-use Rattle.std.specs.Prelude.{List, [], ◌∷◌, map, Option, Some, None, codes}
+use Rattle.std.specs.Prelude.{ℕ, Bool, true, false, ◌&&◌, ◌||◌}
+use Rattle.std.specs.Prelude.{not, if◌then◌else◌, ◌==◌, ◌++◌, fold, bit_or}
+use Rattle.std.specs.Prelude.{List, [], ◌∷◌, Option, Some, None, codes}
 use Rattle.std.specs.List.{list_any}
 use Rattle.std.specs.Str.{bytes_eq}
 use Rattle.planus_syntax.specs.Values.{Name, PathV, LiteralV, numeral, named, quote, nothing}
@@ -14,7 +15,8 @@ use Rattle.planus_schema.specs.declared.schema.Base.TheVariants as base
 use Rattle.planus_schema.specs.declared.schema.FieldType.{FieldType}
 use Rattle.planus_schema.specs.declared.schema.Value.{Value}
 use Rattle.planus_schema.specs.declared.schema.Value.TheVariants as value
-use Rattle.planus_schema.specs.Numbers.{integer_of, is_integer, is_float, is_bool, fits, zero_number}
+use Rattle.planus_schema.specs.Numbers.{integer_of, is_integer, is_float, is_bool, fits}
+use Rattle.planus_schema.specs.Numbers.{zero_number}
 use Rattle.planus_schema.specs.Numbers.{is_hexadecimal, without_sign, scalar_named}
 use Rattle.planus_schema.specs.Names.{HeadV, item_at}
 use Rattle.planus_schema.specs.Enums.{number_of, settled, is_flags, numbers_from, same_number}
@@ -49,7 +51,8 @@ abbrev pub absent_or : PathV → Option ValueV → Option ValueV
 absent_or p o = if is_word (codes "null") p then Some absent else o
 
 abbrev pub whole_number : Scalar → List ℕ → Option ValueV
-whole_number s w = if is_integer w && fits s (integer_of w) then Some (integer (integer_of w)) else None
+whole_number s w =
+    if is_integer w && fits s (integer_of w) then Some (integer (integer_of w)) else None
 
 abbrev pub truth : Number
 truth = record { negative = false; magnitude = 1 }
@@ -59,7 +62,8 @@ named_bool p = if is_word (codes "true") p then Some (integer truth)
     else if is_word (codes "false") p then Some (integer zero_number) else None
 
 abbrev pub named_float : PathV → Option ValueV
-named_float p = if is_word (codes "nan") p || is_word (codes "inf") p then Some (float p.first) else None
+named_float p =
+    if is_word (codes "nan") p || is_word (codes "inf") p then Some (float p.first) else None
 
 -- digits that are not hexadecimal
 abbrev pub float_number : List ℕ → Option ValueV
@@ -111,11 +115,37 @@ is_among_values e n = if is_flags e then fits_in (scalar_named e.base.first)
 abbrev pub among_values : EnumerationV → Number → Option ValueV
 among_values e n = if is_among_values e n then Some (integer n) else None
 
+-- the words of a text with a space between them, after the beginning of the first
+abbrev pub cut_words : List ℕ → List ℕ → List Name
+cut_words word [] = word ∷ []
+cut_words word (b ∷ bs) =
+    if b == 32 then word ∷ cut_words [] bs else cut_words (word ++ b ∷ []) bs
+
+abbrev pub or_flag : ℕ → Option Number → Option ℕ
+or_flag total None = None
+or_flag total (Some n) = Some (bit_or total n.magnitude)
+
+abbrev pub with_flag : EnumerationV → Option ℕ → Name → Option ℕ
+with_flag e None w = None
+with_flag e (Some total) w = or_flag total (value_named w true None e.variants)
+
+-- the values of these names together
+abbrev pub flags_named : EnumerationV → List Name → Option ℕ
+flags_named e ws = fold (with_flag e) (Some 0) ws
+
+abbrev pub as_flags : Option ℕ → Option ValueV
+as_flags None = None
+as_flags (Some n) = Some (integer (record { negative = false; magnitude = n }))
+
+-- several values of an enum with `bit_flags`
+abbrev pub flags_default : EnumerationV → List ℕ → Option ValueV
+flags_default e w = if is_flags e then as_flags (flags_named e (cut_words [] w)) else None
+
 abbrev pub enum_default : EnumerationV → LiteralV → Option ValueV
 enum_default e (numeral w) =
     if is_integer w then among_values e (integer_of w) else None
 enum_default e (named p) = absent_or p (enum_named e p)
-enum_default e (quote w) = None
+enum_default e (quote w) = flags_default e w
 enum_default e nothing = None
 
 abbrev pub text_default : LiteralV → Option ValueV
@@ -156,16 +186,18 @@ base_default hs (base.Struct i) l = None
 base_default hs (base.Table i) l = None
 base_default hs (base.Union i) l = None
 
+abbrev pub zero_in : Option EnumerationV → Option (Option ValueV)
+zero_in None = None
+zero_in (Some e) = if is_among_values e zero_number then Some (Some (integer zero_number)) else None
+
+abbrev pub zero_scalar : Scalar → ValueV
+zero_scalar s = if is_float s then float (codes "0") else integer zero_number
+
 -- without a literal: zero, if it is a value, and none for what isn't a scalar or an enum
 abbrev pub zero_default : List HeadV → Base → Option (Option ValueV)
-zero_default hs (base.Scalar s) =
-    Some (Some (if is_float s then float (codes "0") else integer zero_number))
+zero_default hs (base.Scalar s) = Some (Some (zero_scalar s))
 zero_default hs base.Text = Some None
 zero_default hs (base.Enum i) = zero_in (enum_at (item_at hs i))
-  where
-    zero_in : Option EnumerationV → Option (Option ValueV)
-    zero_in None = None
-    zero_in (Some e) = if is_among_values e zero_number then Some (Some (integer zero_number)) else None
 zero_default hs (base.Struct i) = Some None
 zero_default hs (base.Table i) = Some None
 zero_default hs (base.Union i) = Some None
@@ -179,3 +211,54 @@ abbrev pub default_said : List HeadV → FieldType → Option LiteralV → Optio
 default_said hs t None = if t.vector then Some None else zero_default hs t.base
 default_said hs t (Some l) =
     some_default (if t.vector then vector_default l else base_default hs t.base l)
+
+-- ---- which defaults a type has
+
+abbrev pub is_scalar_value : Scalar → ValueV → Bool
+is_scalar_value s absent = true
+is_scalar_value s (integer n) = not (is_float s) && fits s n
+is_scalar_value s (float w) = is_float s
+is_scalar_value s (text w) = false
+is_scalar_value s empty = false
+
+abbrev pub is_enum_value : ValueV → Bool
+is_enum_value absent = true
+is_enum_value (integer n) = true
+is_enum_value (float w) = false
+is_enum_value (text w) = false
+is_enum_value empty = false
+
+abbrev pub is_text_value : ValueV → Bool
+is_text_value absent = false
+is_text_value (integer n) = false
+is_text_value (float w) = false
+is_text_value (text w) = true
+is_text_value empty = false
+
+abbrev pub is_vector_value : ValueV → Bool
+is_vector_value absent = false
+is_vector_value (integer n) = false
+is_vector_value (float w) = false
+is_vector_value (text w) = false
+is_vector_value empty = true
+
+abbrev pub is_value : Base → ValueV → Bool
+is_value (base.Scalar s) v = is_scalar_value s v
+is_value base.Text v = is_text_value v
+is_value (base.Enum i) v = is_enum_value v
+is_value (base.Struct i) v = false
+is_value (base.Table i) v = false
+is_value (base.Union i) v = false
+
+abbrev pub needs_none : Base → Bool
+needs_none (base.Scalar s) = false
+needs_none base.Text = true
+needs_none (base.Enum i) = false
+needs_none (base.Struct i) = true
+needs_none (base.Table i) = true
+needs_none (base.Union i) = true
+
+-- a value of the type, or none for what isn't a scalar or an enum
+abbrev pub is_default : FieldType → Option ValueV → Bool
+is_default t None = t.vector || needs_none t.base
+is_default t (Some v) = if t.vector then is_vector_value v else is_value t.base v

@@ -1,8 +1,8 @@
 -- Enums.
-use Rattle.std.specs.Prelude.{◌≡◌, ℕ, ◌^◌, ◌<◌, Bool, true, false, ◌==◌, ◌&&◌, not, if◌then◌else◌}
+use Rattle.std.specs.Prelude.{◌≡◌, ℕ, ◌^◌, Bool, true, false, ◌==◌, ◌&&◌, not, if◌then◌else◌}
 use Rattle.std.specs.Prelude.{List, [], ◌∷◌, ◌++◌, map, Option, Some, None, codes}
 use Rattle.std.specs.List.{IsDistinct, list_all}
-use Rattle.planus_syntax.specs.Values.{PathV, VariantV, EnumerationV, names_of}
+use Rattle.planus_syntax.specs.Values.{VariantV, EnumerationV, names_of}
 use Rattle.planus_schema.specs.declared.number.Number.{Number}
 use Rattle.planus_schema.specs.declared.scalar.Scalar.{Scalar}
 use Rattle.planus_schema.specs.declared.schema.Enum.{Enum}
@@ -65,9 +65,11 @@ is_integer_type s = not (is_float s) && not (is_bool s)
 pub record IsValueAdded (s : Scalar) (v : VariantV) (n : Number) (old new : List EnumValue) : Type 0
   where
     pub names : map (λ x. x.name.items) new ≡ map (λ x. x.name.items) old ++ v.name ∷ []
-    pub docs : map (λ x. names_of x.docs.items) new ≡ map (λ x. names_of x.docs.items) old ++ v.docs ∷ []
+    pub docs : map (λ x. names_of x.docs.items) new
+        ≡ map (λ x. names_of x.docs.items) old ++ v.docs ∷ []
     pub numbers : map number_of_value new ≡ map number_of_value old ++ n ∷ []
-    pub within : list_all (λ x. fits s x.number) old ≡ true → list_all (λ x. fits s x.number) new ≡ true
+    pub within : list_all (λ x. fits s x.number) old ≡ true
+        → list_all (λ x. fits s x.number) new ≡ true
     pub distinct : IsDistinct same_number (map number_of_value old)
         → IsDistinct same_number (map number_of_value new)
 

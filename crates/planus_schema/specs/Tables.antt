@@ -1,6 +1,6 @@
 -- Tables: the slots of their fields.
-use Rattle.std.specs.Prelude.{◌≡◌, ℕ, suc, ◌+◌, ◌-◌, ◌≤◌, ◌<◌, Bool, true, false, ◌&&◌, ◌||◌, not}
-use Rattle.std.specs.Prelude.{List, [], ◌∷◌, ◌++◌, length, map, Option, Some, None, codes, slice_get}
+use Rattle.std.specs.Prelude.{◌≡◌, ℕ, ◌+◌, ◌-◌, ◌≤◌, ◌<◌, Bool, true, false, ◌&&◌, ◌||◌, not}
+use Rattle.std.specs.Prelude.{List, [], ◌∷◌, ◌++◌, length, Option, Some, None, codes}
 use Rattle.std.specs.Prelude.{if◌then◌else◌, slice_index}
 use Rattle.std.specs.List.{list_any, list_all}
 use Rattle.std.specs.List.Sorted.{IsPermutation}
@@ -145,10 +145,11 @@ table_found hs space (Some w) = base_found hs (found hs space (w ∷ []))
 abbrev pub NestedIs : List HeadV → List Name → Option AttributeV → Option ℕ → Type 0
 NestedIs hs space None o = o ≡ None
 NestedIs hs space (Some a) None = ⊥
-NestedIs hs space (Some a) (Some i) = table_found hs space (nested_name a.value) ≡ Some (base.Table i)
+NestedIs hs space (Some a) (Some i) =
+    table_found hs space (nested_name a.value) ≡ Some (base.Table i)
 
-pub record SaysField (hs : List HeadV) (space : List Name) (ids : Bool) (d : FieldV) (f : TableField)
-    : Type 0 where
+pub record SaysField (hs : List HeadV) (space : List Name) (ids : Bool) (d : FieldV)
+    (f : TableField) : Type 0 where
   pub name : f.name.items ≡ d.name
   pub docs : names_of f.docs.items ≡ d.docs
   pub kind : type_named hs space d.kind ≡ Some f.kind
