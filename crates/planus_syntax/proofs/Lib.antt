@@ -8,3 +8,4 @@ pub mod Loops
 pub mod Again
 pub mod Composed
 pub mod Placed
+pub mod Whole

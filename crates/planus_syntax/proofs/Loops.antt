@@ -20,7 +20,7 @@ either true r s P y e f g = f e
 either false r s P y e f g = g e
 
 -- either way of a choice, with what the test gave
-chosen : {A : Type 0} (b : Bool) (r s : Result A Fault) (P : Type 0) (y : A) → cond b r s ≡ Ok y → (b ≡ true → r ≡ Ok y → P) → (s ≡ Ok y → P) → P
+pub chosen : {A : Type 0} (b : Bool) (r s : Result A Fault) (P : Type 0) (y : A) → cond b r s ≡ Ok y → (b ≡ true → r ≡ Ok y → P) → (s ≡ Ok y → P) → P
 chosen true r s P y e f g = f refl e
 chosen false r s P y e f g = g e
 

@@ -224,6 +224,7 @@ fn label_at(alloc: Global, tokens: &[Token]) -> Result<(Label, &[Token]), ReadEr
     match tokens.split_first() {
         Some((Token::Word(bytes), rest)) => Ok((
             Label {
+                left: tokens.len(),
                 quoted: false,
                 name: Vec::from_slice(alloc, bytes)?,
             },
@@ -231,6 +232,7 @@ fn label_at(alloc: Global, tokens: &[Token]) -> Result<(Label, &[Token]), ReadEr
         )),
         Some((Token::Text(bytes), rest)) => Ok((
             Label {
+                left: tokens.len(),
                 quoted: true,
                 name: Vec::from_slice(alloc, bytes)?,
             },
@@ -274,7 +276,14 @@ fn path_at(alloc: Global, tokens: &[Token]) -> Result<(Path, &[Token]), ReadErro
 {
     let (first, rest) = word_at(alloc, tokens)?;
     let (more, rest) = dotted(alloc, rest)?;
-    Ok((Path { first, more }, rest))
+    Ok((
+        Path {
+            left: tokens.len(),
+            first,
+            more,
+        },
+        rest,
+    ))
 }
 
 /// Reads a type.
@@ -472,8 +481,8 @@ fn field_at(alloc: Global, tokens: &[Token]) -> Result<(Field, &[Token]), ReadEr
     ensures { Gives (λ x. (field_of x.0, pieces_of x.1.now)) result
         (field_at_lem (pieces_of tokens.now)) }
 {
-    let (docs, rest) = docs_at(alloc, tokens)?;
-    let (name, rest) = word_at(alloc, rest)?;
+    let (docs, start) = docs_at(alloc, tokens)?;
+    let (name, rest) = word_at(alloc, start)?;
     let rest = mark_at(rest, b':')?;
     let (kind, rest) = kind_at(alloc, rest)?;
     let (default, rest) = default_at(alloc, rest)?;
@@ -482,6 +491,7 @@ fn field_at(alloc: Global, tokens: &[Token]) -> Result<(Field, &[Token]), ReadEr
     Ok((
         Field {
             docs,
+            left: start.len(),
             name,
             kind,
             default,
@@ -545,10 +555,18 @@ fn variant_at(alloc: Global, tokens: &[Token]) -> Result<(Variant, &[Token]), Re
     ensures { Gives (λ x. (variant_of x.0, pieces_of x.1.now)) result
         (variant_at_lem (pieces_of tokens.now)) }
 {
-    let (docs, rest) = docs_at(alloc, tokens)?;
-    let (name, rest) = word_at(alloc, rest)?;
+    let (docs, start) = docs_at(alloc, tokens)?;
+    let (name, rest) = word_at(alloc, start)?;
     let (value, rest) = value_at(alloc, rest)?;
-    Ok((Variant { docs, name, value }, rest))
+    Ok((
+        Variant {
+            docs,
+            left: start.len(),
+            name,
+            value,
+        },
+        rest,
+    ))
 }
 
 #[tactic(auto, unfolding(crate::specs::Reading::next_variant_at))]
@@ -876,7 +894,14 @@ fn declaration_at(alloc: Global, tokens: &[Token]) -> Result<(Declaration, &[Tok
     let (docs, start) = docs_at(alloc, tokens)?;
     let (key, rest) = word_at(alloc, start)?;
     let (item, rest) = item_at(alloc, &key, start.len(), rest)?;
-    Ok((Declaration { docs, item }, rest))
+    Ok((
+        Declaration {
+            docs,
+            left: start.len(),
+            item,
+        },
+        rest,
+    ))
 }
 
 fn schema_at(alloc: Global, tokens: &[Token]) -> Result<Vec<Declaration>, ReadError>
@@ -906,6 +931,8 @@ pub(crate) enum ParseError {
 pub(crate) fn parse(alloc: Global, tokens: &[Token]) -> Result<Vec<Declaration>, ParseError>
     // What is read is written as these tokens.
     ensures found { IfOk result (λ v. pieces_of tokens.now ≡ schema_pieces (schema_of v.items)) }
+    // It has no empty enum or union.
+    ensures whole { IfOk result (λ v. AreWhole (schema_of v.items)) }
     // The schema that these tokens write is read, unless memory is refused.
     ensures only { (ds : List DeclarationV) → AreWhole ds
         → pieces_of tokens.now ≡ schema_pieces ds → ParsesTo ds result }

@@ -1,8 +1,10 @@
 //! A text to declarations, and to its canonical text.
 
-ghost use Rattle.std.specs.Prelude.{◌≡◌, ◌≤◌, List, length, IfOk, IfErr, Ok};
-ghost use Rattle.planus_syntax.specs.Tokens.{pieces_of};
+ghost use Rattle.std.specs.Prelude.{◌≡◌, ◌≤◌, ◌-◌, List, length, IfOk, IfErr, Ok};
+ghost use Rattle.planus_syntax.specs.Tokens.{Piece, pieces_of};
+ghost use Rattle.planus_syntax.specs.Placing.{StandsAt};
 ghost use Rattle.planus_syntax.specs.Lexing.{lex_of};
+ghost use Rattle.planus_syntax.specs.declared.text.SchemaError.TheVariants.{OutOfMemory};
 ghost use Rattle.planus_syntax.specs.Values.{AreWhole, DeclarationV, IsSchema, schema_of};
 ghost use Rattle.planus_syntax.specs.Values.{schema_pieces, text_of};
 ghost use Rattle.planus_syntax.specs.Parsed.{IsFaultOf, LiesIn, Spells};
@@ -39,6 +41,8 @@ fn read(alloc: Global, text: &[u8]) -> Result<(Vec<Token>, Vec<Declaration>), Sc
     ensures found { IfOk result (λ x. lex_of text.now ≡ Ok (schema_pieces (schema_of x.1.items))) }
     ensures tokens { IfOk result (λ x. pieces_of x.0.items
         ≡ schema_pieces (schema_of x.1.items)) }
+    // The schema has no empty enum or union.
+    ensures whole { IfOk result (λ x. AreWhole (schema_of x.1.items)) }
     // A text whose tokens are those of a schema is read as it, unless memory is refused.
     ensures only { (schema : List DeclarationV) → AreWhole schema
         → lex_of text.now ≡ Ok (schema_pieces schema) → TextReadsTo schema result }
@@ -66,6 +70,8 @@ fn read(alloc: Global, text: &[u8]) -> Result<(Vec<Token>, Vec<Declaration>), Sc
 pub fn parse_text(alloc: Global, text: &[u8]) -> Result<Vec<Declaration>, SchemaError>
     // What is read is spelled by the text.
     ensures found { IfOk result (λ v. Spells text.now (schema_of v.items)) }
+    // It has no empty enum or union.
+    ensures whole { IfOk result (λ v. AreWhole (schema_of v.items)) }
     // A text that spells a schema is read as that schema, unless memory is refused.
     ensures only { (schema : List DeclarationV) → AreWhole schema → Spells text.now schema
         → TextParsesTo schema result }
@@ -89,7 +95,7 @@ pub fn parse_text(alloc: Global, text: &[u8]) -> Result<Vec<Declaration>, Schema
 pub fn format_text(alloc: Global, text: &[u8]) -> Result<Vec<u8>, SchemaError>
     // What is returned is the text of a schema that the text spells.
     ensures found { IfOk result (λ out. (schema : List DeclarationV)
-        × Spells text.now schema × (out.items ≡ text_of schema)) }
+        × AreWhole schema × Spells text.now schema × (out.items ≡ text_of schema)) }
     // For a text that spells a schema, it is the text of that schema, unless memory is refused.
     ensures only { (schema : List DeclarationV) → AreWhole schema → Spells text.now schema
         → TextFormatsTo schema result }
@@ -106,5 +112,23 @@ pub fn format_text(alloc: Global, text: &[u8]) -> Result<Vec<u8>, SchemaError>
             Err(AllocError) => Err(SchemaError::OutOfMemory),
         },
         Err(error) => Err(error),
+    }
+}
+
+/// Returns the byte where the word stands from which there are `left` tokens to the text's end.
+///
+/// The errors are those of a text that has no tokens.
+pub fn place_from_end(alloc: Global, text: &[u8], left: usize) -> Result<usize, SchemaError>
+    ensures within { IfOk result (λ at. at ≤ length text.now) }
+    ensures stands { (ps : List Piece) → lex_of text.now ≡ Ok ps
+        → IfOk result (λ at. StandsAt text.now ps (length ps - left) at) }
+    // A text that has tokens has the place, unless memory is refused.
+    ensures only { (ps : List Piece) → lex_of text.now ≡ Ok ps
+        → IfErr result (λ error. error ≡ OutOfMemory) }
+{
+    match lex(alloc, text) {
+        Ok(tokens) => Ok(place_of(text, tokens.len().saturating_sub(left))),
+        Err(LexError::OutOfMemory) => Err(SchemaError::OutOfMemory),
+        Err(LexError::Fault { fault, at }) => Err(SchemaError::Token { fault, at }),
     }
 }

@@ -1,8 +1,12 @@
 //! Declarations. Names, digits and strings are the bytes as they are written.
+//!
+//! `left` is where a word stands: how many tokens of the text there are from it to the end, the
+//! word counted. [`place_from_end`](crate::place_from_end) returns its byte.
 
 /// A name of one or more words, with dots between them.
 #[derive(Debug, Drop)]
 pub struct Path {
+    pub left: usize,
     pub first: Vec<u8>,
     pub more: Vec<Vec<u8>>,
 }
@@ -32,6 +36,7 @@ pub enum Literal {
 /// The name of an attribute: a word, or a string.
 #[derive(Debug, Drop)]
 pub struct Label {
+    pub left: usize,
     pub quoted: bool,
     pub name: Vec<u8>,
 }
@@ -47,6 +52,7 @@ pub struct Attribute {
 #[derive(Debug, Drop)]
 pub struct Field {
     pub docs: Vec<Vec<u8>>,
+    pub left: usize,
     pub name: Vec<u8>,
     pub kind: Kind,
     pub default: Option<Literal>,
@@ -65,6 +71,7 @@ pub struct Record {
 #[derive(Debug, Drop)]
 pub struct Variant {
     pub docs: Vec<Vec<u8>>,
+    pub left: usize,
     pub name: Vec<u8>,
     pub value: Option<Vec<u8>>,
 }
@@ -142,9 +149,11 @@ pub enum Item {
     FileExtension(Vec<u8>),
 }
 
-/// A declaration with its documentation: what follows `///` on each of its lines.
+/// A declaration with its documentation: what follows `///` on each of its lines. `left` is where
+/// its first word stands, as `table`.
 #[derive(Debug, Drop)]
 pub struct Declaration {
     pub docs: Vec<Vec<u8>>,
+    pub left: usize,
     pub item: Item,
 }

@@ -2,6 +2,7 @@ use Rattle.std.proofs.Common.{length}
 use Rattle.planus_syntax.specs.Tokens.{pieces_of}
 use Rattle.planus_syntax.specs.Reading.{schema_at}
 use Rattle.planus_syntax.proofs.Composed.{is_found, is_only, is_no_other}
+use Rattle.planus_syntax.proofs.Whole.{schema_whole}
 use Rattle.planus_syntax.proofs.parse.parse.Goals as goal
 
 pub returns-in-Ok-clause-found : goal.returns-in-Ok-clause-found
@@ -9,6 +10,10 @@ unfolding schema_at
 returns-in-Ok-clause-found c =
     is_found (length c.args.tokens.now) (pieces_of c.args.tokens.now) c.in-Ok.declarations
     c.in-Ok.ensures
+
+pub returns-in-Ok-clause-whole : goal.returns-in-Ok-clause-whole
+unfolding schema_at
+returns-in-Ok-clause-whole c = schema_whole (pieces_of c.args.tokens.now) _ _ c.in-Ok.ensures
 
 pub returns-in-Ok-clause-only : goal.returns-in-Ok-clause-only
 unfolding schema_at

@@ -1,0 +1,15 @@
+use Rattle.std.proofs.Common.{inl, ap, ◌∙◌, codes}
+use Rattle.planus_commands.specs.Reports.{report_text}
+use Rattle.planus_commands.proofs.texts.outcome_of.Goals as goal
+
+pub returns-in_ok-out-in-Err-clause-outcome : goal.returns-in_ok-out-in-Err-clause-outcome
+returns-in_ok-out-in-Err-clause-outcome c =
+    inl (
+      c.in-Err.ensures.cases.0,
+      (
+        c.in-Err.error.valid_up_to,
+        c.in-Err.ensures.cases.1,
+        c.in_ok-out-in-Err.ensures ∙ ap (λ at. report_text c.args.name.now c.args.text.now at
+            (codes "the text is not UTF-8")) c.valid_up_to.ensures,
+      ),
+    )

@@ -1,0 +1,75 @@
+-- What is said of the meaning of files.
+use Rattle.std.specs.Prelude.{◌≡◌, ℕ, ◌-◌, ◌==◌, ◌||◌, not, Bool, true, false, List, [], ◌∷◌, ◌++◌}
+use Rattle.std.specs.Prelude.{length, map, take, drop, slice_get, Option, Some, None, Ok}
+use Rattle.std.specs.Prelude.{if◌then◌else◌}
+use Rattle.std.specs.List.{position_or_len}
+use Rattle.std.specs.Int.{is_in_range}
+use Rattle.std.specs.String.{string_bytes}
+use Rattle.std.specs.Io.KnownBytes.{Appends, Keeps}
+use Rattle.planus_syntax.specs.Tokens.{Piece}
+use Rattle.planus_syntax.specs.Lexing.{lex_of}
+use Rattle.planus_syntax.specs.Placing.{StandsAt}
+use Rattle.planus_syntax.specs.Values.{Name, DeclarationV}
+use Rattle.planus_schema.specs.Schemas.{Means, AreFaults}
+use Rattle.planus_schema.specs.Sound.{IsSound}
+use Rattle.planus_schema.specs.declared.fault.Fault.{Fault}
+use Rattle.planus_schema.specs.declared.schema.Schema.{Schema}
+use Rattle.planus_commands.specs.declared.checking.File.{File}
+use Rattle.planus_commands.specs.Near.{names_of_files}
+use Rattle.planus_commands.specs.Problems.{message_text}
+use Rattle.planus_commands.specs.Reports.{report_text}
+
+-- no letter, digit, `_` or dot
+abbrev pub ends_word : ℕ → Bool
+ends_word b = not (is_in_range 65 90 b || is_in_range 97 122 b || is_in_range 48 57 b || b == 95
+    || b == 46)
+
+abbrev pub unquoted : List ℕ → List ℕ
+unquoted [] = []
+unquoted (b ∷ bs) = if b == 34 then bs else b ∷ bs
+
+-- the name at the front of these bytes
+abbrev pub word_of : List ℕ → List ℕ
+word_of bytes = take (position_or_len ends_word bytes) bytes
+
+-- the report of a fault: at its word, and with its word in the message; these names are declared
+abbrev pub IsReport : List Name → File → Fault → List ℕ → Type 0
+IsReport names file fault report = (ps : List Piece) → lex_of file.text.items ≡ Ok ps
+    → (at : ℕ) × StandsAt file.text.items ps (length ps - fault.left) at
+    × (report ≡ report_text (string_bytes file.name) file.text.items at
+    (message_text names fault.problem (word_of (unquoted (drop at file.text.items)))))
+
+-- a fault in none of the files has no report
+abbrev pub IsReportIn : List Name → Option File → Fault → List ℕ → Type 0
+IsReportIn names None fault report = report ≡ []
+IsReportIn names (Some file) fault report = IsReport names file fault report
+
+-- the report of a fault was added
+pub record IsReportAdded (names : List Name) (files : List File) (fault : Fault)
+    (old new : List ℕ) : Type 0 where
+  pub report : List ℕ
+  pub is : IsReportIn names (slice_get files fault.file) fault report
+  pub added : new ≡ old ++ report
+
+-- this, and then that
+pub record Joins (IsFirst AreRest : List ℕ → Type 0) (out : List ℕ) : Type 0 where
+  pub first : List ℕ
+  pub rest : List ℕ
+  pub is : IsFirst first
+  pub are : AreRest rest
+  pub joined : out ≡ first ++ rest
+
+-- one report after another
+abbrev pub AreReports : List Name → List File → List Fault → List ℕ → Type 0
+AreReports names files [] out = out ≡ []
+AreReports names files (fault ∷ faults) out =
+    Joins (IsReportIn names (slice_get files fault.file) fault) (AreReports names files faults) out
+
+-- The files mean a sound schema, and nothing is said; or from one to twenty faults are reported.
+abbrev pub ChecksFiles : List File → List (List DeclarationV) → Bool
+    → Option (List ℕ) → Option (List ℕ) → Type 0
+ChecksFiles files declarations true before after =
+    ((s : Schema) × Means declarations s × IsSound s) × Keeps before after
+ChecksFiles files declarations false before after = (faults : List Fault) × AreFaults faults
+    × ((out : List ℕ) × AreReports (names_of_files declarations) files faults out
+    × Appends before after out)

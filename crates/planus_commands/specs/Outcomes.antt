@@ -1,0 +1,105 @@
+-- What becomes of the text of a schema.
+use Rattle.std.specs.Prelude.{◌≡◌, ℕ, Bool, true, false, not, List, [], ◌∷◌, codes, count_by}
+use Rattle.std.specs.Prelude.{Option, ◌⊎◌, ◌-◌, length, Ok}
+use Rattle.std.specs.Str.{IsUtf8, IsValidUpTo}
+use Rattle.std.specs.Io.KnownBytes.{Appends, Keeps}
+use Rattle.planus_syntax.specs.declared.text.SchemaError.{SchemaError}
+use Rattle.planus_syntax.specs.declared.text.SchemaError.TheVariants as errors
+use Rattle.planus_syntax.specs.Tokens.{is_blank}
+use Rattle.planus_syntax.specs.Layout.{printed}
+use Rattle.planus_syntax.specs.Spelled.{Part, token, blank, comment, block, AreParts}
+use Rattle.planus_syntax.specs.Spelled.{spelled, tokens_in}
+use Rattle.planus_syntax.specs.Values.{DeclarationV, text_of}
+use Rattle.planus_syntax.specs.Parsed.{IsFaultOf, Spells}
+use Rattle.planus_commands.specs.declared.outcome.Outcome.{Outcome}
+use Rattle.planus_commands.specs.declared.outcome.Outcome.TheVariants.{Formatted, Faulty}
+use Rattle.planus_commands.specs.declared.outcome.Printed.{Printed}
+use Rattle.planus_commands.specs.declared.parsed.Parsed.{Parsed}
+use Rattle.planus_commands.specs.declared.parsed.Parsed.TheVariants as parsed
+use Rattle.planus_syntax.specs.Tokens.{Piece}
+use Rattle.planus_syntax.specs.Lexing.{lex_of}
+use Rattle.planus_syntax.specs.Placing.{StandsAt}
+use Rattle.planus_syntax.specs.Values.{AreWhole, schema_of}
+use Rattle.planus_commands.specs.declared.outcome.Printed.TheVariants.{Text, Report}
+use Rattle.planus_commands.specs.Reports.{report_text, lex_message, parse_message}
+
+-- This is the report of this fault.
+abbrev pub ReportsError : List ℕ → List ℕ → SchemaError → List ℕ → Type 0
+ReportsError name text errors.OutOfMemory report = ⊥
+ReportsError name text (errors.Token fault at) report =
+    report ≡ report_text name text at (lex_message fault)
+ReportsError name text (errors.Declaration fault index at) report =
+    report ≡ report_text name text at (parse_message fault)
+
+-- the text is not UTF-8, from this byte on
+abbrev pub ReportsBytes : List ℕ → List ℕ → List ℕ → Type 0
+ReportsBytes name text report = (at : ℕ) × IsValidUpTo text at
+    × (report ≡ report_text name text at (codes "the text is not UTF-8"))
+
+-- This is the report of the text's first fault.
+abbrev pub Reports : List ℕ → List ℕ → List ℕ → Type 0
+Reports name text report =
+    ((¬ (IsUtf8 text)) × ReportsBytes name text report)
+    ⊎ (IsUtf8 text × ((error : SchemaError) × IsFaultOf text error
+    × ReportsError name text error report))
+
+-- The text is UTF-8 and spells a schema, and this is its canonical text.
+abbrev pub Formats : List ℕ → List ℕ → Type 0
+Formats text out =
+    IsUtf8 text × ((schema : List DeclarationV) × Spells text schema × (out ≡ text_of schema))
+
+-- the declarations that the text spells, or the report of its first fault
+abbrev pub IsParsed : List ℕ → List ℕ → Parsed → Type 0
+IsParsed name text (parsed.Declarations ds) =
+    IsUtf8 text × Spells text (schema_of ds.items) × AreWhole (schema_of ds.items)
+IsParsed name text (parsed.Faulty report) = Reports name text report.items
+
+-- the report of this fault at the word from which there are `left` tokens to the end of the text
+abbrev pub ReportsAt : List ℕ → List ℕ → ℕ → List ℕ → List ℕ → Type 0
+ReportsAt name text left message report = (ps : List Piece) → lex_of text ≡ Ok ps
+    → (at : ℕ) × StandsAt text ps (length ps - left) at
+    × (report ≡ report_text name text at message)
+
+abbrev pub IsOutcome : List ℕ → List ℕ → Outcome → Type 0
+IsOutcome name text (Formatted out) = Formats text out.items
+IsOutcome name text (Faulty report) = Reports name text report.items
+
+-- the outcome of a text that spells this schema
+abbrev pub IsTextOf : List DeclarationV → Outcome → Type 0
+IsTextOf schema (Formatted out) = out.items ≡ text_of schema
+IsTextOf schema (Faulty report) = ⊥
+
+-- bytes that are no blank
+abbrev pub is_ink : ℕ → Bool
+is_ink b = not (is_blank b)
+
+-- how many bytes are no blank
+abbrev pub ink_of : List ℕ → ℕ
+ink_of bytes = count_by is_ink bytes
+
+-- a comment is among these parts, one that is no documentation
+abbrev pub has_comment : List Part → Bool
+has_comment [] = false
+has_comment (token p ∷ ps) = has_comment ps
+has_comment (blank b ∷ ps) = has_comment ps
+has_comment (comment w ∷ ps) = true
+has_comment (block w ∷ ps) = true
+
+-- no text is longer, in bytes
+abbrev pub greatest_text : ℕ
+greatest_text = 16777216
+
+-- This says of a text, however it is spelled, whether it has a comment.
+abbrev pub SaysComments : List ℕ → List ℕ → Bool → Type 0
+SaysComments text out comments = (parts : List Part) → AreParts parts → text ≡ spelled parts
+    → out ≡ printed (tokens_in parts) → comments ≡ has_comment parts
+
+-- The canonical text was written, and nothing was said; or nothing was written, and the first fault
+-- was reported.
+abbrev pub Prints : List ℕ → List ℕ → Printed → Option (List ℕ) → Option (List ℕ)
+    → Option (List ℕ) → Option (List ℕ) → Type 0
+Prints name text (Text comments) before after unsaid said =
+    ((out : List ℕ) × Formats text out × SaysComments text out comments
+    × Appends before after out) × Keeps unsaid said
+Prints name text Report before after unsaid said = Keeps before after
+    × ((report : List ℕ) × Reports name text report × Appends unsaid said report)

@@ -1,0 +1,57 @@
+-- What faults of meaning are called.
+use Rattle.std.specs.Prelude.{ℕ, List, [], ◌++◌, codes}
+use Rattle.planus_syntax.specs.Values.{Name}
+use Rattle.planus_schema.specs.declared.fault.Problem.{Problem}
+use Rattle.planus_schema.specs.declared.fault.Problem.TheVariants as problem
+use Rattle.planus_commands.specs.Near.{hint_of, nearest}
+
+-- what stands before the word at fault
+abbrev pub before : Problem → List ℕ
+before problem.UnknownType = codes "unknown type "
+before problem.UnknownAttribute = codes "unknown attribute "
+before p = []
+
+-- what follows it
+abbrev pub after : Problem → List ℕ
+after problem.UnknownType = []
+after problem.NameTaken = codes ": this name is declared before"
+after problem.FieldNameTaken = codes ": a field before it has this name"
+after problem.ValueNameTaken = codes ": a value before it has this name"
+after problem.MemberNameTaken = codes ": a member before it has this name, or it is `NONE`"
+after problem.ValueTaken = codes ": a value before it is the same number"
+after problem.TagTaken = codes ": a member before it has the same number"
+after problem.NoIntegerType = codes " is no integer type"
+after problem.ValueOutOfRange = codes ": the type of the enum does not hold this number"
+after problem.TagOutOfRange = codes ": the number of a member is from 1 to 255"
+after problem.MemberIsNoTable = codes " is no table; unions of structs and strings are not supported"
+after problem.NoStructField = codes ": a field of a struct is a scalar, an enum or a struct"
+after problem.DeclaredLater = codes ": a struct holds only structs and enums that are declared before it"
+after problem.DefaultInStruct = codes ": a field of a struct has no default"
+after problem.AttributeInStruct = codes ": a field of a struct is neither `required` nor `deprecated`"
+after problem.EmptyStruct = codes ": a struct has a field"
+after problem.StructTooLarge = codes ": the struct has more than 65535 bytes"
+after problem.WrongAlignment = codes ": the alignment is a power of two, from that of the fields to 32"
+after problem.WrongDefault = codes ": its type has no such default"
+after problem.UnknownValue = codes ": its enum has no such value"
+after problem.RequiredScalar = codes ": a scalar is not `required`"
+after problem.IdMissing = codes ": other fields of the table have an `id`"
+after problem.WrongId = codes ": its `id` is a number from 0 to 65535, and that of a union from 1 on"
+after problem.IdsWithGap = codes ": the `id`s of the table are not all the numbers from 0 on, each once"
+after problem.TooManySlots = codes ": the table has more than 32764 slots"
+after problem.WrongKey = codes ": a `key` is a scalar, an enum or a string"
+after problem.SecondKey = codes ": another field is the `key`"
+after problem.WrongNested = codes ": `nested_flatbuffer` stands at a `[ubyte]` and names a table"
+after problem.UnknownAttribute = []
+after problem.RootIsNoTable = codes " is no table"
+after problem.WrongIdentifier = codes ": the identifier has four bytes"
+after problem.MethodNameTaken = codes ": a method before it has this name"
+after problem.MethodIsNoTable = codes " is no table"
+
+abbrev pub problem_text : Problem → List ℕ → List ℕ
+problem_text p word = before p ++ (codes "`" ++ (word ++ (codes "`" ++ after p)))
+
+-- the same, with the nearest of these names for an unknown type
+abbrev pub message_text : List Name → Problem → List ℕ → List ℕ
+message_text names problem.UnknownType word =
+    problem_text problem.UnknownType word ++ hint_of (nearest names word)
+message_text names p word = problem_text p word

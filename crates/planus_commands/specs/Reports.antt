@@ -1,0 +1,74 @@
+-- How a fault is reported: where it stands, what it is, its line, and a mark below its place.
+use Rattle.std.specs.Prelude.{ℕ, ◌+◌, ◌==◌, Bool, List, [], ◌∷◌, ◌++◌, length, map, take, drop}
+use Rattle.std.specs.Prelude.{count_by, codes, if◌then◌else◌}
+use Rattle.std.specs.List.{position_or_len}
+use Rattle.std.specs.Fmt.{decimal}
+use Rattle.planus_syntax.specs.declared.lexer.LexFault.{LexFault}
+use Rattle.planus_syntax.specs.declared.lexer.LexFault.TheVariants as lex
+use Rattle.planus_syntax.specs.declared.parse.ParseFault.{ParseFault}
+use Rattle.planus_syntax.specs.declared.parse.ParseFault.TheVariants as parse
+
+abbrev pub is_feed : ℕ → Bool
+is_feed b = b == 10
+
+-- what follows the last line feed of these bytes, or else the front
+abbrev pub after_last_feed : List ℕ → List ℕ → List ℕ
+after_last_feed front [] = front
+after_last_feed front (b ∷ bs) = after_last_feed (if is_feed b then bs else front) bs
+
+-- the bytes of the last line
+abbrev pub last_line : List ℕ → List ℕ
+last_line bytes = after_last_feed bytes bytes
+
+-- the bytes of the first line
+abbrev pub first_line : List ℕ → List ℕ
+first_line bytes = take (position_or_len is_feed bytes) bytes
+
+-- below a byte: a tab below a tab, and else a space
+abbrev pub below : ℕ → ℕ
+below b = if b == 9 then 9 else 32
+
+-- Where it is, from 1 on: the line, and the column in bytes.
+abbrev pub place_text : List ℕ → List ℕ → List ℕ
+place_text name before =
+    name ++ (codes ":" ++ (decimal (1 + count_by is_feed before)
+    ++ (codes ":" ++ (decimal (1 + length (last_line before)) ++ codes ": "))))
+
+-- a line, and a mark below the end of its front
+abbrev pub marked_text : List ℕ → List ℕ → List ℕ
+marked_text front rest =
+    front ++ (first_line rest ++ (codes "\n" ++ (map below front ++ codes "^\n")))
+
+-- the report of a fault in a text, at the byte with this index
+abbrev pub report_text : List ℕ → List ℕ → ℕ → List ℕ → List ℕ
+report_text name text at message =
+    place_text name (take at text) ++ (message ++ (codes "\n"
+    ++ marked_text (last_line (take at text)) (drop at text)))
+
+-- ---- messages
+
+abbrev pub lex_message : LexFault → List ℕ
+lex_message lex.BadNumber = codes "what ends here is no number"
+lex_message lex.OpenString = codes "the string has no end on its line"
+lex_message lex.Escape = codes "a backslash in a string is not supported"
+lex_message lex.OpenComment = codes "the comment has no end"
+lex_message lex.Strange = codes "this begins nothing in a schema"
+
+abbrev pub mark_message : ℕ → List ℕ
+mark_message m =
+    if m == 123 then codes "expected `{`"
+    else if m == 125 then codes "expected `}`"
+    else if m == 40 then codes "expected `(`"
+    else if m == 41 then codes "expected `,` or `)`"
+    else if m == 93 then codes "expected `]`; arrays of a fixed size are not supported"
+    else if m == 58 then codes "expected `:`"
+    else if m == 59 then codes "expected `;`"
+    else codes "expected another mark"
+
+abbrev pub parse_message : ParseFault → List ℕ
+parse_message (parse.Mark m) = mark_message m
+parse_message parse.Word = codes "expected a name"
+parse_message parse.Number = codes "expected an integer"
+parse_message parse.Text = codes "expected a string"
+parse_message parse.Literal = codes "expected a value"
+parse_message parse.Declaration = codes "expected a declaration, as `table`, `struct` or `enum`"

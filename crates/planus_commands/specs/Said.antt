@@ -1,0 +1,103 @@
+-- What is written of a call that names no schema.
+use Rattle.std.specs.Prelude.{◌≡◌, ℕ, ⊤, Bool, true, false, not, ◌==◌, List, [], ◌∷◌, ◌++◌, codes}
+use Rattle.std.specs.Prelude.{position, slice_index, Option, Some, None, if◌then◌else◌}
+use Rattle.std.specs.String.{string_bytes}
+use Rattle.std.specs.Io.KnownBytes.{Appends, Keeps}
+use Rattle.planus_commands.specs.declared.arguments.Command.{Command}
+use Rattle.planus_commands.specs.declared.arguments.Command.TheVariants.{Check, Format}
+use Rattle.planus_commands.specs.declared.said.Said.{Said}
+use Rattle.planus_commands.specs.Arguments.{Asked, help, help_of as help_asked, version, run}
+use Rattle.planus_commands.specs.Arguments.{no_command, unknown_command, unknown_option}
+use Rattle.planus_commands.specs.Arguments.{no_folder, no_schema}
+
+-- the text, and whether it says that the call is wrong
+pub record SaidV : Type 0 where
+  pub wrong : Bool
+  pub text : List ℕ
+
+abbrev pub said_view : Said → SaidV
+said_view said = record { wrong = said.wrong; text = string_bytes said.text }
+
+abbrev pub is_letter : ℕ → Bool
+is_letter b = not (b == 45)
+
+abbrev pub letter_at : List ℕ → Option ℕ → Option ℕ
+letter_at w None = None
+letter_at w (Some i) = Some (slice_index w i)
+
+-- the first letter of a word, after dashes
+abbrev pub first_letter : List ℕ → Option ℕ
+first_letter w = letter_at w (position is_letter w)
+
+abbrev pub command_hint : Option ℕ → List ℕ
+command_hint None = codes "see planus help"
+command_hint (Some b) =
+    if b == 99 then codes "did you mean `check`?"
+    else if b == 102 then codes "did you mean `format`?"
+    else if b == 104 then codes "did you mean `help`?"
+    else codes "see planus help"
+
+abbrev pub option_hint : Command → Option ℕ → List ℕ
+option_hint command None = codes "see planus help"
+option_hint Check (Some b) =
+    if b == 73 then codes "did you mean `-I`?"
+    else if b == 104 then codes "did you mean `--help`?"
+    else codes "see planus help"
+option_hint Format (Some b) =
+    if b == 119 then codes "did you mean `--write`?"
+    else if b == 100 then codes "did you mean `--drop-comments`?"
+    else if b == 104 then codes "did you mean `--help`?"
+    else codes "see planus help"
+
+abbrev pub version_text : List ℕ
+version_text = codes "planus 0.1.0\n"
+
+abbrev pub help_text : List ℕ
+help_text = codes "planus reads schemas of flatbuffers.\n\nusage: planus check [-I FOLDER].. SCHEMA..\n       planus format [--write] [--drop-comments] SCHEMA..\n       planus help, planus --help, planus COMMAND --help, planus --version\n\nSCHEMA is a file, or - for standard input.\n"
+
+abbrev pub help_of : Command → List ℕ
+help_of Check = codes "usage: planus check [-I FOLDER].. SCHEMA..\n\nSays on standard error what is wrong with each schema and the files that it includes,\nor nothing. Included files are sought beside the file and in each FOLDER.\nEnds with 0 where nothing is wrong, with 1 where a schema has a fault, and with 2\nwhere the call is wrong or a file can't be read.\n"
+help_of Format = codes "usage: planus format [--write] [--drop-comments] SCHEMA..\n\nPrints the canonical text of each schema.\n\n  --write          replaces each file by its text\n  --drop-comments  does so where comments are lost, all but documentation\n"
+
+abbrev pub on_output : List ℕ → Option SaidV
+on_output text = Some (record { wrong = false; text = text })
+
+abbrev pub on_errors : List ℕ → Option SaidV
+on_errors text = Some (record { wrong = true; text = text })
+
+-- none where schemas are named
+abbrev pub said_of : Asked → Option SaidV
+said_of help = on_output help_text
+said_of (help_asked command) = on_output (help_of command)
+said_of version = on_output version_text
+said_of (run command words) = None
+said_of no_command = on_errors help_text
+said_of (unknown_command w) = on_errors (codes "planus: unknown command `"
+    ++ (w ++ (codes "`; " ++ (command_hint (first_letter w) ++ codes "\n"))))
+said_of (unknown_option command w) = on_errors (codes "planus: unknown option `"
+    ++ (w ++ (codes "`; " ++ (option_hint command (first_letter w) ++ codes "\n"))))
+said_of no_folder = on_errors (codes "planus: no folder follows -I\n")
+said_of no_schema = on_errors (codes "planus: no schema is named; - is standard input\n")
+
+-- The text was written on standard error with status 2, or on standard output with status 0.
+abbrev pub SaysBy : Bool → List ℕ → Option ℕ → Option (List ℕ) → Option (List ℕ)
+    → Option (List ℕ) → Option (List ℕ) → Type 0
+SaysBy true text status before after unsaid said =
+    (status ≡ Some 2) × Keeps before after × Appends unsaid said text
+SaysBy false text status before after unsaid said =
+    (status ≡ Some 0) × Appends before after text × Keeps unsaid said
+
+-- This was written, and no status for what is said elsewhere.
+abbrev pub Says : Option SaidV → Option ℕ → Option (List ℕ) → Option (List ℕ)
+    → Option (List ℕ) → Option (List ℕ) → Type 0
+Says None status before after unsaid said =
+    (status ≡ None) × Keeps before after × Keeps unsaid said
+Says (Some s) status before after unsaid said =
+    SaysBy s.wrong s.text status before after unsaid said
+
+-- This was written, if anything is said of a call alone.
+abbrev pub SaysIf : Option SaidV → ℕ → Option (List ℕ) → Option (List ℕ)
+    → Option (List ℕ) → Option (List ℕ) → Type 0
+SaysIf None status before after unsaid said = ⊤
+SaysIf (Some s) status before after unsaid said =
+    SaysBy s.wrong s.text (Some status) before after unsaid said

@@ -1,0 +1,138 @@
+//! Whether the files of a schema mean something.
+
+ghost use Rattle.std.specs.Prelude.{◌≡◌, map, position, IfOk, OnOk};
+ghost use Rattle.planus_syntax.specs.Values.{names_of, schema_of};
+ghost use Rattle.planus_commands.specs.Checks.{AreReports, ChecksFiles, IsReport, IsReportAdded};
+ghost use Rattle.planus_commands.specs.Checks.{ends_word as ends_word_lem, unquoted as unquoted_lem};
+ghost use Rattle.planus_commands.specs.Checks.{word_of as word_lem};
+
+use crate::near::declared_names;
+use crate::problem::message_text;
+use crate::report::report;
+use crate::streams::{RunError, write_out};
+use planus_schema::{Fault, Refusal, resolve};
+use planus_syntax::{Declaration, SchemaError, place_from_end};
+use std::alloc::{AllocError, Global};
+use std::io::Write;
+
+/// A file: what reports call it, and its text.
+#[derive(Debug, Drop)]
+pub struct File {
+    pub name: String,
+    pub text: Vec<u8>,
+}
+
+fn ends_word(b: u8) -> bool
+    ensures { result ≡ ends_word_lem b }
+{
+    !matches!(b, b'A'..=b'Z' | b'a'..=b'z' | b'0'..=b'9' | b'_' | b'.')
+}
+
+fn word_end(bytes: &[u8]) -> Option<usize>
+    ensures { result ≡ position ends_word_lem bytes.now }
+{
+    bytes.iter().position(|b| ends_word(*b))
+}
+
+fn unquoted(bytes: &[u8]) -> &[u8]
+    ensures { result.now ≡ unquoted_lem bytes.now }
+{
+    match bytes.split_first() {
+        Some((first, rest)) if *first == b'"' => rest,
+        _ => bytes,
+    }
+}
+
+/// Returns the name at the front of these bytes.
+fn word_of(bytes: &[u8]) -> &[u8]
+    ensures { result.now ≡ word_lem bytes.now }
+{
+    match word_end(bytes) {
+        Some(n) => bytes.split_at(n).0,
+        None => bytes,
+    }
+}
+
+/// Returns the report of a fault in this file.
+fn fault_report(
+    alloc: Global,
+    names: &[Vec<u8>],
+    file: &File,
+    fault: Fault,
+) -> Result<Vec<u8>, AllocError>
+    ensures { IfOk result (λ out. IsReport (names_of names.now) file.now fault out.items) }
+{
+    let text = &file.text;
+    match place_from_end(alloc, text, fault.left) {
+        Ok(at) => {
+            let word = word_of(unquoted(&text[at..]));
+            let message = message_text(alloc, names, fault.problem, word)?;
+            report(alloc, file.name.as_str(), text, at, &message)
+        }
+        Err(SchemaError::OutOfMemory) => Err(AllocError),
+        Err(_) => Ok(Vec::new(alloc)),
+    }
+}
+
+/// Appends the report of a fault. A fault in none of the files has none.
+fn put_report(
+    alloc: Global,
+    out: &mut Vec<u8>,
+    names: &[Vec<u8>],
+    files: &[File],
+    fault: Fault,
+) -> Result<(), AllocError>
+    ensures { OnOk result (IsReportAdded (names_of names.now) files.now fault
+        out.old.items out.new.items) }
+{
+    match files.get(fault.file) {
+        None => Ok(()),
+        Some(file) => {
+            let report = fault_report(alloc, names, file, fault)?;
+            out.extend_from_slice(&report)?;
+            Ok(())
+        }
+    }
+}
+
+/// Returns the reports of these faults, one after another.
+fn reports(
+    alloc: Global,
+    names: &[Vec<u8>],
+    files: &[File],
+    faults: &[Fault],
+) -> Result<Vec<u8>, AllocError>
+    ensures { IfOk result (λ out. AreReports (names_of names.now) files.now faults.now out.items) }
+{
+    let mut out = Vec::new(alloc);
+    'faults: for fault in faults {
+        put_report(alloc, &mut out, names, files, *fault)?;
+    }
+    Ok(out)
+}
+
+/// Reports what is wrong with the meaning of these files, whose declarations are given in the same
+/// order. Returns whether nothing is.
+///
+/// [`RunError::Write`] where writing failed, [`RunError::OutOfMemory`] where memory was refused.
+pub fn check_files<X: Write>(
+    alloc: Global,
+    files: &[File],
+    declarations: &[Vec<Declaration>],
+    errors: &mut X,
+) -> Result<bool, RunError>
+    ensures { IfOk result (λ clean. ChecksFiles files.now
+        (map (λ f. schema_of f.items) declarations.now) clean
+        (X.contents errors.old) (X.contents errors.new)) }
+{
+    match resolve(alloc, declarations) {
+        Ok(_) => Ok(true),
+        Err(Refusal::OutOfMemory) => Err(RunError::OutOfMemory),
+        Err(Refusal::Faults(faults)) => {
+            let names = declared_names(alloc, declarations)?;
+            let out = reports(alloc, &names, files, &faults)?;
+            write_out(errors, &out)?;
+            Ok(false)
+        }
+    }
+}

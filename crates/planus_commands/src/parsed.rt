@@ -1,0 +1,36 @@
+//! A text as declarations, or the report of its first fault.
+
+ghost use Rattle.std.specs.Prelude.{IfOk};
+ghost use Rattle.planus_commands.specs.Outcomes.{IsParsed};
+
+use crate::report::report;
+use crate::texts::error_report;
+use planus_syntax::{Declaration, parse_text};
+use std::alloc::{AllocError, Global};
+
+/// What a text is.
+#[derive(Debug, Drop)]
+pub enum Parsed {
+    /// The declarations that it spells.
+    Declarations(Vec<Declaration>),
+    /// The report of its first fault.
+    Faulty(Vec<u8>),
+}
+
+/// Returns the declarations that a text spells, or the report of its first fault. `name` is what the
+/// report calls the text.
+pub fn parse_or_report(alloc: Global, name: &str, text: &[u8]) -> Result<Parsed, AllocError>
+    ensures { IfOk result (λ parsed. IsParsed name.now text.now parsed) }
+{
+    match std::str::from_utf8(text) {
+        Err(error) => {
+            let message = b"the text is not UTF-8";
+            let out = report(alloc, name, text, error.valid_up_to(), message)?;
+            Ok(Parsed::Faulty(out))
+        }
+        Ok(_) => match parse_text(alloc, text) {
+            Ok(declarations) => Ok(Parsed::Declarations(declarations)),
+            Err(error) => Ok(Parsed::Faulty(error_report(alloc, name, text, error)?)),
+        },
+    }
+}

@@ -1,0 +1,123 @@
+//! What faults of meaning are called.
+
+ghost use Rattle.std.specs.Prelude.{◌≡◌, ◌++◌, Some, IfOk, OnOk};
+ghost use Rattle.std.specs.Option.{option_map};
+ghost use Rattle.planus_syntax.specs.Values.{names_of};
+ghost use Rattle.planus_commands.specs.Near.{hint_of};
+ghost use Rattle.planus_commands.specs.Problems.{message_text as message_text_lem};
+ghost use Rattle.planus_commands.specs.Problems.{after as after_lem, before as before_lem};
+ghost use Rattle.planus_commands.specs.Problems.{problem_text as problem_text_lem};
+
+use crate::near::nearest;
+use planus_schema::Problem;
+use std::alloc::{AllocError, Global};
+
+/// Returns what stands before the word at fault.
+fn before(problem: Problem) -> &'static str
+    ensures { result.now ≡ before_lem problem }
+{
+    match problem {
+        Problem::UnknownType => "unknown type ",
+        Problem::UnknownAttribute => "unknown attribute ",
+        _ => "",
+    }
+}
+
+/// Returns what follows the word at fault.
+fn after(problem: Problem) -> &'static str
+    ensures { result.now ≡ after_lem problem }
+{
+    match problem {
+        Problem::UnknownType => "",
+        Problem::NameTaken => ": this name is declared before",
+        Problem::FieldNameTaken => ": a field before it has this name",
+        Problem::ValueNameTaken => ": a value before it has this name",
+        Problem::MemberNameTaken => ": a member before it has this name, or it is `NONE`",
+        Problem::ValueTaken => ": a value before it is the same number",
+        Problem::TagTaken => ": a member before it has the same number",
+        Problem::NoIntegerType => " is no integer type",
+        Problem::ValueOutOfRange => ": the type of the enum does not hold this number",
+        Problem::TagOutOfRange => ": the number of a member is from 1 to 255",
+        Problem::MemberIsNoTable => " is no table; unions of structs and strings are not supported",
+        Problem::NoStructField => ": a field of a struct is a scalar, an enum or a struct",
+        Problem::DeclaredLater =>
+            ": a struct holds only structs and enums that are declared before it",
+        Problem::DefaultInStruct => ": a field of a struct has no default",
+        Problem::AttributeInStruct =>
+            ": a field of a struct is neither `required` nor `deprecated`",
+        Problem::EmptyStruct => ": a struct has a field",
+        Problem::StructTooLarge => ": the struct has more than 65535 bytes",
+        Problem::WrongAlignment =>
+            ": the alignment is a power of two, from that of the fields to 32",
+        Problem::WrongDefault => ": its type has no such default",
+        Problem::UnknownValue => ": its enum has no such value",
+        Problem::RequiredScalar => ": a scalar is not `required`",
+        Problem::IdMissing => ": other fields of the table have an `id`",
+        Problem::WrongId => ": its `id` is a number from 0 to 65535, and that of a union from 1 on",
+        Problem::IdsWithGap =>
+            ": the `id`s of the table are not all the numbers from 0 on, each once",
+        Problem::TooManySlots => ": the table has more than 32764 slots",
+        Problem::WrongKey => ": a `key` is a scalar, an enum or a string",
+        Problem::SecondKey => ": another field is the `key`",
+        Problem::WrongNested => ": `nested_flatbuffer` stands at a `[ubyte]` and names a table",
+        Problem::UnknownAttribute => "",
+        Problem::RootIsNoTable => " is no table",
+        Problem::WrongIdentifier => ": the identifier has four bytes",
+        Problem::MethodNameTaken => ": a method before it has this name",
+        Problem::MethodIsNoTable => " is no table",
+    }
+}
+
+/// Returns the message of a fault at this word.
+fn problem_text(alloc: Global, problem: Problem, word: &[u8]) -> Result<Vec<u8>, AllocError>
+    ensures { IfOk result (λ text. text.items ≡ problem_text_lem problem word.now) }
+{
+    let mut text = Vec::from_slice(alloc, before(problem).as_bytes())?;
+    text.push(b'`')?;
+    text.extend_from_slice(word)?;
+    text.push(b'`')?;
+    text.extend_from_slice(after(problem).as_bytes())?;
+    Ok(text)
+}
+
+/// Returns what says that this name may have been meant.
+fn hint(alloc: Global, name: &[u8]) -> Result<Vec<u8>, AllocError>
+    ensures { IfOk result (λ text. text.items ≡ hint_of (Some name.now)) }
+{
+    let mut text = Vec::from_slice(alloc, b"; did you mean `")?;
+    text.extend_from_slice(name)?;
+    text.extend_from_slice(b"`?")?;
+    Ok(text)
+}
+
+/// Appends a name that may have been meant.
+fn put_hint(alloc: Global, text: &mut Vec<u8>, name: Option<&[u8]>) -> Result<(), AllocError>
+    ensures { OnOk result (text.new.items
+        ≡ text.old.items ++ hint_of (option_map (λ w. w.now) name.entry)) }
+{
+    match name {
+        None => Ok(()),
+        Some(name) => {
+            let hint = hint(alloc, name)?;
+            text.extend_from_slice(&hint)?;
+            Ok(())
+        }
+    }
+}
+
+/// Returns the message of a fault at this word, with the nearest of these names for an unknown type.
+pub fn message_text(
+    alloc: Global,
+    names: &[Vec<u8>],
+    problem: Problem,
+    word: &[u8],
+) -> Result<Vec<u8>, AllocError>
+    ensures { IfOk result (λ text. text.items
+        ≡ message_text_lem (names_of names.now) problem word.now) }
+{
+    let mut text = problem_text(alloc, problem, word)?;
+    if let Problem::UnknownType = problem {
+        put_hint(alloc, &mut text, nearest(names, word))?;
+    }
+    Ok(text)
+}

@@ -1,0 +1,133 @@
+//! The program: its words, the files that they name, and what is written of them.
+
+ghost use Rattle.std.specs.Prelude.{map, IfOk};
+ghost use Rattle.std.specs.String.{string_bytes};
+ghost use Rattle.planus_commands.specs.Arguments.{request_of as request_lem};
+ghost use Rattle.planus_commands.specs.Said.{said_of, SaysIf};
+
+use crate::arguments::{Command, Request, Words, request_of};
+use crate::checking::check_files;
+use crate::rewrite::{Formatting, format_file};
+use crate::said::{CLEAN, FAILED, FAULTY, say as say_of};
+use crate::sources::{Sources, load_all};
+use crate::streams::{RunError, say};
+use std::env;
+use std::env::Env;
+use std::io::{Read, Write};
+use std::rt::Files;
+
+fn check_file<R: Files + AllocGlobal, S: Read, X: Write>(
+    rt: &R,
+    folders: &[&str],
+    name: &str,
+    input: &mut S,
+    errors: &mut X,
+) -> Result<u8, RunError> {
+    let mut sources = Sources::new(rt.alloc());
+    let status = load_all(rt, folders, name, &mut sources, input, errors)?;
+    if status != CLEAN {
+        return Ok(status);
+    }
+    if check_files(rt.alloc(), &sources.files, &sources.declarations, errors)? {
+        Ok(CLEAN)
+    } else {
+        Ok(FAULTY)
+    }
+}
+
+fn run_command<R: Files + AllocGlobal, S: Read, W: Write, X: Write>(
+    rt: &R,
+    command: Command,
+    words: &Words<'_>,
+    input: &mut S,
+    writer: &mut W,
+    errors: &mut X,
+) -> Result<u8, RunError> {
+    let how = Formatting {
+        write: words.write,
+        drop_comments: words.drop_comments,
+    };
+    let mut worst = CLEAN;
+    for name in &words.schemas {
+        let status = match command {
+            Command::Check => check_file(rt, &words.folders, *name, input, errors)?,
+            Command::Format => format_file(rt, how, *name, input, writer, errors)?,
+        };
+        worst = worst.max(status);
+    }
+    Ok(worst)
+}
+
+/// Does what these words, after the program's name, ask for. Returns the exit status.
+///
+/// [`RunError::OutOfMemory`] where memory was refused, [`RunError::Write`] where writing failed.
+pub fn run_words<R: Files + AllocGlobal, S: Read, W: Write, X: Write>(
+    rt: &R,
+    words: &[String],
+    input: &mut S,
+    writer: &mut W,
+    errors: &mut X,
+) -> Result<u8, RunError>
+    ensures { IfOk result (λ status. SaysIf (said_of (request_lem (map string_bytes words.now)))
+        status (W.contents writer.old) (W.contents writer.new)
+        (X.contents errors.old) (X.contents errors.new)) }
+{
+    let alloc = rt.alloc();
+    let request = request_of(alloc, words)?;
+    if let Some(status) = say_of(alloc, &request, writer, errors)? {
+        return Ok(status);
+    }
+    match &request {
+        Request::Run { command, words } => {
+            run_command(rt, *command, words, input, writer, errors)
+        }
+        _ => Ok(FAILED),
+    }
+}
+
+fn words_of<R: Env + AllocGlobal>(rt: &R) -> Result<Vec<String>, RunError> {
+    let mut words = Vec::new(rt.alloc());
+    let Ok(mut arguments) = env::args(rt) else {
+        return Err(RunError::Read);
+    };
+    let _name = arguments.next();
+    for word in arguments {
+        if words.push(word).is_err() {
+            return Err(RunError::OutOfMemory);
+        }
+    }
+    Ok(words)
+}
+
+fn run<R: Env + Files + AllocGlobal, S: Read, W: Write, X: Write>(
+    rt: &R,
+    input: &mut S,
+    writer: &mut W,
+    errors: &mut X,
+) -> Result<u8, RunError> {
+    let words = words_of(rt)?;
+    run_words(rt, &words, input, writer, errors)
+}
+
+/// Does what the words after the program's name ask for. Returns the exit status: 0 where all is
+/// well, 1 where a schema has a fault, and 2 where the call is wrong, a file can't be read or
+/// written, or memory is refused.
+pub fn run_program<R: Env + Files + AllocGlobal, S: Read, W: Write, X: Write>(
+    rt: &R,
+    input: &mut S,
+    writer: &mut W,
+    errors: &mut X,
+) -> u8 {
+    match run(rt, input, writer, errors) {
+        Ok(status) => status,
+        Err(error) => {
+            let reason = match error {
+                RunError::OutOfMemory => "out of memory",
+                RunError::Read => "a word of the call is no text",
+                RunError::Write => "can't write",
+            };
+            let _said = say(errors, &["planus: ", reason]);
+            FAILED
+        }
+    }
+}

@@ -1,0 +1,115 @@
+//! The report of a fault: its place, its message, its line, and a mark below it.
+
+ghost use Rattle.std.specs.Prelude.{◌≡◌, ◌≤◌, ◌++◌, ◌+◌, ◌<◌, ◌^◌, count_by, length, map, codes};
+ghost use Rattle.std.specs.Prelude.{position, IfOk, OnOk};
+ghost use Rattle.std.specs.String.{string_bytes};
+ghost use Rattle.planus_commands.specs.Reports.{below as below_lem, first_line as first_line_lem};
+ghost use Rattle.planus_commands.specs.Reports.{marked_text, place_text, is_feed as is_feed_lem};
+ghost use Rattle.planus_commands.specs.Reports.{last_line as last_line_lem, report_text};
+
+use std::alloc::{AllocError, Global};
+
+fn is_feed(b: u8) -> bool
+    ensures { result ≡ is_feed_lem b }
+{
+    b == b'\n'
+}
+
+/// Returns how many line feeds there are.
+fn feeds(bytes: &[u8]) -> usize
+    ensures count { result ≡ count_by is_feed_lem bytes.now }
+    ensures bound { result ≤ length bytes.now }
+{
+    bytes.iter().filter(|b| is_feed(**b)).count()
+}
+
+/// Returns the bytes of the last line.
+fn last_line(bytes: &[u8]) -> &[u8]
+    ensures line { result.now ≡ last_line_lem bytes.now }
+    ensures bound { length result.now ≤ length bytes.now }
+{
+    let mut front = bytes;
+    let mut rest = bytes;
+    'bytes: while let Some((first, after)) = rest.split_first() {
+        if is_feed(*first) {
+            front = after;
+        }
+        rest = after;
+    }
+    front
+}
+
+fn feed_at(bytes: &[u8]) -> Option<usize>
+    ensures { result ≡ position is_feed_lem bytes.now }
+{
+    bytes.iter().position(|b| is_feed(*b))
+}
+
+/// Returns the bytes of the first line.
+fn first_line(bytes: &[u8]) -> &[u8]
+    ensures { result.now ≡ first_line_lem bytes.now }
+{
+    match feed_at(bytes) {
+        Some(n) => bytes.split_at(n).0,
+        None => bytes,
+    }
+}
+
+fn below(b: u8) -> u8
+    ensures { result ≡ below_lem b }
+{
+    if b == b'\t' { b'\t' } else { b' ' }
+}
+
+/// Appends what stands below these bytes.
+fn put_below(out: &mut Vec<u8>, bytes: &[u8]) -> Result<(), AllocError>
+    ensures { OnOk result (out.new.items ≡ out.old.items ++ map below_lem bytes.now) }
+{
+    for b in bytes {
+        out.push(below(*b))?;
+    }
+    Ok(())
+}
+
+/// Returns the place.
+fn head(alloc: Global, name: &str, before: &[u8]) -> Result<String, AllocError>
+    ensures { IfOk result (λ text. string_bytes text ≡ place_text name.now before.now) }
+{
+    let line = feeds(before) + 1;
+    let column = last_line(before).len() + 1;
+    format!(in alloc; "{name}:{line}:{column}: ")
+}
+
+/// Appends a line, which `front` and the first line of `rest` are, and a mark below the end of
+/// `front`.
+fn put_marked(out: &mut Vec<u8>, front: &[u8], rest: &[u8]) -> Result<(), AllocError>
+    ensures { OnOk result (out.new.items ≡ out.old.items ++ marked_text front.now rest.now) }
+{
+    out.extend_from_slice(front)?;
+    out.extend_from_slice(first_line(rest))?;
+    out.push(b'\n')?;
+    put_below(out, front)?;
+    out.extend_from_slice(b"^\n")?;
+    Ok(())
+}
+
+/// Returns the report of a fault in this text, at the byte of index `at`.
+pub fn report(
+    alloc: Global,
+    name: &str,
+    text: &[u8],
+    at: usize,
+    message: &[u8],
+) -> Result<Vec<u8>, AllocError>
+    requires { at ≤ length text.now }
+    ensures { IfOk result (λ out. out.items
+        ≡ report_text name.now text.now at message.now) }
+{
+    let (before, rest) = text.split_at(at);
+    let head = head(alloc, name, before)?;
+    let mut out = Vec::from_slice(alloc, head.as_bytes())?;
+    out.extend_from_slice(message)?;
+    out.push(b'\n')?;
+    put_marked(&mut out, last_line(before), rest)?;
+    Ok(out)
+}

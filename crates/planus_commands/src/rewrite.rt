@@ -1,0 +1,116 @@
+//! A schema in its canonical layout, on standard output or in place of its file.
+
+use crate::outcome::{Outcome, Printed};
+use crate::said::{CLEAN, FAILED, FAULTY};
+use crate::sources::text_of;
+use crate::streams::{RunError, say, write_out};
+use crate::texts::{format, has_comments, outcome_of};
+use std::fs;
+use std::io::{Read, Write};
+use std::rt::Files;
+
+/// What `format` was asked to do.
+#[derive(Clone, Copy, Debug)]
+pub struct Formatting {
+    pub write: bool,
+    pub drop_comments: bool,
+}
+
+/// Replaces a file by these bytes, once all of them are written beside it.
+fn replace<R: Files + AllocGlobal>(rt: &R, name: &str, bytes: &[u8]) -> Result<(), RunError> {
+    let beside = format!(in rt.alloc(); "{name}.planus")?;
+    if fs::write(rt, beside.as_str(), bytes).is_err() {
+        return Err(RunError::Write);
+    }
+    match fs::rename(rt, beside.as_str(), name) {
+        Ok(()) => Ok(()),
+        Err(_) => Err(RunError::Write),
+    }
+}
+
+/// Writes the canonical text of a schema in place of its file, unless comments would be lost.
+fn write_back<R: Files + AllocGlobal, X: Write>(
+    rt: &R,
+    name: &str,
+    out: &[u8],
+    loses_comments: bool,
+    errors: &mut X,
+) -> Result<u8, RunError> {
+    if name == "-" {
+        say(
+            errors,
+            &["planus: --write needs a file, and - is standard input"],
+        )?;
+        return Ok(FAILED);
+    }
+    if loses_comments {
+        say(
+            errors,
+            &[
+                "planus: ",
+                name,
+                ": its comments would be lost; see --drop-comments",
+            ],
+        )?;
+        return Ok(FAILED);
+    }
+    if replace(rt, name, out).is_err() {
+        say(errors, &["planus: can't write ", name])?;
+        return Ok(FAILED);
+    }
+    Ok(CLEAN)
+}
+
+fn rewrite<R: Files + AllocGlobal, X: Write>(
+    rt: &R,
+    how: Formatting,
+    name: &str,
+    text: &[u8],
+    errors: &mut X,
+) -> Result<u8, RunError> {
+    match outcome_of(rt.alloc(), name, text)? {
+        Outcome::Faulty(report) => {
+            write_out(errors, &report)?;
+            Ok(FAULTY)
+        }
+        Outcome::Formatted(out) => {
+            let loses_comments = has_comments(text, &out) && !how.drop_comments;
+            write_back(rt, name, &out, loses_comments, errors)
+        }
+    }
+}
+
+fn print<R: AllocGlobal, W: Write, X: Write>(
+    rt: &R,
+    how: Formatting,
+    name: &str,
+    text: &[u8],
+    writer: &mut W,
+    errors: &mut X,
+) -> Result<u8, RunError> {
+    match format(rt.alloc(), name, text, writer, errors)? {
+        Printed::Report => Ok(FAULTY),
+        Printed::Text { comments } => {
+            if comments && !how.drop_comments {
+                say(errors, &["planus: ", name, ": its comments are left out"])?;
+            }
+            Ok(CLEAN)
+        }
+    }
+}
+
+/// Prints the canonical text of a schema, or writes it in place of its file. Returns the exit status.
+pub fn format_file<R: Files + AllocGlobal, S: Read, W: Write, X: Write>(
+    rt: &R,
+    how: Formatting,
+    name: &str,
+    input: &mut S,
+    writer: &mut W,
+    errors: &mut X,
+) -> Result<u8, RunError> {
+    match text_of(rt, name, input, errors)? {
+        None => Ok(FAILED),
+        Some(text) if how.write => rewrite(rt, how, name, &text, errors),
+        Some(text) => print(rt, how, name, &text, writer, errors),
+    }
+}

@@ -1,0 +1,167 @@
+//! What is written of a call that names no schema: help, the version, or why it is wrong.
+
+ghost use Rattle.std.specs.Prelude.{◌≡◌, false, IfOk, position};
+ghost use Rattle.std.specs.Option.{option_map};
+ghost use Rattle.planus_commands.specs.Arguments.{asked};
+ghost use Rattle.planus_commands.specs.Said.{first_letter as first_letter_lem, is_letter as is_letter_lem};
+ghost use Rattle.planus_commands.specs.Said.{command_hint as command_hint_lem};
+ghost use Rattle.planus_commands.specs.Said.{option_hint as option_hint_lem};
+ghost use Rattle.planus_commands.specs.Said.{help_of as help_of_lem, help_text};
+ghost use Rattle.planus_commands.specs.Said.{said_of as said_of_lem, said_view, Says};
+ghost use Rattle.std.specs.Io.KnownBytes.{Appends, Keeps};
+
+use crate::arguments::{Command, Request};
+use crate::streams::{RunError, write_out};
+use std::alloc::{AllocError, Global};
+use std::io::Write;
+
+const VERSION: &str = "planus 0.1.0\n";
+
+const HELP: &str =
+    "planus reads schemas of flatbuffers.\n\nusage: planus check [-I FOLDER].. SCHEMA..\n       planus format [--write] [--drop-comments] SCHEMA..\n       planus help, planus --help, planus COMMAND --help, planus --version\n\nSCHEMA is a file, or - for standard input.\n";
+
+const HELP_OF_CHECK: &str =
+    "usage: planus check [-I FOLDER].. SCHEMA..\n\nSays on standard error what is wrong with each schema and the files that it includes,\nor nothing. Included files are sought beside the file and in each FOLDER.\nEnds with 0 where nothing is wrong, with 1 where a schema has a fault, and with 2\nwhere the call is wrong or a file can't be read.\n";
+
+const HELP_OF_FORMAT: &str =
+    "usage: planus format [--write] [--drop-comments] SCHEMA..\n\nPrints the canonical text of each schema.\n\n  --write          replaces each file by its text\n  --drop-comments  does so where comments are lost, all but documentation\n";
+
+/// The exit status where all went well.
+pub const CLEAN: u8 = 0;
+
+/// The exit status where a schema has a fault.
+pub const FAULTY: u8 = 1;
+
+/// The exit status where the call is wrong, or a file can't be read or written.
+pub const FAILED: u8 = 2;
+
+/// What is written, and whether it says that the call is wrong.
+#[derive(Debug, Drop)]
+pub struct Said {
+    pub wrong: bool,
+    pub text: String,
+}
+
+fn is_letter(b: u8) -> bool
+    ensures { result ≡ is_letter_lem b }
+{
+    b != b'-'
+}
+
+fn letter_place(bytes: &[u8]) -> Option<usize>
+    ensures { result ≡ position is_letter_lem bytes.now }
+{
+    bytes.iter().position(|b| is_letter(*b))
+}
+
+/// Returns the first letter of a word, after dashes.
+fn first_letter(word: &str) -> Option<u8>
+    ensures { result ≡ first_letter_lem word.now }
+{
+    let bytes = word.as_bytes();
+    match letter_place(bytes) {
+        Some(i) => Some(bytes[i]),
+        None => None,
+    }
+}
+
+/// Returns which command may have been meant: one with the same first letter.
+fn command_hint(word: &str) -> &'static str
+    ensures { result.now ≡ command_hint_lem (first_letter_lem word.now) }
+{
+    match first_letter(word) {
+        Some(b'c') => "did you mean `check`?",
+        Some(b'f') => "did you mean `format`?",
+        Some(b'h') => "did you mean `help`?",
+        _ => "see planus help",
+    }
+}
+
+/// Returns which option may have been meant: one with the same first letter.
+fn option_hint(command: Command, word: &str) -> &'static str
+    ensures { result.now ≡ option_hint_lem command (first_letter_lem word.now) }
+{
+    match (command, first_letter(word)) {
+        (Command::Check, Some(b'I')) => "did you mean `-I`?",
+        (Command::Format, Some(b'w')) => "did you mean `--write`?",
+        (Command::Format, Some(b'd')) => "did you mean `--drop-comments`?",
+        (_, Some(b'h')) => "did you mean `--help`?",
+        _ => "see planus help",
+    }
+}
+
+fn help() -> &'static str
+    ensures { result.now ≡ help_text }
+{
+    HELP
+}
+
+fn help_of(command: Command) -> &'static str
+    ensures { result.now ≡ help_of_lem command }
+{
+    match command {
+        Command::Check => HELP_OF_CHECK,
+        Command::Format => HELP_OF_FORMAT,
+    }
+}
+
+fn plain(alloc: Global, text: &str) -> Result<Said, AllocError>
+    ensures { IfOk result (λ said. said_view said ≡ record { wrong = false; text = text.now }) }
+{
+    let text = String::from_str(alloc, text)?;
+    Ok(Said { wrong: false, text })
+}
+
+/// Returns what is written of a request that names no schema.
+pub fn said_of(alloc: Global, request: &Request<'_>) -> Result<Option<Said>, AllocError>
+    ensures { IfOk result (λ said. option_map said_view said ≡ said_of_lem (asked request.now)) }
+{
+    let text = match request {
+        Request::Run { .. } => return Ok(None),
+        Request::Help => return Ok(Some(plain(alloc, help())?)),
+        Request::HelpOf(command) => return Ok(Some(plain(alloc, help_of(*command))?)),
+        Request::Version => return Ok(Some(plain(alloc, VERSION)?)),
+        Request::NoCommand => String::from_str(alloc, help())?,
+        Request::UnknownCommand(word) => {
+            let hint = command_hint(*word);
+            format!(in alloc; "planus: unknown command `{word}`; {hint}\n")?
+        }
+        Request::UnknownOption(command, word) => {
+            let hint = option_hint(*command, *word);
+            format!(in alloc; "planus: unknown option `{word}`; {hint}\n")?
+        }
+        Request::NoFolder => String::from_str(alloc, "planus: no folder follows -I\n")?,
+        Request::NoSchema => {
+            String::from_str(alloc, "planus: no schema is named; - is standard input\n")?
+        }
+    };
+    Ok(Some(Said { wrong: true, text }))
+}
+
+/// Writes help and the version, and reports a wrong call. Returns the exit status, or `None` for
+/// a request that names schemas.
+///
+/// [`RunError::Write`] where writing failed.
+pub fn say<W: Write, X: Write>(
+    alloc: Global,
+    request: &Request<'_>,
+    writer: &mut W,
+    errors: &mut X,
+) -> Result<Option<u8>, RunError>
+    ensures { IfOk result (λ status. Says (said_of_lem (asked request.now)) status
+        (W.contents writer.old) (W.contents writer.new)
+        (X.contents errors.old) (X.contents errors.new)) }
+{
+    match said_of(alloc, request)? {
+        None => Ok(None),
+        Some(said) => {
+            if said.wrong {
+                write_out(errors, said.text.as_bytes())?;
+                Ok(Some(FAILED))
+            } else {
+                write_out(writer, said.text.as_bytes())?;
+                Ok(Some(CLEAN))
+            }
+        }
+    }
+}

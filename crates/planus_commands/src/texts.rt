@@ -1,0 +1,116 @@
+//! What becomes of a text, and what is written of it.
+
+ghost use Rattle.std.specs.Prelude.{◌≡◌, count_by, List, IfOk, IfErr, length, Result, Ok, Err};
+ghost use Rattle.std.specs.Str.{IsUtf8};
+ghost use Rattle.std.specs.Io.KnownBytes.{Appends, Keeps};
+ghost use Rattle.planus_syntax.specs.Values.{AreWhole, DeclarationV};
+ghost use Rattle.planus_syntax.specs.Parsed.{LiesIn, Spells};
+ghost use Rattle.planus_commands.specs.Outcomes.{IsOutcome, IsTextOf, Reports, ReportsError};
+ghost use Rattle.planus_commands.specs.Outcomes.{Prints};
+ghost use Rattle.planus_commands.specs.Outcomes.{has_comment, ink_of, is_ink as is_ink_lem};
+ghost use Rattle.planus_syntax.specs.Layout.{printed};
+ghost use Rattle.planus_syntax.specs.Spelled.{Part, AreParts, spelled, tokens_in};
+
+use crate::message::{lex_message, parse_message};
+use crate::outcome::{Outcome, Printed};
+use crate::report::report;
+use crate::streams::{RunError, write_out};
+use planus_syntax::{SchemaError, format_text};
+use std::alloc::{AllocError, Global};
+use std::io::Write;
+
+/// Returns the report of this error. Memory must not have been what was refused.
+pub(crate) fn error_report(
+    alloc: Global,
+    name: &str,
+    text: &[u8],
+    error: SchemaError,
+) -> Result<Vec<u8>, AllocError>
+    requires { LiesIn (length text.now) error }
+    ensures { IfOk result (λ out. ReportsError name.now text.now error out.items) }
+{
+    match error {
+        SchemaError::OutOfMemory => Err(AllocError),
+        SchemaError::Token { fault, at } => report(
+            alloc,
+            name,
+            text,
+            at,
+            lex_message(fault).as_bytes(),
+        ),
+        SchemaError::Declaration { fault, at, .. } => {
+            report(alloc, name, text, at, parse_message(fault).as_bytes())
+        }
+    }
+}
+
+/// Returns the canonical text of the schema that a text spells, or the report of its first fault.
+/// `name` is what the report calls the text.
+pub fn outcome_of(alloc: Global, name: &str, text: &[u8]) -> Result<Outcome, AllocError>
+    ensures outcome { IfOk result (λ outcome. IsOutcome name.now text.now outcome) }
+    // A text that spells a schema is formatted.
+    ensures only { (schema : List DeclarationV) → AreWhole schema → IsUtf8 text.now
+        → Spells text.now schema → IfOk result (λ outcome. IsTextOf schema outcome) }
+{
+    match std::str::from_utf8(text) {
+        Err(error) => {
+            let message = b"the text is not UTF-8";
+            let out = report(alloc, name, text, error.valid_up_to(), message)?;
+            Ok(Outcome::Faulty(out))
+        }
+        Ok(_) => match format_text(alloc, text) {
+            Ok(out) => Ok(Outcome::Formatted(out)),
+            Err(error) => Ok(Outcome::Faulty(error_report(alloc, name, text, error)?)),
+        },
+    }
+}
+
+fn is_ink(b: u8) -> bool
+    ensures { result ≡ is_ink_lem b }
+{
+    !(b == b' ' || b == b'\n' || b == b'\t' || b == b'\r')
+}
+
+/// Returns how many bytes are no blank.
+fn ink(bytes: &[u8]) -> usize
+    ensures { result ≡ ink_of bytes.now }
+{
+    bytes.iter().filter(|b| is_ink(**b)).count()
+}
+
+/// Returns whether a text has comments that are no documentation. `out` is its canonical text,
+/// which lacks them.
+pub fn has_comments(text: &[u8], out: &[u8]) -> bool
+    ensures { (parts : List Part) → AreParts parts → text.now ≡ spelled parts
+        → out.now ≡ printed (tokens_in parts) → result ≡ has_comment parts }
+{
+    ink(out) < ink(text)
+}
+
+/// Writes the canonical text of a schema, or reports the first fault of its text. Returns what was
+/// written.
+///
+/// [`RunError::Write`] where writing failed.
+pub fn format<W: Write, X: Write>(
+    alloc: Global,
+    name: &str,
+    text: &[u8],
+    writer: &mut W,
+    errors: &mut X,
+) -> Result<Printed, RunError>
+    ensures { IfOk result (λ printed. Prints name.now text.now printed
+        (W.contents writer.old) (W.contents writer.new)
+        (X.contents errors.old) (X.contents errors.new)) }
+{
+    match outcome_of(alloc, name, text)? {
+        Outcome::Formatted(out) => {
+            let comments = has_comments(text, &out);
+            write_out(writer, &out)?;
+            Ok(Printed::Text { comments })
+        }
+        Outcome::Faulty(report) => {
+            write_out(errors, &report)?;
+            Ok(Printed::Report)
+        }
+    }
+}

@@ -1,0 +1,57 @@
+-- Lists.
+use Rattle.std.proofs.Common.{◌≡◌, ℕ, zero, suc, ◌+◌, ◌-◌, ◌<◌, Bool, true, false, cond, List, [], ◌∷◌, ◌++◌, length, map, take, refl, sym, ap, ◌∙◌, arith, sub-one}
+use Rattle.std.specs.Prelude.{position, nat_lt, not, ◌||◌, Option, Some, None, fold}
+use Rattle.std.specs.List.{prefix_len, list_any, IsDistinct, AllByRecursion}
+use Rattle.std.proofs.Math.ListN.{length-map}
+use Rattle.planus_syntax.specs.Values.{Name}
+use Rattle.planus_schema.specs.Names.{HeadV, with_word, dotted, index_of, found_from}
+
+prefix_len-map : {A B : Type 0} (p : B → Bool) (f : A → B) (xs : List A) → prefix_len p (map f xs) ≡ prefix_len (λ x. p (f x)) xs
+prefix_len-map p f [] = refl
+prefix_len-map p f (x ∷ xs) = ap (λ n. cond (p (f x)) (1 + n) 0) (prefix_len-map p f xs)
+
+pub position-map : {A B : Type 0} (p : B → Bool) (f : A → B) (xs : List A) → position p (map f xs) ≡ position (λ x. p (f x)) xs
+position-map p f xs =
+    let e = prefix_len-map (λ x. not (p x)) f xs in
+    let l = length-map xs f in
+    ap (λ n. cond (nat_lt n (length (map f xs))) (Some n) None) e
+    ∙ ap (λ k. cond (nat_lt (prefix_len (λ x. not (p (f x))) xs) k) (Some (prefix_len (λ x. not (p (f x))) xs)) None) l
+
+-- the first word, and then the others
+pub words_taken : (out : List ℕ) (first : Name) (more : List Name) (n : ℕ) → 0 < n → fold with_word (with_word out first) (take (n - 1) more) ≡ fold with_word out (take n (first ∷ more))
+words_taken out first more zero h = absurd (omega arith)
+words_taken out first more (suc n) h = rw sub-one refl
+
+-- nothing has this name here, so it is looked for one word further out
+pub further_out : (hs : List HeadV) (space words : List Name) (n : ℕ) (r : Option ℕ) → 0 < n → r ≡ None → r ≡ index_of hs (dotted (take n space ++ words)) → found_from hs space words (n - 1) ≡ found_from hs space words n
+further_out hs space words zero r h e i = absurd (omega arith)
+further_out hs space words (suc n) r h e i =
+    let k : index_of hs (dotted (take (suc n) space ++ words)) ≡ None = sym i ∙ e in
+    rw (sub-one, k) refl
+
+all_push : {A : Type 0} (P : A → Type 0) (xs : List A) (y : A) → AllByRecursion P xs → P y → AllByRecursion P (xs ++ y ∷ [])
+all_push P [] y h p = (p, tt)
+all_push P (x ∷ xs) y h p = (h.0, all_push P xs y h.1 p)
+
+or_left : (a b : Bool) → (a || b) ≡ false → a ≡ false
+or_left false b h = refl
+or_left true b h = absurd cc
+
+or_right : (a b : Bool) → (a || b) ≡ false → b ≡ false
+or_right false b h = h
+or_right true b h = absurd cc
+
+-- one more, to which none before it is equal
+pub distinct_push : {A : Type 0} (eq : A → A → Bool) (xs : List A) (y : A) → list_any (λ x. eq x y) xs ≡ false → IsDistinct eq xs → IsDistinct eq (xs ++ y ∷ [])
+unfolding IsDistinct
+distinct_push eq [] y h d = (tt, tt)
+distinct_push eq (x ∷ xs) y h d =
+    (all_push (λ z. eq x z ≡ false) xs y d.0 (or_left (eq x y) _ h), distinct_push eq xs y (or_right (eq x y) _ h) d.1)
+
+pub list_any-map : {A B : Type 0} (p : B → Bool) (f : A → B) (xs : List A) → list_any p (map f xs) ≡ list_any (λ x. p (f x)) xs
+list_any-map p f [] = refl
+list_any-map p f (x ∷ xs) = ap (λ b. p (f x) || b) (list_any-map p f xs)
+
+pub distinct_none : {A : Type 0} (eq : A → A → Bool) → IsDistinct eq []
+unfolding IsDistinct
+distinct_none eq = tt

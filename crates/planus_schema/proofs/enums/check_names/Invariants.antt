@@ -1,0 +1,12 @@
+use Rattle.std.proofs.Common.{◌≡◌, take, map}
+use Rattle.planus_syntax.specs.Values.{names_of, variant_of}
+use Rattle.planus_schema.specs.Distinct.{AreDistinct}
+use Rattle.planus_schema.proofs.enums.check_names.Given as goal
+
+-- the names so far
+abbrev pub invariant-variants : goal.invariant-variants
+invariant-variants l = record {
+  names : names_of l.names.items
+      ≡ map (λ v. v.name) (map variant_of (take l.variant-index l.variants));
+  distinct : AreDistinct (names_of l.names.items);
+}

@@ -1,0 +1,13 @@
+use Rattle.std.proofs.Common.{◌≡◌, ◌++◌, map, drop}
+use Rattle.planus_syntax.specs.Values.{schema_of}
+use Rattle.planus_schema.specs.Names.{head_of, heads_from, heads_of}
+use Rattle.planus_schema.proofs.head.heads.Given as goal
+
+-- the heads so far and those of the files that are left are all
+abbrev pub invariant-files : goal.invariant-files
+invariant-files l = record {
+  index : l.file ≡ l.declarations-index;
+  all : map head_of l.heads.items
+      ++ heads_from l.file (map (λ f. schema_of f.items) (drop l.declarations-index l.files))
+      ≡ heads_of (map (λ f. schema_of f.items) l.files);
+}

@@ -1,0 +1,18 @@
+use Rattle.std.proofs.Common.{map, take, arith}
+use Rattle.planus_schema.specs.Names.{head_of}
+use Rattle.planus_schema.proofs.StructLemmas.{map_next}
+use Rattle.planus_schema.proofs.SchemaLemmas.{declared_push}
+use Rattle.planus_schema.proofs.meaning.declarations.Goals as goal
+
+pub heads-preserved : goal.heads-preserved
+heads-preserved c =
+    let i = c.heads.invariant in
+    let hs = c.args.heads.now in
+    let n = c.heads.head-index in
+    let t = map_next head_of hs n c.head-item.result (omega arith) c.head-item.is in
+    record {
+      says = λ e. rw t (declared_push (map head_of hs) (map head_of (take n hs)) c.heads.declared.items c.add_declared.new.declared.items (head_of c.head-item.result)
+          (i.says (c.in_ok-add_declared.ensures.kept e)) (c.in_ok-add_declared.ensures.says e));
+      kept = λ e. i.kept (c.in_ok-add_declared.ensures.kept e);
+      most = λ h. c.in_ok-add_declared.ensures.most (i.most h);
+    }

@@ -1,0 +1,8 @@
+use Rattle.std.proofs.Common.{map}
+use Rattle.planus_syntax.specs.Values.{schema_of}
+use Rattle.planus_schema.proofs.SoundLemmas.{sound}
+use Rattle.planus_schema.proofs.meaning.resolve.Goals as goal
+
+pub returns-in-Ok-clause-sound : goal.returns-in-Ok-clause-sound
+returns-in-Ok-clause-sound c =
+    sound (map (λ f. schema_of f.items) c.args.files.now) c.in-Ok.schema c.in-Ok.ensures.means

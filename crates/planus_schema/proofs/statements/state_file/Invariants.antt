@@ -1,0 +1,18 @@
+use Rattle.std.proofs.Common.{◌≡◌, ◌≤◌, [], length, map, drop}
+use Rattle.std.specs.Prelude.{None}
+use Rattle.planus_syntax.specs.Values.{schema_of}
+use Rattle.planus_schema.specs.Names.{head_of, path_in}
+use Rattle.planus_schema.specs.Schemas.{said_of, after_file, IsFour}
+use Rattle.planus_schema.proofs.statements.state_file.Given as goal
+
+-- what is stated so far, and what is left
+abbrev pub invariant-declarations : goal.invariant-declarations
+invariant-declarations l = record {
+  said : l.faults.items ≡ [] → after_file (map head_of l.heads) (path_in l.space) (said_of l.statements)
+      (schema_of (drop l.declaration-index l.declarations))
+      ≡ after_file (map head_of l.heads) None (said_of l.fn.statements) (schema_of l.declarations);
+  four : l.faults.items ≡ [] → IsFour (said_of l.fn.statements).identifier
+      → IsFour (said_of l.statements).identifier;
+  kept : l.faults.items ≡ [] → l.fn.faults.items ≡ [];
+  most : length l.fn.faults.items ≤ 20 → length l.faults.items ≤ 20;
+}

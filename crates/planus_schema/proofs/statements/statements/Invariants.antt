@@ -1,0 +1,17 @@
+use Rattle.std.proofs.Common.{◌≡◌, ◌≤◌, [], length, map, drop}
+use Rattle.planus_syntax.specs.Values.{schema_of}
+use Rattle.planus_schema.specs.Names.{head_of}
+use Rattle.planus_schema.specs.Schemas.{said_of, after_files, no_statements, IsFour}
+use Rattle.planus_schema.proofs.statements.statements.Given as goal
+
+-- what is stated so far, and what is left
+abbrev pub invariant-files : goal.invariant-files
+invariant-files l = record {
+  index : l.file ≡ l.declarations-index;
+  said : l.faults.items ≡ [] → after_files (map head_of l.heads) (said_of l.statements)
+      (map (λ f. schema_of f.items) (drop l.declarations-index l.files))
+      ≡ after_files (map head_of l.heads) no_statements (map (λ f. schema_of f.items) l.files);
+  four : l.faults.items ≡ [] → IsFour (said_of l.statements).identifier;
+  kept : l.faults.items ≡ [] → l.fn.faults.items ≡ [];
+  most : length l.fn.faults.items ≤ 20 → length l.faults.items ≤ 20;
+}

@@ -1,0 +1,18 @@
+use Rattle.std.proofs.Common.{◌≡◌, true, false, take, map}
+use Rattle.std.specs.List.{list_all}
+use Rattle.planus_syntax.specs.Values.{names_of, field_of}
+use Rattle.planus_schema.specs.Distinct.{AreDistinct, Each2}
+use Rattle.planus_schema.specs.Names.{head_of, space_of}
+use Rattle.planus_schema.specs.Tables.{SaysField, Follow, is_lawful, all_names}
+use Rattle.planus_schema.proofs.tables.table_fields.Given as goal
+
+-- the fields so far
+abbrev pub invariant-fields : goal.invariant-fields
+invariant-fields l = record {
+  says : Each2 (SaysField (map head_of l.heads) (space_of l.space) l.ids)
+      (map field_of (take l.declaration-index l.declared)) l.fields.items;
+  order : l.ids ≡ false → Follow 0 l.fields.items l.next;
+  lawful : list_all is_lawful l.fields.items ≡ true;
+  names : names_of l.names.items ≡ all_names l.fields.items;
+  distinct : AreDistinct (names_of l.names.items);
+}

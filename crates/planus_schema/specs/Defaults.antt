@@ -1,0 +1,264 @@
+-- Defaults.
+use Rattle.std.specs.Prelude.{ℕ, Bool, true, false, ◌&&◌, ◌||◌}
+use Rattle.std.specs.Prelude.{not, if◌then◌else◌, ◌==◌, ◌++◌, fold, bit_or}
+use Rattle.std.specs.Prelude.{List, [], ◌∷◌, Option, Some, None, codes}
+use Rattle.std.specs.List.{list_any}
+use Rattle.std.specs.Str.{bytes_eq}
+use Rattle.planus_syntax.specs.Values.{Name, PathV, LiteralV, numeral, named, quote, nothing}
+use Rattle.planus_syntax.specs.Values.{ItemV, include, namespace, attribute, table, struct}
+use Rattle.planus_syntax.specs.Values.{enumeration, union, service, root, identifier, extension}
+use Rattle.planus_syntax.specs.Values.{VariantV, EnumerationV}
+use Rattle.planus_schema.specs.declared.number.Number.{Number}
+use Rattle.planus_schema.specs.declared.scalar.Scalar.{Scalar}
+use Rattle.planus_schema.specs.declared.schema.Base.{Base}
+use Rattle.planus_schema.specs.declared.schema.Base.TheVariants as base
+use Rattle.planus_schema.specs.declared.schema.FieldType.{FieldType}
+use Rattle.planus_schema.specs.declared.schema.Value.{Value}
+use Rattle.planus_schema.specs.declared.schema.Value.TheVariants as value
+use Rattle.planus_schema.specs.Numbers.{integer_of, is_integer, is_float, is_bool, fits}
+use Rattle.planus_schema.specs.Numbers.{zero_number}
+use Rattle.planus_schema.specs.Numbers.{is_hexadecimal, without_sign, scalar_named}
+use Rattle.planus_schema.specs.Names.{HeadV, item_at}
+use Rattle.planus_schema.specs.Enums.{number_of, settled, is_flags, numbers_from, same_number}
+
+-- ---- what a default is
+
+pub data ValueV : Type 0 where
+  absent : ValueV
+  integer : Number → ValueV
+  float : List ℕ → ValueV
+  text : List ℕ → ValueV
+  empty : ValueV
+
+abbrev pub value_of : Value → ValueV
+value_of value.Absent = absent
+value_of (value.Integer n) = integer n
+value_of (value.Float w) = float w.items
+value_of (value.Text w) = text w.items
+value_of value.EmptyVector = empty
+
+-- ---- what the literals of each type mean; `None` where it is no value of the type
+
+-- a name of one word
+abbrev pub is_word : List ℕ → PathV → Bool
+is_word w p = is_alone p.more && bytes_eq p.first w
+  where
+    is_alone : List Name → Bool
+    is_alone [] = true
+    is_alone (n ∷ ns) = false
+
+abbrev pub absent_or : PathV → Option ValueV → Option ValueV
+absent_or p o = if is_word (codes "null") p then Some absent else o
+
+abbrev pub whole_number : Scalar → List ℕ → Option ValueV
+whole_number s w =
+    if is_integer w && fits s (integer_of w) then Some (integer (integer_of w)) else None
+
+abbrev pub truth : Number
+truth = record { negative = false; magnitude = 1 }
+
+abbrev pub named_bool : PathV → Option ValueV
+named_bool p = if is_word (codes "true") p then Some (integer truth)
+    else if is_word (codes "false") p then Some (integer zero_number) else None
+
+abbrev pub named_float : PathV → Option ValueV
+named_float p =
+    if is_word (codes "nan") p || is_word (codes "inf") p then Some (float p.first) else None
+
+-- digits that are not hexadecimal
+abbrev pub float_number : List ℕ → Option ValueV
+float_number w = if is_hexadecimal (without_sign w) then None else Some (float w)
+
+abbrev pub scalar_default : Scalar → LiteralV → Option ValueV
+scalar_default s (numeral w) = if is_float s then float_number w else whole_number s w
+scalar_default s (named p) = absent_or p
+    (if is_float s then named_float p else if is_bool s then named_bool p else None)
+scalar_default s (quote w) = None
+scalar_default s nothing = None
+
+-- the value of this name
+abbrev pub value_named : Name → Bool → Option Number → List VariantV → Option Number
+value_named w flags previous [] = None
+value_named w flags previous (v ∷ vs) =
+    if bytes_eq v.name w then Some (settled flags (number_of previous v.value))
+    else value_named w flags (Some (number_of previous v.value)) vs
+
+abbrev pub as_integer : Option Number → Option ValueV
+as_integer None = None
+as_integer (Some n) = Some (integer n)
+
+-- the word alone, or the word after the name of the enum
+abbrev pub value_name : EnumerationV → PathV → Option Name
+value_name e p = name_in p.more
+  where
+    name_in : List Name → Option Name
+    name_in [] = Some p.first
+    name_in (n ∷ []) = if bytes_eq p.first e.name then Some n else None
+    name_in (n ∷ m ∷ ns) = None
+
+abbrev pub value_in : EnumerationV → Option Name → Option ValueV
+value_in e None = None
+value_in e (Some w) = as_integer (value_named w (is_flags e) None e.variants)
+
+abbrev pub enum_named : EnumerationV → PathV → Option ValueV
+enum_named e p = value_in e (value_name e p)
+
+-- one of the values, or with `bit_flags` any number of the type
+abbrev pub is_among_values : EnumerationV → Number → Bool
+is_among_values e n = if is_flags e then fits_in (scalar_named e.base.first)
+    else list_any (λ v. same_number v n) (numbers_from None e.variants)
+  where
+    fits_in : Option Scalar → Bool
+    fits_in None = false
+    fits_in (Some s) = fits s n
+
+abbrev pub among_values : EnumerationV → Number → Option ValueV
+among_values e n = if is_among_values e n then Some (integer n) else None
+
+-- the words of a text with a space between them, after the beginning of the first
+abbrev pub cut_words : List ℕ → List ℕ → List Name
+cut_words word [] = word ∷ []
+cut_words word (b ∷ bs) =
+    if b == 32 then word ∷ cut_words [] bs else cut_words (word ++ b ∷ []) bs
+
+abbrev pub or_flag : ℕ → Option Number → Option ℕ
+or_flag total None = None
+or_flag total (Some n) = Some (bit_or total n.magnitude)
+
+abbrev pub with_flag : EnumerationV → Option ℕ → Name → Option ℕ
+with_flag e None w = None
+with_flag e (Some total) w = or_flag total (value_named w true None e.variants)
+
+-- the values of these names together
+abbrev pub flags_named : EnumerationV → List Name → Option ℕ
+flags_named e ws = fold (with_flag e) (Some 0) ws
+
+abbrev pub as_flags : Option ℕ → Option ValueV
+as_flags None = None
+as_flags (Some n) = Some (integer (record { negative = false; magnitude = n }))
+
+-- several values of an enum with `bit_flags`
+abbrev pub flags_default : EnumerationV → List ℕ → Option ValueV
+flags_default e w = if is_flags e then as_flags (flags_named e (cut_words [] w)) else None
+
+abbrev pub enum_default : EnumerationV → LiteralV → Option ValueV
+enum_default e (numeral w) =
+    if is_integer w then among_values e (integer_of w) else None
+enum_default e (named p) = absent_or p (enum_named e p)
+enum_default e (quote w) = flags_default e w
+enum_default e nothing = None
+
+abbrev pub text_default : LiteralV → Option ValueV
+text_default (numeral w) = None
+text_default (named p) = None
+text_default (quote w) = Some (text w)
+text_default nothing = None
+
+abbrev pub vector_default : LiteralV → Option ValueV
+vector_default (numeral w) = None
+vector_default (named p) = None
+vector_default (quote w) = None
+vector_default nothing = Some empty
+
+abbrev pub enum_at : Option ItemV → Option EnumerationV
+enum_at None = None
+enum_at (Some (include w)) = None
+enum_at (Some (namespace p)) = None
+enum_at (Some (attribute l)) = None
+enum_at (Some (table r)) = None
+enum_at (Some (struct r)) = None
+enum_at (Some (enumeration e)) = Some e
+enum_at (Some (union u)) = None
+enum_at (Some (service s)) = None
+enum_at (Some (root p)) = None
+enum_at (Some (identifier w)) = None
+enum_at (Some (extension w)) = None
+
+abbrev pub default_in : Option EnumerationV → LiteralV → Option ValueV
+default_in None l = None
+default_in (Some e) l = enum_default e l
+
+abbrev pub base_default : List HeadV → Base → LiteralV → Option ValueV
+base_default hs (base.Scalar s) l = scalar_default s l
+base_default hs base.Text l = text_default l
+base_default hs (base.Enum i) l = default_in (enum_at (item_at hs i)) l
+base_default hs (base.Struct i) l = None
+base_default hs (base.Table i) l = None
+base_default hs (base.Union i) l = None
+
+abbrev pub zero_in : Option EnumerationV → Option (Option ValueV)
+zero_in None = None
+zero_in (Some e) = if is_among_values e zero_number then Some (Some (integer zero_number)) else None
+
+abbrev pub zero_scalar : Scalar → ValueV
+zero_scalar s = if is_float s then float (codes "0") else integer zero_number
+
+-- without a literal: zero, if it is a value, and none for what isn't a scalar or an enum
+abbrev pub zero_default : List HeadV → Base → Option (Option ValueV)
+zero_default hs (base.Scalar s) = Some (Some (zero_scalar s))
+zero_default hs base.Text = Some None
+zero_default hs (base.Enum i) = zero_in (enum_at (item_at hs i))
+zero_default hs (base.Struct i) = Some None
+zero_default hs (base.Table i) = Some None
+zero_default hs (base.Union i) = Some None
+
+abbrev pub some_default : Option ValueV → Option (Option ValueV)
+some_default None = None
+some_default (Some v) = Some (Some v)
+
+-- the default of a field of this type; `None` where the literal is none
+abbrev pub default_said : List HeadV → FieldType → Option LiteralV → Option (Option ValueV)
+default_said hs t None = if t.vector then Some None else zero_default hs t.base
+default_said hs t (Some l) =
+    some_default (if t.vector then vector_default l else base_default hs t.base l)
+
+-- ---- which defaults a type has
+
+abbrev pub is_scalar_value : Scalar → ValueV → Bool
+is_scalar_value s absent = true
+is_scalar_value s (integer n) = not (is_float s) && fits s n
+is_scalar_value s (float w) = is_float s
+is_scalar_value s (text w) = false
+is_scalar_value s empty = false
+
+abbrev pub is_enum_value : ValueV → Bool
+is_enum_value absent = true
+is_enum_value (integer n) = true
+is_enum_value (float w) = false
+is_enum_value (text w) = false
+is_enum_value empty = false
+
+abbrev pub is_text_value : ValueV → Bool
+is_text_value absent = false
+is_text_value (integer n) = false
+is_text_value (float w) = false
+is_text_value (text w) = true
+is_text_value empty = false
+
+abbrev pub is_vector_value : ValueV → Bool
+is_vector_value absent = false
+is_vector_value (integer n) = false
+is_vector_value (float w) = false
+is_vector_value (text w) = false
+is_vector_value empty = true
+
+abbrev pub is_value : Base → ValueV → Bool
+is_value (base.Scalar s) v = is_scalar_value s v
+is_value base.Text v = is_text_value v
+is_value (base.Enum i) v = is_enum_value v
+is_value (base.Struct i) v = false
+is_value (base.Table i) v = false
+is_value (base.Union i) v = false
+
+abbrev pub needs_none : Base → Bool
+needs_none (base.Scalar s) = false
+needs_none base.Text = true
+needs_none (base.Enum i) = false
+needs_none (base.Struct i) = true
+needs_none (base.Table i) = true
+needs_none (base.Union i) = true
+
+-- a value of the type, or none for what isn't a scalar or an enum
+abbrev pub is_default : FieldType → Option ValueV → Bool
+is_default t None = t.vector || needs_none t.base
+is_default t (Some v) = if t.vector then is_vector_value v else is_value t.base v

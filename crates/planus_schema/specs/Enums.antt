@@ -1,0 +1,101 @@
+-- Enums.
+use Rattle.std.specs.Prelude.{◌≡◌, ℕ, ◌^◌, Bool, true, false, ◌==◌, ◌&&◌, not, if◌then◌else◌}
+use Rattle.std.specs.Prelude.{List, [], ◌∷◌, ◌++◌, map, Option, Some, None, codes}
+use Rattle.std.specs.List.{IsDistinct, list_all}
+use Rattle.planus_syntax.specs.Values.{VariantV, EnumerationV, names_of}
+use Rattle.planus_schema.specs.declared.number.Number.{Number}
+use Rattle.planus_schema.specs.declared.scalar.Scalar.{Scalar}
+use Rattle.planus_schema.specs.declared.schema.Enum.{Enum}
+use Rattle.planus_schema.specs.declared.schema.EnumValue.{EnumValue}
+use Rattle.planus_schema.specs.Numbers.{integer_of, is_integer, zero_number, following, fits}
+use Rattle.planus_schema.specs.Numbers.{scalar_named, is_float, is_bool}
+use Rattle.planus_schema.specs.Names.{has}
+use Rattle.planus_schema.specs.Distinct.{AreDistinct}
+
+-- ---- numbers
+
+-- one more than the number before
+abbrev pub next_number : Option Number → Number
+next_number None = zero_number
+next_number (Some n) = following n
+
+-- the number that is given, or the next
+abbrev pub number_of : Option Number → Option (List ℕ) → Number
+number_of previous None = next_number previous
+number_of previous (Some digits) = integer_of digits
+
+abbrev pub numbers_from : Option Number → List VariantV → List Number
+numbers_from previous [] = []
+numbers_from previous (v ∷ vs) =
+    number_of previous v.value ∷ numbers_from (Some (number_of previous v.value)) vs
+
+-- the digits of each value are an integer
+abbrev pub is_spelled : VariantV → Bool
+is_spelled v = is_spelled_value v.value
+  where
+    is_spelled_value : Option (List ℕ) → Bool
+    is_spelled_value None = true
+    is_spelled_value (Some digits) = is_integer digits
+
+-- with `bit_flags` a number says which bit
+abbrev pub settled : Bool → Number → Number
+settled true n = record { negative = false; magnitude = 2 ^ n.magnitude }
+settled false n = n
+
+abbrev pub is_flags : EnumerationV → Bool
+is_flags e = has (codes "bit_flags") e.attributes
+
+-- the values of an enum
+abbrev pub enum_numbers : EnumerationV → List Number
+enum_numbers e = map (settled (is_flags e)) (numbers_from None e.variants)
+
+-- ---- what an enum is
+
+abbrev pub same_number : Number → Number → Bool
+same_number a b = (if a.negative then b.negative else not b.negative) && a.magnitude == b.magnitude
+
+abbrev pub number_of_value : EnumValue → Number
+number_of_value v = v.number
+
+-- an integer type
+abbrev pub is_integer_type : Scalar → Bool
+is_integer_type s = not (is_float s) && not (is_bool s)
+
+-- a value was added
+pub record IsValueAdded (s : Scalar) (v : VariantV) (n : Number) (old new : List EnumValue) : Type 0
+  where
+    pub names : map (λ x. x.name.items) new ≡ map (λ x. x.name.items) old ++ v.name ∷ []
+    pub docs : map (λ x. names_of x.docs.items) new
+        ≡ map (λ x. names_of x.docs.items) old ++ v.docs ∷ []
+    pub numbers : map number_of_value new ≡ map number_of_value old ++ n ∷ []
+    pub within : list_all (λ x. fits s x.number) old ≡ true
+        → list_all (λ x. fits s x.number) new ≡ true
+    pub distinct : IsDistinct same_number (map number_of_value old)
+        → IsDistinct same_number (map number_of_value new)
+
+-- the values of these variants
+pub record AreValues (s : Scalar) (flags : Bool) (vs : List VariantV) (values : List EnumValue)
+    : Type 0 where
+  pub names : map (λ x. x.name.items) values ≡ map (λ v. v.name) vs
+  pub docs : map (λ x. names_of x.docs.items) values ≡ map (λ v. v.docs) vs
+  pub spelled : list_all is_spelled vs ≡ true
+  pub numbers : map number_of_value values ≡ map (settled flags) (numbers_from None vs)
+  pub within : list_all (λ x. fits s x.number) values ≡ true
+  pub distinct : IsDistinct same_number (map number_of_value values)
+
+-- its values are distinct, and each is one of its type
+pub record IsEnum (e : Enum) : Type 0 where
+  pub integer : is_integer_type e.scalar ≡ true
+  pub within : list_all (λ v. fits e.scalar v.number) e.values.items ≡ true
+  pub distinct : IsDistinct same_number (map number_of_value e.values.items)
+  pub names : AreDistinct (map (λ v. v.name.items) e.values.items)
+
+-- the enum is what is declared
+pub record SaysEnum (d : EnumerationV) (e : Enum) : Type 0 where
+  pub single : d.base.more ≡ []
+  pub scalar : scalar_named d.base.first ≡ Some e.scalar
+  pub flags : e.flags ≡ is_flags d
+  pub names : map (λ v. v.name.items) e.values.items ≡ map (λ v. v.name) d.variants
+  pub docs : map (λ v. names_of v.docs.items) e.values.items ≡ map (λ v. v.docs) d.variants
+  pub spelled : list_all is_spelled d.variants ≡ true
+  pub numbers : map number_of_value e.values.items ≡ enum_numbers d

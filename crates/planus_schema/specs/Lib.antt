@@ -1,0 +1,10 @@
+pub mod Numbers
+pub mod Names
+pub mod Distinct
+pub mod Enums
+pub mod Structs
+pub mod Unions
+pub mod Defaults
+pub mod Tables
+pub mod Schemas
+pub mod Sound

@@ -1,0 +1,192 @@
+-- What is declared, under which full name, and which declaration a name means.
+use Rattle.std.specs.Prelude.{ℕ, zero, suc, ◌+◌, Bool, true, false, if◌then◌else◌}
+use Rattle.std.specs.Prelude.{List, [], ◌∷◌, ◌++◌, length, take, fold, position, Option}
+use Rattle.std.specs.Prelude.{Some, None, codes, slice_get}
+use denote.Ref.{Bor}
+use Rattle.std.specs.Str.{bytes_eq}
+use Rattle.planus_syntax.specs.Values.{Name, PathV, KindV, single, vector}
+use Rattle.planus_syntax.specs.Values.{AttributeV, ItemV, include, namespace, attribute, table}
+use Rattle.planus_syntax.specs.Values.{struct}
+use Rattle.planus_syntax.specs.Values.{enumeration, union, service, root, identifier, extension}
+use Rattle.planus_syntax.specs.Values.{DeclarationV, path_of, declaration_of}
+use Rattle.planus_syntax.specs.declared.value.Path.{Path}
+use Rattle.std.specs.Option.{option_map}
+use Rattle.planus_schema.specs.declared.head.Head.{Head}
+use Rattle.planus_schema.specs.declared.schema.Base.{Base}
+use Rattle.planus_schema.specs.declared.schema.Base.TheVariants as base
+use Rattle.planus_schema.specs.declared.schema.FieldType.{FieldType}
+use Rattle.planus_schema.specs.Numbers.{scalar_named}
+
+-- ---- full names
+
+abbrev pub words_of : PathV → List Name
+words_of p = p.first ∷ p.more
+
+-- a word after a dot, or alone
+abbrev pub with_word : List ℕ → Name → List ℕ
+with_word [] w = w
+with_word (b ∷ bs) w = (b ∷ bs) ++ 46 ∷ w
+
+-- words with dots between them
+abbrev pub dotted : List Name → List ℕ
+dotted ws = fold with_word [] ws
+
+-- `file`: the index of its file; `space`: the words of its namespace
+pub record HeadV : Type 0 where
+  pub file : ℕ
+  pub space : List Name
+  pub name : List ℕ
+  pub declaration : DeclarationV
+
+-- tables, structs, enums and unions have a name that a type may be
+abbrev pub own_name : ItemV → Option Name
+own_name (include w) = None
+own_name (namespace p) = None
+own_name (attribute l) = None
+own_name (table r) = Some r.name
+own_name (struct r) = Some r.name
+own_name (enumeration e) = Some e.name
+own_name (union u) = Some u.name
+own_name (service s) = None
+own_name (root p) = None
+own_name (identifier w) = None
+own_name (extension w) = None
+
+abbrev pub words_in : Option PathV → List Name
+words_in None = []
+words_in (Some p) = words_of p
+
+-- the namespace after a declaration
+abbrev pub space_after : Option PathV → ItemV → Option PathV
+space_after space (namespace p) = p
+space_after space i = space
+
+abbrev pub named_head : ℕ → List Name → DeclarationV → Option Name → List HeadV
+named_head file space d None = []
+named_head file space d (Some w) = record {
+  file = file;
+  space = space;
+  name = dotted (space ++ w ∷ []);
+  declaration = d;
+} ∷ []
+
+abbrev pub heads_at : ℕ → Option PathV → DeclarationV → List HeadV
+heads_at file space d = named_head file (words_in space) d (own_name d.item)
+
+-- a file begins outside of every namespace
+abbrev pub heads_in : ℕ → Option PathV → List DeclarationV → List HeadV
+heads_in file space [] = []
+heads_in file space (d ∷ ds) =
+    heads_at file space d ++ heads_in file (space_after space d.item) ds
+
+abbrev pub heads_from : ℕ → List (List DeclarationV) → List HeadV
+heads_from n [] = []
+heads_from n (ds ∷ files) = heads_in n None ds ++ heads_from (n + 1) files
+
+-- what the files declare, in order
+abbrev pub heads_of : List (List DeclarationV) → List HeadV
+heads_of files = heads_from 0 files
+
+-- ---- look-up
+
+abbrev pub has_name : List ℕ → HeadV → Bool
+has_name name h = bytes_eq h.name name
+
+abbrev pub index_of : List HeadV → List ℕ → Option ℕ
+index_of hs name = position (has_name name) hs
+
+abbrev pub or_else : Option ℕ → Option ℕ → Option ℕ
+or_else None o = o
+or_else (Some i) o = Some i
+
+-- in the first k words of the namespace, and then outwards
+abbrev pub found_from : List HeadV → List Name → List Name → ℕ → Option ℕ
+found_from hs space words zero = index_of hs (dotted words)
+found_from hs space words (suc k) = or_else (index_of hs (dotted (take (suc k) space ++ words)))
+    (found_from hs space words k)
+
+-- the declaration that these words mean in this namespace: the innermost
+abbrev pub found : List HeadV → List Name → List Name → Option ℕ
+found hs space words = found_from hs space words (length space)
+
+-- ---- types
+
+abbrev pub base_of_item : ItemV → ℕ → Option Base
+base_of_item (include w) i = None
+base_of_item (namespace p) i = None
+base_of_item (attribute l) i = None
+base_of_item (table r) i = Some (base.Table i)
+base_of_item (struct r) i = Some (base.Struct i)
+base_of_item (enumeration e) i = Some (base.Enum i)
+base_of_item (union u) i = Some (base.Union i)
+base_of_item (service s) i = None
+base_of_item (root p) i = None
+base_of_item (identifier w) i = None
+base_of_item (extension w) i = None
+
+abbrev pub item_at : List HeadV → ℕ → Option ItemV
+item_at hs i = option_map (λ h. h.declaration.item) (slice_get hs i)
+
+abbrev pub base_of_head : Option ItemV → ℕ → Option Base
+base_of_head None i = None
+base_of_head (Some item) i = base_of_item item i
+
+abbrev pub base_found : List HeadV → Option ℕ → Option Base
+base_found hs None = None
+base_found hs (Some i) = base_of_head (item_at hs i) i
+
+abbrev pub base_of_word : Name → Option Base
+base_of_word w = if bytes_eq w (codes "string") then Some base.Text
+    else option_map base.Scalar (scalar_named w)
+
+abbrev pub plain_of : List Name → Name → Option Base
+plain_of [] w = base_of_word w
+plain_of (n ∷ ns) w = None
+
+-- `string` and a scalar type by their names
+abbrev pub plain_base : PathV → Option Base
+plain_base p = plain_of p.more p.first
+
+abbrev pub base_or : Option Base → Option Base → Option Base
+base_or None o = o
+base_or (Some b) o = Some b
+
+-- the type that a name means in this namespace
+abbrev pub base_named : List HeadV → List Name → PathV → Option Base
+base_named hs space p = base_or (plain_base p) (base_found hs (found hs space (words_of p)))
+
+abbrev pub type_named : List HeadV → List Name → KindV → Option FieldType
+type_named hs space (single p) =
+    option_map (λ b. record { vector = false; base = b }) (base_named hs space p)
+type_named hs space (vector p) =
+    option_map (λ b. record { vector = true; base = b }) (base_named hs space p)
+
+-- ---- attributes
+
+-- the first of this name
+abbrev pub setting : Name → List AttributeV → Option AttributeV
+setting w [] = None
+setting w (a ∷ more) = if bytes_eq a.label.name w then Some a else setting w more
+
+abbrev pub is_set : {A : Type 0} → Option A → Bool
+is_set None = false
+is_set (Some x) = true
+
+abbrev pub has : Name → List AttributeV → Bool
+has w attributes = is_set (setting w attributes)
+
+-- ---- what the code holds
+
+abbrev pub path_in : Option (Bor Path) → Option PathV
+path_in space = option_map (λ p. path_of p.now) space
+
+abbrev pub space_of : Option (Bor Path) → List Name
+space_of space = words_in (path_in space)
+
+abbrev pub head_of : Head → HeadV
+head_of h = record {
+  file = h.file;
+  space = space_of h.space;
+  name = h.name.items;
+  declaration = declaration_of h.declaration.now;
+}

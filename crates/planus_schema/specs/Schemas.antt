@@ -1,0 +1,147 @@
+-- What a schema is, and how it follows from the declarations.
+use Rattle.std.specs.Prelude.{◌≡◌, ℕ, ◌<◌, ◌≤◌, List, [], ◌∷◌, ◌++◌, length, map}
+use Rattle.std.specs.Prelude.{Option, Some, None}
+use Rattle.std.specs.Option.{option_map}
+use Rattle.planus_syntax.specs.Values.{Name, PathV, ItemV, include, namespace, attribute, table}
+use Rattle.planus_syntax.specs.Values.{struct, enumeration, union, service, root, identifier}
+use Rattle.planus_syntax.specs.Values.{extension, DeclarationV, names_of}
+use Rattle.planus_schema.specs.declared.schema.Base.{Base}
+use Rattle.planus_schema.specs.declared.schema.Base.TheVariants as base
+use Rattle.planus_schema.specs.declared.schema.Body.{Body}
+use Rattle.planus_schema.specs.declared.schema.Body.TheVariants as body
+use Rattle.planus_schema.specs.declared.schema.Declared.{Declared}
+use Rattle.planus_schema.specs.declared.schema.Statements.{Statements}
+use Rattle.planus_schema.specs.declared.fault.Fault.{Fault}
+use Rattle.planus_schema.specs.declared.fault.Refusal.{Refusal}
+use Rattle.planus_schema.specs.declared.fault.Refusal.TheVariants as refusal
+use Rattle.planus_schema.specs.declared.schema.Schema.{Schema}
+use Rattle.planus_schema.specs.Names.{HeadV, heads_of, words_in, space_after, base_named}
+use Rattle.planus_schema.specs.Distinct.{AreDistinct, Each2}
+use Rattle.planus_schema.specs.Enums.{IsEnum, SaysEnum}
+use Rattle.planus_schema.specs.Structs.{IsStruct, SaysStruct, body_in}
+use Rattle.planus_schema.specs.Unions.{IsUnion, SaysUnion}
+use Rattle.planus_schema.specs.Tables.{IsTable, SaysTable}
+
+-- ---- declarations
+
+abbrev pub IsBody : Body → Type 0
+IsBody (body.Table t) = IsTable t
+IsBody (body.Struct s) = IsStruct s
+IsBody (body.Enum e) = IsEnum e
+IsBody (body.Union u) = IsUnion u
+
+-- a declaration says this; enums and structs in a struct are among those before it
+abbrev pub SaysBody : List HeadV → List Name → List Body → ItemV → Body → Type 0
+SaysBody hs space before (table r) (body.Table t) = SaysTable hs space r t
+SaysBody hs space before (struct r) (body.Struct s) = SaysStruct hs space before r s
+SaysBody hs space before (enumeration e) (body.Enum t) = SaysEnum e t
+SaysBody hs space before (union u) (body.Union t) = SaysUnion hs space u t
+SaysBody hs space before i b = ⊥
+
+-- one after the other
+abbrev pub SayBodies : List HeadV → List Body → List HeadV → List Body → Type 0
+SayBodies hs before [] [] = Unit {0}
+SayBodies hs before [] (b ∷ bs) = ⊥
+SayBodies hs before (h ∷ rest) [] = ⊥
+SayBodies hs before (h ∷ rest) (b ∷ bs) = IsBody b
+    × SaysBody hs h.space before h.declaration.item b × SayBodies hs (before ++ b ∷ []) rest bs
+
+-- ---- statements
+
+pub record StatementsV : Type 0 where
+  pub root : Option (Option ℕ)
+  pub identifier : Option (List ℕ)
+  pub extension : Option (List ℕ)
+
+abbrev pub no_statements : StatementsV
+no_statements = record { root = None; identifier = None; extension = None }
+
+abbrev pub table_in : Option Base → Option ℕ
+table_in None = None
+table_in (Some (base.Scalar s)) = None
+table_in (Some base.Text) = None
+table_in (Some (base.Enum i)) = None
+table_in (Some (base.Struct i)) = None
+table_in (Some (base.Table i)) = Some i
+table_in (Some (base.Union i)) = None
+
+-- a statement replaces what one before it said
+abbrev pub after : List HeadV → Option PathV → StatementsV → ItemV → StatementsV
+after hs space s (include w) = s
+after hs space s (namespace p) = s
+after hs space s (attribute l) = s
+after hs space s (table r) = s
+after hs space s (struct r) = s
+after hs space s (enumeration e) = s
+after hs space s (union u) = s
+after hs space s (service x) = s
+after hs space s (root p) = record s { root = Some (table_in (base_named hs (words_in space) p)) }
+after hs space s (identifier w) = record s { identifier = Some w }
+after hs space s (extension w) = record s { extension = Some w }
+
+abbrev pub after_file : List HeadV → Option PathV → StatementsV → List DeclarationV → StatementsV
+after_file hs space s [] = s
+after_file hs space s (d ∷ ds) =
+    after_file hs (space_after space d.item) (after hs space s d.item) ds
+
+abbrev pub after_files : List HeadV → StatementsV → List (List DeclarationV) → StatementsV
+after_files hs s [] = s
+after_files hs s (ds ∷ files) = after_files hs (after_file hs None s ds) files
+
+-- ---- schemas
+
+-- the name, the documentation and the file of a declaration
+pub record IsHeadOf (h : HeadV) (d : Declared) : Type 0 where
+  pub name : d.name.items ≡ h.name
+  pub docs : names_of d.docs.items ≡ h.declaration.docs
+  pub file : d.file ≡ h.file
+
+-- a declaration was added
+pub record IsAppended (h : HeadV) (b : Body) (old new : List Declared) : Type 0 where
+  pub last : Declared
+  pub added : new ≡ old ++ last ∷ []
+  pub head : IsHeadOf h last
+  pub body : last.body ≡ b
+
+-- one more declaration
+pub record IsDeclared (hs : List HeadV) (h : HeadV) (old new : List Declared) : Type 0 where
+  pub last : Declared
+  pub added : new ≡ old ++ last ∷ []
+  pub head : IsHeadOf h last
+  pub sound : IsBody last.body
+  pub says : SaysBody hs h.space (map body_in old) h.declaration.item last.body
+
+-- these are declared, in this order
+pub record AreDeclared (hs : List HeadV) (some : List HeadV) (ds : List Declared) : Type 0 where
+  pub heads : Each2 IsHeadOf some ds
+  pub bodies : SayBodies hs [] some (map body_in ds)
+
+-- `root` is there where a `root_type` is, and is a table then
+abbrev pub said_of : Statements → StatementsV
+said_of s = record {
+  root = option_map Some s.root;
+  identifier = option_map (λ w. w.items) s.identifier;
+  extension = option_map (λ w. w.items) s.extension;
+}
+
+abbrev pub IsFour : Option (List ℕ) → Type 0
+IsFour None = Unit {0}
+IsFour (Some w) = length w ≡ 4
+
+-- what these files mean: each declaration in order, under a name that no other has
+pub record Means (files : List (List DeclarationV)) (s : Schema) : Type 0 where
+  pub declared : AreDeclared (heads_of files) (heads_of files) s.declarations.items
+  pub names : AreDistinct (map (λ h. h.name) (heads_of files))
+  pub statements : said_of s.statements ≡ after_files (heads_of files) no_statements files
+  pub four : IsFour (said_of s.statements).identifier
+
+-- ---- faults
+
+-- from one to twenty
+pub record AreFaults (faults : List Fault) : Type 0 where
+  pub some : 0 < length faults
+  pub most : length faults ≤ 20
+
+abbrev pub IsRefusal : Refusal → Type 0
+IsRefusal refusal.OutOfMemory = Unit {0}
+IsRefusal (refusal.Faults v) = AreFaults v.items

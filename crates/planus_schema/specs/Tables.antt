@@ -1,0 +1,166 @@
+-- Tables: the slots of their fields.
+use Rattle.std.specs.Prelude.{◌≡◌, ℕ, ◌+◌, ◌-◌, ◌≤◌, ◌<◌, Bool, true, false, ◌&&◌, ◌||◌, not}
+use Rattle.std.specs.Prelude.{List, [], ◌∷◌, ◌++◌, length, Option, Some, None, codes}
+use Rattle.std.specs.Prelude.{if◌then◌else◌, slice_index}
+use Rattle.std.specs.List.{list_any, list_all}
+use Rattle.std.specs.List.Sorted.{IsPermutation}
+use Rattle.std.specs.Option.{option_map}
+use Rattle.planus_syntax.specs.Values.{Name, LiteralV, numeral, named, quote, nothing, AttributeV}
+use Rattle.planus_syntax.specs.Values.{FieldV, RecordV, names_of}
+use Rattle.planus_schema.specs.declared.scalar.Scalar.TheVariants.{UByte}
+use Rattle.planus_schema.specs.declared.schema.Base.{Base}
+use Rattle.planus_schema.specs.declared.schema.Base.TheVariants as base
+use Rattle.planus_schema.specs.declared.schema.FieldType.{FieldType}
+use Rattle.planus_schema.specs.declared.schema.Table.{Table}
+use Rattle.planus_schema.specs.declared.schema.TableField.{TableField}
+use Rattle.planus_schema.specs.Names.{HeadV, type_named, setting, has, found, base_found}
+use Rattle.planus_schema.specs.Distinct.{AreDistinct, Each2}
+use Rattle.planus_schema.specs.Structs.{literal_number}
+use Rattle.planus_schema.specs.Defaults.{value_of, default_said}
+
+-- ---- slots
+
+abbrev pub is_union_base : Base → Bool
+is_union_base (base.Scalar s) = false
+is_union_base base.Text = false
+is_union_base (base.Enum i) = false
+is_union_base (base.Struct i) = false
+is_union_base (base.Table i) = false
+is_union_base (base.Union i) = true
+
+-- a union, or a vector of them, has a slot for its type before that of its value
+abbrev pub is_union : FieldType → Bool
+is_union t = is_union_base t.base
+
+abbrev pub width : FieldType → ℕ
+width t = if is_union t then 2 else 1
+
+-- the slots that a field takes
+abbrev pub slots_of : TableField → List ℕ
+slots_of f = if is_union f.kind then (f.slot - 1) ∷ f.slot ∷ [] else f.slot ∷ []
+
+abbrev pub slots_taken : List TableField → List ℕ
+slots_taken [] = []
+slots_taken (f ∷ fs) = slots_of f ++ slots_taken fs
+
+-- in some order they are 0, 1, 2 and so on, and there are not more than a vtable has room for
+pub record AreSlots (slots : List ℕ) : Type 0 where
+  pub sorted : List ℕ
+  pub same : IsPermutation slots sorted
+  pub each : (k : ℕ) → k < length sorted → slice_index sorted k ≡ k
+  pub room : length slots ≤ 32765
+
+-- each field takes the slots after those of the field before it
+abbrev pub Follow : ℕ → List TableField → ℕ → Type 0
+Follow at [] end = at ≡ end
+Follow at (f ∷ fs) end = (f.slot + 1 ≡ at + width f.kind) × Follow (at + width f.kind) fs end
+
+-- ---- what a table is
+
+-- the name of a field, and before it that of the type of a union
+abbrev pub names_taken : TableField → List Name
+names_taken f = if is_union f.kind then (f.name.items ++ codes "_type") ∷ f.name.items ∷ []
+    else f.name.items ∷ []
+
+abbrev pub all_names : List TableField → List Name
+all_names [] = []
+all_names (f ∷ fs) = names_taken f ++ all_names fs
+
+-- the names after those of a field were added
+pub record AreNamed (old taken new : List Name) : Type 0 where
+  pub added : new ≡ old ++ taken
+  pub distinct : AreDistinct old → AreDistinct new
+
+-- scalars and enums
+abbrev pub is_number_base : Base → Bool
+is_number_base (base.Scalar s) = true
+is_number_base base.Text = false
+is_number_base (base.Enum i) = true
+is_number_base (base.Struct i) = false
+is_number_base (base.Table i) = false
+is_number_base (base.Union i) = false
+
+abbrev pub is_text_base : Base → Bool
+is_text_base (base.Scalar s) = false
+is_text_base base.Text = true
+is_text_base (base.Enum i) = false
+is_text_base (base.Struct i) = false
+is_text_base (base.Table i) = false
+is_text_base (base.Union i) = false
+
+abbrev pub is_number : FieldType → Bool
+is_number t = not t.vector && is_number_base t.base
+
+-- a key is a scalar, an enum or a string
+abbrev pub may_be_key : FieldType → Bool
+may_be_key t = not t.vector && (is_number_base t.base || is_text_base t.base)
+
+abbrev pub is_bytes : FieldType → Bool
+is_bytes t = t.vector && is_ubyte t.base
+  where
+    is_ubyte : Base → Bool
+    is_ubyte (base.Scalar UByte) = true
+    is_ubyte b = false
+
+-- what may be `required`, a `key` and a nested buffer
+abbrev pub is_lawful : TableField → Bool
+is_lawful f = not (f.required && is_number f.kind) && (not f.key || may_be_key f.kind)
+    && (is_none f.nested || is_bytes f.kind)
+  where
+    is_none : Option ℕ → Bool
+    is_none None = true
+    is_none (Some i) = false
+
+pub record IsTable (t : Table) : Type 0 where
+  pub slots : AreSlots (slots_taken t.fields.items)
+  pub names : AreDistinct (all_names t.fields.items)
+  pub lawful : list_all is_lawful t.fields.items ≡ true
+
+-- ---- what is declared
+
+-- all fields have an `id` if one has
+abbrev pub has_ids : List FieldV → Bool
+has_ids fs = list_any (λ f. has (codes "id") f.attributes) fs
+
+abbrev pub id_in : Option AttributeV → Option ℕ
+id_in None = None
+id_in (Some a) = Some (literal_number a.value)
+
+-- the number after `id`
+abbrev pub id_of : FieldV → Option ℕ
+id_of f = id_in (setting (codes "id") f.attributes)
+
+abbrev pub nested_name : Option LiteralV → Option Name
+nested_name None = None
+nested_name (Some (numeral w)) = None
+nested_name (Some (named p)) = None
+nested_name (Some (quote w)) = Some w
+nested_name (Some nothing) = None
+
+abbrev pub table_found : List HeadV → List Name → Option Name → Option Base
+table_found hs space None = None
+table_found hs space (Some w) = base_found hs (found hs space (w ∷ []))
+
+-- the table that `nested_flatbuffer` names
+abbrev pub NestedIs : List HeadV → List Name → Option AttributeV → Option ℕ → Type 0
+NestedIs hs space None o = o ≡ None
+NestedIs hs space (Some a) None = ⊥
+NestedIs hs space (Some a) (Some i) =
+    table_found hs space (nested_name a.value) ≡ Some (base.Table i)
+
+pub record SaysField (hs : List HeadV) (space : List Name) (ids : Bool) (d : FieldV)
+    (f : TableField) : Type 0 where
+  pub name : f.name.items ≡ d.name
+  pub docs : names_of f.docs.items ≡ d.docs
+  pub kind : type_named hs space d.kind ≡ Some f.kind
+  pub id : ids ≡ true → id_of d ≡ Some f.slot
+  pub default : default_said hs f.kind d.default ≡ Some (option_map value_of f.default)
+  pub required : f.required ≡ has (codes "required") d.attributes
+  pub deprecated : f.deprecated ≡ has (codes "deprecated") d.attributes
+  pub key : f.key ≡ has (codes "key") d.attributes
+  pub nested : NestedIs hs space (setting (codes "nested_flatbuffer") d.attributes) f.nested
+
+pub record SaysTable (hs : List HeadV) (space : List Name) (d : RecordV) (t : Table) : Type 0 where
+  pub fields : Each2 (SaysField hs space (has_ids d.fields)) d.fields t.fields.items
+  pub order : has_ids d.fields ≡ false
+      → (end : ℕ) × Follow 0 t.fields.items end

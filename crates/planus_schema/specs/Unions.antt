@@ -1,0 +1,50 @@
+-- Unions.
+use Rattle.std.specs.Prelude.{◌≡◌, ℕ, ◌+◌, Bool, true, ◌&&◌, nat_le, nat_eq, List, [], ◌∷◌}
+use Rattle.std.specs.Prelude.{map, Option, Some, None, codes}
+use Rattle.std.specs.List.{IsDistinct, list_all}
+use Rattle.planus_syntax.specs.Values.{Name, PathV, MemberV, UnionV, names_of}
+use Rattle.planus_schema.specs.declared.schema.Base.TheVariants as base
+use Rattle.planus_schema.specs.declared.schema.Union.{Union}
+use Rattle.planus_schema.specs.declared.schema.UnionMember.{UnionMember}
+use Rattle.planus_schema.specs.Numbers.{magnitude_of}
+use Rattle.planus_schema.specs.Names.{HeadV, words_of, dotted, base_named}
+use Rattle.planus_schema.specs.Distinct.{AreDistinct, Each2}
+
+-- the number that is given, or one more than that before it; `NONE` is 0
+abbrev pub tag_of : ℕ → Option (List ℕ) → ℕ
+tag_of previous None = previous + 1
+tag_of previous (Some digits) = magnitude_of digits
+
+abbrev pub tags_from : ℕ → List MemberV → List ℕ
+tags_from previous [] = []
+tags_from previous (m ∷ ms) = tag_of previous m.value ∷ tags_from (tag_of previous m.value) ms
+
+-- the table of a member: after its alias, or its name
+abbrev pub target_of : MemberV → PathV
+target_of m = target_or m.target
+  where
+    target_or : Option PathV → PathV
+    target_or None = m.path
+    target_or (Some p) = p
+
+pub record SaysMember (hs : List HeadV) (space : List Name) (d : MemberV) (m : UnionMember)
+    : Type 0 where
+  pub name : m.name.items ≡ dotted (words_of d.path)
+  pub docs : names_of m.docs.items ≡ d.docs
+  pub table : base_named hs space (target_of d) ≡ Some (base.Table m.table)
+
+abbrev pub tag_in : UnionMember → ℕ
+tag_in m = m.tag
+
+abbrev pub is_tag : ℕ → Bool
+is_tag n = nat_le 1 n && nat_le n 255
+
+-- tags from 1 to 255, no two alike, and no two names alike, nor one like `NONE`
+pub record IsUnion (u : Union) : Type 0 where
+  pub tags : list_all is_tag (map tag_in u.members.items) ≡ true
+  pub distinct : IsDistinct nat_eq (map tag_in u.members.items)
+  pub names : AreDistinct (codes "NONE" ∷ map (λ m. m.name.items) u.members.items)
+
+pub record SaysUnion (hs : List HeadV) (space : List Name) (d : UnionV) (u : Union) : Type 0 where
+  pub members : Each2 (SaysMember hs space) d.members u.members.items
+  pub tags : map tag_in u.members.items ≡ tags_from 0 d.members

@@ -1,0 +1,30 @@
+//! Attributes in parentheses.
+
+ghost use Rattle.std.specs.Prelude.{◌≡◌, map};
+ghost use Rattle.std.specs.Option.{option_map};
+ghost use Rattle.planus_syntax.specs.Values.{attribute_of};
+ghost use Rattle.planus_schema.specs.Names.{setting as setting_lem, has as has_lem};
+
+use planus_syntax::Attribute;
+
+/// Returns the first attribute of this name.
+pub(crate) fn setting<'a>(attributes: &'a [Attribute], word: &[u8]) -> Option<&'a Attribute>
+    ensures { option_map (λ a. attribute_of a.now) result
+        ≡ setting_lem word.now (map attribute_of attributes.now) }
+{
+    let mut rest = attributes;
+    'attributes: while let Some((first, after)) = rest.split_first() {
+        if first.label.name.as_slice() == word {
+            return Some(first);
+        }
+        rest = after;
+    }
+    None
+}
+
+/// Returns whether there is an attribute of this name.
+pub(crate) fn has(attributes: &[Attribute], word: &[u8]) -> bool
+    ensures { result ≡ has_lem word.now (map attribute_of attributes.now) }
+{
+    setting(attributes, word).is_some()
+}

@@ -1,0 +1,402 @@
+//! Defaults.
+
+ghost use Rattle.std.specs.Prelude.{◌≡◌, [], true, map, IfOk, IfSome, Some, None};
+ghost use Rattle.std.specs.Option.{option_map};
+ghost use Rattle.std.specs.List.{list_any};
+ghost use Rattle.planus_syntax.specs.Values.{path_of, literal_of, variant_of, enumeration_of};
+ghost use Rattle.planus_syntax.specs.Values.{named, numeral};
+ghost use Rattle.planus_schema.specs.Names.{head_of, item_at};
+ghost use Rattle.planus_schema.specs.Numbers.{zero_number};
+ghost use Rattle.planus_schema.specs.Enums.{same_number as same_number_lem, numbers_from};
+ghost use Rattle.planus_schema.specs.Defaults.{value_of, float, integer, is_word as is_word_lem};
+ghost use Rattle.planus_schema.specs.Defaults.{whole_number as whole_number_lem};
+ghost use Rattle.planus_schema.specs.Defaults.{named_bool as named_bool_lem, default_said};
+ghost use Rattle.planus_schema.specs.Defaults.{named_float as named_float_lem};
+ghost use Rattle.planus_schema.specs.Defaults.{float_number as float_number_lem};
+ghost use Rattle.planus_schema.specs.Defaults.{scalar_default as scalar_default_lem};
+ghost use Rattle.planus_schema.specs.Defaults.{value_named as value_named_lem};
+ghost use Rattle.planus_schema.specs.Defaults.{value_name as value_name_lem};
+ghost use Rattle.planus_schema.specs.Defaults.{is_among_values as is_among_values_lem};
+ghost use Rattle.planus_schema.specs.Defaults.{enum_named as enum_named_lem};
+ghost use Rattle.planus_schema.specs.Defaults.{enum_default as enum_default_lem};
+ghost use Rattle.planus_schema.specs.Defaults.{enum_at as enum_at_lem};
+ghost use Rattle.planus_schema.specs.Defaults.{base_default as base_default_lem};
+ghost use Rattle.planus_schema.specs.Defaults.{zero_default as zero_default_lem};
+ghost use Rattle.planus_schema.specs.Defaults.{cut_words as cut_words_lem};
+ghost use Rattle.planus_schema.specs.Defaults.{flags_named as flags_named_lem};
+ghost use Rattle.planus_schema.specs.Defaults.{flags_default as flags_default_lem};
+ghost use Rattle.planus_syntax.specs.Values.{names_of};
+
+use crate::attributes::has;
+use crate::enums::{number_of, same_number, value_of as settled};
+use crate::fault::{Problem, Stop, wrong};
+use crate::head::Head;
+use crate::kind::item_of_head;
+use crate::number::{Number, integer, is_hexadecimal, without_sign};
+use crate::scalar::{Scalar, scalar_named};
+use crate::schema::{Base, FieldType, Value};
+use planus_syntax::{Enumeration, Item, Literal, Path, Variant};
+use std::alloc::{AllocError, Global};
+
+/// Returns whether a name is this word.
+fn is_word(path: &Path, word: &[u8]) -> bool
+    ensures { result ≡ is_word_lem word.now (path_of path.now) }
+{
+    path.more.is_empty() && path.first.as_slice() == word
+}
+
+fn whole_number(scalar: Scalar, digits: &[u8]) -> Option<Value>
+    ensures { IfSome result (λ v. Some (value_of v) ≡ whole_number_lem scalar digits.now) }
+{
+    match integer(digits) {
+        Some(number) if scalar.fits(number) => Some(Value::Integer(number)),
+        _ => None,
+    }
+}
+
+fn named_bool(path: &Path) -> Option<Value>
+    ensures { IfSome result (λ v. Some (value_of v) ≡ named_bool_lem (path_of path.now)) }
+{
+    let magnitude = if is_word(path, b"true") {
+        1
+    } else if is_word(path, b"false") {
+        0
+    } else {
+        return None;
+    };
+    Some(Value::Integer(Number {
+        negative: false,
+        magnitude,
+    }))
+}
+
+fn float_of(alloc: Global, word: &[u8]) -> Result<Option<Value>, AllocError>
+    ensures { IfOk result (λ o. option_map value_of o ≡ Some (float word.now)) }
+{
+    Ok(Some(Value::Float(Vec::from_slice(alloc, word)?)))
+}
+
+fn float_number(alloc: Global, digits: &[u8]) -> Result<Option<Value>, AllocError>
+    ensures { IfOk result (λ o. option_map value_of o ≡ float_number_lem digits.now) }
+{
+    if is_hexadecimal(without_sign(digits)) {
+        Ok(None)
+    } else {
+        float_of(alloc, digits)
+    }
+}
+
+fn named_float(alloc: Global, path: &Path) -> Result<Option<Value>, AllocError>
+    ensures { IfOk result (λ o. option_map value_of o ≡ named_float_lem (path_of path.now)) }
+{
+    if is_word(path, b"nan") || is_word(path, b"inf") {
+        float_of(alloc, &path.first)
+    } else {
+        Ok(None)
+    }
+}
+
+fn named_scalar(alloc: Global, scalar: Scalar, path: &Path) -> Result<Option<Value>, AllocError>
+    ensures { IfOk result (λ o. IfSome o (λ v. Some (value_of v)
+        ≡ scalar_default_lem scalar (named (path_of path.now)))) }
+{
+    if is_word(path, b"null") {
+        Ok(Some(Value::Absent))
+    } else if scalar.is_float() {
+        named_float(alloc, path)
+    } else if scalar.is_bool() {
+        Ok(named_bool(path))
+    } else {
+        Ok(None)
+    }
+}
+
+fn scalar_default(
+    alloc: Global,
+    scalar: Scalar,
+    literal: &Literal,
+) -> Result<Option<Value>, AllocError>
+    ensures { IfOk result (λ o. IfSome o (λ v. Some (value_of v)
+        ≡ scalar_default_lem scalar (literal_of literal.now))) }
+{
+    match literal {
+        Literal::Number(digits) if scalar.is_float() => float_number(alloc, digits),
+        Literal::Number(digits) => Ok(whole_number(scalar, digits)),
+        Literal::Name(path) => named_scalar(alloc, scalar, path),
+        _ => Ok(None),
+    }
+}
+
+/// Returns the value of this name.
+fn value_named(variants: &[Variant], name: &[u8], flags: bool) -> Option<Number>
+    ensures { IfSome result (λ n. value_named_lem name.now flags None
+        (map variant_of variants.now) ≡ Some n) }
+{
+    let mut previous = None;
+    let mut rest = variants;
+    'variants: while let Some((variant, after)) = rest.split_first() {
+        let number = match number_of(previous, variant) {
+            Some(number) => number,
+            None => return None,
+        };
+        if variant.name.as_slice() == name {
+            return settled(flags, number);
+        }
+        previous = Some(number);
+        rest = after;
+    }
+    None
+}
+
+/// Returns whether a value is this number.
+fn has_value(variants: &[Variant], number: Number) -> bool
+    ensures { result ≡ true → list_any (λ v. same_number_lem v number)
+        (numbers_from None (map variant_of variants.now)) ≡ true }
+{
+    let mut previous = None;
+    let mut rest = variants;
+    'variants: while let Some((variant, after)) = rest.split_first() {
+        let value = match number_of(previous, variant) {
+            Some(value) => value,
+            None => return false,
+        };
+        if same_number(value, number) {
+            return true;
+        }
+        previous = Some(value);
+        rest = after;
+    }
+    false
+}
+
+fn is_among_values(declared: &Enumeration, number: Number) -> bool
+    ensures { result ≡ true → is_among_values_lem (enumeration_of declared.now) number ≡ true }
+{
+    if has(&declared.attributes, b"bit_flags") {
+        match scalar_named(&declared.base.first) {
+            Some(scalar) => scalar.fits(number),
+            None => false,
+        }
+    } else {
+        has_value(&declared.variants, number)
+    }
+}
+
+fn enum_number(declared: &Enumeration, digits: &[u8]) -> Option<Value>
+    ensures { IfSome result (λ v. Some (value_of v)
+        ≡ enum_default_lem (enumeration_of declared.now) (numeral digits.now)) }
+{
+    match integer(digits) {
+        Some(number) if is_among_values(declared, number) => Some(Value::Integer(number)),
+        _ => None,
+    }
+}
+
+/// Returns the name of a value: the word alone, or the word after the name of the enum.
+fn value_name<'a>(declared: &Enumeration, path: &'a Path) -> Option<&'a [u8]>
+    ensures { option_map (λ w. w.now) result
+        ≡ value_name_lem (enumeration_of declared.now) (path_of path.now) }
+{
+    match path.more.as_slice() {
+        [] => Some(&path.first),
+        [name] if path.first.as_slice() == declared.name.as_slice() => Some(name),
+        _ => None,
+    }
+}
+
+fn enum_named(declared: &Enumeration, path: &Path) -> Option<Value>
+    ensures { IfSome result (λ v. Some (value_of v)
+        ≡ enum_named_lem (enumeration_of declared.now) (path_of path.now)) }
+{
+    let flags = has(&declared.attributes, b"bit_flags");
+    match value_name(declared, path) {
+        Some(name) => match value_named(&declared.variants, name, flags) {
+            Some(number) => Some(Value::Integer(number)),
+            None => None,
+        },
+        None => None,
+    }
+}
+
+/// Returns the words of a text with a space between them.
+fn cut_words(alloc: Global, text: &[u8]) -> Result<Vec<Vec<u8>>, AllocError>
+    ensures { IfOk result (λ v. names_of v.items ≡ cut_words_lem [] text.now) }
+{
+    let mut words = Vec::new(alloc);
+    let mut word = Vec::new(alloc);
+    'bytes: for b in text {
+        if *b == b' ' {
+            words.push(word)?;
+            word = Vec::new(alloc);
+        } else {
+            word.push(*b)?;
+        }
+    }
+    words.push(word)?;
+    Ok(words)
+}
+
+/// Returns the values of these names together.
+fn flags_named(declared: &Enumeration, words: &[Vec<u8>]) -> Option<u64>
+    ensures { IfSome result (λ n. flags_named_lem (enumeration_of declared.now)
+        (names_of words.now) ≡ Some n) }
+{
+    let mut total = 0;
+    'words: for word in words {
+        match value_named(&declared.variants, word, true) {
+            Some(number) => total |= number.magnitude,
+            None => return None,
+        }
+    }
+    Some(total)
+}
+
+/// Returns several values of an enum with `bit_flags`.
+fn flags_default(
+    alloc: Global,
+    declared: &Enumeration,
+    text: &[u8],
+) -> Result<Option<Value>, AllocError>
+    ensures { IfOk result (λ o. IfSome o (λ v. Some (value_of v)
+        ≡ flags_default_lem (enumeration_of declared.now) text.now)) }
+{
+    if !has(&declared.attributes, b"bit_flags") {
+        return Ok(None);
+    }
+    let words = cut_words(alloc, text)?;
+    match flags_named(declared, &words) {
+        Some(magnitude) => Ok(Some(Value::Integer(Number {
+            negative: false,
+            magnitude,
+        }))),
+        None => Ok(None),
+    }
+}
+
+fn enum_default(
+    alloc: Global,
+    declared: &Enumeration,
+    literal: &Literal,
+) -> Result<Option<Value>, AllocError>
+    ensures { IfOk result (λ o. IfSome o (λ v. Some (value_of v)
+        ≡ enum_default_lem (enumeration_of declared.now) (literal_of literal.now))) }
+{
+    match literal {
+        Literal::Number(digits) => Ok(enum_number(declared, digits)),
+        Literal::Name(path) if is_word(path, b"null") => Ok(Some(Value::Absent)),
+        Literal::Name(path) => Ok(enum_named(declared, path)),
+        Literal::Text(text) => flags_default(alloc, declared, text),
+        Literal::EmptyVector => Ok(None),
+    }
+}
+
+/// Returns the enum of this index.
+fn enum_at<'b>(heads: &'b [Head], index: usize) -> Option<&'b Enumeration>
+    ensures { option_map (λ e. enumeration_of e.now) result
+        ≡ enum_at_lem (item_at (map head_of heads.now) index) }
+{
+    match item_of_head(heads, index) {
+        Some(Item::Enum(declared)) => Some(declared),
+        _ => None,
+    }
+}
+
+fn base_default(
+    alloc: Global,
+    heads: &[Head],
+    base: Base,
+    literal: &Literal,
+) -> Result<Option<Value>, AllocError>
+    ensures { IfOk result (λ o. IfSome o (λ v. Some (value_of v)
+        ≡ base_default_lem (map head_of heads.now) base (literal_of literal.now))) }
+{
+    match (base, literal) {
+        (Base::Scalar(scalar), _) => scalar_default(alloc, scalar, literal),
+        (Base::Text, Literal::Text(bytes)) => Ok(Some(Value::Text(Vec::from_slice(alloc, bytes)?))),
+        (Base::Enum(index), _) => match enum_at(heads, index) {
+            Some(declared) => enum_default(alloc, declared, literal),
+            None => Ok(None),
+        },
+        _ => Ok(None),
+    }
+}
+
+/// Returns the default that a literal says.
+fn literal_default(
+    alloc: Global,
+    heads: &[Head],
+    kind: FieldType,
+    literal: &Literal,
+) -> Result<Option<Value>, AllocError>
+    ensures { IfOk result (λ o. IfSome o (λ v. default_said (map head_of heads.now) kind
+        (Some (literal_of literal.now)) ≡ Some (Some (value_of v)))) }
+{
+    if kind.vector {
+        match literal {
+            Literal::EmptyVector => Ok(Some(Value::EmptyVector)),
+            _ => Ok(None),
+        }
+    } else {
+        base_default(alloc, heads, kind.base, literal)
+    }
+}
+
+fn enum_zero(heads: &[Head], index: usize) -> bool
+    ensures { result ≡ true → zero_default_lem (map head_of heads.now) (Base.Enum index)
+        ≡ Some (Some (integer zero_number)) }
+{
+    match enum_at(heads, index) {
+        Some(declared) => is_among_values(
+            declared,
+            Number {
+                negative: false,
+                magnitude: 0,
+            },
+        ),
+        None => false,
+    }
+}
+
+/// Returns the default of a field that has no literal.
+fn zero_default(
+    alloc: Global,
+    heads: &[Head],
+    base: Base,
+    left: usize,
+) -> Result<Option<Value>, Stop>
+    ensures { IfOk result (λ o. zero_default_lem (map head_of heads.now) base
+        ≡ Some (option_map value_of o)) }
+{
+    match base {
+        Base::Scalar(scalar) if scalar.is_float() => {
+            Ok(Some(Value::Float(Vec::from_slice(alloc, b"0")?)))
+        }
+        Base::Enum(index) if !enum_zero(heads, index) => Err(wrong(Problem::UnknownValue, left)),
+        Base::Scalar(_) | Base::Enum(_) => Ok(Some(Value::Integer(Number {
+            negative: false,
+            magnitude: 0,
+        }))),
+        _ => Ok(None),
+    }
+}
+
+/// Returns the default of a field.
+pub(crate) fn default_of(
+    alloc: Global,
+    heads: &[Head],
+    kind: FieldType,
+    literal: &Option<Literal>,
+    left: usize,
+) -> Result<Option<Value>, Stop>
+    ensures { IfOk result (λ o. default_said (map head_of heads.now) kind
+        (option_map literal_of literal.now) ≡ Some (option_map value_of o)) }
+{
+    match literal {
+        Some(literal) => match literal_default(alloc, heads, kind, literal)? {
+            Some(value) => Ok(Some(value)),
+            None => Err(wrong(Problem::WrongDefault, left)),
+        },
+        None if kind.vector => Ok(None),
+        None => zero_default(alloc, heads, kind.base, left),
+    }
+}

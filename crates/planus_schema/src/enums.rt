@@ -1,0 +1,177 @@
+//! Enums.
+
+ghost use Rattle.std.specs.Prelude.{◌≡◌, ◌^◌, ◌<◌, true, false, map, IfOk, IfSome, [], Some};
+ghost use Rattle.std.specs.List.{list_any, IsDistinct, list_all};
+ghost use Rattle.planus_syntax.specs.Values.{names_of, path_of, variant_of, enumeration_of};
+ghost use Rattle.planus_schema.specs.Numbers.{scalar_named as scalar_named_lem, fits};
+ghost use Rattle.planus_schema.specs.Enums.{number_of as number_of_lem, numbers_from, settled};
+ghost use Rattle.planus_schema.specs.Enums.{same_number as same_number_lem, number_of_value};
+ghost use Rattle.planus_schema.specs.Enums.{enum_numbers, SaysEnum, IsEnum};
+ghost use Rattle.planus_schema.specs.Enums.{is_integer_type as is_integer_type_lem};
+ghost use Rattle.planus_schema.specs.Enums.{is_spelled, next_number as next_number_lem};
+ghost use Rattle.planus_schema.specs.Enums.{IsValueAdded, AreValues};
+ghost use Rattle.planus_schema.specs.Distinct.{AreDistinct};
+
+use crate::attributes::has;
+use crate::fault::{Problem, Stop, wrong};
+use crate::names::{copied, take_name};
+use crate::number::{Number, following, integer};
+use crate::scalar::{Scalar, scalar_named};
+use crate::schema::{Enum, EnumValue};
+use planus_syntax::{Enumeration, Path, Variant};
+use std::alloc::Global;
+
+fn is_integer_type(scalar: Scalar) -> bool
+    ensures { result ≡ is_integer_type_lem scalar }
+{
+    !scalar.is_float() && !scalar.is_bool()
+}
+
+/// Returns the integer type of an enum.
+fn integer_type(path: &Path) -> Result<Scalar, Stop>
+    ensures single { IfOk result (λ _. (path_of path.now).more ≡ []) }
+    ensures named { IfOk result (λ s. scalar_named_lem (path_of path.now).first ≡ Some s) }
+    ensures integer { IfOk result (λ s. is_integer_type_lem s ≡ true) }
+{
+    match scalar_named(&path.first) {
+        Some(scalar) if path.more.is_empty() && is_integer_type(scalar) => Ok(scalar),
+        _ => Err(wrong(Problem::NoIntegerType, path.left)),
+    }
+}
+
+fn next_number(previous: Option<Number>) -> Option<Number>
+    ensures { IfSome result (λ n. n ≡ next_number_lem previous) }
+{
+    match previous {
+        Some(number) => following(number),
+        None => Some(Number {
+            negative: false,
+            magnitude: 0,
+        }),
+    }
+}
+
+/// Returns the number of a variant: the one that is given, or one more than that before it.
+pub(crate) fn number_of(previous: Option<Number>, variant: &Variant) -> Option<Number>
+    ensures number { IfSome result (λ n. n
+        ≡ number_of_lem previous (variant_of variant.now).value) }
+    ensures spelled { IfSome result (λ _. is_spelled (variant_of variant.now) ≡ true) }
+{
+    match &variant.value {
+        Some(digits) => integer(digits),
+        None => next_number(previous),
+    }
+}
+
+fn power_of_two(n: u64) -> u64
+    requires { n < 64 }
+    ensures { result ≡ 2 ^ n }
+{
+    1 << n
+}
+
+/// Returns the value of a number: with `flags`, the bit that it says.
+pub(crate) fn value_of(flags: bool, number: Number) -> Option<Number>
+    ensures { IfSome result (λ n. n ≡ settled flags number) }
+{
+    if !flags {
+        Some(number)
+    } else if !number.negative && number.magnitude < 64 {
+        Some(Number {
+            negative: false,
+            magnitude: power_of_two(number.magnitude),
+        })
+    } else {
+        None
+    }
+}
+
+pub(crate) fn same_number(a: Number, b: Number) -> bool
+    ensures { result ≡ same_number_lem a b }
+{
+    (if a.negative { b.negative } else { !b.negative }) && a.magnitude == b.magnitude
+}
+
+fn has_number(values: &[EnumValue], number: Number) -> bool
+    ensures { result ≡ list_any (λ v. same_number_lem v.number number) values.now }
+{
+    values.iter().any(|value| same_number(value.number, number))
+}
+
+/// Adds a value that fits and is new.
+fn add_value(
+    alloc: Global,
+    scalar: Scalar,
+    values: &mut Vec<EnumValue>,
+    variant: &Variant,
+    number: Number,
+) -> Result<(), Stop>
+    ensures { IfOk result (λ _. IsValueAdded scalar (variant_of variant.now) number
+        values.old.items values.new.items) }
+{
+    if !scalar.fits(number) {
+        return Err(wrong(Problem::ValueOutOfRange, variant.left));
+    }
+    if has_number(values, number) {
+        return Err(wrong(Problem::ValueTaken, variant.left));
+    }
+    let name = Vec::from_slice(alloc, &variant.name)?;
+    let docs = copied(alloc, &variant.docs)?;
+    values.push(EnumValue { name, docs, number })?;
+    Ok(())
+}
+
+/// Checks that no two variants have one name.
+fn check_names(alloc: Global, variants: &[Variant]) -> Result<(), Stop>
+    ensures { IfOk result (λ _. AreDistinct (map (λ v. v.name) (map variant_of variants.now))) }
+{
+    let mut names = Vec::new(alloc);
+    'variants: for variant in variants {
+        if !take_name(alloc, &mut names, &variant.name)? {
+            return Err(wrong(Problem::ValueNameTaken, variant.left));
+        }
+    }
+    Ok(())
+}
+
+fn enum_values(
+    alloc: Global,
+    scalar: Scalar,
+    flags: bool,
+    variants: &[Variant],
+) -> Result<Vec<EnumValue>, Stop>
+    ensures { IfOk result (λ values. AreValues scalar flags (map variant_of variants.now)
+        values.items) }
+{
+    let mut values = Vec::new(alloc);
+    let mut previous = None;
+    'variants: for variant in variants {
+        let number = match number_of(previous, variant) {
+            Some(number) => number,
+            None => return Err(wrong(Problem::ValueOutOfRange, variant.left)),
+        };
+        let value = match value_of(flags, number) {
+            Some(value) => value,
+            None => return Err(wrong(Problem::ValueOutOfRange, variant.left)),
+        };
+        add_value(alloc, scalar, &mut values, variant, value)?;
+        previous = Some(number);
+    }
+    Ok(values)
+}
+
+/// Returns what an enum says.
+pub(crate) fn enum_of(alloc: Global, declared: &Enumeration) -> Result<Enum, Stop>
+    ensures says { IfOk result (λ e. SaysEnum (enumeration_of declared.now) e) }
+    ensures sound { IfOk result (λ e. IsEnum e) }
+{
+    let flags = has(&declared.attributes, b"bit_flags");
+    let scalar = integer_type(&declared.base)?;
+    check_names(alloc, &declared.variants)?;
+    let values = enum_values(alloc, scalar, flags, &declared.variants)?;
+    Ok(Enum {
+        scalar,
+        flags,
+        values,
+    })
+}

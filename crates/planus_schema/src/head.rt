@@ -1,0 +1,171 @@
+//! What is declared, with its full name.
+
+ghost use Rattle.std.specs.Prelude.{◌≡◌, ◌++◌, ◌∷◌, [], map, fold, take, length, IfOk, OnOk, ◌≤◌};
+ghost use Rattle.std.specs.Option.{option_map};
+ghost use Rattle.planus_syntax.specs.Values.{names_of, path_of, item_of, declaration_of, schema_of};
+ghost use Rattle.planus_schema.specs.Names.{with_word, words_of, space_of, path_in, heads_at};
+ghost use Rattle.planus_schema.specs.Names.{heads_in};
+ghost use Rattle.planus_schema.specs.Names.{own_name as own_name_lem, head_of, heads_of, dotted};
+ghost use Rattle.planus_schema.specs.Names.{space_after as space_after_lem};
+
+use planus_syntax::{Declaration, Item, Path};
+use std::alloc::{AllocError, Global};
+
+/// A declaration of a type. `file` is the index of its file, `space` its namespace, and `name` its
+/// full name with dots.
+#[derive(Drop)]
+pub(crate) struct Head<'a> {
+    pub(crate) file: usize,
+    pub(crate) space: Option<&'a Path>,
+    pub(crate) name: Vec<u8>,
+    pub(crate) declaration: &'a Declaration,
+}
+
+/// Appends a word, after a dot where something stands before it.
+pub(crate) fn put_word(out: &mut Vec<u8>, word: &[u8]) -> Result<(), AllocError>
+    ensures { OnOk result (out.new.items ≡ with_word out.old.items word.now) }
+{
+    if !out.is_empty() {
+        out.push(b'.')?;
+    }
+    out.extend_from_slice(word)?;
+    Ok(())
+}
+
+pub(crate) fn put_words(out: &mut Vec<u8>, words: &[Vec<u8>]) -> Result<(), AllocError>
+    ensures { OnOk result (out.new.items ≡ fold with_word out.old.items (names_of words.now)) }
+{
+    'words: for word in words {
+        put_word(out, word)?;
+    }
+    Ok(())
+}
+
+pub(crate) fn put_path(out: &mut Vec<u8>, path: &Path) -> Result<(), AllocError>
+    ensures { OnOk result (out.new.items
+        ≡ fold with_word out.old.items (words_of (path_of path.now))) }
+{
+    put_word(out, &path.first)?;
+    put_words(out, &path.more)
+}
+
+/// Returns how many words a namespace has.
+pub(crate) fn depth(space: Option<&Path>) -> usize
+    ensures { result ≡ length (space_of space.entry) }
+{
+    match space {
+        Some(path) => path.more.len() + 1,
+        None => 0,
+    }
+}
+
+/// Appends the first words of a namespace, `count` of them.
+pub(crate) fn put_space(
+    out: &mut Vec<u8>,
+    space: Option<&Path>,
+    count: usize,
+) -> Result<(), AllocError>
+    requires { count ≤ length (space_of space) }
+    ensures { OnOk result (out.new.items ≡ fold with_word out.old.items
+        (take count (space_of space.entry))) }
+{
+    match space {
+        Some(path) if count > 0 => {
+            put_word(out, &path.first)?;
+            put_words(out, &path.more[..count - 1])?;
+            Ok(())
+        }
+        _ => Ok(()),
+    }
+}
+
+fn own_name(item: &Item) -> Option<&[u8]>
+    ensures { option_map (λ w. w.now) result ≡ own_name_lem (item_of item.now) }
+{
+    match item {
+        Item::Table(record) | Item::Struct(record) => Some(&record.name),
+        Item::Enum(body) => Some(&body.name),
+        Item::Union(body) => Some(&body.name),
+        _ => None,
+    }
+}
+
+/// Returns the full name of what has this name in this namespace.
+fn full_name(alloc: Global, space: Option<&Path>, word: &[u8]) -> Result<Vec<u8>, AllocError>
+    ensures { IfOk result (λ v. v.items
+        ≡ dotted (space_of space.entry ++ word.now ∷ [])) }
+{
+    let mut name = Vec::new(alloc);
+    put_space(&mut name, space, depth(space))?;
+    put_word(&mut name, word)?;
+    Ok(name)
+}
+
+fn add_head<'a>(
+    alloc: Global,
+    heads: &mut Vec<Head<'a>>,
+    file: usize,
+    space: Option<&'a Path>,
+    declaration: &'a Declaration,
+) -> Result<(), AllocError>
+    ensures { OnOk result (map head_of heads.new.items ≡ map head_of heads.old.items
+        ++ heads_at file (path_in space.entry)
+        (declaration_of declaration.now)) }
+{
+    if let Some(word) = own_name(&declaration.item) {
+        let name = full_name(alloc, space, word)?;
+        heads.push(Head {
+            file,
+            space,
+            name,
+            declaration,
+        })?;
+    }
+    Ok(())
+}
+
+/// Returns the namespace after a declaration.
+pub(crate) fn space_after<'a>(
+    space: Option<&'a Path>,
+    declaration: &'a Declaration,
+) -> Option<&'a Path>
+    ensures { path_in result
+        ≡ space_after_lem (path_in space.entry) (item_of declaration.now.item) }
+{
+    match &declaration.item {
+        Item::Namespace(Some(path)) => Some(path),
+        Item::Namespace(None) => None,
+        _ => space,
+    }
+}
+
+fn add_heads<'a>(
+    alloc: Global,
+    heads: &mut Vec<Head<'a>>,
+    file: usize,
+    declarations: &'a [Declaration],
+) -> Result<(), AllocError>
+    ensures { OnOk result (map head_of heads.new.items ≡ map head_of heads.old.items
+        ++ heads_in file None (schema_of declarations.now)) }
+{
+    let mut space = None;
+    'declarations: for declaration in declarations {
+        add_head(alloc, heads, file, space, declaration)?;
+        space = space_after(space, declaration);
+    }
+    Ok(())
+}
+
+/// Returns what the files declare, in order.
+pub(crate) fn heads(alloc: Global, files: &[Vec<Declaration>]) -> Result<Vec<Head<'_>>, AllocError>
+    ensures { IfOk result (λ v. map head_of v.items
+        ≡ heads_of (map (λ f. schema_of f.items) files.now)) }
+{
+    let mut heads = Vec::new(alloc);
+    let mut file = 0;
+    'files: for declarations in files {
+        add_heads(alloc, &mut heads, file, declarations)?;
+        file += 1;
+    }
+    Ok(heads)
+}

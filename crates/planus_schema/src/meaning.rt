@@ -1,0 +1,221 @@
+//! Files to the schema that they mean.
+
+ghost use Rattle.std.specs.Prelude.{◌≡◌, [], ◌≤◌, map, length, position, IfOk, IfErr, OnOk};
+ghost use Rattle.std.specs.Str.{bytes_eq};
+ghost use Rattle.planus_syntax.specs.Values.{item_of, names_of, schema_of};
+ghost use Rattle.planus_schema.specs.Names.{head_of, space_of};
+ghost use Rattle.planus_schema.specs.Distinct.{AreDistinct, IsAdded};
+ghost use Rattle.planus_schema.specs.Structs.{body_in};
+ghost use Rattle.planus_schema.specs.Schemas.{IsBody, SaysBody, IsDeclared, AreDeclared, Means};
+ghost use Rattle.planus_schema.specs.Schemas.{IsRefusal, IsAppended};
+ghost use Rattle.planus_schema.specs.Sound.{IsSound};
+
+use crate::enums::enum_of;
+use crate::fault::{Fault, Problem, Refusal, Stop, note, wrong};
+use crate::head::{Head, heads};
+use crate::names::{copied, take_name};
+use crate::scalar::Scalar;
+use crate::schema::{Body, Declared, Enum, Schema, Struct, Table, Union};
+use crate::statements::statements;
+use crate::structs::struct_of;
+use crate::tables::table_of;
+use crate::unions::union_of;
+use planus_syntax::{Declaration, Item};
+use std::alloc::{AllocError, Global};
+
+/// Returns the index of the file of this name among those that were read.
+///
+/// A file that has one is not read again, so that each is read once, however files include each
+/// other.
+pub fn file_index(files: &[Vec<u8>], name: &[u8]) -> Option<usize>
+    ensures { result ≡ position (λ file. bytes_eq file.items name.now) files.now }
+{
+    files.iter().position(|file| file.as_slice() == name)
+}
+
+/// Returns what a declaration says.
+fn body_of(alloc: Global, heads: &[Head], declared: &[Declared], head: &Head) -> Result<Body, Stop>
+    ensures says { IfOk result (λ b. SaysBody (map head_of heads.now) (space_of head.now.space)
+        (map body_in declared.now) (item_of head.now.declaration.now.item) b) }
+    ensures sound { IfOk result (λ b. IsBody b) }
+{
+    let left = head.declaration.left;
+    let space = head.space;
+    match &head.declaration.item {
+        Item::Table(record) => Ok(Body::Table(table_of(alloc, heads, space, record, left)?)),
+        Item::Struct(record) => Ok(Body::Struct(struct_of(
+            alloc, heads, declared, space, record, left,
+        )?)),
+        Item::Enum(body) => Ok(Body::Enum(enum_of(alloc, body)?)),
+        Item::Union(body) => Ok(Body::Union(union_of(alloc, heads, space, body)?)),
+        _ => Err(wrong(Problem::UnknownType, left)),
+    }
+}
+
+/// Returns what stands for a declaration that has a fault, so that the others can be checked.
+fn stand_in(alloc: Global, item: &Item) -> Body {
+    match item {
+        Item::Struct(_) => Body::Struct(Struct {
+            fields: Vec::new(alloc),
+            size: 1,
+            alignment: 1,
+        }),
+        Item::Enum(_) => Body::Enum(Enum {
+            scalar: Scalar::Byte,
+            flags: false,
+            values: Vec::new(alloc),
+        }),
+        Item::Union(_) => Body::Union(Union {
+            members: Vec::new(alloc),
+        }),
+        _ => Body::Table(Table {
+            fields: Vec::new(alloc),
+        }),
+    }
+}
+
+fn add_body(
+    alloc: Global,
+    declared: &mut Vec<Declared>,
+    head: &Head,
+    body: Body,
+) -> Result<(), AllocError>
+    ensures { OnOk result (IsAppended (head_of head.now) body declared.old.items
+        declared.new.items) }
+{
+    let name = Vec::from_slice(alloc, &head.name)?;
+    let docs = copied(alloc, &head.declaration.docs)?;
+    declared.push(Declared {
+        name,
+        docs,
+        file: head.file,
+        body,
+    })?;
+    Ok(())
+}
+
+/// Adds what a declaration says, or what is wrong with it.
+fn add_declared(
+    alloc: Global,
+    heads: &[Head],
+    declared: &mut Vec<Declared>,
+    head: &Head,
+    faults: &mut Vec<Fault>,
+) -> Result<(), AllocError>
+    ensures says { OnOk result (faults.new.items ≡ [] → IsDeclared (map head_of heads.now)
+        (head_of head.now) declared.old.items declared.new.items) }
+    ensures kept { OnOk result (faults.new.items ≡ [] → faults.old.items ≡ []) }
+    ensures most { OnOk result (length faults.old.items ≤ 20 → length faults.new.items ≤ 20) }
+{
+    match body_of(alloc, heads, declared, head) {
+        Ok(body) => {
+            add_body(alloc, declared, head, body)?;
+            Ok(())
+        }
+        Err(stop) => {
+            note(faults, head.file, stop)?;
+            let body = stand_in(alloc, &head.declaration.item);
+            add_body(alloc, declared, head, body)
+        }
+    }
+}
+
+/// Returns what the declarations say, and adds what is wrong with them.
+fn declarations(
+    alloc: Global,
+    heads: &[Head],
+    faults: &mut Vec<Fault>,
+) -> Result<Vec<Declared>, AllocError>
+    ensures says { IfOk result (λ v. faults.new.items ≡ [] → AreDeclared (map head_of heads.now)
+        (map head_of heads.now) v.items) }
+    ensures kept { OnOk result (faults.new.items ≡ [] → faults.old.items ≡ []) }
+    ensures most { OnOk result (length faults.old.items ≤ 20 → length faults.new.items ≤ 20) }
+{
+    let mut declared = Vec::new(alloc);
+    'heads: for head in heads {
+        add_declared(alloc, heads, &mut declared, head, faults)?;
+    }
+    Ok(declared)
+}
+
+/// Adds the name of a declaration, or the fault that another has it.
+fn check_name(
+    alloc: Global,
+    names: &mut Vec<Vec<u8>>,
+    head: &Head,
+    faults: &mut Vec<Fault>,
+) -> Result<(), AllocError>
+    ensures added { OnOk result (faults.new.items ≡ [] → IsAdded (names_of names.old.items)
+        (head_of head.now).name (names_of names.new.items)) }
+    ensures kept { OnOk result (faults.new.items ≡ [] → faults.old.items ≡ []) }
+    ensures most { OnOk result (length faults.old.items ≤ 20 → length faults.new.items ≤ 20) }
+{
+    if take_name(alloc, names, &head.name)? {
+        Ok(())
+    } else {
+        note(
+            faults,
+            head.file,
+            wrong(Problem::NameTaken, head.declaration.left),
+        )
+    }
+}
+
+/// Adds the faults of names that are declared twice.
+fn check_names(alloc: Global, heads: &[Head], faults: &mut Vec<Fault>) -> Result<(), AllocError>
+    ensures distinct { OnOk result (faults.new.items ≡ [] → AreDistinct (map (λ h. h.name)
+        (map head_of heads.now))) }
+    ensures kept { OnOk result (faults.new.items ≡ [] → faults.old.items ≡ []) }
+    ensures most { OnOk result (length faults.old.items ≤ 20 → length faults.new.items ≤ 20) }
+{
+    let mut names = Vec::new(alloc);
+    'heads: for head in heads {
+        check_name(alloc, &mut names, head, faults)?;
+    }
+    Ok(())
+}
+
+/// Puts faults in the order of their places.
+fn put_in_order(faults: &mut Vec<Fault>) -> Result<(), AllocError>
+    ensures { OnOk result (length faults.new.items ≡ length faults.old.items) }
+{
+    faults.sort_by_key(|fault| (fault.file, usize::MAX - fault.left))?;
+    Ok(())
+}
+
+/// Returns what files mean, or what is wrong with them.
+fn settle(alloc: Global, files: &[Vec<Declaration>]) -> Result<Schema, Refusal>
+    ensures means { IfOk result (λ s. Means (map (λ f. schema_of f.items) files.now) s) }
+    ensures faults { IfErr result (λ e. IsRefusal e) }
+{
+    let heads = heads(alloc, files)?;
+    let mut faults = Vec::new(alloc);
+    check_names(alloc, &heads, &mut faults)?;
+    let declarations = declarations(alloc, &heads, &mut faults)?;
+    let statements = statements(alloc, &heads, files, &mut faults)?;
+    if faults.is_empty() {
+        Ok(Schema {
+            declarations,
+            statements,
+        })
+    } else {
+        put_in_order(&mut faults)?;
+        Err(Refusal::Faults(faults))
+    }
+}
+
+/// Returns what files mean. An included file stands before those that include it, since a struct
+/// holds only structs and enums that are declared before it.
+///
+/// The error has up to twenty faults.
+pub fn resolve(alloc: Global, files: &[Vec<Declaration>]) -> Result<Schema, Refusal>
+    ensures means { IfOk result (λ s. Means (map (λ f. schema_of f.items) files.now) s) }
+    // Whatever it was read from, it is sound.
+    ensures sound { IfOk result (λ s. IsSound s) }
+    ensures faults { IfErr result (λ e. IsRefusal e) }
+{
+    match settle(alloc, files) {
+        Ok(schema) => Ok(schema),
+        Err(refusal) => Err(refusal),
+    }
+}

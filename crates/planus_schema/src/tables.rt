@@ -1,0 +1,234 @@
+//! Tables.
+
+ghost use Rattle.std.specs.Prelude.{◌≡◌, ◌≤◌, ◌+◌, ◌∷◌, [], ℕ, true, false, map, IfOk, Some, codes};
+ghost use Rattle.std.specs.Option.{option_map};
+ghost use Rattle.std.specs.List.{list_all};
+ghost use Rattle.planus_syntax.specs.Values.{names_of, field_of, record_of, attribute_of, path_of};
+ghost use Rattle.planus_schema.specs.Names.{head_of, space_of, setting as setting_lem, base_found};
+ghost use Rattle.planus_schema.specs.Names.{found as found_lem, words_of};
+ghost use Rattle.planus_schema.specs.Distinct.{AreDistinct, Each2};
+ghost use Rattle.planus_schema.specs.Tables.{is_lawful as is_lawful_lem, NestedIs};
+ghost use Rattle.planus_schema.specs.Tables.{is_number as is_number_lem};
+ghost use Rattle.planus_schema.specs.Tables.{may_be_key as may_be_key_lem};
+ghost use Rattle.planus_schema.specs.Tables.{is_bytes as is_bytes_lem};
+ghost use Rattle.planus_schema.specs.Tables.{names_taken, all_names, SaysField, SaysTable};
+ghost use Rattle.planus_schema.specs.Tables.{IsTable, Follow, AreNamed, width as width_lem};
+
+use crate::attributes::{has, setting};
+use crate::defaults::default_of;
+use crate::fault::{Problem, Stop, wrong};
+use crate::head::Head;
+use crate::kind::{head_base, type_of};
+use crate::lookup::found;
+use crate::names::{copied, take_name};
+use crate::scalar::Scalar;
+use crate::schema::{Base, FieldType, Table, TableField};
+use crate::slots::{check_slots, has_ids, is_union, slot_of, width};
+use planus_syntax::{Attribute, Field, Literal, Path, Record};
+use std::alloc::{AllocError, Global};
+
+fn is_number(kind: FieldType) -> bool
+    ensures { result ≡ is_number_lem kind }
+{
+    match kind.base {
+        Base::Scalar(_) | Base::Enum(_) => !kind.vector,
+        _ => false,
+    }
+}
+
+fn may_be_key(kind: FieldType) -> bool
+    ensures { result ≡ may_be_key_lem kind }
+{
+    match kind.base {
+        Base::Scalar(_) | Base::Enum(_) | Base::Text => !kind.vector,
+        _ => false,
+    }
+}
+
+fn is_bytes(kind: FieldType) -> bool
+    ensures { result ≡ is_bytes_lem kind }
+{
+    match kind.base {
+        Base::Scalar(Scalar::UByte) => kind.vector,
+        _ => false,
+    }
+}
+
+/// Checks what may be `required`, a `key` and a nested buffer.
+fn check_lawful(field: &TableField, left: usize) -> Result<(), Stop>
+    ensures { IfOk result (λ _. is_lawful_lem field.now ≡ true) }
+{
+    if field.required && is_number(field.kind) {
+        Err(wrong(Problem::RequiredScalar, left))
+    } else if field.key && !may_be_key(field.kind) {
+        Err(wrong(Problem::WrongKey, left))
+    } else if field.nested.is_some() && !is_bytes(field.kind) {
+        Err(wrong(Problem::WrongNested, left))
+    } else {
+        Ok(())
+    }
+}
+
+fn path_of_text(alloc: Global, text: &[u8], left: usize) -> Result<Path, AllocError>
+    ensures { IfOk result (λ p. words_of (path_of p) ≡ text.now ∷ []) }
+{
+    Ok(Path {
+        left,
+        first: Vec::from_slice(alloc, text)?,
+        more: Vec::new(alloc),
+    })
+}
+
+/// Returns the index of the table of this name.
+fn table_named(
+    alloc: Global,
+    heads: &[Head],
+    space: Option<&Path>,
+    text: &[u8],
+    left: usize,
+) -> Result<usize, Stop>
+    ensures { IfOk result (λ i. base_found (map head_of heads.now)
+        (found_lem (map head_of heads.now) (space_of space.entry) (text.now ∷ []))
+        ≡ Some (Base.Table i)) }
+{
+    let path = path_of_text(alloc, text, left)?;
+    match found(alloc, heads, space, &path)? {
+        Some(index) => match head_base(heads, index) {
+            Some(Base::Table(table)) => Ok(table),
+            _ => Err(wrong(Problem::WrongNested, left)),
+        },
+        None => Err(wrong(Problem::WrongNested, left)),
+    }
+}
+
+/// Returns the index of the table that `nested_flatbuffer` names.
+fn nested_of(
+    alloc: Global,
+    heads: &[Head],
+    space: Option<&Path>,
+    attributes: &[Attribute],
+) -> Result<Option<usize>, Stop>
+    ensures { IfOk result (λ o. NestedIs (map head_of heads.now) (space_of space.entry)
+        (setting_lem (codes "nested_flatbuffer") (map attribute_of attributes.now)) o) }
+{
+    match setting(attributes, b"nested_flatbuffer") {
+        Some(attribute) => match &attribute.value {
+            Some(Literal::Text(text)) => {
+                let table = table_named(alloc, heads, space, text, attribute.label.left)?;
+                Ok(Some(table))
+            }
+            _ => Err(wrong(Problem::WrongNested, attribute.label.left)),
+        },
+        None => Ok(None),
+    }
+}
+
+/// Returns what a field says. `next` is the next slot that is free, and `ids` says that the table's
+/// fields have an `id`.
+fn table_field(
+    alloc: Global,
+    heads: &[Head],
+    space: Option<&Path>,
+    field: &Field,
+    ids: bool,
+    next: usize,
+) -> Result<TableField, Stop>
+    requires { next ≤ 65535 }
+    ensures says { IfOk result (λ f. SaysField (map head_of heads.now) (space_of space.entry) ids
+        (field_of field.now) f) }
+    ensures order { ids ≡ false → IfOk result (λ f. f.slot + 1 ≡ next + width_lem f.kind) }
+    ensures lawful { IfOk result (λ f. is_lawful_lem f ≡ true) }
+{
+    let kind = type_of(alloc, heads, space, &field.kind)?;
+    let slot = slot_of(field, kind, ids, next)?;
+    let default = default_of(alloc, heads, kind, &field.default, field.left)?;
+    let nested = nested_of(alloc, heads, space, &field.attributes)?;
+    let name = Vec::from_slice(alloc, &field.name)?;
+    let docs = copied(alloc, &field.docs)?;
+    let settled = TableField {
+        name,
+        docs,
+        kind,
+        slot,
+        default,
+        required: has(&field.attributes, b"required"),
+        deprecated: has(&field.attributes, b"deprecated"),
+        key: has(&field.attributes, b"key"),
+        nested,
+    };
+    check_lawful(&settled, field.left)?;
+    Ok(settled)
+}
+
+/// Adds the name of a field, and before it that of the type of a union, and returns whether they
+/// were new.
+fn take_names(
+    alloc: Global,
+    names: &mut Vec<Vec<u8>>,
+    field: &TableField,
+) -> Result<bool, AllocError>
+    ensures { IfOk result (λ new. new ≡ true → AreNamed (names_of names.old.items)
+        (names_taken field.now) (names_of names.new.items)) }
+{
+    if is_union(field.kind) {
+        let mut name = Vec::from_slice(alloc, &field.name)?;
+        name.extend_from_slice(b"_type")?;
+        if !take_name(alloc, names, &name)? {
+            return Ok(false);
+        }
+    }
+    take_name(alloc, names, &field.name)
+}
+
+fn table_fields(
+    alloc: Global,
+    heads: &[Head],
+    space: Option<&Path>,
+    declared: &[Field],
+    ids: bool,
+) -> Result<Vec<TableField>, Stop>
+    ensures says { IfOk result (λ v. Each2 (SaysField (map head_of heads.now)
+        (space_of space.entry) ids) (map field_of declared.now) v.items) }
+    ensures order { ids ≡ false → IfOk result (λ v. (end : ℕ) × Follow 0 v.items end) }
+    ensures lawful { IfOk result (λ v. list_all is_lawful_lem v.items ≡ true) }
+    ensures names { IfOk result (λ v. AreDistinct (all_names v.items)) }
+{
+    let mut fields = Vec::new(alloc);
+    let mut names = Vec::new(alloc);
+    let mut next = 0;
+    let mut key = false;
+    'fields: for declaration in declared {
+        if next > 65535 {
+            return Err(wrong(Problem::TooManySlots, declaration.left));
+        }
+        let field = table_field(alloc, heads, space, declaration, ids, next)?;
+        if !take_names(alloc, &mut names, &field)? {
+            return Err(wrong(Problem::FieldNameTaken, declaration.left));
+        }
+        if field.key && key {
+            return Err(wrong(Problem::SecondKey, declaration.left));
+        }
+        key = key || field.key;
+        next += width(field.kind);
+        fields.push(field)?;
+    }
+    Ok(fields)
+}
+
+/// Returns what a table says.
+pub(crate) fn table_of(
+    alloc: Global,
+    heads: &[Head],
+    space: Option<&Path>,
+    declared: &Record,
+    left: usize,
+) -> Result<Table, Stop>
+    ensures says { IfOk result (λ t. SaysTable (map head_of heads.now) (space_of space.entry)
+        (record_of declared.now) t) }
+    ensures sound { IfOk result (λ t. IsTable t) }
+{
+    let ids = has_ids(&declared.fields);
+    let fields = table_fields(alloc, heads, space, &declared.fields, ids)?;
+    check_slots(alloc, &fields, left)?;
+    Ok(Table { fields })
+}

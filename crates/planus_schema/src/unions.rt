@@ -1,0 +1,164 @@
+//! Unions.
+
+ghost use Rattle.std.specs.Prelude.{◌≡◌, true, false, map, IfOk, IfSome, Some, nat_eq, codes, ◌∷◌};
+ghost use Rattle.std.specs.List.{list_any, list_all, IsDistinct};
+ghost use Rattle.planus_syntax.specs.Values.{path_of, member_of, union_of as declared_of};
+ghost use Rattle.planus_schema.specs.Names.{head_of, space_of, words_of, dotted, base_named};
+ghost use Rattle.planus_schema.specs.Unions.{tag_of as tag_of_lem, target_of as target_of_lem};
+ghost use Rattle.planus_schema.specs.Unions.{SaysMember, SaysUnion, IsUnion, tags_from, tag_in};
+ghost use Rattle.planus_schema.specs.Unions.{is_tag};
+ghost use Rattle.planus_schema.specs.Distinct.{AreDistinct, Each2};
+
+use crate::fault::{Problem, Stop, wrong};
+use crate::head::{Head, put_path};
+use crate::kind::base_of;
+use crate::names::{copied, take_name};
+use crate::number::integer;
+use crate::schema::{Base, Union, UnionMember};
+use planus_syntax::{Member, Path, UnionBody};
+use std::alloc::{AllocError, Global};
+
+fn target_of(member: &Member) -> &Path
+    ensures { path_of result.now ≡ target_of_lem (member_of member.now) }
+{
+    match &member.target {
+        Some(path) => path,
+        None => &member.path,
+    }
+}
+
+/// Returns the tag of a member: the one that is given, or one more than that before it.
+fn tag_of(previous: u8, member: &Member) -> Option<u8>
+    ensures tag { IfSome result (λ n. n ≡ tag_of_lem previous (member_of member.now).value) }
+    ensures within { IfSome result (λ n. is_tag n ≡ true) }
+{
+    let tag = match &member.value {
+        Some(digits) => match integer(digits) {
+            Some(number) if !number.negative => number.magnitude,
+            _ => return None,
+        },
+        None => u64::from(previous) + 1,
+    };
+    if 1 <= tag && tag <= 255 {
+        Some(tag as u8)
+    } else {
+        None
+    }
+}
+
+fn name_of(alloc: Global, path: &Path) -> Result<Vec<u8>, AllocError>
+    ensures { IfOk result (λ v. v.items ≡ dotted (words_of (path_of path.now))) }
+{
+    let mut name = Vec::new(alloc);
+    put_path(&mut name, path)?;
+    Ok(name)
+}
+
+fn table_of(alloc: Global, heads: &[Head], space: Option<&Path>, path: &Path) -> Result<usize, Stop>
+    ensures { IfOk result (λ i. base_named (map head_of heads.now) (space_of space.entry)
+        (path_of path.now) ≡ Some (Base.Table i)) }
+{
+    match base_of(alloc, heads, space, path)? {
+        Base::Table(index) => Ok(index),
+        _ => Err(wrong(Problem::MemberIsNoTable, path.left)),
+    }
+}
+
+fn member(
+    alloc: Global,
+    heads: &[Head],
+    space: Option<&Path>,
+    declared: &Member,
+    tag: u8,
+) -> Result<UnionMember, Stop>
+    ensures says { IfOk result (λ m. SaysMember (map head_of heads.now) (space_of space.entry)
+        (member_of declared.now) m) }
+    ensures tag { IfOk result (λ m. m.tag ≡ tag) }
+{
+    let table = table_of(alloc, heads, space, target_of(declared))?;
+    let name = name_of(alloc, &declared.path)?;
+    let docs = copied(alloc, &declared.docs)?;
+    Ok(UnionMember {
+        name,
+        docs,
+        table,
+        tag,
+    })
+}
+
+fn has_tag(members: &[UnionMember], tag: u8) -> bool
+    ensures { result ≡ list_any (λ m. nat_eq m.tag tag) members.now }
+{
+    members.iter().any(|member| member.tag == tag)
+}
+
+/// Returns the next member, whose tag no other has.
+fn next_member(
+    alloc: Global,
+    heads: &[Head],
+    space: Option<&Path>,
+    declared: &Member,
+    previous: u8,
+    members: &[UnionMember],
+) -> Result<UnionMember, Stop>
+    ensures says { IfOk result (λ m. SaysMember (map head_of heads.now) (space_of space.entry)
+        (member_of declared.now) m) }
+    ensures tag { IfOk result (λ m. m.tag ≡ tag_of_lem previous (member_of declared.now).value) }
+    ensures within { IfOk result (λ m. is_tag m.tag ≡ true) }
+    ensures new { IfOk result (λ m. list_any (λ x. nat_eq x.tag m.tag) members.now ≡ false) }
+{
+    let tag = match tag_of(previous, declared) {
+        Some(tag) => tag,
+        None => return Err(wrong(Problem::TagOutOfRange, declared.path.left)),
+    };
+    if has_tag(members, tag) {
+        return Err(wrong(Problem::TagTaken, declared.path.left));
+    }
+    member(alloc, heads, space, declared, tag)
+}
+
+fn union_members(
+    alloc: Global,
+    heads: &[Head],
+    space: Option<&Path>,
+    declared: &[Member],
+) -> Result<Vec<UnionMember>, Stop>
+    ensures says { IfOk result (λ v. Each2 (SaysMember (map head_of heads.now)
+        (space_of space.entry)) (map member_of declared.now) v.items) }
+    ensures tags { IfOk result (λ v. map tag_in v.items
+        ≡ tags_from 0 (map member_of declared.now)) }
+    ensures within { IfOk result (λ v. list_all is_tag (map tag_in v.items) ≡ true) }
+    ensures distinct { IfOk result (λ v. IsDistinct nat_eq (map tag_in v.items)) }
+    ensures names { IfOk result (λ v. AreDistinct
+        (codes "NONE" ∷ map (λ m. m.name.items) v.items)) }
+{
+    let mut members = Vec::new(alloc);
+    let mut names = Vec::new(alloc);
+    let mut previous = 0;
+    let none = Vec::from_slice(alloc, b"NONE")?;
+    names.push(none)?;
+    'members: for member in declared {
+        let next = next_member(alloc, heads, space, member, previous, &members)?;
+        if !take_name(alloc, &mut names, &next.name)? {
+            return Err(wrong(Problem::MemberNameTaken, member.path.left));
+        }
+        previous = next.tag;
+        members.push(next)?;
+    }
+    Ok(members)
+}
+
+/// Returns what a union says.
+pub(crate) fn union_of(
+    alloc: Global,
+    heads: &[Head],
+    space: Option<&Path>,
+    declared: &UnionBody,
+) -> Result<Union, Stop>
+    ensures says { IfOk result (λ u. SaysUnion (map head_of heads.now) (space_of space.entry)
+        (declared_of declared.now) u) }
+    ensures sound { IfOk result (λ u. IsUnion u) }
+{
+    let members = union_members(alloc, heads, space, &declared.members)?;
+    Ok(Union { members })
+}
