@@ -5,3 +5,4 @@ pub mod UnionLemmas
 pub mod TableLemmas
 pub mod SchemaLemmas
 pub mod SoundLemmas
+pub mod DefaultLemmas

@@ -1,5 +1,5 @@
 -- Lists.
-use Rattle.std.proofs.Common.{◌≡◌, ℕ, zero, suc, ◌+◌, ◌-◌, ◌<◌, ◌≤◌, Bool, true, false, cond, List, [], ◌∷◌, ◌++◌, length, map, take, refl, sym, ap, ◌∙◌, arith, sub-one}
+use Rattle.std.proofs.Common.{◌≡◌, ℕ, zero, suc, ◌+◌, ◌-◌, ◌<◌, Bool, true, false, cond, List, [], ◌∷◌, ◌++◌, length, map, take, refl, sym, ap, ◌∙◌, arith, sub-one}
 use Rattle.std.specs.Prelude.{position, nat_lt, not, ◌||◌, Option, Some, None, fold}
 use Rattle.std.specs.List.{prefix_len, list_any, IsDistinct, AllByRecursion}
 use Rattle.std.proofs.Math.ListN.{length-map}

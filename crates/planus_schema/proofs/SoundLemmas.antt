@@ -1,5 +1,5 @@
 -- A schema that files mean is sound.
-use Rattle.std.proofs.Common.{◌≡◌, ℕ, zero, suc, ◌+◌, ◌<◌, Bool, true, false, cond, List, [], ◌∷◌, ◌++◌, length, map, refl, sym, ap, subst, ◌∙◌, append_assoc, add-one, arith, length-append}
+use Rattle.std.proofs.Common.{◌≡◌, ℕ, zero, suc, ◌+◌, ◌<◌, Bool, true, false, cond, List, [], ◌∷◌, ◌++◌, length, map, refl, sym, ap, subst, ◌∙◌, append_assoc, length-append}
 use Rattle.std.specs.Prelude.{Option, Some, None, slice_get, codes}
 use Rattle.std.specs.Option.{option_map}
 use Rattle.std.specs.List.{AllByRecursion}
@@ -17,7 +17,9 @@ use Rattle.planus_schema.specs.declared.schema.TableField.{TableField}
 use Rattle.planus_schema.specs.declared.schema.UnionMember.{UnionMember}
 use Rattle.planus_schema.specs.declared.structs.Measure.{Measure}
 use Rattle.planus_schema.specs.Numbers.{scalar_named}
-use Rattle.planus_schema.specs.Names.{HeadV, base_of_item, base_of_head, base_found, base_of_word, plain_of, plain_base, base_or, base_named, type_named, found, words_of, words_in, space_after, setting, heads_of}
+use Rattle.planus_schema.specs.Names.{HeadV, base_of_item, base_of_head, base_found, plain_of, plain_base, base_or, base_named, type_named, found, words_of, words_in, space_after, setting, heads_of}
+use Rattle.planus_schema.specs.Defaults.{value_of}
+use Rattle.planus_schema.proofs.DefaultLemmas.{default_lawful}
 use Rattle.planus_schema.specs.Distinct.{AreDistinct, Each2}
 use Rattle.planus_schema.specs.Structs.{measure_of_body, measure_in, body_in, SaysStructField}
 use Rattle.planus_schema.specs.Unions.{SaysMember, target_of}
@@ -133,7 +135,7 @@ refers_fields hs bs space ids [] [] m x = tt
 refers_fields hs bs space ids [] (f ∷ fs) m x = absurd x
 refers_fields hs bs space ids (d ∷ ds) [] m x = absurd x
 refers_fields hs bs space ids (d ∷ ds) (f ∷ fs) m x =
-    (record { kind = refers_type hs bs space d.kind f.kind m x.0.kind; nested = refers_nested hs bs space (setting (codes "nested_flatbuffer") d.attributes) f.nested m x.0.nested }, refers_fields hs bs space ids ds fs m x.1)
+    (record { kind = refers_type hs bs space d.kind f.kind m x.0.kind; nested = refers_nested hs bs space (setting (codes "nested_flatbuffer") d.attributes) f.nested m x.0.nested; default = default_lawful hs d.default f.kind (option_map value_of f.default) x.0.default }, refers_fields hs bs space ids ds fs m x.1)
 
 refers_members : (hs : List HeadV) (bs : List Body) (space : List Name) (ds : List MemberV) (ms : List UnionMember) → Matches hs bs → Each2 (SaysMember hs space) ds ms → AllByRecursion (λ x. IsTableAt bs x.table) ms
 refers_members hs bs space [] [] m x = tt

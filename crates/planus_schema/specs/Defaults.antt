@@ -1,6 +1,6 @@
 -- Defaults.
-use Rattle.std.specs.Prelude.{◌≡◌, ℕ, Bool, true, false, ◌&&◌, ◌||◌, not, if◌then◌else◌}
-use Rattle.std.specs.Prelude.{List, [], ◌∷◌, map, Option, Some, None, codes}
+use Rattle.std.specs.Prelude.{ℕ, Bool, true, false, ◌&&◌, ◌||◌, not, if◌then◌else◌}
+use Rattle.std.specs.Prelude.{List, [], ◌∷◌, Option, Some, None, codes}
 use Rattle.std.specs.List.{list_any}
 use Rattle.std.specs.Str.{bytes_eq}
 use Rattle.planus_syntax.specs.Values.{Name, PathV, LiteralV, numeral, named, quote, nothing}
@@ -156,16 +156,18 @@ base_default hs (base.Struct i) l = None
 base_default hs (base.Table i) l = None
 base_default hs (base.Union i) l = None
 
+abbrev pub zero_in : Option EnumerationV → Option (Option ValueV)
+zero_in None = None
+zero_in (Some e) = if is_among_values e zero_number then Some (Some (integer zero_number)) else None
+
+abbrev pub zero_scalar : Scalar → ValueV
+zero_scalar s = if is_float s then float (codes "0") else integer zero_number
+
 -- without a literal: zero, if it is a value, and none for what isn't a scalar or an enum
 abbrev pub zero_default : List HeadV → Base → Option (Option ValueV)
-zero_default hs (base.Scalar s) =
-    Some (Some (if is_float s then float (codes "0") else integer zero_number))
+zero_default hs (base.Scalar s) = Some (Some (zero_scalar s))
 zero_default hs base.Text = Some None
 zero_default hs (base.Enum i) = zero_in (enum_at (item_at hs i))
-  where
-    zero_in : Option EnumerationV → Option (Option ValueV)
-    zero_in None = None
-    zero_in (Some e) = if is_among_values e zero_number then Some (Some (integer zero_number)) else None
 zero_default hs (base.Struct i) = Some None
 zero_default hs (base.Table i) = Some None
 zero_default hs (base.Union i) = Some None
@@ -179,3 +181,54 @@ abbrev pub default_said : List HeadV → FieldType → Option LiteralV → Optio
 default_said hs t None = if t.vector then Some None else zero_default hs t.base
 default_said hs t (Some l) =
     some_default (if t.vector then vector_default l else base_default hs t.base l)
+
+-- ---- which defaults a type has
+
+abbrev pub is_scalar_value : Scalar → ValueV → Bool
+is_scalar_value s absent = true
+is_scalar_value s (integer n) = not (is_float s) && fits s n
+is_scalar_value s (float w) = is_float s
+is_scalar_value s (text w) = false
+is_scalar_value s empty = false
+
+abbrev pub is_enum_value : ValueV → Bool
+is_enum_value absent = true
+is_enum_value (integer n) = true
+is_enum_value (float w) = false
+is_enum_value (text w) = false
+is_enum_value empty = false
+
+abbrev pub is_text_value : ValueV → Bool
+is_text_value absent = false
+is_text_value (integer n) = false
+is_text_value (float w) = false
+is_text_value (text w) = true
+is_text_value empty = false
+
+abbrev pub is_vector_value : ValueV → Bool
+is_vector_value absent = false
+is_vector_value (integer n) = false
+is_vector_value (float w) = false
+is_vector_value (text w) = false
+is_vector_value empty = true
+
+abbrev pub is_value : Base → ValueV → Bool
+is_value (base.Scalar s) v = is_scalar_value s v
+is_value base.Text v = is_text_value v
+is_value (base.Enum i) v = is_enum_value v
+is_value (base.Struct i) v = false
+is_value (base.Table i) v = false
+is_value (base.Union i) v = false
+
+abbrev pub needs_none : Base → Bool
+needs_none (base.Scalar s) = false
+needs_none base.Text = true
+needs_none (base.Enum i) = false
+needs_none (base.Struct i) = true
+needs_none (base.Table i) = true
+needs_none (base.Union i) = true
+
+-- a value of the type, or none for what isn't a scalar or an enum
+abbrev pub is_default : FieldType → Option ValueV → Bool
+is_default t None = t.vector || needs_none t.base
+is_default t (Some v) = if t.vector then is_vector_value v else is_value t.base v

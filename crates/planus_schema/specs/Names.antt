@@ -1,10 +1,10 @@
 -- What is declared, under which full name, and which declaration a name means.
-use Rattle.std.specs.Prelude.{◌≡◌, ℕ, zero, suc, ◌+◌, Bool, true, false, ◌&&◌, if◌then◌else◌}
-use Rattle.std.specs.Prelude.{List, [], ◌∷◌, ◌++◌, length, map, take, fold, position, Option}
+use Rattle.std.specs.Prelude.{ℕ, zero, suc, ◌+◌, Bool, true, false, if◌then◌else◌}
+use Rattle.std.specs.Prelude.{List, [], ◌∷◌, ◌++◌, length, take, fold, position, Option}
 use Rattle.std.specs.Prelude.{Some, None, codes, slice_get}
 use denote.Ref.{Bor}
 use Rattle.std.specs.Str.{bytes_eq}
-use Rattle.planus_syntax.specs.Values.{Name, PathV, KindV, single, vector, LiteralV, LabelV}
+use Rattle.planus_syntax.specs.Values.{Name, PathV, KindV, single, vector}
 use Rattle.planus_syntax.specs.Values.{AttributeV, ItemV, include, namespace, attribute, table, struct}
 use Rattle.planus_syntax.specs.Values.{enumeration, union, service, root, identifier, extension}
 use Rattle.planus_syntax.specs.Values.{DeclarationV, path_of, declaration_of}

@@ -1,7 +1,8 @@
 -- What a schema is, whatever it was read from.
-use Rattle.std.specs.Prelude.{◌≡◌, ℕ, ◌+◌, ◌<◌, List, [], ◌∷◌, length, map, Option, Some, None}
+use Rattle.std.specs.Prelude.{◌≡◌, ℕ, ◌+◌, ◌<◌, true, List, [], ◌∷◌, map, Option, Some, None}
 use Rattle.std.specs.Prelude.{slice_get}
 use Rattle.std.specs.List.{AllByRecursion}
+use Rattle.std.specs.Option.{option_map}
 use Rattle.planus_schema.specs.declared.schema.Base.{Base}
 use Rattle.planus_schema.specs.declared.schema.Base.TheVariants as base
 use Rattle.planus_schema.specs.declared.schema.Body.{Body}
@@ -12,9 +13,9 @@ use Rattle.planus_schema.specs.declared.schema.StructField.{StructField}
 use Rattle.planus_schema.specs.declared.schema.Table.{Table}
 use Rattle.planus_schema.specs.declared.schema.TableField.{TableField}
 use Rattle.planus_schema.specs.declared.schema.Union.{Union}
-use Rattle.planus_schema.specs.declared.schema.UnionMember.{UnionMember}
 use Rattle.planus_schema.specs.declared.schema.Schema.{Schema}
 use Rattle.planus_schema.specs.Distinct.{AreDistinct}
+use Rattle.planus_schema.specs.Defaults.{value_of, is_default}
 use Rattle.planus_schema.specs.Structs.{measure_in, body_in}
 use Rattle.planus_schema.specs.Schemas.{IsBody, IsFour, said_of}
 
@@ -35,9 +36,11 @@ abbrev pub IsNested : List Body → Option ℕ → Type 0
 IsNested bs None = Unit {0}
 IsNested bs (Some i) = IsTableAt bs i
 
+-- what a field refers to is there, and its default is one of its type
 pub record RefersField (bs : List Body) (f : TableField) : Type 0 where
   pub kind : Refers bs f.kind.base
   pub nested : IsNested bs f.nested
+  pub default : is_default f.kind (option_map value_of f.default) ≡ true
 
 -- an enum or a struct is one of the first n declarations
 abbrev pub IsBelow : ℕ → Base → Type 0

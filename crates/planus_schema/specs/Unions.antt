@@ -1,5 +1,5 @@
 -- Unions.
-use Rattle.std.specs.Prelude.{◌≡◌, ℕ, ◌+◌, Bool, true, false, ◌&&◌, nat_le, nat_eq, List, [], ◌∷◌}
+use Rattle.std.specs.Prelude.{◌≡◌, ℕ, ◌+◌, Bool, true, ◌&&◌, nat_le, nat_eq, List, [], ◌∷◌}
 use Rattle.std.specs.Prelude.{map, Option, Some, None, codes}
 use Rattle.std.specs.List.{IsDistinct, list_all}
 use Rattle.planus_syntax.specs.Values.{Name, PathV, MemberV, UnionV, names_of}

@@ -175,6 +175,14 @@ fn check_names(alloc: Global, heads: &[Head], faults: &mut Vec<Fault>) -> Result
     Ok(())
 }
 
+/// Puts faults in the order of their places.
+fn put_in_order(faults: &mut Vec<Fault>) -> Result<(), AllocError>
+    ensures { OnOk result (length faults.new.items ≡ length faults.old.items) }
+{
+    faults.sort_by_key(|fault| (fault.file, usize::MAX - fault.left))?;
+    Ok(())
+}
+
 /// Returns what files mean, or what is wrong with them.
 fn settle(alloc: Global, files: &[Vec<Declaration>]) -> Result<Schema, Refusal>
     ensures means { IfOk result (λ s. Means (map (λ f. schema_of f.items) files.now) s) }
@@ -191,6 +199,7 @@ fn settle(alloc: Global, files: &[Vec<Declaration>]) -> Result<Schema, Refusal>
             statements,
         })
     } else {
+        put_in_order(&mut faults)?;
         Err(Refusal::Faults(faults))
     }
 }

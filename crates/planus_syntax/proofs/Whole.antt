@@ -1,11 +1,11 @@
 -- What is read has no empty enum and no empty union.
-use Rattle.std.proofs.Common.{◌≡◌, ℕ, zero, suc, Bool, true, false, List, [], ◌∷◌, length, Result, Ok, Err, refl, ap, subst, ◌∙◌}
+use Rattle.std.proofs.Common.{◌≡◌, ℕ, zero, suc, Bool, true, false, List, [], ◌∷◌, length, Ok, refl, subst}
 use Rattle.std.specs.Prelude.{codes}
 use Rattle.std.specs.List.{AllByRecursion}
 use Rattle.std.specs.Str.{bytes_eq}
 use Rattle.planus_syntax.specs.Tokens.{Piece}
-use Rattle.planus_syntax.specs.Values.{Name, VariantV, EnumerationV, MemberV, UnionV, ItemV, include, namespace, attribute, table, struct, enumeration, union, service, root, identifier, extension, DeclarationV, is_some_of, is_whole_item, is_whole, AreWhole}
-use Rattle.planus_syntax.specs.Reading.{Fault, Reads, ◌>>=◌, many, list_at, with_items, is_some, begins_next, docs_at, word_at, mark_at, path_at, attributes_at, comma_at, variant_at, next_variant_at, member_at, next_member_at, variants_at, members_at, enumeration_at, union_at, record_at, service_at, quoted_at, rooted_at, namespace_at, declared_at, as_item, statement_at, item_at, declaration_at, schema_at}
+use Rattle.planus_syntax.specs.Values.{Name, EnumerationV, UnionV, ItemV, include, namespace, attribute, table, struct, enumeration, union, service, root, identifier, extension, DeclarationV, is_some_of, is_whole_item, is_whole, AreWhole}
+use Rattle.planus_syntax.specs.Reading.{Reads, ◌>>=◌, many, list_at, with_items, is_some, begins_next, docs_at, word_at, mark_at, path_at, attributes_at, comma_at, variant_at, next_variant_at, member_at, next_member_at, variants_at, members_at, enumeration_at, union_at, record_at, service_at, quoted_at, rooted_at, namespace_at, declared_at, as_item, statement_at, item_at, declaration_at, schema_at}
 use Rattle.planus_syntax.proofs.Many.{bind_ok, ok_is, joined}
 use Rattle.planus_syntax.proofs.Loops.{chosen}
 

@@ -1,4 +1,4 @@
-use Rattle.std.proofs.Common.{◌≡◌, [], refl, ap, sym, ◌∙◌, take, drop, map, arith}
+use Rattle.std.proofs.Common.{◌≡◌, [], refl, sym, ◌∙◌, take, drop, map, arith}
 use Rattle.std.proofs.lemmas.List.{append-nil}
 use Rattle.planus_schema.specs.Enums.{number_of_value}
 use Rattle.std.proofs.lemmas.Grind.{common_steps}

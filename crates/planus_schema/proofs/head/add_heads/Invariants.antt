@@ -1,7 +1,6 @@
 use Rattle.std.proofs.Common.{◌≡◌, ◌++◌, map, drop}
 use Rattle.std.specs.Prelude.{None}
-use Rattle.std.specs.Option.{option_map}
-use Rattle.planus_syntax.specs.Values.{path_of, schema_of}
+use Rattle.planus_syntax.specs.Values.{schema_of}
 use Rattle.planus_schema.specs.Names.{path_in, head_of, heads_in}
 use Rattle.planus_schema.proofs.head.add_heads.Given as goal
 

@@ -1,5 +1,5 @@
-use Rattle.std.proofs.Common.{◌≡◌, ◌-◌, ap, sym, ◌∙◌, take, map}
-use Rattle.std.specs.Prelude.{fold, Some}
+use Rattle.std.proofs.Common.{◌-◌, ap, sym, ◌∙◌, take}
+use Rattle.std.specs.Prelude.{fold}
 use Rattle.std.proofs.lemmas.List.{take-map}
 use Rattle.planus_syntax.specs.Values.{names_of}
 use Rattle.planus_schema.specs.Names.{with_word, space_of}

@@ -1,7 +1,6 @@
-use Rattle.std.proofs.Common.{refl, sym, ap, ◌∙◌}
-use Rattle.std.specs.Option.{option_map}
+use Rattle.std.proofs.Common.{refl, sym}
 use Rattle.std.proofs.lemmas.Option.{slice_get-map}
-use Rattle.planus_schema.specs.Names.{HeadV, head_of}
+use Rattle.planus_schema.specs.Names.{head_of}
 use Rattle.planus_schema.proofs.kind.item_of_head.Goals as goal
 
 pub returns-in-Some : goal.returns-in-Some

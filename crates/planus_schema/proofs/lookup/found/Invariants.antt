@@ -1,5 +1,4 @@
 use Rattle.std.proofs.Common.{◌≡◌, ◌≤◌, length, map}
-use Rattle.std.specs.Option.{option_map}
 use Rattle.planus_syntax.specs.Values.{path_of}
 use Rattle.planus_schema.specs.Names.{words_of, space_of, head_of, found_from, found}
 use Rattle.planus_schema.proofs.lookup.found.Given as goal

@@ -1,8 +1,8 @@
-use Rattle.std.proofs.Common.{◌++◌, take, sym, ap, ◌∙◌, map}
+use Rattle.std.proofs.Common.{take, sym, ap, ◌∙◌, map}
 use Rattle.std.specs.Prelude.{fold}
 use Rattle.std.proofs.lemmas.List.Sums.{fold-append}
 use Rattle.planus_syntax.specs.Values.{path_of}
-use Rattle.planus_schema.specs.Names.{with_word, words_of, space_of, head_of, index_of, dotted}
+use Rattle.planus_schema.specs.Names.{with_word, words_of, space_of, head_of, index_of}
 use Rattle.planus_schema.proofs.lookup.found_at.Goals as goal
 
 pub returns : goal.returns

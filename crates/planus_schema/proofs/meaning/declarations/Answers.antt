@@ -1,4 +1,4 @@
-use Rattle.std.proofs.Common.{◌≤◌, length, map, take, arith}
+use Rattle.std.proofs.Common.{map, take, arith}
 use Rattle.planus_schema.specs.Names.{head_of}
 use Rattle.planus_schema.proofs.StructLemmas.{map_next}
 use Rattle.planus_schema.proofs.SchemaLemmas.{declared_push}

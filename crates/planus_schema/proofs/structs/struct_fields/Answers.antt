@@ -1,11 +1,8 @@
-use Rattle.std.proofs.Common.{◌≡◌, ◌+◌, ◌++◌, ◌∷◌, [], refl, ap, sym, subst, ◌∙◌, take, map, max, arith}
-use Rattle.std.proofs.lemmas.Grind.{common_steps}
+use Rattle.std.proofs.Common.{◌++◌, ◌∷◌, [], refl, ap, sym, ◌∙◌, take, map, max, arith}
 use Rattle.std.proofs.lemmas.List.{map_push}
 use Rattle.planus_syntax.specs.Values.{names_of, field_of}
 use Rattle.planus_schema.specs.declared.schema.StructField.{StructField}
-use Rattle.planus_schema.specs.Distinct.{AreDistinct, Each2}
-use Rattle.planus_schema.specs.Names.{head_of, space_of}
-use Rattle.planus_schema.specs.Structs.{SaysStructField, Laid, greatest_alignment, body_in}
+use Rattle.planus_schema.specs.Structs.{greatest_alignment}
 use Rattle.planus_schema.proofs.EnumLemmas.{no_names}
 use Rattle.planus_schema.proofs.StructLemmas.{each2_push, laid_push, greatest_push, map_next, taken}
 use Rattle.planus_schema.proofs.structs.struct_fields.Goals as goal

@@ -1,6 +1,6 @@
-use Rattle.std.proofs.Common.{◌≡◌, ◌+◌, ◌++◌, ◌∷◌, [], refl, ap, sym, subst, ◌∙◌, take, map, arith}
-use Rattle.planus_syntax.specs.Values.{names_of, field_of}
-use Rattle.planus_schema.specs.Tables.{all_names, names_taken, width}
+use Rattle.std.proofs.Common.{◌++◌, refl, ap, sym, ◌∙◌, take, map, arith}
+use Rattle.planus_syntax.specs.Values.{field_of}
+use Rattle.planus_schema.specs.Tables.{all_names, names_taken}
 use Rattle.planus_schema.proofs.EnumLemmas.{no_names}
 use Rattle.planus_schema.proofs.StructLemmas.{each2_push, map_next}
 use Rattle.planus_schema.proofs.TableLemmas.{follow_push, names_push, lawful_push}

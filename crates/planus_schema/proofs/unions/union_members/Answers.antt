@@ -1,10 +1,10 @@
-use Rattle.std.proofs.Common.{◌≡◌, ◌+◌, ◌++◌, ◌∷◌, [], refl, ap, sym, subst, ◌∙◌, take, drop, map, arith}
+use Rattle.std.proofs.Common.{◌≡◌, ◌+◌, ◌++◌, ◌∷◌, [], refl, ap, sym, ◌∙◌, take, drop, map, arith}
 use Rattle.std.specs.Prelude.{codes, nat_eq}
-use Rattle.std.specs.List.{list_all, list_any, IsDistinct}
+use Rattle.std.specs.List.{list_any}
 use Rattle.std.proofs.lemmas.List.{map_push}
 use Rattle.planus_syntax.specs.Values.{names_of, member_of}
 use Rattle.planus_schema.specs.declared.schema.UnionMember.{UnionMember}
-use Rattle.planus_schema.specs.Unions.{tag_in, tags_from, is_tag}
+use Rattle.planus_schema.specs.Unions.{tag_in}
 use Rattle.planus_schema.proofs.StructLemmas.{each2_push, map_next, map_rest, taken}
 use Rattle.planus_schema.proofs.UnionLemmas.{tags_next, tags_within, tags_apart, no_tags, one_name}
 use Rattle.planus_schema.proofs.unions.union_members.Goals as goal

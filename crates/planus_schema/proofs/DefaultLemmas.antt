@@ -1,0 +1,172 @@
+-- What a literal says is a default of its type.
+use Rattle.std.proofs.Common.{◌≡◌, ℕ, Bool, true, false, cond, List, [], ◌∷◌, refl, sym, ap, subst, ◌∙◌}
+use Rattle.std.specs.Prelude.{Option, Some, None, codes, ◌&&◌, ◌||◌, not}
+use Rattle.planus_syntax.specs.Values.{Name, PathV, LiteralV, numeral, named, quote, nothing, EnumerationV}
+use Rattle.planus_schema.specs.declared.number.Number.{Number}
+use Rattle.planus_schema.specs.declared.scalar.Scalar.{Scalar}
+use Rattle.planus_schema.specs.declared.scalar.Scalar.TheVariants as scalar
+use Rattle.planus_schema.specs.declared.schema.Base.{Base}
+use Rattle.planus_schema.specs.declared.schema.Base.TheVariants as base
+use Rattle.planus_schema.specs.declared.schema.FieldType.{FieldType}
+use Rattle.planus_schema.specs.Numbers.{integer_of, is_integer, is_float, is_bool, fits, zero_number, is_hexadecimal, without_sign}
+use Rattle.planus_schema.specs.Names.{HeadV, item_at}
+use Rattle.planus_schema.specs.Enums.{is_flags}
+use Rattle.planus_schema.specs.Defaults.{ValueV, absent, integer, float, text, empty, is_word, absent_or, whole_number, truth, named_bool, named_float, float_number, scalar_default, value_named, value_name, value_in, as_integer, enum_named, is_among_values, among_values, enum_default, text_default, vector_default, enum_at, default_in, base_default, zero_in, zero_scalar, zero_default, some_default, default_said, is_scalar_value, is_enum_value, is_text_value, is_vector_value, is_value, is_default}
+
+-- whatever is there has this
+record Allowed (p : ValueV → Bool) (o : Option ValueV) : Type 0 where
+  each : (v : ValueV) → o ≡ Some v → p v ≡ true
+
+none_allowed : (p : ValueV → Bool) → Allowed p None
+none_allowed p = record { each = λ v e. absurd cc }
+
+some_value : (x y : ValueV) → (let o : Option ValueV = Some x in o) ≡ Some y → x ≡ y
+some_value x y e = cc
+
+one_allowed : (p : ValueV → Bool) (x : ValueV) → p x ≡ true → Allowed p (Some x)
+one_allowed p x h = record { each = λ v e. subst (λ y. p y ≡ true) (some_value x v e) h }
+
+chosen : (p : ValueV → Bool) (q : Bool) (x y : Option ValueV) → (q ≡ true → Allowed p x) → (q ≡ false → Allowed p y) → Allowed p (cond q x y)
+chosen p true x y f g = f refl
+chosen p false x y f g = g refl
+
+and_both : (a b : Bool) → (a && b) ≡ true → b ≡ true
+and_both true b h = h
+and_both false b h = absurd cc
+
+-- ---- scalars
+
+float_allowed : (s : Scalar) (w : List ℕ) → is_float s ≡ true → Allowed (is_scalar_value s) (float_number w)
+float_allowed s w h = chosen (is_scalar_value s) (is_hexadecimal (without_sign w)) None (Some (float w)) (λ _. none_allowed (is_scalar_value s)) (λ _. one_allowed (is_scalar_value s) (float w) h)
+
+fits_scalar : (s : Scalar) (n : Number) → is_float s ≡ false → fits s n ≡ true → is_scalar_value s (integer n) ≡ true
+fits_scalar s n f h = rw (f, h) refl
+
+whole_allowed : (s : Scalar) (w : List ℕ) → is_float s ≡ false → Allowed (is_scalar_value s) (whole_number s w)
+whole_allowed s w f = chosen (is_scalar_value s) (is_integer w && fits s (integer_of w)) (Some (integer (integer_of w))) None (λ h. one_allowed (is_scalar_value s) (integer (integer_of w)) (fits_scalar s (integer_of w) f (and_both (is_integer w) _ h))) (λ _. none_allowed (is_scalar_value s))
+
+bool_fits : (s : Scalar) (n : Number) → is_bool s ≡ true → fits scalar.Bool n ≡ true → is_scalar_value s (integer n) ≡ true
+bool_fits scalar.Bool n h e = e
+bool_fits scalar.Byte n h e = absurd cc
+bool_fits scalar.UByte n h e = absurd cc
+bool_fits scalar.Short n h e = absurd cc
+bool_fits scalar.UShort n h e = absurd cc
+bool_fits scalar.Int n h e = absurd cc
+bool_fits scalar.UInt n h e = absurd cc
+bool_fits scalar.Long n h e = absurd cc
+bool_fits scalar.ULong n h e = absurd cc
+bool_fits scalar.Float n h e = absurd cc
+bool_fits scalar.Double n h e = absurd cc
+
+named_float_allowed : (s : Scalar) (p : PathV) → is_float s ≡ true → Allowed (is_scalar_value s) (named_float p)
+named_float_allowed s p h = chosen (is_scalar_value s) (is_word (codes "nan") p || is_word (codes "inf") p) (Some (float p.first)) None (λ _. one_allowed (is_scalar_value s) (float p.first) h) (λ _. none_allowed (is_scalar_value s))
+
+named_bool_allowed : (s : Scalar) (p : PathV) → is_bool s ≡ true → Allowed (is_scalar_value s) (named_bool p)
+named_bool_allowed s p h =
+    let no = none_allowed (is_scalar_value s) in
+    let zero = one_allowed (is_scalar_value s) (integer zero_number) (bool_fits s zero_number h refl) in
+    let one = one_allowed (is_scalar_value s) (integer truth) (bool_fits s truth h refl) in
+    chosen (is_scalar_value s) (is_word (codes "true") p) (Some (integer truth)) (cond (is_word (codes "false") p) (Some (integer zero_number)) None) (λ _. one)
+    (λ _. chosen (is_scalar_value s) (is_word (codes "false") p) (Some (integer zero_number)) None (λ _. zero) (λ _. no))
+
+absent_allowed : (p : ValueV → Bool) (path : PathV) (o : Option ValueV) → p absent ≡ true → Allowed p o → Allowed p (absent_or path o)
+absent_allowed p path o h a = chosen p (is_word (codes "null") path) (Some absent) o (λ _. one_allowed p absent h) (λ _. a)
+
+scalar_allowed : (s : Scalar) (l : LiteralV) → Allowed (is_scalar_value s) (scalar_default s l)
+scalar_allowed s (numeral w) = chosen (is_scalar_value s) (is_float s) (float_number w) (whole_number s w) (float_allowed s w) (whole_allowed s w)
+scalar_allowed s (named p) =
+    absent_allowed (is_scalar_value s) p _ refl
+    (chosen (is_scalar_value s) (is_float s) (named_float p) (cond (is_bool s) (named_bool p) None) (named_float_allowed s p)
+    (λ _. chosen (is_scalar_value s) (is_bool s) (named_bool p) None (named_bool_allowed s p) (λ _. none_allowed (is_scalar_value s))))
+scalar_allowed s (quote w) = none_allowed (is_scalar_value s)
+scalar_allowed s nothing = none_allowed (is_scalar_value s)
+
+-- ---- enums
+
+integer_allowed : (o : Option Number) → Allowed is_enum_value (as_integer o)
+integer_allowed None = none_allowed is_enum_value
+integer_allowed (Some n) = one_allowed is_enum_value (integer n) refl
+
+value_allowed : (e : EnumerationV) (o : Option Name) → Allowed is_enum_value (value_in e o)
+value_allowed e None = none_allowed is_enum_value
+value_allowed e (Some w) = integer_allowed (value_named w (is_flags e) None e.variants)
+
+among_allowed : (e : EnumerationV) (n : Number) → Allowed is_enum_value (among_values e n)
+among_allowed e n = chosen is_enum_value (is_among_values e n) (Some (integer n)) None (λ _. one_allowed is_enum_value (integer n) refl) (λ _. none_allowed is_enum_value)
+
+enum_allowed : (o : Option EnumerationV) (l : LiteralV) → Allowed is_enum_value (default_in o l)
+enum_allowed None l = none_allowed is_enum_value
+enum_allowed (Some e) (numeral w) = chosen is_enum_value (is_integer w) (among_values e (integer_of w)) None (λ _. among_allowed e (integer_of w)) (λ _. none_allowed is_enum_value)
+enum_allowed (Some e) (named p) = absent_allowed is_enum_value p (enum_named e p) refl (value_allowed e (value_name e p))
+enum_allowed (Some e) (quote w) = none_allowed is_enum_value
+enum_allowed (Some e) nothing = none_allowed is_enum_value
+
+-- ---- all types
+
+text_allowed : (l : LiteralV) → Allowed is_text_value (text_default l)
+text_allowed (numeral w) = none_allowed is_text_value
+text_allowed (named p) = none_allowed is_text_value
+text_allowed (quote w) = one_allowed is_text_value (text w) refl
+text_allowed nothing = none_allowed is_text_value
+
+vector_allowed : (l : LiteralV) → Allowed is_vector_value (vector_default l)
+vector_allowed (numeral w) = none_allowed is_vector_value
+vector_allowed (named p) = none_allowed is_vector_value
+vector_allowed (quote w) = none_allowed is_vector_value
+vector_allowed nothing = one_allowed is_vector_value empty refl
+
+base_allowed : (hs : List HeadV) (b : Base) (l : LiteralV) → Allowed (is_value b) (base_default hs b l)
+base_allowed hs (base.Scalar s) l = record { each = (scalar_allowed s l).each }
+base_allowed hs base.Text l = record { each = (text_allowed l).each }
+base_allowed hs (base.Enum i) l = record { each = (enum_allowed (enum_at (item_at hs i)) l).each }
+base_allowed hs (base.Struct i) l = none_allowed (is_value (base.Struct i))
+base_allowed hs (base.Table i) l = none_allowed (is_value (base.Table i))
+base_allowed hs (base.Union i) l = none_allowed (is_value (base.Union i))
+
+both : (x y : Option ValueV) → (let o : Option (Option ValueV) = Some x in o) ≡ Some y → x ≡ y
+both x y e = cc
+
+said_allowed : (t : FieldType) (p : ValueV → Bool) (x o : Option ValueV) → ((v : ValueV) → p v ≡ true → is_default t (Some v) ≡ true) → Allowed p x → some_default x ≡ Some o → is_default t o ≡ true
+said_allowed t p None o f a e = absurd cc
+said_allowed t p (Some v) o f a e = subst (λ y. is_default t y ≡ true) (both (Some v) o e) (f v (a.each v refl))
+
+literal_lawful : (hs : List HeadV) (v : Bool) (b : Base) (l : LiteralV) (o : Option ValueV) → some_default (cond v (vector_default l) (base_default hs b l)) ≡ Some o → is_default (record { vector = v; base = b }) o ≡ true
+literal_lawful hs true b l o e = said_allowed (record { vector = true; base = b }) is_vector_value (vector_default l) o (λ v h. h) (vector_allowed l) e
+literal_lawful hs false b l o e = said_allowed (record { vector = false; base = b }) (is_value b) (base_default hs b l) o (λ v h. h) (base_allowed hs b l) e
+
+zero_value : (s : Scalar) → is_scalar_value s (zero_scalar s) ≡ true
+zero_value scalar.Bool = refl
+zero_value scalar.Byte = refl
+zero_value scalar.UByte = refl
+zero_value scalar.Short = refl
+zero_value scalar.UShort = refl
+zero_value scalar.Int = refl
+zero_value scalar.UInt = refl
+zero_value scalar.Long = refl
+zero_value scalar.ULong = refl
+zero_value scalar.Float = refl
+zero_value scalar.Double = refl
+
+zero_among : (q : Bool) (i : ℕ) (o : Option ValueV) → cond q (Some (Some (integer zero_number))) None ≡ Some o → is_default (record { vector = false; base = base.Enum i }) o ≡ true
+zero_among true i o e = subst (λ y. is_default (record { vector = false; base = base.Enum i }) y ≡ true) (both (Some (integer zero_number)) o e) refl
+zero_among false i o e = absurd cc
+
+zero_enum : (x : Option EnumerationV) (i : ℕ) (o : Option ValueV) → zero_in x ≡ Some o → is_default (record { vector = false; base = base.Enum i }) o ≡ true
+zero_enum None i o e = absurd cc
+zero_enum (Some d) i o e = zero_among (is_among_values d zero_number) i o e
+
+zero_lawful : (hs : List HeadV) (b : Base) (o : Option ValueV) → zero_default hs b ≡ Some o → is_default (record { vector = false; base = b }) o ≡ true
+zero_lawful hs (base.Scalar s) o e = subst (λ y. is_default (record { vector = false; base = base.Scalar s }) y ≡ true) (both (Some (zero_scalar s)) o e) (zero_value s)
+zero_lawful hs base.Text o e = subst (λ y. is_default (record { vector = false; base = base.Text }) y ≡ true) (both None o e) refl
+zero_lawful hs (base.Enum i) o e = zero_enum (enum_at (item_at hs i)) i o e
+zero_lawful hs (base.Struct i) o e = subst (λ y. is_default (record { vector = false; base = base.Struct i }) y ≡ true) (both None o e) refl
+zero_lawful hs (base.Table i) o e = subst (λ y. is_default (record { vector = false; base = base.Table i }) y ≡ true) (both None o e) refl
+zero_lawful hs (base.Union i) o e = subst (λ y. is_default (record { vector = false; base = base.Union i }) y ≡ true) (both None o e) refl
+
+none_lawful : (hs : List HeadV) (v : Bool) (b : Base) (o : Option ValueV) → cond v (Some None) (zero_default hs b) ≡ Some o → is_default (record { vector = v; base = b }) o ≡ true
+none_lawful hs true b o e = subst (λ y. is_default (record { vector = true; base = b }) y ≡ true) (both None o e) refl
+none_lawful hs false b o e = zero_lawful hs b o e
+
+pub default_lawful : (hs : List HeadV) (d : Option LiteralV) (t : FieldType) (o : Option ValueV) → default_said hs t d ≡ Some o → is_default t o ≡ true
+default_lawful hs None t o e = none_lawful hs t.vector t.base o e
+default_lawful hs (Some l) t o e = literal_lawful hs t.vector t.base l o e
