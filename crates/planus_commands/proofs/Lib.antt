@@ -1,3 +1,4 @@
 pub mod Taken
 pub mod Inked
 pub mod Reported
+pub mod Nearby

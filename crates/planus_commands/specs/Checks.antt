@@ -9,13 +9,14 @@ use Rattle.std.specs.Io.KnownBytes.{Appends, Keeps}
 use Rattle.planus_syntax.specs.Tokens.{Piece}
 use Rattle.planus_syntax.specs.Lexing.{lex_of}
 use Rattle.planus_syntax.specs.Placing.{StandsAt}
-use Rattle.planus_syntax.specs.Values.{DeclarationV}
+use Rattle.planus_syntax.specs.Values.{Name, DeclarationV}
 use Rattle.planus_schema.specs.Schemas.{Means, AreFaults}
 use Rattle.planus_schema.specs.Sound.{IsSound}
 use Rattle.planus_schema.specs.declared.fault.Fault.{Fault}
 use Rattle.planus_schema.specs.declared.schema.Schema.{Schema}
 use Rattle.planus_commands.specs.declared.checking.File.{File}
-use Rattle.planus_commands.specs.Problems.{problem_text}
+use Rattle.planus_commands.specs.Near.{names_of_files}
+use Rattle.planus_commands.specs.Problems.{message_text}
 use Rattle.planus_commands.specs.Reports.{report_text}
 
 -- no letter, digit, `_` or dot
@@ -31,22 +32,23 @@ unquoted (b ∷ bs) = if b == 34 then bs else b ∷ bs
 abbrev pub word_of : List ℕ → List ℕ
 word_of bytes = take (position_or_len ends_word bytes) bytes
 
--- the report of a fault: at its word, and with its word in the message
-abbrev pub IsReport : File → Fault → List ℕ → Type 0
-IsReport file fault report = (ps : List Piece) → lex_of file.text.items ≡ Ok ps
+-- the report of a fault: at its word, and with its word in the message; these names are declared
+abbrev pub IsReport : List Name → File → Fault → List ℕ → Type 0
+IsReport names file fault report = (ps : List Piece) → lex_of file.text.items ≡ Ok ps
     → (at : ℕ) × StandsAt file.text.items ps (length ps - fault.left) at
     × (report ≡ report_text (string_bytes file.name) file.text.items at
-    (problem_text fault.problem (word_of (unquoted (drop at file.text.items)))))
+    (message_text names fault.problem (word_of (unquoted (drop at file.text.items)))))
 
 -- a fault in none of the files has no report
-abbrev pub IsReportIn : Option File → Fault → List ℕ → Type 0
-IsReportIn None fault report = report ≡ []
-IsReportIn (Some file) fault report = IsReport file fault report
+abbrev pub IsReportIn : List Name → Option File → Fault → List ℕ → Type 0
+IsReportIn names None fault report = report ≡ []
+IsReportIn names (Some file) fault report = IsReport names file fault report
 
 -- the report of a fault was added
-pub record IsReportAdded (files : List File) (fault : Fault) (old new : List ℕ) : Type 0 where
+pub record IsReportAdded (names : List Name) (files : List File) (fault : Fault)
+    (old new : List ℕ) : Type 0 where
   pub report : List ℕ
-  pub is : IsReportIn (slice_get files fault.file) fault report
+  pub is : IsReportIn names (slice_get files fault.file) fault report
   pub added : new ≡ old ++ report
 
 -- this, and then that
@@ -58,10 +60,10 @@ pub record Joins (IsFirst AreRest : List ℕ → Type 0) (out : List ℕ) : Type
   pub joined : out ≡ first ++ rest
 
 -- one report after another
-abbrev pub AreReports : List File → List Fault → List ℕ → Type 0
-AreReports files [] out = out ≡ []
-AreReports files (fault ∷ faults) out =
-    Joins (IsReportIn (slice_get files fault.file) fault) (AreReports files faults) out
+abbrev pub AreReports : List Name → List File → List Fault → List ℕ → Type 0
+AreReports names files [] out = out ≡ []
+AreReports names files (fault ∷ faults) out =
+    Joins (IsReportIn names (slice_get files fault.file) fault) (AreReports names files faults) out
 
 -- The files mean a sound schema, and nothing is said; or from one to twenty faults are reported.
 abbrev pub ChecksFiles : List File → List (List DeclarationV) → Bool
@@ -69,4 +71,5 @@ abbrev pub ChecksFiles : List File → List (List DeclarationV) → Bool
 ChecksFiles files declarations true before after =
     ((s : Schema) × Means declarations s × IsSound s) × Keeps before after
 ChecksFiles files declarations false before after = (faults : List Fault) × AreFaults faults
-    × ((out : List ℕ) × AreReports files faults out × Appends before after out)
+    × ((out : List ℕ) × AreReports (names_of_files declarations) files faults out
+    × Appends before after out)

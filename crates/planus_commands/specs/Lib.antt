@@ -4,3 +4,4 @@ pub mod Reports
 pub mod Outcomes
 pub mod Problems
 pub mod Checks
+pub mod Near

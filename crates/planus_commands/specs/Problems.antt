@@ -1,7 +1,9 @@
 -- What faults of meaning are called.
 use Rattle.std.specs.Prelude.{ℕ, List, [], ◌++◌, codes}
+use Rattle.planus_syntax.specs.Values.{Name}
 use Rattle.planus_schema.specs.declared.fault.Problem.{Problem}
 use Rattle.planus_schema.specs.declared.fault.Problem.TheVariants as problem
+use Rattle.planus_commands.specs.Near.{hint_of, nearest}
 
 -- what stands before the word at fault
 abbrev pub before : Problem → List ℕ
@@ -47,3 +49,9 @@ after problem.MethodIsNoTable = codes " is no table"
 
 abbrev pub problem_text : Problem → List ℕ → List ℕ
 problem_text p word = before p ++ (codes "`" ++ (word ++ (codes "`" ++ after p)))
+
+-- the same, with the nearest of these names for an unknown type
+abbrev pub message_text : List Name → Problem → List ℕ → List ℕ
+message_text names problem.UnknownType word =
+    problem_text problem.UnknownType word ++ hint_of (nearest names word)
+message_text names p word = problem_text p word

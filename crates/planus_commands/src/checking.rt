@@ -1,12 +1,13 @@
 //! Whether the files of a schema mean something.
 
 ghost use Rattle.std.specs.Prelude.{◌≡◌, map, position, IfOk, OnOk};
-ghost use Rattle.planus_syntax.specs.Values.{schema_of};
+ghost use Rattle.planus_syntax.specs.Values.{names_of, schema_of};
 ghost use Rattle.planus_commands.specs.Checks.{AreReports, ChecksFiles, IsReport, IsReportAdded};
 ghost use Rattle.planus_commands.specs.Checks.{ends_word as ends_word_lem, unquoted as unquoted_lem};
 ghost use Rattle.planus_commands.specs.Checks.{word_of as word_lem};
 
-use crate::problem::problem_text;
+use crate::near::declared_names;
+use crate::problem::message_text;
 use crate::report::report;
 use crate::streams::{RunError, write_out};
 use planus_schema::{Fault, Refusal, resolve};
@@ -53,14 +54,19 @@ fn word_of(bytes: &[u8]) -> &[u8]
 }
 
 /// Returns the report of a fault in this file.
-fn fault_report(alloc: Global, file: &File, fault: Fault) -> Result<Vec<u8>, AllocError>
-    ensures { IfOk result (λ out. IsReport file.now fault out.items) }
+fn fault_report(
+    alloc: Global,
+    names: &[Vec<u8>],
+    file: &File,
+    fault: Fault,
+) -> Result<Vec<u8>, AllocError>
+    ensures { IfOk result (λ out. IsReport (names_of names.now) file.now fault out.items) }
 {
     let text = &file.text;
     match place_from_end(alloc, text, fault.left) {
         Ok(at) => {
             let word = word_of(unquoted(&text[at..]));
-            let message = problem_text(alloc, fault.problem, word)?;
+            let message = message_text(alloc, names, fault.problem, word)?;
             report(alloc, file.name.as_str(), text, at, &message)
         }
         Err(SchemaError::OutOfMemory) => Err(AllocError),
@@ -72,15 +78,17 @@ fn fault_report(alloc: Global, file: &File, fault: Fault) -> Result<Vec<u8>, All
 fn put_report(
     alloc: Global,
     out: &mut Vec<u8>,
+    names: &[Vec<u8>],
     files: &[File],
     fault: Fault,
 ) -> Result<(), AllocError>
-    ensures { OnOk result (IsReportAdded files.now fault out.old.items out.new.items) }
+    ensures { OnOk result (IsReportAdded (names_of names.now) files.now fault
+        out.old.items out.new.items) }
 {
     match files.get(fault.file) {
         None => Ok(()),
         Some(file) => {
-            let report = fault_report(alloc, file, fault)?;
+            let report = fault_report(alloc, names, file, fault)?;
             out.extend_from_slice(&report)?;
             Ok(())
         }
@@ -88,12 +96,17 @@ fn put_report(
 }
 
 /// Returns the reports of these faults, one after another.
-fn reports(alloc: Global, files: &[File], faults: &[Fault]) -> Result<Vec<u8>, AllocError>
-    ensures { IfOk result (λ out. AreReports files.now faults.now out.items) }
+fn reports(
+    alloc: Global,
+    names: &[Vec<u8>],
+    files: &[File],
+    faults: &[Fault],
+) -> Result<Vec<u8>, AllocError>
+    ensures { IfOk result (λ out. AreReports (names_of names.now) files.now faults.now out.items) }
 {
     let mut out = Vec::new(alloc);
     'faults: for fault in faults {
-        put_report(alloc, &mut out, files, *fault)?;
+        put_report(alloc, &mut out, names, files, *fault)?;
     }
     Ok(out)
 }
@@ -116,7 +129,8 @@ pub fn check_files<X: Write>(
         Ok(_) => Ok(true),
         Err(Refusal::OutOfMemory) => Err(RunError::OutOfMemory),
         Err(Refusal::Faults(faults)) => {
-            let out = reports(alloc, files, &faults)?;
+            let names = declared_names(alloc, declarations)?;
+            let out = reports(alloc, &names, files, &faults)?;
             write_out(errors, &out)?;
             Ok(false)
         }

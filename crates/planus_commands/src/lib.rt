@@ -6,6 +6,7 @@ mod arguments;
 mod checking;
 mod include;
 mod message;
+mod near;
 mod outcome;
 mod parsed;
 mod placed;

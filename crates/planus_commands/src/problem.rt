@@ -1,9 +1,14 @@
 //! What faults of meaning are called.
 
-ghost use Rattle.std.specs.Prelude.{◌≡◌, IfOk};
+ghost use Rattle.std.specs.Prelude.{◌≡◌, ◌++◌, Some, IfOk, OnOk};
+ghost use Rattle.std.specs.Option.{option_map};
+ghost use Rattle.planus_syntax.specs.Values.{names_of};
+ghost use Rattle.planus_commands.specs.Near.{hint_of};
+ghost use Rattle.planus_commands.specs.Problems.{message_text as message_text_lem};
 ghost use Rattle.planus_commands.specs.Problems.{after as after_lem, before as before_lem};
 ghost use Rattle.planus_commands.specs.Problems.{problem_text as problem_text_lem};
 
+use crate::near::nearest;
 use planus_schema::Problem;
 use std::alloc::{AllocError, Global};
 
@@ -64,7 +69,7 @@ fn after(problem: Problem) -> &'static str
 }
 
 /// Returns the message of a fault at this word.
-pub fn problem_text(alloc: Global, problem: Problem, word: &[u8]) -> Result<Vec<u8>, AllocError>
+fn problem_text(alloc: Global, problem: Problem, word: &[u8]) -> Result<Vec<u8>, AllocError>
     ensures { IfOk result (λ text. text.items ≡ problem_text_lem problem word.now) }
 {
     let mut text = Vec::from_slice(alloc, before(problem).as_bytes())?;
@@ -72,5 +77,47 @@ pub fn problem_text(alloc: Global, problem: Problem, word: &[u8]) -> Result<Vec<
     text.extend_from_slice(word)?;
     text.push(b'`')?;
     text.extend_from_slice(after(problem).as_bytes())?;
+    Ok(text)
+}
+
+/// Returns what says that this name may have been meant.
+fn hint(alloc: Global, name: &[u8]) -> Result<Vec<u8>, AllocError>
+    ensures { IfOk result (λ text. text.items ≡ hint_of (Some name.now)) }
+{
+    let mut text = Vec::from_slice(alloc, b"; did you mean `")?;
+    text.extend_from_slice(name)?;
+    text.extend_from_slice(b"`?")?;
+    Ok(text)
+}
+
+/// Appends a name that may have been meant.
+fn put_hint(alloc: Global, text: &mut Vec<u8>, name: Option<&[u8]>) -> Result<(), AllocError>
+    ensures { OnOk result (text.new.items
+        ≡ text.old.items ++ hint_of (option_map (λ w. w.now) name.entry)) }
+{
+    match name {
+        None => Ok(()),
+        Some(name) => {
+            let hint = hint(alloc, name)?;
+            text.extend_from_slice(&hint)?;
+            Ok(())
+        }
+    }
+}
+
+/// Returns the message of a fault at this word, with the nearest of these names for an unknown type.
+pub fn message_text(
+    alloc: Global,
+    names: &[Vec<u8>],
+    problem: Problem,
+    word: &[u8],
+) -> Result<Vec<u8>, AllocError>
+    ensures { IfOk result (λ text. text.items
+        ≡ message_text_lem (names_of names.now) problem word.now) }
+{
+    let mut text = problem_text(alloc, problem, word)?;
+    if let Problem::UnknownType = problem {
+        put_hint(alloc, &mut text, nearest(names, word))?;
+    }
     Ok(text)
 }

@@ -1,6 +1,6 @@
 -- What a literal says is a default of its type.
-use Rattle.std.proofs.Common.{◌≡◌, ℕ, Bool, true, false, cond, List, [], ◌∷◌, refl, sym, ap, subst, ◌∙◌}
-use Rattle.std.specs.Prelude.{Option, Some, None, codes, ◌&&◌, ◌||◌, not}
+use Rattle.std.proofs.Common.{◌≡◌, ℕ, Bool, true, false, cond, List, [], refl, subst}
+use Rattle.std.specs.Prelude.{Option, Some, None, codes, ◌&&◌, ◌||◌}
 use Rattle.planus_syntax.specs.Values.{Name, PathV, LiteralV, numeral, named, quote, nothing, EnumerationV}
 use Rattle.planus_schema.specs.declared.number.Number.{Number}
 use Rattle.planus_schema.specs.declared.scalar.Scalar.{Scalar}
@@ -11,7 +11,7 @@ use Rattle.planus_schema.specs.declared.schema.FieldType.{FieldType}
 use Rattle.planus_schema.specs.Numbers.{integer_of, is_integer, is_float, is_bool, fits, zero_number, is_hexadecimal, without_sign}
 use Rattle.planus_schema.specs.Names.{HeadV, item_at}
 use Rattle.planus_schema.specs.Enums.{is_flags}
-use Rattle.planus_schema.specs.Defaults.{ValueV, absent, integer, float, text, empty, is_word, absent_or, whole_number, truth, named_bool, named_float, float_number, scalar_default, value_named, value_name, value_in, as_integer, enum_named, is_among_values, among_values, enum_default, text_default, vector_default, enum_at, default_in, base_default, zero_in, zero_scalar, zero_default, some_default, default_said, is_scalar_value, is_enum_value, is_text_value, is_vector_value, is_value, is_default}
+use Rattle.planus_schema.specs.Defaults.{ValueV, absent, integer, float, text, empty, is_word, absent_or, whole_number, truth, named_bool, named_float, float_number, scalar_default, value_named, value_name, value_in, as_integer, enum_named, is_among_values, among_values, cut_words, flags_named, as_flags, text_default, vector_default, enum_at, default_in, base_default, zero_in, zero_scalar, zero_default, some_default, default_said, is_scalar_value, is_enum_value, is_text_value, is_vector_value, is_value, is_default}
 
 -- whatever is there has this
 record Allowed (p : ValueV → Bool) (o : Option ValueV) : Type 0 where
@@ -94,11 +94,15 @@ value_allowed e (Some w) = integer_allowed (value_named w (is_flags e) None e.va
 among_allowed : (e : EnumerationV) (n : Number) → Allowed is_enum_value (among_values e n)
 among_allowed e n = chosen is_enum_value (is_among_values e n) (Some (integer n)) None (λ _. one_allowed is_enum_value (integer n) refl) (λ _. none_allowed is_enum_value)
 
+flags_allowed : (o : Option ℕ) → Allowed is_enum_value (as_flags o)
+flags_allowed None = none_allowed is_enum_value
+flags_allowed (Some n) = one_allowed is_enum_value (integer (record { negative = false; magnitude = n })) refl
+
 enum_allowed : (o : Option EnumerationV) (l : LiteralV) → Allowed is_enum_value (default_in o l)
 enum_allowed None l = none_allowed is_enum_value
 enum_allowed (Some e) (numeral w) = chosen is_enum_value (is_integer w) (among_values e (integer_of w)) None (λ _. among_allowed e (integer_of w)) (λ _. none_allowed is_enum_value)
 enum_allowed (Some e) (named p) = absent_allowed is_enum_value p (enum_named e p) refl (value_allowed e (value_name e p))
-enum_allowed (Some e) (quote w) = none_allowed is_enum_value
+enum_allowed (Some e) (quote w) = chosen is_enum_value (is_flags e) (as_flags (flags_named e (cut_words [] w))) None (λ _. flags_allowed (flags_named e (cut_words [] w))) (λ _. none_allowed is_enum_value)
 enum_allowed (Some e) nothing = none_allowed is_enum_value
 
 -- ---- all types

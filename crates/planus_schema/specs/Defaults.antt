@@ -1,5 +1,6 @@
 -- Defaults.
-use Rattle.std.specs.Prelude.{ℕ, Bool, true, false, ◌&&◌, ◌||◌, not, if◌then◌else◌}
+use Rattle.std.specs.Prelude.{ℕ, Bool, true, false, ◌&&◌, ◌||◌}
+use Rattle.std.specs.Prelude.{not, if◌then◌else◌, ◌==◌, ◌++◌, fold, bit_or}
 use Rattle.std.specs.Prelude.{List, [], ◌∷◌, Option, Some, None, codes}
 use Rattle.std.specs.List.{list_any}
 use Rattle.std.specs.Str.{bytes_eq}
@@ -14,7 +15,8 @@ use Rattle.planus_schema.specs.declared.schema.Base.TheVariants as base
 use Rattle.planus_schema.specs.declared.schema.FieldType.{FieldType}
 use Rattle.planus_schema.specs.declared.schema.Value.{Value}
 use Rattle.planus_schema.specs.declared.schema.Value.TheVariants as value
-use Rattle.planus_schema.specs.Numbers.{integer_of, is_integer, is_float, is_bool, fits, zero_number}
+use Rattle.planus_schema.specs.Numbers.{integer_of, is_integer, is_float, is_bool, fits}
+use Rattle.planus_schema.specs.Numbers.{zero_number}
 use Rattle.planus_schema.specs.Numbers.{is_hexadecimal, without_sign, scalar_named}
 use Rattle.planus_schema.specs.Names.{HeadV, item_at}
 use Rattle.planus_schema.specs.Enums.{number_of, settled, is_flags, numbers_from, same_number}
@@ -49,7 +51,8 @@ abbrev pub absent_or : PathV → Option ValueV → Option ValueV
 absent_or p o = if is_word (codes "null") p then Some absent else o
 
 abbrev pub whole_number : Scalar → List ℕ → Option ValueV
-whole_number s w = if is_integer w && fits s (integer_of w) then Some (integer (integer_of w)) else None
+whole_number s w =
+    if is_integer w && fits s (integer_of w) then Some (integer (integer_of w)) else None
 
 abbrev pub truth : Number
 truth = record { negative = false; magnitude = 1 }
@@ -59,7 +62,8 @@ named_bool p = if is_word (codes "true") p then Some (integer truth)
     else if is_word (codes "false") p then Some (integer zero_number) else None
 
 abbrev pub named_float : PathV → Option ValueV
-named_float p = if is_word (codes "nan") p || is_word (codes "inf") p then Some (float p.first) else None
+named_float p =
+    if is_word (codes "nan") p || is_word (codes "inf") p then Some (float p.first) else None
 
 -- digits that are not hexadecimal
 abbrev pub float_number : List ℕ → Option ValueV
@@ -111,11 +115,37 @@ is_among_values e n = if is_flags e then fits_in (scalar_named e.base.first)
 abbrev pub among_values : EnumerationV → Number → Option ValueV
 among_values e n = if is_among_values e n then Some (integer n) else None
 
+-- the words of a text with a space between them, after the beginning of the first
+abbrev pub cut_words : List ℕ → List ℕ → List Name
+cut_words word [] = word ∷ []
+cut_words word (b ∷ bs) =
+    if b == 32 then word ∷ cut_words [] bs else cut_words (word ++ b ∷ []) bs
+
+abbrev pub or_flag : ℕ → Option Number → Option ℕ
+or_flag total None = None
+or_flag total (Some n) = Some (bit_or total n.magnitude)
+
+abbrev pub with_flag : EnumerationV → Option ℕ → Name → Option ℕ
+with_flag e None w = None
+with_flag e (Some total) w = or_flag total (value_named w true None e.variants)
+
+-- the values of these names together
+abbrev pub flags_named : EnumerationV → List Name → Option ℕ
+flags_named e ws = fold (with_flag e) (Some 0) ws
+
+abbrev pub as_flags : Option ℕ → Option ValueV
+as_flags None = None
+as_flags (Some n) = Some (integer (record { negative = false; magnitude = n }))
+
+-- several values of an enum with `bit_flags`
+abbrev pub flags_default : EnumerationV → List ℕ → Option ValueV
+flags_default e w = if is_flags e then as_flags (flags_named e (cut_words [] w)) else None
+
 abbrev pub enum_default : EnumerationV → LiteralV → Option ValueV
 enum_default e (numeral w) =
     if is_integer w then among_values e (integer_of w) else None
 enum_default e (named p) = absent_or p (enum_named e p)
-enum_default e (quote w) = None
+enum_default e (quote w) = flags_default e w
 enum_default e nothing = None
 
 abbrev pub text_default : LiteralV → Option ValueV

@@ -65,9 +65,11 @@ is_integer_type s = not (is_float s) && not (is_bool s)
 pub record IsValueAdded (s : Scalar) (v : VariantV) (n : Number) (old new : List EnumValue) : Type 0
   where
     pub names : map (λ x. x.name.items) new ≡ map (λ x. x.name.items) old ++ v.name ∷ []
-    pub docs : map (λ x. names_of x.docs.items) new ≡ map (λ x. names_of x.docs.items) old ++ v.docs ∷ []
+    pub docs : map (λ x. names_of x.docs.items) new
+        ≡ map (λ x. names_of x.docs.items) old ++ v.docs ∷ []
     pub numbers : map number_of_value new ≡ map number_of_value old ++ n ∷ []
-    pub within : list_all (λ x. fits s x.number) old ≡ true → list_all (λ x. fits s x.number) new ≡ true
+    pub within : list_all (λ x. fits s x.number) old ≡ true
+        → list_all (λ x. fits s x.number) new ≡ true
     pub distinct : IsDistinct same_number (map number_of_value old)
         → IsDistinct same_number (map number_of_value new)
 

@@ -5,7 +5,8 @@ use Rattle.std.specs.Prelude.{Some, None, codes, slice_get}
 use denote.Ref.{Bor}
 use Rattle.std.specs.Str.{bytes_eq}
 use Rattle.planus_syntax.specs.Values.{Name, PathV, KindV, single, vector}
-use Rattle.planus_syntax.specs.Values.{AttributeV, ItemV, include, namespace, attribute, table, struct}
+use Rattle.planus_syntax.specs.Values.{AttributeV, ItemV, include, namespace, attribute, table}
+use Rattle.planus_syntax.specs.Values.{struct}
 use Rattle.planus_syntax.specs.Values.{enumeration, union, service, root, identifier, extension}
 use Rattle.planus_syntax.specs.Values.{DeclarationV, path_of, declaration_of}
 use Rattle.planus_syntax.specs.declared.value.Path.{Path}

@@ -1,5 +1,6 @@
 -- Structs: where the bytes of their fields lie.
-use Rattle.std.specs.Prelude.{◌≡◌, ℕ, ◌+◌, ◌%◌, ◌≤◌, ◌<◌, max, Bool, true, false, ◌&&◌, ◌==◌, ◌||◌, not}
+use Rattle.std.specs.Prelude.{◌≡◌, ℕ, ◌+◌, ◌%◌, ◌≤◌, ◌<◌, max, Bool, true, false, ◌&&◌, ◌==◌}
+use Rattle.std.specs.Prelude.{◌||◌, not}
 use Rattle.std.specs.Prelude.{List, [], ◌∷◌, map, fold, Option, Some, None, codes, slice_get}
 use Rattle.planus_syntax.specs.Values.{Name, LiteralV, numeral, named, quote, nothing, AttributeV}
 use Rattle.planus_syntax.specs.Values.{FieldV, RecordV, names_of}
@@ -102,4 +103,5 @@ pub record SaysStruct (hs : List HeadV) (space : List Name) (bodies : List Body)
     (s : Struct) : Type 0 where
   pub fields : Each2 (SaysStructField hs space bodies) d.fields s.fields.items
   pub alignment : s.alignment
-      ≡ alignment_said (setting (codes "force_align") d.attributes) (greatest_alignment s.fields.items)
+      ≡ alignment_said (setting (codes "force_align") d.attributes)
+      (greatest_alignment s.fields.items)

@@ -145,10 +145,11 @@ table_found hs space (Some w) = base_found hs (found hs space (w ∷ []))
 abbrev pub NestedIs : List HeadV → List Name → Option AttributeV → Option ℕ → Type 0
 NestedIs hs space None o = o ≡ None
 NestedIs hs space (Some a) None = ⊥
-NestedIs hs space (Some a) (Some i) = table_found hs space (nested_name a.value) ≡ Some (base.Table i)
+NestedIs hs space (Some a) (Some i) =
+    table_found hs space (nested_name a.value) ≡ Some (base.Table i)
 
-pub record SaysField (hs : List HeadV) (space : List Name) (ids : Bool) (d : FieldV) (f : TableField)
-    : Type 0 where
+pub record SaysField (hs : List HeadV) (space : List Name) (ids : Bool) (d : FieldV)
+    (f : TableField) : Type 0 where
   pub name : f.name.items ≡ d.name
   pub docs : names_of f.docs.items ≡ d.docs
   pub kind : type_named hs space d.kind ≡ Some f.kind

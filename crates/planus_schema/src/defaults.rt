@@ -1,6 +1,6 @@
 //! Defaults.
 
-ghost use Rattle.std.specs.Prelude.{◌≡◌, true, map, IfOk, IfSome, Some, None};
+ghost use Rattle.std.specs.Prelude.{◌≡◌, [], true, map, IfOk, IfSome, Some, None};
 ghost use Rattle.std.specs.Option.{option_map};
 ghost use Rattle.std.specs.List.{list_any};
 ghost use Rattle.planus_syntax.specs.Values.{path_of, literal_of, variant_of, enumeration_of};
@@ -22,6 +22,10 @@ ghost use Rattle.planus_schema.specs.Defaults.{enum_default as enum_default_lem}
 ghost use Rattle.planus_schema.specs.Defaults.{enum_at as enum_at_lem};
 ghost use Rattle.planus_schema.specs.Defaults.{base_default as base_default_lem};
 ghost use Rattle.planus_schema.specs.Defaults.{zero_default as zero_default_lem};
+ghost use Rattle.planus_schema.specs.Defaults.{cut_words as cut_words_lem};
+ghost use Rattle.planus_schema.specs.Defaults.{flags_named as flags_named_lem};
+ghost use Rattle.planus_schema.specs.Defaults.{flags_default as flags_default_lem};
+ghost use Rattle.planus_syntax.specs.Values.{names_of};
 
 use crate::attributes::has;
 use crate::enums::{number_of, same_number, value_of as settled};
@@ -214,15 +218,75 @@ fn enum_named(declared: &Enumeration, path: &Path) -> Option<Value>
     }
 }
 
-fn enum_default(declared: &Enumeration, literal: &Literal) -> Option<Value>
-    ensures { IfSome result (λ v. Some (value_of v)
-        ≡ enum_default_lem (enumeration_of declared.now) (literal_of literal.now)) }
+/// Returns the words of a text with a space between them.
+fn cut_words(alloc: Global, text: &[u8]) -> Result<Vec<Vec<u8>>, AllocError>
+    ensures { IfOk result (λ v. names_of v.items ≡ cut_words_lem [] text.now) }
+{
+    let mut words = Vec::new(alloc);
+    let mut word = Vec::new(alloc);
+    'bytes: for b in text {
+        if *b == b' ' {
+            words.push(word)?;
+            word = Vec::new(alloc);
+        } else {
+            word.push(*b)?;
+        }
+    }
+    words.push(word)?;
+    Ok(words)
+}
+
+/// Returns the values of these names together.
+fn flags_named(declared: &Enumeration, words: &[Vec<u8>]) -> Option<u64>
+    ensures { IfSome result (λ n. flags_named_lem (enumeration_of declared.now)
+        (names_of words.now) ≡ Some n) }
+{
+    let mut total = 0;
+    'words: for word in words {
+        match value_named(&declared.variants, word, true) {
+            Some(number) => total |= number.magnitude,
+            None => return None,
+        }
+    }
+    Some(total)
+}
+
+/// Returns several values of an enum with `bit_flags`.
+fn flags_default(
+    alloc: Global,
+    declared: &Enumeration,
+    text: &[u8],
+) -> Result<Option<Value>, AllocError>
+    ensures { IfOk result (λ o. IfSome o (λ v. Some (value_of v)
+        ≡ flags_default_lem (enumeration_of declared.now) text.now)) }
+{
+    if !has(&declared.attributes, b"bit_flags") {
+        return Ok(None);
+    }
+    let words = cut_words(alloc, text)?;
+    match flags_named(declared, &words) {
+        Some(magnitude) => Ok(Some(Value::Integer(Number {
+            negative: false,
+            magnitude,
+        }))),
+        None => Ok(None),
+    }
+}
+
+fn enum_default(
+    alloc: Global,
+    declared: &Enumeration,
+    literal: &Literal,
+) -> Result<Option<Value>, AllocError>
+    ensures { IfOk result (λ o. IfSome o (λ v. Some (value_of v)
+        ≡ enum_default_lem (enumeration_of declared.now) (literal_of literal.now))) }
 {
     match literal {
-        Literal::Number(digits) => enum_number(declared, digits),
-        Literal::Name(path) if is_word(path, b"null") => Some(Value::Absent),
-        Literal::Name(path) => enum_named(declared, path),
-        _ => None,
+        Literal::Number(digits) => Ok(enum_number(declared, digits)),
+        Literal::Name(path) if is_word(path, b"null") => Ok(Some(Value::Absent)),
+        Literal::Name(path) => Ok(enum_named(declared, path)),
+        Literal::Text(text) => flags_default(alloc, declared, text),
+        Literal::EmptyVector => Ok(None),
     }
 }
 
@@ -250,7 +314,7 @@ fn base_default(
         (Base::Scalar(scalar), _) => scalar_default(alloc, scalar, literal),
         (Base::Text, Literal::Text(bytes)) => Ok(Some(Value::Text(Vec::from_slice(alloc, bytes)?))),
         (Base::Enum(index), _) => match enum_at(heads, index) {
-            Some(declared) => Ok(enum_default(declared, literal)),
+            Some(declared) => enum_default(alloc, declared, literal),
             None => Ok(None),
         },
         _ => Ok(None),

@@ -53,7 +53,8 @@ fn next_number(previous: Option<Number>) -> Option<Number>
 
 /// Returns the number of a variant: the one that is given, or one more than that before it.
 pub(crate) fn number_of(previous: Option<Number>, variant: &Variant) -> Option<Number>
-    ensures number { IfSome result (λ n. n ≡ number_of_lem previous (variant_of variant.now).value) }
+    ensures number { IfSome result (λ n. n
+        ≡ number_of_lem previous (variant_of variant.now).value) }
     ensures spelled { IfSome result (λ _. is_spelled (variant_of variant.now) ≡ true) }
 {
     match &variant.value {

@@ -75,55 +75,6 @@ pub enum Problem {
     MethodIsNoTable,
 }
 
-impl Problem {
-    /// Returns it in words.
-    pub fn message(self) -> &'static str {
-        match self {
-            Problem::UnknownType => "no type has this name",
-            Problem::NameTaken => "a declaration has this name already",
-            Problem::FieldNameTaken => "a field has this name already",
-            Problem::ValueNameTaken => "a value has this name already",
-            Problem::MemberNameTaken => "a member has this name already",
-            Problem::ValueTaken => "a value has this number already",
-            Problem::TagTaken => "a member has this number already",
-            Problem::NoIntegerType => "the type of an enum must be an integer type",
-            Problem::ValueOutOfRange => "the type of the enum does not hold this value",
-            Problem::TagOutOfRange => "the number of a member must be from 1 to 255",
-            Problem::MemberIsNoTable => {
-                "a member of a union must be a table; structs and strings in unions are not supported"
-            }
-            Problem::NoStructField => "a field of a struct must be a scalar, an enum or a struct",
-            Problem::DeclaredLater => "a type in a struct must be declared before the struct",
-            Problem::DefaultInStruct => "a field of a struct has no default",
-            Problem::AttributeInStruct => "a field of a struct is neither required nor deprecated",
-            Problem::EmptyStruct => "a struct needs a field",
-            Problem::StructTooLarge => "a struct has at most 65535 bytes",
-            Problem::WrongAlignment => {
-                "force_align must be a power of two, from the alignment of the struct to 32"
-            }
-            Problem::WrongDefault => "this default is no value of the type of the field",
-            Problem::UnknownValue => "the enum has no value 0, so the field needs a default",
-            Problem::RequiredScalar => "a scalar or an enum is never required",
-            Problem::IdMissing => "other fields have an id, so each needs one",
-            Problem::WrongId => {
-                "an id must be a number from 0 to 65535, and that of a union from 1 on"
-            }
-            Problem::IdsWithGap => "the ids must be all the numbers from 0 on, each once",
-            Problem::TooManySlots => "a table has at most 32765 slots",
-            Problem::WrongKey => "a key must be a scalar, an enum or a string",
-            Problem::SecondKey => "another field is the key already",
-            Problem::WrongNested => {
-                "nested_flatbuffer needs a field of type [ubyte] and the name of a table in quotes"
-            }
-            Problem::UnknownAttribute => "this attribute is not declared",
-            Problem::RootIsNoTable => "the root must be a table",
-            Problem::WrongIdentifier => "an identifier must have four bytes",
-            Problem::MethodNameTaken => "a method has this name already",
-            Problem::MethodIsNoTable => "a request or a response must be a table",
-        }
-    }
-}
-
 /// A fault: what is wrong, and where. `file` is the index of its file, and `left` how many tokens
 /// there are from the word at fault to the end of its text, the word counted.
 #[derive(Clone, Copy, Debug, PartialEq, Eq)]

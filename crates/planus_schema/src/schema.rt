@@ -58,7 +58,7 @@ pub struct Table {
     pub fields: Vec<TableField>,
 }
 
-/// A field of a struct: `size` bytes at a distance of `distance` bytes from where the struct begins.
+/// A field of a struct: `size` bytes, `distance` bytes after where the struct begins.
 #[derive(Debug, Drop)]
 pub struct StructField {
     pub name: Vec<u8>,

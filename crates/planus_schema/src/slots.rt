@@ -115,7 +115,8 @@ fn counts_up(numbers: &[usize]) -> bool
 
 /// Returns whether the slots are all the numbers from 0 on, each once.
 fn are_whole(slots: &mut Vec<usize>) -> Result<bool, AllocError>
-    ensures { IfOk result (λ b. b ≡ true → length slots.old.items ≤ 32765 → AreSlots slots.old.items) }
+    ensures { IfOk result (λ b. b ≡ true → length slots.old.items ≤ 32765
+        → AreSlots slots.old.items) }
 {
     slots.sort()?;
     Ok(counts_up(slots))

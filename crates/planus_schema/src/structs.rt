@@ -1,8 +1,9 @@
 //! Structs: where the bytes of their fields lie.
 
-ghost use Rattle.std.specs.Prelude.{◌≡◌, ◌≤◌, ◌<◌, ◌+◌, true, false, map, IfOk, IfSome, Some, codes, slice_get, max};
+ghost use Rattle.std.specs.Prelude.{◌≡◌, ◌≤◌, ◌<◌, ◌+◌, true, false, map, IfOk, IfSome, Some};
+ghost use Rattle.std.specs.Prelude.{codes, slice_get, max};
 ghost use Rattle.std.specs.Option.{option_map};
-ghost use Rattle.planus_syntax.specs.Values.{kind_of, field_of, record_of, literal_of, attribute_of};
+ghost use Rattle.planus_syntax.specs.Values.{kind_of, field_of, record_of, attribute_of};
 ghost use Rattle.planus_schema.specs.Names.{space_of, head_of, type_named, setting as setting_lem};
 ghost use Rattle.planus_schema.specs.Structs.{measure_in, measure_of_body as measure_of_body_lem};
 ghost use Rattle.planus_schema.specs.Structs.{IsNext, IsStruct, SaysStruct, SaysStructField};
@@ -196,7 +197,8 @@ fn struct_fields(
     declared: &[Field],
 ) -> Result<Layout, Stop>
     ensures says { IfOk result (λ l. Each2 (SaysStructField (map head_of heads.now)
-        (space_of space.entry) (map body_in bodies.now)) (map field_of declared.now) l.fields.items) }
+        (space_of space.entry) (map body_in bodies.now)) (map field_of declared.now)
+        l.fields.items) }
     ensures laid { IfOk result (λ l. Laid 0 l.fields.items l.end) }
     ensures within { IfOk result (λ l. l.end ≤ 65535) }
     ensures greatest { IfOk result (λ l. l.alignment ≡ greatest_alignment l.fields.items) }

@@ -7,9 +7,11 @@ ghost use Rattle.planus_syntax.specs.Values.{names_of, field_of, record_of, attr
 ghost use Rattle.planus_schema.specs.Names.{head_of, space_of, setting as setting_lem, base_found};
 ghost use Rattle.planus_schema.specs.Names.{found as found_lem, words_of};
 ghost use Rattle.planus_schema.specs.Distinct.{AreDistinct, Each2};
-ghost use Rattle.planus_schema.specs.Tables.{is_lawful as is_lawful_lem, is_number as is_number_lem};
-ghost use Rattle.planus_schema.specs.Tables.{may_be_key as may_be_key_lem, is_bytes as is_bytes_lem};
-ghost use Rattle.planus_schema.specs.Tables.{names_taken, all_names, NestedIs, SaysField, SaysTable};
+ghost use Rattle.planus_schema.specs.Tables.{is_lawful as is_lawful_lem, NestedIs};
+ghost use Rattle.planus_schema.specs.Tables.{is_number as is_number_lem};
+ghost use Rattle.planus_schema.specs.Tables.{may_be_key as may_be_key_lem};
+ghost use Rattle.planus_schema.specs.Tables.{is_bytes as is_bytes_lem};
+ghost use Rattle.planus_schema.specs.Tables.{names_taken, all_names, SaysField, SaysTable};
 ghost use Rattle.planus_schema.specs.Tables.{IsTable, Follow, AreNamed, width as width_lem};
 
 use crate::attributes::{has, setting};
@@ -85,8 +87,9 @@ fn table_named(
     text: &[u8],
     left: usize,
 ) -> Result<usize, Stop>
-    ensures { IfOk result (λ i. base_found (map head_of heads.now) (found_lem (map head_of heads.now)
-        (space_of space.entry) (text.now ∷ [])) ≡ Some (Base.Table i)) }
+    ensures { IfOk result (λ i. base_found (map head_of heads.now)
+        (found_lem (map head_of heads.now) (space_of space.entry) (text.now ∷ []))
+        ≡ Some (Base.Table i)) }
 {
     let path = path_of_text(alloc, text, left)?;
     match found(alloc, heads, space, &path)? {

@@ -125,7 +125,8 @@ fn union_members(
 ) -> Result<Vec<UnionMember>, Stop>
     ensures says { IfOk result (λ v. Each2 (SaysMember (map head_of heads.now)
         (space_of space.entry)) (map member_of declared.now) v.items) }
-    ensures tags { IfOk result (λ v. map tag_in v.items ≡ tags_from 0 (map member_of declared.now)) }
+    ensures tags { IfOk result (λ v. map tag_in v.items
+        ≡ tags_from 0 (map member_of declared.now)) }
     ensures within { IfOk result (λ v. list_all is_tag (map tag_in v.items) ≡ true) }
     ensures distinct { IfOk result (λ v. IsDistinct nat_eq (map tag_in v.items)) }
     ensures names { IfOk result (λ v. AreDistinct

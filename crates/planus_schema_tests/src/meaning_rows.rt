@@ -111,7 +111,7 @@ pub const STRUCTS: [(&str, &str); 21] = [
 ];
 
 /// Taken by both, with the facts: enums.
-pub const ENUMS: [(&str, &str); 22] = [
+pub const ENUMS: [(&str, &str); 23] = [
     (
         "enum A: byte { X = -128, Y = 127 } enum B: ubyte { X, Y = 255 } enum C: short { X = \
         -32768, Y = 32767 } enum D: ushort { X, Y = 65535 }",
@@ -208,6 +208,10 @@ pub const ENUMS: [(&str, &str); 22] = [
     (
         "enum E: uint16 { A, B = 500 }",
         "E of ushort; E.A is 0; E.B is 500",
+    ),
+    (
+        "enum F: ubyte (bit_flags) { A, B, C } table T { f: F = \"A C\"; }",
+        "T.f slot 0; T.f of F; T.f default 5; F of ubyte; F.A is 1; F.B is 2; F.C is 4",
     ),
 ];
 
@@ -931,11 +935,7 @@ pub const TAKEN_HERE: [(&str, &str); 14] = [
 ];
 
 /// Taken by `flatc` alone.
-pub const REFUSED_HERE: [(&str, Problem); 11] = [
-    (
-        "enum F: ubyte (bit_flags) { A, B, C } table T { f: F = \"A C\"; }",
-        Problem::WrongDefault,
-    ),
+pub const REFUSED_HERE: [(&str, Problem); 10] = [
     (
         "enum E: ubyte { A, B } table T { e: E = \"A B\"; }",
         Problem::WrongDefault,

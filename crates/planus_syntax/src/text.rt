@@ -115,7 +115,7 @@ pub fn format_text(alloc: Global, text: &[u8]) -> Result<Vec<u8>, SchemaError>
     }
 }
 
-/// Returns the byte where the word stands from which there are `left` tokens to the end of the text.
+/// Returns the byte where the word stands from which there are `left` tokens to the text's end.
 ///
 /// The errors are those of a text that has no tokens.
 pub fn place_from_end(alloc: Global, text: &[u8], left: usize) -> Result<usize, SchemaError>

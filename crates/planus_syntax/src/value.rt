@@ -1,7 +1,7 @@
 //! Declarations. Names, digits and strings are the bytes as they are written.
 //!
-//! `left` is where a word stands: how many tokens of the text there are from it to the end, the word
-//! counted. [`place_from_end`](crate::place_from_end) returns its byte.
+//! `left` is where a word stands: how many tokens of the text there are from it to the end, the
+//! word counted. [`place_from_end`](crate::place_from_end) returns its byte.
 
 /// A name of one or more words, with dots between them.
 #[derive(Debug, Drop)]
