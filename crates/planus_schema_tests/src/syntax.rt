@@ -1,4 +1,4 @@
-use crate::rows::{REFUSED, TAKEN, TAKEN_HERE, TAKEN_THERE};
+use crate::syntax_rows::{REFUSED, TAKEN, TAKEN_HERE, TAKEN_THERE};
 use planus_syntax::{ParseFault, SchemaError, format_text, parse_text};
 use std::alloc::Global;
 

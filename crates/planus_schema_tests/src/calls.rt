@@ -1,0 +1,118 @@
+use planus_commands::run_words;
+use std::alloc::{AllocError, Global};
+
+/// A call: its words, the bytes of standard input, the exit status, and what is written on standard
+/// output and on standard error.
+type Call = (&'static str, &'static str, u8, &'static str, &'static str);
+
+const CALLS: [Call; 14] = [
+    ("--version", "", 0, "planus 0.1.0\n", ""),
+    (
+        "chekc a",
+        "",
+        2,
+        "",
+        "planus: unknown command `chekc`; did you mean `check`?\n",
+    ),
+    (
+        "view a",
+        "",
+        2,
+        "",
+        "planus: unknown command `view`; see planus help\n",
+    ),
+    (
+        "format --wirte a",
+        "",
+        2,
+        "",
+        "planus: unknown option `--wirte`; did you mean `--write`?\n",
+    ),
+    (
+        "check a --write",
+        "",
+        2,
+        "",
+        "planus: unknown option `--write`; see planus help\n",
+    ),
+    ("check a -I", "", 2, "", "planus: no folder follows -I\n"),
+    (
+        "format --write",
+        "",
+        2,
+        "",
+        "planus: no schema is named; - is standard input\n",
+    ),
+    (
+        "format --write -",
+        "",
+        2,
+        "",
+        "planus: --write needs a file, and - is standard input\n",
+    ),
+    (
+        "check missing.fbs",
+        "",
+        2,
+        "",
+        "planus: can't read missing.fbs\n",
+    ),
+    ("check -", "table A { x: int; }", 0, "", ""),
+    (
+        "check -",
+        "table A {\n\tx: Orcc; }",
+        1,
+        "",
+        "-:2:5: unknown type `Orcc`\n\tx: Orcc; }\n\t   ^\n",
+    ),
+    (
+        "format -",
+        " table\tA{x:int=-1;}",
+        0,
+        "table A {\n  x: int = -1;\n}\n",
+        "",
+    ),
+    (
+        "format -",
+        "table A { x }",
+        1,
+        "",
+        "-:1:13: expected `:`\ntable A { x }\n            ^\n",
+    ),
+    (
+        "format -",
+        "// one\ntable A{}",
+        0,
+        "table A {\n}\n",
+        "planus: -: its comments are left out\n",
+    ),
+];
+
+/// Returns the words of a line.
+fn words(alloc: Global, line: &str) -> Result<Vec<String>, AllocError> {
+    let mut words = Vec::new(alloc);
+    for word in line.split_whitespace() {
+        words.push(String::from_str(alloc, word)?)?;
+    }
+    Ok(words)
+}
+
+/// Returns whether a call does what its row says.
+fn does(rt: &HostRuntime, call: &Call) -> Result<bool, AllocError> {
+    let (line, input, status, written, errors_written) = *call;
+    let words = words(rt.alloc(), line)?;
+    let mut reader = input.as_bytes();
+    let mut writer = Vec::new(rt.alloc());
+    let mut errors = Vec::new(rt.alloc());
+    let ended = run_words(rt, &words, &mut reader, &mut writer, &mut errors);
+    Ok(
+        ended == Ok(status)
+            && writer.as_slice() == written.as_bytes()
+            && errors.as_slice() == errors_written.as_bytes(),
+    )
+}
+
+#[test]
+fn calls(rt: HostRuntime) {
+    assert!(rt; CALLS.iter().all(|call| does(&rt, call) == Ok(true)));
+}

@@ -1,0 +1,21 @@
+//! Tests of schemas: texts that `flatc` took or refused, random texts, and the words of a call.
+#![tactic(auto)]
+
+#[cfg(test)]
+mod answers;
+#[cfg(test)]
+mod calls;
+#[cfg(test)]
+mod facts;
+#[cfg(test)]
+mod meaning;
+#[cfg(test)]
+mod meaning_rows;
+#[cfg(test)]
+mod numbers;
+#[cfg(test)]
+mod random;
+#[cfg(test)]
+mod syntax;
+#[cfg(test)]
+mod syntax_rows;

@@ -1,7 +1,0 @@
-//! Tests of `planus_syntax` with schemas that `flatc` took or refused.
-#![tactic(auto)]
-
-#[cfg(test)]
-mod rows;
-#[cfg(test)]
-mod tests;
