@@ -253,7 +253,9 @@ root_file hs bs space s (d ∷ ds) m h = root_file hs bs (space_after space d.it
 
 root_files : (hs : List HeadV) (bs : List Body) (s : StatementsV) (files : List (List DeclarationV)) → Matches hs bs → RootIs bs s → RootIs bs (after_files hs s files)
 root_files hs bs s [] m h = h
-root_files hs bs s (ds ∷ files) m h = root_files hs bs (after_file hs None s ds) files m (root_file hs bs None s ds m h)
+root_files hs bs s (ds ∷ files) m h =
+    root_files hs bs (after_file hs None no_statements ds) files m
+    (root_file hs bs None no_statements ds m (record { table = λ i e. absurd cc }))
 
 root_there : (bs : List Body) (r : Option ℕ) → ((i : ℕ) → option_map (λ (j : ℕ). Some j) r ≡ Some (Some i) → IsTableAt bs i) → IsNested bs r
 root_there bs None h = tt

@@ -84,9 +84,10 @@ after_file hs space s [] = s
 after_file hs space s (d ∷ ds) =
     after_file hs (space_after space d.item) (after hs space s d.item) ds
 
+-- what the last file says, which includes the others
 abbrev pub after_files : List HeadV → StatementsV → List (List DeclarationV) → StatementsV
 after_files hs s [] = s
-after_files hs s (ds ∷ files) = after_files hs (after_file hs None s ds) files
+after_files hs s (ds ∷ files) = after_files hs (after_file hs None no_statements ds) files
 
 -- ---- schemas
 

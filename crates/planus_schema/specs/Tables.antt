@@ -148,6 +148,11 @@ NestedIs hs space (Some a) None = ⊥
 NestedIs hs space (Some a) (Some i) =
     table_found hs space (nested_name a.value) ≡ Some (base.Table i)
 
+-- a string that is the key is required too
+abbrev pub is_required : FieldType → FieldV → Bool
+is_required t d = has (codes "required") d.attributes
+    || (has (codes "key") d.attributes && is_text_base t.base)
+
 pub record SaysField (hs : List HeadV) (space : List Name) (ids : Bool) (d : FieldV)
     (f : TableField) : Type 0 where
   pub name : f.name.items ≡ d.name
@@ -155,7 +160,7 @@ pub record SaysField (hs : List HeadV) (space : List Name) (ids : Bool) (d : Fie
   pub kind : type_named hs space d.kind ≡ Some f.kind
   pub id : ids ≡ true → id_of d ≡ Some f.slot
   pub default : default_said hs f.kind d.default ≡ Some (option_map value_of f.default)
-  pub required : f.required ≡ has (codes "required") d.attributes
+  pub required : f.required ≡ is_required f.kind d
   pub deprecated : f.deprecated ≡ has (codes "deprecated") d.attributes
   pub key : f.key ≡ has (codes "key") d.attributes
   pub nested : NestedIs hs space (setting (codes "nested_flatbuffer") d.attributes) f.nested

@@ -117,7 +117,19 @@ fn state_file(
     Ok(())
 }
 
-/// Returns what the files state, and adds what is wrong with it.
+/// Returns that nothing is stated.
+fn nothing_stated() -> Statements
+    ensures { said_of result ≡ no_statements }
+{
+    Statements {
+        root: None,
+        identifier: None,
+        extension: None,
+    }
+}
+
+/// Returns what the last file states, and adds what is wrong with that and with what those that it
+/// includes state.
 pub(crate) fn statements(
     alloc: Global,
     heads: &[Head],
@@ -131,14 +143,11 @@ pub(crate) fn statements(
     ensures kept { OnOk result (faults.new.items ≡ [] → faults.old.items ≡ []) }
     ensures most { OnOk result (length faults.old.items ≤ 20 → length faults.new.items ≤ 20) }
 {
-    let mut statements = Statements {
-        root: None,
-        identifier: None,
-        extension: None,
-    };
+    let mut statements = nothing_stated();
     let custom = custom_attributes(alloc, files)?;
     let mut file = 0;
     'files: for declarations in files {
+        statements = nothing_stated();
         state_file(
             alloc,
             heads,

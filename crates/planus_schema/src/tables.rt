@@ -8,6 +8,7 @@ ghost use Rattle.planus_schema.specs.Names.{head_of, space_of, setting as settin
 ghost use Rattle.planus_schema.specs.Names.{found as found_lem, words_of};
 ghost use Rattle.planus_schema.specs.Distinct.{AreDistinct, Each2};
 ghost use Rattle.planus_schema.specs.Tables.{is_lawful as is_lawful_lem, NestedIs};
+ghost use Rattle.planus_schema.specs.Tables.{is_required as is_required_lem, is_text_base};
 ghost use Rattle.planus_schema.specs.Tables.{is_number as is_number_lem};
 ghost use Rattle.planus_schema.specs.Tables.{may_be_key as may_be_key_lem};
 ghost use Rattle.planus_schema.specs.Tables.{is_bytes as is_bytes_lem};
@@ -52,6 +53,19 @@ fn is_bytes(kind: FieldType) -> bool
         Base::Scalar(Scalar::UByte) => kind.vector,
         _ => false,
     }
+}
+
+fn is_text(base: Base) -> bool
+    ensures { result ≡ is_text_base base }
+{
+    matches!(base, Base::Text)
+}
+
+/// Returns whether a field must be there. A string that is the key must.
+fn is_required(kind: FieldType, field: &Field) -> bool
+    ensures { result ≡ is_required_lem kind (field_of field.now) }
+{
+    has(&field.attributes, b"required") || (has(&field.attributes, b"key") && is_text(kind.base))
 }
 
 /// Checks what may be `required`, a `key` and a nested buffer.
@@ -151,7 +165,7 @@ fn table_field(
         kind,
         slot,
         default,
-        required: has(&field.attributes, b"required"),
+        required: is_required(kind, field),
         deprecated: has(&field.attributes, b"deprecated"),
         key: has(&field.attributes, b"key"),
         nested,

@@ -578,7 +578,7 @@ pub const FIELDS: [(&str, &str); 27] = [
 ];
 
 /// A file `a.fbs`, a schema that includes it, and the facts of both.
-pub const INCLUDED: [(&str, &str, &str); 6] = [
+pub const INCLUDED: [(&str, &str, &str); 8] = [
     (
         "table A { x: int; }",
         "include \"a.fbs\"; table B { a: A; }",
@@ -612,26 +612,24 @@ pub const INCLUDED: [(&str, &str, &str); 6] = [
         \"b\";",
         "schema root B; schema identifier BBBB; schema extension b",
     ),
-];
-
-/// As `INCLUDED`, with other facts than those of `flatc`, which are written by hand.
-pub const SETTLED_HERE: [(&str, &str, &str); 3] = [
     (
-        "",
-        "namespace n; table A {} namespace m; union U { n.A }",
-        "m.U.NONE is 0; m.U.n.A is 1; m.U.n.A of n.A",
+        "table A {} root_type A; file_identifier \"AAAA\"; file_extension \"a\";",
+        "include \"a.fbs\"; table B { x: int; }",
+        "B.x slot 0; B.x of int",
     ),
     (
         "",
         "table T { k: string (key); v: int; }",
-        "T.k slot 0; T.k of string; T.k has key; T.v slot 1; T.v of int",
-    ),
-    (
-        "table A {} root_type A;",
-        "include \"a.fbs\"; table B {}",
-        "schema root A",
+        "T.k slot 0; T.k of string; T.k has required; T.k has key; T.v slot 1; T.v of int",
     ),
 ];
+
+/// As `INCLUDED`, with other facts than those of `flatc`, which are written by hand.
+pub const SETTLED_HERE: [(&str, &str, &str); 1] = [(
+    "",
+    "namespace n; table A {} namespace m; union U { n.A }",
+    "m.U.NONE is 0; m.U.n.A is 1; m.U.n.A of n.A",
+)];
 
 /// Refused by both, with the problem that is found first here.
 pub const REFUSED: [(&str, Problem); 102] = [
