@@ -12,7 +12,7 @@ use std::marker::Model;
 
 /// What the files declare, in order. A full name is looked up in logarithmic time.
 ///
-/// In contracts it is the list of what is declared.
+/// Contracts see the list of declarations.
 #[derive(Drop)]
 pub(crate) struct Heads<'h, 'a> {
     list: &'h [Head<'a>],
@@ -38,7 +38,7 @@ fn index_names<'h>(alloc: Global, list: &'h [Head]) -> Result<BTreeMap<&'h [u8],
 {
     let mut first = BTreeMap::new(alloc);
     let mut index = list.len();
-    // From the last to the first, so that the first stays.
+    // Backwards, since an insertion replaces the index of an equal name.
     'heads: while index > 0 {
         index -= 1;
         first.insert(list[index].name.as_slice(), index)?;
@@ -47,6 +47,7 @@ fn index_names<'h>(alloc: Global, list: &'h [Head]) -> Result<BTreeMap<&'h [u8],
 }
 
 impl<'h, 'a> Heads<'h, 'a> {
+    /// Builds the index of these declarations.
     pub(crate) fn new(alloc: Global, list: &'h [Head<'a>]) -> Result<Self, AllocError>
         ensures { IfOk result (λ heads. heads ≡ list.now) }
     {
@@ -54,6 +55,7 @@ impl<'h, 'a> Heads<'h, 'a> {
         Ok(Heads { list, first })
     }
 
+    /// Returns the declarations, in order.
     pub(crate) fn as_slice(&self) -> &[Head<'a>]
         ensures { result.now ≡ self.now }
     {
