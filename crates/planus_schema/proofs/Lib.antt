@@ -4,5 +4,6 @@ pub mod StructLemmas
 pub mod UnionLemmas
 pub mod TableLemmas
 pub mod SchemaLemmas
+pub mod IndexLemmas
 pub mod SoundLemmas
 pub mod DefaultLemmas

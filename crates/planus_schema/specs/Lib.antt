@@ -2,6 +2,7 @@ pub mod Numbers
 pub mod Names
 pub mod Distinct
 pub mod Enums
+pub mod Index
 pub mod Structs
 pub mod Unions
 pub mod Defaults

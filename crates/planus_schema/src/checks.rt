@@ -1,7 +1,7 @@
 //! What is only checked: attributes and services.
 
 use crate::fault::{Problem, Stop, wrong};
-use crate::head::Head;
+use crate::heads::Heads;
 use crate::kind::base_of;
 use crate::names::{is_among, take_name};
 use crate::schema::Base;
@@ -94,7 +94,7 @@ fn check_record(custom: &[Vec<u8>], record: &Record) -> Result<(), Stop> {
 /// Checks that a request or a response is a table.
 fn check_message(
     alloc: Global,
-    heads: &[Head],
+    heads: &Heads,
     space: Option<&Path>,
     path: &Path,
 ) -> Result<(), Stop> {
@@ -106,7 +106,7 @@ fn check_message(
 
 fn check_methods(
     alloc: Global,
-    heads: &[Head],
+    heads: &Heads,
     space: Option<&Path>,
     custom: &[Vec<u8>],
     methods: &[Method],
@@ -126,7 +126,7 @@ fn check_methods(
 /// Checks the attributes of a declaration, and the methods of a service.
 pub(crate) fn check_item(
     alloc: Global,
-    heads: &[Head],
+    heads: &Heads,
     space: Option<&Path>,
     custom: &[Vec<u8>],
     item: &Item,

@@ -30,7 +30,7 @@ ghost use Rattle.planus_syntax.specs.Values.{names_of};
 use crate::attributes::has;
 use crate::enums::{number_of, same_number, value_of as settled};
 use crate::fault::{Problem, Stop, wrong};
-use crate::head::Head;
+use crate::heads::Heads;
 use crate::kind::item_of_head;
 use crate::number::{Number, integer, is_hexadecimal, without_sign};
 use crate::scalar::{Scalar, scalar_named};
@@ -291,7 +291,7 @@ fn enum_default(
 }
 
 /// Returns the enum of this index.
-fn enum_at<'b>(heads: &'b [Head], index: usize) -> Option<&'b Enumeration>
+fn enum_at<'b>(heads: &'b Heads, index: usize) -> Option<&'b Enumeration>
     ensures { option_map (λ e. enumeration_of e.now) result
         ≡ enum_at_lem (item_at (map head_of heads.now) index) }
 {
@@ -303,7 +303,7 @@ fn enum_at<'b>(heads: &'b [Head], index: usize) -> Option<&'b Enumeration>
 
 fn base_default(
     alloc: Global,
-    heads: &[Head],
+    heads: &Heads,
     base: Base,
     literal: &Literal,
 ) -> Result<Option<Value>, AllocError>
@@ -324,7 +324,7 @@ fn base_default(
 /// Returns the default that a literal says.
 fn literal_default(
     alloc: Global,
-    heads: &[Head],
+    heads: &Heads,
     kind: FieldType,
     literal: &Literal,
 ) -> Result<Option<Value>, AllocError>
@@ -341,7 +341,7 @@ fn literal_default(
     }
 }
 
-fn enum_zero(heads: &[Head], index: usize) -> bool
+fn enum_zero(heads: &Heads, index: usize) -> bool
     ensures { result ≡ true → zero_default_lem (map head_of heads.now) (Base.Enum index)
         ≡ Some (Some (integer zero_number)) }
 {
@@ -360,7 +360,7 @@ fn enum_zero(heads: &[Head], index: usize) -> bool
 /// Returns the default of a field that has no literal.
 fn zero_default(
     alloc: Global,
-    heads: &[Head],
+    heads: &Heads,
     base: Base,
     left: usize,
 ) -> Result<Option<Value>, Stop>
@@ -383,7 +383,7 @@ fn zero_default(
 /// Returns the default of a field.
 pub(crate) fn default_of(
     alloc: Global,
-    heads: &[Head],
+    heads: &Heads,
     kind: FieldType,
     literal: &Option<Literal>,
     left: usize,

@@ -1,6 +1,6 @@
 //! The type that a name means.
 
-ghost use Rattle.std.specs.Prelude.{◌≡◌, map, IfOk, Some, slice_get};
+ghost use Rattle.std.specs.Prelude.{◌≡◌, map, IfOk, Some};
 ghost use Rattle.std.specs.Option.{option_map};
 ghost use Rattle.planus_syntax.specs.Values.{path_of, kind_of, item_of};
 ghost use Rattle.planus_schema.specs.Names.{space_of, head_of, plain_base as plain_base_lem};
@@ -8,7 +8,7 @@ ghost use Rattle.planus_schema.specs.Names.{base_of_word as base_of_word_lem, ba
 ghost use Rattle.planus_schema.specs.Names.{base_named, type_named, item_at, base_of_item};
 
 use crate::fault::{Problem, Stop, wrong};
-use crate::head::Head;
+use crate::heads::Heads;
 use crate::lookup::found;
 use crate::scalar::scalar_named;
 use crate::schema::{Base, FieldType};
@@ -51,24 +51,17 @@ fn item_base(item: &Item, index: usize) -> Option<Base>
     }
 }
 
-/// Returns the declaration of this index.
-pub(crate) fn head_at<'a, 'b>(heads: &'b [Head<'a>], index: usize) -> Option<&'b Head<'a>>
-    ensures { option_map (λ h. h.now) result ≡ slice_get heads.now index }
-{
-    heads.get(index)
-}
-
 /// Returns what the declaration of this index says.
-pub(crate) fn item_of_head<'b>(heads: &'b [Head], index: usize) -> Option<&'b Item>
+pub(crate) fn item_of_head<'b>(heads: &'b Heads, index: usize) -> Option<&'b Item>
     ensures { option_map (λ i. item_of i.now) result ≡ item_at (map head_of heads.now) index }
 {
-    match head_at(heads, index) {
+    match heads.get(index) {
         Some(head) => Some(&head.declaration.item),
         None => None,
     }
 }
 
-pub(crate) fn head_base(heads: &[Head], index: usize) -> Option<Base>
+pub(crate) fn head_base(heads: &Heads, index: usize) -> Option<Base>
     ensures { result ≡ base_of_head (item_at (map head_of heads.now) index) index }
 {
     match item_of_head(heads, index) {
@@ -80,7 +73,7 @@ pub(crate) fn head_base(heads: &[Head], index: usize) -> Option<Base>
 /// Returns the type that a name means in this namespace.
 pub(crate) fn base_of(
     alloc: Global,
-    heads: &[Head],
+    heads: &Heads,
     space: Option<&Path>,
     path: &Path,
 ) -> Result<Base, Stop>
@@ -101,7 +94,7 @@ pub(crate) fn base_of(
 /// Returns the type of a field.
 pub(crate) fn type_of(
     alloc: Global,
-    heads: &[Head],
+    heads: &Heads,
     space: Option<&Path>,
     kind: &Kind,
 ) -> Result<FieldType, Stop>

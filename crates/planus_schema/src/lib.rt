@@ -7,6 +7,7 @@ mod defaults;
 mod enums;
 mod fault;
 mod head;
+mod heads;
 mod kind;
 mod lookup;
 mod meaning;

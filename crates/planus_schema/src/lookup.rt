@@ -1,33 +1,19 @@
 //! The declaration that a name means.
 
-ghost use Rattle.std.specs.Prelude.{◌≡◌, ◌++◌, map, take, length, IfOk, ◌≤◌, position};
-ghost use Rattle.std.specs.Str.{bytes_eq};
-ghost use Rattle.std.specs.Option.{option_map};
+ghost use Rattle.std.specs.Prelude.{◌≡◌, ◌++◌, map, take, length, IfOk, ◌≤◌};
 ghost use Rattle.planus_syntax.specs.Values.{path_of};
 ghost use Rattle.planus_schema.specs.Names.{words_of, space_of, head_of, index_of as index_of_lem};
 ghost use Rattle.planus_schema.specs.Names.{dotted, found as found_lem};
 
-use crate::head::{Head, depth, put_path, put_space};
+use crate::head::{depth, put_path, put_space};
+use crate::heads::Heads;
 use planus_syntax::Path;
 use std::alloc::{AllocError, Global};
-
-fn position_of(heads: &[Head], name: &[u8]) -> Option<usize>
-    ensures { result ≡ position (λ h. bytes_eq h.name.items name.now) heads.now }
-{
-    heads.iter().position(|head| head.name.as_slice() == name)
-}
-
-/// Returns the index of the first declaration with this full name.
-pub(crate) fn index_of(heads: &[Head], name: &[u8]) -> Option<usize>
-    ensures { result ≡ index_of_lem (map head_of heads.now) name.now }
-{
-    position_of(heads, name)
-}
 
 /// Returns the index of the declaration that has this name in the first words of the namespace.
 fn found_at(
     alloc: Global,
-    heads: &[Head],
+    heads: &Heads,
     space: Option<&Path>,
     count: usize,
     path: &Path,
@@ -40,13 +26,13 @@ fn found_at(
     let mut name = Vec::new(alloc);
     put_space(&mut name, space, count)?;
     put_path(&mut name, path)?;
-    Ok(index_of(heads, &name))
+    Ok(heads.index_of(&name))
 }
 
 /// Returns the index of the declaration that a name means in a namespace: the innermost.
 pub(crate) fn found(
     alloc: Global,
-    heads: &[Head],
+    heads: &Heads,
     space: Option<&Path>,
     path: &Path,
 ) -> Result<Option<usize>, AllocError>

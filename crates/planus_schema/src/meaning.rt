@@ -1,10 +1,10 @@
 //! Files to the schema that they mean.
 
-ghost use Rattle.std.specs.Prelude.{◌≡◌, [], ◌≤◌, map, length, position, IfOk, IfErr, OnOk};
+ghost use Rattle.std.specs.Prelude.{◌≡◌, [], ◌≤◌, map, length, position, Some, IfOk, IfErr, OnOk};
 ghost use Rattle.std.specs.Str.{bytes_eq};
-ghost use Rattle.planus_syntax.specs.Values.{item_of, names_of, schema_of};
-ghost use Rattle.planus_schema.specs.Names.{head_of, space_of};
-ghost use Rattle.planus_schema.specs.Distinct.{AreDistinct, IsAdded};
+ghost use Rattle.planus_syntax.specs.Values.{item_of, schema_of};
+ghost use Rattle.planus_schema.specs.Names.{head_of, space_of, index_of};
+ghost use Rattle.planus_schema.specs.Distinct.{AreDistinct};
 ghost use Rattle.planus_schema.specs.Structs.{body_in};
 ghost use Rattle.planus_schema.specs.Schemas.{IsBody, SaysBody, IsDeclared, AreDeclared, Means};
 ghost use Rattle.planus_schema.specs.Schemas.{IsRefusal, IsAppended};
@@ -13,7 +13,8 @@ ghost use Rattle.planus_schema.specs.Sound.{IsSound};
 use crate::enums::enum_of;
 use crate::fault::{Fault, Problem, Refusal, Stop, note, wrong};
 use crate::head::{Head, heads};
-use crate::names::{copied, take_name};
+use crate::heads::Heads;
+use crate::names::copied;
 use crate::scalar::Scalar;
 use crate::schema::{Body, Declared, Enum, Schema, Struct, Table, Union};
 use crate::statements::statements;
@@ -34,7 +35,7 @@ pub fn file_index(files: &[Vec<u8>], name: &[u8]) -> Option<usize>
 }
 
 /// Returns what a declaration says.
-fn body_of(alloc: Global, heads: &[Head], declared: &[Declared], head: &Head) -> Result<Body, Stop>
+fn body_of(alloc: Global, heads: &Heads, declared: &[Declared], head: &Head) -> Result<Body, Stop>
     ensures says { IfOk result (λ b. SaysBody (map head_of heads.now) (space_of head.now.space)
         (map body_in declared.now) (item_of head.now.declaration.now.item) b) }
     ensures sound { IfOk result (λ b. IsBody b) }
@@ -97,7 +98,7 @@ fn add_body(
 /// Adds what a declaration says, or what is wrong with it.
 fn add_declared(
     alloc: Global,
-    heads: &[Head],
+    heads: &Heads,
     declared: &mut Vec<Declared>,
     head: &Head,
     faults: &mut Vec<Fault>,
@@ -123,7 +124,7 @@ fn add_declared(
 /// Returns what the declarations say, and adds what is wrong with them.
 fn declarations(
     alloc: Global,
-    heads: &[Head],
+    heads: &Heads,
     faults: &mut Vec<Fault>,
 ) -> Result<Vec<Declared>, AllocError>
     ensures says { IfOk result (λ v. faults.new.items ≡ [] → AreDeclared (map head_of heads.now)
@@ -132,25 +133,25 @@ fn declarations(
     ensures most { OnOk result (length faults.old.items ≤ 20 → length faults.new.items ≤ 20) }
 {
     let mut declared = Vec::new(alloc);
-    'heads: for head in heads {
+    'heads: for head in heads.as_slice() {
         add_declared(alloc, heads, &mut declared, head, faults)?;
     }
     Ok(declared)
 }
 
-/// Adds the name of a declaration, or the fault that another has it.
+/// Adds the fault of a declaration whose name an earlier one has.
 fn check_name(
-    alloc: Global,
-    names: &mut Vec<Vec<u8>>,
+    heads: &Heads,
+    index: usize,
     head: &Head,
     faults: &mut Vec<Fault>,
 ) -> Result<(), AllocError>
-    ensures added { OnOk result (faults.new.items ≡ [] → IsAdded (names_of names.old.items)
-        (head_of head.now).name (names_of names.new.items)) }
+    ensures first { OnOk result (faults.new.items ≡ [] → index_of (map head_of heads.now)
+        (head_of head.now).name ≡ Some index) }
     ensures kept { OnOk result (faults.new.items ≡ [] → faults.old.items ≡ []) }
     ensures most { OnOk result (length faults.old.items ≤ 20 → length faults.new.items ≤ 20) }
 {
-    if take_name(alloc, names, &head.name)? {
+    if heads.index_of(&head.name) == Some(index) {
         Ok(())
     } else {
         note(
@@ -162,15 +163,16 @@ fn check_name(
 }
 
 /// Adds the faults of names that are declared twice.
-fn check_names(alloc: Global, heads: &[Head], faults: &mut Vec<Fault>) -> Result<(), AllocError>
+fn check_names(heads: &Heads, faults: &mut Vec<Fault>) -> Result<(), AllocError>
     ensures distinct { OnOk result (faults.new.items ≡ [] → AreDistinct (map (λ h. h.name)
         (map head_of heads.now))) }
     ensures kept { OnOk result (faults.new.items ≡ [] → faults.old.items ≡ []) }
     ensures most { OnOk result (length faults.old.items ≤ 20 → length faults.new.items ≤ 20) }
 {
-    let mut names = Vec::new(alloc);
-    'heads: for head in heads {
-        check_name(alloc, &mut names, head, faults)?;
+    let mut index = 0;
+    'heads: for head in heads.as_slice() {
+        check_name(heads, index, head, faults)?;
+        index += 1;
     }
     Ok(())
 }
@@ -188,9 +190,10 @@ fn settle(alloc: Global, files: &[Vec<Declaration>]) -> Result<Schema, Refusal>
     ensures means { IfOk result (λ s. Means (map (λ f. schema_of f.items) files.now) s) }
     ensures faults { IfErr result (λ e. IsRefusal e) }
 {
-    let heads = heads(alloc, files)?;
+    let list = heads(alloc, files)?;
+    let heads = Heads::new(alloc, &list)?;
     let mut faults = Vec::new(alloc);
-    check_names(alloc, &heads, &mut faults)?;
+    check_names(&heads, &mut faults)?;
     let declarations = declarations(alloc, &heads, &mut faults)?;
     let statements = statements(alloc, &heads, files, &mut faults)?;
     if faults.is_empty() {

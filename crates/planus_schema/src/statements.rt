@@ -8,14 +8,15 @@ ghost use Rattle.planus_schema.specs.Schemas.{no_statements};
 
 use crate::checks::{check_item, custom_attributes};
 use crate::fault::{Fault, Problem, Stop, note, wrong};
-use crate::head::{Head, space_after};
+use crate::head::space_after;
+use crate::heads::Heads;
 use crate::kind::base_of;
 use crate::schema::{Base, Statements};
 use planus_syntax::{Declaration, Item, Path};
 use std::alloc::{AllocError, Global};
 
 /// Returns the index of the root table.
-fn root_of(alloc: Global, heads: &[Head], space: Option<&Path>, path: &Path) -> Result<usize, Stop>
+fn root_of(alloc: Global, heads: &Heads, space: Option<&Path>, path: &Path) -> Result<usize, Stop>
     ensures { IfOk result (λ i. base_named (map head_of heads.now) (space_of space.entry)
         (path_of path.now) ≡ Some (Base.Table i)) }
 {
@@ -28,7 +29,7 @@ fn root_of(alloc: Global, heads: &[Head], space: Option<&Path>, path: &Path) -> 
 /// Adds what a declaration states.
 fn state(
     alloc: Global,
-    heads: &[Head],
+    heads: &Heads,
     space: Option<&Path>,
     custom: &[Vec<u8>],
     declaration: &Declaration,
@@ -61,7 +62,7 @@ fn state(
 /// Adds what a declaration states, or what is wrong with it.
 fn state_or_note(
     alloc: Global,
-    heads: &[Head],
+    heads: &Heads,
     space: Option<&Path>,
     custom: &[Vec<u8>],
     declaration: &Declaration,
@@ -85,7 +86,7 @@ fn state_or_note(
 
 fn state_file(
     alloc: Global,
-    heads: &[Head],
+    heads: &Heads,
     custom: &[Vec<u8>],
     file: usize,
     declarations: &[Declaration],
@@ -132,7 +133,7 @@ fn nothing_stated() -> Statements
 /// includes state.
 pub(crate) fn statements(
     alloc: Global,
-    heads: &[Head],
+    heads: &Heads,
     files: &[Vec<Declaration>],
     faults: &mut Vec<Fault>,
 ) -> Result<Statements, AllocError>

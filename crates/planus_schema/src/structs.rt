@@ -14,7 +14,7 @@ ghost use Rattle.planus_schema.specs.Distinct.{AreDistinct, Each2};
 
 use crate::attributes::{has, setting};
 use crate::fault::{Problem, Stop, wrong};
-use crate::head::Head;
+use crate::heads::Heads;
 use crate::kind::type_of;
 use crate::names::{copied, take_name};
 use crate::number::integer;
@@ -101,7 +101,7 @@ fn next_multiple(at: usize, alignment: usize) -> usize
 /// Checks what a field of a struct can't have, and returns its type.
 fn base_in_struct(
     alloc: Global,
-    heads: &[Head],
+    heads: &Heads,
     space: Option<&Path>,
     field: &Field,
 ) -> Result<Base, Stop>
@@ -145,7 +145,7 @@ fn measure_in_struct(bodies: &[Declared], base: Base, left: usize) -> Result<Mea
 /// Returns what a field says; the fields before it end at `at`.
 fn struct_field(
     alloc: Global,
-    heads: &[Head],
+    heads: &Heads,
     bodies: &[Declared],
     space: Option<&Path>,
     field: &Field,
@@ -191,7 +191,7 @@ fn greater(a: usize, b: usize) -> usize
 
 fn struct_fields(
     alloc: Global,
-    heads: &[Head],
+    heads: &Heads,
     bodies: &[Declared],
     space: Option<&Path>,
     declared: &[Field],
@@ -268,7 +268,7 @@ fn alignment_of(attributes: &[Attribute], greatest: usize, left: usize) -> Resul
 /// before it.
 pub(crate) fn struct_of(
     alloc: Global,
-    heads: &[Head],
+    heads: &Heads,
     bodies: &[Declared],
     space: Option<&Path>,
     declared: &Record,

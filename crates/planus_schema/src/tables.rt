@@ -18,7 +18,7 @@ ghost use Rattle.planus_schema.specs.Tables.{IsTable, Follow, AreNamed, width as
 use crate::attributes::{has, setting};
 use crate::defaults::default_of;
 use crate::fault::{Problem, Stop, wrong};
-use crate::head::Head;
+use crate::heads::Heads;
 use crate::kind::{head_base, type_of};
 use crate::lookup::found;
 use crate::names::{copied, take_name};
@@ -96,7 +96,7 @@ fn path_of_text(alloc: Global, text: &[u8], left: usize) -> Result<Path, AllocEr
 /// Returns the index of the table of this name.
 fn table_named(
     alloc: Global,
-    heads: &[Head],
+    heads: &Heads,
     space: Option<&Path>,
     text: &[u8],
     left: usize,
@@ -118,7 +118,7 @@ fn table_named(
 /// Returns the index of the table that `nested_flatbuffer` names.
 fn nested_of(
     alloc: Global,
-    heads: &[Head],
+    heads: &Heads,
     space: Option<&Path>,
     attributes: &[Attribute],
 ) -> Result<Option<usize>, Stop>
@@ -141,7 +141,7 @@ fn nested_of(
 /// fields have an `id`.
 fn table_field(
     alloc: Global,
-    heads: &[Head],
+    heads: &Heads,
     space: Option<&Path>,
     field: &Field,
     ids: bool,
@@ -196,7 +196,7 @@ fn take_names(
 
 fn table_fields(
     alloc: Global,
-    heads: &[Head],
+    heads: &Heads,
     space: Option<&Path>,
     declared: &[Field],
     ids: bool,
@@ -232,7 +232,7 @@ fn table_fields(
 /// Returns what a table says.
 pub(crate) fn table_of(
     alloc: Global,
-    heads: &[Head],
+    heads: &Heads,
     space: Option<&Path>,
     declared: &Record,
     left: usize,

@@ -10,7 +10,8 @@ ghost use Rattle.planus_schema.specs.Unions.{is_tag};
 ghost use Rattle.planus_schema.specs.Distinct.{AreDistinct, Each2};
 
 use crate::fault::{Problem, Stop, wrong};
-use crate::head::{Head, put_path};
+use crate::head::put_path;
+use crate::heads::Heads;
 use crate::kind::base_of;
 use crate::names::{copied, take_name};
 use crate::number::integer;
@@ -54,7 +55,7 @@ fn name_of(alloc: Global, path: &Path) -> Result<Vec<u8>, AllocError>
     Ok(name)
 }
 
-fn table_of(alloc: Global, heads: &[Head], space: Option<&Path>, path: &Path) -> Result<usize, Stop>
+fn table_of(alloc: Global, heads: &Heads, space: Option<&Path>, path: &Path) -> Result<usize, Stop>
     ensures { IfOk result (λ i. base_named (map head_of heads.now) (space_of space.entry)
         (path_of path.now) ≡ Some (Base.Table i)) }
 {
@@ -66,7 +67,7 @@ fn table_of(alloc: Global, heads: &[Head], space: Option<&Path>, path: &Path) ->
 
 fn member(
     alloc: Global,
-    heads: &[Head],
+    heads: &Heads,
     space: Option<&Path>,
     declared: &Member,
     tag: u8,
@@ -95,7 +96,7 @@ fn has_tag(members: &[UnionMember], tag: u8) -> bool
 /// Returns the next member, whose tag no other has.
 fn next_member(
     alloc: Global,
-    heads: &[Head],
+    heads: &Heads,
     space: Option<&Path>,
     declared: &Member,
     previous: u8,
@@ -119,7 +120,7 @@ fn next_member(
 
 fn union_members(
     alloc: Global,
-    heads: &[Head],
+    heads: &Heads,
     space: Option<&Path>,
     declared: &[Member],
 ) -> Result<Vec<UnionMember>, Stop>
@@ -151,7 +152,7 @@ fn union_members(
 /// Returns what a union says.
 pub(crate) fn union_of(
     alloc: Global,
-    heads: &[Head],
+    heads: &Heads,
     space: Option<&Path>,
     declared: &UnionBody,
 ) -> Result<Union, Stop>

@@ -1,0 +1,78 @@
+//! What is declared, and where a full name stands first.
+
+ghost use Rattle.std.specs.Prelude.{◌≡◌, map, slice_get, IfOk};
+ghost use Rattle.std.specs.Option.{option_map};
+ghost use Rattle.planus_schema.specs.Names.{head_of, index_of as index_of_lem};
+ghost use Rattle.planus_schema.specs.Index.{IsIndex};
+
+use crate::head::Head;
+use std::alloc::{AllocError, Global};
+use std::collections::BTreeMap;
+use std::marker::Model;
+
+/// What the files declare, in order. A full name is looked up in logarithmic time.
+///
+/// Contracts see the list of declarations.
+#[derive(Drop)]
+pub(crate) struct Heads<'h, 'a> {
+    list: &'h [Head<'a>],
+    first: BTreeMap<&'h [u8], usize>,
+}
+
+impl<'h, 'a> Model for Heads<'h, 'a> {
+    ghost use Rattle.std.specs.Prelude.{List, map};
+    ghost use Rattle.planus_schema.specs.declared.head.Head.{Head};
+    ghost use Rattle.planus_schema.specs.Names.{head_of};
+    ghost use Rattle.planus_schema.specs.Index.{IsIndex};
+
+    ghost Value = { List Head };
+
+    ghost view = { λ a. a.list.now };
+
+    ghost invariant = { λ a. IsIndex a.first (map head_of a.list.now) };
+}
+
+/// Returns the index of the first declaration of each full name.
+fn index_names<'h>(alloc: Global, list: &'h [Head]) -> Result<BTreeMap<&'h [u8], usize>, AllocError>
+    ensures { IfOk result (λ first. IsIndex first (map head_of list.now)) }
+{
+    let mut first = BTreeMap::new(alloc);
+    let mut index = list.len();
+    // Backwards, since an insertion replaces the index of an equal name.
+    'heads: while index > 0 {
+        index -= 1;
+        first.insert(list[index].name.as_slice(), index)?;
+    }
+    Ok(first)
+}
+
+impl<'h, 'a> Heads<'h, 'a> {
+    /// Builds the index of these declarations.
+    pub(crate) fn new(alloc: Global, list: &'h [Head<'a>]) -> Result<Self, AllocError>
+        ensures { IfOk result (λ heads. heads ≡ list.now) }
+    {
+        let first = index_names(alloc, list)?;
+        Ok(Heads { list, first })
+    }
+
+    /// Returns the declarations, in order.
+    pub(crate) fn as_slice(&self) -> &[Head<'a>]
+        ensures { result.now ≡ self.now }
+    {
+        self.list
+    }
+
+    /// Returns the declaration of this index.
+    pub(crate) fn get(&self, index: usize) -> Option<&Head<'a>>
+        ensures { option_map (λ h. h.now) result ≡ slice_get self.now index }
+    {
+        self.list.get(index)
+    }
+
+    /// Returns the index of the first declaration with this full name.
+    pub(crate) fn index_of(&self, name: &[u8]) -> Option<usize>
+        ensures { result ≡ index_of_lem (map head_of self.now) name.now }
+    {
+        self.first.get(name).copied()
+    }
+}
