@@ -29,7 +29,9 @@ def rows(file, name):
     """The rows of a table, each as the list of its strings."""
     text = (HERE / "src" / file).read_text()
     start = text.index(f"pub const {name}: ")
-    body = text[text.index("= [", start) : text.index("\n];", start)]
+    begin = text.index("= [", start)
+    # A table of one row ends in ")];".
+    body = text[begin : re.compile(r"\n\]|\n\)(?=\];)").search(text, begin).end()] + ","
     body = re.sub(r"\\\n\s*", "", body)
     return [[json.loads(s) for s in re.findall(STRING, row)] for row in re.findall(ROW, body)]
 
