@@ -13,7 +13,7 @@ use Rattle.planus_syntax.specs.Values.{Name, DeclarationV}
 use Rattle.planus_schema.specs.Schemas.{Means, AreFaults}
 use Rattle.planus_schema.specs.Sound.{IsSound}
 use Rattle.planus_schema.specs.declared.fault.Fault.{Fault}
-use Rattle.planus_schema.specs.declared.schema.Schema.{Schema}
+use Rattle.planus_layout.specs.declared.schema.Schema.{Schema}
 use Rattle.planus_commands.specs.declared.checking.File.{File}
 use Rattle.planus_commands.specs.Near.{names_of_files}
 use Rattle.planus_commands.specs.Problems.{message_text}

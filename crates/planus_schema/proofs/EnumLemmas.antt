@@ -6,24 +6,13 @@ use Rattle.std.specs.Str.{bytes_eq}
 use Rattle.std.proofs.lemmas.List.{map_push}
 use Rattle.std.proofs.lemmas.List.Folds.{list_all-append}
 use Rattle.planus_syntax.specs.Values.{VariantV, names_of}
-use Rattle.planus_schema.specs.declared.number.Number.{Number}
-use Rattle.planus_schema.specs.declared.scalar.Scalar.{Scalar}
-use Rattle.planus_schema.specs.declared.schema.EnumValue.{EnumValue}
-use Rattle.planus_schema.specs.Numbers.{fits}
-use Rattle.planus_schema.specs.Distinct.{AreDistinct, IsAdded}
+use Rattle.planus_layout.specs.declared.number.Number.{Number}
+use Rattle.planus_layout.specs.declared.scalar.Scalar.{Scalar}
+use Rattle.planus_layout.specs.declared.schema.EnumValue.{EnumValue}
+use Rattle.planus_layout.specs.Numbers.{fits}
+use Rattle.planus_layout.specs.Distinct.{AreDistinct, IsAdded}
 use Rattle.planus_schema.specs.Enums.{same_number, number_of_value, IsValueAdded}
-use Rattle.planus_schema.proofs.Lists.{distinct_push, distinct_none, list_any-map}
-
-pub name_added : (old new : List (Vec ℕ)) (copy : Vec ℕ) (name : List ℕ) → new ≡ old ++ copy ∷ [] → copy.items ≡ name → list_any (λ w. bytes_eq w.items name) old ≡ false → IsAdded (names_of old) name (names_of new)
-name_added old new copy name e i h =
-    let a : names_of new ≡ names_of old ++ name ∷ [] = ap names_of e ∙ map_push _ old copy ∙ ap (λ w. names_of old ++ w ∷ []) i in
-    record {
-      added = a;
-      distinct = λ d. rw a (distinct_push bytes_eq (names_of old) name (list_any-map (λ w. bytes_eq w name) (λ (w : Vec ℕ). w.items) old ∙ h) d);
-    }
-
-pub no_names : (xs : List (Vec ℕ)) → xs ≡ [] → AreDistinct (names_of xs)
-no_names xs e = rw e (distinct_none bytes_eq)
+use Rattle.planus_layout.proofs.Lists.{distinct_push, distinct_none, list_any-map}
 
 pub value_added : (s : Scalar) (v : VariantV) (n : Number) (old new : List EnumValue) (x : EnumValue) → new ≡ old ++ x ∷ [] → x.name.items ≡ v.name → names_of x.docs.items ≡ v.docs → x.number ≡ n → fits s n ≡ true → list_any (λ v. same_number v.number n) old ≡ false → IsValueAdded s v n old new
 value_added s v n old new x e name docs number f h =

@@ -8,8 +8,9 @@ use Rattle.std.proofs.lemmas.List.Folds.{list_any_more}
 use Rattle.std.proofs.lemmas.List.Quantifiers.{position-Some}
 use Rattle.planus_schema.specs.declared.head.Head.{Head}
 use Rattle.planus_schema.specs.Names.{HeadV, head_of, has_name, index_of}
-use Rattle.planus_schema.specs.Distinct.{AreDistinct}
-use Rattle.planus_schema.proofs.Lists.{distinct_push, list_any-map, position-map}
+use Rattle.planus_layout.specs.Distinct.{AreDistinct}
+use Rattle.planus_layout.proofs.Lists.{distinct_push, list_any-map}
+use Rattle.planus_schema.proofs.Lists.{position-map}
 use Rattle.planus_schema.proofs.StructLemmas.{map_next, map_rest}
 
 -- the first from here on is the one here, or the first of those after it

@@ -2,11 +2,11 @@
 use Rattle.std.proofs.Common.{◌≡◌, List, [], ◌∷◌, ◌++◌, map, sym, ap, subst, ◌∙◌, append_assoc}
 use Rattle.std.proofs.lemmas.List.{map_push, append-nil}
 use Rattle.planus_syntax.specs.Values.{names_of}
-use Rattle.planus_schema.specs.declared.schema.Body.{Body}
-use Rattle.planus_schema.specs.declared.schema.Declared.{Declared}
-use Rattle.planus_schema.specs.Distinct.{Each2}
+use Rattle.planus_layout.specs.declared.schema.Body.{Body}
+use Rattle.planus_layout.specs.declared.schema.Declared.{Declared}
+use Rattle.planus_layout.specs.Distinct.{Each2}
 use Rattle.planus_schema.specs.Names.{HeadV}
-use Rattle.planus_schema.specs.Structs.{body_in}
+use Rattle.planus_layout.specs.Layouts.{body_in}
 use Rattle.planus_schema.specs.Schemas.{IsBody, SaysBody, SayBodies, IsHeadOf, IsAppended, IsDeclared, AreDeclared}
 use Rattle.planus_schema.proofs.StructLemmas.{each2_push}
 

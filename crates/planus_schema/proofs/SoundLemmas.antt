@@ -6,27 +6,28 @@ use Rattle.std.specs.List.{AllByRecursion}
 use Rattle.std.specs.Str.{bytes_eq}
 use Rattle.std.proofs.lemmas.Option.{slice_get_within}
 use Rattle.planus_syntax.specs.Values.{Name, PathV, KindV, single, vector, ItemV, include, namespace, attribute, table, struct, enumeration, union, service, root, identifier, extension, AttributeV, FieldV, MemberV, DeclarationV}
-use Rattle.planus_schema.specs.declared.scalar.Scalar.{Scalar}
-use Rattle.planus_schema.specs.declared.schema.Base.{Base}
-use Rattle.planus_schema.specs.declared.schema.Base.TheVariants as base
-use Rattle.planus_schema.specs.declared.schema.Body.{Body}
-use Rattle.planus_schema.specs.declared.schema.Body.TheVariants as body
-use Rattle.planus_schema.specs.declared.schema.FieldType.{FieldType}
-use Rattle.planus_schema.specs.declared.schema.StructField.{StructField}
-use Rattle.planus_schema.specs.declared.schema.TableField.{TableField}
-use Rattle.planus_schema.specs.declared.schema.UnionMember.{UnionMember}
-use Rattle.planus_schema.specs.declared.structs.Measure.{Measure}
-use Rattle.planus_schema.specs.Numbers.{scalar_named}
+use Rattle.planus_layout.specs.declared.scalar.Scalar.{Scalar}
+use Rattle.planus_layout.specs.declared.schema.Base.{Base}
+use Rattle.planus_layout.specs.declared.schema.Base.TheVariants as base
+use Rattle.planus_layout.specs.declared.schema.Body.{Body}
+use Rattle.planus_layout.specs.declared.schema.Body.TheVariants as body
+use Rattle.planus_layout.specs.declared.schema.FieldType.{FieldType}
+use Rattle.planus_layout.specs.declared.schema.StructField.{StructField}
+use Rattle.planus_layout.specs.declared.schema.TableField.{TableField}
+use Rattle.planus_layout.specs.declared.schema.UnionMember.{UnionMember}
+use Rattle.planus_layout.specs.declared.measure.Measure.{Measure}
+use Rattle.planus_layout.specs.Numbers.{scalar_named}
 use Rattle.planus_schema.specs.Names.{HeadV, base_of_item, base_of_head, base_found, plain_of, plain_base, base_or, base_named, type_named, found, words_of, words_in, space_after, setting, heads_of}
 use Rattle.planus_schema.specs.Defaults.{value_of}
 use Rattle.planus_schema.proofs.DefaultLemmas.{default_lawful}
-use Rattle.planus_schema.specs.Distinct.{AreDistinct, Each2}
-use Rattle.planus_schema.specs.Structs.{measure_of_body, measure_in, body_in, SaysStructField}
+use Rattle.planus_layout.specs.Distinct.{AreDistinct, Each2}
+use Rattle.planus_layout.specs.Layouts.{measure_of_body, measure_in, body_in}
+use Rattle.planus_schema.specs.Structs.{SaysStructField}
 use Rattle.planus_schema.specs.Unions.{SaysMember, target_of}
 use Rattle.planus_schema.specs.Tables.{SaysField, NestedIs, table_found, nested_name}
 use Rattle.planus_schema.specs.Schemas.{SaysBody, SayBodies, IsHeadOf, StatementsV, no_statements, table_in, after, after_file, after_files, said_of, Means}
-use Rattle.planus_schema.specs.declared.schema.Declared.{Declared}
-use Rattle.planus_schema.specs.declared.schema.Schema.{Schema}
+use Rattle.planus_layout.specs.declared.schema.Declared.{Declared}
+use Rattle.planus_layout.specs.declared.schema.Schema.{Schema}
 use Rattle.planus_schema.specs.Sound.{IsTableAt, Refers, IsNested, RefersField, IsBelow, RefersBefore, RefersBody, AreSound, IsSound}
 
 -- ---- declarations and what they say are of one kind

@@ -2,10 +2,10 @@
 use Rattle.std.proofs.Common.{◌≡◌, ℕ, ◌+◌, ◌<◌, max, Bool, true, false, List, [], ◌∷◌, ◌++◌, length, map, take, drop, get_or, suc, add-one, drop-cons, refl, sym, ap, subst, ◌∙◌, arith}
 use Rattle.std.proofs.lemmas.List.{map_push}
 use Rattle.std.proofs.lemmas.List.Sums.{fold-append}
-use Rattle.planus_schema.specs.declared.schema.StructField.{StructField}
+use Rattle.planus_layout.specs.declared.schema.StructField.{StructField}
 use Rattle.std.proofs.lemmas.Grind.{common_steps}
-use Rattle.planus_schema.specs.Distinct.{Each2, Takes, IsAdded}
-use Rattle.planus_schema.specs.Structs.{IsNext, Laid, greatest_alignment}
+use Rattle.planus_layout.specs.Distinct.{Each2, Takes, IsAdded}
+use Rattle.planus_layout.specs.Layouts.{IsNext, Laid, greatest_alignment}
 
 pub each2_push : {A B : Type 0} (R : A → B → Type 0) (xs : List A) (ys : List B) (x : A) (y : B) → Each2 R xs ys → R x y → Each2 R (xs ++ x ∷ []) (ys ++ y ∷ [])
 each2_push R [] [] x y h r = (r, tt)

@@ -3,8 +3,9 @@ use Rattle.std.proofs.Common.{◌≡◌, ℕ, ◌+◌, true, List, [], ◌∷◌
 use Rattle.std.specs.List.{list_all}
 use Rattle.std.proofs.lemmas.List.{append-nil}
 use Rattle.std.proofs.lemmas.List.Folds.{list_all-append}
-use Rattle.planus_schema.specs.declared.schema.TableField.{TableField}
-use Rattle.planus_schema.specs.Tables.{Follow, width, all_names, names_taken, is_lawful}
+use Rattle.planus_layout.specs.declared.schema.TableField.{TableField}
+use Rattle.planus_layout.specs.Slots.{Follow, width}
+use Rattle.planus_schema.specs.Tables.{all_names, names_taken, is_lawful}
 
 pub follow_push : (at : ℕ) (fs : List TableField) (end : ℕ) (f : TableField) → Follow at fs end → f.slot + 1 ≡ end + width f.kind → Follow at (fs ++ f ∷ []) (end + width f.kind)
 follow_push at [] end f h e = (e ∙ ap (λ n. n + width f.kind) (sym h), ap (λ n. n + width f.kind) h)

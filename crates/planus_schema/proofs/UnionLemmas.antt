@@ -4,10 +4,10 @@ use Rattle.std.specs.Prelude.{nat_eq}
 use Rattle.std.specs.List.{list_all, list_any, IsDistinct}
 use Rattle.std.proofs.lemmas.List.Folds.{list_all-append}
 use Rattle.planus_syntax.specs.Values.{MemberV}
-use Rattle.planus_schema.specs.declared.schema.UnionMember.{UnionMember}
-use Rattle.planus_schema.specs.Distinct.{AreDistinct}
+use Rattle.planus_layout.specs.declared.schema.UnionMember.{UnionMember}
+use Rattle.planus_layout.specs.Distinct.{AreDistinct}
 use Rattle.planus_schema.specs.Unions.{tag_of, tags_from, tag_in, is_tag}
-use Rattle.planus_schema.proofs.Lists.{distinct_push, distinct_none, list_any-map}
+use Rattle.planus_layout.proofs.Lists.{distinct_push, distinct_none, list_any-map}
 
 pub tags_next : (front : List ℕ) (tag previous : ℕ) (d : MemberV) (rest ds : List MemberV) (all : List ℕ) → rest ≡ d ∷ ds → tag ≡ tag_of previous d.value → front ++ tags_from previous rest ≡ all → (front ++ tag ∷ []) ++ tags_from tag ds ≡ all
 tags_next front tag previous d rest ds all r t h =

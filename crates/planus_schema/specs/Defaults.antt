@@ -8,16 +8,16 @@ use Rattle.planus_syntax.specs.Values.{Name, PathV, LiteralV, numeral, named, qu
 use Rattle.planus_syntax.specs.Values.{ItemV, include, namespace, attribute, table, struct}
 use Rattle.planus_syntax.specs.Values.{enumeration, union, service, root, identifier, extension}
 use Rattle.planus_syntax.specs.Values.{VariantV, EnumerationV}
-use Rattle.planus_schema.specs.declared.number.Number.{Number}
-use Rattle.planus_schema.specs.declared.scalar.Scalar.{Scalar}
-use Rattle.planus_schema.specs.declared.schema.Base.{Base}
-use Rattle.planus_schema.specs.declared.schema.Base.TheVariants as base
-use Rattle.planus_schema.specs.declared.schema.FieldType.{FieldType}
-use Rattle.planus_schema.specs.declared.schema.Value.{Value}
-use Rattle.planus_schema.specs.declared.schema.Value.TheVariants as value
-use Rattle.planus_schema.specs.Numbers.{integer_of, is_integer, is_float, is_bool, fits}
-use Rattle.planus_schema.specs.Numbers.{zero_number}
-use Rattle.planus_schema.specs.Numbers.{is_hexadecimal, without_sign, scalar_named}
+use Rattle.planus_layout.specs.declared.number.Number.{Number}
+use Rattle.planus_layout.specs.declared.scalar.Scalar.{Scalar}
+use Rattle.planus_layout.specs.declared.schema.Base.{Base}
+use Rattle.planus_layout.specs.declared.schema.Base.TheVariants as base
+use Rattle.planus_layout.specs.declared.schema.FieldType.{FieldType}
+use Rattle.planus_layout.specs.declared.schema.Value.{Value}
+use Rattle.planus_layout.specs.declared.schema.Value.TheVariants as value
+use Rattle.planus_layout.specs.Numbers.{integer_of, is_integer, is_float, is_bool, fits}
+use Rattle.planus_layout.specs.Numbers.{zero_number}
+use Rattle.planus_layout.specs.Numbers.{is_hexadecimal, without_sign, scalar_named}
 use Rattle.planus_schema.specs.Names.{HeadV, item_at}
 use Rattle.planus_schema.specs.Enums.{number_of, settled, is_flags, numbers_from, same_number}
 

@@ -3,14 +3,14 @@ use Rattle.std.specs.Prelude.{◌≡◌, ℕ, ◌^◌, Bool, true, false, ◌==�
 use Rattle.std.specs.Prelude.{List, [], ◌∷◌, ◌++◌, map, Option, Some, None, codes}
 use Rattle.std.specs.List.{IsDistinct, list_all}
 use Rattle.planus_syntax.specs.Values.{VariantV, EnumerationV, names_of}
-use Rattle.planus_schema.specs.declared.number.Number.{Number}
-use Rattle.planus_schema.specs.declared.scalar.Scalar.{Scalar}
-use Rattle.planus_schema.specs.declared.schema.Enum.{Enum}
-use Rattle.planus_schema.specs.declared.schema.EnumValue.{EnumValue}
-use Rattle.planus_schema.specs.Numbers.{integer_of, is_integer, zero_number, following, fits}
-use Rattle.planus_schema.specs.Numbers.{scalar_named, is_float, is_bool}
+use Rattle.planus_layout.specs.declared.number.Number.{Number}
+use Rattle.planus_layout.specs.declared.scalar.Scalar.{Scalar}
+use Rattle.planus_layout.specs.declared.schema.Enum.{Enum}
+use Rattle.planus_layout.specs.declared.schema.EnumValue.{EnumValue}
+use Rattle.planus_layout.specs.Numbers.{integer_of, is_integer, zero_number, following, fits}
+use Rattle.planus_layout.specs.Numbers.{scalar_named, is_float, is_bool}
 use Rattle.planus_schema.specs.Names.{has}
-use Rattle.planus_schema.specs.Distinct.{AreDistinct}
+use Rattle.planus_layout.specs.Distinct.{AreDistinct}
 
 -- ---- numbers
 

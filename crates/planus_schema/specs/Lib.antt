@@ -1,6 +1,4 @@
-pub mod Numbers
 pub mod Names
-pub mod Distinct
 pub mod Enums
 pub mod Index
 pub mod Structs

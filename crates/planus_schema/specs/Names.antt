@@ -12,10 +12,10 @@ use Rattle.planus_syntax.specs.Values.{DeclarationV, path_of, declaration_of}
 use Rattle.planus_syntax.specs.declared.value.Path.{Path}
 use Rattle.std.specs.Option.{option_map}
 use Rattle.planus_schema.specs.declared.head.Head.{Head}
-use Rattle.planus_schema.specs.declared.schema.Base.{Base}
-use Rattle.planus_schema.specs.declared.schema.Base.TheVariants as base
-use Rattle.planus_schema.specs.declared.schema.FieldType.{FieldType}
-use Rattle.planus_schema.specs.Numbers.{scalar_named}
+use Rattle.planus_layout.specs.declared.schema.Base.{Base}
+use Rattle.planus_layout.specs.declared.schema.Base.TheVariants as base
+use Rattle.planus_layout.specs.declared.schema.FieldType.{FieldType}
+use Rattle.planus_layout.specs.Numbers.{scalar_named}
 
 -- ---- full names
 

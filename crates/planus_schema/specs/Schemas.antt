@@ -5,20 +5,21 @@ use Rattle.std.specs.Option.{option_map}
 use Rattle.planus_syntax.specs.Values.{Name, PathV, ItemV, include, namespace, attribute, table}
 use Rattle.planus_syntax.specs.Values.{struct, enumeration, union, service, root, identifier}
 use Rattle.planus_syntax.specs.Values.{extension, DeclarationV, names_of}
-use Rattle.planus_schema.specs.declared.schema.Base.{Base}
-use Rattle.planus_schema.specs.declared.schema.Base.TheVariants as base
-use Rattle.planus_schema.specs.declared.schema.Body.{Body}
-use Rattle.planus_schema.specs.declared.schema.Body.TheVariants as body
-use Rattle.planus_schema.specs.declared.schema.Declared.{Declared}
-use Rattle.planus_schema.specs.declared.schema.Statements.{Statements}
+use Rattle.planus_layout.specs.declared.schema.Base.{Base}
+use Rattle.planus_layout.specs.declared.schema.Base.TheVariants as base
+use Rattle.planus_layout.specs.declared.schema.Body.{Body}
+use Rattle.planus_layout.specs.declared.schema.Body.TheVariants as body
+use Rattle.planus_layout.specs.declared.schema.Declared.{Declared}
+use Rattle.planus_layout.specs.declared.schema.Statements.{Statements}
 use Rattle.planus_schema.specs.declared.fault.Fault.{Fault}
 use Rattle.planus_schema.specs.declared.fault.Refusal.{Refusal}
 use Rattle.planus_schema.specs.declared.fault.Refusal.TheVariants as refusal
-use Rattle.planus_schema.specs.declared.schema.Schema.{Schema}
+use Rattle.planus_layout.specs.declared.schema.Schema.{Schema}
 use Rattle.planus_schema.specs.Names.{HeadV, heads_of, words_in, space_after, base_named}
-use Rattle.planus_schema.specs.Distinct.{AreDistinct, Each2}
+use Rattle.planus_layout.specs.Distinct.{AreDistinct, Each2}
 use Rattle.planus_schema.specs.Enums.{IsEnum, SaysEnum}
-use Rattle.planus_schema.specs.Structs.{IsStruct, SaysStruct, body_in}
+use Rattle.planus_layout.specs.Layouts.{IsStruct, body_in}
+use Rattle.planus_schema.specs.Structs.{SaysStruct}
 use Rattle.planus_schema.specs.Unions.{IsUnion, SaysUnion}
 use Rattle.planus_schema.specs.Tables.{IsTable, SaysTable}
 

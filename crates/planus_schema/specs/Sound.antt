@@ -3,20 +3,20 @@ use Rattle.std.specs.Prelude.{◌≡◌, ℕ, ◌+◌, ◌<◌, true, List, [], 
 use Rattle.std.specs.Prelude.{slice_get}
 use Rattle.std.specs.List.{AllByRecursion}
 use Rattle.std.specs.Option.{option_map}
-use Rattle.planus_schema.specs.declared.schema.Base.{Base}
-use Rattle.planus_schema.specs.declared.schema.Base.TheVariants as base
-use Rattle.planus_schema.specs.declared.schema.Body.{Body}
-use Rattle.planus_schema.specs.declared.schema.Body.TheVariants as body
-use Rattle.planus_schema.specs.declared.schema.Enum.{Enum}
-use Rattle.planus_schema.specs.declared.schema.Struct.{Struct}
-use Rattle.planus_schema.specs.declared.schema.StructField.{StructField}
-use Rattle.planus_schema.specs.declared.schema.Table.{Table}
-use Rattle.planus_schema.specs.declared.schema.TableField.{TableField}
-use Rattle.planus_schema.specs.declared.schema.Union.{Union}
-use Rattle.planus_schema.specs.declared.schema.Schema.{Schema}
-use Rattle.planus_schema.specs.Distinct.{AreDistinct}
+use Rattle.planus_layout.specs.declared.schema.Base.{Base}
+use Rattle.planus_layout.specs.declared.schema.Base.TheVariants as base
+use Rattle.planus_layout.specs.declared.schema.Body.{Body}
+use Rattle.planus_layout.specs.declared.schema.Body.TheVariants as body
+use Rattle.planus_layout.specs.declared.schema.Enum.{Enum}
+use Rattle.planus_layout.specs.declared.schema.Struct.{Struct}
+use Rattle.planus_layout.specs.declared.schema.StructField.{StructField}
+use Rattle.planus_layout.specs.declared.schema.Table.{Table}
+use Rattle.planus_layout.specs.declared.schema.TableField.{TableField}
+use Rattle.planus_layout.specs.declared.schema.Union.{Union}
+use Rattle.planus_layout.specs.declared.schema.Schema.{Schema}
+use Rattle.planus_layout.specs.Distinct.{AreDistinct}
 use Rattle.planus_schema.specs.Defaults.{value_of, is_default}
-use Rattle.planus_schema.specs.Structs.{measure_in, body_in}
+use Rattle.planus_layout.specs.Layouts.{measure_in, body_in}
 use Rattle.planus_schema.specs.Schemas.{IsBody, IsFour, said_of}
 
 -- the declaration of this index is a table

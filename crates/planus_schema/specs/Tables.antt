@@ -1,4 +1,4 @@
--- Tables: the slots of their fields.
+-- Tables.
 use Rattle.std.specs.Prelude.{◌≡◌, ℕ, ◌+◌, ◌-◌, ◌≤◌, ◌<◌, Bool, true, false, ◌&&◌, ◌||◌, not}
 use Rattle.std.specs.Prelude.{List, [], ◌∷◌, ◌++◌, length, Option, Some, None, codes}
 use Rattle.std.specs.Prelude.{if◌then◌else◌, slice_index}
@@ -7,53 +7,17 @@ use Rattle.std.specs.List.Sorted.{IsPermutation}
 use Rattle.std.specs.Option.{option_map}
 use Rattle.planus_syntax.specs.Values.{Name, LiteralV, numeral, named, quote, nothing, AttributeV}
 use Rattle.planus_syntax.specs.Values.{FieldV, RecordV, names_of}
-use Rattle.planus_schema.specs.declared.scalar.Scalar.TheVariants.{UByte}
-use Rattle.planus_schema.specs.declared.schema.Base.{Base}
-use Rattle.planus_schema.specs.declared.schema.Base.TheVariants as base
-use Rattle.planus_schema.specs.declared.schema.FieldType.{FieldType}
-use Rattle.planus_schema.specs.declared.schema.Table.{Table}
-use Rattle.planus_schema.specs.declared.schema.TableField.{TableField}
+use Rattle.planus_layout.specs.declared.scalar.Scalar.TheVariants.{UByte}
+use Rattle.planus_layout.specs.declared.schema.Base.{Base}
+use Rattle.planus_layout.specs.declared.schema.Base.TheVariants as base
+use Rattle.planus_layout.specs.declared.schema.FieldType.{FieldType}
+use Rattle.planus_layout.specs.declared.schema.Table.{Table}
+use Rattle.planus_layout.specs.declared.schema.TableField.{TableField}
 use Rattle.planus_schema.specs.Names.{HeadV, type_named, setting, has, found, base_found}
-use Rattle.planus_schema.specs.Distinct.{AreDistinct, Each2}
+use Rattle.planus_layout.specs.Slots.{is_union, slots_taken, AreSlots, Follow}
+use Rattle.planus_layout.specs.Distinct.{AreDistinct, Each2}
 use Rattle.planus_schema.specs.Structs.{literal_number}
 use Rattle.planus_schema.specs.Defaults.{value_of, default_said}
-
--- ---- slots
-
-abbrev pub is_union_base : Base → Bool
-is_union_base (base.Scalar s) = false
-is_union_base base.Text = false
-is_union_base (base.Enum i) = false
-is_union_base (base.Struct i) = false
-is_union_base (base.Table i) = false
-is_union_base (base.Union i) = true
-
--- a union, or a vector of them, has a slot for its type before that of its value
-abbrev pub is_union : FieldType → Bool
-is_union t = is_union_base t.base
-
-abbrev pub width : FieldType → ℕ
-width t = if is_union t then 2 else 1
-
--- the slots that a field takes
-abbrev pub slots_of : TableField → List ℕ
-slots_of f = if is_union f.kind then (f.slot - 1) ∷ f.slot ∷ [] else f.slot ∷ []
-
-abbrev pub slots_taken : List TableField → List ℕ
-slots_taken [] = []
-slots_taken (f ∷ fs) = slots_of f ++ slots_taken fs
-
--- in some order they are 0, 1, 2 and so on, and there are not more than a vtable has room for
-pub record AreSlots (slots : List ℕ) : Type 0 where
-  pub sorted : List ℕ
-  pub same : IsPermutation slots sorted
-  pub each : (k : ℕ) → k < length sorted → slice_index sorted k ≡ k
-  pub room : length slots ≤ 32765
-
--- each field takes the slots after those of the field before it
-abbrev pub Follow : ℕ → List TableField → ℕ → Type 0
-Follow at [] end = at ≡ end
-Follow at (f ∷ fs) end = (f.slot + 1 ≡ at + width f.kind) × Follow (at + width f.kind) fs end
 
 -- ---- what a table is
 

@@ -3,12 +3,12 @@ use Rattle.std.specs.Prelude.{◌≡◌, ℕ, ◌+◌, Bool, true, ◌&&◌, nat
 use Rattle.std.specs.Prelude.{map, Option, Some, None, codes}
 use Rattle.std.specs.List.{IsDistinct, list_all}
 use Rattle.planus_syntax.specs.Values.{Name, PathV, MemberV, UnionV, names_of}
-use Rattle.planus_schema.specs.declared.schema.Base.TheVariants as base
-use Rattle.planus_schema.specs.declared.schema.Union.{Union}
-use Rattle.planus_schema.specs.declared.schema.UnionMember.{UnionMember}
-use Rattle.planus_schema.specs.Numbers.{magnitude_of}
+use Rattle.planus_layout.specs.declared.schema.Base.TheVariants as base
+use Rattle.planus_layout.specs.declared.schema.Union.{Union}
+use Rattle.planus_layout.specs.declared.schema.UnionMember.{UnionMember}
+use Rattle.planus_layout.specs.Numbers.{magnitude_of}
 use Rattle.planus_schema.specs.Names.{HeadV, words_of, dotted, base_named}
-use Rattle.planus_schema.specs.Distinct.{AreDistinct, Each2}
+use Rattle.planus_layout.specs.Distinct.{AreDistinct, Each2}
 
 -- the number that is given, or one more than that before it; `NONE` is 0
 abbrev pub tag_of : ℕ → Option (List ℕ) → ℕ

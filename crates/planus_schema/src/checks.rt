@@ -3,8 +3,7 @@
 use crate::fault::{Problem, Stop, wrong};
 use crate::heads::Heads;
 use crate::kind::base_of;
-use crate::names::{is_among, take_name};
-use crate::schema::Base;
+use planus_layout::{Base, is_among, take_name};
 use planus_syntax::{Attribute, Declaration, Field, Item, Method, Path, Record};
 use std::alloc::{AllocError, Global};
 

@@ -6,7 +6,7 @@ ghost use Rattle.std.specs.List.{list_any};
 ghost use Rattle.planus_syntax.specs.Values.{path_of, literal_of, variant_of, enumeration_of};
 ghost use Rattle.planus_syntax.specs.Values.{named, numeral};
 ghost use Rattle.planus_schema.specs.Names.{head_of, item_at};
-ghost use Rattle.planus_schema.specs.Numbers.{zero_number};
+ghost use Rattle.planus_layout.specs.Numbers.{zero_number};
 ghost use Rattle.planus_schema.specs.Enums.{same_number as same_number_lem, numbers_from};
 ghost use Rattle.planus_schema.specs.Defaults.{value_of, float, integer, is_word as is_word_lem};
 ghost use Rattle.planus_schema.specs.Defaults.{whole_number as whole_number_lem};
@@ -32,9 +32,9 @@ use crate::enums::{number_of, same_number, value_of as settled};
 use crate::fault::{Problem, Stop, wrong};
 use crate::heads::Heads;
 use crate::kind::item_of_head;
-use crate::number::{Number, integer, is_hexadecimal, without_sign};
-use crate::scalar::{Scalar, scalar_named};
-use crate::schema::{Base, FieldType, Value};
+use planus_layout::{
+    Base, FieldType, Number, Scalar, Value, integer, is_hexadecimal, scalar_named, without_sign,
+};
 use planus_syntax::{Enumeration, Item, Literal, Path, Variant};
 use std::alloc::{AllocError, Global};
 

@@ -3,21 +3,20 @@
 ghost use Rattle.std.specs.Prelude.{◌≡◌, ◌^◌, ◌<◌, true, false, map, IfOk, IfSome, [], Some};
 ghost use Rattle.std.specs.List.{list_any, IsDistinct, list_all};
 ghost use Rattle.planus_syntax.specs.Values.{names_of, path_of, variant_of, enumeration_of};
-ghost use Rattle.planus_schema.specs.Numbers.{scalar_named as scalar_named_lem, fits};
+ghost use Rattle.planus_layout.specs.Numbers.{scalar_named as scalar_named_lem, fits};
 ghost use Rattle.planus_schema.specs.Enums.{number_of as number_of_lem, numbers_from, settled};
 ghost use Rattle.planus_schema.specs.Enums.{same_number as same_number_lem, number_of_value};
 ghost use Rattle.planus_schema.specs.Enums.{enum_numbers, SaysEnum, IsEnum};
 ghost use Rattle.planus_schema.specs.Enums.{is_integer_type as is_integer_type_lem};
 ghost use Rattle.planus_schema.specs.Enums.{is_spelled, next_number as next_number_lem};
 ghost use Rattle.planus_schema.specs.Enums.{IsValueAdded, AreValues};
-ghost use Rattle.planus_schema.specs.Distinct.{AreDistinct};
+ghost use Rattle.planus_layout.specs.Distinct.{AreDistinct};
 
 use crate::attributes::has;
 use crate::fault::{Problem, Stop, wrong};
-use crate::names::{copied, take_name};
-use crate::number::{Number, following, integer};
-use crate::scalar::{Scalar, scalar_named};
-use crate::schema::{Enum, EnumValue};
+use planus_layout::{
+    Enum, EnumValue, Number, Scalar, copied, following, integer, scalar_named, take_name,
+};
 use planus_syntax::{Enumeration, Path, Variant};
 use std::alloc::Global;
 

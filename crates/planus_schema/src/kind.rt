@@ -10,8 +10,7 @@ ghost use Rattle.planus_schema.specs.Names.{base_named, type_named, item_at, bas
 use crate::fault::{Problem, Stop, wrong};
 use crate::heads::Heads;
 use crate::lookup::found;
-use crate::scalar::scalar_named;
-use crate::schema::{Base, FieldType};
+use planus_layout::{Base, FieldType, scalar_named};
 use planus_syntax::{Item, Kind, Path};
 use std::alloc::Global;
 

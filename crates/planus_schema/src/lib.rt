@@ -11,10 +11,6 @@ mod heads;
 mod kind;
 mod lookup;
 mod meaning;
-mod names;
-mod number;
-mod scalar;
-mod schema;
 mod slots;
 mod statements;
 mod structs;
@@ -22,10 +18,8 @@ mod tables;
 mod unions;
 
 pub use fault::{Fault, Problem, Refusal};
-pub use meaning::{file_index, resolve};
-pub use number::Number;
-pub use scalar::Scalar;
-pub use schema::{
-    Base, Body, Declared, Enum, EnumValue, FieldType, Schema, Statements, Struct, StructField,
-    Table, TableField, Union, UnionMember, Value,
+pub use meaning::resolve;
+pub use planus_layout::{
+    Base, Body, Declared, Enum, EnumValue, FieldType, Number, Scalar, Schema, Statements, Struct,
+    StructField, Table, TableField, Union, UnionMember, Value, file_index,
 };

@@ -1,11 +1,10 @@
 //! Files to the schema that they mean.
 
-ghost use Rattle.std.specs.Prelude.{◌≡◌, [], ◌≤◌, map, length, position, Some, IfOk, IfErr, OnOk};
-ghost use Rattle.std.specs.Str.{bytes_eq};
+ghost use Rattle.std.specs.Prelude.{◌≡◌, [], ◌≤◌, map, length, Some, IfOk, IfErr, OnOk};
 ghost use Rattle.planus_syntax.specs.Values.{item_of, schema_of};
 ghost use Rattle.planus_schema.specs.Names.{head_of, space_of, index_of};
-ghost use Rattle.planus_schema.specs.Distinct.{AreDistinct};
-ghost use Rattle.planus_schema.specs.Structs.{body_in};
+ghost use Rattle.planus_layout.specs.Distinct.{AreDistinct};
+ghost use Rattle.planus_layout.specs.Layouts.{body_in};
 ghost use Rattle.planus_schema.specs.Schemas.{IsBody, SaysBody, IsDeclared, AreDeclared, Means};
 ghost use Rattle.planus_schema.specs.Schemas.{IsRefusal, IsAppended};
 ghost use Rattle.planus_schema.specs.Sound.{IsSound};
@@ -14,25 +13,13 @@ use crate::enums::enum_of;
 use crate::fault::{Fault, Problem, Refusal, Stop, note, wrong};
 use crate::head::{Head, heads};
 use crate::heads::Heads;
-use crate::names::copied;
-use crate::scalar::Scalar;
-use crate::schema::{Body, Declared, Enum, Schema, Struct, Table, Union};
 use crate::statements::statements;
 use crate::structs::struct_of;
 use crate::tables::table_of;
 use crate::unions::union_of;
+use planus_layout::{Body, Declared, Enum, Scalar, Schema, Struct, Table, Union, copied, is_first};
 use planus_syntax::{Declaration, Item};
 use std::alloc::{AllocError, Global};
-
-/// Returns the index of the file of this name among those that were read.
-///
-/// A file that has one is not read again, so that each is read once, however files include each
-/// other.
-pub fn file_index(files: &[Vec<u8>], name: &[u8]) -> Option<usize>
-    ensures { result ≡ position (λ file. bytes_eq file.items name.now) files.now }
-{
-    files.iter().position(|file| file.as_slice() == name)
-}
 
 /// Returns what a declaration says.
 fn body_of(alloc: Global, heads: &Heads, declared: &[Declared], head: &Head) -> Result<Body, Stop>
@@ -151,7 +138,7 @@ fn check_name(
     ensures kept { OnOk result (faults.new.items ≡ [] → faults.old.items ≡ []) }
     ensures most { OnOk result (length faults.old.items ≤ 20 → length faults.new.items ≤ 20) }
 {
-    if heads.index_of(&head.name) == Some(index) {
+    if is_first(heads.index_of(&head.name), index) {
         Ok(())
     } else {
         note(

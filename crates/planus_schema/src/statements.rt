@@ -11,7 +11,7 @@ use crate::fault::{Fault, Problem, Stop, note, wrong};
 use crate::head::space_after;
 use crate::heads::Heads;
 use crate::kind::base_of;
-use crate::schema::{Base, Statements};
+use planus_layout::{Base, Statements};
 use planus_syntax::{Declaration, Item, Path};
 use std::alloc::{AllocError, Global};
 

@@ -5,98 +5,26 @@ ghost use Rattle.std.specs.Prelude.{codes, slice_get, max};
 ghost use Rattle.std.specs.Option.{option_map};
 ghost use Rattle.planus_syntax.specs.Values.{kind_of, field_of, record_of, attribute_of};
 ghost use Rattle.planus_schema.specs.Names.{space_of, head_of, type_named, setting as setting_lem};
-ghost use Rattle.planus_schema.specs.Structs.{measure_in, measure_of_body as measure_of_body_lem};
-ghost use Rattle.planus_schema.specs.Structs.{IsNext, IsStruct, SaysStruct, SaysStructField};
-ghost use Rattle.planus_schema.specs.Structs.{is_alignment as is_alignment_lem, is_plain};
-ghost use Rattle.planus_schema.specs.Structs.{alignment_said, literal_number, Laid};
-ghost use Rattle.planus_schema.specs.Structs.{greatest_alignment, body_in};
-ghost use Rattle.planus_schema.specs.Distinct.{AreDistinct, Each2};
+ghost use Rattle.planus_layout.specs.Layouts.{measure_in, measure_of_body as measure_of_body_lem};
+ghost use Rattle.planus_layout.specs.Layouts.{IsNext, IsStruct};
+ghost use Rattle.planus_schema.specs.Structs.{SaysStruct, SaysStructField};
+ghost use Rattle.planus_layout.specs.Layouts.{is_alignment as is_alignment_lem};
+ghost use Rattle.planus_schema.specs.Structs.{is_plain};
+ghost use Rattle.planus_schema.specs.Structs.{alignment_said, literal_number};
+ghost use Rattle.planus_layout.specs.Layouts.{Laid};
+ghost use Rattle.planus_layout.specs.Layouts.{greatest_alignment, body_in};
+ghost use Rattle.planus_layout.specs.Distinct.{AreDistinct, Each2};
 
 use crate::attributes::{has, setting};
 use crate::fault::{Problem, Stop, wrong};
 use crate::heads::Heads;
 use crate::kind::type_of;
-use crate::names::{copied, take_name};
-use crate::number::integer;
-use crate::schema::{Base, Body, Declared, Struct, StructField};
+use planus_layout::{
+    Base, Declared, Layout, Measure, Struct, StructField, copied, greater, integer, is_alignment,
+    measure_of, next_multiple, take_name,
+};
 use planus_syntax::{Attribute, Field, Literal, Path, Record};
 use std::alloc::Global;
-
-/// A size and an alignment in bytes.
-#[derive(Clone, Copy)]
-pub(crate) struct Measure {
-    pub(crate) size: usize,
-    pub(crate) alignment: usize,
-}
-
-fn body_measure(body: &Body) -> Option<Measure>
-    ensures { result ≡ measure_of_body_lem (Some body.now) }
-{
-    match body {
-        Body::Struct(body) => Some(Measure {
-            size: body.size,
-            alignment: body.alignment,
-        }),
-        Body::Enum(body) => Some(Measure {
-            size: body.scalar.size(),
-            alignment: body.scalar.size(),
-        }),
-        _ => None,
-    }
-}
-
-fn declared_at(bodies: &[Declared], index: usize) -> Option<&Declared>
-    ensures { option_map (λ d. d.now) result ≡ slice_get bodies.now index }
-{
-    bodies.get(index)
-}
-
-fn body_at(bodies: &[Declared], index: usize) -> Option<&Body>
-    ensures { option_map (λ b. b.now) result ≡ slice_get (map body_in bodies.now) index }
-{
-    match declared_at(bodies, index) {
-        Some(declared) => Some(&declared.body),
-        None => None,
-    }
-}
-
-fn measure_at(bodies: &[Declared], index: usize) -> Option<Measure>
-    ensures { result ≡ measure_of_body_lem (slice_get (map body_in bodies.now) index) }
-{
-    match body_at(bodies, index) {
-        Some(body) => body_measure(body),
-        None => None,
-    }
-}
-
-/// Returns the size and the alignment of a value in a struct.
-fn measure_of(bodies: &[Declared], base: Base) -> Option<Measure>
-    ensures { result ≡ measure_in (map body_in bodies.now) base }
-{
-    match base {
-        Base::Scalar(scalar) => Some(Measure {
-            size: scalar.size(),
-            alignment: scalar.size(),
-        }),
-        Base::Enum(index) | Base::Struct(index) => measure_at(bodies, index),
-        _ => None,
-    }
-}
-
-/// Returns the least multiple of an alignment that is not below `at`.
-fn next_multiple(at: usize, alignment: usize) -> usize
-    requires from { at ≤ 65535 }
-    requires some { 0 < alignment }
-    requires small { alignment ≤ 32 }
-    ensures { IsNext alignment at result }
-{
-    let over = at % alignment;
-    if over == 0 {
-        at
-    } else {
-        at + (alignment - over)
-    }
-}
 
 /// Checks what a field of a struct can't have, and returns its type.
 fn base_in_struct(
@@ -175,20 +103,7 @@ fn struct_field(
     })
 }
 
-/// Fields one after the other, where they end, and the greatest of their alignments.
-#[derive(Drop)]
-struct Layout {
-    fields: Vec<StructField>,
-    end: usize,
-    alignment: usize,
-}
-
-fn greater(a: usize, b: usize) -> usize
-    ensures { result ≡ max a b }
-{
-    a.max(b)
-}
-
+/// Returns what the fields of a struct say.
 fn struct_fields(
     alloc: Global,
     heads: &Heads,
@@ -222,12 +137,6 @@ fn struct_fields(
         end,
         alignment,
     })
-}
-
-fn is_alignment(n: usize) -> bool
-    ensures { result ≡ is_alignment_lem n }
-{
-    n == 1 || n == 2 || n == 4 || n == 8 || n == 16 || n == 32
 }
 
 /// Returns the number that an attribute has.
@@ -283,9 +192,5 @@ pub(crate) fn struct_of(
     }
     let layout = struct_fields(alloc, heads, bodies, space, &declared.fields)?;
     let alignment = alignment_of(&declared.attributes, layout.alignment, left)?;
-    Ok(Struct {
-        size: next_multiple(layout.end, alignment),
-        fields: layout.fields,
-        alignment,
-    })
+    Ok(layout.finished(alignment))
 }

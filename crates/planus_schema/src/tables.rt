@@ -6,14 +6,15 @@ ghost use Rattle.std.specs.List.{list_all};
 ghost use Rattle.planus_syntax.specs.Values.{names_of, field_of, record_of, attribute_of, path_of};
 ghost use Rattle.planus_schema.specs.Names.{head_of, space_of, setting as setting_lem, base_found};
 ghost use Rattle.planus_schema.specs.Names.{found as found_lem, words_of};
-ghost use Rattle.planus_schema.specs.Distinct.{AreDistinct, Each2};
+ghost use Rattle.planus_layout.specs.Distinct.{AreDistinct, Each2};
 ghost use Rattle.planus_schema.specs.Tables.{is_lawful as is_lawful_lem, NestedIs};
 ghost use Rattle.planus_schema.specs.Tables.{is_required as is_required_lem, is_text_base};
 ghost use Rattle.planus_schema.specs.Tables.{is_number as is_number_lem};
 ghost use Rattle.planus_schema.specs.Tables.{may_be_key as may_be_key_lem};
 ghost use Rattle.planus_schema.specs.Tables.{is_bytes as is_bytes_lem};
 ghost use Rattle.planus_schema.specs.Tables.{names_taken, all_names, SaysField, SaysTable};
-ghost use Rattle.planus_schema.specs.Tables.{IsTable, Follow, AreNamed, width as width_lem};
+ghost use Rattle.planus_schema.specs.Tables.{IsTable, AreNamed};
+ghost use Rattle.planus_layout.specs.Slots.{Follow, width as width_lem};
 
 use crate::attributes::{has, setting};
 use crate::defaults::default_of;
@@ -21,10 +22,10 @@ use crate::fault::{Problem, Stop, wrong};
 use crate::heads::Heads;
 use crate::kind::{head_base, type_of};
 use crate::lookup::found;
-use crate::names::{copied, take_name};
-use crate::scalar::Scalar;
-use crate::schema::{Base, FieldType, Table, TableField};
-use crate::slots::{check_slots, has_ids, is_union, slot_of, width};
+use crate::slots::{check_slots, field_slot, has_ids};
+use planus_layout::{
+    Base, FieldType, Scalar, Table, TableField, copied, is_union, take_name, width,
+};
 use planus_syntax::{Attribute, Field, Literal, Path, Record};
 use std::alloc::{AllocError, Global};
 
@@ -154,7 +155,7 @@ fn table_field(
     ensures lawful { IfOk result (λ f. is_lawful_lem f ≡ true) }
 {
     let kind = type_of(alloc, heads, space, &field.kind)?;
-    let slot = slot_of(field, kind, ids, next)?;
+    let slot = field_slot(field, kind, ids, next)?;
     let default = default_of(alloc, heads, kind, &field.default, field.left)?;
     let nested = nested_of(alloc, heads, space, &field.attributes)?;
     let name = Vec::from_slice(alloc, &field.name)?;

@@ -7,15 +7,13 @@ ghost use Rattle.planus_schema.specs.Names.{head_of, space_of, words_of, dotted,
 ghost use Rattle.planus_schema.specs.Unions.{tag_of as tag_of_lem, target_of as target_of_lem};
 ghost use Rattle.planus_schema.specs.Unions.{SaysMember, SaysUnion, IsUnion, tags_from, tag_in};
 ghost use Rattle.planus_schema.specs.Unions.{is_tag};
-ghost use Rattle.planus_schema.specs.Distinct.{AreDistinct, Each2};
+ghost use Rattle.planus_layout.specs.Distinct.{AreDistinct, Each2};
 
 use crate::fault::{Problem, Stop, wrong};
 use crate::head::put_path;
 use crate::heads::Heads;
 use crate::kind::base_of;
-use crate::names::{copied, take_name};
-use crate::number::integer;
-use crate::schema::{Base, Union, UnionMember};
+use planus_layout::{Base, Union, UnionMember, copied, integer, take_name};
 use planus_syntax::{Member, Path, UnionBody};
 use std::alloc::{AllocError, Global};
 

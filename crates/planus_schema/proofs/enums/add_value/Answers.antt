@@ -1,7 +1,7 @@
 use Rattle.std.proofs.Common.{sym, ap, ◌∙◌, refl}
 use Rattle.std.specs.List.{list_any}
 use Rattle.planus_syntax.specs.Values.{names_of, variant_of}
-use Rattle.planus_schema.specs.declared.schema.EnumValue.{EnumValue}
+use Rattle.planus_layout.specs.declared.schema.EnumValue.{EnumValue}
 use Rattle.planus_schema.specs.Enums.{same_number}
 use Rattle.planus_schema.proofs.EnumLemmas.{value_added}
 use Rattle.planus_schema.proofs.enums.add_value.Goals as goal

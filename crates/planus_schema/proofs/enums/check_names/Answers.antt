@@ -1,6 +1,6 @@
 use Rattle.std.proofs.Common.{ap}
 use Rattle.planus_syntax.specs.Values.{names_of}
-use Rattle.planus_schema.proofs.EnumLemmas.{no_names}
+use Rattle.planus_layout.proofs.NameLemmas.{no_names}
 use Rattle.planus_schema.proofs.enums.check_names.Goals as goal
 
 pub variants-init : goal.variants-init

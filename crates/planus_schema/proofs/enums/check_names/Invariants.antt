@@ -1,6 +1,6 @@
 use Rattle.std.proofs.Common.{◌≡◌, take, map}
 use Rattle.planus_syntax.specs.Values.{names_of, variant_of}
-use Rattle.planus_schema.specs.Distinct.{AreDistinct}
+use Rattle.planus_layout.specs.Distinct.{AreDistinct}
 use Rattle.planus_schema.proofs.enums.check_names.Given as goal
 
 -- the names so far

@@ -1,6 +1,6 @@
 use Rattle.std.proofs.Common.{ap, sym, ◌∙◌, map, subst}
 use Rattle.planus_syntax.specs.Values.{VariantV, variant_of}
-use Rattle.planus_schema.specs.Distinct.{AreDistinct}
+use Rattle.planus_layout.specs.Distinct.{AreDistinct}
 use Rattle.planus_schema.proofs.enums.enum_of.Goals as goal
 
 pub returns-clause-sound : goal.returns-clause-sound

@@ -2,7 +2,7 @@ use Rattle.std.proofs.Common.{◌≡◌, ◌++◌, true, take, drop, map}
 use Rattle.std.specs.Prelude.{None}
 use Rattle.std.specs.List.{IsDistinct, list_all}
 use Rattle.planus_syntax.specs.Values.{names_of, variant_of}
-use Rattle.planus_schema.specs.Numbers.{fits}
+use Rattle.planus_layout.specs.Numbers.{fits}
 use Rattle.planus_schema.specs.Enums.{number_of_value, settled, numbers_from, same_number, is_spelled}
 use Rattle.planus_schema.proofs.enums.enum_values.Given as goal
 

@@ -1,7 +1,7 @@
 use Rattle.std.proofs.Common.{subst, map}
 use Rattle.planus_syntax.specs.Values.{item_of}
 use Rattle.planus_schema.specs.Names.{head_of, space_of}
-use Rattle.planus_schema.specs.Structs.{body_in}
+use Rattle.planus_layout.specs.Layouts.{body_in}
 use Rattle.planus_schema.specs.Schemas.{SaysBody}
 use Rattle.planus_schema.proofs.SchemaLemmas.{declared_by}
 use Rattle.planus_schema.proofs.meaning.add_declared.Goals as goal

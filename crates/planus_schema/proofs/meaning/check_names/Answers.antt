@@ -1,6 +1,6 @@
 use Rattle.std.proofs.Common.{◌≡◌, ◌<◌, length, get_or, refl, subst, ◌∙◌, ap, arith}
 use Rattle.std.specs.Prelude.{Some}
-use Rattle.planus_schema.proofs.Lists.{distinct_none}
+use Rattle.planus_layout.proofs.Lists.{distinct_none}
 use Rattle.std.specs.Str.{bytes_eq}
 use Rattle.planus_schema.proofs.IndexLemmas.{first_is_new}
 use Rattle.planus_schema.proofs.meaning.check_names.Goals as goal

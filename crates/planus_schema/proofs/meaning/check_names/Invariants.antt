@@ -1,6 +1,6 @@
 use Rattle.std.proofs.Common.{◌≡◌, ◌≤◌, [], length, map, take}
 use Rattle.planus_schema.specs.Names.{head_of}
-use Rattle.planus_schema.specs.Distinct.{AreDistinct}
+use Rattle.planus_layout.specs.Distinct.{AreDistinct}
 use Rattle.planus_schema.proofs.meaning.check_names.Given as goal
 
 -- the names so far

@@ -1,9 +1,9 @@
 use Rattle.std.proofs.Common.{◌++◌, ◌∷◌, [], refl, ap, sym, ◌∙◌, take, map, max, arith}
 use Rattle.std.proofs.lemmas.List.{map_push}
 use Rattle.planus_syntax.specs.Values.{names_of, field_of}
-use Rattle.planus_schema.specs.declared.schema.StructField.{StructField}
-use Rattle.planus_schema.specs.Structs.{greatest_alignment}
-use Rattle.planus_schema.proofs.EnumLemmas.{no_names}
+use Rattle.planus_layout.specs.declared.schema.StructField.{StructField}
+use Rattle.planus_layout.specs.Layouts.{greatest_alignment}
+use Rattle.planus_layout.proofs.NameLemmas.{no_names}
 use Rattle.planus_schema.proofs.StructLemmas.{each2_push, laid_push, greatest_push, map_next, taken}
 use Rattle.planus_schema.proofs.structs.struct_fields.Goals as goal
 
@@ -27,7 +27,7 @@ fields-preserved c =
     let f = c.in_ok-field.field in
     let fs = c.fields.fields.items in
     let t = map_next field_of c.args.declared.now c.fields.declaration-index c.declaration-item.result (omega arith) c.declaration-item.is in
-    let a = taken c.in_ok-take_name.field-0 (names_of c.fields.names.items) c.deref.result.now (names_of c.take_name.new.names.items) c.if-not-branch.false c.in_ok-take_name.ensures in
+    let a = taken c.in_ok-take_name.field-0 (names_of c.fields.names.items) c.deref.result.now (names_of c.take_name.new.names.items) c.if-not-branch.false c.in_ok-take_name.ensures.taken in
     record {
       says = rw (t, e) (each2_push _ (map field_of (take c.fields.declaration-index c.args.declared.now)) fs (field_of c.declaration-item.result) f i.says c.in_ok-field.ensures.says);
       laid = rw e (laid_push 0 fs c.fields.end f i.laid c.in_ok-field.ensures.placed);

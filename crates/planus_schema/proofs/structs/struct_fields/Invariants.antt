@@ -1,8 +1,9 @@
 use Rattle.std.proofs.Common.{◌≡◌, ◌≤◌, take, map}
 use Rattle.planus_syntax.specs.Values.{names_of, field_of}
-use Rattle.planus_schema.specs.Distinct.{AreDistinct, Each2}
+use Rattle.planus_layout.specs.Distinct.{AreDistinct, Each2}
 use Rattle.planus_schema.specs.Names.{head_of, space_of}
-use Rattle.planus_schema.specs.Structs.{SaysStructField, Laid, greatest_alignment, body_in}
+use Rattle.planus_schema.specs.Structs.{SaysStructField}
+use Rattle.planus_layout.specs.Layouts.{Laid, greatest_alignment, body_in}
 use Rattle.planus_schema.proofs.structs.struct_fields.Given as goal
 
 -- the fields so far

@@ -1,7 +1,7 @@
 use Rattle.std.proofs.Common.{◌++◌, refl, ap, sym, ◌∙◌, take, map, arith}
 use Rattle.planus_syntax.specs.Values.{field_of}
 use Rattle.planus_schema.specs.Tables.{all_names, names_taken}
-use Rattle.planus_schema.proofs.EnumLemmas.{no_names}
+use Rattle.planus_layout.proofs.NameLemmas.{no_names}
 use Rattle.planus_schema.proofs.StructLemmas.{each2_push, map_next}
 use Rattle.planus_schema.proofs.TableLemmas.{follow_push, names_push, lawful_push}
 use Rattle.planus_schema.proofs.tables.table_fields.Goals as goal

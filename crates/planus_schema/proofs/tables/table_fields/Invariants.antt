@@ -1,9 +1,10 @@
 use Rattle.std.proofs.Common.{◌≡◌, true, false, take, map}
 use Rattle.std.specs.List.{list_all}
 use Rattle.planus_syntax.specs.Values.{names_of, field_of}
-use Rattle.planus_schema.specs.Distinct.{AreDistinct, Each2}
+use Rattle.planus_layout.specs.Distinct.{AreDistinct, Each2}
 use Rattle.planus_schema.specs.Names.{head_of, space_of}
-use Rattle.planus_schema.specs.Tables.{SaysField, Follow, is_lawful, all_names}
+use Rattle.planus_schema.specs.Tables.{SaysField, is_lawful, all_names}
+use Rattle.planus_layout.specs.Slots.{Follow}
 use Rattle.planus_schema.proofs.tables.table_fields.Given as goal
 
 -- the fields so far

@@ -3,7 +3,7 @@ use Rattle.std.specs.Prelude.{codes, nat_eq}
 use Rattle.std.specs.List.{list_any}
 use Rattle.std.proofs.lemmas.List.{map_push}
 use Rattle.planus_syntax.specs.Values.{names_of, member_of}
-use Rattle.planus_schema.specs.declared.schema.UnionMember.{UnionMember}
+use Rattle.planus_layout.specs.declared.schema.UnionMember.{UnionMember}
 use Rattle.planus_schema.specs.Unions.{tag_in}
 use Rattle.planus_schema.proofs.StructLemmas.{each2_push, map_next, map_rest, taken}
 use Rattle.planus_schema.proofs.UnionLemmas.{tags_next, tags_within, tags_apart, no_tags, one_name}
@@ -32,7 +32,7 @@ members-preserved c =
     let n = c.members.member-index in
     let t = map_next member_of ds n c.member-item.result (omega arith) c.member-item.is in
     let r = map_rest member_of ds n c.member-item.result (omega arith) c.member-item.is in
-    let a = taken c.in_ok-take_name.field-0 (names_of c.members.names.items) c.deref-in-members.result.now (names_of c.take_name.new.names.items) c.if-not-branch.false c.in_ok-take_name.ensures in
+    let a = taken c.in_ok-take_name.field-0 (names_of c.members.names.items) c.deref-in-members.result.now (names_of c.take_name.new.names.items) c.if-not-branch.false c.in_ok-take_name.ensures.taken in
     let p : map tag_in c.push-in-members.new.self.items ≡ map tag_in ms ++ m.tag ∷ [] = ap (map tag_in) e ∙ map_push tag_in ms m in
     record {
       says = rw (t, e) (each2_push _ (map member_of (take n ds)) ms (member_of c.member-item.result) m i.says c.in_ok-next.ensures.says);

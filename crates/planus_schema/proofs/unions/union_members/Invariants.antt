@@ -2,7 +2,7 @@ use Rattle.std.proofs.Common.{◌≡◌, ◌++◌, ◌∷◌, true, take, drop, 
 use Rattle.std.specs.Prelude.{nat_eq, codes}
 use Rattle.std.specs.List.{list_all, IsDistinct}
 use Rattle.planus_syntax.specs.Values.{names_of, member_of}
-use Rattle.planus_schema.specs.Distinct.{AreDistinct, Each2}
+use Rattle.planus_layout.specs.Distinct.{AreDistinct, Each2}
 use Rattle.planus_schema.specs.Names.{head_of, space_of}
 use Rattle.planus_schema.specs.Unions.{SaysMember, tags_from, tag_in, is_tag}
 use Rattle.planus_schema.proofs.unions.union_members.Given as goal

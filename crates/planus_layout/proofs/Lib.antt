@@ -1,0 +1,4 @@
+pub mod Lists
+pub mod NameLemmas
+pub mod NumberLemmas
+pub mod SlotLemmas

@@ -1,0 +1,32 @@
+-- Names that are used once.
+use Rattle.std.specs.Prelude.{◌≡◌, ℕ, Bool, true, false, List, [], ◌∷◌, ◌++◌, map}
+use Rattle.std.specs.Global.{Vec}
+use Rattle.std.specs.List.{IsDistinct, list_any}
+use Rattle.std.specs.Str.{bytes_eq}
+
+abbrev pub items_of : List (Vec ℕ) → List (List ℕ)
+items_of words = map (λ w. w.items) words
+
+-- a name is among these
+abbrev pub is_in : List (List ℕ) → List ℕ → Bool
+is_in names name = list_any (λ w. bytes_eq w name) names
+
+-- no two names are alike
+abbrev pub AreDistinct : List (List ℕ) → Type 0
+AreDistinct names = IsDistinct bytes_eq names
+
+-- the names after `name` was added, if it was new
+pub record IsAdded (old : List (List ℕ)) (name : List ℕ) (new : List (List ℕ)) : Type 0 where
+  pub added : new ≡ old ++ name ∷ []
+  pub distinct : AreDistinct old → AreDistinct new
+
+abbrev pub Takes : Bool → List (List ℕ) → List ℕ → List (List ℕ) → Type 0
+Takes true old name new = IsAdded old name new
+Takes false old name new = Unit {0}
+
+-- each item of one list with that of the other at its place
+abbrev pub Each2 : {A B : Type 0} → (A → B → Type 0) → List A → List B → Type 0
+Each2 R [] [] = Unit {0}
+Each2 R [] (y ∷ ys) = ⊥
+Each2 R (x ∷ xs) [] = ⊥
+Each2 R (x ∷ xs) (y ∷ ys) = R x y × Each2 R xs ys

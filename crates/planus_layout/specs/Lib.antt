@@ -1,0 +1,4 @@
+pub mod Numbers
+pub mod Distinct
+pub mod Slots
+pub mod Layouts

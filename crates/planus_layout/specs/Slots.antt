@@ -1,0 +1,61 @@
+-- The slots of a table's fields.
+use Rattle.std.specs.Prelude.{◌≡◌, ℕ, ◌+◌, ◌-◌, ◌≤◌, Bool, true, false, ◌&&◌, not, nat_eq, nat_lt}
+use Rattle.std.specs.Prelude.{nat_le, List, [], ◌∷◌, ◌++◌, length, Option, Some, None}
+use Rattle.std.specs.Prelude.{if◌then◌else◌}
+use Rattle.std.specs.List.{list_any, list_all}
+use Rattle.planus_layout.specs.declared.schema.Base.{Base}
+use Rattle.planus_layout.specs.declared.schema.Base.TheVariants as base
+use Rattle.planus_layout.specs.declared.schema.FieldType.{FieldType}
+use Rattle.planus_layout.specs.declared.schema.TableField.{TableField}
+
+abbrev pub is_union_base : Base → Bool
+is_union_base (base.Scalar s) = false
+is_union_base base.Text = false
+is_union_base (base.Enum i) = false
+is_union_base (base.Struct i) = false
+is_union_base (base.Table i) = false
+is_union_base (base.Union i) = true
+
+-- a union, or a vector of them, has a slot for its type before that of its value
+abbrev pub is_union : FieldType → Bool
+is_union t = is_union_base t.base
+
+abbrev pub width : FieldType → ℕ
+width t = if is_union t then 2 else 1
+
+-- the slots that a field takes
+abbrev pub slots_of : TableField → List ℕ
+slots_of f = if is_union f.kind then (f.slot - 1) ∷ f.slot ∷ [] else f.slot ∷ []
+
+abbrev pub slots_taken : List TableField → List ℕ
+slots_taken [] = []
+slots_taken (f ∷ fs) = slots_of f ++ slots_taken fs
+
+-- each field takes the slots after those of the field before it
+abbrev pub Follow : ℕ → List TableField → ℕ → Type 0
+Follow at [] end = at ≡ end
+Follow at (f ∷ fs) end = (f.slot + 1 ≡ at + width f.kind) × Follow (at + width f.kind) fs end
+
+-- an `id` that leaves room for the type of a union
+abbrev pub id_with_room : FieldType → Option ℕ → Option ℕ
+id_with_room t None = None
+id_with_room t (Some n) = if nat_le (width t) (n + 1) then Some n else None
+
+-- with `ids` the slot that the field says, else the next
+abbrev pub slot_said : Option ℕ → FieldType → Bool → ℕ → Option ℕ
+slot_said id t true next = id_with_room t id
+slot_said id t false next = Some (next + (width t - 1))
+
+-- no number is there twice
+abbrev pub are_apart : List ℕ → Bool
+are_apart [] = true
+are_apart (n ∷ ns) = not (list_any (nat_eq n) ns) && are_apart ns
+
+-- the numbers 0, 1, 2 and so on in some order: none is twice there, and each is below their count
+abbrev pub are_whole : List ℕ → Bool
+are_whole ns = list_all (λ n. nat_lt n (length ns)) ns && are_apart ns
+
+-- each slot from 0 on once, and not more than a vtable has room for
+pub record AreSlots (slots : List ℕ) : Type 0 where
+  pub whole : are_whole slots ≡ true
+  pub room : length slots ≤ 32765

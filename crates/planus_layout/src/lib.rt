@@ -1,0 +1,22 @@
+//! What a schema of flatbuffers is once it is settled, and the rules of its layout: numbers, the
+//! slots of tables, the places in structs, and names that are used once.
+#![tactic(auto)]
+
+mod measure;
+mod names;
+mod number;
+mod place;
+mod scalar;
+mod schema;
+mod slots;
+
+pub use measure::{Measure, measure_of};
+pub use names::{copied, file_index, is_among, is_first, take_name};
+pub use number::{Number, following, integer, is_hexadecimal, without_sign};
+pub use place::{Layout, greater, is_alignment, next_multiple};
+pub use scalar::{Scalar, scalar_named};
+pub use schema::{
+    Base, Body, Declared, Enum, EnumValue, FieldType, Schema, Statements, Struct, StructField,
+    Table, TableField, Union, UnionMember, Value,
+};
+pub use slots::{are_whole, is_union, slot_of, slots_taken, width};

@@ -1,0 +1,69 @@
+//! The size and the alignment of what is declared.
+
+ghost use Rattle.std.specs.Prelude.{◌≡◌, map, Some, slice_get};
+ghost use Rattle.std.specs.Option.{option_map};
+ghost use Rattle.planus_layout.specs.Layouts.{measure_in, measure_of_body as measure_of_body_lem};
+ghost use Rattle.planus_layout.specs.Layouts.{body_in};
+
+use crate::schema::{Base, Body, Declared};
+
+/// A size and an alignment in bytes.
+#[derive(Clone, Copy)]
+pub struct Measure {
+    pub size: usize,
+    pub alignment: usize,
+}
+
+fn body_measure(body: &Body) -> Option<Measure>
+    ensures { result ≡ measure_of_body_lem (Some body.now) }
+{
+    match body {
+        Body::Struct(body) => Some(Measure {
+            size: body.size,
+            alignment: body.alignment,
+        }),
+        Body::Enum(body) => Some(Measure {
+            size: body.scalar.size(),
+            alignment: body.scalar.size(),
+        }),
+        _ => None,
+    }
+}
+
+fn declared_at(bodies: &[Declared], index: usize) -> Option<&Declared>
+    ensures { option_map (λ d. d.now) result ≡ slice_get bodies.now index }
+{
+    bodies.get(index)
+}
+
+fn body_at(bodies: &[Declared], index: usize) -> Option<&Body>
+    ensures { option_map (λ b. b.now) result ≡ slice_get (map body_in bodies.now) index }
+{
+    match declared_at(bodies, index) {
+        Some(declared) => Some(&declared.body),
+        None => None,
+    }
+}
+
+fn measure_at(bodies: &[Declared], index: usize) -> Option<Measure>
+    ensures { result ≡ measure_of_body_lem (slice_get (map body_in bodies.now) index) }
+{
+    match body_at(bodies, index) {
+        Some(body) => body_measure(body),
+        None => None,
+    }
+}
+
+/// Returns the size and the alignment of a value in a struct.
+pub fn measure_of(bodies: &[Declared], base: Base) -> Option<Measure>
+    ensures { result ≡ measure_in (map body_in bodies.now) base }
+{
+    match base {
+        Base::Scalar(scalar) => Some(Measure {
+            size: scalar.size(),
+            alignment: scalar.size(),
+        }),
+        Base::Enum(index) | Base::Struct(index) => measure_at(bodies, index),
+        _ => None,
+    }
+}

@@ -1,0 +1,78 @@
+//! The slots of a table.
+
+ghost use Rattle.std.specs.Prelude.{◌≡◌, ◌≤◌, ◌++◌, IfOk, IfSome, OnOk};
+ghost use Rattle.planus_layout.specs.Slots.{is_union as is_union_lem, width as width_lem};
+ghost use Rattle.planus_layout.specs.Slots.{slots_taken as slots_taken_lem, slots_of, slot_said};
+ghost use Rattle.planus_layout.specs.Slots.{are_whole as are_whole_lem};
+
+use crate::schema::{Base, FieldType, TableField};
+use std::alloc::{AllocError, Global};
+
+/// Returns whether it is a union, or a vector of them.
+pub fn is_union(kind: FieldType) -> bool
+    ensures { result ≡ is_union_lem kind }
+{
+    match kind.base {
+        Base::Union(_) => true,
+        _ => false,
+    }
+}
+
+/// Returns how many slots a field takes.
+pub fn width(kind: FieldType) -> usize
+    ensures { result ≡ width_lem kind }
+{
+    if is_union(kind) { 2 } else { 1 }
+}
+
+/// Returns the slot of a field: the next that is free, or with `ids` its own, if it is a number
+/// that leaves room for the type of a union.
+pub fn slot_of(id: Option<usize>, kind: FieldType, ids: bool, next: usize) -> Option<usize>
+    requires next { next ≤ 65535 }
+    requires id { IfSome id (λ n. n ≤ 65535) }
+    ensures { result ≡ slot_said id kind ids next }
+{
+    if !ids {
+        return Some(next + (width(kind) - 1));
+    }
+    match id {
+        Some(id) if width(kind) <= id + 1 => Some(id),
+        _ => None,
+    }
+}
+
+/// Adds the slots that a field takes.
+fn add_slots(slots: &mut Vec<usize>, field: &TableField) -> Result<(), AllocError>
+    ensures { OnOk result (slots.new.items ≡ slots.old.items ++ slots_of field.now) }
+{
+    if is_union(field.kind) {
+        slots.push(field.slot.saturating_sub(1))?;
+    }
+    slots.push(field.slot)?;
+    Ok(())
+}
+
+/// Returns the slots that fields take.
+pub fn slots_taken(alloc: Global, fields: &[TableField]) -> Result<Vec<usize>, AllocError>
+    ensures { IfOk result (λ v. v.items ≡ slots_taken_lem fields.now) }
+{
+    let mut slots = Vec::new(alloc);
+    'fields: for field in fields {
+        add_slots(&mut slots, field)?;
+    }
+    Ok(slots)
+}
+
+/// Returns whether the slots are all the numbers from 0 on, each once.
+pub fn are_whole(alloc: Global, slots: &[usize]) -> Result<bool, AllocError>
+    ensures { IfOk result (λ b. b ≡ are_whole_lem slots.now) }
+{
+    let mut taken = vec![in alloc; false; slots.len()]?;
+    'slots: for slot in slots {
+        if *slot >= taken.len() || taken[*slot] {
+            return Ok(false);
+        }
+        taken[*slot] = true;
+    }
+    Ok(true)
+}

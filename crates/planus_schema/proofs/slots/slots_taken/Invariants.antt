@@ -1,8 +1,0 @@
-use Rattle.std.proofs.Common.{◌≡◌, ◌++◌, drop}
-use Rattle.planus_schema.specs.Tables.{slots_taken}
-use Rattle.planus_schema.proofs.slots.slots_taken.Given as goal
-
--- the slots so far and those of what is left are all
-abbrev pub invariant-fields : goal.invariant-fields
-invariant-fields l =
-    l.slots.items ++ slots_taken (drop l.field-index l.fields) ≡ slots_taken l.fields
