@@ -1,17 +1,23 @@
 -- What a literal says is a default of its type.
-use Rattle.std.proofs.Common.{◌≡◌, ℕ, Bool, true, false, cond, List, [], refl, subst}
-use Rattle.std.specs.Prelude.{Option, Some, None, codes, ◌&&◌, ◌||◌}
-use Rattle.planus_syntax.specs.Values.{Name, PathV, LiteralV, numeral, named, quote, nothing, EnumerationV}
+use Rattle.std.proofs.Common.{◌≡◌, ℕ, ◌+◌, ◌<◌, Bool, true, false, cond, List, [], ◌∷◌, ◌++◌, length, take, drop, get_or, refl, sym, ap, subst, ◌∙◌}
+use Rattle.std.specs.Global.{Vec}
+use Rattle.std.specs.Prelude.{fold}
+use Rattle.std.proofs.lemmas.List.{take-append-drop, map-append}
+use Rattle.std.proofs.lemmas.List.Sums.{fold-append}
+use Rattle.std.proofs.lemmas.List.Folds.{fold_stays}
+use Rattle.planus_schema.proofs.StructLemmas.{map_rest}
+use Rattle.std.specs.Prelude.{Option, Some, None, codes, ◌||◌}
+use Rattle.planus_syntax.specs.Values.{Name, PathV, LiteralV, numeral, named, quote, nothing, EnumerationV, names_of}
 use Rattle.planus_layout.specs.declared.number.Number.{Number}
 use Rattle.planus_layout.specs.declared.scalar.Scalar.{Scalar}
 use Rattle.planus_layout.specs.declared.scalar.Scalar.TheVariants as scalar
 use Rattle.planus_layout.specs.declared.schema.Base.{Base}
 use Rattle.planus_layout.specs.declared.schema.Base.TheVariants as base
 use Rattle.planus_layout.specs.declared.schema.FieldType.{FieldType}
-use Rattle.planus_layout.specs.Numbers.{integer_of, is_integer, is_float, is_bool, fits, zero_number, is_hexadecimal, without_sign}
+use Rattle.planus_layout.specs.Numbers.{integer_said, is_float, is_bool, fits, zero_number, is_hexadecimal, without_sign}
 use Rattle.planus_schema.specs.Names.{HeadV, item_at}
 use Rattle.planus_schema.specs.Enums.{is_flags}
-use Rattle.planus_schema.specs.Defaults.{ValueV, absent, integer, float, text, empty, is_word, absent_or, whole_number, truth, named_bool, named_float, float_number, scalar_default, value_named, value_name, value_in, as_integer, enum_named, is_among_values, among_values, cut_words, flags_named, as_flags, text_default, vector_default, enum_at, default_in, base_default, zero_in, zero_scalar, zero_default, some_default, default_said, is_scalar_value, is_enum_value, is_text_value, is_vector_value, is_value, is_default}
+use Rattle.planus_schema.specs.Defaults.{ValueV, absent, integer, float, text, empty, is_word, absent_or, if_fits, whole_number, number_default, truth, named_bool, named_float, float_number, scalar_default, value_named, value_name, value_in, as_integer, enum_named, is_among_values, among_values, cut_words, flags_named, with_flag, or_flag, as_flags, text_default, vector_default, enum_at, default_in, base_default, zero_in, zero_scalar, zero_default, some_default, default_said, is_scalar_value, is_enum_value, is_text_value, is_vector_value, is_value, is_default}
 
 -- whatever is there has this
 record Allowed (p : ValueV → Bool) (o : Option ValueV) : Type 0 where
@@ -30,10 +36,6 @@ chosen : (p : ValueV → Bool) (q : Bool) (x y : Option ValueV) → (q ≡ true 
 chosen p true x y f g = f refl
 chosen p false x y f g = g refl
 
-and_both : (a b : Bool) → (a && b) ≡ true → b ≡ true
-and_both true b h = h
-and_both false b h = absurd cc
-
 -- ---- scalars
 
 float_allowed : (s : Scalar) (w : List ℕ) → is_float s ≡ true → Allowed (is_scalar_value s) (float_number w)
@@ -42,8 +44,12 @@ float_allowed s w h = chosen (is_scalar_value s) (is_hexadecimal (without_sign w
 fits_scalar : (s : Scalar) (n : Number) → is_float s ≡ false → fits s n ≡ true → is_scalar_value s (integer n) ≡ true
 fits_scalar s n f h = rw (f, h) refl
 
+fits_allowed : (s : Scalar) (o : Option Number) → is_float s ≡ false → Allowed (is_scalar_value s) (if_fits s o)
+fits_allowed s None f = none_allowed (is_scalar_value s)
+fits_allowed s (Some n) f = chosen (is_scalar_value s) (fits s n) (Some (integer n)) None (λ h. one_allowed (is_scalar_value s) (integer n) (fits_scalar s n f h)) (λ _. none_allowed (is_scalar_value s))
+
 whole_allowed : (s : Scalar) (w : List ℕ) → is_float s ≡ false → Allowed (is_scalar_value s) (whole_number s w)
-whole_allowed s w f = chosen (is_scalar_value s) (is_integer w && fits s (integer_of w)) (Some (integer (integer_of w))) None (λ h. one_allowed (is_scalar_value s) (integer (integer_of w)) (fits_scalar s (integer_of w) f (and_both (is_integer w) _ h))) (λ _. none_allowed (is_scalar_value s))
+whole_allowed s w f = fits_allowed s (integer_said w) f
 
 bool_fits : (s : Scalar) (n : Number) → is_bool s ≡ true → fits scalar.Bool n ≡ true → is_scalar_value s (integer n) ≡ true
 bool_fits scalar.Bool n h e = e
@@ -98,9 +104,13 @@ flags_allowed : (o : Option ℕ) → Allowed is_enum_value (as_flags o)
 flags_allowed None = none_allowed is_enum_value
 flags_allowed (Some n) = one_allowed is_enum_value (integer (record { negative = false; magnitude = n })) refl
 
+number_allowed : (e : EnumerationV) (o : Option Number) → Allowed is_enum_value (number_default e o)
+number_allowed e None = none_allowed is_enum_value
+number_allowed e (Some n) = among_allowed e n
+
 enum_allowed : (o : Option EnumerationV) (l : LiteralV) → Allowed is_enum_value (default_in o l)
 enum_allowed None l = none_allowed is_enum_value
-enum_allowed (Some e) (numeral w) = chosen is_enum_value (is_integer w) (among_values e (integer_of w)) None (λ _. among_allowed e (integer_of w)) (λ _. none_allowed is_enum_value)
+enum_allowed (Some e) (numeral w) = number_allowed e (integer_said w)
 enum_allowed (Some e) (named p) = absent_allowed is_enum_value p (enum_named e p) refl (value_allowed e (value_name e p))
 enum_allowed (Some e) (quote w) = chosen is_enum_value (is_flags e) (as_flags (flags_named e (cut_words [] w))) None (λ _. flags_allowed (flags_named e (cut_words [] w))) (λ _. none_allowed is_enum_value)
 enum_allowed (Some e) nothing = none_allowed is_enum_value
@@ -174,3 +184,15 @@ none_lawful hs false b o e = zero_lawful hs b o e
 pub default_lawful : (hs : List HeadV) (d : Option LiteralV) (t : FieldType) (o : Option ValueV) → default_said hs t d ≡ Some o → is_default t o ≡ true
 default_lawful hs None t o e = none_lawful hs t.vector t.base o e
 default_lawful hs (Some l) t o e = literal_lawful hs t.vector t.base l o e
+
+-- ---- flags
+
+-- this word is no value, so the words together are none
+pub no_flag : (e : EnumerationV) (ws : List (Vec ℕ)) (i : ℕ) (w : Vec ℕ) (total : ℕ) → i < length ws → w ≡ get_or ws i w → flags_named e (names_of (take i ws)) ≡ Some total → value_named w.items true None e.variants ≡ None → flags_named e (names_of ws) ≡ None
+no_flag e ws i w total l is t n =
+    let rest = names_of (drop (i + 1) ws) in
+    let s : names_of ws ≡ names_of (take i ws) ++ (w.items ∷ rest) = ap names_of (sym (take-append-drop i ws)) ∙ map-append (λ (v : Vec ℕ). v.items) (take i ws) (drop i ws) ∙ ap (λ vs. names_of (take i ws) ++ vs) (map_rest (λ (v : Vec ℕ). v.items) ws i w l is) in
+    ap (fold (with_flag e) (Some 0)) s ∙ fold-append (with_flag e) (Some 0) (names_of (take i ws)) (w.items ∷ rest)
+    ∙ ap (λ o. fold (with_flag e) (with_flag e o w.items) rest) t
+    ∙ ap (λ o. fold (with_flag e) (or_flag total o) rest) n
+    ∙ fold_stays (with_flag e) None (λ x. refl) rest

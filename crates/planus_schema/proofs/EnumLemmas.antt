@@ -1,8 +1,6 @@
 -- Names and values that are added.
-use Rattle.std.proofs.Common.{◌≡◌, ℕ, true, false, List, [], ◌∷◌, ◌++◌, map, refl, ap, ◌∙◌}
-use Rattle.std.specs.Global.{Vec}
+use Rattle.std.proofs.Common.{◌≡◌, true, false, List, [], ◌∷◌, ◌++◌, map, refl, ap, ◌∙◌}
 use Rattle.std.specs.List.{list_any, list_all, IsDistinct}
-use Rattle.std.specs.Str.{bytes_eq}
 use Rattle.std.proofs.lemmas.List.{map_push}
 use Rattle.std.proofs.lemmas.List.Folds.{list_all-append}
 use Rattle.planus_syntax.specs.Values.{VariantV, names_of}
@@ -10,7 +8,6 @@ use Rattle.planus_layout.specs.declared.number.Number.{Number}
 use Rattle.planus_layout.specs.declared.scalar.Scalar.{Scalar}
 use Rattle.planus_layout.specs.declared.schema.EnumValue.{EnumValue}
 use Rattle.planus_layout.specs.Numbers.{fits}
-use Rattle.planus_layout.specs.Distinct.{AreDistinct, IsAdded}
 use Rattle.planus_schema.specs.Enums.{same_number, number_of_value, IsValueAdded}
 use Rattle.planus_layout.proofs.Lists.{distinct_push, distinct_none, list_any-map}
 
@@ -27,3 +24,6 @@ value_added s v n old new x e name docs number f h =
 
 pub no_values : (xs : List EnumValue) → xs ≡ [] → IsDistinct same_number (map number_of_value xs)
 no_values xs e = rw e (distinct_none same_number)
+
+pub numbers_any : (vs : List EnumValue) (n : Number) → list_any (λ m. same_number m n) (map number_of_value vs) ≡ list_any (λ v. same_number v.number n) vs
+numbers_any vs n = list_any-map (λ m. same_number m n) number_of_value vs

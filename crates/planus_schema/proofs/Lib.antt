@@ -1,8 +1,11 @@
 pub mod Lists
 pub mod EnumLemmas
 pub mod StructLemmas
+pub mod MeasureLemmas
 pub mod UnionLemmas
 pub mod TableLemmas
+pub mod FaultLemmas
+pub mod WithinLemmas
 pub mod SchemaLemmas
 pub mod IndexLemmas
 pub mod SoundLemmas

@@ -1,7 +1,7 @@
 -- Lists.
-use Rattle.std.proofs.Common.{◌≡◌, ℕ, zero, suc, ◌+◌, ◌-◌, ◌<◌, Bool, true, false, cond, List, [], ◌∷◌, ◌++◌, length, map, take, refl, sym, ap, ◌∙◌, arith, sub-one}
-use Rattle.std.specs.Prelude.{position, nat_lt, not, ◌||◌, Option, Some, None, fold}
-use Rattle.std.specs.List.{prefix_len, list_any, IsDistinct, AllByRecursion}
+use Rattle.std.proofs.Common.{◌≡◌, ℕ, zero, suc, ◌+◌, ◌-◌, ◌<◌, Bool, cond, List, [], ◌∷◌, ◌++◌, length, map, take, refl, sym, ap, ◌∙◌, arith, sub-one}
+use Rattle.std.specs.Prelude.{position, nat_lt, not, Option, Some, None, fold}
+use Rattle.std.specs.List.{prefix_len}
 use Rattle.std.proofs.Math.ListN.{length-map}
 use Rattle.planus_syntax.specs.Values.{Name}
 use Rattle.planus_schema.specs.Names.{HeadV, with_word, dotted, index_of, found_from}

@@ -17,7 +17,7 @@ use Rattle.planus_layout.specs.declared.schema.TableField.{TableField}
 use Rattle.planus_layout.specs.declared.schema.UnionMember.{UnionMember}
 use Rattle.planus_layout.specs.declared.measure.Measure.{Measure}
 use Rattle.planus_layout.specs.Numbers.{scalar_named}
-use Rattle.planus_schema.specs.Names.{HeadV, base_of_item, base_of_head, base_found, plain_of, plain_base, base_or, base_named, type_named, found, words_of, words_in, space_after, setting, heads_of}
+use Rattle.planus_schema.specs.Names.{HeadV, base_of_item, base_of_head, base_found, plain_of, plain_base, base_or, base_named, type_named, table_in, found, words_of, words_in, space_after, setting, heads_of}
 use Rattle.planus_schema.specs.Defaults.{value_of}
 use Rattle.planus_schema.proofs.DefaultLemmas.{default_lawful}
 use Rattle.planus_layout.specs.Distinct.{AreDistinct, Each2}
@@ -25,7 +25,7 @@ use Rattle.planus_layout.specs.Layouts.{measure_of_body, measure_in, body_in}
 use Rattle.planus_schema.specs.Structs.{SaysStructField}
 use Rattle.planus_schema.specs.Unions.{SaysMember, target_of}
 use Rattle.planus_schema.specs.Tables.{SaysField, NestedIs, table_found, nested_name}
-use Rattle.planus_schema.specs.Schemas.{SaysBody, SayBodies, IsHeadOf, StatementsV, no_statements, table_in, after, after_file, after_files, said_of, Means}
+use Rattle.planus_schema.specs.Schemas.{SaysBody, SayBodies, IsHeadOf, StatementsV, no_statements, after, after_file, after_files, said_of, Means}
 use Rattle.planus_layout.specs.declared.schema.Declared.{Declared}
 use Rattle.planus_layout.specs.declared.schema.Schema.{Schema}
 use Rattle.planus_schema.specs.Sound.{IsTableAt, Refers, IsNested, RefersField, IsBelow, RefersBefore, RefersBody, AreSound, IsSound}

@@ -1,11 +1,23 @@
 -- One more field of a table.
-use Rattle.std.proofs.Common.{◌≡◌, ℕ, ◌+◌, true, List, [], ◌∷◌, ◌++◌, refl, sym, ap, ◌∙◌, append_assoc}
+use Rattle.std.proofs.Common.{Bool, false, ◌≡◌, ℕ, ◌+◌, true, List, [], ◌∷◌, ◌++◌, refl, sym, ap, ◌∙◌, append_assoc}
+use Rattle.std.specs.Prelude.{Option, None, not, ◌&&◌, ◌||◌, nat_le, codes}
 use Rattle.std.specs.List.{list_all}
+use Rattle.planus_syntax.specs.Values.{Name, field_of}
+use Rattle.planus_syntax.specs.declared.value.Field.{Field}
+use Rattle.planus_schema.specs.declared.fault.Problem.{Problem}
+use Rattle.planus_schema.specs.declared.fault.Problem.TheVariants as problem
+use Rattle.planus_schema.specs.Names.{HeadV, has}
+use Rattle.planus_schema.specs.Wrong.{Broken, when, first, Stops}
+use Rattle.planus_schema.specs.declared.fault.Stop.{Stop}
+use Rattle.planus_schema.specs.declared.fault.Stop.TheVariants as stop
+use Rattle.planus_schema.specs.WrongTables.{field_type, field_slot, slots_at, slots_from, wrong_field, wrong_fields, names_in, are_among}
+use Rattle.planus_layout.specs.Slots.{slots_of, slots_taken}
 use Rattle.std.proofs.lemmas.List.{append-nil}
 use Rattle.std.proofs.lemmas.List.Folds.{list_all-append}
+use Rattle.planus_layout.specs.declared.schema.FieldType.{FieldType}
 use Rattle.planus_layout.specs.declared.schema.TableField.{TableField}
 use Rattle.planus_layout.specs.Slots.{Follow, width}
-use Rattle.planus_schema.specs.Tables.{all_names, names_taken, is_lawful}
+use Rattle.planus_schema.specs.Tables.{all_names, names_for, names_taken, is_lawful}
 
 pub follow_push : (at : ℕ) (fs : List TableField) (end : ℕ) (f : TableField) → Follow at fs end → f.slot + 1 ≡ end + width f.kind → Follow at (fs ++ f ∷ []) (end + width f.kind)
 follow_push at [] end f h e = (e ∙ ap (λ n. n + width f.kind) (sym h), ap (λ n. n + width f.kind) h)
@@ -17,3 +29,62 @@ names_push (g ∷ fs) f = ap (λ ns. names_taken g ++ ns) (names_push fs f) ∙ 
 
 pub lawful_push : (fs : List TableField) (f : TableField) → list_all is_lawful fs ≡ true → is_lawful f ≡ true → list_all is_lawful (fs ++ f ∷ []) ≡ true
 lawful_push fs f h e = list_all-append is_lawful fs (f ∷ []) ∙ rw (h, e) refl
+
+-- ---- what is wrong with the fields that are left
+
+skip : (o r : Option Broken) → o ≡ None → first o r ≡ r
+skip o r e = rw e refl
+
+passes : (b : Bool) (p : Problem) (left : ℕ) → b ≡ false → when b p left ≡ None
+passes b p left e = rw e refl
+
+slots_push : (fs : List TableField) (f : TableField) → slots_taken (fs ++ f ∷ []) ≡ slots_taken fs ++ slots_of f
+slots_push [] f = append-nil (slots_of f)
+slots_push (g ∷ fs) f = ap (λ ns. slots_of g ++ ns) (slots_push fs f) ∙ sym (append_assoc (slots_of g) (slots_taken fs) (slots_of f))
+
+pub slots_next : (hs : List HeadV) (space : List Name) (ids : Bool) (next : ℕ) (fs : List TableField) (f : TableField) (d : Field) (rest ds : List Field) (all : List ℕ) → rest ≡ d ∷ ds → f.kind ≡ field_type hs space d → f.slot ≡ field_slot f.kind ids next d → slots_taken fs ++ slots_from hs space ids next rest ≡ all → slots_taken (fs ++ f ∷ []) ++ slots_from hs space ids (next + width f.kind) ds ≡ all
+slots_next hs space ids next fs f d rest ds all r k s h =
+    let t = field_type hs space d in
+    let here : slots_of f ≡ slots_at t (field_slot t ids next d) = ap (slots_at f.kind) s ∙ ap (λ u. slots_at u (field_slot u ids next d)) k in
+    ap (λ ns. ns ++ slots_from hs space ids (next + width f.kind) ds) (slots_push fs f)
+    ∙ append_assoc (slots_taken fs) (slots_of f) (slots_from hs space ids (next + width f.kind) ds)
+    ∙ ap (λ ns. slots_taken fs ++ (ns ++ slots_from hs space ids (next + width f.kind) ds)) here
+    ∙ ap (λ u. slots_taken fs ++ (slots_at t (field_slot t ids next d) ++ slots_from hs space ids (next + width u) ds)) k
+    ∙ ap (λ fs'. slots_taken fs ++ slots_from hs space ids next fs') (sym r) ∙ h
+
+-- the fields after those before, in a table
+pub record Left (hs : List HeadV) (space : List Name) (ids : Bool) (next : ℕ) (key : Bool) (names : List Name) (fs : List Field) (d : Field) (ds : List Field) (all : Option Broken) : Type 0 where
+  pub here : fs ≡ d ∷ ds
+  pub low : nat_le next 65535 ≡ true
+  pub field : wrong_field hs space ids next d ≡ None
+  pub same : wrong_fields hs space ids next key names fs ≡ all
+
+-- what is wrong after this field, of which these names are taken
+abbrev pub after_field : List HeadV → List Name → Bool → ℕ → Bool → List Name → TableField → Field → List Field → Option Broken
+after_field hs space ids next key names f d ds =
+    first (when (are_among names (names_taken f)) problem.FieldNameTaken d.left)
+    (first (when (f.key && key) problem.SecondKey d.left)
+    (wrong_fields hs space ids (next + width f.kind) (key || f.key) (names ++ names_taken f) ds))
+
+pub after_is : (hs : List HeadV) (space : List Name) (ids : Bool) (next : ℕ) (key : Bool) (names : List Name) (fs : List Field) (d : Field) (ds : List Field) (all : Option Broken) (f : TableField) → Left hs space ids next key names fs d ds all → f.kind ≡ field_type hs space d → f.key ≡ has (codes "key") (field_of d).attributes → names_taken f ≡ names_in (field_type hs space d) d → after_field hs space ids next key names f d ds ≡ all
+after_is hs space ids next key names fs d ds all f l k is n =
+    let low : not (nat_le next 65535) ≡ false = ap not l.low in
+    ap (λ ns. first (when (are_among names ns) problem.FieldNameTaken d.left) (first (when (f.key && key) problem.SecondKey d.left) (wrong_fields hs space ids (next + width f.kind) (key || f.key) (names ++ ns) ds))) n
+    ∙ ap (λ q. first (when (are_among names (names_in (field_type hs space d) d)) problem.FieldNameTaken d.left) (first (when (q && key) problem.SecondKey d.left) (wrong_fields hs space ids (next + width f.kind) (key || q) (names ++ names_in (field_type hs space d) d) ds))) is
+    ∙ ap (λ u. first (when (are_among names (names_in (field_type hs space d) d)) problem.FieldNameTaken d.left) (first (when (has (codes "key") (field_of d).attributes && key) problem.SecondKey d.left) (wrong_fields hs space ids (next + width u) (key || has (codes "key") (field_of d).attributes) (names ++ names_in (field_type hs space d) d) ds))) k
+    ∙ sym (skip (wrong_field hs space ids next d) _ l.field) ∙ sym (skip (when (not (nat_le next 65535)) problem.TooManySlots d.left) _ (passes _ problem.TooManySlots d.left low))
+    ∙ ap (wrong_fields hs space ids next key names) (sym l.here) ∙ l.same
+
+-- the names are taken already
+pub name_is_taken : (all rest : Option Broken) (b : Bool) (p : Problem) (left : ℕ) (e : Stop) → first (when b p left) rest ≡ all → Stops (when b p left) e → Stops all e
+name_is_taken all rest b p left stop.OutOfMemory h s = tt
+name_is_taken all rest true p left (stop.Wrong q l) h s = sym h ∙ s
+name_is_taken all rest false p left (stop.Wrong q l) h s = absurd cc
+
+pub nothing_wrong : (hs : List HeadV) (space : List Name) (ids : Bool) (next : ℕ) (key : Bool) (names : List Name) (d : Field) (ds : List Field) (all : Option Broken) (f : TableField) (names' : List Name) (key' : Bool) (next' : ℕ) → after_field hs space ids next key names f d ds ≡ all → are_among names (names_taken f) ≡ false → (f.key && key) ≡ false → names' ≡ names ++ names_taken f → key' ≡ (key || f.key) → next' ≡ next + width f.kind → wrong_fields hs space ids next' key' names' ds ≡ all
+nothing_wrong hs space ids next key names d ds all f names' key' next' h a b n k w =
+    rw (n, k, w) (sym (skip (when (f.key && key) problem.SecondKey d.left) _ (passes _ problem.SecondKey d.left b))
+    ∙ sym (skip (when (are_among names (names_taken f)) problem.FieldNameTaken d.left) _ (passes _ problem.FieldNameTaken d.left a)) ∙ h)
+
+pub names_are : (f : TableField) (d : Field) (t : FieldType) → f.kind ≡ t → f.name.items ≡ d.name.items → names_taken f ≡ names_in t d
+names_are f d t k n = ap (λ u. names_for u f.name.items) k ∙ ap (names_for t) n

@@ -27,3 +27,6 @@ no_tags ms e = rw e (distinct_none nat_eq)
 pub one_name : (names : List (List ℕ)) (name : List ℕ) → names ≡ name ∷ [] → AreDistinct names
 unfolding IsDistinct
 one_name names name e = rw e (tt, tt)
+
+pub tags_any : (ms : List UnionMember) (t : ℕ) → list_any (λ x. nat_eq x t) (map tag_in ms) ≡ list_any (λ m. nat_eq m.tag t) ms
+tags_any ms t = list_any-map (λ x. nat_eq x t) tag_in ms

@@ -15,11 +15,12 @@ use Rattle.planus_layout.specs.declared.schema.Base.TheVariants as base
 use Rattle.planus_layout.specs.declared.schema.FieldType.{FieldType}
 use Rattle.planus_layout.specs.declared.schema.Value.{Value}
 use Rattle.planus_layout.specs.declared.schema.Value.TheVariants as value
-use Rattle.planus_layout.specs.Numbers.{integer_of, is_integer, is_float, is_bool, fits}
+use Rattle.planus_layout.specs.Numbers.{integer_said, is_float, is_bool, fits}
 use Rattle.planus_layout.specs.Numbers.{zero_number}
 use Rattle.planus_layout.specs.Numbers.{is_hexadecimal, without_sign, scalar_named}
 use Rattle.planus_schema.specs.Names.{HeadV, item_at}
-use Rattle.planus_schema.specs.Enums.{number_of, settled, is_flags, numbers_from, same_number}
+use Rattle.planus_schema.specs.Enums.{number_said, settled_said, is_flags, numbers_said}
+use Rattle.planus_schema.specs.Enums.{same_number}
 
 -- ---- what a default is
 
@@ -50,9 +51,12 @@ is_word w p = is_alone p.more && bytes_eq p.first w
 abbrev pub absent_or : PathV → Option ValueV → Option ValueV
 absent_or p o = if is_word (codes "null") p then Some absent else o
 
+abbrev pub if_fits : Scalar → Option Number → Option ValueV
+if_fits s None = None
+if_fits s (Some n) = if fits s n then Some (integer n) else None
+
 abbrev pub whole_number : Scalar → List ℕ → Option ValueV
-whole_number s w =
-    if is_integer w && fits s (integer_of w) then Some (integer (integer_of w)) else None
+whole_number s w = if_fits s (integer_said w)
 
 abbrev pub truth : Number
 truth = record { negative = false; magnitude = 1 }
@@ -76,12 +80,16 @@ scalar_default s (named p) = absent_or p
 scalar_default s (quote w) = None
 scalar_default s nothing = None
 
+abbrev pub this_or : Bool → Bool → Option Number → Option Number → Option Number
+this_or this flags None rest = None
+this_or this flags (Some n) rest = if this then settled_said flags n else rest
+
 -- the value of this name
 abbrev pub value_named : Name → Bool → Option Number → List VariantV → Option Number
 value_named w flags previous [] = None
 value_named w flags previous (v ∷ vs) =
-    if bytes_eq v.name w then Some (settled flags (number_of previous v.value))
-    else value_named w flags (Some (number_of previous v.value)) vs
+    this_or (bytes_eq v.name w) flags (number_said previous v.value)
+    (value_named w flags (number_said previous v.value) vs)
 
 abbrev pub as_integer : Option Number → Option ValueV
 as_integer None = None
@@ -106,7 +114,7 @@ enum_named e p = value_in e (value_name e p)
 -- one of the values, or with `bit_flags` any number of the type
 abbrev pub is_among_values : EnumerationV → Number → Bool
 is_among_values e n = if is_flags e then fits_in (scalar_named e.base.first)
-    else list_any (λ v. same_number v n) (numbers_from None e.variants)
+    else list_any (λ v. same_number v n) (numbers_said None e.variants)
   where
     fits_in : Option Scalar → Bool
     fits_in None = false
@@ -141,9 +149,12 @@ as_flags (Some n) = Some (integer (record { negative = false; magnitude = n }))
 abbrev pub flags_default : EnumerationV → List ℕ → Option ValueV
 flags_default e w = if is_flags e then as_flags (flags_named e (cut_words [] w)) else None
 
+abbrev pub number_default : EnumerationV → Option Number → Option ValueV
+number_default e None = None
+number_default e (Some n) = among_values e n
+
 abbrev pub enum_default : EnumerationV → LiteralV → Option ValueV
-enum_default e (numeral w) =
-    if is_integer w then among_values e (integer_of w) else None
+enum_default e (numeral w) = number_default e (integer_said w)
 enum_default e (named p) = absent_or p (enum_named e p)
 enum_default e (quote w) = flags_default e w
 enum_default e nothing = None

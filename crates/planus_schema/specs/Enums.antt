@@ -1,13 +1,15 @@
 -- Enums.
 use Rattle.std.specs.Prelude.{◌≡◌, ℕ, ◌^◌, Bool, true, false, ◌==◌, ◌&&◌, not, if◌then◌else◌}
+use Rattle.std.specs.Prelude.{nat_lt}
 use Rattle.std.specs.Prelude.{List, [], ◌∷◌, ◌++◌, map, Option, Some, None, codes}
 use Rattle.std.specs.List.{IsDistinct, list_all}
-use Rattle.planus_syntax.specs.Values.{VariantV, EnumerationV, names_of}
+use Rattle.planus_syntax.specs.Values.{Name, PathV, VariantV, EnumerationV, names_of}
 use Rattle.planus_layout.specs.declared.number.Number.{Number}
 use Rattle.planus_layout.specs.declared.scalar.Scalar.{Scalar}
 use Rattle.planus_layout.specs.declared.schema.Enum.{Enum}
 use Rattle.planus_layout.specs.declared.schema.EnumValue.{EnumValue}
 use Rattle.planus_layout.specs.Numbers.{integer_of, is_integer, zero_number, following, fits}
+use Rattle.planus_layout.specs.Numbers.{integer_said, following_said}
 use Rattle.planus_layout.specs.Numbers.{scalar_named, is_float, is_bool}
 use Rattle.planus_schema.specs.Names.{has}
 use Rattle.planus_layout.specs.Distinct.{AreDistinct}
@@ -37,10 +39,35 @@ is_spelled v = is_spelled_value v.value
     is_spelled_value None = true
     is_spelled_value (Some digits) = is_integer digits
 
+-- the number that is given, or the next, if it can be held
+abbrev pub next_said : Option Number → Option Number
+next_said None = Some zero_number
+next_said (Some n) = following_said n
+
+abbrev pub number_said : Option Number → Option (List ℕ) → Option Number
+number_said previous None = next_said previous
+number_said previous (Some digits) = integer_said digits
+
+abbrev pub also : Option Number → List Number → List Number
+also None rest = []
+also (Some n) rest = n ∷ rest
+
+-- the numbers up to the first that can't be held
+abbrev pub numbers_said : Option Number → List VariantV → List Number
+numbers_said previous [] = []
+numbers_said previous (v ∷ vs) =
+    also (number_said previous v.value) (numbers_said (number_said previous v.value) vs)
+
 -- with `bit_flags` a number says which bit
 abbrev pub settled : Bool → Number → Number
 settled true n = record { negative = false; magnitude = 2 ^ n.magnitude }
 settled false n = n
+
+-- the bit that a number says is one of 64
+abbrev pub settled_said : Bool → Number → Option Number
+settled_said false n = Some n
+settled_said true n =
+    if not n.negative && nat_lt n.magnitude 64 then Some (settled true n) else None
 
 abbrev pub is_flags : EnumerationV → Bool
 is_flags e = has (codes "bit_flags") e.attributes
@@ -60,6 +87,18 @@ number_of_value v = v.number
 -- an integer type
 abbrev pub is_integer_type : Scalar → Bool
 is_integer_type s = not (is_float s) && not (is_bool s)
+
+-- the integer type of this name
+abbrev pub integer_in : Option Scalar → Option Scalar
+integer_in None = None
+integer_in (Some s) = if is_integer_type s then Some s else None
+
+abbrev pub integer_type_of : List Name → Name → Option Scalar
+integer_type_of [] w = integer_in (scalar_named w)
+integer_type_of (n ∷ ns) w = None
+
+abbrev pub integer_type : PathV → Option Scalar
+integer_type p = integer_type_of p.more p.first
 
 -- a value was added
 pub record IsValueAdded (s : Scalar) (v : VariantV) (n : Number) (old new : List EnumValue) : Type 0

@@ -1,9 +1,16 @@
 pub mod Names
+pub mod Wrong
 pub mod Enums
 pub mod Index
 pub mod Structs
+pub mod WrongEnums
 pub mod Unions
+pub mod WrongUnions
 pub mod Defaults
 pub mod Tables
+pub mod WrongStructs
+pub mod WrongTables
 pub mod Schemas
 pub mod Sound
+pub mod WrongServices
+pub mod Faults

@@ -10,6 +10,7 @@ use Rattle.planus_syntax.specs.Values.{struct}
 use Rattle.planus_syntax.specs.Values.{enumeration, union, service, root, identifier, extension}
 use Rattle.planus_syntax.specs.Values.{DeclarationV, path_of, declaration_of}
 use Rattle.planus_syntax.specs.declared.value.Path.{Path}
+use Rattle.planus_syntax.specs.declared.value.Attribute.{Attribute}
 use Rattle.std.specs.Option.{option_map}
 use Rattle.planus_schema.specs.declared.head.Head.{Head}
 use Rattle.planus_layout.specs.declared.schema.Base.{Base}
@@ -155,6 +156,15 @@ base_or (Some b) o = Some b
 abbrev pub base_named : List HeadV → List Name → PathV → Option Base
 base_named hs space p = base_or (plain_base p) (base_found hs (found hs space (words_of p)))
 
+abbrev pub table_in : Option Base → Option ℕ
+table_in None = None
+table_in (Some (base.Scalar s)) = None
+table_in (Some base.Text) = None
+table_in (Some (base.Enum i)) = None
+table_in (Some (base.Struct i)) = None
+table_in (Some (base.Table i)) = Some i
+table_in (Some (base.Union i)) = None
+
 abbrev pub type_named : List HeadV → List Name → KindV → Option FieldType
 type_named hs space (single p) =
     option_map (λ b. record { vector = false; base = b }) (base_named hs space p)
@@ -167,6 +177,12 @@ type_named hs space (vector p) =
 abbrev pub setting : Name → List AttributeV → Option AttributeV
 setting w [] = None
 setting w (a ∷ more) = if bytes_eq a.label.name w then Some a else setting w more
+
+-- the first of this name, among the attributes with their places
+abbrev pub attribute_named : Name → List Attribute → Option Attribute
+attribute_named w [] = None
+attribute_named w (a ∷ more) =
+    if bytes_eq a.label.name.items w then Some a else attribute_named w more
 
 abbrev pub is_set : {A : Type 0} → Option A → Bool
 is_set None = false

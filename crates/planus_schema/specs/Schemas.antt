@@ -5,8 +5,6 @@ use Rattle.std.specs.Option.{option_map}
 use Rattle.planus_syntax.specs.Values.{Name, PathV, ItemV, include, namespace, attribute, table}
 use Rattle.planus_syntax.specs.Values.{struct, enumeration, union, service, root, identifier}
 use Rattle.planus_syntax.specs.Values.{extension, DeclarationV, names_of}
-use Rattle.planus_layout.specs.declared.schema.Base.{Base}
-use Rattle.planus_layout.specs.declared.schema.Base.TheVariants as base
 use Rattle.planus_layout.specs.declared.schema.Body.{Body}
 use Rattle.planus_layout.specs.declared.schema.Body.TheVariants as body
 use Rattle.planus_layout.specs.declared.schema.Declared.{Declared}
@@ -16,6 +14,7 @@ use Rattle.planus_schema.specs.declared.fault.Refusal.{Refusal}
 use Rattle.planus_schema.specs.declared.fault.Refusal.TheVariants as refusal
 use Rattle.planus_layout.specs.declared.schema.Schema.{Schema}
 use Rattle.planus_schema.specs.Names.{HeadV, heads_of, words_in, space_after, base_named}
+use Rattle.planus_schema.specs.Names.{table_in}
 use Rattle.planus_layout.specs.Distinct.{AreDistinct, Each2}
 use Rattle.planus_schema.specs.Enums.{IsEnum, SaysEnum}
 use Rattle.planus_layout.specs.Layouts.{IsStruct, body_in}
@@ -56,15 +55,6 @@ pub record StatementsV : Type 0 where
 
 abbrev pub no_statements : StatementsV
 no_statements = record { root = None; identifier = None; extension = None }
-
-abbrev pub table_in : Option Base → Option ℕ
-table_in None = None
-table_in (Some (base.Scalar s)) = None
-table_in (Some base.Text) = None
-table_in (Some (base.Enum i)) = None
-table_in (Some (base.Struct i)) = None
-table_in (Some (base.Table i)) = Some i
-table_in (Some (base.Union i)) = None
 
 -- a statement replaces what one before it said
 abbrev pub after : List HeadV → Option PathV → StatementsV → ItemV → StatementsV

@@ -1,12 +1,14 @@
 -- Structs, as they are declared.
 use Rattle.std.specs.Prelude.{◌≡◌, ℕ, Bool, true, false, ◌&&◌, not}
+use Rattle.std.specs.Prelude.{if◌then◌else◌}
 use Rattle.std.specs.Prelude.{List, Option, Some, None, codes}
 use Rattle.planus_syntax.specs.Values.{Name, LiteralV, numeral, named, quote, nothing, AttributeV}
 use Rattle.planus_syntax.specs.Values.{FieldV, RecordV, names_of}
 use Rattle.planus_layout.specs.declared.schema.Body.{Body}
 use Rattle.planus_layout.specs.declared.schema.Struct.{Struct}
 use Rattle.planus_layout.specs.declared.schema.StructField.{StructField}
-use Rattle.planus_layout.specs.Numbers.{magnitude_of}
+use Rattle.planus_layout.specs.declared.number.Number.{Number}
+use Rattle.planus_layout.specs.Numbers.{magnitude_of, integer_said}
 use Rattle.planus_layout.specs.Distinct.{Each2}
 use Rattle.planus_layout.specs.Layouts.{measure_in, greatest_alignment}
 use Rattle.planus_schema.specs.Names.{HeadV, type_named, setting, has, is_set}
@@ -42,3 +44,15 @@ pub record SaysStruct (hs : List HeadV) (space : List Name) (bodies : List Body)
   pub alignment : s.alignment
       ≡ alignment_said (setting (codes "force_align") d.attributes)
       (greatest_alignment s.fields.items)
+
+-- the number that can be held of an attribute
+abbrev pub natural_of : Option Number → Option ℕ
+natural_of None = None
+natural_of (Some n) = if n.negative then None else Some n.magnitude
+
+abbrev pub number_in : Option LiteralV → Option ℕ
+number_in None = None
+number_in (Some (numeral w)) = natural_of (integer_said w)
+number_in (Some (named p)) = None
+number_in (Some (quote w)) = None
+number_in (Some nothing) = None

@@ -1,9 +1,8 @@
 -- Tables.
-use Rattle.std.specs.Prelude.{◌≡◌, ℕ, ◌+◌, ◌-◌, ◌≤◌, ◌<◌, Bool, true, false, ◌&&◌, ◌||◌, not}
-use Rattle.std.specs.Prelude.{List, [], ◌∷◌, ◌++◌, length, Option, Some, None, codes}
-use Rattle.std.specs.Prelude.{if◌then◌else◌, slice_index}
+use Rattle.std.specs.Prelude.{◌≡◌, ℕ, Bool, true, false, ◌&&◌, ◌||◌, not}
+use Rattle.std.specs.Prelude.{List, [], ◌∷◌, ◌++◌, Option, Some, None, codes}
+use Rattle.std.specs.Prelude.{if◌then◌else◌, nat_le}
 use Rattle.std.specs.List.{list_any, list_all}
-use Rattle.std.specs.List.Sorted.{IsPermutation}
 use Rattle.std.specs.Option.{option_map}
 use Rattle.planus_syntax.specs.Values.{Name, LiteralV, numeral, named, quote, nothing, AttributeV}
 use Rattle.planus_syntax.specs.Values.{FieldV, RecordV, names_of}
@@ -16,15 +15,17 @@ use Rattle.planus_layout.specs.declared.schema.TableField.{TableField}
 use Rattle.planus_schema.specs.Names.{HeadV, type_named, setting, has, found, base_found}
 use Rattle.planus_layout.specs.Slots.{is_union, slots_taken, AreSlots, Follow}
 use Rattle.planus_layout.specs.Distinct.{AreDistinct, Each2}
-use Rattle.planus_schema.specs.Structs.{literal_number}
+use Rattle.planus_schema.specs.Structs.{literal_number, number_in}
 use Rattle.planus_schema.specs.Defaults.{value_of, default_said}
 
 -- ---- what a table is
 
 -- the name of a field, and before it that of the type of a union
+abbrev pub names_for : FieldType → Name → List Name
+names_for t w = if is_union t then (w ++ codes "_type") ∷ w ∷ [] else w ∷ []
+
 abbrev pub names_taken : TableField → List Name
-names_taken f = if is_union f.kind then (f.name.items ++ codes "_type") ∷ f.name.items ∷ []
-    else f.name.items ∷ []
+names_taken f = names_for f.kind f.name.items
 
 abbrev pub all_names : List TableField → List Name
 all_names [] = []
@@ -93,6 +94,18 @@ id_in (Some a) = Some (literal_number a.value)
 -- the number after `id`
 abbrev pub id_of : FieldV → Option ℕ
 id_of f = id_in (setting (codes "id") f.attributes)
+
+abbrev pub at_most : ℕ → Option ℕ → Option ℕ
+at_most most None = None
+at_most most (Some n) = if nat_le n most then Some n else None
+
+abbrev pub id_said_in : Option AttributeV → Option ℕ
+id_said_in None = None
+id_said_in (Some a) = at_most 65535 (number_in a.value)
+
+-- the `id`, if it is an integer from 0 to 65535
+abbrev pub id_said : FieldV → Option ℕ
+id_said f = id_said_in (setting (codes "id") f.attributes)
 
 abbrev pub nested_name : Option LiteralV → Option Name
 nested_name None = None

@@ -1,12 +1,13 @@
 -- Unions.
 use Rattle.std.specs.Prelude.{◌≡◌, ℕ, ◌+◌, Bool, true, ◌&&◌, nat_le, nat_eq, List, [], ◌∷◌}
-use Rattle.std.specs.Prelude.{map, Option, Some, None, codes}
+use Rattle.std.specs.Prelude.{map, Option, Some, None, codes, if◌then◌else◌}
 use Rattle.std.specs.List.{IsDistinct, list_all}
 use Rattle.planus_syntax.specs.Values.{Name, PathV, MemberV, UnionV, names_of}
 use Rattle.planus_layout.specs.declared.schema.Base.TheVariants as base
 use Rattle.planus_layout.specs.declared.schema.Union.{Union}
 use Rattle.planus_layout.specs.declared.schema.UnionMember.{UnionMember}
-use Rattle.planus_layout.specs.Numbers.{magnitude_of}
+use Rattle.planus_layout.specs.Numbers.{magnitude_of, integer_said}
+use Rattle.planus_schema.specs.Structs.{natural_of}
 use Rattle.planus_schema.specs.Names.{HeadV, words_of, dotted, base_named}
 use Rattle.planus_layout.specs.Distinct.{AreDistinct, Each2}
 
@@ -18,6 +19,18 @@ tag_of previous (Some digits) = magnitude_of digits
 abbrev pub tags_from : ℕ → List MemberV → List ℕ
 tags_from previous [] = []
 tags_from previous (m ∷ ms) = tag_of previous m.value ∷ tags_from (tag_of previous m.value) ms
+
+abbrev pub is_tag : ℕ → Bool
+is_tag n = nat_le 1 n && nat_le n 255
+
+abbrev pub in_tags : Option ℕ → Option ℕ
+in_tags None = None
+in_tags (Some n) = if is_tag n then Some n else None
+
+-- that number, if it is one from 1 to 255
+abbrev pub tag_said : ℕ → Option (List ℕ) → Option ℕ
+tag_said previous None = in_tags (Some (previous + 1))
+tag_said previous (Some digits) = in_tags (natural_of (integer_said digits))
 
 -- the table of a member: after its alias, or its name
 abbrev pub target_of : MemberV → PathV
@@ -35,9 +48,6 @@ pub record SaysMember (hs : List HeadV) (space : List Name) (d : MemberV) (m : U
 
 abbrev pub tag_in : UnionMember → ℕ
 tag_in m = m.tag
-
-abbrev pub is_tag : ℕ → Bool
-is_tag n = nat_le 1 n && nat_le n 255
 
 -- tags from 1 to 255, no two alike, and no two names alike, nor one like `NONE`
 pub record IsUnion (u : Union) : Type 0 where

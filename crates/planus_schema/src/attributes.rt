@@ -4,13 +4,15 @@ ghost use Rattle.std.specs.Prelude.{◌≡◌, map};
 ghost use Rattle.std.specs.Option.{option_map};
 ghost use Rattle.planus_syntax.specs.Values.{attribute_of};
 ghost use Rattle.planus_schema.specs.Names.{setting as setting_lem, has as has_lem};
+ghost use Rattle.planus_schema.specs.Names.{attribute_named};
 
 use planus_syntax::Attribute;
 
 /// Returns the first attribute of this name.
 pub(crate) fn setting<'a>(attributes: &'a [Attribute], word: &[u8]) -> Option<&'a Attribute>
-    ensures { option_map (λ a. attribute_of a.now) result
+    ensures said { option_map (λ a. attribute_of a.now) result
         ≡ setting_lem word.now (map attribute_of attributes.now) }
+    ensures place { option_map (λ a. a.now) result ≡ attribute_named word.now attributes.now }
 {
     let mut rest = attributes;
     'attributes: while let Some((first, after)) = rest.split_first() {

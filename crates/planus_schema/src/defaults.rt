@@ -1,13 +1,16 @@
 //! Defaults.
 
-ghost use Rattle.std.specs.Prelude.{◌≡◌, [], true, map, IfOk, IfSome, Some, None};
+ghost use Rattle.std.specs.Prelude.{◌≡◌, [], true, not, map, IfOk, Some, None};
 ghost use Rattle.std.specs.Option.{option_map};
 ghost use Rattle.std.specs.List.{list_any};
 ghost use Rattle.planus_syntax.specs.Values.{path_of, literal_of, variant_of, enumeration_of};
 ghost use Rattle.planus_syntax.specs.Values.{named, numeral};
-ghost use Rattle.planus_schema.specs.Names.{head_of, item_at};
+ghost use Rattle.planus_schema.specs.Names.{head_of, item_at, is_set};
+ghost use Rattle.planus_schema.specs.Wrong.{Tells, when};
+ghost use Rattle.planus_schema.specs.WrongTables.{wrong_default};
+ghost use Rattle.planus_schema.specs.Defaults.{some_default};
 ghost use Rattle.planus_layout.specs.Numbers.{zero_number};
-ghost use Rattle.planus_schema.specs.Enums.{same_number as same_number_lem, numbers_from};
+ghost use Rattle.planus_schema.specs.Enums.{same_number as same_number_lem, numbers_said};
 ghost use Rattle.planus_schema.specs.Defaults.{value_of, float, integer, is_word as is_word_lem};
 ghost use Rattle.planus_schema.specs.Defaults.{whole_number as whole_number_lem};
 ghost use Rattle.planus_schema.specs.Defaults.{named_bool as named_bool_lem, default_said};
@@ -46,7 +49,7 @@ fn is_word(path: &Path, word: &[u8]) -> bool
 }
 
 fn whole_number(scalar: Scalar, digits: &[u8]) -> Option<Value>
-    ensures { IfSome result (λ v. Some (value_of v) ≡ whole_number_lem scalar digits.now) }
+    ensures { option_map value_of result ≡ whole_number_lem scalar digits.now }
 {
     match integer(digits) {
         Some(number) if scalar.fits(number) => Some(Value::Integer(number)),
@@ -55,7 +58,7 @@ fn whole_number(scalar: Scalar, digits: &[u8]) -> Option<Value>
 }
 
 fn named_bool(path: &Path) -> Option<Value>
-    ensures { IfSome result (λ v. Some (value_of v) ≡ named_bool_lem (path_of path.now)) }
+    ensures { option_map value_of result ≡ named_bool_lem (path_of path.now) }
 {
     let magnitude = if is_word(path, b"true") {
         1
@@ -97,8 +100,8 @@ fn named_float(alloc: Global, path: &Path) -> Result<Option<Value>, AllocError>
 }
 
 fn named_scalar(alloc: Global, scalar: Scalar, path: &Path) -> Result<Option<Value>, AllocError>
-    ensures { IfOk result (λ o. IfSome o (λ v. Some (value_of v)
-        ≡ scalar_default_lem scalar (named (path_of path.now)))) }
+    ensures { IfOk result (λ o. option_map value_of o
+        ≡ scalar_default_lem scalar (named (path_of path.now))) }
 {
     if is_word(path, b"null") {
         Ok(Some(Value::Absent))
@@ -116,8 +119,8 @@ fn scalar_default(
     scalar: Scalar,
     literal: &Literal,
 ) -> Result<Option<Value>, AllocError>
-    ensures { IfOk result (λ o. IfSome o (λ v. Some (value_of v)
-        ≡ scalar_default_lem scalar (literal_of literal.now))) }
+    ensures { IfOk result (λ o. option_map value_of o
+        ≡ scalar_default_lem scalar (literal_of literal.now)) }
 {
     match literal {
         Literal::Number(digits) if scalar.is_float() => float_number(alloc, digits),
@@ -129,8 +132,7 @@ fn scalar_default(
 
 /// Returns the value of this name.
 fn value_named(variants: &[Variant], name: &[u8], flags: bool) -> Option<Number>
-    ensures { IfSome result (λ n. value_named_lem name.now flags None
-        (map variant_of variants.now) ≡ Some n) }
+    ensures { result ≡ value_named_lem name.now flags None (map variant_of variants.now) }
 {
     let mut previous = None;
     let mut rest = variants;
@@ -150,8 +152,8 @@ fn value_named(variants: &[Variant], name: &[u8], flags: bool) -> Option<Number>
 
 /// Returns whether a value is this number.
 fn has_value(variants: &[Variant], number: Number) -> bool
-    ensures { result ≡ true → list_any (λ v. same_number_lem v number)
-        (numbers_from None (map variant_of variants.now)) ≡ true }
+    ensures { result ≡ list_any (λ v. same_number_lem v number)
+        (numbers_said None (map variant_of variants.now)) }
 {
     let mut previous = None;
     let mut rest = variants;
@@ -170,7 +172,7 @@ fn has_value(variants: &[Variant], number: Number) -> bool
 }
 
 fn is_among_values(declared: &Enumeration, number: Number) -> bool
-    ensures { result ≡ true → is_among_values_lem (enumeration_of declared.now) number ≡ true }
+    ensures { result ≡ is_among_values_lem (enumeration_of declared.now) number }
 {
     if has(&declared.attributes, b"bit_flags") {
         match scalar_named(&declared.base.first) {
@@ -183,8 +185,8 @@ fn is_among_values(declared: &Enumeration, number: Number) -> bool
 }
 
 fn enum_number(declared: &Enumeration, digits: &[u8]) -> Option<Value>
-    ensures { IfSome result (λ v. Some (value_of v)
-        ≡ enum_default_lem (enumeration_of declared.now) (numeral digits.now)) }
+    ensures { option_map value_of result
+        ≡ enum_default_lem (enumeration_of declared.now) (numeral digits.now) }
 {
     match integer(digits) {
         Some(number) if is_among_values(declared, number) => Some(Value::Integer(number)),
@@ -205,8 +207,8 @@ fn value_name<'a>(declared: &Enumeration, path: &'a Path) -> Option<&'a [u8]>
 }
 
 fn enum_named(declared: &Enumeration, path: &Path) -> Option<Value>
-    ensures { IfSome result (λ v. Some (value_of v)
-        ≡ enum_named_lem (enumeration_of declared.now) (path_of path.now)) }
+    ensures { option_map value_of result
+        ≡ enum_named_lem (enumeration_of declared.now) (path_of path.now) }
 {
     let flags = has(&declared.attributes, b"bit_flags");
     match value_name(declared, path) {
@@ -238,8 +240,7 @@ fn cut_words(alloc: Global, text: &[u8]) -> Result<Vec<Vec<u8>>, AllocError>
 
 /// Returns the values of these names together.
 fn flags_named(declared: &Enumeration, words: &[Vec<u8>]) -> Option<u64>
-    ensures { IfSome result (λ n. flags_named_lem (enumeration_of declared.now)
-        (names_of words.now) ≡ Some n) }
+    ensures { result ≡ flags_named_lem (enumeration_of declared.now) (names_of words.now) }
 {
     let mut total = 0;
     'words: for word in words {
@@ -257,8 +258,8 @@ fn flags_default(
     declared: &Enumeration,
     text: &[u8],
 ) -> Result<Option<Value>, AllocError>
-    ensures { IfOk result (λ o. IfSome o (λ v. Some (value_of v)
-        ≡ flags_default_lem (enumeration_of declared.now) text.now)) }
+    ensures { IfOk result (λ o. option_map value_of o
+        ≡ flags_default_lem (enumeration_of declared.now) text.now) }
 {
     if !has(&declared.attributes, b"bit_flags") {
         return Ok(None);
@@ -278,8 +279,8 @@ fn enum_default(
     declared: &Enumeration,
     literal: &Literal,
 ) -> Result<Option<Value>, AllocError>
-    ensures { IfOk result (λ o. IfSome o (λ v. Some (value_of v)
-        ≡ enum_default_lem (enumeration_of declared.now) (literal_of literal.now))) }
+    ensures { IfOk result (λ o. option_map value_of o
+        ≡ enum_default_lem (enumeration_of declared.now) (literal_of literal.now)) }
 {
     match literal {
         Literal::Number(digits) => Ok(enum_number(declared, digits)),
@@ -307,8 +308,8 @@ fn base_default(
     base: Base,
     literal: &Literal,
 ) -> Result<Option<Value>, AllocError>
-    ensures { IfOk result (λ o. IfSome o (λ v. Some (value_of v)
-        ≡ base_default_lem (map head_of heads.now) base (literal_of literal.now))) }
+    ensures { IfOk result (λ o. option_map value_of o
+        ≡ base_default_lem (map head_of heads.now) base (literal_of literal.now)) }
 {
     match (base, literal) {
         (Base::Scalar(scalar), _) => scalar_default(alloc, scalar, literal),
@@ -328,8 +329,8 @@ fn literal_default(
     kind: FieldType,
     literal: &Literal,
 ) -> Result<Option<Value>, AllocError>
-    ensures { IfOk result (λ o. IfSome o (λ v. default_said (map head_of heads.now) kind
-        (Some (literal_of literal.now)) ≡ Some (Some (value_of v)))) }
+    ensures { IfOk result (λ o. some_default (option_map value_of o)
+        ≡ default_said (map head_of heads.now) kind (Some (literal_of literal.now))) }
 {
     if kind.vector {
         match literal {
@@ -342,7 +343,8 @@ fn literal_default(
 }
 
 fn enum_zero(heads: &Heads, index: usize) -> bool
-    ensures { result ≡ true → zero_default_lem (map head_of heads.now) (Base.Enum index)
+    ensures set { is_set (zero_default_lem (map head_of heads.now) (Base.Enum index)) ≡ result }
+    ensures zero { result ≡ true → zero_default_lem (map head_of heads.now) (Base.Enum index)
         ≡ Some (Some (integer zero_number)) }
 {
     match enum_at(heads, index) {
@@ -364,8 +366,10 @@ fn zero_default(
     base: Base,
     left: usize,
 ) -> Result<Option<Value>, Stop>
-    ensures { IfOk result (λ o. zero_default_lem (map head_of heads.now) base
+    ensures value { IfOk result (λ o. zero_default_lem (map head_of heads.now) base
         ≡ Some (option_map value_of o)) }
+    ensures wrong { Tells (when (not (is_set (zero_default_lem (map head_of heads.now) base)))
+        Problem.UnknownValue left) result }
 {
     match base {
         Base::Scalar(scalar) if scalar.is_float() => {
@@ -388,8 +392,9 @@ pub(crate) fn default_of(
     literal: &Option<Literal>,
     left: usize,
 ) -> Result<Option<Value>, Stop>
-    ensures { IfOk result (λ o. default_said (map head_of heads.now) kind
+    ensures value { IfOk result (λ o. default_said (map head_of heads.now) kind
         (option_map literal_of literal.now) ≡ Some (option_map value_of o)) }
+    ensures wrong { Tells (wrong_default (map head_of heads.now) kind left literal.now) result }
 {
     match literal {
         Some(literal) => match literal_default(alloc, heads, kind, literal)? {

@@ -1,6 +1,6 @@
 //! Enums.
 
-ghost use Rattle.std.specs.Prelude.{◌≡◌, ◌^◌, ◌<◌, true, false, map, IfOk, IfSome, [], Some};
+ghost use Rattle.std.specs.Prelude.{◌≡◌, ◌^◌, ◌<◌, true, false, map, IfOk, IfSome, [], Some, None};
 ghost use Rattle.std.specs.List.{list_any, IsDistinct, list_all};
 ghost use Rattle.planus_syntax.specs.Values.{names_of, path_of, variant_of, enumeration_of};
 ghost use Rattle.planus_layout.specs.Numbers.{scalar_named as scalar_named_lem, fits};
@@ -9,7 +9,11 @@ ghost use Rattle.planus_schema.specs.Enums.{same_number as same_number_lem, numb
 ghost use Rattle.planus_schema.specs.Enums.{enum_numbers, SaysEnum, IsEnum};
 ghost use Rattle.planus_schema.specs.Enums.{is_integer_type as is_integer_type_lem};
 ghost use Rattle.planus_schema.specs.Enums.{is_spelled, next_number as next_number_lem};
-ghost use Rattle.planus_schema.specs.Enums.{IsValueAdded, AreValues};
+ghost use Rattle.planus_schema.specs.Enums.{IsValueAdded, AreValues, next_said, number_said};
+ghost use Rattle.planus_schema.specs.Enums.{settled_said, integer_type as integer_type_lem};
+ghost use Rattle.planus_schema.specs.Wrong.{Tells};
+ghost use Rattle.planus_schema.specs.WrongEnums.{wrong_integer, wrong_value, wrong_names};
+ghost use Rattle.planus_schema.specs.WrongEnums.{wrong_values, wrong_enum};
 ghost use Rattle.planus_layout.specs.Distinct.{AreDistinct};
 
 use crate::attributes::has;
@@ -31,6 +35,8 @@ fn integer_type(path: &Path) -> Result<Scalar, Stop>
     ensures single { IfOk result (λ _. (path_of path.now).more ≡ []) }
     ensures named { IfOk result (λ s. scalar_named_lem (path_of path.now).first ≡ Some s) }
     ensures integer { IfOk result (λ s. is_integer_type_lem s ≡ true) }
+    ensures scalar { IfOk result (λ s. integer_type_lem (path_of path.now) ≡ Some s) }
+    ensures wrong { Tells (wrong_integer path.now) result }
 {
     match scalar_named(&path.first) {
         Some(scalar) if path.more.is_empty() && is_integer_type(scalar) => Ok(scalar),
@@ -39,7 +45,8 @@ fn integer_type(path: &Path) -> Result<Scalar, Stop>
 }
 
 fn next_number(previous: Option<Number>) -> Option<Number>
-    ensures { IfSome result (λ n. n ≡ next_number_lem previous) }
+    ensures value { IfSome result (λ n. n ≡ next_number_lem previous) }
+    ensures said { result ≡ next_said previous }
 {
     match previous {
         Some(number) => following(number),
@@ -55,6 +62,7 @@ pub(crate) fn number_of(previous: Option<Number>, variant: &Variant) -> Option<N
     ensures number { IfSome result (λ n. n
         ≡ number_of_lem previous (variant_of variant.now).value) }
     ensures spelled { IfSome result (λ _. is_spelled (variant_of variant.now) ≡ true) }
+    ensures said { result ≡ number_said previous (variant_of variant.now).value }
 {
     match &variant.value {
         Some(digits) => integer(digits),
@@ -71,7 +79,8 @@ fn power_of_two(n: u64) -> u64
 
 /// Returns the value of a number: with `flags`, the bit that it says.
 pub(crate) fn value_of(flags: bool, number: Number) -> Option<Number>
-    ensures { IfSome result (λ n. n ≡ settled flags number) }
+    ensures value { IfSome result (λ n. n ≡ settled flags number) }
+    ensures said { result ≡ settled_said flags number }
 {
     if !flags {
         Some(number)
@@ -97,6 +106,7 @@ fn has_number(values: &[EnumValue], number: Number) -> bool
     values.iter().any(|value| same_number(value.number, number))
 }
 
+#[tactic(auto, using(crate::proofs::EnumLemmas::numbers_any))]
 /// Adds a value that fits and is new.
 fn add_value(
     alloc: Global,
@@ -105,8 +115,10 @@ fn add_value(
     variant: &Variant,
     number: Number,
 ) -> Result<(), Stop>
-    ensures { IfOk result (λ _. IsValueAdded scalar (variant_of variant.now) number
+    ensures added { IfOk result (λ _. IsValueAdded scalar (variant_of variant.now) number
         values.old.items values.new.items) }
+    ensures wrong { Tells (wrong_value scalar (map number_of_value values.old.items) variant.now
+        (Some number)) result }
 {
     if !scalar.fits(number) {
         return Err(wrong(Problem::ValueOutOfRange, variant.left));
@@ -122,7 +134,9 @@ fn add_value(
 
 /// Checks that no two variants have one name.
 fn check_names(alloc: Global, variants: &[Variant]) -> Result<(), Stop>
-    ensures { IfOk result (λ _. AreDistinct (map (λ v. v.name) (map variant_of variants.now))) }
+    ensures distinct { IfOk result (λ _. AreDistinct (map (λ v. v.name)
+        (map variant_of variants.now))) }
+    ensures wrong { Tells (wrong_names [] variants.now) result }
 {
     let mut names = Vec::new(alloc);
     'variants: for variant in variants {
@@ -139,8 +153,9 @@ fn enum_values(
     flags: bool,
     variants: &[Variant],
 ) -> Result<Vec<EnumValue>, Stop>
-    ensures { IfOk result (λ values. AreValues scalar flags (map variant_of variants.now)
+    ensures says { IfOk result (λ values. AreValues scalar flags (map variant_of variants.now)
         values.items) }
+    ensures wrong { Tells (wrong_values scalar flags None [] variants.now) result }
 {
     let mut values = Vec::new(alloc);
     let mut previous = None;
@@ -163,6 +178,9 @@ fn enum_values(
 pub(crate) fn enum_of(alloc: Global, declared: &Enumeration) -> Result<Enum, Stop>
     ensures says { IfOk result (λ e. SaysEnum (enumeration_of declared.now) e) }
     ensures sound { IfOk result (λ e. IsEnum e) }
+    ensures scalar { IfOk result (λ e. integer_type_lem (path_of declared.now.base)
+        ≡ Some e.scalar) }
+    ensures wrong { Tells (wrong_enum declared.now) result }
 {
     let flags = has(&declared.attributes, b"bit_flags");
     let scalar = integer_type(&declared.base)?;

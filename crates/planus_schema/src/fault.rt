@@ -1,6 +1,8 @@
 //! What is wrong with a schema.
 
-ghost use Rattle.std.specs.Prelude.{◌<◌, ◌≤◌, length, OnOk};
+ghost use Rattle.std.specs.Prelude.{◌≡◌, true, ◌<◌, ◌≤◌, length, OnOk};
+ghost use Rattle.planus_schema.specs.Names.{is_set};
+ghost use Rattle.planus_schema.specs.Faults.{Adds, fault_in, broken_in};
 
 use std::alloc::{AllocError, AllocFailed};
 
@@ -135,14 +137,21 @@ impl<T: Drop> From<AllocFailed<T>> for Stop {
     }
 }
 
-pub(crate) fn wrong(problem: Problem, left: usize) -> Stop {
+pub(crate) fn wrong(problem: Problem, left: usize) -> Stop
+    ensures { result ≡ Stop.Wrong problem left }
+{
     Stop::Wrong { problem, left }
 }
 
+#[tactic(auto, using(crate::proofs::FaultLemmas::adds_one, crate::proofs::FaultLemmas::adds_full))]
 /// Adds a fault, unless there are twenty.
 pub(crate) fn note(faults: &mut Vec<Fault>, file: usize, stop: Stop) -> Result<(), AllocError>
+    requires { length faults.old.items ≤ 20 }
     ensures some { OnOk result (0 < length faults.new.items) }
-    ensures most { OnOk result (length faults.old.items ≤ 20 → length faults.new.items ≤ 20) }
+    ensures most { OnOk result (length faults.new.items ≤ 20) }
+    ensures told { OnOk result (is_set (broken_in stop) ≡ true) }
+    ensures adds { OnOk result (Adds (fault_in file (broken_in stop)) faults.old.items
+        faults.new.items) }
 {
     match stop {
         Stop::OutOfMemory => Err(AllocError),

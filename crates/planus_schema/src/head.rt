@@ -5,6 +5,7 @@ ghost use Rattle.std.specs.Option.{option_map};
 ghost use Rattle.planus_syntax.specs.Values.{names_of, path_of, item_of, declaration_of, schema_of};
 ghost use Rattle.planus_schema.specs.Names.{with_word, words_of, space_of, path_in, heads_at};
 ghost use Rattle.planus_schema.specs.Names.{heads_in};
+ghost use Rattle.planus_schema.specs.Faults.{placed_of, placed_at, placed_in, placed_from};
 ghost use Rattle.planus_schema.specs.Names.{own_name as own_name_lem, head_of, heads_of, dotted};
 ghost use Rattle.planus_schema.specs.Names.{space_after as space_after_lem};
 
@@ -108,9 +109,10 @@ fn add_head<'a>(
     space: Option<&'a Path>,
     declaration: &'a Declaration,
 ) -> Result<(), AllocError>
-    ensures { OnOk result (map head_of heads.new.items ≡ map head_of heads.old.items
-        ++ heads_at file (path_in space.entry)
-        (declaration_of declaration.now)) }
+    ensures heads { OnOk result (map head_of heads.new.items ≡ map head_of heads.old.items
+        ++ heads_at file (path_in space.entry) (declaration_of declaration.now)) }
+    ensures placed { OnOk result (map placed_of heads.new.items ≡ map placed_of heads.old.items
+        ++ placed_at file (path_in space.entry) declaration.now) }
 {
     if let Some(word) = own_name(&declaration.item) {
         let name = full_name(alloc, space, word)?;
@@ -145,8 +147,10 @@ fn add_heads<'a>(
     file: usize,
     declarations: &'a [Declaration],
 ) -> Result<(), AllocError>
-    ensures { OnOk result (map head_of heads.new.items ≡ map head_of heads.old.items
+    ensures heads { OnOk result (map head_of heads.new.items ≡ map head_of heads.old.items
         ++ heads_in file None (schema_of declarations.now)) }
+    ensures placed { OnOk result (map placed_of heads.new.items ≡ map placed_of heads.old.items
+        ++ placed_in file None declarations.now) }
 {
     let mut space = None;
     'declarations: for declaration in declarations {
@@ -158,8 +162,9 @@ fn add_heads<'a>(
 
 /// Returns what the files declare, in order.
 pub(crate) fn heads(alloc: Global, files: &[Vec<Declaration>]) -> Result<Vec<Head<'_>>, AllocError>
-    ensures { IfOk result (λ v. map head_of v.items
+    ensures heads { IfOk result (λ v. map head_of v.items
         ≡ heads_of (map (λ f. schema_of f.items) files.now)) }
+    ensures placed { IfOk result (λ v. map placed_of v.items ≡ placed_from 0 files.now) }
 {
     let mut heads = Vec::new(alloc);
     let mut file = 0;

@@ -5,6 +5,7 @@ ghost use Rattle.std.specs.Option.{option_map};
 ghost use Rattle.planus_syntax.specs.Values.{path_of, kind_of, item_of};
 ghost use Rattle.planus_schema.specs.Names.{space_of, head_of, plain_base as plain_base_lem};
 ghost use Rattle.planus_schema.specs.Names.{base_of_word as base_of_word_lem, base_of_head};
+ghost use Rattle.planus_schema.specs.Wrong.{Tells, wrong_base, wrong_kind, wrong_table};
 ghost use Rattle.planus_schema.specs.Names.{base_named, type_named, item_at, base_of_item};
 
 use crate::fault::{Problem, Stop, wrong};
@@ -76,8 +77,10 @@ pub(crate) fn base_of(
     space: Option<&Path>,
     path: &Path,
 ) -> Result<Base, Stop>
-    ensures { IfOk result (λ b. base_named (map head_of heads.now)
+    ensures named { IfOk result (λ b. base_named (map head_of heads.now)
         (space_of space.entry) (path_of path.now) ≡ Some b) }
+    ensures wrong { Tells (wrong_base (map head_of heads.now) (space_of space.entry) path.now)
+        result }
 {
     if let Some(base) = plain_base(path) {
         return Ok(base);
@@ -97,8 +100,10 @@ pub(crate) fn type_of(
     space: Option<&Path>,
     kind: &Kind,
 ) -> Result<FieldType, Stop>
-    ensures { IfOk result (λ t. type_named (map head_of heads.now)
+    ensures named { IfOk result (λ t. type_named (map head_of heads.now)
         (space_of space.entry) (kind_of kind.now) ≡ Some t) }
+    ensures wrong { Tells (wrong_kind (map head_of heads.now) (space_of space.entry) kind.now)
+        result }
 {
     match kind {
         Kind::Single(path) => {
@@ -112,5 +117,24 @@ pub(crate) fn type_of(
             let base = base_of(alloc, heads, space, path)?;
             Ok(FieldType { vector: true, base })
         }
+    }
+}
+
+/// Returns the index of the table that a name means.
+pub(crate) fn table_at(
+    alloc: Global,
+    heads: &Heads,
+    space: Option<&Path>,
+    path: &Path,
+    problem: Problem,
+) -> Result<usize, Stop>
+    ensures named { IfOk result (λ i. base_named (map head_of heads.now) (space_of space.entry)
+        (path_of path.now) ≡ Some (Base.Table i)) }
+    ensures wrong { Tells (wrong_table problem (map head_of heads.now) (space_of space.entry)
+        path.now) result }
+{
+    match base_of(alloc, heads, space, path)? {
+        Base::Table(index) => Ok(index),
+        _ => Err(wrong(problem, path.left)),
     }
 }

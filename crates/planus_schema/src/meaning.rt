@@ -1,6 +1,6 @@
 //! Files to the schema that they mean.
 
-ghost use Rattle.std.specs.Prelude.{◌≡◌, [], ◌≤◌, map, length, Some, IfOk, IfErr, OnOk};
+ghost use Rattle.std.specs.Prelude.{◌≡◌, [], ◌∷◌, ◌++◌, ◌≤◌, map, length, Some, IfOk, IfErr, OnOk};
 ghost use Rattle.planus_syntax.specs.Values.{item_of, schema_of};
 ghost use Rattle.planus_schema.specs.Names.{head_of, space_of, index_of};
 ghost use Rattle.planus_layout.specs.Distinct.{AreDistinct};
@@ -8,6 +8,13 @@ ghost use Rattle.planus_layout.specs.Layouts.{body_in};
 ghost use Rattle.planus_schema.specs.Schemas.{IsBody, SaysBody, IsDeclared, AreDeclared, Means};
 ghost use Rattle.planus_schema.specs.Schemas.{IsRefusal, IsAppended};
 ghost use Rattle.planus_schema.specs.Sound.{IsSound};
+ghost use Rattle.planus_layout.specs.Layouts.{measure_of_body};
+ghost use Rattle.planus_schema.specs.Wrong.{Tells};
+ghost use Rattle.planus_schema.specs.WrongStructs.{measures_of};
+ghost use Rattle.planus_schema.specs.Faults.{placed_of, Adds, wrong_body, sound_measure};
+ghost use Rattle.planus_schema.specs.Faults.{byte_measure, measure_placed, body_fault};
+ghost use Rattle.planus_schema.specs.Faults.{body_faults, name_fault, name_faults, AreInOrder};
+ghost use Rattle.planus_schema.specs.Faults.{faults_found, IsExact, AreWithin};
 
 use crate::enums::enum_of;
 use crate::fault::{Fault, Problem, Refusal, Stop, note, wrong};
@@ -26,6 +33,12 @@ fn body_of(alloc: Global, heads: &Heads, declared: &[Declared], head: &Head) -> 
     ensures says { IfOk result (λ b. SaysBody (map head_of heads.now) (space_of head.now.space)
         (map body_in declared.now) (item_of head.now.declaration.now.item) b) }
     ensures sound { IfOk result (λ b. IsBody b) }
+    ensures measure { IfOk result (λ b. measure_of_body (Some b) ≡ sound_measure
+        (map head_of heads.now) (space_of head.now.space) (measures_of declared.now)
+        head.now.declaration.now.item) }
+    ensures wrong { Tells (wrong_body (map head_of heads.now) (space_of head.now.space)
+        (measures_of declared.now) head.now.declaration.now.left head.now.declaration.now.item)
+        result }
 {
     let left = head.declaration.left;
     let space = head.space;
@@ -41,7 +54,9 @@ fn body_of(alloc: Global, heads: &Heads, declared: &[Declared], head: &Head) -> 
 }
 
 /// Returns what stands for a declaration that has a fault, so that the others can be checked.
-fn stand_in(alloc: Global, item: &Item) -> Body {
+fn stand_in(alloc: Global, item: &Item) -> Body
+    ensures { measure_of_body (Some result) ≡ byte_measure item.now }
+{
     match item {
         Item::Struct(_) => Body::Struct(Struct {
             fields: Vec::new(alloc),
@@ -68,8 +83,10 @@ fn add_body(
     head: &Head,
     body: Body,
 ) -> Result<(), AllocError>
-    ensures { OnOk result (IsAppended (head_of head.now) body declared.old.items
+    ensures appended { OnOk result (IsAppended (head_of head.now) body declared.old.items
         declared.new.items) }
+    ensures measures { OnOk result (measures_of declared.new.items
+        ≡ measures_of declared.old.items ++ measure_of_body (Some body) ∷ []) }
 {
     let name = Vec::from_slice(alloc, &head.name)?;
     let docs = copied(alloc, &head.declaration.docs)?;
@@ -90,10 +107,17 @@ fn add_declared(
     head: &Head,
     faults: &mut Vec<Fault>,
 ) -> Result<(), AllocError>
+    requires { length faults.old.items ≤ 20 }
     ensures says { OnOk result (faults.new.items ≡ [] → IsDeclared (map head_of heads.now)
         (head_of head.now) declared.old.items declared.new.items) }
     ensures kept { OnOk result (faults.new.items ≡ [] → faults.old.items ≡ []) }
-    ensures most { OnOk result (length faults.old.items ≤ 20 → length faults.new.items ≤ 20) }
+    ensures most { OnOk result (length faults.new.items ≤ 20) }
+    ensures measures { OnOk result (measures_of declared.new.items
+        ≡ measures_of declared.old.items ++ measure_placed (map head_of heads.now)
+        (measures_of declared.old.items) (placed_of head.now) ∷ []) }
+    ensures adds { OnOk result (Adds (body_fault (map head_of heads.now)
+        (measures_of declared.old.items) (placed_of head.now)) faults.old.items
+        faults.new.items) }
 {
     match body_of(alloc, heads, declared, head) {
         Ok(body) => {
@@ -114,10 +138,13 @@ fn declarations(
     heads: &Heads,
     faults: &mut Vec<Fault>,
 ) -> Result<Vec<Declared>, AllocError>
+    requires { length faults.old.items ≤ 20 }
     ensures says { IfOk result (λ v. faults.new.items ≡ [] → AreDeclared (map head_of heads.now)
         (map head_of heads.now) v.items) }
     ensures kept { OnOk result (faults.new.items ≡ [] → faults.old.items ≡ []) }
-    ensures most { OnOk result (length faults.old.items ≤ 20 → length faults.new.items ≤ 20) }
+    ensures most { OnOk result (length faults.new.items ≤ 20) }
+    ensures adds { OnOk result (Adds (body_faults (map head_of heads.now) []
+        (map placed_of heads.now)) faults.old.items faults.new.items) }
 {
     let mut declared = Vec::new(alloc);
     'heads: for head in heads.as_slice() {
@@ -133,10 +160,13 @@ fn check_name(
     head: &Head,
     faults: &mut Vec<Fault>,
 ) -> Result<(), AllocError>
+    requires { length faults.old.items ≤ 20 }
     ensures first { OnOk result (faults.new.items ≡ [] → index_of (map head_of heads.now)
         (head_of head.now).name ≡ Some index) }
     ensures kept { OnOk result (faults.new.items ≡ [] → faults.old.items ≡ []) }
-    ensures most { OnOk result (length faults.old.items ≤ 20 → length faults.new.items ≤ 20) }
+    ensures most { OnOk result (length faults.new.items ≤ 20) }
+    ensures adds { OnOk result (Adds (name_fault (map head_of heads.now) index
+        (placed_of head.now)) faults.old.items faults.new.items) }
 {
     if is_first(heads.index_of(&head.name), index) {
         Ok(())
@@ -151,10 +181,13 @@ fn check_name(
 
 /// Adds the faults of names that are declared twice.
 fn check_names(heads: &Heads, faults: &mut Vec<Fault>) -> Result<(), AllocError>
+    requires { length faults.old.items ≤ 20 }
     ensures distinct { OnOk result (faults.new.items ≡ [] → AreDistinct (map (λ h. h.name)
         (map head_of heads.now))) }
     ensures kept { OnOk result (faults.new.items ≡ [] → faults.old.items ≡ []) }
-    ensures most { OnOk result (length faults.old.items ≤ 20 → length faults.new.items ≤ 20) }
+    ensures most { OnOk result (length faults.new.items ≤ 20) }
+    ensures adds { OnOk result (Adds (name_faults (map head_of heads.now) 0
+        (map placed_of heads.now)) faults.old.items faults.new.items) }
 {
     let mut index = 0;
     'heads: for head in heads.as_slice() {
@@ -166,7 +199,8 @@ fn check_names(heads: &Heads, faults: &mut Vec<Fault>) -> Result<(), AllocError>
 
 /// Puts faults in the order of their places.
 fn put_in_order(faults: &mut Vec<Fault>) -> Result<(), AllocError>
-    ensures { OnOk result (length faults.new.items ≡ length faults.old.items) }
+    ensures length { OnOk result (length faults.new.items ≡ length faults.old.items) }
+    ensures order { OnOk result (AreInOrder faults.old.items faults.new.items) }
 {
     faults.sort_by_key(|fault| (fault.file, usize::MAX - fault.left))?;
     Ok(())
@@ -175,7 +209,9 @@ fn put_in_order(faults: &mut Vec<Fault>) -> Result<(), AllocError>
 /// Returns what files mean, or what is wrong with them.
 fn settle(alloc: Global, files: &[Vec<Declaration>]) -> Result<Schema, Refusal>
     ensures means { IfOk result (λ s. Means (map (λ f. schema_of f.items) files.now) s) }
+    ensures none { OnOk result (faults_found files.now ≡ []) }
     ensures faults { IfErr result (λ e. IsRefusal e) }
+    ensures exact { IfErr result (λ e. IsExact files.now e) }
 {
     let list = heads(alloc, files)?;
     let heads = Heads::new(alloc, &list)?;
@@ -202,7 +238,11 @@ pub fn resolve(alloc: Global, files: &[Vec<Declaration>]) -> Result<Schema, Refu
     ensures means { IfOk result (λ s. Means (map (λ f. schema_of f.items) files.now) s) }
     // Whatever it was read from, it is sound.
     ensures sound { IfOk result (λ s. IsSound s) }
+    // A good schema is taken, and a bad one refused with exactly its faults.
+    ensures none { OnOk result (faults_found files.now ≡ []) }
     ensures faults { IfErr result (λ e. IsRefusal e) }
+    ensures exact { IfErr result (λ e. IsExact files.now e) }
+    ensures within { IfErr result (λ e. AreWithin (length files.now) e) }
 {
     match settle(alloc, files) {
         Ok(schema) => Ok(schema),

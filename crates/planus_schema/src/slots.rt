@@ -4,7 +4,10 @@ ghost use Rattle.std.specs.Prelude.{◌≡◌, ◌+◌, ◌≤◌, true, false, 
 ghost use Rattle.planus_syntax.specs.Values.{field_of};
 ghost use Rattle.planus_layout.specs.Slots.{slots_taken as slots_taken_lem, AreSlots};
 ghost use Rattle.planus_layout.specs.Slots.{width as width_lem};
-ghost use Rattle.planus_schema.specs.Tables.{id_of as id_of_lem, has_ids as has_ids_lem};
+ghost use Rattle.planus_schema.specs.Tables.{id_of as id_of_lem, has_ids as has_ids_lem, id_said};
+ghost use Rattle.planus_schema.specs.Wrong.{Tells};
+ghost use Rattle.planus_schema.specs.WrongTables.{wrong_slot, wrong_slots};
+ghost use Rattle.planus_schema.specs.WrongTables.{field_slot as field_slot_lem};
 
 use crate::attributes::{has, setting};
 use crate::fault::{Problem, Stop, wrong};
@@ -31,6 +34,7 @@ pub(crate) fn has_ids(fields: &[Field]) -> bool
 fn id_of(field: &Field) -> Option<usize>
     ensures said { IfSome result (λ n. id_of_lem (field_of field.now) ≡ Some n) }
     ensures small { IfSome result (λ n. n ≤ 65535) }
+    ensures exact { result ≡ id_said (field_of field.now) }
 {
     match setting(&field.attributes, b"id") {
         Some(attribute) => match setting_number(attribute) {
@@ -51,6 +55,8 @@ pub(crate) fn field_slot(
     requires { next ≤ 65535 }
     ensures id { ids ≡ true → IfOk result (λ n. id_of_lem (field_of field.now) ≡ Some n) }
     ensures order { ids ≡ false → IfOk result (λ n. n + 1 ≡ next + width_lem kind) }
+    ensures slot { IfOk result (λ n. n ≡ field_slot_lem kind ids next field.now) }
+    ensures wrong { Tells (wrong_slot kind ids next field.now) result }
 {
     match slot_of(id_of(field), kind, ids, next) {
         Some(slot) => Ok(slot),
@@ -61,7 +67,8 @@ pub(crate) fn field_slot(
 
 /// Checks that each slot is taken once, and that a vtable has room for them.
 pub(crate) fn check_slots(alloc: Global, fields: &[TableField], left: usize) -> Result<(), Stop>
-    ensures { IfOk result (λ _. AreSlots (slots_taken_lem fields.now)) }
+    ensures sound { IfOk result (λ _. AreSlots (slots_taken_lem fields.now)) }
+    ensures wrong { Tells (wrong_slots left (slots_taken_lem fields.now)) result }
 {
     let slots = slots_taken(alloc, fields)?;
     if slots.len() > 32765 {

@@ -5,26 +5,20 @@ ghost use Rattle.planus_syntax.specs.Values.{path_of, item_of, schema_of};
 ghost use Rattle.planus_schema.specs.Names.{head_of, space_of, path_in, base_named};
 ghost use Rattle.planus_schema.specs.Schemas.{said_of, after, after_file, after_files, IsFour};
 ghost use Rattle.planus_schema.specs.Schemas.{no_statements};
+ghost use Rattle.planus_syntax.specs.Values.{names_of};
+ghost use Rattle.planus_schema.specs.Wrong.{Tells};
+ghost use Rattle.planus_schema.specs.WrongServices.{customs_of};
+ghost use Rattle.planus_schema.specs.Faults.{Adds, fault_in, wrong_said, statement_faults};
+ghost use Rattle.planus_schema.specs.Faults.{file_faults};
 
 use crate::checks::{check_item, custom_attributes};
 use crate::fault::{Fault, Problem, Stop, note, wrong};
 use crate::head::space_after;
 use crate::heads::Heads;
-use crate::kind::base_of;
-use planus_layout::{Base, Statements};
+use crate::kind::table_at;
+use planus_layout::Statements;
 use planus_syntax::{Declaration, Item, Path};
 use std::alloc::{AllocError, Global};
-
-/// Returns the index of the root table.
-fn root_of(alloc: Global, heads: &Heads, space: Option<&Path>, path: &Path) -> Result<usize, Stop>
-    ensures { IfOk result (λ i. base_named (map head_of heads.now) (space_of space.entry)
-        (path_of path.now) ≡ Some (Base.Table i)) }
-{
-    match base_of(alloc, heads, space, path)? {
-        Base::Table(index) => Ok(index),
-        _ => Err(wrong(Problem::RootIsNoTable, path.left)),
-    }
-}
 
 /// Adds what a declaration states.
 fn state(
@@ -39,11 +33,13 @@ fn state(
         (path_in space.entry) (said_of statements.old) (item_of declaration.now.item)) }
     ensures four { OnOk result (IsFour (said_of statements.old).identifier
         → IsFour (said_of statements.new).identifier) }
+    ensures wrong { Tells (wrong_said (map head_of heads.now) (space_of space.entry)
+        (names_of custom.now) declaration.now) result }
 {
     check_item(alloc, heads, space, custom, &declaration.item)?;
     match &declaration.item {
         Item::RootType(path) => {
-            statements.root = Some(root_of(alloc, heads, space, path)?);
+            statements.root = Some(table_at(alloc, heads, space, path, Problem::RootIsNoTable)?);
         }
         Item::FileIdentifier(word) => {
             if word.len() != 4 {
@@ -59,6 +55,7 @@ fn state(
     Ok(())
 }
 
+#[tactic(auto, using(crate::proofs::FaultLemmas::adds_none))]
 /// Adds what a declaration states, or what is wrong with it.
 fn state_or_note(
     alloc: Global,
@@ -70,20 +67,28 @@ fn state_or_note(
     statements: &mut Statements,
     faults: &mut Vec<Fault>,
 ) -> Result<(), AllocError>
+    requires { length faults.old.items ≤ 20 }
     ensures said { OnOk result (faults.new.items ≡ [] → said_of statements.new
         ≡ after (map head_of heads.now) (path_in space.entry) (said_of statements.old)
         (item_of declaration.now.item)) }
     ensures four { OnOk result (faults.new.items ≡ [] → IsFour (said_of statements.old).identifier
         → IsFour (said_of statements.new).identifier) }
     ensures kept { OnOk result (faults.new.items ≡ [] → faults.old.items ≡ []) }
-    ensures most { OnOk result (length faults.old.items ≤ 20 → length faults.new.items ≤ 20) }
+    ensures most { OnOk result (length faults.new.items ≤ 20) }
+    ensures adds { OnOk result (Adds (fault_in file (wrong_said (map head_of heads.now)
+        (space_of space.entry) (names_of custom.now) declaration.now)) faults.old.items
+        faults.new.items) }
 {
     match state(alloc, heads, space, custom, declaration, statements) {
         Ok(()) => Ok(()),
-        Err(stop) => note(faults, file, stop),
+        Err(stop) => {
+            note(faults, file, stop)?;
+            Ok(())
+        }
     }
 }
 
+#[tactic(auto, using(crate::proofs::FaultLemmas::adds_next, crate::proofs::FaultLemmas::adds_none))]
 fn state_file(
     alloc: Global,
     heads: &Heads,
@@ -93,13 +98,16 @@ fn state_file(
     statements: &mut Statements,
     faults: &mut Vec<Fault>,
 ) -> Result<(), AllocError>
+    requires { length faults.old.items ≤ 20 }
     ensures said { OnOk result (faults.new.items ≡ [] → said_of statements.new
         ≡ after_file (map head_of heads.now) None (said_of statements.old)
         (schema_of declarations.now)) }
     ensures four { OnOk result (faults.new.items ≡ [] → IsFour (said_of statements.old).identifier
         → IsFour (said_of statements.new).identifier) }
     ensures kept { OnOk result (faults.new.items ≡ [] → faults.old.items ≡ []) }
-    ensures most { OnOk result (length faults.old.items ≤ 20 → length faults.new.items ≤ 20) }
+    ensures most { OnOk result (length faults.new.items ≤ 20) }
+    ensures adds { OnOk result (Adds (statement_faults (map head_of heads.now)
+        (names_of custom.now) file None declarations.now) faults.old.items faults.new.items) }
 {
     let mut space = None;
     'declarations: for declaration in declarations {
@@ -129,6 +137,7 @@ fn nothing_stated() -> Statements
     }
 }
 
+#[tactic(auto, using(crate::proofs::FaultLemmas::adds_next, crate::proofs::FaultLemmas::adds_none))]
 /// Returns what the last file states, and adds what is wrong with that and with what those that it
 /// includes state.
 pub(crate) fn statements(
@@ -137,12 +146,15 @@ pub(crate) fn statements(
     files: &[Vec<Declaration>],
     faults: &mut Vec<Fault>,
 ) -> Result<Statements, AllocError>
+    requires { length faults.old.items ≤ 20 }
     ensures said { IfOk result (λ s. faults.new.items ≡ [] → said_of s
         ≡ after_files (map head_of heads.now) no_statements
         (map (λ f. schema_of f.items) files.now)) }
     ensures four { IfOk result (λ s. faults.new.items ≡ [] → IsFour (said_of s).identifier) }
     ensures kept { OnOk result (faults.new.items ≡ [] → faults.old.items ≡ []) }
-    ensures most { OnOk result (length faults.old.items ≤ 20 → length faults.new.items ≤ 20) }
+    ensures most { OnOk result (length faults.new.items ≤ 20) }
+    ensures adds { OnOk result (Adds (file_faults (map head_of heads.now) (customs_of files.now) 0
+        files.now) faults.old.items faults.new.items) }
 {
     let mut statements = nothing_stated();
     let custom = custom_attributes(alloc, files)?;

@@ -1,7 +1,7 @@
 //! Structs: where the bytes of their fields lie.
 
 ghost use Rattle.std.specs.Prelude.{◌≡◌, ◌≤◌, ◌<◌, ◌+◌, true, false, map, IfOk, IfSome, Some};
-ghost use Rattle.std.specs.Prelude.{codes, slice_get, max};
+ghost use Rattle.std.specs.Prelude.{[], codes, slice_get, max};
 ghost use Rattle.std.specs.Option.{option_map};
 ghost use Rattle.planus_syntax.specs.Values.{kind_of, field_of, record_of, attribute_of};
 ghost use Rattle.planus_schema.specs.Names.{space_of, head_of, type_named, setting as setting_lem};
@@ -10,7 +10,14 @@ ghost use Rattle.planus_layout.specs.Layouts.{IsNext, IsStruct};
 ghost use Rattle.planus_schema.specs.Structs.{SaysStruct, SaysStructField};
 ghost use Rattle.planus_layout.specs.Layouts.{is_alignment as is_alignment_lem};
 ghost use Rattle.planus_schema.specs.Structs.{is_plain};
-ghost use Rattle.planus_schema.specs.Structs.{alignment_said, literal_number};
+ghost use Rattle.planus_schema.specs.Structs.{alignment_said, literal_number, number_in};
+ghost use Rattle.planus_schema.specs.Names.{attribute_named};
+ghost use Rattle.planus_schema.specs.Wrong.{Tells};
+ghost use Rattle.planus_schema.specs.WrongStructs.{wrong_plain, wrong_measure, wrong_struct};
+ghost use Rattle.planus_schema.specs.WrongStructs.{wrong_struct_field, wrong_struct_fields};
+ghost use Rattle.planus_schema.specs.WrongStructs.{measure_among, measures_of, field_measure};
+ghost use Rattle.planus_schema.specs.WrongStructs.{end_of, end_after, greatest_after};
+ghost use Rattle.planus_schema.specs.WrongStructs.{alignment_in, struct_measure, wrong_alignment};
 ghost use Rattle.planus_layout.specs.Layouts.{Laid};
 ghost use Rattle.planus_layout.specs.Layouts.{greatest_alignment, body_in};
 ghost use Rattle.planus_layout.specs.Distinct.{AreDistinct, Each2};
@@ -36,6 +43,8 @@ fn base_in_struct(
     ensures kind { IfOk result (λ b. type_named (map head_of heads.now) (space_of space.entry)
         (field_of field.now).kind ≡ Some (record { vector = false; base = b })) }
     ensures plain { IfOk result (λ _. is_plain (field_of field.now) ≡ true) }
+    ensures wrong { Tells (wrong_plain (map head_of heads.now) (space_of space.entry) field.now)
+        result }
 {
     if field.default.is_some() {
         return Err(wrong(Problem::DefaultInStruct, field.left));
@@ -50,12 +59,16 @@ fn base_in_struct(
     Ok(kind.base)
 }
 
+#[tactic(auto, using(crate::proofs::MeasureLemmas::among))]
 /// Returns the size and the alignment of a field, which are those of a declaration before.
 fn measure_in_struct(bodies: &[Declared], base: Base, left: usize) -> Result<Measure, Stop>
     ensures measure { IfOk result (λ m. measure_in (map body_in bodies.now) base ≡ Some m) }
+    ensures among { IfOk result (λ m. measure_among (measures_of bodies.now) base ≡ Some m) }
     ensures some { IfOk result (λ m. 0 < m.alignment) }
     ensures small { IfOk result (λ m. m.alignment ≤ 32) }
     ensures fits { IfOk result (λ m. m.size ≤ 65535) }
+    ensures wrong { Tells (wrong_measure base left (measure_among (measures_of bodies.now) base))
+        result }
 {
     match measure_of(bodies, base) {
         Some(measure)
@@ -84,6 +97,12 @@ fn struct_field(
         (map body_in bodies.now) (field_of field.now) f) }
     ensures placed { IfOk result (λ f. IsNext f.alignment at f.distance) }
     ensures within { IfOk result (λ f. f.distance + f.size ≤ 65535) }
+    ensures next { IfOk result (λ f. f.distance + f.size ≡ end_of at (field_measure
+        (map head_of heads.now) (space_of space.entry) (measures_of bodies.now) field.now)) }
+    ensures alignment { IfOk result (λ f. f.alignment ≡ alignment_in (field_measure
+        (map head_of heads.now) (space_of space.entry) (measures_of bodies.now) field.now)) }
+    ensures wrong { Tells (wrong_struct_field (map head_of heads.now) (space_of space.entry)
+        (measures_of bodies.now) at field.now) result }
 {
     let base = base_in_struct(alloc, heads, space, field)?;
     let measure = measure_in_struct(bodies, base, field.left)?;
@@ -118,6 +137,12 @@ fn struct_fields(
     ensures within { IfOk result (λ l. l.end ≤ 65535) }
     ensures greatest { IfOk result (λ l. l.alignment ≡ greatest_alignment l.fields.items) }
     ensures names { IfOk result (λ l. AreDistinct (map (λ f. f.name.items) l.fields.items)) }
+    ensures end { IfOk result (λ l. l.end ≡ end_after (map head_of heads.now)
+        (space_of space.entry) (measures_of bodies.now) 0 declared.now) }
+    ensures alignment { IfOk result (λ l. l.alignment ≡ greatest_after (map head_of heads.now)
+        (space_of space.entry) (measures_of bodies.now) 1 declared.now) }
+    ensures wrong { Tells (wrong_struct_fields (map head_of heads.now) (space_of space.entry)
+        (measures_of bodies.now) 0 [] declared.now) result }
 {
     let mut fields = Vec::new(alloc);
     let mut names = Vec::new(alloc);
@@ -141,7 +166,8 @@ fn struct_fields(
 
 /// Returns the number that an attribute has.
 pub(crate) fn setting_number(attribute: &Attribute) -> Option<u64>
-    ensures { IfSome result (λ n. n ≡ literal_number (attribute_of attribute.now).value) }
+    ensures value { IfSome result (λ n. n ≡ literal_number (attribute_of attribute.now).value) }
+    ensures said { result ≡ number_in (attribute_of attribute.now).value }
 {
     match &attribute.value {
         Some(Literal::Number(digits)) => match integer(digits) {
@@ -158,6 +184,8 @@ fn alignment_of(attributes: &[Attribute], greatest: usize, left: usize) -> Resul
         (setting_lem (codes "force_align") (map attribute_of attributes.now)) greatest) }
     ensures aligned { IfOk result (λ n. is_alignment_lem n ≡ true) }
     ensures greatest { IfOk result (λ n. greatest ≤ n) }
+    ensures wrong { Tells (wrong_alignment greatest left
+        (attribute_named (codes "force_align") attributes.now)) result }
 {
     let alignment = match setting(attributes, b"force_align") {
         Some(attribute) => match setting_number(attribute) {
@@ -186,6 +214,11 @@ pub(crate) fn struct_of(
     ensures says { IfOk result (λ s. SaysStruct (map head_of heads.now) (space_of space.entry)
         (map body_in bodies.now) (record_of declared.now) s) }
     ensures sound { IfOk result (λ s. IsStruct s) }
+    ensures measure { IfOk result (λ s. record { size = s.size; alignment = s.alignment }
+        ≡ struct_measure (map head_of heads.now) (space_of space.entry) (measures_of bodies.now)
+        declared.now) }
+    ensures wrong { Tells (wrong_struct (map head_of heads.now) (space_of space.entry)
+        (measures_of bodies.now) declared.now left) result }
 {
     if declared.fields.is_empty() {
         return Err(wrong(Problem::EmptyStruct, left));

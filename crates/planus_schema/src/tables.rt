@@ -1,6 +1,7 @@
 //! Tables.
 
-ghost use Rattle.std.specs.Prelude.{◌≡◌, ◌≤◌, ◌+◌, ◌∷◌, [], ℕ, true, false, map, IfOk, Some, codes};
+ghost use Rattle.std.specs.Prelude.{◌≡◌, ◌≤◌, ◌+◌, ◌∷◌, [], ℕ, true, false, not, ◌&&◌, ◌||◌, map};
+ghost use Rattle.std.specs.Prelude.{IfOk, Some, codes};
 ghost use Rattle.std.specs.Option.{option_map};
 ghost use Rattle.std.specs.List.{list_all};
 ghost use Rattle.planus_syntax.specs.Values.{names_of, field_of, record_of, attribute_of, path_of};
@@ -15,6 +16,15 @@ ghost use Rattle.planus_schema.specs.Tables.{is_bytes as is_bytes_lem};
 ghost use Rattle.planus_schema.specs.Tables.{names_taken, all_names, SaysField, SaysTable};
 ghost use Rattle.planus_schema.specs.Tables.{IsTable, AreNamed};
 ghost use Rattle.planus_layout.specs.Slots.{Follow, width as width_lem};
+ghost use Rattle.planus_layout.specs.Slots.{slots_taken as slots_taken_lem, AreSlots};
+ghost use Rattle.planus_schema.specs.Names.{has as has_lem, is_set, table_in, attribute_named};
+ghost use Rattle.planus_schema.specs.Tables.{table_found, has_ids as has_ids_lem};
+ghost use Rattle.planus_schema.specs.Wrong.{Tells, when};
+ghost use Rattle.planus_schema.specs.WrongTables.{wrong_law, wrong_nested, wrong_field};
+ghost use Rattle.planus_schema.specs.WrongTables.{wrong_fields, wrong_table_body, are_among};
+ghost use Rattle.planus_schema.specs.WrongTables.{wrong_table_fields};
+ghost use Rattle.planus_schema.specs.WrongTables.{field_type, slots_from};
+ghost use Rattle.planus_schema.specs.WrongTables.{field_slot as field_slot_lem};
 
 use crate::attributes::{has, setting};
 use crate::defaults::default_of;
@@ -71,7 +81,9 @@ fn is_required(kind: FieldType, field: &Field) -> bool
 
 /// Checks what may be `required`, a `key` and a nested buffer.
 fn check_lawful(field: &TableField, left: usize) -> Result<(), Stop>
-    ensures { IfOk result (λ _. is_lawful_lem field.now ≡ true) }
+    ensures lawful { IfOk result (λ _. is_lawful_lem field.now ≡ true) }
+    ensures wrong { Tells (wrong_law field.now.required field.now.key (is_set field.now.nested)
+        field.now.kind left) result }
 {
     if field.required && is_number(field.kind) {
         Err(wrong(Problem::RequiredScalar, left))
@@ -102,9 +114,11 @@ fn table_named(
     text: &[u8],
     left: usize,
 ) -> Result<usize, Stop>
-    ensures { IfOk result (λ i. base_found (map head_of heads.now)
+    ensures named { IfOk result (λ i. base_found (map head_of heads.now)
         (found_lem (map head_of heads.now) (space_of space.entry) (text.now ∷ []))
         ≡ Some (Base.Table i)) }
+    ensures wrong { Tells (when (not (is_set (table_in (table_found (map head_of heads.now)
+        (space_of space.entry) (Some text.now))))) Problem.WrongNested left) result }
 {
     let path = path_of_text(alloc, text, left)?;
     match found(alloc, heads, space, &path)? {
@@ -123,8 +137,12 @@ fn nested_of(
     space: Option<&Path>,
     attributes: &[Attribute],
 ) -> Result<Option<usize>, Stop>
-    ensures { IfOk result (λ o. NestedIs (map head_of heads.now) (space_of space.entry)
+    ensures says { IfOk result (λ o. NestedIs (map head_of heads.now) (space_of space.entry)
         (setting_lem (codes "nested_flatbuffer") (map attribute_of attributes.now)) o) }
+    ensures set { IfOk result (λ o. is_set o
+        ≡ has_lem (codes "nested_flatbuffer") (map attribute_of attributes.now)) }
+    ensures wrong { Tells (wrong_nested (map head_of heads.now) (space_of space.entry)
+        (attribute_named (codes "nested_flatbuffer") attributes.now)) result }
 {
     match setting(attributes, b"nested_flatbuffer") {
         Some(attribute) => match &attribute.value {
@@ -153,6 +171,11 @@ fn table_field(
         (field_of field.now) f) }
     ensures order { ids ≡ false → IfOk result (λ f. f.slot + 1 ≡ next + width_lem f.kind) }
     ensures lawful { IfOk result (λ f. is_lawful_lem f ≡ true) }
+    ensures kind { IfOk result (λ f. f.kind ≡ field_type (map head_of heads.now)
+        (space_of space.entry) field.now) }
+    ensures slot { IfOk result (λ f. f.slot ≡ field_slot_lem f.kind ids next field.now) }
+    ensures wrong { Tells (wrong_field (map head_of heads.now) (space_of space.entry) ids next
+        field.now) result }
 {
     let kind = type_of(alloc, heads, space, &field.kind)?;
     let slot = field_slot(field, kind, ids, next)?;
@@ -182,8 +205,10 @@ fn take_names(
     names: &mut Vec<Vec<u8>>,
     field: &TableField,
 ) -> Result<bool, AllocError>
-    ensures { IfOk result (λ new. new ≡ true → AreNamed (names_of names.old.items)
+    ensures named { IfOk result (λ new. new ≡ true → AreNamed (names_of names.old.items)
         (names_taken field.now) (names_of names.new.items)) }
+    ensures new { IfOk result (λ new. new
+        ≡ not (are_among (names_of names.old.items) (names_taken field.now))) }
 {
     if is_union(field.kind) {
         let mut name = Vec::from_slice(alloc, &field.name)?;
@@ -193,6 +218,40 @@ fn take_names(
         }
     }
     take_name(alloc, names, &field.name)
+}
+
+/// Adds the names of a field, which no field before it has.
+fn add_names(
+    alloc: Global,
+    names: &mut Vec<Vec<u8>>,
+    field: &TableField,
+    left: usize,
+) -> Result<(), Stop>
+    ensures named { IfOk result (λ _. AreNamed (names_of names.old.items) (names_taken field.now)
+        (names_of names.new.items)) }
+    ensures new { IfOk result (λ _. are_among (names_of names.old.items) (names_taken field.now)
+        ≡ false) }
+    ensures wrong { Tells (when (are_among (names_of names.old.items) (names_taken field.now))
+        Problem.FieldNameTaken left) result }
+{
+    if take_names(alloc, names, field)? {
+        Ok(())
+    } else {
+        Err(wrong(Problem::FieldNameTaken, left))
+    }
+}
+
+/// Returns whether there is a `key` after a field, which there may be once.
+fn one_key(key: bool, field: &TableField, left: usize) -> Result<bool, Stop>
+    ensures key { IfOk result (λ k. k ≡ (key || field.now.key)) }
+    ensures first { IfOk result (λ _. (field.now.key && key) ≡ false) }
+    ensures wrong { Tells (when (field.now.key && key) Problem.SecondKey left) result }
+{
+    if field.key && key {
+        Err(wrong(Problem::SecondKey, left))
+    } else {
+        Ok(key || field.key)
+    }
 }
 
 fn table_fields(
@@ -207,6 +266,10 @@ fn table_fields(
     ensures order { ids ≡ false → IfOk result (λ v. (end : ℕ) × Follow 0 v.items end) }
     ensures lawful { IfOk result (λ v. list_all is_lawful_lem v.items ≡ true) }
     ensures names { IfOk result (λ v. AreDistinct (all_names v.items)) }
+    ensures slots { IfOk result (λ v. slots_taken_lem v.items ≡ slots_from (map head_of heads.now)
+        (space_of space.entry) ids 0 declared.now) }
+    ensures wrong { Tells (wrong_fields (map head_of heads.now) (space_of space.entry) ids 0 false
+        [] declared.now) result }
 {
     let mut fields = Vec::new(alloc);
     let mut names = Vec::new(alloc);
@@ -217,16 +280,36 @@ fn table_fields(
             return Err(wrong(Problem::TooManySlots, declaration.left));
         }
         let field = table_field(alloc, heads, space, declaration, ids, next)?;
-        if !take_names(alloc, &mut names, &field)? {
-            return Err(wrong(Problem::FieldNameTaken, declaration.left));
-        }
-        if field.key && key {
-            return Err(wrong(Problem::SecondKey, declaration.left));
-        }
-        key = key || field.key;
+        add_names(alloc, &mut names, &field, declaration.left)?;
+        key = one_key(key, &field, declaration.left)?;
         next += width(field.kind);
         fields.push(field)?;
     }
+    Ok(fields)
+}
+
+/// Returns what the fields of a table say.
+fn whole_fields(
+    alloc: Global,
+    heads: &Heads,
+    space: Option<&Path>,
+    declared: &[Field],
+    left: usize,
+) -> Result<Vec<TableField>, Stop>
+    ensures says { IfOk result (λ v. Each2 (SaysField (map head_of heads.now)
+        (space_of space.entry) (has_ids_lem (map field_of declared.now)))
+        (map field_of declared.now) v.items) }
+    ensures order { IfOk result (λ v. has_ids_lem (map field_of declared.now) ≡ false
+        → (end : ℕ) × Follow 0 v.items end) }
+    ensures lawful { IfOk result (λ v. list_all is_lawful_lem v.items ≡ true) }
+    ensures names { IfOk result (λ v. AreDistinct (all_names v.items)) }
+    ensures slots { IfOk result (λ v. AreSlots (slots_taken_lem v.items)) }
+    ensures wrong { Tells (wrong_table_fields (map head_of heads.now) (space_of space.entry) left
+        declared.now) result }
+{
+    let ids = has_ids(declared);
+    let fields = table_fields(alloc, heads, space, declared, ids)?;
+    check_slots(alloc, &fields, left)?;
     Ok(fields)
 }
 
@@ -241,9 +324,9 @@ pub(crate) fn table_of(
     ensures says { IfOk result (λ t. SaysTable (map head_of heads.now) (space_of space.entry)
         (record_of declared.now) t) }
     ensures sound { IfOk result (λ t. IsTable t) }
+    ensures wrong { Tells (wrong_table_body (map head_of heads.now) (space_of space.entry)
+        declared.now left) result }
 {
-    let ids = has_ids(&declared.fields);
-    let fields = table_fields(alloc, heads, space, &declared.fields, ids)?;
-    check_slots(alloc, &fields, left)?;
+    let fields = whole_fields(alloc, heads, space, &declared.fields, left)?;
     Ok(Table { fields })
 }

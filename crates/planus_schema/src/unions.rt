@@ -1,24 +1,29 @@
 //! Unions.
 
 ghost use Rattle.std.specs.Prelude.{◌≡◌, true, false, map, IfOk, IfSome, Some, nat_eq, codes, ◌∷◌};
+ghost use Rattle.std.specs.Prelude.{[]};
 ghost use Rattle.std.specs.List.{list_any, list_all, IsDistinct};
 ghost use Rattle.planus_syntax.specs.Values.{path_of, member_of, union_of as declared_of};
 ghost use Rattle.planus_schema.specs.Names.{head_of, space_of, words_of, dotted, base_named};
 ghost use Rattle.planus_schema.specs.Unions.{tag_of as tag_of_lem, target_of as target_of_lem};
 ghost use Rattle.planus_schema.specs.Unions.{SaysMember, SaysUnion, IsUnion, tags_from, tag_in};
-ghost use Rattle.planus_schema.specs.Unions.{is_tag};
+ghost use Rattle.planus_schema.specs.Unions.{is_tag, tag_said};
+ghost use Rattle.planus_schema.specs.Wrong.{Tells, wrong_table};
+ghost use Rattle.planus_schema.specs.WrongUnions.{target_path, wrong_member, wrong_members};
+ghost use Rattle.planus_schema.specs.WrongUnions.{wrong_union};
 ghost use Rattle.planus_layout.specs.Distinct.{AreDistinct, Each2};
 
 use crate::fault::{Problem, Stop, wrong};
 use crate::head::put_path;
 use crate::heads::Heads;
-use crate::kind::base_of;
-use planus_layout::{Base, Union, UnionMember, copied, integer, take_name};
+use crate::kind::table_at;
+use planus_layout::{Union, UnionMember, copied, integer, take_name};
 use planus_syntax::{Member, Path, UnionBody};
 use std::alloc::{AllocError, Global};
 
 fn target_of(member: &Member) -> &Path
-    ensures { path_of result.now ≡ target_of_lem (member_of member.now) }
+    ensures path { path_of result.now ≡ target_of_lem (member_of member.now) }
+    ensures place { result.now ≡ target_path member.now }
 {
     match &member.target {
         Some(path) => path,
@@ -30,6 +35,7 @@ fn target_of(member: &Member) -> &Path
 fn tag_of(previous: u8, member: &Member) -> Option<u8>
     ensures tag { IfSome result (λ n. n ≡ tag_of_lem previous (member_of member.now).value) }
     ensures within { IfSome result (λ n. is_tag n ≡ true) }
+    ensures said { result ≡ tag_said previous (member_of member.now).value }
 {
     let tag = match &member.value {
         Some(digits) => match integer(digits) {
@@ -53,16 +59,6 @@ fn name_of(alloc: Global, path: &Path) -> Result<Vec<u8>, AllocError>
     Ok(name)
 }
 
-fn table_of(alloc: Global, heads: &Heads, space: Option<&Path>, path: &Path) -> Result<usize, Stop>
-    ensures { IfOk result (λ i. base_named (map head_of heads.now) (space_of space.entry)
-        (path_of path.now) ≡ Some (Base.Table i)) }
-{
-    match base_of(alloc, heads, space, path)? {
-        Base::Table(index) => Ok(index),
-        _ => Err(wrong(Problem::MemberIsNoTable, path.left)),
-    }
-}
-
 fn member(
     alloc: Global,
     heads: &Heads,
@@ -73,8 +69,16 @@ fn member(
     ensures says { IfOk result (λ m. SaysMember (map head_of heads.now) (space_of space.entry)
         (member_of declared.now) m) }
     ensures tag { IfOk result (λ m. m.tag ≡ tag) }
+    ensures wrong { Tells (wrong_table Problem.MemberIsNoTable (map head_of heads.now)
+        (space_of space.entry) (target_path declared.now)) result }
 {
-    let table = table_of(alloc, heads, space, target_of(declared))?;
+    let table = table_at(
+        alloc,
+        heads,
+        space,
+        target_of(declared),
+        Problem::MemberIsNoTable,
+    )?;
     let name = name_of(alloc, &declared.path)?;
     let docs = copied(alloc, &declared.docs)?;
     Ok(UnionMember {
@@ -91,6 +95,7 @@ fn has_tag(members: &[UnionMember], tag: u8) -> bool
     members.iter().any(|member| member.tag == tag)
 }
 
+#[tactic(auto, using(crate::proofs::UnionLemmas::tags_any))]
 /// Returns the next member, whose tag no other has.
 fn next_member(
     alloc: Global,
@@ -105,6 +110,8 @@ fn next_member(
     ensures tag { IfOk result (λ m. m.tag ≡ tag_of_lem previous (member_of declared.now).value) }
     ensures within { IfOk result (λ m. is_tag m.tag ≡ true) }
     ensures new { IfOk result (λ m. list_any (λ x. nat_eq x.tag m.tag) members.now ≡ false) }
+    ensures wrong { Tells (wrong_member (map head_of heads.now) (space_of space.entry) previous
+        (map tag_in members.now) declared.now) result }
 {
     let tag = match tag_of(previous, declared) {
         Some(tag) => tag,
@@ -130,6 +137,8 @@ fn union_members(
     ensures distinct { IfOk result (λ v. IsDistinct nat_eq (map tag_in v.items)) }
     ensures names { IfOk result (λ v. AreDistinct
         (codes "NONE" ∷ map (λ m. m.name.items) v.items)) }
+    ensures wrong { Tells (wrong_members (map head_of heads.now) (space_of space.entry) 0 []
+        (codes "NONE" ∷ []) declared.now) result }
 {
     let mut members = Vec::new(alloc);
     let mut names = Vec::new(alloc);
@@ -157,6 +166,8 @@ pub(crate) fn union_of(
     ensures says { IfOk result (λ u. SaysUnion (map head_of heads.now) (space_of space.entry)
         (declared_of declared.now) u) }
     ensures sound { IfOk result (λ u. IsUnion u) }
+    ensures wrong { Tells (wrong_union (map head_of heads.now) (space_of space.entry) declared.now)
+        result }
 {
     let members = union_members(alloc, heads, space, &declared.members)?;
     Ok(Union { members })

@@ -6,8 +6,8 @@ use Rattle.planus_schema.specs.Enums.{same_number}
 use Rattle.planus_schema.proofs.EnumLemmas.{value_added}
 use Rattle.planus_schema.proofs.enums.add_value.Goals as goal
 
-pub returns : goal.returns
-returns c =
+pub returns-clause-added : goal.returns-clause-added
+returns-clause-added c =
     value_added c.args.scalar (variant_of c.args.variant.now) c.args.number
     c.args.values.now.items c.push.new.self.items _ c.in_ok-push.ensures.items
     (c.in_ok-name.ensures.items ∙ c.deref-2.ensures.value)

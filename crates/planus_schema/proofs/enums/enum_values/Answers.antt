@@ -11,12 +11,13 @@ variants-init c = let e = c.new-values.ensures.items in record {
   docs = rw e refl;
   spelled = refl;
   numbers = rw e refl;
+  wrong = rw e refl;
   within = rw e refl;
   distinct = no_values c.new-values.result.items e;
 }
 
-pub returns : goal.returns
-returns c =
+pub returns-clause-says : goal.returns-clause-says
+returns-clause-says c =
     let i = c.variants.invariant in
     let t : take c.variants.variant-index c.args.variants.now ≡ c.args.variants.now = grind (arith, common_steps) in
     let d : drop c.variants.variant-index c.args.variants.now ≡ [] = grind (arith, common_steps) in

@@ -2,11 +2,16 @@ use Rattle.std.proofs.Common.{◌≡◌, ◌++◌, map, drop}
 use Rattle.std.specs.Prelude.{None}
 use Rattle.planus_syntax.specs.Values.{schema_of}
 use Rattle.planus_schema.specs.Names.{path_in, head_of, heads_in}
+use Rattle.planus_schema.specs.Faults.{placed_of, placed_in}
 use Rattle.planus_schema.proofs.head.add_heads.Given as goal
 
 -- the heads so far and those of what is left are all
 abbrev pub invariant-declarations : goal.invariant-declarations
-invariant-declarations l =
-    map head_of l.heads.items ++ heads_in l.file (path_in l.space)
-    (schema_of (drop l.declaration-index l.declarations))
-    ≡ map head_of l.fn.heads.items ++ heads_in l.file None (schema_of l.declarations)
+invariant-declarations l = record {
+  heads : map head_of l.heads.items ++ heads_in l.file (path_in l.space)
+      (schema_of (drop l.declaration-index l.declarations))
+      ≡ map head_of l.fn.heads.items ++ heads_in l.file None (schema_of l.declarations);
+  placed : map placed_of l.heads.items ++ placed_in l.file (path_in l.space)
+      (drop l.declaration-index l.declarations)
+      ≡ map placed_of l.fn.heads.items ++ placed_in l.file None l.declarations;
+}

@@ -1,6 +1,7 @@
 use Rattle.std.proofs.Common.{◌≡◌, ◌++◌, map, drop}
 use Rattle.planus_syntax.specs.Values.{schema_of}
 use Rattle.planus_schema.specs.Names.{head_of, heads_from, heads_of}
+use Rattle.planus_schema.specs.Faults.{placed_of, placed_from}
 use Rattle.planus_schema.proofs.head.heads.Given as goal
 
 -- the heads so far and those of the files that are left are all
@@ -10,4 +11,6 @@ invariant-files l = record {
   all : map head_of l.heads.items
       ++ heads_from l.file (map (λ f. schema_of f.items) (drop l.declarations-index l.files))
       ≡ heads_of (map (λ f. schema_of f.items) l.files);
+  placed : map placed_of l.heads.items ++ placed_from l.file (drop l.declarations-index l.files)
+      ≡ placed_from 0 l.files;
 }

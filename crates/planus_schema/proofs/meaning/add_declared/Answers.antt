@@ -1,4 +1,10 @@
-use Rattle.std.proofs.Common.{subst, map}
+use Rattle.std.proofs.Common.{◌≡◌, ◌++◌, ◌∷◌, [], subst, map, ap, sym, ◌∙◌}
+use Rattle.std.specs.Prelude.{None}
+use Rattle.std.proofs.lemmas.Result.{on_ok_weaker}
+use Rattle.planus_schema.specs.Wrong.{Stops}
+use Rattle.planus_schema.specs.WrongStructs.{measures_of}
+use Rattle.planus_schema.specs.Faults.{wrong_body, sound_measure, byte_measure}
+use Rattle.planus_schema.proofs.FaultLemmas.{ok_anyway, adds_nothing, adds_told, no_fault, byte_told}
 use Rattle.planus_syntax.specs.Values.{item_of}
 use Rattle.planus_schema.specs.Names.{head_of, space_of}
 use Rattle.planus_layout.specs.Layouts.{body_in}
@@ -11,5 +17,32 @@ returns-in_ok-add_body-in-Ok-clause-says c = λ _.
     let hs = map head_of c.args.heads.now in
     let h = c.args.head.now in
     declared_by hs (head_of h) c.in-Ok.body c.args.declared.now.items c.add_body.new.declared.items
-    c.in_ok-add_body-in-Ok.ensures c.in-Ok.ensures.sound
+    c.in_ok-add_body-in-Ok.ensures.appended c.in-Ok.ensures.sound
     (subst (λ ds. SaysBody hs (space_of h.space) (map body_in ds) (item_of h.declaration.now.item) c.in-Ok.body) c.deref.ensures.value c.in-Ok.ensures.says)
+
+pub returns-in_ok-add_body-in-Ok-clause-adds : goal.returns-in_ok-add_body-in-Ok-clause-adds
+returns-in_ok-add_body-in-Ok-clause-adds c =
+    let hs = map head_of c.args.heads.now in
+    let h = c.args.head.now in
+    let n = subst (λ ds. wrong_body hs (space_of h.space) (measures_of ds) h.declaration.now.left h.declaration.now.item ≡ None) c.deref.ensures.value c.in-Ok.ensures.wrong in
+    adds_nothing c.args.faults.now.items _ c.requires (no_fault h.file _ n)
+
+pub returns-in_ok-note-in-Err-clause-measures : goal.returns-in_ok-note-in-Err-clause-measures
+returns-in_ok-note-in-Err-clause-measures c =
+    let hs = map head_of c.args.heads.now in
+    let h = c.args.head.now in
+    let old = measures_of c.args.declared.now.items in
+    let item = h.declaration.now.item in
+    let s = subst (λ ds. Stops (wrong_body hs (space_of h.space) (measures_of ds) h.declaration.now.left item) c.in-Err.stop) c.deref.ensures.value c.in-Err.ensures.wrong in
+    on_ok_weaker c.add_body-in-Err.result
+    (λ e. e ∙ ap (λ m. old ++ m ∷ []) (c.stand_in-body.ensures ∙ sym (byte_told (wrong_body hs (space_of h.space) old h.declaration.now.left item) c.in-Err.stop (sound_measure hs (space_of h.space) old item) (byte_measure item) s c.in_ok-note-in-Err.ensures.told)))
+    c.add_body-in-Err.ensures.measures
+
+pub returns-in_ok-note-in-Err-clause-adds : goal.returns-in_ok-note-in-Err-clause-adds
+returns-in_ok-note-in-Err-clause-adds c =
+    let hs = map head_of c.args.heads.now in
+    let h = c.args.head.now in
+    let s = subst (λ ds. Stops (wrong_body hs (space_of h.space) (measures_of ds) h.declaration.now.left h.declaration.now.item) c.in-Err.stop) c.deref.ensures.value c.in-Err.ensures.wrong in
+    ok_anyway c.add_body-in-Err.result _
+    (adds_told h.file _ c.in-Err.stop c.args.faults.now.items c.note.new.faults.items s
+    c.in_ok-note-in-Err.ensures.told c.in_ok-note-in-Err.ensures.adds)

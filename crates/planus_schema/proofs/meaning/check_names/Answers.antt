@@ -1,4 +1,9 @@
-use Rattle.std.proofs.Common.{◌≡◌, ◌<◌, length, get_or, refl, subst, ◌∙◌, ap, arith}
+use Rattle.std.proofs.Common.{◌≡◌, ◌<◌, ◌++◌, [], length, get_or, map, drop, refl, sym, subst, ◌∙◌, ap, arith}
+use Rattle.std.proofs.lemmas.Grind.{common_steps}
+use Rattle.planus_schema.specs.Names.{head_of}
+use Rattle.planus_schema.specs.Faults.{first_twenty, placed_of, name_faults}
+use Rattle.planus_schema.proofs.StructLemmas.{drop_next}
+use Rattle.planus_schema.proofs.FaultLemmas.{adds_none, adds_next}
 use Rattle.std.specs.Prelude.{Some}
 use Rattle.planus_layout.proofs.Lists.{distinct_none}
 use Rattle.std.specs.Str.{bytes_eq}
@@ -10,7 +15,8 @@ heads-init c = record {
   index = refl;
   distinct = λ _. distinct_none bytes_eq;
   kept = λ e. e;
-  most = λ h. h;
+  most = c.requires;
+  adds = refl;
 }
 
 pub heads-preserved : goal.heads-preserved
@@ -26,5 +32,14 @@ heads-preserved c =
       distinct = λ e. first_is_new hs n h within is (c.in_ok-check_name.ensures.first e ∙ ap Some i.index)
           (i.distinct (c.in_ok-check_name.ensures.kept e));
       kept = λ e. i.kept (c.in_ok-check_name.ensures.kept e);
-      most = λ m. c.in_ok-check_name.ensures.most (i.most m);
+      most = c.in_ok-check_name.ensures.most;
+      adds = adds_next c.heads.faults.items _ c.check_name.new.faults.items _ _ c.in_ok-check_name.ensures.adds
+          (ap (λ hs'. first_twenty (c.heads.faults.items ++ name_faults (map head_of hs) c.heads.index (map placed_of hs'))) (sym (drop_next hs n h within is)) ∙ i.adds);
     }
+
+pub returns-clause-adds : goal.returns-clause-adds
+returns-clause-adds c =
+    let i = c.heads.invariant in
+    let d : drop c.heads.head-index c.args.heads.now ≡ [] = subst (λ hs. drop c.heads.head-index hs ≡ []) c.as_slice-head-items.ensures (grind (arith, common_steps)) in
+    adds_none c.heads.faults.items i.most
+    ∙ ap (λ hs. first_twenty (c.heads.faults.items ++ name_faults (map head_of c.args.heads.now) c.heads.index (map placed_of hs))) (sym d) ∙ i.adds

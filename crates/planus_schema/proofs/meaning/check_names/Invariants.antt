@@ -1,6 +1,7 @@
-use Rattle.std.proofs.Common.{◌≡◌, ◌≤◌, [], length, map, take}
+use Rattle.std.proofs.Common.{◌≡◌, ◌≤◌, ◌++◌, [], length, map, take, drop}
 use Rattle.planus_schema.specs.Names.{head_of}
 use Rattle.planus_layout.specs.Distinct.{AreDistinct}
+use Rattle.planus_schema.specs.Faults.{first_twenty, placed_of, name_faults}
 use Rattle.planus_schema.proofs.meaning.check_names.Given as goal
 
 -- the names so far
@@ -9,5 +10,8 @@ invariant-heads l = record {
   index : l.index ≡ l.head-index;
   distinct : l.faults.items ≡ [] → AreDistinct (map (λ h. h.name) (map head_of (take l.head-index l.heads)));
   kept : l.faults.items ≡ [] → l.fn.faults.items ≡ [];
-  most : length l.fn.faults.items ≤ 20 → length l.faults.items ≤ 20;
+  most : length l.faults.items ≤ 20;
+  adds : first_twenty (l.faults.items ++ name_faults (map head_of l.heads) l.index
+      (map placed_of (drop l.head-index l.heads)))
+      ≡ first_twenty (l.fn.faults.items ++ name_faults (map head_of l.heads) 0 (map placed_of l.heads));
 }

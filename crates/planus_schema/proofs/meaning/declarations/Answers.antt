@@ -1,6 +1,10 @@
-use Rattle.std.proofs.Common.{◌≡◌, ◌<◌, length, get_or, map, take, subst, arith}
+use Rattle.std.proofs.Common.{◌≡◌, ◌<◌, ◌+◌, ◌++◌, [], length, get_or, map, take, drop, ap, sym, ◌∙◌, subst, arith}
+use Rattle.std.proofs.lemmas.Grind.{common_steps}
+use Rattle.planus_schema.specs.WrongStructs.{measures_of}
+use Rattle.planus_schema.specs.Faults.{first_twenty, placed_of, body_faults}
+use Rattle.planus_schema.proofs.FaultLemmas.{adds_none, adds_next}
 use Rattle.planus_schema.specs.Names.{head_of}
-use Rattle.planus_schema.proofs.StructLemmas.{map_next}
+use Rattle.planus_schema.proofs.StructLemmas.{map_next, drop_next}
 use Rattle.planus_schema.proofs.SchemaLemmas.{declared_push}
 use Rattle.planus_schema.proofs.meaning.declarations.Goals as goal
 
@@ -17,5 +21,15 @@ heads-preserved c =
       says = λ e. rw t (declared_push (map head_of hs) (map head_of (take n hs)) c.heads.declared.items c.add_declared.new.declared.items (head_of c.head-item.result)
           (i.says (c.in_ok-add_declared.ensures.kept e)) (c.in_ok-add_declared.ensures.says e));
       kept = λ e. i.kept (c.in_ok-add_declared.ensures.kept e);
-      most = λ h. c.in_ok-add_declared.ensures.most (i.most h);
+      most = c.in_ok-add_declared.ensures.most;
+      adds = ap (λ ms. first_twenty (c.add_declared.new.faults.items ++ body_faults (map head_of hs) ms (map placed_of (drop (n + 1) hs)))) c.in_ok-add_declared.ensures.measures
+          ∙ adds_next c.heads.faults.items _ c.add_declared.new.faults.items _ _ c.in_ok-add_declared.ensures.adds
+          (ap (λ hs'. first_twenty (c.heads.faults.items ++ body_faults (map head_of hs) (measures_of c.heads.declared.items) (map placed_of hs'))) (sym (drop_next hs n h within is)) ∙ i.adds);
     }
+
+pub returns-clause-adds : goal.returns-clause-adds
+returns-clause-adds c =
+    let i = c.heads.invariant in
+    let d : drop c.heads.head-index c.args.heads.now ≡ [] = subst (λ hs. drop c.heads.head-index hs ≡ []) c.as_slice-head-items.ensures (grind (arith, common_steps)) in
+    adds_none c.heads.faults.items i.most
+    ∙ ap (λ hs. first_twenty (c.heads.faults.items ++ body_faults (map head_of c.args.heads.now) (measures_of c.heads.declared.items) (map placed_of hs))) (sym d) ∙ i.adds

@@ -1,6 +1,7 @@
-use Rattle.std.proofs.Common.{◌≡◌, ◌≤◌, [], length, map, drop}
+use Rattle.std.proofs.Common.{◌≡◌, ◌≤◌, ◌++◌, [], length, map, drop}
 use Rattle.std.specs.Prelude.{None}
-use Rattle.planus_syntax.specs.Values.{schema_of}
+use Rattle.planus_syntax.specs.Values.{schema_of, names_of}
+use Rattle.planus_schema.specs.Faults.{first_twenty, statement_faults}
 use Rattle.planus_schema.specs.Names.{head_of, path_in}
 use Rattle.planus_schema.specs.Schemas.{said_of, after_file, IsFour}
 use Rattle.planus_schema.proofs.statements.state_file.Given as goal
@@ -14,5 +15,9 @@ invariant-declarations l = record {
   four : l.faults.items ≡ [] → IsFour (said_of l.fn.statements).identifier
       → IsFour (said_of l.statements).identifier;
   kept : l.faults.items ≡ [] → l.fn.faults.items ≡ [];
-  most : length l.fn.faults.items ≤ 20 → length l.faults.items ≤ 20;
+  most : length l.faults.items ≤ 20;
+  adds : first_twenty (l.faults.items ++ statement_faults (map head_of l.heads) (names_of l.custom)
+      l.file (path_in l.space) (drop l.declaration-index l.declarations))
+      ≡ first_twenty (l.fn.faults.items ++ statement_faults (map head_of l.heads) (names_of l.custom)
+      l.file None l.declarations);
 }

@@ -1,4 +1,5 @@
 use Rattle.std.proofs.Common.{◌++◌, ◌∷◌, [], refl, ap, sym, ◌∙◌, take, map, max, arith}
+use Rattle.std.proofs.lemmas.Grind.{common_steps}
 use Rattle.std.proofs.lemmas.List.{map_push}
 use Rattle.planus_syntax.specs.Values.{names_of, field_of}
 use Rattle.planus_layout.specs.declared.schema.StructField.{StructField}
@@ -16,6 +17,9 @@ fields-init c =
       laid = rw e refl;
       within = omega arith;
       greatest = rw e refl;
+      ends = refl;
+      aligns = refl;
+      wrong = rw n refl;
       names = rw (e, n) refl;
       distinct = no_names c.new-names.result.items n;
     }
@@ -33,6 +37,9 @@ fields-preserved c =
       laid = rw e (laid_push 0 fs c.fields.end f i.laid c.in_ok-field.ensures.placed);
       within = c.in_ok-field.ensures.within;
       greatest = c.greater-alignment.ensures ∙ ap (λ n. max n f.alignment) i.greatest ∙ sym (greatest_push fs f) ∙ ap greatest_alignment (sym e);
+      ends = grind (arith, common_steps);
+      aligns = grind (arith, common_steps);
+      wrong = grind (arith, common_steps);
       names = a.added ∙ ap (λ w. names_of c.fields.names.items ++ w ∷ []) c.deref.ensures.value
           ∙ ap (λ ns. ns ++ f.name.items ∷ []) i.names
           ∙ sym (map_push (λ (g : StructField). g.name.items) fs f) ∙ ap (map (λ (g : StructField). g.name.items)) (sym e);

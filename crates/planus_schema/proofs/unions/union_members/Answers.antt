@@ -1,4 +1,5 @@
 use Rattle.std.proofs.Common.{◌≡◌, ◌+◌, ◌++◌, ◌∷◌, [], refl, ap, sym, ◌∙◌, take, drop, map, arith}
+use Rattle.std.proofs.lemmas.Grind.{common_steps}
 use Rattle.std.specs.Prelude.{codes, nat_eq}
 use Rattle.std.specs.List.{list_any}
 use Rattle.std.proofs.lemmas.List.{map_push}
@@ -19,6 +20,7 @@ members-init c =
       within = rw e refl;
       distinct = no_tags c.new-members.result.items e;
       names = rw e n;
+      wrong = rw (e, n) refl;
       apart = one_name (names_of c.push.new.self.items) (codes "NONE") n;
     }
 
@@ -42,5 +44,6 @@ members-preserved c =
       names = a.added ∙ ap (λ w. names_of c.members.names.items ++ w ∷ []) c.deref-in-members.ensures.value
           ∙ ap (λ ns. ns ++ m.name.items ∷ []) i.names
           ∙ ap (λ ns. codes "NONE" ∷ ns) (sym (map_push (λ (x : UnionMember). x.name.items) ms m) ∙ ap (map (λ (x : UnionMember). x.name.items)) (sym e));
+      wrong = grind (arith, common_steps);
       apart = a.distinct i.apart;
     }

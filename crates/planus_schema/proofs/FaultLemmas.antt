@@ -1,0 +1,99 @@
+-- Faults that are added.
+use Rattle.std.proofs.Common.{true, subst, ◌≡◌, ℕ, zero, suc, ◌<◌, ◌≤◌, List, [], ◌∷◌, ◌++◌, length, map, take, refl, sym, ap, ◌∙◌, append_assoc, arith, length-append}
+use Rattle.std.proofs.lemmas.List.{take-append-le}
+use Rattle.std.proofs.lemmas.Grind.{common_steps}
+use Rattle.planus_schema.specs.declared.fault.Fault.{Fault}
+use Rattle.std.specs.Prelude.{Result, Ok, Err, OnOk, Option, Some, None, not, nat_eq}
+use Rattle.std.proofs.lemmas.Bool.Decides.{nat_tests}
+use Rattle.planus_layout.specs.declared.measure.Measure.{Measure}
+use Rattle.planus_schema.specs.declared.fault.Problem.{Problem}
+use Rattle.planus_schema.specs.declared.fault.Stop.{Stop}
+use Rattle.planus_schema.specs.declared.fault.Stop.TheVariants as stop
+use Rattle.planus_schema.specs.Names.{is_set, head_of, heads_of}
+use Rattle.planus_schema.specs.Wrong.{Broken, when, Stops}
+use Rattle.planus_schema.specs.Faults.{first_twenty, Adds, fault_in, broken_in, is_index, measure_or_byte, placed_of, placed_from, name_faults, body_faults, file_faults, faults_found}
+use Rattle.std.specs.Global.{Vec}
+use Rattle.planus_syntax.specs.Values.{schema_of}
+use Rattle.planus_syntax.specs.declared.value.Declaration.{Declaration}
+use Rattle.planus_schema.specs.declared.head.Head.{Head}
+use Rattle.planus_schema.specs.WrongServices.{customs_of}
+
+capped : (n : ℕ) (a b : List Fault) → take n (take n a ++ b) ≡ take n (a ++ b)
+capped zero a b = refl
+capped (suc n) [] b = refl
+capped (suc n) (x ∷ a) b = ap (λ xs. x ∷ xs) (capped n a b)
+
+few : (n : ℕ) (xs : List Fault) → length xs ≤ n → take n xs ≡ xs
+few n xs h = grind (arith, common_steps, h)
+
+cut : (n : ℕ) (xs ys : List Fault) → length xs ≡ n → take n (xs ++ ys) ≡ xs
+cut n xs ys h = take-append-le n xs ys (omega (arith, h)) ∙ few n xs (omega (arith, h))
+
+-- no fault is added
+pub adds_none : (xs : List Fault) → length xs ≤ 20 → xs ≡ first_twenty (xs ++ [])
+unfolding first_twenty
+adds_none xs h = sym (few 20 xs h) ∙ ap (take 20) (sym (append-nil' xs))
+  where
+    append-nil' : (ys : List Fault) → ys ++ [] ≡ ys
+    append-nil' ys = grind (arith, common_steps)
+
+pub adds_one : (xs : List Fault) (f : Fault) → length xs < 20 → xs ++ f ∷ [] ≡ first_twenty (xs ++ f ∷ [])
+unfolding first_twenty
+adds_one xs f h = sym (few 20 (xs ++ f ∷ []) (omega (arith, h, length-append xs (f ∷ []))))
+
+pub adds_full : (xs : List Fault) (f : Fault) → length xs ≤ 20 → 20 ≤ length xs → xs ≡ first_twenty (xs ++ f ∷ [])
+unfolding first_twenty
+adds_full xs f h k = sym (cut 20 xs (f ∷ []) (omega (arith, h, k)))
+
+-- the faults so far and those of what is left are all
+pub adds_next : (old found new rest all : List Fault) → Adds found old new → first_twenty (old ++ (found ++ rest)) ≡ all → first_twenty (new ++ rest) ≡ all
+unfolding first_twenty
+adds_next old found new rest all e h =
+    ap (λ xs. take 20 (xs ++ rest)) e ∙ capped 20 (old ++ found) rest ∙ ap (take 20) (append_assoc old found rest) ∙ h
+
+-- three times
+pub adds_thrice : (a b c : List Fault) (x y z : List Fault) → Adds a [] x → Adds b x y → Adds c y z → z ≡ first_twenty (a ++ (b ++ c))
+adds_thrice a b c x y z e f g =
+    g ∙ adds_next x b y c (first_twenty (x ++ (b ++ c))) f refl ∙ adds_next [] a x (b ++ c) (first_twenty (a ++ (b ++ c))) e refl
+
+-- ---- what is found
+
+pub told_is : (o : Option Broken) (s : Stop) → Stops o s → is_set (broken_in s) ≡ true → o ≡ broken_in s
+told_is o stop.OutOfMemory h t = absurd cc
+told_is o (stop.Wrong p l) h t = h
+
+pub adds_told : (file : ℕ) (o : Option Broken) (s : Stop) (old new : List Fault) → Stops o s → is_set (broken_in s) ≡ true → Adds (fault_in file (broken_in s)) old new → Adds (fault_in file o) old new
+adds_told file o s old new h t a = subst (λ x. Adds (fault_in file x) old new) (sym (told_is o s h t)) a
+
+pub adds_nothing : (xs found : List Fault) → length xs ≤ 20 → found ≡ [] → Adds found xs xs
+adds_nothing xs found h e = subst (λ ys. Adds ys xs xs) (sym e) (adds_none xs h)
+
+pub no_fault : (file : ℕ) (o : Option Broken) → o ≡ None → fault_in file o ≡ []
+no_fault file o e = rw e refl
+
+pub first_of_name : (file : ℕ) (o : Option ℕ) (n : ℕ) (p : Problem) (l : ℕ) → o ≡ Some n → fault_in file (when (not (is_index o n)) p l) ≡ []
+first_of_name file o n p l e = rw (e, same n) refl
+  where
+    same : (n : ℕ) → nat_eq n n ≡ true
+    same n = grind (arith, nat_tests)
+
+pub byte_told : (o : Option Broken) (s : Stop) (m b : Option Measure) → Stops o s → is_set (broken_in s) ≡ true → measure_or_byte o m b ≡ b
+byte_told o stop.OutOfMemory m b h t = absurd cc
+byte_told o (stop.Wrong p l) m b h t = rw h refl
+
+pub sound_told : (o : Option Broken) (m b : Option Measure) → o ≡ None → measure_or_byte o m b ≡ m
+sound_told o m b h = rw h refl
+
+pub ok_anyway : {T E : Type 0} (r : Result T E) (P : Type 0) → P → OnOk r P
+ok_anyway (Ok x) P p = p
+ok_anyway (Err e) P p = tt
+
+-- ---- the whole
+
+pub all_found : (files : List (Vec Declaration)) (hs : List Head) (start x y z : List Fault) → start ≡ [] → map head_of hs ≡ heads_of (map (λ f. schema_of f.items) files) → map placed_of hs ≡ placed_from 0 files → Adds (name_faults (map head_of hs) 0 (map placed_of hs)) start x → Adds (body_faults (map head_of hs) [] (map placed_of hs)) x y → Adds (file_faults (map head_of hs) (customs_of files) 0 files) y z → z ≡ faults_found files
+all_found files hs start x y z s h p a b c =
+    let names = name_faults (map head_of hs) 0 (map placed_of hs) in
+    let first = subst (λ xs. Adds names xs x) s a in
+    adds_thrice names (body_faults (map head_of hs) [] (map placed_of hs)) (file_faults (map head_of hs) (customs_of files) 0 files) x y z first b c
+    ∙ ap (λ gs. first_twenty (name_faults gs 0 (map placed_of hs) ++ (body_faults gs [] (map placed_of hs) ++ file_faults gs (customs_of files) 0 files))) h
+    ∙ ap (λ ps. first_twenty (name_faults (heads_of (map (λ f. schema_of f.items) files)) 0 ps ++ (body_faults (heads_of (map (λ f. schema_of f.items) files)) [] ps ++ file_faults (heads_of (map (λ f. schema_of f.items) files)) (customs_of files) 0 files))) p

@@ -1,0 +1,25 @@
+use Rattle.std.proofs.Common.{◌≡◌, [], map, ap, sym, subst, ◌∙◌, arith}
+use Rattle.std.proofs.lemmas.Grind.{common_steps}
+use Rattle.planus_schema.specs.Names.{head_of}
+use Rattle.planus_schema.specs.Faults.{AreInOrder, placed_of}
+use Rattle.planus_schema.proofs.FaultLemmas.{all_found}
+use Rattle.planus_schema.proofs.meaning.settle.Goals as goal
+
+pub returns-then-is_empty-clause-none : goal.returns-then-is_empty-clause-none
+returns-then-is_empty-clause-none c =
+    let list = c.in_ok-heads.ensures ∙ c.deref.ensures.value in
+    let found = all_found c.args.files.now c.in_ok-heads.heads c.new-faults.result.items _ _ c.statements.new.faults.items
+    c.new-faults.ensures.items (ap (map head_of) list ∙ c.in_ok-list.ensures.heads)
+    (ap (map placed_of) list ∙ c.in_ok-list.ensures.placed) c.in_ok-check_names.ensures.adds
+    c.in_ok-declarations.ensures.adds c.in_ok-statements.ensures.adds in
+    let none : c.statements.new.faults.items ≡ [] = grind (arith, common_steps) in
+    sym found ∙ none
+
+pub returns-clause-exact : goal.returns-clause-exact
+returns-clause-exact c =
+    let list = c.in_ok-heads.ensures ∙ c.deref.ensures.value in
+    let found = all_found c.args.files.now c.in_ok-heads.heads c.new-faults.result.items _ _ c.statements.new.faults.items
+    c.new-faults.ensures.items (ap (map head_of) list ∙ c.in_ok-list.ensures.heads)
+    (ap (map placed_of) list ∙ c.in_ok-list.ensures.placed) c.in_ok-check_names.ensures.adds
+    c.in_ok-declarations.ensures.adds c.in_ok-statements.ensures.adds in
+    subst (λ fs. AreInOrder fs c.put_in_order.new.faults.items) found c.in_ok-put_in_order.ensures.order

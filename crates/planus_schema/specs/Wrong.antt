@@ -1,0 +1,58 @@
+-- What is wrong with a part of a schema: the first rule that it breaks, and where. The parts are
+-- the trees of the syntax, since only those have places.
+use Rattle.std.specs.Prelude.{◌≡◌, ℕ, Bool, not}
+use Rattle.std.specs.Prelude.{if◌then◌else◌, List, Option, Some, None}
+use Rattle.std.specs.Prelude.{Result, Ok, Err}
+use Rattle.planus_syntax.specs.Values.{Name, path_of}
+use Rattle.planus_syntax.specs.declared.value.Path.{Path}
+use Rattle.planus_syntax.specs.declared.value.Kind.{Kind}
+use Rattle.planus_syntax.specs.declared.value.Kind.TheVariants as kind
+use Rattle.planus_schema.specs.declared.fault.Problem.{Problem}
+use Rattle.planus_schema.specs.declared.fault.Problem.TheVariants as problem
+use Rattle.planus_schema.specs.declared.fault.Stop.{Stop}
+use Rattle.planus_schema.specs.declared.fault.Stop.TheVariants as stop
+use Rattle.planus_schema.specs.Names.{HeadV, base_named, table_in, is_set}
+
+-- `left`: how many tokens there are from the word at fault to the end of its text
+pub record Broken : Type 0 where
+  pub problem : Problem
+  pub left : ℕ
+
+abbrev pub broken : Problem → ℕ → Option Broken
+broken p left = Some (record { problem = p; left = left })
+
+abbrev pub when : Bool → Problem → ℕ → Option Broken
+when b p left = if b then broken p left else None
+
+-- the first of these
+abbrev pub first : Option Broken → Option Broken → Option Broken
+first None o = o
+first (Some b) o = Some b
+
+-- why it is stopped: memory was refused, or it is this that is wrong
+abbrev pub Stops : Option Broken → Stop → Type 0
+Stops o stop.OutOfMemory = Unit {0}
+Stops o (stop.Wrong p left) = o ≡ broken p left
+
+-- it is returned if nothing is wrong, and else what is wrong, unless memory is refused
+abbrev pub Tells : {A : Type 0} → Option Broken → Result A Stop → Type 0
+Tells o (Ok x) = o ≡ None
+Tells o (Err e) = Stops o e
+
+-- ---- names of types
+
+abbrev pub wrong_base : List HeadV → List Name → Path → Option Broken
+wrong_base hs space p =
+    when (not (is_set (base_named hs space (path_of p)))) problem.UnknownType p.left
+
+abbrev pub path_in_kind : Kind → Path
+path_in_kind (kind.Single p) = p
+path_in_kind (kind.Vector p) = p
+
+abbrev pub wrong_kind : List HeadV → List Name → Kind → Option Broken
+wrong_kind hs space k = wrong_base hs space (path_in_kind k)
+
+-- a name that has to be that of a table
+abbrev pub wrong_table : Problem → List HeadV → List Name → Path → Option Broken
+wrong_table problem hs space p = first (wrong_base hs space p)
+    (when (not (is_set (table_in (base_named hs space (path_of p))))) problem p.left)

@@ -1,0 +1,55 @@
+-- What is wrong with an enum.
+use Rattle.std.specs.Prelude.{Bool, not, List, [], ◌∷◌, ◌++◌, map}
+use Rattle.std.specs.Prelude.{Option, Some, None, codes}
+use Rattle.std.specs.List.{list_any}
+use Rattle.planus_syntax.specs.Values.{Name, path_of, digits_of, attribute_of}
+use Rattle.planus_syntax.specs.declared.value.Path.{Path}
+use Rattle.planus_syntax.specs.declared.value.Variant.{Variant}
+use Rattle.planus_syntax.specs.declared.value.Enumeration.{Enumeration}
+use Rattle.planus_layout.specs.declared.number.Number.{Number}
+use Rattle.planus_layout.specs.declared.scalar.Scalar.{Scalar}
+use Rattle.planus_layout.specs.Numbers.{fits}
+use Rattle.planus_layout.specs.Distinct.{is_in}
+use Rattle.planus_schema.specs.declared.fault.Problem.TheVariants as problem
+use Rattle.planus_schema.specs.Names.{is_set, has}
+use Rattle.planus_schema.specs.Enums.{number_of, number_said, settled, settled_said, same_number}
+use Rattle.planus_schema.specs.Enums.{integer_type}
+use Rattle.planus_schema.specs.Wrong.{Broken, broken, when, first}
+
+-- the type of an enum
+abbrev pub wrong_integer : Path → Option Broken
+wrong_integer p = when (not (is_set (integer_type (path_of p)))) problem.NoIntegerType p.left
+
+-- the variants after those of these names
+abbrev pub wrong_names : List Name → List Variant → Option Broken
+wrong_names names [] = None
+wrong_names names (v ∷ vs) = first (when (is_in names v.name.items) problem.ValueNameTaken v.left)
+    (wrong_names (names ++ v.name.items ∷ []) vs)
+
+-- a variant with this value, `None` where it can't be held, after these values
+abbrev pub wrong_value : Scalar → List Number → Variant → Option Number → Option Broken
+wrong_value s values v None = broken problem.ValueOutOfRange v.left
+wrong_value s values v (Some n) = first (when (not (fits s n)) problem.ValueOutOfRange v.left)
+    (when (list_any (λ m. same_number m n) values) problem.ValueTaken v.left)
+
+abbrev pub value_said : Bool → Option Number → Option Number
+value_said flags None = None
+value_said flags (Some n) = settled_said flags n
+
+-- the variants after a number, and after these values
+abbrev pub wrong_values : Scalar → Bool → Option Number → List Number → List Variant → Option Broken
+wrong_values s flags previous values [] = None
+wrong_values s flags previous values (v ∷ vs) =
+    let n = number_of previous (digits_of v.value) in
+    first (wrong_value s values v (value_said flags (number_said previous (digits_of v.value))))
+    (wrong_values s flags (Some n) (values ++ settled flags n ∷ []) vs)
+
+abbrev pub wrong_values_in : Option Scalar → Bool → List Variant → Option Broken
+wrong_values_in None flags vs = None
+wrong_values_in (Some s) flags vs = wrong_values s flags None [] vs
+
+-- the type, then the names, then the values
+abbrev pub wrong_enum : Enumeration → Option Broken
+wrong_enum e = first (wrong_integer e.base) (first (wrong_names [] e.variants.items)
+    (wrong_values_in (integer_type (path_of e.base))
+    (has (codes "bit_flags") (map attribute_of e.attributes.items)) e.variants.items))

@@ -1,0 +1,161 @@
+-- What is wrong with a struct.
+use Rattle.std.specs.Prelude.{ℕ, ◌+◌, max, Bool, true, false, ◌&&◌, ◌||◌, not, nat_le, nat_lt}
+use Rattle.std.specs.Prelude.{codes}
+use Rattle.std.specs.Prelude.{if◌then◌else◌, List, [], ◌∷◌, ◌++◌, map, Option, Some, None}
+use Rattle.std.specs.Prelude.{slice_get}
+use Rattle.planus_syntax.specs.Values.{Name, kind_of, attribute_of}
+use Rattle.planus_syntax.specs.declared.value.Attribute.{Attribute}
+use Rattle.planus_syntax.specs.declared.value.Field.{Field}
+use Rattle.planus_syntax.specs.declared.value.Record.{Record}
+use Rattle.planus_layout.specs.declared.schema.Base.{Base}
+use Rattle.planus_layout.specs.declared.schema.Base.TheVariants as base
+use Rattle.planus_layout.specs.declared.schema.Declared.{Declared}
+use Rattle.planus_layout.specs.declared.schema.FieldType.{FieldType}
+use Rattle.planus_layout.specs.declared.measure.Measure.{Measure}
+use Rattle.planus_layout.specs.Numbers.{scalar_size}
+use Rattle.planus_layout.specs.Distinct.{is_in}
+use Rattle.planus_layout.specs.Layouts.{next_multiple, is_alignment, measure_of_body}
+use Rattle.planus_schema.specs.declared.fault.Problem.TheVariants as problem
+use Rattle.planus_schema.specs.Names.{HeadV, type_named, has, setting, is_set, attribute_named}
+use Rattle.planus_schema.specs.Structs.{number_in, alignment_said}
+use Rattle.planus_schema.specs.Tables.{at_most}
+use Rattle.planus_schema.specs.Wrong.{Broken, broken, when, first, wrong_kind}
+
+-- ---- fields
+
+-- the size and the alignment of what is declared, `None` where it can't be in a struct
+abbrev pub measured : Option (Option Measure) → Option Measure
+measured None = None
+measured (Some m) = m
+
+abbrev pub measures_of : List Declared → List (Option Measure)
+measures_of ds = map (λ d. measure_of_body (Some d.body)) ds
+
+-- how many bytes a value has, by what is measured of the declarations before
+abbrev pub measure_among : List (Option Measure) → Base → Option Measure
+measure_among ms (base.Scalar s) =
+    Some (record { size = scalar_size s; alignment = scalar_size s })
+measure_among ms base.Text = None
+measure_among ms (base.Enum i) = measured (slice_get ms i)
+measure_among ms (base.Struct i) = measured (slice_get ms i)
+measure_among ms (base.Table i) = None
+measure_among ms (base.Union i) = None
+
+abbrev pub is_declared_later : Base → Bool
+is_declared_later (base.Scalar s) = false
+is_declared_later base.Text = false
+is_declared_later (base.Enum i) = true
+is_declared_later (base.Struct i) = true
+is_declared_later (base.Table i) = false
+is_declared_later (base.Union i) = false
+
+abbrev pub has_room : Measure → Bool
+has_room m = nat_lt 0 m.alignment && nat_le m.alignment 32 && nat_le m.size 65535
+
+-- a type that has no size yet, or too large a one
+abbrev pub wrong_measure : Base → ℕ → Option Measure → Option Broken
+wrong_measure b left None =
+    broken (if is_declared_later b then problem.DeclaredLater else problem.NoStructField) left
+wrong_measure b left (Some m) = when (not (has_room m)) problem.StructTooLarge left
+
+-- where a field of this size and alignment ends
+abbrev pub end_of : ℕ → Option Measure → ℕ
+end_of at None = at
+end_of at (Some m) = next_multiple m.alignment at + m.size
+
+abbrev pub is_vector : Option FieldType → Bool
+is_vector None = false
+is_vector (Some t) = t.vector
+
+-- what a field of a struct can't have
+abbrev pub wrong_plain : List HeadV → List Name → Field → Option Broken
+wrong_plain hs space f =
+    let set = map attribute_of f.attributes.items in
+    first (when (is_set f.default) problem.DefaultInStruct f.left)
+    (first (when (has (codes "required") set || has (codes "deprecated") set)
+    problem.AttributeInStruct f.left)
+    (first (wrong_kind hs space f.kind)
+    (when (is_vector (type_named hs space (kind_of f.kind))) problem.NoStructField f.left)))
+
+abbrev pub wrong_type : List (Option Measure) → ℕ → ℕ → Option FieldType → Option Broken
+wrong_type ms at left None = None
+wrong_type ms at left (Some t) = first (wrong_measure t.base left (measure_among ms t.base))
+    (when (not (nat_le (end_of at (measure_among ms t.base)) 65535)) problem.StructTooLarge left)
+
+-- a field after byte `at`, with what is measured before it
+abbrev pub wrong_struct_field : List HeadV → List Name → List (Option Measure) → ℕ → Field
+    → Option Broken
+wrong_struct_field hs space ms at f =
+    first (wrong_plain hs space f) (wrong_type ms at f.left (type_named hs space (kind_of f.kind)))
+
+abbrev pub measure_in_type : List (Option Measure) → Option FieldType → Option Measure
+measure_in_type ms None = None
+measure_in_type ms (Some t) = measure_among ms t.base
+
+abbrev pub field_measure : List HeadV → List Name → List (Option Measure) → Field → Option Measure
+field_measure hs space ms f = measure_in_type ms (type_named hs space (kind_of f.kind))
+
+-- the fields after byte `at` and after those of these names
+abbrev pub wrong_struct_fields : List HeadV → List Name → List (Option Measure) → ℕ → List Name
+    → List Field → Option Broken
+wrong_struct_fields hs space ms at names [] = None
+wrong_struct_fields hs space ms at names (f ∷ fs) =
+    first (wrong_struct_field hs space ms at f)
+    (first (when (is_in names f.name.items) problem.FieldNameTaken f.left)
+    (wrong_struct_fields hs space ms (end_of at (field_measure hs space ms f))
+    (names ++ f.name.items ∷ []) fs))
+
+-- ---- the whole
+
+-- where the fields end
+abbrev pub end_after : List HeadV → List Name → List (Option Measure) → ℕ → List Field → ℕ
+end_after hs space ms at [] = at
+end_after hs space ms at (f ∷ fs) =
+    end_after hs space ms (end_of at (field_measure hs space ms f)) fs
+
+abbrev pub alignment_in : Option Measure → ℕ
+alignment_in None = 1
+alignment_in (Some m) = m.alignment
+
+-- the greatest alignment
+abbrev pub greatest_after : List HeadV → List Name → List (Option Measure) → ℕ → List Field → ℕ
+greatest_after hs space ms n [] = n
+greatest_after hs space ms n (f ∷ fs) =
+    greatest_after hs space ms (max n (alignment_in (field_measure hs space ms f))) fs
+
+abbrev pub is_aligned : ℕ → ℕ → Bool
+is_aligned greatest n = is_alignment n && nat_le greatest n
+
+abbrev pub wrong_forced : ℕ → ℕ → ℕ → Option ℕ → Option Broken
+wrong_forced greatest left at None = broken problem.WrongAlignment at
+wrong_forced greatest left at (Some n) =
+    when (not (is_aligned greatest n)) problem.WrongAlignment left
+
+-- `force_align`, with its own place where it is no number up to 32
+abbrev pub wrong_alignment : ℕ → ℕ → Option Attribute → Option Broken
+wrong_alignment greatest left None =
+    when (not (is_aligned greatest greatest)) problem.WrongAlignment left
+wrong_alignment greatest left (Some a) = wrong_forced greatest left a.label.left
+    (at_most 32 (number_in (attribute_of a).value))
+
+abbrev pub is_empty : List Field → Bool
+is_empty [] = true
+is_empty (f ∷ fs) = false
+
+-- its fields one by one, and then its alignment; `left` is the place of the struct
+abbrev pub wrong_struct : List HeadV → List Name → List (Option Measure) → Record → ℕ
+    → Option Broken
+wrong_struct hs space ms r left =
+    first (when (is_empty r.fields.items) problem.EmptyStruct left)
+    (first (wrong_struct_fields hs space ms 0 [] r.fields.items)
+    (wrong_alignment (greatest_after hs space ms 1 r.fields.items) left
+    (attribute_named (codes "force_align") r.attributes.items)))
+
+abbrev pub measure_laid : ℕ → ℕ → Measure
+measure_laid alignment end = record { size = next_multiple alignment end; alignment = alignment }
+
+abbrev pub struct_measure : List HeadV → List Name → List (Option Measure) → Record → Measure
+struct_measure hs space ms r =
+    measure_laid (alignment_said
+    (setting (codes "force_align") (map attribute_of r.attributes.items))
+    (greatest_after hs space ms 1 r.fields.items)) (end_after hs space ms 0 r.fields.items)
