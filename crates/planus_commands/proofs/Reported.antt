@@ -1,5 +1,5 @@
 -- Reports one after another.
-use Rattle.std.proofs.Common.{◌≡◌, ℕ, List, [], ◌∷◌, ◌++◌, refl, sym, ap, ◌∙◌}
+use Rattle.std.proofs.Common.{ℕ, List, [], ◌∷◌, ◌++◌, refl, sym, ap, ◌∙◌}
 use Rattle.std.proofs.Common.{append-nil, append_assoc}
 use Rattle.planus_syntax.specs.Values.{Name}
 use Rattle.planus_schema.specs.declared.fault.Fault.{Fault}

@@ -1,15 +1,18 @@
 -- What is said of the meaning of files.
-use Rattle.std.specs.Prelude.{◌≡◌, ℕ, ◌-◌, ◌==◌, ◌||◌, not, Bool, true, false, List, [], ◌∷◌, ◌++◌}
-use Rattle.std.specs.Prelude.{length, map, take, drop, slice_get, Option, Some, None, Ok}
+use Rattle.std.specs.Prelude.{◌≡◌, ℕ, ◌==◌, ◌||◌, not, Bool, true, false, List, [], ◌∷◌, ◌++◌}
+use Rattle.std.specs.Prelude.{map, take, drop, slice_get, Option, Some}
 use Rattle.std.specs.Prelude.{if◌then◌else◌}
 use Rattle.std.specs.List.{position_or_len}
 use Rattle.std.specs.Int.{is_in_range}
 use Rattle.std.specs.String.{string_bytes}
 use Rattle.std.specs.Io.KnownBytes.{Appends, Keeps}
-use Rattle.planus_syntax.specs.Tokens.{Piece}
-use Rattle.planus_syntax.specs.Lexing.{lex_of}
-use Rattle.planus_syntax.specs.Placing.{StandsAt}
-use Rattle.planus_syntax.specs.Values.{Name, DeclarationV}
+use Rattle.std.specs.Global.{Vec}
+use Rattle.planus_syntax.specs.Values.{Name, DeclarationV, schema_of}
+use Rattle.planus_syntax.specs.declared.value.Declaration.{Declaration}
+use Rattle.planus_schema.specs.Faults.{AreInOrder, faults_found}
+use Rattle.planus_commands.specs.declared.streams.RunError.{RunError}
+use Rattle.planus_commands.specs.declared.streams.RunError.TheVariants.{OutOfMemory, Read, Write}
+use Rattle.planus_commands.specs.Outcomes.{IsPlaceAt}
 use Rattle.planus_schema.specs.Schemas.{Means, AreFaults}
 use Rattle.planus_schema.specs.Sound.{IsSound}
 use Rattle.planus_schema.specs.declared.fault.Fault.{Fault}
@@ -34,21 +37,22 @@ word_of bytes = take (position_or_len ends_word bytes) bytes
 
 -- the report of a fault: at its word, and with its word in the message; these names are declared
 abbrev pub IsReport : List Name → File → Fault → List ℕ → Type 0
-IsReport names file fault report = (ps : List Piece) → lex_of file.text.items ≡ Ok ps
-    → (at : ℕ) × StandsAt file.text.items ps (length ps - fault.left) at
+IsReport names file fault report = (at : ℕ) × IsPlaceAt file.text.items fault.left at
     × (report ≡ report_text (string_bytes file.name) file.text.items at
     (message_text names fault.problem (word_of (unquoted (drop at file.text.items)))))
 
--- a fault in none of the files has no report
-abbrev pub IsReportIn : List Name → Option File → Fault → List ℕ → Type 0
-IsReportIn names None fault report = report ≡ []
-IsReportIn names (Some file) fault report = IsReport names file fault report
+-- the report of a fault in one of the files
+pub record IsReportIn (names : List Name) (files : List File) (fault : Fault) (report : List ℕ)
+    : Type 0 where
+  pub file : File
+  pub here : slice_get files fault.file ≡ Some file
+  pub is : IsReport names file fault report
 
 -- the report of a fault was added
 pub record IsReportAdded (names : List Name) (files : List File) (fault : Fault)
     (old new : List ℕ) : Type 0 where
   pub report : List ℕ
-  pub is : IsReportIn names (slice_get files fault.file) fault report
+  pub is : IsReportIn names files fault report
   pub added : new ≡ old ++ report
 
 -- this, and then that
@@ -63,13 +67,31 @@ pub record Joins (IsFirst AreRest : List ℕ → Type 0) (out : List ℕ) : Type
 abbrev pub AreReports : List Name → List File → List Fault → List ℕ → Type 0
 AreReports names files [] out = out ≡ []
 AreReports names files (fault ∷ faults) out =
-    Joins (IsReportIn names (slice_get files fault.file) fault) (AreReports names files faults) out
+    Joins (IsReportIn names files fault) (AreReports names files faults) out
 
--- The files mean a sound schema, and nothing is said; or from one to twenty faults are reported.
-abbrev pub ChecksFiles : List File → List (List DeclarationV) → Bool
+abbrev pub schemas_of : List (Vec Declaration) → List (List DeclarationV)
+schemas_of declarations = map (λ f. schema_of f.items) declarations
+
+-- these are the faults of the files, and there are some
+pub record AreTold (declarations : List (Vec Declaration)) (faults : List Fault) : Type 0 where
+  pub exact : AreInOrder (faults_found declarations) faults
+  pub some : AreFaults faults
+
+-- The files have no fault and mean a sound schema, and nothing is said; or their faults are
+-- reported, each in order.
+abbrev pub ChecksFiles : List File → List (Vec Declaration) → Bool
     → Option (List ℕ) → Option (List ℕ) → Type 0
-ChecksFiles files declarations true before after =
-    ((s : Schema) × Means declarations s × IsSound s) × Keeps before after
-ChecksFiles files declarations false before after = (faults : List Fault) × AreFaults faults
-    × ((out : List ℕ) × AreReports (names_of_files declarations) files faults out
+ChecksFiles files declarations true before after = (faults_found declarations ≡ [])
+    × ((s : Schema) × Means (schemas_of declarations) s × IsSound s) × Keeps before after
+ChecksFiles files declarations false before after = (faults : List Fault)
+    × AreTold declarations faults
+    × ((out : List ℕ) × AreReports (names_of_files (schemas_of declarations)) files faults out
     × Appends before after out)
+
+-- Memory was refused before anything was written; or there are faults, and writing failed.
+abbrev pub FailsChecking : List (Vec Declaration) → RunError → Option (List ℕ)
+    → Option (List ℕ) → Type 0
+FailsChecking declarations OutOfMemory before after = Keeps before after
+FailsChecking declarations Read before after = ⊥
+FailsChecking declarations Write before after =
+    (faults : List Fault) × AreTold declarations faults

@@ -11,6 +11,8 @@ use Rattle.planus_syntax.specs.Spelled.{Part, token, blank, comment, block, AreP
 use Rattle.planus_syntax.specs.Spelled.{spelled, tokens_in}
 use Rattle.planus_syntax.specs.Values.{DeclarationV, text_of}
 use Rattle.planus_syntax.specs.Parsed.{IsFaultOf, Spells}
+use Rattle.planus_commands.specs.declared.streams.RunError.{RunError}
+use Rattle.planus_commands.specs.declared.streams.RunError.TheVariants.{OutOfMemory, Read, Write}
 use Rattle.planus_commands.specs.declared.outcome.Outcome.{Outcome}
 use Rattle.planus_commands.specs.declared.outcome.Outcome.TheVariants.{Formatted, Faulty}
 use Rattle.planus_commands.specs.declared.outcome.Printed.{Printed}
@@ -54,11 +56,15 @@ IsParsed name text (parsed.Declarations ds) =
     IsUtf8 text × Spells text (schema_of ds.items) × AreWhole (schema_of ds.items)
 IsParsed name text (parsed.Faulty report) = Reports name text report.items
 
--- the report of this fault at the word from which there are `left` tokens to the end of the text
+-- the byte of the word from which there are `left` tokens to the end of the text
+abbrev pub IsPlaceAt : List ℕ → ℕ → ℕ → Type 0
+IsPlaceAt text left at =
+    (ps : List Piece) → lex_of text ≡ Ok ps → StandsAt text ps (length ps - left) at
+
+-- the report of this fault at that word
 abbrev pub ReportsAt : List ℕ → List ℕ → ℕ → List ℕ → List ℕ → Type 0
-ReportsAt name text left message report = (ps : List Piece) → lex_of text ≡ Ok ps
-    → (at : ℕ) × StandsAt text ps (length ps - left) at
-    × (report ≡ report_text name text at message)
+ReportsAt name text left message report =
+    (at : ℕ) × IsPlaceAt text left at × (report ≡ report_text name text at message)
 
 abbrev pub IsOutcome : List ℕ → List ℕ → Outcome → Type 0
 IsOutcome name text (Formatted out) = Formats text out.items
@@ -93,6 +99,13 @@ greatest_text = 16777216
 abbrev pub SaysComments : List ℕ → List ℕ → Bool → Type 0
 SaysComments text out comments = (parts : List Part) → AreParts parts → text ≡ spelled parts
     → out ≡ printed (tokens_in parts) → comments ≡ has_comment parts
+
+-- Memory was refused before anything was written, or writing failed.
+abbrev pub FailsPrinting : RunError → Option (List ℕ) → Option (List ℕ)
+    → Option (List ℕ) → Option (List ℕ) → Type 0
+FailsPrinting OutOfMemory before after unsaid said = Keeps before after × Keeps unsaid said
+FailsPrinting Read before after unsaid said = ⊥
+FailsPrinting Write before after unsaid said = Unit {0}
 
 -- The canonical text was written, and nothing was said; or nothing was written, and the first fault
 -- was reported.

@@ -1,17 +1,21 @@
 //! Whether the files of a schema mean something.
 
-ghost use Rattle.std.specs.Prelude.{◌≡◌, map, position, IfOk, OnOk};
-ghost use Rattle.planus_syntax.specs.Values.{names_of, schema_of};
-ghost use Rattle.planus_commands.specs.Checks.{AreReports, ChecksFiles, IsReport, IsReportAdded};
-ghost use Rattle.planus_commands.specs.Checks.{ends_word as ends_word_lem, unquoted as unquoted_lem};
+ghost use Rattle.std.specs.Prelude.{◌≡◌, ◌<◌, length, position, IfOk, IfErr, OnOk};
+ghost use Rattle.std.specs.List.{All};
+ghost use Rattle.planus_syntax.specs.Values.{names_of};
+ghost use Rattle.planus_commands.specs.Checks.{AreReports, ChecksFiles, FailsChecking, IsReport};
+ghost use Rattle.planus_commands.specs.Checks.{IsReportAdded};
+ghost use Rattle.planus_commands.specs.Checks.{ends_word as ends_word_lem};
+ghost use Rattle.planus_commands.specs.Checks.{unquoted as unquoted_lem};
 ghost use Rattle.planus_commands.specs.Checks.{word_of as word_lem};
 
 use crate::near::declared_names;
+use crate::placed::place_of;
 use crate::problem::message_text;
 use crate::report::report;
 use crate::streams::{RunError, write_out};
 use planus_schema::{Fault, Refusal, resolve};
-use planus_syntax::{Declaration, SchemaError, place_from_end};
+use planus_syntax::Declaration;
 use std::alloc::{AllocError, Global};
 use std::io::Write;
 
@@ -62,19 +66,13 @@ fn fault_report(
 ) -> Result<Vec<u8>, AllocError>
     ensures { IfOk result (λ out. IsReport (names_of names.now) file.now fault out.items) }
 {
-    let text = &file.text;
-    match place_from_end(alloc, text, fault.left) {
-        Ok(at) => {
-            let word = word_of(unquoted(&text[at..]));
-            let message = message_text(alloc, names, fault.problem, word)?;
-            report(alloc, file.name.as_str(), text, at, &message)
-        }
-        Err(SchemaError::OutOfMemory) => Err(AllocError),
-        Err(_) => Ok(Vec::new(alloc)),
-    }
+    let at = place_of(alloc, &file.text, fault.left)?;
+    let word = word_of(unquoted(&file.text[at..]));
+    let message = message_text(alloc, names, fault.problem, word)?;
+    report(alloc, file.name.as_str(), &file.text, at, &message)
 }
 
-/// Appends the report of a fault. A fault in none of the files has none.
+/// Appends the report of a fault.
 fn put_report(
     alloc: Global,
     out: &mut Vec<u8>,
@@ -82,17 +80,13 @@ fn put_report(
     files: &[File],
     fault: Fault,
 ) -> Result<(), AllocError>
+    requires { fault.file < length files.now }
     ensures { OnOk result (IsReportAdded (names_of names.now) files.now fault
         out.old.items out.new.items) }
 {
-    match files.get(fault.file) {
-        None => Ok(()),
-        Some(file) => {
-            let report = fault_report(alloc, names, file, fault)?;
-            out.extend_from_slice(&report)?;
-            Ok(())
-        }
-    }
+    let report = fault_report(alloc, names, &files[fault.file], fault)?;
+    out.extend_from_slice(&report)?;
+    Ok(())
 }
 
 /// Returns the reports of these faults, one after another.
@@ -102,6 +96,7 @@ fn reports(
     files: &[File],
     faults: &[Fault],
 ) -> Result<Vec<u8>, AllocError>
+    requires { All (λ f. f.file < length files.now) faults.now }
     ensures { IfOk result (λ out. AreReports (names_of names.now) files.now faults.now out.items) }
 {
     let mut out = Vec::new(alloc);
@@ -121,8 +116,10 @@ pub fn check_files<X: Write>(
     declarations: &[Vec<Declaration>],
     errors: &mut X,
 ) -> Result<bool, RunError>
-    ensures { IfOk result (λ clean. ChecksFiles files.now
-        (map (λ f. schema_of f.items) declarations.now) clean
+    requires { length files.now ≡ length declarations.now }
+    ensures checked { IfOk result (λ clean. ChecksFiles files.now declarations.now clean
+        (X.contents errors.old) (X.contents errors.new)) }
+    ensures failed { IfErr result (λ error. FailsChecking declarations.now error
         (X.contents errors.old) (X.contents errors.new)) }
 {
     match resolve(alloc, declarations) {

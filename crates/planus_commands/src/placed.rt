@@ -1,11 +1,24 @@
-//! The report of what is wrong at a word of a schema.
+//! Where a word of a schema stands, and the report of what is wrong there.
 
-ghost use Rattle.std.specs.Prelude.{IfOk};
-ghost use Rattle.planus_commands.specs.Outcomes.{ReportsAt};
+ghost use Rattle.std.specs.Prelude.{◌≤◌, length, IfOk};
+ghost use Rattle.planus_commands.specs.Outcomes.{IsPlaceAt, ReportsAt};
 
 use crate::report::report;
 use planus_syntax::{SchemaError, place_from_end};
 use std::alloc::{AllocError, Global};
+
+/// Returns the byte of the word from which there are `left` tokens to the end of the text; 0 where
+/// the text has no tokens.
+pub(crate) fn place_of(alloc: Global, text: &[u8], left: usize) -> Result<usize, AllocError>
+    ensures place { IfOk result (λ at. IsPlaceAt text.now left at) }
+    ensures within { IfOk result (λ at. at ≤ length text.now) }
+{
+    match place_from_end(alloc, text, left) {
+        Ok(at) => Ok(at),
+        Err(SchemaError::OutOfMemory) => Err(AllocError),
+        Err(_) => Ok(0),
+    }
+}
 
 /// Returns the report of a fault at the word from which there are `left` tokens to the end of the
 /// text.
@@ -18,9 +31,6 @@ pub fn placed_report(
 ) -> Result<Vec<u8>, AllocError>
     ensures { IfOk result (λ out. ReportsAt name.now text.now left message.now out.items) }
 {
-    match place_from_end(alloc, text, left) {
-        Ok(at) => report(alloc, name, text, at, message),
-        Err(SchemaError::OutOfMemory) => Err(AllocError),
-        Err(_) => report(alloc, name, text, 0, message),
-    }
+    let at = place_of(alloc, text, left)?;
+    report(alloc, name, text, at, message)
 }

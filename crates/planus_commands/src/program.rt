@@ -9,7 +9,7 @@ use crate::arguments::{Command, Request, Words, request_of};
 use crate::checking::check_files;
 use crate::rewrite::{Formatting, format_file};
 use crate::said::{CLEAN, FAILED, FAULTY, say as say_of};
-use crate::sources::{Sources, load_all};
+use crate::sources::{Sources, lists_of, load_all};
 use crate::streams::{RunError, say};
 use std::env;
 use std::env::Env;
@@ -28,7 +28,8 @@ fn check_file<R: Files + AllocGlobal, S: Read, X: Write>(
     if status != CLEAN {
         return Ok(status);
     }
-    if check_files(rt.alloc(), &sources.files, &sources.declarations, errors)? {
+    let lists = lists_of(rt.alloc(), sources.read)?;
+    if check_files(rt.alloc(), &lists.files, &lists.declarations, errors)? {
         Ok(CLEAN)
     } else {
         Ok(FAULTY)

@@ -1,5 +1,7 @@
 //! The files of a schema: each is read once, after those that it includes.
 
+ghost use Rattle.std.specs.Prelude.{◌≡◌, length, IfOk};
+
 use crate::checking::File;
 use crate::include::{file_beside, file_in};
 use crate::parsed::{Parsed, parse_or_report};
@@ -16,10 +18,23 @@ use std::rt::Files;
 /// No files include one another more deeply.
 const GREATEST_DEPTH: usize = 64;
 
-/// The names of the files that were begun; and those that were read, with what they declare.
+/// A file that was read, with what it declares.
+#[derive(Debug, Drop)]
+pub struct Source {
+    pub file: File,
+    pub declarations: Vec<Declaration>,
+}
+
+/// The names of the files that were begun, and those that were read.
 #[derive(Debug, Drop)]
 pub struct Sources {
     pub begun: Vec<Vec<u8>>,
+    pub read: Vec<Source>,
+}
+
+/// Files and what each declares, in two lists of one length.
+#[derive(Debug, Drop)]
+pub struct Lists {
     pub files: Vec<File>,
     pub declarations: Vec<Vec<Declaration>>,
 }
@@ -29,8 +44,7 @@ impl Sources {
     pub fn new(alloc: Global) -> Sources {
         Sources {
             begun: Vec::new(alloc),
-            files: Vec::new(alloc),
-            declarations: Vec::new(alloc),
+            read: Vec::new(alloc),
         }
     }
 
@@ -40,10 +54,25 @@ impl Sources {
     }
 
     fn add(&mut self, file: File, declarations: Vec<Declaration>) -> Result<(), AllocError> {
-        self.files.push(file)?;
-        self.declarations.push(declarations)?;
+        self.read.push(Source { file, declarations })?;
         Ok(())
     }
+}
+
+/// Returns the files that were read, and what each declares.
+pub fn lists_of(alloc: Global, read: Vec<Source>) -> Result<Lists, AllocError>
+    ensures { IfOk result (λ d. length d.files.items ≡ length d.declarations.items) }
+{
+    let mut files = Vec::new(alloc);
+    let mut declarations = Vec::new(alloc);
+    'read: for source in read {
+        files.push(source.file)?;
+        declarations.push(source.declarations)?;
+    }
+    Ok(Lists {
+        files,
+        declarations,
+    })
 }
 
 /// Returns the bytes of a file, or of standard input for `-`.

@@ -76,7 +76,9 @@ pub fn read_all<R: Read>(alloc: Global, reader: &mut R) -> Result<Vec<u8>, RunEr
 
 /// Writes all bytes, and hands them on.
 pub fn write_out<W: Write>(writer: &mut W, bytes: &[u8]) -> Result<(), RunError>
-    ensures { OnOk result (Appends (W.contents writer.old) (W.contents writer.new) bytes.now) }
+    ensures bytes { OnOk result (Appends (W.contents writer.old) (W.contents writer.new)
+        bytes.now) }
+    ensures error { IfErr result (λ error. error ≡ RunError.Write) }
 {
     if writer.write_all(bytes).is_err() {
         return Err(RunError::Write);

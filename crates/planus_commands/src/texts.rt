@@ -6,7 +6,7 @@ ghost use Rattle.std.specs.Io.KnownBytes.{Appends, Keeps};
 ghost use Rattle.planus_syntax.specs.Values.{AreWhole, DeclarationV};
 ghost use Rattle.planus_syntax.specs.Parsed.{LiesIn, Spells};
 ghost use Rattle.planus_commands.specs.Outcomes.{IsOutcome, IsTextOf, Reports, ReportsError};
-ghost use Rattle.planus_commands.specs.Outcomes.{Prints};
+ghost use Rattle.planus_commands.specs.Outcomes.{Prints, FailsPrinting};
 ghost use Rattle.planus_commands.specs.Outcomes.{has_comment, ink_of, is_ink as is_ink_lem};
 ghost use Rattle.planus_syntax.specs.Layout.{printed};
 ghost use Rattle.planus_syntax.specs.Spelled.{Part, AreParts, spelled, tokens_in};
@@ -98,7 +98,10 @@ pub fn format<W: Write, X: Write>(
     writer: &mut W,
     errors: &mut X,
 ) -> Result<Printed, RunError>
-    ensures { IfOk result (λ printed. Prints name.now text.now printed
+    ensures printed { IfOk result (λ printed. Prints name.now text.now printed
+        (W.contents writer.old) (W.contents writer.new)
+        (X.contents errors.old) (X.contents errors.new)) }
+    ensures failed { IfErr result (λ error. FailsPrinting error
         (W.contents writer.old) (W.contents writer.new)
         (X.contents errors.old) (X.contents errors.new)) }
 {

@@ -1,4 +1,4 @@
-use Rattle.std.proofs.Common.{rules, take, subst, sym}
+use Rattle.std.proofs.Common.{take, subst, sym}
 use Rattle.std.proofs.lemmas.List.{take_more}
 use Rattle.planus_syntax.specs.Values.{names_of}
 use Rattle.planus_commands.specs.Checks.{AreReports}
