@@ -30,7 +30,12 @@ pub fn field(alloc: Global, slot: usize, name: &str, kind: Kind) -> Result<Field
     ensures { IfOk result (λ field. field_shape field ≡ field_of slot name.now kind) }
 {
     let name = String::from_str(alloc, name)?;
-    Ok(FieldSchema { slot, name, kind })
+    Ok(FieldSchema {
+        slot,
+        name,
+        kind,
+        deprecated: false,
+    })
 }
 
 fn push_field(
@@ -98,6 +103,8 @@ pub fn schema(alloc: Global, root: usize) -> Result<Schema, AllocError>
     Ok(Schema {
         tables,
         unions,
+        enums: Vec::new(alloc),
+        structs: Vec::new(alloc),
         root,
     })
 }

@@ -1,5 +1,6 @@
 -- The laws over dumps.
-use Rattle.std.proofs.Common.{◌≡◌, ◌+◌, List, [], ◌∷◌, ◌++◌, map, refl, subst, arith, false}
+use Rattle.std.proofs.Common.{◌≡◌, ℕ, ◌+◌, List, [], ◌∷◌, ◌++◌, map, refl, sym, subst, arith, false}
+use Rattle.std.proofs.lemmas.List.{append-nil}
 use Rattle.std.specs.Prelude.{codes, String}
 use Rattle.std.specs.List.{AllByRecursion}
 use Rattle.std.specs.String.{string_bytes}
@@ -8,11 +9,11 @@ use Rattle.planus_read.specs.Bytes.{position_of}
 use Rattle.planus_read.specs.Reading.{Leads}
 use Rattle.planus_read.proofs.PieceLaws.{references_lead}
 use Rattle.planus.specs.Headline.{root_at}
-use Rattle.planus_dump.specs.FaultLines.{is_fault_line, HaveNoFault}
-use Rattle.planus_dump.specs.Events.{Event, line}
-use Rattle.planus_dump.specs.Dumped.{events_of, greatest_depth}
+use Rattle.planus_dump.specs.FaultLines.{is_fault_line, IsNoFault, HaveNoFault}
+use Rattle.planus_dump.specs.Events.{Event, line, deep, float}
+use Rattle.planus_dump.specs.Dumped.{events_of, greatest_depth, Shows, AreShown}
 use Rattle.planus_dump.specs.Laws.{FinishesHaveNoFault, DumpsHaveNoFault, piece_of}
-use Rattle.planus_dump.proofs.FaultLines.{good_names}
+use Rattle.planus_dump.proofs.FaultLines.{good_names, lines_told}
 use Rattle.planus_dump.proofs.NoFaults.{tables_no_fault}
 
 pub finishes_have_no_fault : FinishesHaveNoFault
@@ -23,14 +24,19 @@ finishes_have_no_fault switches steps given holds schema good fits =
     (subst (λ n. Leads given.bytes n (position_of given.bytes holds.leads.0)) at_zero leads) (refl, (refl, (refl, (refl, tt))))
 
 -- the lines of events without faults
-lines_no_fault : (lines : List (String Global)) (es : List Event) → es ≡ map line (map string_bytes lines) ++ [] → HaveNoFault es
-    → AllByRecursion (λ line. is_fault_line (string_bytes line) ≡ false) lines
-lines_no_fault lines es e h = by_lines lines (subst HaveNoFault e h)
-  where
-    by_lines : (lines : List (String Global)) → HaveNoFault (map line (map string_bytes lines) ++ []) → AllByRecursion (λ line. is_fault_line (string_bytes line) ≡ false) lines
-    by_lines [] h = tt
-    by_lines (one ∷ lines) h = (h.0, by_lines lines h.1)
+line_no_fault : (e : Event) (l : List ℕ) → Shows e l → IsNoFault e → is_fault_line l ≡ false
+line_no_fault (line text) l is h = subst (λ x. is_fault_line x ≡ false) (sym is) h
+line_no_fault deep l is h = absurd is
+line_no_fault (float path number) l (text, is, printed) h = subst (λ x. is_fault_line x ≡ false) (sym is) ((lines_told path h).value text)
+
+lines_no_fault : (lines : List (String Global)) (es : List Event) → AreShown es (map string_bytes lines) → HaveNoFault es → AllByRecursion (λ line. is_fault_line (string_bytes line) ≡ false) lines
+lines_no_fault [] [] is h = tt
+lines_no_fault [] (e ∷ es) is h = absurd is
+lines_no_fault (one ∷ lines) [] is h = absurd is
+lines_no_fault (one ∷ lines) (e ∷ es) is h = (line_no_fault e (string_bytes one) is.0 h.0, lines_no_fault lines es is.1 h.1)
 
 pub dumps_have_no_fault : DumpsHaveNoFault
 dumps_have_no_fault switches steps given holds schema fits budget lines dumped =
-    lines_no_fault lines.items (events_of schema (piece_of switches steps given holds)) dumped.1.0 (finishes_have_no_fault switches steps given holds schema dumped.0 fits)
+    let begin = dumped.1.0 in
+    let all : HaveNoFault (begin.front ++ []) = subst HaveNoFault begin.split (finishes_have_no_fault switches steps given holds schema dumped.0 fits) in
+    lines_no_fault lines.items begin.front begin.shown (subst HaveNoFault (append-nil begin.front) all)

@@ -7,8 +7,9 @@ use Rattle.std.proofs.lemmas.Bool.Decides.{nat_tests}
 use Rattle.std.specs.String.{string_bytes}
 use Rattle.planus_dump.specs.Lines.{field_path, item_path}
 use Rattle.planus_dump.specs.FaultLines.{is_fault_line, begins_with, HasNoSpace}
+use Rattle.planus_dump.specs.Events.{field_label}
 use Rattle.planus_dump.specs.Laws.{FaultLinesAreTold, PathsHaveNoSpace}
-use Rattle.planus_dump.specs.Schemas.{is_name, is_name_byte, is_good, table_fits, field_fits, union_fits, table_count, union_count}
+use Rattle.planus_dump.specs.Schemas.{is_name, is_name_byte, is_good, table_fits, field_fits, union_fits, table_count, union_count, fixed_values_fit}
 use Rattle.planus_dump.specs.declared.schemas.Schema.{Schema}
 use Rattle.planus_dump.specs.declared.schemas.TableSchema.{TableSchema}
 use Rattle.planus_dump.specs.declared.schemas.FieldSchema.{FieldSchema}
@@ -31,6 +32,7 @@ lines_told path h = record {
   list = λ count. behind_path path (codes ": list " ++ decimal count) h;
   union = λ tag. behind_path path (codes ": union " ++ decimal tag) h;
   unions = λ count. behind_path path (codes ": unions " ++ decimal count) h;
+  structs = λ name. behind_path path (codes ": struct " ++ name) h;
 }
 
 -- digits are no spaces
@@ -101,19 +103,39 @@ no_space_in_paths = record {
 
 -- the names of a table's fields have no spaces
 abbrev pub HasNames : TableSchema → Type 0
-HasNames shape = AllByRecursion (λ field. HasNoSpace (string_bytes field.name)) shape.fields.items
+HasNames shape = AllByRecursion (λ field. HasNoSpace (field_label field)) shape.fields.items
+
+label_no_space : (field : FieldSchema) → HasNoSpace (string_bytes field.name) → HasNoSpace (field_label field)
+label_no_space field h = by_test field.deprecated
+  where
+    by_test : (deprecated : Bool) → HasNoSpace (if deprecated then string_bytes field.name ++ codes "(deprecated)" else string_bytes field.name)
+    by_test true = all_append (λ byte. (byte == 32) ≡ false) (string_bytes field.name) (codes "(deprecated)") h (refl, (refl, (refl, (refl, (refl, (refl, (refl, (refl, (refl, (refl, (refl, (refl, tt))))))))))))
+    by_test false = h
+
+-- the parts of a good schema
+pub record GoodParts (schema : Schema) : Type 0 where
+  pub root : nat_lt schema.root (table_count schema) ≡ true
+  pub tables : list_all (table_fits (table_count schema) (union_count schema)) schema.tables.items ≡ true
+  pub unions : list_all (union_fits (table_count schema)) schema.unions.items ≡ true
+  pub fixed : fixed_values_fit (length schema.enums.items) (length schema.structs.items) schema ≡ true
+
+pub good_parts : (schema : Schema) → is_good schema ≡ true → GoodParts schema
+good_parts schema e =
+    let root = nat_lt schema.root (table_count schema) in
+    let tables = list_all (table_fits (table_count schema) (union_count schema)) schema.tables.items in
+    let unions = list_all (union_fits (table_count schema)) schema.unions.items in
+    let all = both_true (root && tables && unions) (fixed_values_fit (length schema.enums.items) (length schema.structs.items) schema) e in
+    let most = both_true (root && tables) unions all.0 in
+    let first = both_true root tables most.0 in
+    record { root = first.0; tables = first.1; unions = most.1; fixed = all.1 }
 
 pub good_names : (schema : Schema) → is_good schema ≡ true → AllByRecursion HasNames schema.tables.items
 good_names schema e =
-    let tables = table_count schema in let unions = union_count schema in
-    let outer : ((nat_lt schema.root tables && list_all (table_fits tables unions) schema.tables.items) ≡ true) × (list_all (union_fits tables) schema.unions.items ≡ true)
-    = both_true (nat_lt schema.root tables && list_all (table_fits tables unions) schema.tables.items) (list_all (union_fits tables) schema.unions.items) e in
-    let inner : (nat_lt schema.root tables ≡ true) × (list_all (table_fits tables unions) schema.tables.items ≡ true) = both_true (nat_lt schema.root tables) (list_all (table_fits tables unions) schema.tables.items) outer.0 in
-    all_true (table_fits tables unions) HasNames (names tables unions) schema.tables.items inner.1
+    all_true (table_fits (table_count schema) (union_count schema)) HasNames (names (table_count schema) (union_count schema)) schema.tables.items (good_parts schema e).tables
   where
-    field_named : (tables unions : ℕ) (field : FieldSchema) → field_fits tables unions field ≡ true → HasNoSpace (string_bytes field.name)
-    field_named tables unions field h = name_no_space (string_bytes field.name) (both_true (is_name (string_bytes field.name)) _ h).0
+    field_named : (tables unions : ℕ) (field : FieldSchema) → field_fits tables unions field ≡ true → HasNoSpace (field_label field)
+    field_named tables unions field h = label_no_space field (name_no_space (string_bytes field.name) (both_true (is_name (string_bytes field.name)) _ h).0)
 
     names : (tables unions : ℕ) (shape : TableSchema) → table_fits tables unions shape ≡ true → HasNames shape
-    names tables unions shape h = all_true (field_fits tables unions) (λ field. HasNoSpace (string_bytes field.name)) (field_named tables unions) shape.fields.items
+    names tables unions shape h = all_true (field_fits tables unions) (λ field. HasNoSpace (field_label field)) (field_named tables unions) shape.fields.items
         (both_true (is_name (string_bytes shape.name)) (list_all (field_fits tables unions) shape.fields.items) h).1

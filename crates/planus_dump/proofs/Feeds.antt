@@ -1,21 +1,26 @@
 -- How events are fed one after another, and what comes of it.
-use Rattle.std.proofs.Common.{◌≡◌, ◌≢◌, ℕ, zero, suc, ◌+◌, ◌-◌, ◌*◌, ◌<◌, ◌≤◌, List, [], ◌∷◌, ◌++◌, map, length, drop, get_or, Option, Some, None, slice_get, refl, sym, ap, ◌∙◌, subst, arith, length-append, Bool, true, false, ◌==◌}
+use Rattle.std.proofs.Common.{◌≡◌, ◌≢◌, ℕ, zero, suc, ◌+◌, ◌-◌, ◌*◌, ◌<◌, ◌≤◌, List, [], ◌∷◌, ◌++◌, map, length, drop, get_or, Option, Some, None, slice_get, refl, sym, ap, ◌∙◌, subst, arith, length-append, Bool, true, false, ◌==◌, inr}
 use Rattle.std.specs.Prelude.{if◌then◌else◌, slice_index}
-use Rattle.std.specs.Prelude.{Vec}
+use Rattle.std.specs.Prelude.{Vec, String, codes}
+use Rattle.std.specs.Fmt.{decimal}
+use Rattle.std.specs.List.{AllByRecursion}
 use Rattle.std.specs.declared.alloc.Global.{Global}
 use Rattle.planus_read.specs.declared.errors.ErrorKind.TheVariants.{UnknownUnionTag}
 use Rattle.planus_dump.specs.Tests.{fault_text}
 use Rattle.std.specs.String.{string_bytes}
 use Rattle.std.proofs.lemmas.List.{append_assoc, append-nil, drop_more, length-map}
 use Rattle.std.proofs.lemmas.Bool.{eqb-true, eqb-false}
-use Rattle.planus_dump.specs.Lines.{item_path, field_path}
+use Rattle.planus_dump.specs.Lines.{item_path, field_path, value_line}
 use Rattle.planus_dump.specs.Answers.{Seen, SeenUnions}
-use Rattle.planus_dump.specs.Events.{variant_of, variant_events, fault_event, Event, line, deep, events, TableEvents, shape_events, fields_events, kind_events, item_events, items_events, union_events, union_items_events, stride_of}
+use Rattle.planus_dump.specs.Events.{variant_of, variant_events, fault_event, Event, line, deep, float, field_label, events, TableEvents, shape_events, fields_events, kind_events, item_events, items_events, union_events, union_items_events, stride_of}
 use Rattle.planus_dump.specs.Seeing.{IsFound, found_events, IsUnionIn}
 use Rattle.planus_read.specs.declared.place.TaggedPlace.{TaggedPlace}
 use Rattle.planus_read.specs.Places.{place_bytes, place_offset, tagged_tag, tagged_place}
 use Rattle.planus_dump.specs.declared.readings.Found.{Found}
-use Rattle.planus_dump.specs.inner.Shown.{begin, shown, Shown, step_at, step, feed}
+use Rattle.planus_dump.specs.inner.Shown.{begin, shown, event_of, Shown, added, step_at, step, feed}
+use Rattle.planus_dump.specs.Dumped.{Shows, AreShown, Begin}
+use Rattle.planus_dump.specs.Floats.{number_of}
+use Rattle.planus_dump.specs.declared.line.Bits.{Bits}
 use Rattle.planus_dump.specs.declared.line_sink.Stop.{Stop}
 use Rattle.planus_dump.specs.declared.line_sink.LineSink.{LineSink}
 use Rattle.planus_dump.specs.declared.line_sink.Stop.TheVariants.{Going, TooDeep, TooMany}
@@ -63,7 +68,7 @@ fed_on s t xs ys all done split fed whole = ap (λ u. feed u ys) fed ∙ sym (fe
 
 -- the first of some fields, and then the others
 fields-split : (E : TableEvents) (schema : Schema) (table : Seen) (path : List ℕ) (fields : List FieldSchema) (i : ℕ) (field : FieldSchema) → i < length fields
-    → fields_events E schema table path (drop i fields) ≡ kind_events E schema (get_or fields i field).kind (get_or fields i field).slot table (field_path path (string_bytes (get_or fields i field).name)) ++ fields_events E schema table path (drop (i + 1) fields)
+    → fields_events E schema table path (drop i fields) ≡ kind_events E schema (get_or fields i field).kind (get_or fields i field).slot table (field_path path (field_label (get_or fields i field))) ++ fields_events E schema table path (drop (i + 1) fields)
 fields-split E schema table path fields i field h = ap (fields_events E schema table path) (drop_more fields i field h)
 
 pub fields-none : (E : TableEvents) (schema : Schema) (table : Seen) (path : List ℕ) (fields : List FieldSchema) (i : ℕ) → length fields ≤ i → fields_events E schema table path (drop i fields) ≡ []
@@ -75,13 +80,13 @@ fields-none E schema table path (field ∷ fields) (suc i) h = fields-none E sch
 -- a field was walked
 pub field_fed : (E : TableEvents) (schema : Schema) (table : Seen) (path : List ℕ) (fields : List FieldSchema) (i : ℕ) (field : FieldSchema) (s t done : Shown) → i < length fields
     → field ≡ get_or fields i field
-    → t ≡ feed s (kind_events E schema field.kind field.slot table (field_path path (string_bytes field.name)))
+    → t ≡ feed s (kind_events E schema field.kind field.slot table (field_path path (field_label field)))
     → feed s (fields_events E schema table path (drop i fields)) ≡ done
     → feed t (fields_events E schema table path (drop (i + 1) fields)) ≡ done
 field_fed E schema table path fields i field s t done h is fed whole =
-    let first : List Event = kind_events E schema (get_or fields i field).kind (get_or fields i field).slot table (field_path path (string_bytes (get_or fields i field).name)) in
+    let first : List Event = kind_events E schema (get_or fields i field).kind (get_or fields i field).slot table (field_path path (field_label (get_or fields i field))) in
     fed_on s t first (fields_events E schema table path (drop (i + 1) fields)) (fields_events E schema table path (drop i fields)) done (fields-split E schema table path fields i field h)
-    (fed ∙ ap (λ (x : FieldSchema). feed s (kind_events E schema x.kind x.slot table (field_path path (string_bytes x.name)))) is) whole
+    (fed ∙ ap (λ (x : FieldSchema). feed s (kind_events E schema x.kind x.slot table (field_path path (field_label x)))) is) whole
 
 items-split : (E : TableEvents) (item : Item) (S path : List ℕ) (n i : ℕ) → 0 < n
     → items_events E item S path n i ≡ item_events E item S (i * stride_of item) (item_path path i) ++ items_events E item S path (n - 1) (i + 1)
@@ -146,11 +151,15 @@ pub union_items-none : (E : TableEvents) (schema : Schema) (index : ℕ) (items 
 union_items-none E schema index items path zero i h = refl
 union_items-none E schema index items path (suc n) i h = absurd (omega (arith, h))
 
--- what comes of some events behind the lines so far: their lines, or what stopped the walk
-abbrev pub Answered : List (List ℕ) → List Event → ℕ → List (List ℕ) → Stop → Type 0
-Answered ls es budget lines Going = (new : List (List ℕ)) × (es ≡ map line new ++ []) × (lines ≡ ls ++ new) × (length (ls ++ new) ≤ budget)
-Answered ls es budget lines TooDeep = (new : List (List ℕ)) × (rest : List Event) × (es ≡ map line new ++ deep ∷ rest) × (length (ls ++ new) ≤ budget)
-Answered ls es budget lines TooMany = (new : List (List ℕ)) × (l : List ℕ) × (rest : List Event) × (es ≡ map line new ++ line l ∷ rest) × (length (ls ++ new) ≡ budget)
+-- events that have lines
+abbrev pub AreLines : List Event → Type 0
+AreLines es = AllByRecursion (λ e. e ≢ deep) es
+
+-- what comes of some events behind those so far: their lines, or what stopped the walk
+abbrev pub Answered : List Event → List Event → ℕ → List Event → Stop → Type 0
+Answered ls es budget lines Going = (new : List Event) × (es ≡ new ++ []) × AreLines new × (lines ≡ ls ++ new) × (length (ls ++ new) ≤ budget)
+Answered ls es budget lines TooDeep = (new : List Event) × (rest : List Event) × (es ≡ new ++ deep ∷ rest) × AreLines new × (length (ls ++ new) ≤ budget)
+Answered ls es budget lines TooMany = (new : List Event) × (l : Event) × (rest : List Event) × (es ≡ new ++ l ∷ rest) × AreLines new × (l ≢ deep) × (length (ls ++ new) ≡ budget)
 
 deep_stops : TooDeep ≢ Going
 deep_stops e = cc
@@ -158,39 +167,96 @@ deep_stops e = cc
 many_stops : TooMany ≢ Going
 many_stops e = cc
 
-shift : (ls : List (List ℕ)) (l : List ℕ) (es : List Event) (budget : ℕ) (lines : List (List ℕ)) (t : Stop) → Answered (ls ++ l ∷ []) es budget lines t → Answered ls (line l ∷ es) budget lines t
-shift ls l es budget lines Going (new, e, f, le) = (l ∷ new, ap (λ z. line l ∷ z) e, f ∙ append_assoc ls (l ∷ []) new, subst (λ z. length z ≤ budget) (append_assoc ls (l ∷ []) new) le)
-shift ls l es budget lines TooDeep (new, rest, e, le) = (l ∷ new, rest, ap (λ z. line l ∷ z) e, subst (λ z. length z ≤ budget) (append_assoc ls (l ∷ []) new) le)
-shift ls l es budget lines TooMany (new, m, rest, e, is) = (l ∷ new, m, rest, ap (λ z. line l ∷ z) e, subst (λ z. length z ≡ budget) (append_assoc ls (l ∷ []) new) is)
+shift : (ls : List Event) (l : Event) (es : List Event) (budget : ℕ) (lines : List Event) (t : Stop) → l ≢ deep → Answered (ls ++ l ∷ []) es budget lines t → Answered ls (l ∷ es) budget lines t
+shift ls l es budget lines Going is (new, e, all, f, le) = (l ∷ new, ap (λ z. l ∷ z) e, (is, all), f ∙ append_assoc ls (l ∷ []) new, subst (λ z. length z ≤ budget) (append_assoc ls (l ∷ []) new) le)
+shift ls l es budget lines TooDeep is (new, rest, e, all, le) = (l ∷ new, rest, ap (λ z. l ∷ z) e, (is, all), subst (λ z. length z ≤ budget) (append_assoc ls (l ∷ []) new) le)
+shift ls l es budget lines TooMany is (new, m, rest, e, all, other, n) = (l ∷ new, m, rest, ap (λ z. l ∷ z) e, (is, all), other, subst (λ z. length z ≡ budget) (append_assoc ls (l ∷ []) new) n)
 
-abbrev here : List (List ℕ) → ℕ → Stop → Shown
+abbrev here : List Event → ℕ → Stop → Shown
 here ls budget stop = record { lines = ls; budget = budget; stop = stop }
 
-abbrev After : List (List ℕ) → List Event → ℕ → Shown → Type 0
+abbrev After : List Event → List Event → ℕ → Shown → Type 0
 After ls es budget r = Answered ls es budget r.lines r.stop
 
-pub answered : (es : List Event) (ls : List (List ℕ)) (budget : ℕ) → length ls ≤ budget → Answered ls es budget (feed (here ls budget Going) es).lines (feed (here ls budget Going) es).stop
-answered [] ls budget h = ([], refl, sym (append-nil ls), subst (λ z. length z ≤ budget) (sym (append-nil ls)) h)
-answered (deep ∷ es) ls budget h =
-    subst (After ls (deep ∷ es) budget) (sym (feed-stopped (here ls budget TooDeep) es deep_stops)) ([], es, refl, subst (λ z. length z ≤ budget) (sym (append-nil ls)) h)
-answered (line l ∷ es) ls budget h =
-    let by_test : (b : Bool) → (length ls == budget) ≡ b → After ls (line l ∷ es) budget (feed (if b then here ls budget TooMany else here (ls ++ l ∷ []) budget Going) es) = λ b. elim b as (λ b. (length ls == budget) ≡ b → After ls (line l ∷ es) budget (feed (if b then here ls budget TooMany else here (ls ++ l ∷ []) budget Going) es)) [
-      | true ↦ λ e. (let is : length ls ≡ budget = eqb-true (length ls) budget e in
-          subst (After ls (line l ∷ es) budget) (sym (feed-stopped (here ls budget TooMany) es many_stops)) ([], l, es, refl, subst (λ z. length z ≡ budget) (sym (append-nil ls)) is))
+-- a line comes next
+answered_line : (l : Event) (es ls : List Event) (budget : ℕ) → l ≢ deep → length ls ≤ budget
+    → (length (ls ++ l ∷ []) ≤ budget → After (ls ++ l ∷ []) es budget (feed (here (ls ++ l ∷ []) budget Going) es))
+    → After ls (l ∷ es) budget (feed (added (here ls budget Going) l) es)
+answered_line l es ls budget is h rest =
+    let by_test : (b : Bool) → (length ls == budget) ≡ b → After ls (l ∷ es) budget (feed (if b then here ls budget TooMany else here (ls ++ l ∷ []) budget Going) es) = λ b. elim b as (λ b. (length ls == budget) ≡ b → After ls (l ∷ es) budget (feed (if b then here ls budget TooMany else here (ls ++ l ∷ []) budget Going) es)) [
+      | true ↦ λ e. (let same : length ls ≡ budget = eqb-true (length ls) budget e in
+          subst (After ls (l ∷ es) budget) (sym (feed-stopped (here ls budget TooMany) es many_stops)) ([], l, es, refl, tt, is, subst (λ z. length z ≡ budget) (sym (append-nil ls)) same))
       | false ↦ λ e. (let ne : length ls ≢ budget = eqb-false (length ls) budget e in
-          (let r = feed (here (ls ++ l ∷ []) budget Going) es in shift ls l es budget r.lines r.stop (answered es (ls ++ l ∷ []) budget (omega (arith, h, ne, length-append ls (l ∷ []))))))
+          (let r = feed (here (ls ++ l ∷ []) budget Going) es in shift ls l es budget r.lines r.stop is (rest (omega (arith, h, ne, length-append ls (l ∷ []))))))
     ] in by_test (length ls == budget) refl
 
+line_is : (l : List ℕ) → line l ≢ deep
+line_is l e = cc
+
+float_is : (path : List ℕ) (number : Bits) → float path number ≢ deep
+float_is path number e = cc
+
+pub answered : (es : List Event) (ls : List Event) (budget : ℕ) → length ls ≤ budget → Answered ls es budget (feed (here ls budget Going) es).lines (feed (here ls budget Going) es).stop
+answered [] ls budget h = ([], refl, tt, sym (append-nil ls), subst (λ z. length z ≤ budget) (sym (append-nil ls)) h)
+answered (deep ∷ es) ls budget h =
+    subst (After ls (deep ∷ es) budget) (sym (feed-stopped (here ls budget TooDeep) es deep_stops)) ([], es, refl, tt, subst (λ z. length z ≤ budget) (sym (append-nil ls)) h)
+answered (line l ∷ es) ls budget h = answered_line (line l) es ls budget (line_is l) h (λ more. answered es (ls ++ line l ∷ []) budget more)
+answered (float path number ∷ es) ls budget h = answered_line (float path number) es ls budget (float_is path number) h (λ more. answered es (ls ++ float path number ∷ []) budget more)
+
 -- what a walk from no lines leaves
-pub walked : (es : List Event) (budget : ℕ) (out : LineSink) (stop : Stop) → shown out ≡ feed (begin budget) es → out.stop ≡ stop → Answered [] es budget (map string_bytes out.lines.items) stop
+pub walked : (es : List Event) (budget : ℕ) (out : LineSink) (stop : Stop) → shown out ≡ feed (begin budget) es → out.stop ≡ stop → Answered [] es budget (map event_of out.lines.items) stop
 walked es budget out stop fed is =
     let whole : After [] es budget (shown out) = subst (After [] es budget) (sym fed) (answered es [] budget (omega arith)) in
-    subst (Answered [] es budget (map string_bytes out.lines.items)) is whole
+    subst (Answered [] es budget (map event_of out.lines.items)) is whole
+
+-- a line of an event; a float by the number of its bits
+abbrev pub some_line : Event → List ℕ
+some_line (line l) = l
+some_line deep = []
+some_line (float path number) = value_line path (codes "bits " ++ decimal (number_of number))
+
+some_line_shows : (e : Event) → e ≢ deep → Shows e (some_line e)
+some_line_shows (line l) h = refl
+some_line_shows deep h = absurd (h refl)
+some_line_shows (float path number) h = (codes "bits " ++ decimal (number_of number), refl, inr (inr refl))
+
+-- events that have lines have these
+pub some_lines_shown : (es : List Event) → AreLines es → AreShown es (map some_line es)
+some_lines_shown [] h = tt
+some_lines_shown (e ∷ es) h = (some_line_shows e h.0, some_lines_shown es h.1)
+
+-- the first events have such lines
+pub begins : (es new rest : List Event) → es ≡ new ++ rest → AreLines new → Begin es (map some_line new) rest
+begins es new rest e all = record { front = new; split = e; shown = some_lines_shown new all }
+
+-- one more line
+pub one_more_shown : {X Y : Type 0} (event : X → Event) (text : Y → List ℕ) (xs : List X) (ys : List Y) (x : X) (y : Y) → AreShown (map event xs) (map text ys) → Shows (event x) (text y)
+    → AreShown (map event (xs ++ x ∷ [])) (map text (ys ++ y ∷ []))
+one_more_shown event text [] [] x y all one = (one, tt)
+one_more_shown event text [] (other ∷ ys) x y all one = absurd all
+one_more_shown event text (other ∷ xs) [] x y all one = absurd all
+one_more_shown event text (other ∷ xs) (another ∷ ys) x y all one = (all.0, one_more_shown event text xs ys x y all.1 one)
+
+pub shown_length : (es : List Event) (lines : List (List ℕ)) → AreShown es lines → length lines ≡ length es
+shown_length [] [] h = refl
+shown_length [] (l ∷ lines) h = absurd h
+shown_length (e ∷ es) [] h = absurd h
+shown_length (e ∷ es) (l ∷ lines) h = ap suc (shown_length es lines h.1)
 
 -- the lines, where the walk wasn't stopped
-pub all_lines : (es : List Event) (budget : ℕ) (out : LineSink) → Answered [] es budget (map string_bytes out.lines.items) Going → (es ≡ map line (map string_bytes out.lines.items) ++ []) × (length out.lines.items ≤ budget)
-all_lines es budget out (new, e, is, le) =
-    (e ∙ ap (λ ls. map line ls ++ []) (sym is), subst (λ n. n ≤ budget) (length-map out.lines.items string_bytes) (subst (λ ls. length ls ≤ budget) (sym is) le))
+pub all_lines : (es : List Event) (budget : ℕ) (lines : List Event) (texts : List (String Global)) → Answered [] es budget lines Going → AreShown lines (map string_bytes texts)
+    → Begin es (map string_bytes texts) [] × (length texts ≤ budget)
+all_lines es budget lines texts (new, e, all, is, le) shows =
+    let same : length texts ≡ length lines = sym (length-map texts string_bytes) ∙ shown_length lines (map string_bytes texts) shows in
+    (record { front = lines; split = e ∙ ap (λ ls. ls ++ []) (sym is); shown = shows }, subst (λ n. n ≤ budget) (ap length (sym is) ∙ sym same) le)
+
+pub too_deep : (es : List Event) (budget : ℕ) (lines : List Event) → Answered [] es budget lines TooDeep
+    → (lines : List (List ℕ)) × (rest : List Event) × Begin es lines (deep ∷ rest) × (length lines ≤ budget)
+too_deep es budget lines (new, rest, e, all, le) = (map some_line new, rest, begins es new (deep ∷ rest) e all, subst (λ n. n ≤ budget) (sym (length-map new some_line)) le)
+
+pub too_many : (es : List Event) (budget : ℕ) (lines : List Event) → Answered [] es budget lines TooMany
+    → (lines : List (List ℕ)) × (next : Event) × (rest : List Event) × Begin es lines (next ∷ rest) × (next ≢ deep) × (length lines ≡ budget)
+too_many es budget lines (new, l, rest, e, all, is, n) = (map some_line new, l, rest, begins es new (l ∷ rest) e all, is, length-map new some_line ∙ n)
 
 -- a union whose variants don't have its tag
 pub union_unknown : (E : TableEvents) (o : Option (Vec (ℕ × ℕ) Global)) (variants : Vec (ℕ × ℕ) Global) (tag : ℕ) (S : List ℕ) (f : ℕ) (path : List ℕ) → o ≡ Some variants → variant_of variants.items tag ≡ None

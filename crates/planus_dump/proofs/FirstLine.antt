@@ -6,16 +6,19 @@ use Rattle.std.specs.String.{string_bytes}
 use Rattle.std.proofs.lemmas.Bool.Decides.{nat_tests}
 use Rattle.planus_dump.specs.Answers.{Seen, table_at}
 use Rattle.planus_dump.specs.Dumped.{events_of}
-use Rattle.planus_dump.specs.Events.{Event, line, TableEvents, events, fields_events, shape_events, table_events}
+use Rattle.planus_dump.specs.Events.{Event, line, deep, TableEvents, events, fields_events, shape_events, table_events}
 use Rattle.planus_dump.specs.Lines.{fault_line, table_line}
-use Rattle.planus_dump.specs.Schemas.{is_good, table_count, union_count, table_fits, union_fits}
+use Rattle.planus_dump.specs.Schemas.{is_good, table_count}
 use Rattle.planus_dump.specs.declared.schemas.Schema.{Schema}
 use Rattle.planus_dump.specs.declared.schemas.TableSchema.{TableSchema}
-use Rattle.planus_dump.proofs.FaultLines.{both_true}
+use Rattle.planus_dump.proofs.FaultLines.{good_parts}
 use Rattle.planus_dump.proofs.Feeds.{events-more}
 
 abbrev pub BeginsWithLine : List Event → Type 0
-BeginsWithLine es = (next : List ℕ) × (rest : List Event) × (es ≡ line next ∷ rest)
+BeginsWithLine es = (next : Event) × (rest : List Event) × (es ≡ next ∷ rest) × (next ≢ deep)
+
+line_is : (l : List ℕ) → line l ≢ deep
+line_is l e = cc
 
 table_there : (tables : List TableSchema) (n : ℕ) → n < length tables → (table : TableSchema) × (slice_get tables n ≡ Some table)
 table_there [] n h = absurd (omega (arith, h))
@@ -23,16 +26,11 @@ table_there (table ∷ tables) zero h = (table, refl)
 table_there (table ∷ tables) (suc n) h = table_there tables n (omega (arith, h))
 
 of_table : (E : TableEvents) (schema : Schema) (shape : TableSchema) (path : List ℕ) (answer : Result Seen (List ℕ)) → BeginsWithLine (table_events E schema shape path answer)
-of_table E schema shape path (Ok table) = (table_line path (string_bytes shape.name), fields_events E schema table path shape.fields.items, refl)
-of_table E schema shape path (Err fault) = (fault_line path fault, [], refl)
+of_table E schema shape path (Ok table) = (line (table_line path (string_bytes shape.name)), fields_events E schema table path shape.fields.items, refl, line_is (table_line path (string_bytes shape.name)))
+of_table E schema shape path (Err fault) = (line (fault_line path fault), [], refl, line_is (fault_line path fault))
 
 root_there : (schema : Schema) → is_good schema ≡ true → schema.root < table_count schema
-root_there schema good =
-    let tables = table_count schema in
-    let named = list_all (table_fits tables (union_count schema)) schema.tables.items in
-    let outer = both_true (nat_lt schema.root tables && named) (list_all (union_fits tables) schema.unions.items) good in
-    let inside : nat_lt schema.root tables ≡ true = (both_true (nat_lt schema.root tables) named outer.0).0 in
-    grind (arith, nat_tests, inside)
+root_there schema good = let inside = (good_parts schema good).root in grind (arith, nat_tests, inside)
 
 pub begins_with_line : (schema : Schema) (bytes : List ℕ) → is_good schema ≡ true → BeginsWithLine (events_of schema bytes)
 begins_with_line schema bytes good =
@@ -43,4 +41,5 @@ begins_with_line schema bytes good =
       first.1,
       events-more schema 64 schema.root bytes 0 (codes "root") some
           ∙ ap (λ o. shape_events (events schema 63) schema o bytes 0 (codes "root")) shape.1 ∙ first.2,
+      first.3,
     )

@@ -18,7 +18,7 @@ use Rattle.planus_dump.specs.Events.{TableEvents, answer_event, leaf_events, ite
 use Rattle.planus_dump.specs.FaultLines.{HasNoSpace, HaveNoFault}
 use Rattle.planus_dump.specs.Describes.{plain_size, plain_field_size}
 use Rattle.planus_dump.specs.declared.schemas.Kind.{Kind}
-use Rattle.planus_dump.specs.declared.schemas.Kind.TheVariants.{One, List as ListOf, Union, UnionVector, U8, I8, Bytes}
+use Rattle.planus_dump.specs.declared.schemas.Kind.TheVariants.{One, List as ListOf, Union, UnionVector, U8, I8, Bytes, Fixed, FixedList, Nested}
 use Rattle.planus_dump.specs.declared.schemas.Item.{Item}
 use Rattle.planus_dump.specs.declared.schemas.Item.TheVariants.{U16, U32, U64, I16, I32, I64, Bool, Text, Table}
 use Rattle.planus_dump.specs.declared.values.Leaf.TheVariants.{Bool as LeafBool, Text as LeafText, Bytes as LeafBytes}
@@ -68,6 +68,9 @@ plain_field_event E Bytes size S f path e inside h = cc
 plain_field_event E (ListOf item) size S f path e inside h = cc
 plain_field_event E (Union index) size S f path e inside h = cc
 plain_field_event E (UnionVector index) size S f path e inside h = cc
+plain_field_event E (Fixed value) size S f path e inside h = cc
+plain_field_event E (FixedList value) size S f path e inside h = cc
+plain_field_event E (Nested index) size S f path e inside h = cc
 
 -- an item has its size in a list, and a reference 4 bytes
 pub plain_stride : (item : Item) (size : ℕ) → plain_size item ≡ Some size → stride_of item ≡ size

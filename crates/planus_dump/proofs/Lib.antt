@@ -1,6 +1,7 @@
 mod Matching
 mod Answering
 mod Feeds
+mod FixedFeeds
 mod FirstLine
 mod FaultLines
 mod Written

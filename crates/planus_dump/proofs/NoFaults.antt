@@ -29,14 +29,14 @@ use Rattle.planus.proofs.Lists.{made_of}
 use Rattle.planus_dump.specs.Lines.{item_path, field_path}
 use Rattle.planus_dump.specs.Tests.{table_tests}
 use Rattle.planus_dump.specs.Answers.{Seen, SeenItems, SeenUnion, SeenUnions, table_at, union_at, unions_at, tagged_union, union_vector_by, union_vector_at, some_of}
-use Rattle.planus_dump.specs.Events.{TableEvents, stride_of, variant_of, item_events, items_events, list_events, place_events, variant_events, union_events, union_field_events, union_items_events, unions_events, present, kind_events, fields_events, table_events, shape_events, events, leaf_events}
+use Rattle.planus_dump.specs.Events.{Event, field_label, TableEvents, stride_of, variant_of, item_events, items_events, list_events, place_events, variant_events, union_events, union_field_events, union_items_events, unions_events, present, kind_events, fields_events, table_events, shape_events, events, leaf_events}
 use Rattle.planus_dump.specs.FaultLines.{HasNoSpace, HaveNoFault, IsNoFault}
-use Rattle.planus_dump.specs.Describes.{plain_size, IsText, IsByteList, held_at, IsItem, IsListOf, IsReferred, IsField, IsVariant, IsTagged, IsUnion, IsVectorOfUnions, IsUnionVector, HasKind, IsTableOf, Describes}
+use Rattle.planus_dump.specs.Describes.{plain_size, plain_field_size, IsText, IsByteList, held_at, IsItem, IsListOf, IsReferred, IsField, IsVariant, IsTagged, IsUnion, IsVectorOfUnions, IsUnionVector, HasKind, IsTableOf, Describes}
 use Rattle.planus_dump.specs.declared.schemas.Schema.{Schema}
 use Rattle.planus_dump.specs.declared.schemas.TableSchema.{TableSchema}
 use Rattle.planus_dump.specs.declared.schemas.FieldSchema.{FieldSchema}
 use Rattle.planus_dump.specs.declared.schemas.Kind.{Kind}
-use Rattle.planus_dump.specs.declared.schemas.Kind.TheVariants.{One, List as ListOf, Union, UnionVector, U8, I8, Bytes}
+use Rattle.planus_dump.specs.declared.schemas.Kind.TheVariants.{One, List as ListOf, Union, UnionVector, U8, I8, Bytes, Fixed, FixedList, Nested}
 use Rattle.planus_dump.specs.declared.schemas.Item.{Item}
 use Rattle.planus_dump.specs.declared.schemas.Item.TheVariants.{Text, Table}
 use Rattle.planus_dump.specs.declared.values.Leaf.TheVariants.{Text as LeafText, Bytes as LeafBytes}
@@ -390,6 +390,17 @@ module _ (steps : List Step) (given : Finish) (values : AllByRecursion (ValueHol
       subst (λ bytes. HaveNoFault (present E schema (Slot seen.slots i) (place_events E kind bytes (Slot seen.slots i) path))) (sym sees.object)
       (present_no_fault steps given values E IsTable tables schema kind o (field_at entries i) k (Slot seen.slots i) path is same (sees.slots i) h)
 
+  -- a field that no step writes is absent
+  absent_no_fault : (kind : Kind) (o : Option FieldStep) (es : List Event) → plain_field_size kind ≡ None → ((n : ℕ) → IsReferred steps IsTable kind n → ⊥)
+      → IsField steps IsTable kind o → SameSlot given.places o (field_at entries i) → HaveNoFault (present E schema (Slot seen.slots i) es)
+  absent_no_fault kind None es none refers is same =
+      let zero_here : Slot seen.slots i ≡ 0 = subst (SlotReads given.bytes k (Slot seen.slots i)) same (sees.slots i) in
+      let test : (Slot seen.slots i == 0) ≡ true = eq-eqb (Slot seen.slots i) 0 zero_here in rw test tt
+  absent_no_fault kind (Some (number_field width value)) es none refers is same = cc
+  absent_no_fault kind (Some (ref_field n)) es none refers is same = absurd (refers n is)
+  absent_no_fault kind (Some (tags_field n)) es none refers is same = absurd is
+  absent_no_fault kind (Some (values_field n)) es none refers is same = absurd is
+
   -- a union
   union_no_fault : (index : ℕ) (o p : Option FieldStep) → IsUnion steps IsTable (slice_get schema.unions.items index) o p → SameSlot given.places o (field_at entries i)
       → SameSlot given.places p (field_at entries (i + 1)) → HaveNoFault (kind_events E schema (Union index) i seen path)
@@ -483,6 +494,9 @@ module _ (steps : List Step) (given : Finish) (values : AllByRecursion (ValueHol
   kind_no_fault fields same I8 is = place_no_fault I8 (held_at fields i) is (same i)
   kind_no_fault fields same Bytes is = place_no_fault Bytes (held_at fields i) is (same i)
   kind_no_fault fields same (ListOf item) is = place_no_fault (ListOf item) (held_at fields i) is (same i)
+  kind_no_fault fields same (Nested index) is = place_no_fault (Nested index) (held_at fields i) is (same i)
+  kind_no_fault fields same (Fixed value) is = absent_no_fault (Fixed value) (held_at fields i) _ refl (λ n refers. refers) is (same i)
+  kind_no_fault fields same (FixedList value) is = absent_no_fault (FixedList value) (held_at fields i) _ refl (λ n refers. refers) is (same i)
 
 module _ (steps : List Step) (given : Finish) (values : AllByRecursion (ValueHolds steps given) given.places) (schema : Schema) (names : AllByRecursion HasNames schema.tables.items) where
   module _ (E : TableEvents) (IsTable : ℕ → ℕ → Type 0)
@@ -490,12 +504,12 @@ module _ (steps : List Step) (given : Finish) (values : AllByRecursion (ValueHol
       → HaveNoFault (E index (drop start given.bytes) f path)) where
     -- the fields of a table
     fields_no_fault : (k : ℕ) (entries : List (ℕ × Field)) (seen : Seen) → Sees given.bytes k entries seen → (path : List ℕ) → HasNoSpace path → (fields : List (ℕ × FieldStep))
-        → ((j : ℕ) → SameSlot given.places (held_at fields j) (field_at entries j)) → (shape : List FieldSchema) → AllByRecursion (λ field. HasNoSpace (string_bytes field.name)) shape
+        → ((j : ℕ) → SameSlot given.places (held_at fields j) (field_at entries j)) → (shape : List FieldSchema) → AllByRecursion (λ field. HasNoSpace (field_label field)) shape
         → AllByRecursion (λ field. HasKind steps IsTable schema fields field.slot field.kind) shape → HaveNoFault (fields_events E schema seen path shape)
     fields_no_fault k entries seen sees path h fields same [] named is = tt
     fields_no_fault k entries seen sees path h fields same (field ∷ shape) named is =
-        all_append IsNoFault (kind_events E schema field.kind field.slot seen (field_path path (string_bytes field.name))) (fields_events E schema seen path shape)
-        (kind_no_fault steps given values E IsTable tables schema k entries seen sees (field_path path (string_bytes field.name)) (field_path_no_space path (string_bytes field.name) h named.0)
+        all_append IsNoFault (kind_events E schema field.kind field.slot seen (field_path path (field_label field))) (fields_events E schema seen path shape)
+        (kind_no_fault steps given values E IsTable tables schema k entries seen sees (field_path path (field_label field)) (field_path_no_space path (field_label field) h named.0)
         field.slot fields same field.kind is.0)
         (fields_no_fault k entries seen sees path h fields same shape named.1 is.1)
 

@@ -17,6 +17,10 @@ use Rattle.planus_dump.specs.declared.values.Leaf.{Leaf}
 use Rattle.planus_dump.specs.declared.values.Leaf.TheVariants.{U8, U16, U32, U64, I8, I16, I32, I64}
 use Rattle.planus_dump.specs.declared.values.Leaf.TheVariants.{Bool, Text, Bytes}
 
+-- the bits of the number of this width at f
+abbrev pub bits_at : Width → List ℕ → ℕ → Result ℕ (List ℕ)
+bits_at width S f = answered (number_test S f width ∷ []) (number S f width)
+
 -- the printed unsigned number of this width at f, and the signed one
 abbrev pub unsigned_at : Width → List ℕ → ℕ → Result (List ℕ) (List ℕ)
 unsigned_at width S f = answered (number_test S f width ∷ []) (decimal (number S f width))

@@ -1,9 +1,11 @@
 -- The result of a dump, by the events of the table at 0.
-use Rattle.std.specs.Prelude.{◌≡◌, ℕ, ◌<◌, ◌≤◌, List, [], ◌∷◌, ◌++◌, length, map, codes}
+use Rattle.std.specs.Prelude.{◌≡◌, ◌≢◌, ℕ, ◌<◌, ◌≤◌, List, [], ◌∷◌, ◌++◌, length, map, codes, ⊤}
 use Rattle.std.specs.Prelude.{Result, Ok, Err, Vec, String, true, false}
 use Rattle.std.specs.String.{string_bytes}
 use Rattle.std.specs.declared.alloc.Global.{Global}
-use Rattle.planus_dump.specs.Events.{Event, line, deep, events}
+use Rattle.planus_dump.specs.Events.{Event, line, deep, float, events}
+use Rattle.planus_dump.specs.Floats.{PrintsFloat}
+use Rattle.planus_dump.specs.Lines.{value_line}
 use Rattle.planus_dump.specs.Schemas.{is_good}
 use Rattle.planus_dump.specs.declared.schemas.Schema.{Schema}
 use Rattle.planus_dump.specs.declared.dumps.DumpError.{DumpError}
@@ -18,9 +20,25 @@ greatest_depth = 64
 abbrev pub events_of : Schema → List ℕ → List Event
 events_of schema bytes = events schema greatest_depth schema.root bytes 0 (codes "root")
 
--- the first events are these lines, followed by the rest
-abbrev pub Begin : List Event → List (List ℕ) → List Event → Type 0
-Begin es lines rest = es ≡ map line lines ++ rest
+-- The line of an event: its own, or a path and the text of a float.
+abbrev pub Shows : Event → List ℕ → Type 0
+Shows (line l) shown = shown ≡ l
+Shows deep shown = ⊥
+Shows (float path number) shown =
+    (text : List ℕ) × (shown ≡ value_line path text) × PrintsFloat number text
+
+-- one line after the other
+abbrev pub AreShown : List Event → List (List ℕ) → Type 0
+AreShown [] [] = ⊤
+AreShown [] (l ∷ lines) = ⊥
+AreShown (e ∷ es) [] = ⊥
+AreShown (e ∷ es) (l ∷ lines) = Shows e l × AreShown es lines
+
+-- the first events have these lines, and the rest follows
+pub record Begin (es : List Event) (lines : List (List ℕ)) (rest : List Event) : Type 0 where
+  pub front : List Event
+  pub split : es ≡ front ++ rest
+  pub shown : AreShown front lines
 
 -- The result for these events: their lines, if they fit the budget and no table is too deep; else
 -- the error that comes first. Out of memory is allowed unless the budget is 0.
@@ -31,8 +49,8 @@ Answers es budget (Err TooDeep) =
     (lines : List (List ℕ)) × (rest : List Event) × Begin es lines (deep ∷ rest)
     × (length lines ≤ budget)
 Answers es budget (Err TooManyLines) =
-    (lines : List (List ℕ)) × (next : List ℕ) × (rest : List Event)
-    × Begin es lines (line next ∷ rest) × (length lines ≡ budget)
+    (lines : List (List ℕ)) × (next : Event) × (rest : List Event)
+    × Begin es lines (next ∷ rest) × (next ≢ deep) × (length lines ≡ budget)
 Answers es budget (Err BadSchema) = ⊥
 Answers es budget (Err OutOfMemory) = 0 < budget
 

@@ -1,22 +1,38 @@
 -- The events of a dump: the tables that are reached from the root, line by line.
-use Rattle.std.specs.Prelude.{ℕ, zero, suc, ◌+◌, ◌*◌, ◌==◌, List, [], ◌∷◌, ◌++◌, Vec}
-use Rattle.std.specs.Prelude.{slice_get, slice_index}
+use Rattle.std.specs.Prelude.{ℕ, zero, suc, ◌+◌, ◌*◌, ◌/◌, ◌%◌, ◌==◌, List, [], ◌∷◌, ◌++◌, Vec}
+use Rattle.std.specs.Prelude.{slice_get, slice_index, drop, length, nat_le, codes, String}
+use Rattle.std.specs.Prelude.{Bool as Truth, true, false, not, ◌&&◌}
 use Rattle.std.specs.Prelude.{Option, Some, None, Result, Ok, Err, if◌then◌else◌}
+use Rattle.std.specs.Int.{Width, w8, w16, w32, w64, byte_len}
 use Rattle.std.specs.String.{string_bytes}
 use Rattle.std.specs.declared.alloc.Global.{Global}
 use Rattle.planus_read.specs.declared.errors.ErrorKind.TheVariants.{UnknownUnionTag}
+use Rattle.planus_read.specs.declared.errors.ErrorKind.TheVariants.{InvalidOffset}
+use Rattle.planus_read.specs.Reading.{number}
 use Rattle.planus_read.specs.Tables.{Slot}
 use Rattle.planus_dump.specs.Lines.{field_path, item_path, value_line, fault_line, table_line}
-use Rattle.planus_dump.specs.Lines.{list_line, union_line, unions_line}
-use Rattle.planus_dump.specs.Tests.{fault_text}
-use Rattle.planus_dump.specs.Answers.{leaf_at, Seen, table_at, SeenItems, vector_at}
+use Rattle.planus_dump.specs.Lines.{list_line, union_line, unions_line, struct_line, names_text}
+use Rattle.planus_dump.specs.Lines.{bytes_text}
+use Rattle.planus_dump.specs.Tests.{fault_text, answered, byte_list_tests, content_at}
+use Rattle.planus_dump.specs.Answers.{leaf_at, bits_at, Seen, table_at, SeenItems, vector_at}
 use Rattle.planus_dump.specs.Answers.{SeenUnion, SeenUnions, union_at, unions_at}
+use Rattle.planus_dump.specs.declared.line.Bits.{Bits}
+use Rattle.planus_dump.specs.declared.line.Bits.TheVariants as bits
+use Rattle.planus_dump.specs.declared.schemas.EnumSchema.{EnumSchema}
+use Rattle.planus_dump.specs.declared.schemas.StructSchema.{StructSchema}
+use Rattle.planus_dump.specs.declared.schemas.StructFieldSchema.{StructFieldSchema}
+use Rattle.planus_dump.specs.declared.schemas.Number.{Number}
+use Rattle.planus_dump.specs.declared.schemas.Number.TheVariants as numbers
+use Rattle.planus_dump.specs.declared.schemas.Fixed.{Fixed}
+use Rattle.planus_dump.specs.declared.schemas.Fixed.TheVariants as fixed
 use Rattle.planus_dump.specs.declared.schemas.Schema.{Schema}
 use Rattle.planus_dump.specs.declared.schemas.TableSchema.{TableSchema}
 use Rattle.planus_dump.specs.declared.schemas.FieldSchema.{FieldSchema}
 use Rattle.planus_dump.specs.declared.schemas.Kind.{Kind}
 use Rattle.planus_dump.specs.declared.schemas.Kind.TheVariants.{One, List as ListOf, Union}
 use Rattle.planus_dump.specs.declared.schemas.Kind.TheVariants.{UnionVector, U8, I8, Bytes}
+use Rattle.planus_dump.specs.declared.schemas.Kind.TheVariants.{Fixed as FixedKind, FixedList}
+use Rattle.planus_dump.specs.declared.schemas.Kind.TheVariants.{Nested}
 use Rattle.planus_dump.specs.declared.schemas.Item.{Item}
 use Rattle.planus_dump.specs.declared.schemas.Item.TheVariants.{U16, U32, U64, I16, I32, I64}
 use Rattle.planus_dump.specs.declared.schemas.Item.TheVariants.{Bool, Text, Table}
@@ -28,10 +44,18 @@ use Rattle.planus_dump.specs.declared.values.Leaf.TheVariants.{I32 as LeafI32, I
 use Rattle.planus_dump.specs.declared.values.Leaf.TheVariants.{Bool as LeafBool, Text as LeafText}
 use Rattle.planus_dump.specs.declared.values.Leaf.TheVariants.{Bytes as LeafBytes}
 
--- a line, or the mark of a table that is too deep and isn't read
+-- a line, the mark of a table or a struct that is too deep and isn't read, or the line of a path
+-- and a float
 pub data Event : Type 0 where
   line : List ℕ → Event
   deep : Event
+  float : List ℕ → Bits → Event
+
+-- the name of a field in its path
+abbrev pub field_label : FieldSchema → List ℕ
+field_label field =
+    if field.deprecated then string_bytes field.name ++ codes "(deprecated)"
+    else string_bytes field.name
 
 -- an error of a reader
 abbrev pub fault_event : List ℕ → List ℕ → Event
@@ -67,6 +91,135 @@ variant_of (variant ∷ rest) tag = if variant.0 == tag then Some variant.1 else
 abbrev pub TableEvents : Type 0
 TableEvents = ℕ → List ℕ → ℕ → List ℕ → List Event
 
+-- ---- values of a fixed size
+
+-- an integer's width, and how it is printed
+abbrev pub number_width : Number → Width
+number_width numbers.U8 = w8
+number_width numbers.U16 = w16
+number_width numbers.U32 = w32
+number_width numbers.U64 = w64
+number_width numbers.I8 = w8
+number_width numbers.I16 = w16
+number_width numbers.I32 = w32
+number_width numbers.I64 = w64
+
+abbrev pub number_leaf : Number → Leaf
+number_leaf numbers.U8 = LeafU8
+number_leaf numbers.U16 = LeafU16
+number_leaf numbers.U32 = LeafU32
+number_leaf numbers.U64 = LeafU64
+number_leaf numbers.I8 = LeafI8
+number_leaf numbers.I16 = LeafI16
+number_leaf numbers.I32 = LeafI32
+number_leaf numbers.I64 = LeafI64
+
+-- a float by its bits, or its error
+abbrev pub float_event : (ℕ → Bits) → List ℕ → Result ℕ (List ℕ) → Event
+float_event make path (Ok n) = float path (make n)
+float_event make path (Err fault) = fault_event path fault
+
+-- whether a number is this value, or has this flag
+abbrev pub has_value : Truth → ℕ → ℕ → Truth
+has_value true number value = not (value == 0) && number / value % 2 == 1
+has_value false number value = number == value
+
+-- the names of the values that a number has
+abbrev pub names_in : Truth → ℕ → List (ℕ × String Global) → List (List ℕ)
+names_in flags number [] = []
+names_in flags number (value ∷ values) =
+    if has_value flags number value.0 then string_bytes value.1 ∷ names_in flags number values
+    else names_in flags number values
+
+-- a number's text and its names, or its error
+abbrev pub named : Result (List ℕ) (List ℕ) → List (List ℕ) → Result (List ℕ) (List ℕ)
+named (Ok text) names = Ok (text ++ names_text names)
+named (Err fault) names = Err fault
+
+-- a number of an enum at f of S
+abbrev pub enum_at : EnumSchema → List ℕ → ℕ → Result (List ℕ) (List ℕ)
+enum_at shape S f =
+    named (leaf_at (number_leaf shape.number) S f)
+    (names_in shape.flags (number S f (number_width shape.number)) shape.values.items)
+
+abbrev pub enum_events : Option EnumSchema → List ℕ → ℕ → List ℕ → List Event
+enum_events None S f path = []
+enum_events (Some shape) S f path = answer_event path (enum_at shape S f) ∷ []
+
+-- T has a struct's events, by its index in the schema, bytes, its offset in them, and its path.
+module _ (schema : Schema) (T : TableEvents) where
+  -- a value of a fixed size at f of S
+  abbrev pub fixed_events : Fixed → List ℕ → ℕ → List ℕ → List Event
+  fixed_events (fixed.Number number) S f path = leaf_events (number_leaf number) S f path
+  fixed_events fixed.Bool S f path = leaf_events LeafBool S f path
+  fixed_events fixed.F32 S f path = float_event bits.F32 path (bits_at w32 S f) ∷ []
+  fixed_events fixed.F64 S f path = float_event bits.F64 path (bits_at w64 S f) ∷ []
+  fixed_events (fixed.Enum index) S f path =
+      enum_events (slice_get schema.enums.items index) S f path
+  fixed_events (fixed.Struct index) S f path = T index S f path
+
+  -- the fields of the struct with which S begins
+  abbrev pub struct_fields_events : List StructFieldSchema → List ℕ → List ℕ → List Event
+  struct_fields_events [] S path = []
+  struct_fields_events (field ∷ fields) S path =
+      fixed_events field.fixed S field.distance (field_path path (string_bytes field.name))
+      ++ struct_fields_events fields S path
+
+  -- a struct of this schema at f of S, or its error
+  abbrev pub struct_events : Option StructSchema → List ℕ → ℕ → List ℕ → List Event
+  struct_events None S f path = []
+  struct_events (Some shape) S f path =
+      if nat_le (f + shape.size) (length S) then line (struct_line path (string_bytes shape.name))
+      ∷ struct_fields_events shape.fields.items (drop f S) path
+      else fault_event path (fault_text InvalidOffset) ∷ []
+
+-- the events of a struct, with up to left - 1 levels of structs in it
+unfoldable pub structs : Schema → ℕ → TableEvents
+structs schema zero index S f path = deep ∷ []
+structs schema (suc left) index S f path =
+    struct_events schema (structs schema left) (slice_get schema.structs.items index) S f path
+
+-- the greatest number of structs in one another
+abbrev pub greatest_nesting : ℕ
+greatest_nesting = 64
+
+-- any value of a fixed size
+abbrev pub value_events : Schema → Fixed → List ℕ → ℕ → List ℕ → List Event
+value_events schema value S f path =
+    fixed_events schema (structs schema greatest_nesting) value S f path
+
+-- the size of such a value
+abbrev pub enum_size : Option EnumSchema → ℕ
+enum_size None = 1
+enum_size (Some shape) = byte_len (number_width shape.number)
+
+abbrev pub struct_size : Option StructSchema → ℕ
+struct_size None = 1
+struct_size (Some shape) = shape.size
+
+abbrev pub fixed_size : Schema → Fixed → ℕ
+fixed_size schema (fixed.Number number) = byte_len (number_width number)
+fixed_size schema fixed.Bool = 1
+fixed_size schema fixed.F32 = 4
+fixed_size schema fixed.F64 = 8
+fixed_size schema (fixed.Enum index) = enum_size (slice_get schema.enums.items index)
+fixed_size schema (fixed.Struct index) = struct_size (slice_get schema.structs.items index)
+
+-- n values of a vector from value i on, by the bytes from the first on
+abbrev pub values_events : Schema → Fixed → List ℕ → List ℕ → ℕ → ℕ → List Event
+values_events schema value S path zero i = []
+values_events schema value S path (suc n) i =
+    value_events schema value S (i * fixed_size schema value) (item_path path i)
+    ++ values_events schema value S path n (i + 1)
+
+-- a vector of such values, or its error
+abbrev pub fixed_list_events : Schema → Fixed → List ℕ → Result SeenItems (List ℕ) → List Event
+fixed_list_events schema value path (Ok items) =
+    line (list_line path items.count) ∷ values_events schema value items.bytes path items.count 0
+fixed_list_events schema value path (Err fault) = fault_event path fault ∷ []
+
+-- ---- what has parts
+
 module _ (E : TableEvents) where
   -- an item at f of S, of a field or of a vector
   abbrev pub item_events : Item → List ℕ → ℕ → List ℕ → List Event
@@ -93,7 +246,16 @@ module _ (E : TableEvents) where
       line (list_line path items.count) ∷ items_events item items.bytes path items.count 0
   list_events item path (Err fault) = fault_event path fault ∷ []
 
-  -- a field with one place, f of S: all but a union or a union vector
+  -- a byte vector that is a buffer: its root, or its bytes where that can't be read
+  abbrev pub buffer_events : ℕ → List ℕ → List ℕ → Result Seen (List ℕ) → List Event
+  buffer_events index path content (Ok table) = E index content 0 path
+  buffer_events index path content (Err fault) = line (value_line path (bytes_text content)) ∷ []
+
+  abbrev pub nested_events : ℕ → List ℕ → Result (List ℕ) (List ℕ) → List Event
+  nested_events index path (Ok content) = buffer_events index path content (table_at content 0)
+  nested_events index path (Err fault) = fault_event path fault ∷ []
+
+  -- a field with one place, f of S: all but a union, a union vector and values of a fixed size
   abbrev pub place_events : Kind → List ℕ → ℕ → List ℕ → List Event
   place_events (One item) S f path = item_events item S f path
   place_events U8 S f path = leaf_events LeafU8 S f path
@@ -102,6 +264,10 @@ module _ (E : TableEvents) where
   place_events (ListOf item) S f path = list_events item path (vector_at (stride_of item) S f)
   place_events (Union index) S f path = []
   place_events (UnionVector index) S f path = []
+  place_events (FixedKind value) S f path = []
+  place_events (FixedList value) S f path = []
+  place_events (Nested index) S f path =
+      nested_events index path (answered (byte_list_tests S f) (content_at S f))
 
   -- a union with this tag, by its variant's table
   abbrev pub variant_events : ℕ → List ℕ → ℕ → List ℕ → Option ℕ → List Event
@@ -147,6 +313,12 @@ module _ (E : TableEvents) where
     kind_events (Union index) i table path =
         union_field_events index table.object path (union_at table i)
     kind_events (UnionVector index) i table path = unions_events index path (unions_at table i)
+    kind_events (FixedKind value) i table path =
+        present (Slot table.slots i)
+        (value_events schema value table.object (Slot table.slots i) path)
+    kind_events (FixedList value) i table path =
+        present (Slot table.slots i) (fixed_list_events schema value path
+        (vector_at (fixed_size schema value) table.object (Slot table.slots i)))
     kind_events kind i table path =
         present (Slot table.slots i) (place_events kind table.object (Slot table.slots i) path)
 
@@ -154,7 +326,7 @@ module _ (E : TableEvents) where
     abbrev pub fields_events : Seen → List ℕ → List FieldSchema → List Event
     fields_events table path [] = []
     fields_events table path (field ∷ fields) =
-        kind_events field.kind field.slot table (field_path path (string_bytes field.name))
+        kind_events field.kind field.slot table (field_path path (field_label field))
         ++ fields_events table path fields
 
     -- a table of this schema, or its error

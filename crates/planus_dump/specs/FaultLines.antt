@@ -2,7 +2,7 @@
 use Rattle.std.specs.Prelude.{◌≡◌, ℕ, ◌==◌, List, [], ◌∷◌, ⊤}
 use Rattle.std.specs.Prelude.{Bool, false, if◌then◌else◌}
 use Rattle.std.specs.List.{AllByRecursion}
-use Rattle.planus_dump.specs.Events.{Event, line, deep}
+use Rattle.planus_dump.specs.Events.{Event, line, deep, float}
 
 -- whether this byte is the first
 abbrev pub begins_with : ℕ → List ℕ → Bool
@@ -22,6 +22,7 @@ HasNoSpace bytes = AllByRecursion (λ byte. (byte == 32) ≡ false) bytes
 abbrev pub IsNoFault : Event → Type 0
 IsNoFault (line l) = is_fault_line l ≡ false
 IsNoFault deep = ⊤
+IsNoFault (float path number) = HasNoSpace path
 
 -- no event is such a line
 abbrev pub HaveNoFault : List Event → Type 0

@@ -8,7 +8,7 @@ use Rattle.planus.specs.Steps.{Step}
 use Rattle.planus.specs.Runs.{Finish}
 use Rattle.planus.specs.Headline.{FinishHolds, root_at}
 use Rattle.planus_dump.specs.Lines.{value_line, fault_line, table_line, list_line, union_line}
-use Rattle.planus_dump.specs.Lines.{unions_line, field_path, item_path}
+use Rattle.planus_dump.specs.Lines.{unions_line, struct_line, field_path, item_path}
 use Rattle.planus_dump.specs.FaultLines.{is_fault_line, HasNoSpace, HaveNoFault}
 use Rattle.planus_dump.specs.Describes.{Fits}
 use Rattle.planus_dump.specs.Dumped.{Dumped, events_of}
@@ -23,6 +23,7 @@ pub record FaultLinesAreTold (path : List ℕ) : Type 0 where
   pub list : (count : ℕ) → is_fault_line (list_line path count) ≡ false
   pub union : (tag : ℕ) → is_fault_line (union_line path tag) ≡ false
   pub unions : (count : ℕ) → is_fault_line (unions_line path count) ≡ false
+  pub structs : (name : List ℕ) → is_fault_line (struct_line path name) ≡ false
 
 -- no path of a good schema has a space
 pub record PathsHaveNoSpace : Type 0 where

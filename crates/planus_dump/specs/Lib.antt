@@ -1,4 +1,5 @@
 pub mod Lines
+pub mod Floats
 pub mod Schemas
 pub mod Tests
 pub mod Answers

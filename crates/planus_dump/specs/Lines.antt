@@ -66,3 +66,14 @@ union_line path tag = path ++ (codes ": union " ++ decimal tag)
 
 abbrev pub unions_line : List ℕ → ℕ → List ℕ
 unions_line path count = path ++ (codes ": unions " ++ decimal count)
+
+abbrev pub struct_line : List ℕ → List ℕ → List ℕ
+struct_line path name = path ++ (codes ": struct " ++ name)
+
+-- the names of an enum's values in parentheses; nothing where there are none
+abbrev pub spaced : List (List ℕ) → List ℕ
+spaced names = flat_map (λ name. 32 ∷ name) names
+
+abbrev pub names_text : List (List ℕ) → List ℕ
+names_text [] = []
+names_text (name ∷ names) = codes " (" ++ (name ++ (spaced names ++ codes ")"))

@@ -11,6 +11,13 @@ use Rattle.planus_dump.specs.declared.schemas.FieldSchema.{FieldSchema}
 use Rattle.planus_dump.specs.declared.schemas.Kind.{Kind}
 use Rattle.planus_dump.specs.declared.schemas.Kind.TheVariants.{One, List as ListOf, Union}
 use Rattle.planus_dump.specs.declared.schemas.Kind.TheVariants.{UnionVector, U8, I8, Bytes}
+use Rattle.planus_dump.specs.declared.schemas.Kind.TheVariants.{Fixed as FixedKind, FixedList}
+use Rattle.planus_dump.specs.declared.schemas.Kind.TheVariants.{Nested}
+use Rattle.planus_dump.specs.declared.schemas.EnumSchema.{EnumSchema}
+use Rattle.planus_dump.specs.declared.schemas.StructSchema.{StructSchema}
+use Rattle.planus_dump.specs.declared.schemas.StructFieldSchema.{StructFieldSchema}
+use Rattle.planus_dump.specs.declared.schemas.Fixed.{Fixed}
+use Rattle.planus_dump.specs.declared.schemas.Fixed.TheVariants as fixed
 use Rattle.planus_dump.specs.declared.schemas.Item.{Item}
 use Rattle.planus_dump.specs.declared.schemas.Item.TheVariants.{Table}
 
@@ -44,6 +51,9 @@ kind_fits tables unions (UnionVector index) = nat_lt index unions
 kind_fits tables unions U8 = true
 kind_fits tables unions I8 = true
 kind_fits tables unions Bytes = true
+kind_fits tables unions (FixedKind value) = true
+kind_fits tables unions (FixedList value) = true
+kind_fits tables unions (Nested index) = nat_lt index tables
 
 -- a field has a name, and what its kind names is there
 abbrev pub field_fits : ℕ → ℕ → FieldSchema → Bool
@@ -66,9 +76,41 @@ variants_fit tables (variant ∷ rest) =
 abbrev pub union_fits : ℕ → Vec (ℕ × ℕ) Global → Bool
 union_fits tables variants = variants_fit tables variants.items
 
+-- the schema has the enum or the struct that a value of a fixed size names
+abbrev pub fixed_fits : ℕ → ℕ → Fixed → Bool
+fixed_fits enums structs (fixed.Enum index) = nat_lt index enums
+fixed_fits enums structs (fixed.Struct index) = nat_lt index structs
+fixed_fits enums structs _ = true
+
+abbrev pub fixed_kind_fits : ℕ → ℕ → Kind → Bool
+fixed_kind_fits enums structs (FixedKind value) = fixed_fits enums structs value
+fixed_kind_fits enums structs (FixedList value) = fixed_fits enums structs value
+fixed_kind_fits enums structs _ = true
+
+abbrev pub fixed_kinds_fit : ℕ → ℕ → TableSchema → Bool
+fixed_kinds_fit enums structs table =
+    list_all (λ field. fixed_kind_fits enums structs field.kind) table.fields.items
+
+-- a struct has a name, a size, and good fields
+abbrev pub struct_field_fits : ℕ → ℕ → StructFieldSchema → Bool
+struct_field_fits enums structs field =
+    is_name (string_bytes field.name) && fixed_fits enums structs field.fixed
+
+abbrev pub struct_fits : ℕ → ℕ → StructSchema → Bool
+struct_fits enums structs shape =
+    is_name (string_bytes shape.name) && nat_lt 0 shape.size
+    && list_all (struct_field_fits enums structs) shape.fields.items
+
+-- what the schema says of values of a fixed size
+abbrev pub fixed_values_fit : ℕ → ℕ → Schema → Bool
+fixed_values_fit enums structs schema =
+    list_all (fixed_kinds_fit enums structs) schema.tables.items
+    && list_all (struct_fits enums structs) schema.structs.items
+
 -- a good schema
 abbrev pub is_good : Schema → Bool
 is_good schema =
     nat_lt schema.root (table_count schema)
     && list_all (table_fits (table_count schema) (union_count schema)) schema.tables.items
     && list_all (union_fits (table_count schema)) schema.unions.items
+    && fixed_values_fit (length schema.enums.items) (length schema.structs.items) schema

@@ -1,7 +1,11 @@
 -- The values of a dump's readers, in the terms of the definitions.
-use Rattle.std.specs.Prelude.{◌≡◌, ◌≢◌, ℕ, ◌*◌, ◌<◌, ◌≤◌, List, [], ◌∷◌, slice_index}
+use Rattle.std.specs.Prelude.{◌≡◌, ◌≢◌, ℕ, ◌+◌, ◌*◌, ◌<◌, ◌≤◌, List, [], ◌∷◌, slice_index}
+use Rattle.std.specs.Prelude.{length, drop}
 use Rattle.std.specs.Prelude.{Option, Some, None, Result, Ok, Err}
 use Rattle.planus_read.specs.declared.errors.ErrorKind.{ErrorKind}
+use Rattle.planus_read.specs.declared.errors.ErrorKind.TheVariants.{InvalidOffset}
+use Rattle.planus_read.specs.declared.slice_helpers.SliceWithStartOffset.{SliceWithStartOffset}
+use Rattle.planus_read.specs.Pieces.{slice_bytes}
 use Rattle.planus_read.specs.declared.place.Place.{Place}
 use Rattle.planus_read.specs.declared.place.TaggedPlace.{TaggedPlace}
 use Rattle.planus_read.specs.declared.table_reader.Table.{Table}
@@ -19,6 +23,8 @@ use Rattle.planus_dump.specs.Events.{Event, line, TableEvents, fault_event, item
 use Rattle.planus_dump.specs.declared.schemas.Item.{Item}
 use Rattle.planus_dump.specs.declared.schemas.Item.TheVariants.{U16, U32, U64, I16, I32, I64}
 use Rattle.planus_dump.specs.declared.schemas.Item.TheVariants.{Bool, Text, Table as TableItem}
+use Rattle.planus_dump.specs.declared.line.Bits.{Bits}
+use Rattle.planus_dump.specs.declared.readings.Position.{Position}
 use Rattle.planus_dump.specs.declared.readings.Found.{Found}
 use Rattle.planus_dump.specs.declared.readings.Found.TheVariants.{Value as FoundValue}
 use Rattle.planus_dump.specs.declared.readings.Found.TheVariants.{Fault as FoundFault}
@@ -81,6 +87,26 @@ GetsUnion view i None = view.count ≤ i
 GetsUnion view i (Some tagged) =
     (i < view.count)
     × IsUnionIn view.references (record { tag = slice_index view.tags i; offset = i * 4 }) tagged
+
+-- a place is where it was asked for
+abbrev pub IsPosition : List ℕ → ℕ → Result Position ErrorKind → Type 0
+IsPosition S f (Ok position) = (slice_bytes position.slice ≡ S) × (position.offset ≡ f)
+IsPosition S f (Err kind) = ⊥
+
+-- the bytes from f on, which are at least so many; else an error
+abbrev pub IsSliceFrom :
+    List ℕ → ℕ → ℕ → Result SliceWithStartOffset ErrorKind → Type 0
+IsSliceFrom S f size (Ok slice) = (f + size ≤ length S) × (slice_bytes slice ≡ drop f S)
+IsSliceFrom S f size (Err kind) = (length S < f + size) × (kind ≡ InvalidOffset)
+
+-- a vector of values
+abbrev pub values_seen : SliceWithStartOffset × ℕ → SeenItems
+values_seen values = record { bytes = slice_bytes values.0; count = values.1 }
+
+-- a float, by its bits
+abbrev pub IsFloat : (ℕ → Bits) → Result ℕ (List ℕ) → Result Bits ErrorKind → Type 0
+IsFloat make said (Ok bits) = (n : ℕ) × (bits ≡ make n) × (said ≡ Ok n)
+IsFloat make said (Err kind) = said ≡ Err (fault_text kind)
 
 -- the events of what was found at a path
 abbrev pub found_events : TableEvents → List ℕ → Found → List Event

@@ -1,11 +1,13 @@
 //! A dump.
 ghost use Rattle.planus_dump.specs.Dumped.{Dumped};
 
+use crate::floats::line_texts;
 use crate::line_sink::{LineSink, Stop};
+use crate::readings::place_in;
 use crate::schemas::Schema;
 use crate::validate::is_good_schema;
 use crate::walk::dump_table;
-use planus::{Place, SliceWithStartOffset, TableRead};
+use planus::SliceWithStartOffset;
 use std::alloc::{AllocError, Global};
 use std::error::Error;
 use std::fmt;
@@ -76,15 +78,14 @@ pub fn dump(
     if budget == 0 {
         return Err(DumpError::TooManyLines);
     }
-    let whole = SliceWithStartOffset::new(bytes, 0);
-    let root = match <Place<'_> as TableRead<'_>>::from_buffer(whole, 0) {
-        Ok(place) => place,
-        Err(_) => unreachable!(),
-    };
+    let root = place_in(SliceWithStartOffset::new(bytes, 0), 0);
     let mut out = LineSink::new(alloc, budget);
     dump_table(schema, &mut out, GREATEST_DEPTH, "root", schema.root, root)?;
     match out.stop {
-        Stop::Going => Ok(out.lines),
+        Stop::Going => {
+            let lines = line_texts(alloc, out.lines)?;
+            Ok(lines)
+        }
         Stop::TooDeep => Err(DumpError::TooDeep),
         Stop::TooMany => Err(DumpError::TooManyLines),
     }

@@ -2,8 +2,12 @@
 #![tactic(auto)]
 
 mod dumps;
+mod enums;
+mod fixed;
+mod floats;
 mod items;
 pub mod laws;
+mod line;
 mod line_sink;
 mod printed;
 mod readings;
@@ -17,4 +21,7 @@ mod walk;
 pub use dumps::{DumpError, dump};
 pub use printed::push_hex;
 pub use runs::{DumpRunError, dump_run};
-pub use schemas::{FieldSchema, Item, Kind, Schema, TableSchema};
+pub use schemas::{
+    EnumSchema, FieldSchema, Fixed, Item, Kind, Number, Schema, StructFieldSchema, StructSchema,
+    TableSchema,
+};

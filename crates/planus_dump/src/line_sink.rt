@@ -2,13 +2,14 @@
 ghost use Rattle.std.specs.Prelude.{◌≡◌, ◌<◌, ◌++◌, OnOk, IfOk};
 ghost use Rattle.std.specs.List.{flat_map};
 ghost use Rattle.std.specs.String.{string_bytes};
-ghost use Rattle.planus_dump.specs.Events.{line, deep};
+ghost use Rattle.planus_dump.specs.Events.{line, deep, float};
 ghost use Rattle.planus_dump.specs.Lines.{value_text};
 ghost use Rattle.planus_dump.specs.Lines.{value_line, fault_line, table_line, list_line};
-ghost use Rattle.planus_dump.specs.Lines.{union_line, unions_line};
+ghost use Rattle.planus_dump.specs.Lines.{union_line, unions_line, struct_line};
 ghost use Rattle.planus_dump.specs.Tests.{fault_text};
-ghost use Rattle.planus_dump.specs.inner.Shown.{shown, begin, step, IsStopped};
+ghost use Rattle.planus_dump.specs.inner.Shown.{shown, event_of, begin, step, IsStopped};
 
+use crate::line::{Bits, Line};
 use crate::printed::{hex_text, quoted_text};
 use crate::values::Value;
 use planus::errors::ErrorKind;
@@ -26,9 +27,23 @@ pub enum Stop {
 #[derive(Drop)]
 pub struct LineSink {
     pub alloc: Global,
-    pub lines: Vec<String>,
+    pub lines: Vec<Line>,
     pub budget: usize,
     pub stop: Stop,
+}
+
+/// Returns a value as text.
+fn value_string(alloc: Global, value: Value<'_>) -> Result<String, AllocError>
+    ensures { IfOk result (λ text. string_bytes text ≡ value_text value.entry) }
+{
+    match value {
+        Value::Unsigned(n) => format!(in alloc; "{n}"),
+        Value::Signed(n) => format!(in alloc; "{n}"),
+        Value::Truth(true) => String::from_str(alloc, "true"),
+        Value::Truth(false) => String::from_str(alloc, "false"),
+        Value::Text(text) => quoted_text(alloc, text),
+        Value::Bytes(bytes) => hex_text(alloc, bytes),
+    }
 }
 
 impl LineSink {
@@ -52,8 +67,8 @@ impl LineSink {
     }
 
     /// Adds a line, or stops where the budget is used up.
-    fn put(&mut self, text: String) -> Result<(), AllocError>
-        ensures { OnOk result (shown self.new ≡ step (shown self.old) (line (string_bytes text))) }
+    fn put_line(&mut self, line: Line) -> Result<(), AllocError>
+        ensures { OnOk result (shown self.new ≡ step (shown self.old) (event_of line)) }
     {
         match self.stop {
             Stop::Going => {
@@ -61,11 +76,34 @@ impl LineSink {
                     self.stop = Stop::TooMany;
                     return Ok(());
                 }
-                self.lines.push(text)?;
+                self.lines.push(line)?;
                 Ok(())
             }
             _ => Ok(()),
         }
+    }
+
+    /// Adds a line of text.
+    fn put(&mut self, text: String) -> Result<(), AllocError>
+        ensures { OnOk result (shown self.new ≡ step (shown self.old) (line (string_bytes text))) }
+    {
+        self.put_line(Line::Text(text))
+    }
+
+    /// Adds the line of a float.
+    pub fn put_float(&mut self, path: &str, bits: Bits) -> Result<(), AllocError>
+        ensures { OnOk result (shown self.new ≡ step (shown self.old) (float path.now bits)) }
+    {
+        let path = String::from_str(self.alloc, path)?;
+        self.put_line(Line::Float(path, bits))
+    }
+
+    /// Adds the line of a struct.
+    pub fn put_struct(&mut self, path: &str, name: &str) -> Result<(), AllocError>
+        ensures { OnOk result (shown self.new
+            ≡ step (shown self.old) (line (struct_line path.now name.now))) }
+    {
+        self.put(format!(in self.alloc; "{path}: struct {name}")?)
     }
 
     /// Stops at a table that is too deep.
@@ -114,21 +152,17 @@ impl LineSink {
         ensures { OnOk result (shown self.new
             ≡ step (shown self.old) (line (value_line path.now (value_text value.entry)))) }
     {
-        let text = match value {
-            Value::Unsigned(n) => format!(in self.alloc; "{path} = {n}")?,
-            Value::Signed(n) => format!(in self.alloc; "{path} = {n}")?,
-            Value::Truth(true) => format!(in self.alloc; "{path} = true")?,
-            Value::Truth(false) => format!(in self.alloc; "{path} = false")?,
-            Value::Text(text) => {
-                let quoted = quoted_text(self.alloc, text)?;
-                format!(in self.alloc; "{path} = {quoted}")?
-            }
-            Value::Bytes(bytes) => {
-                let bytes = hex_text(self.alloc, bytes)?;
-                format!(in self.alloc; "{path} = {bytes}")?
-            }
-        };
-        self.put(text)
+        let text = value_string(self.alloc, value)?;
+        self.put(format!(in self.alloc; "{path} = {text}")?)
+    }
+
+    /// Adds the line of an enum's number, with the names of its values.
+    pub fn put_named(&mut self, path: &str, value: Value<'_>, names: &str) -> Result<(), AllocError>
+        ensures { OnOk result (shown self.new ≡ step (shown self.old)
+            (line (value_line path.now (value_text value.entry ++ names.now)))) }
+    {
+        let text = value_string(self.alloc, value)?;
+        self.put(format!(in self.alloc; "{path} = {text}{names}")?)
     }
 
     /// Adds the line of an error.

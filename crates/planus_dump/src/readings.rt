@@ -1,18 +1,23 @@
 //! What is at a place, or in the slots of a table.
 ghost use Rattle.std.specs.Prelude.{◌≡◌, List, ℕ};
+ghost use Rattle.std.specs.Int.{w32, w64};
+ghost use Rattle.planus_read.specs.Pieces.{slice_bytes};
 ghost use Rattle.planus_read.specs.Places.{place_bytes, place_offset};
 ghost use Rattle.planus_read.specs.Tables.{table_object};
 ghost use Rattle.planus_dump.specs.Lines.{value_text};
-ghost use Rattle.planus_dump.specs.Answers.{leaf_at, table_at, union_at};
-ghost use Rattle.planus_dump.specs.Events.{TableEvents, leaf_events};
+ghost use Rattle.planus_dump.specs.Answers.{leaf_at, bits_at, table_at, union_at, vector_at};
+ghost use Rattle.planus_dump.specs.Events.{TableEvents, leaf_events, number_width};
 ghost use Rattle.planus_dump.specs.Seeing.{answer_seen, table_seen};
 ghost use Rattle.planus_dump.specs.Seeing.{SeesUnion, SeesPlace, IsFound, found_events};
+ghost use Rattle.planus_dump.specs.Seeing.{IsSliceFrom, IsFloat, values_seen};
 
-use crate::schemas::Item;
+use crate::line::Bits;
+use crate::schemas::{Item, Number};
 use crate::values::{Leaf, Value};
 use planus::errors::ErrorKind;
 use planus::table_reader::Table;
-use planus::{Place, TaggedPlace};
+use planus::{Place, SliceWithStartOffset, TableRead, TaggedPlace};
+use planus_read::array_from_buffer;
 
 // The reader's name, in locations that a dump doesn't print.
 pub const TYPE: &str = "Table";
@@ -38,7 +43,7 @@ fn text_at<'buf>(place: Place<'buf>) -> Result<Value<'buf>, ErrorKind>
     }
 }
 
-fn value_at<'buf>(place: Place<'buf>, leaf: Leaf) -> Result<Value<'buf>, ErrorKind>
+pub fn value_at<'buf>(place: Place<'buf>, leaf: Leaf) -> Result<Value<'buf>, ErrorKind>
     ensures { answer_seen value_text result
         ≡ leaf_at leaf (place_bytes place.entry) (place_offset place.entry) }
 {
@@ -83,6 +88,99 @@ pub fn item_found<'buf>(place: Place<'buf>, item: Item) -> Found<'buf>
         Item::Text => leaf_found(place, Leaf::Text),
         Item::Table(index) => Found::Table(index, place),
     }
+}
+
+/// A place whose slice and offset can be had.
+#[derive(Clone, Copy)]
+pub struct Position<'buf> {
+    slice: SliceWithStartOffset<'buf>,
+    offset: usize,
+}
+
+impl<'buf> TableRead<'buf> for Position<'buf> {
+    ghost use Rattle.planus_dump.specs.Seeing.{IsPosition};
+
+    ghost reads = { λ S start f r. IsPosition S f r };
+
+    fn from_buffer(
+        slice: SliceWithStartOffset<'buf>,
+        offset: usize,
+    ) -> Result<Position<'buf>, ErrorKind> {
+        Ok(Position { slice, offset })
+    }
+}
+
+/// Returns the place at an offset of a slice.
+pub fn place_in<'buf>(slice: SliceWithStartOffset<'buf>, offset: usize) -> Place<'buf>
+    ensures bytes { place_bytes result ≡ slice_bytes slice.entry }
+    ensures offset { place_offset result ≡ offset }
+{
+    match <Place<'buf> as TableRead<'buf>>::from_buffer(slice, offset) {
+        Ok(place) => place,
+        Err(_) => unreachable!(),
+    }
+}
+
+/// Returns the slice from a place on, which has at least `size` bytes.
+pub fn slice_from<'buf>(
+    place: Place<'buf>,
+    size: usize,
+) -> Result<SliceWithStartOffset<'buf>, ErrorKind>
+    ensures { IsSliceFrom (place_bytes place.entry) (place_offset place.entry) size result }
+{
+    let position = place.read::<Position<'buf>>()?;
+    let slice = position.slice.advance(position.offset)?;
+    if slice.len() < size {
+        return Err(ErrorKind::InvalidOffset);
+    }
+    Ok(slice)
+}
+
+/// Returns the slice from the first item on of the vector to which the reference at a place leads,
+/// and the number of its items, which have `size` bytes each.
+pub fn read_values<'buf>(
+    place: Place<'buf>,
+    size: usize,
+) -> Result<(SliceWithStartOffset<'buf>, usize), ErrorKind>
+    ensures { answer_seen values_seen result
+        ≡ vector_at size (place_bytes place.entry) (place_offset place.entry) }
+{
+    let position = place.read::<Position<'buf>>()?;
+    let (slice, count) = array_from_buffer(position.slice, position.offset)?;
+    let count = count as usize;
+    match count.checked_mul(size) {
+        Some(all) if all <= slice.len() => Ok((slice, count)),
+        _ => Err(ErrorKind::InvalidLength),
+    }
+}
+
+/// Returns the bits of the integer at a place.
+pub fn read_bits(place: Place<'_>, number: Number) -> Result<u64, ErrorKind>
+    ensures { answer_seen (λ bits. bits) result
+        ≡ bits_at (number_width number) (place_bytes place.entry) (place_offset place.entry) }
+{
+    match number {
+        Number::U8 | Number::I8 => Ok(u64::from(place.read::<u8>()?)),
+        Number::U16 | Number::I16 => Ok(u64::from(place.read::<u16>()?)),
+        Number::U32 | Number::I32 => Ok(u64::from(place.read::<u32>()?)),
+        Number::U64 | Number::I64 => place.read::<u64>(),
+    }
+}
+
+/// Returns the float of 4 bytes at a place, by its bits.
+pub fn single_at(place: Place<'_>) -> Result<Bits, ErrorKind>
+    ensures { IsFloat Bits.F32 (bits_at w32 (place_bytes place.entry) (place_offset place.entry))
+        result }
+{
+    Ok(Bits::F32(place.read::<u32>()?))
+}
+
+/// Returns the float of 8 bytes at a place, by its bits.
+pub fn double_at(place: Place<'_>) -> Result<Bits, ErrorKind>
+    ensures { IsFloat Bits.F64 (bits_at w64 (place_bytes place.entry) (place_offset place.entry))
+        result }
+{
+    Ok(Bits::F64(place.read::<u64>()?))
 }
 
 /// Returns the table to which the reference at a place leads.

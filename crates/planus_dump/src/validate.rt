@@ -1,12 +1,13 @@
 //! Whether a schema is good.
-ghost use Rattle.std.specs.Prelude.{◌≡◌};
+ghost use Rattle.std.specs.Prelude.{◌≡◌, length};
 ghost use Rattle.std.specs.List.{list_all, list_any};
 ghost use Rattle.std.specs.Prelude.{◌==◌};
 ghost use Rattle.planus_dump.specs.Schemas.{is_name_byte, is_name, item_fits, kind_fits};
 ghost use Rattle.planus_dump.specs.Schemas.{field_fits, table_fits, variants_fit};
-ghost use Rattle.planus_dump.specs.Schemas.{union_fits, is_good};
+ghost use Rattle.planus_dump.specs.Schemas.{union_fits, is_good, fixed_fits, fixed_kind_fits};
+ghost use Rattle.planus_dump.specs.Schemas.{fixed_kinds_fit, struct_fits, fixed_values_fit};
 
-use crate::schemas::{FieldSchema, Item, Kind, Schema, TableSchema};
+use crate::schemas::{FieldSchema, Fixed, Item, Kind, Schema, StructSchema, TableSchema};
 
 fn is_name_byte_of(byte: u8) -> bool
     ensures { result ≡ is_name_byte byte }
@@ -30,7 +31,9 @@ fn kind_fits_in(kind: Kind, tables: usize, unions: usize) -> bool
     ensures { result ≡ kind_fits tables unions kind }
 {
     match kind {
-        Kind::One(Item::Table(index)) | Kind::List(Item::Table(index)) => index < tables,
+        Kind::One(Item::Table(index)) | Kind::List(Item::Table(index)) | Kind::Nested(index) => {
+            index < tables
+        }
         Kind::Union(index) | Kind::UnionVector(index) => index < unions,
         _ => true,
     }
@@ -91,6 +94,79 @@ fn unions_fit_in(all: &[Vec<(u8, usize)>], tables: usize) -> bool
     true
 }
 
+fn fixed_fits_in(fixed: Fixed, enums: usize, structs: usize) -> bool
+    ensures { result ≡ fixed_fits enums structs fixed }
+{
+    match fixed {
+        Fixed::Enum(index) => index < enums,
+        Fixed::Struct(index) => index < structs,
+        _ => true,
+    }
+}
+
+fn fixed_kind_fits_in(kind: Kind, enums: usize, structs: usize) -> bool
+    ensures { result ≡ fixed_kind_fits enums structs kind }
+{
+    match kind {
+        Kind::Fixed(fixed) | Kind::FixedList(fixed) => fixed_fits_in(fixed, enums, structs),
+        _ => true,
+    }
+}
+
+fn fixed_kinds_fit_in(table: &TableSchema, enums: usize, structs: usize) -> bool
+    ensures { result ≡ fixed_kinds_fit enums structs table.now }
+{
+    for field in &table.fields {
+        if !fixed_kind_fits_in(field.kind, enums, structs) {
+            return false;
+        }
+    }
+    true
+}
+
+fn struct_fits_in(shape: &StructSchema, enums: usize, structs: usize) -> bool
+    ensures { result ≡ struct_fits enums structs shape.now }
+{
+    for field in &shape.fields {
+        if !is_name_of(field.name.as_str()) || !fixed_fits_in(field.fixed, enums, structs) {
+            return false;
+        }
+    }
+    is_name_of(shape.name.as_str()) && 0 < shape.size
+}
+
+fn structs_fit_in(all: &[StructSchema], enums: usize, structs: usize) -> bool
+    ensures { result ≡ list_all (struct_fits enums structs) all.now }
+{
+    for shape in all {
+        if !struct_fits_in(shape, enums, structs) {
+            return false;
+        }
+    }
+    true
+}
+
+fn all_fixed_kinds_fit_in(all: &[TableSchema], enums: usize, structs: usize) -> bool
+    ensures { result ≡ list_all (fixed_kinds_fit enums structs) all.now }
+{
+    for table in all {
+        if !fixed_kinds_fit_in(table, enums, structs) {
+            return false;
+        }
+    }
+    true
+}
+
+fn fixed_values_fit_in(schema: &Schema) -> bool
+    ensures { result ≡ fixed_values_fit (length schema.now.enums.items)
+        (length schema.now.structs.items) schema.now }
+{
+    let enums = schema.enums.len();
+    let structs = schema.structs.len();
+    all_fixed_kinds_fit_in(schema.tables.as_slice(), enums, structs)
+        && structs_fit_in(schema.structs.as_slice(), enums, structs)
+}
+
 /// Returns whether a schema is good.
 pub fn is_good_schema(schema: &Schema) -> bool
     ensures { result ≡ is_good schema.now }
@@ -100,4 +176,5 @@ pub fn is_good_schema(schema: &Schema) -> bool
     schema.root < tables
         && tables_fit_in(schema.tables.as_slice(), tables, unions)
         && unions_fit_in(schema.unions.as_slice(), tables)
+        && fixed_values_fit_in(schema)
 }

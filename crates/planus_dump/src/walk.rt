@@ -1,26 +1,30 @@
 //! The walk over all tables that are reached from one.
-ghost use Rattle.std.specs.Prelude.{◌≡◌, ◌-◌, OnOk, slice_get};
+ghost use Rattle.std.specs.Prelude.{◌≡◌, ◌-◌, OnOk, IfOk, slice_get};
 ghost use Rattle.std.specs.String.{string_bytes};
 ghost use Rattle.planus_read.specs.Places.{place_bytes, place_offset, tagged_tag, tagged_place};
-ghost use Rattle.planus_dump.specs.Lines.{field_path};
+ghost use Rattle.planus_dump.specs.Lines.{field_path as field_path_lem};
 ghost use Rattle.planus_dump.specs.Answers.{table_at};
 ghost use Rattle.planus_dump.specs.Events.{events, kind_events, place_events, variant_of};
+ghost use Rattle.planus_dump.specs.Events.{field_label, buffer_events};
 ghost use Rattle.planus_dump.specs.Events.{union_events, unions_events, list_events, table_events};
 ghost use Rattle.planus_dump.specs.Seeing.{table_seen, found_events, unions_seen};
 ghost use Rattle.planus_dump.specs.Seeing.{items_seen, item_of};
 ghost use Rattle.planus_dump.specs.inner.Shown.{shown, feed};
 ghost use Rattle.std.specs.Prelude.{Some, Ok};
 
+use crate::fixed::{dump_value, dump_values};
 use crate::items::{Items, read_items};
 use crate::line_sink::LineSink;
-use crate::readings::{Found, field_place, item_found, leaf_found, read_table, read_union};
+use crate::readings::{
+    Found, field_place, item_found, leaf_found, place_in, read_table, read_union,
+};
 use crate::schemas::{FieldSchema, Kind, Schema, TableSchema};
 use crate::unions::{Unions, read_unions};
-use crate::values::Leaf;
+use crate::values::{Leaf, Value};
 use planus::errors::ErrorKind;
 use planus::table_reader::Table;
-use planus::{Place, TaggedPlace};
-use std::alloc::AllocError;
+use planus::{Place, SliceWithStartOffset, TaggedPlace};
+use std::alloc::{AllocError, Global};
 
 /// Dumps the table to which the reference at a place leads, with up to `left - 1` levels below it.
 #[cycle(walk)]
@@ -74,6 +78,18 @@ fn dump_shape(
     Ok(())
 }
 
+/// Returns the path of a field.
+fn field_path(alloc: Global, path: &str, field: &FieldSchema) -> Result<String, AllocError>
+    ensures { IfOk result (λ text. string_bytes text
+        ≡ field_path_lem path.now (field_label field.now)) }
+{
+    if field.deprecated {
+        format!(in alloc; "{path}.{}(deprecated)", field.name)
+    } else {
+        format!(in alloc; "{path}.{}", field.name)
+    }
+}
+
 #[cycle(walk)]
 fn dump_field(
     schema: &Schema,
@@ -85,9 +101,9 @@ fn dump_field(
 ) -> Result<(), AllocError>
     ensures { OnOk result (shown out.new ≡ feed (shown out.old)
         (kind_events (events schema.now left) schema.now field.now.kind field.now.slot
-        (table_seen table.entry) (field_path path.now (string_bytes field.now.name)))) }
+        (table_seen table.entry) (field_path_lem path.now (field_label field.now)))) }
 {
-    let path = format!(in out.alloc; "{path}.{}", field.name)?;
+    let path = field_path(out.alloc, path, field)?;
     let path = path.as_str();
     match field.kind {
         Kind::Union(index) => match read_union(table, field.slot) {
@@ -102,7 +118,11 @@ fn dump_field(
         },
         kind => match field_place(table, field.slot) {
             None => Ok(()),
-            Some(place) => dump_place(schema, out, left, path, kind, place),
+            Some(place) => match kind {
+                Kind::Fixed(fixed) => dump_value(schema, out, path, fixed, place),
+                Kind::FixedList(fixed) => dump_values(schema, out, path, fixed, place),
+                kind => dump_place(schema, out, left, path, kind, place),
+            },
         },
     }
 }
@@ -125,7 +145,28 @@ fn dump_found(
     }
 }
 
-/// Dumps a field that has one place: all but a union or a union vector.
+/// Dumps a byte vector that is a buffer: its root, or its bytes where that can't be read.
+#[cycle(walk)]
+fn dump_nested(
+    schema: &Schema,
+    out: &mut LineSink,
+    left: usize,
+    path: &str,
+    index: usize,
+    content: &[u8],
+) -> Result<(), AllocError>
+    ensures { OnOk result (shown out.new ≡ feed (shown out.old)
+        (buffer_events (events schema.now left) index path.now content.now
+        (table_at content.now 0))) }
+{
+    let root = place_in(SliceWithStartOffset::new(content, 0), 0);
+    match read_table(root) {
+        Ok(_) => dump_table(schema, out, left, path, index, root),
+        Err(_) => out.put_value(path, Value::Bytes(content)),
+    }
+}
+
+/// Dumps a field that has one place: all but a union, a union vector and values of a fixed size.
 #[cycle(walk)]
 fn dump_place(
     schema: &Schema,
@@ -148,7 +189,11 @@ fn dump_place(
             Ok(items) => dump_items(schema, out, left, path, items),
             Err(kind) => out.put_fault(path, kind),
         },
-        Kind::Union(_) | Kind::UnionVector(_) => Ok(()),
+        Kind::Nested(index) => match place.read::<&[u8]>() {
+            Ok(content) => dump_nested(schema, out, left, path, index, content),
+            Err(kind) => out.put_fault(path, kind),
+        },
+        Kind::Union(_) | Kind::UnionVector(_) | Kind::Fixed(_) | Kind::FixedList(_) => Ok(()),
     }
 }
 

@@ -37,7 +37,12 @@ fn table_of(alloc: Global, parts: &TableParts<'_>) -> Result<TableSchema, AllocE
     for (slot, name, kind) in parts.1 {
         let name = String::from_str(alloc, name)?;
         let (slot, kind) = (*slot, *kind);
-        fields.push(FieldSchema { slot, name, kind })?;
+        fields.push(FieldSchema {
+        slot,
+        name,
+        kind,
+        deprecated: false,
+    })?;
     }
     let name = String::from_str(alloc, parts.0)?;
     Ok(TableSchema { name, fields })
@@ -63,6 +68,8 @@ pub fn schema_of(alloc: Global, (tables, unions): SchemaParts<'_>) -> Result<Sch
     Ok(Schema {
         tables: tables_of(alloc, tables)?,
         unions: unions_of(alloc, unions)?,
+        enums: Vec::new(alloc),
+        structs: Vec::new(alloc),
         root: tables.len().saturating_sub(1),
     })
 }

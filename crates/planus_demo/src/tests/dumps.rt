@@ -84,6 +84,8 @@ fn nodes(alloc: Global) -> Result<Schema, AllocError> {
     Ok(Schema {
         tables,
         unions: Vec::new(alloc),
+        enums: Vec::new(alloc),
+        structs: Vec::new(alloc),
         root: 0,
     })
 }

@@ -2,31 +2,42 @@
 use Rattle.std.specs.Prelude.{◌≡◌, ◌≢◌, ℕ, List, [], ◌∷◌, ◌++◌, length, map}
 use Rattle.std.specs.Prelude.{Bool, true, false, if◌then◌else◌, ◌==◌}
 use Rattle.std.specs.String.{string_bytes}
-use Rattle.planus_dump.specs.Events.{Event, line, deep}
+use Rattle.planus_dump.specs.Events.{Event, line, deep, float}
+use Rattle.planus_dump.specs.declared.line.Line.{Line}
+use Rattle.planus_dump.specs.declared.line.Line.TheVariants.{Text, Float}
 use Rattle.planus_dump.specs.declared.line_sink.Stop.{Stop}
 use Rattle.planus_dump.specs.declared.line_sink.Stop.TheVariants.{Going, TooDeep, TooMany}
 use Rattle.planus_dump.specs.declared.line_sink.LineSink.{LineSink}
 
--- the lines so far, their greatest number, and whether the walk goes on
+-- the event of a line
+abbrev pub event_of : Line → Event
+event_of (Text text) = line (string_bytes text)
+event_of (Float path number) = float (string_bytes path) number
+
+-- the events of the lines so far, their greatest number, and whether the walk goes on
 pub record Shown : Type 0 where
-  pub lines : List (List ℕ)
+  pub lines : List Event
   pub budget : ℕ
   pub stop : Stop
 
 abbrev pub shown : LineSink → Shown
-shown out =
-    record { lines = map string_bytes out.lines.items; budget = out.budget; stop = out.stop }
+shown out = record { lines = map event_of out.lines.items; budget = out.budget; stop = out.stop }
 
 -- the state before the first event
 abbrev pub begin : ℕ → Shown
 begin budget = record { lines = []; budget = budget; stop = Going }
 
+-- a line that comes while the walk goes on
+abbrev pub added : Shown → Event → Shown
+added s e =
+    if length s.lines == s.budget then record s { stop = TooMany }
+    else record s { lines = s.lines ++ e ∷ [] }
+
 -- an event that comes while the walk goes on
 abbrev pub going : Shown → Event → Shown
 going s deep = record s { stop = TooDeep }
-going s (line l) =
-    if length s.lines == s.budget then record s { stop = TooMany }
-    else record s { lines = s.lines ++ l ∷ [] }
+going s (line l) = added s (line l)
+going s (float path number) = added s (float path number)
 
 abbrev pub step_at : Shown → Stop → Event → Shown
 step_at s Going e = going s e

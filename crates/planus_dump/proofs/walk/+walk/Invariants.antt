@@ -22,6 +22,9 @@ decreases-dump_items l = 7 * l.left + 3
 abbrev pub decreases-dump_unions : goal.decreases-dump_unions
 decreases-dump_unions l = 7 * l.left + 3
 
+abbrev pub decreases-dump_nested : goal.decreases-dump_nested
+decreases-dump_nested l = 7 * l.left + 1
+
 abbrev pub decreases-dump_place : goal.decreases-dump_place
 decreases-dump_place l = 7 * l.left + 4
 

@@ -1,0 +1,13 @@
+use Rattle.std.proofs.Common.{◌≡◌, ◌-◌}
+use Rattle.planus_read.specs.Pieces.{slice_bytes}
+use Rattle.planus_read.specs.Places.{place_bytes, place_offset}
+use Rattle.planus_dump.specs.Answers.{vector_at}
+use Rattle.planus_dump.specs.Events.{values_events, fixed_list_events, fixed_size}
+use Rattle.planus_dump.specs.inner.Shown.{shown, feed}
+use Rattle.planus_dump.proofs.fixed.dump_values.Given as goal
+
+-- what is left to be fed leads to the same lines
+abbrev pub invariant-loop-i : goal.invariant-loop-i
+invariant-loop-i l =
+    feed (shown l.out) (values_events l.schema l.fixed (slice_bytes l.slice) l.path (l.count - l.i-counter) l.i-counter)
+    ≡ feed (shown l.fn.out) (fixed_list_events l.schema l.fixed l.path (vector_at (fixed_size l.schema l.fixed) (place_bytes l.place) (place_offset l.place)))

@@ -1,0 +1,250 @@
+//! Values of a fixed size.
+ghost use Rattle.std.specs.Prelude.{◌≡◌, ◌-◌, OnOk, slice_get};
+ghost use Rattle.std.specs.Int.{byte_len};
+ghost use Rattle.planus_read.specs.Places.{place_bytes, place_offset};
+ghost use Rattle.planus_read.specs.Pieces.{slice_bytes};
+ghost use Rattle.planus_dump.specs.Answers.{vector_at};
+ghost use Rattle.planus_dump.specs.Events.{number_leaf, number_width, enum_size, struct_size};
+ghost use Rattle.planus_dump.specs.Events.{leaf_events, enum_events, enum_at, answer_event};
+ghost use Rattle.planus_dump.specs.Events.{fixed_size as fixed_size_lem, fixed_events, structs};
+ghost use Rattle.planus_dump.specs.Events.{struct_events, struct_fields_events, value_events};
+ghost use Rattle.planus_dump.specs.Events.{fixed_list_events};
+ghost use Rattle.planus_dump.specs.inner.Shown.{shown, feed};
+ghost use Rattle.std.specs.Prelude.{Some, [], ◌∷◌};
+
+use crate::enums::names_of;
+use crate::line_sink::LineSink;
+use crate::readings::{
+    double_at, place_in, read_bits, read_values, single_at, slice_from, value_at,
+};
+use crate::schemas::{EnumSchema, Fixed, Number, Schema, StructSchema};
+use crate::values::Leaf;
+use planus::{Place, SliceWithStartOffset};
+use std::alloc::AllocError;
+
+/// The greatest number of structs in one another.
+const GREATEST_NESTING: usize = 64;
+
+fn leaf_of(number: Number) -> Leaf
+    ensures { result ≡ number_leaf number }
+{
+    match number {
+        Number::U8 => Leaf::U8,
+        Number::U16 => Leaf::U16,
+        Number::U32 => Leaf::U32,
+        Number::U64 => Leaf::U64,
+        Number::I8 => Leaf::I8,
+        Number::I16 => Leaf::I16,
+        Number::I32 => Leaf::I32,
+        Number::I64 => Leaf::I64,
+    }
+}
+
+fn number_size(number: Number) -> usize
+    ensures { result ≡ byte_len (number_width number) }
+{
+    match number {
+        Number::U8 | Number::I8 => 1,
+        Number::U16 | Number::I16 => 2,
+        Number::U32 | Number::I32 => 4,
+        Number::U64 | Number::I64 => 8,
+    }
+}
+
+/// Returns the size in bytes of a value of a fixed size.
+fn fixed_size(schema: &Schema, fixed: Fixed) -> usize
+    ensures { result ≡ fixed_size_lem schema.now fixed }
+{
+    match fixed {
+        Fixed::Number(number) => number_size(number),
+        Fixed::Bool => 1,
+        Fixed::F32 => 4,
+        Fixed::F64 => 8,
+        Fixed::Enum(index) => match schema.enums.get(index) {
+            Some(shape) => number_size(shape.number),
+            None => 1,
+        },
+        Fixed::Struct(index) => match schema.structs.get(index) {
+            Some(shape) => shape.size,
+            None => 1,
+        },
+    }
+}
+
+/// Dumps an integer or a bool.
+fn dump_leaf(out: &mut LineSink, path: &str, leaf: Leaf, place: Place<'_>) -> Result<(), AllocError>
+    ensures { OnOk result (shown out.new ≡ feed (shown out.old)
+        (leaf_events leaf (place_bytes place.entry) (place_offset place.entry) path.now)) }
+{
+    match value_at(place, leaf) {
+        Ok(value) => out.put_value(path, value),
+        Err(kind) => out.put_fault(path, kind),
+    }
+}
+
+/// Dumps a number of an enum.
+fn dump_enum(
+    out: &mut LineSink,
+    path: &str,
+    shape: &EnumSchema,
+    place: Place<'_>,
+) -> Result<(), AllocError>
+    ensures { OnOk result (shown out.new ≡ feed (shown out.old) (enum_events (Some shape.now)
+        (place_bytes place.entry) (place_offset place.entry) path.now)) }
+{
+    let value = match value_at(place, leaf_of(shape.number)) {
+        Ok(value) => value,
+        Err(kind) => return out.put_fault(path, kind),
+    };
+    let number = match read_bits(place, shape.number) {
+        Ok(number) => number,
+        Err(kind) => return out.put_fault(path, kind),
+    };
+    let names = names_of(out.alloc, shape, number)?;
+    out.put_named(path, value, names.as_str())
+}
+
+/// Dumps a value of a fixed size, with up to `left` levels of structs in it.
+#[cycle(fixed)]
+fn dump_fixed(
+    schema: &Schema,
+    out: &mut LineSink,
+    left: usize,
+    path: &str,
+    fixed: Fixed,
+    place: Place<'_>,
+) -> Result<(), AllocError>
+    ensures { OnOk result (shown out.new ≡ feed (shown out.old)
+        (fixed_events schema.now (structs schema.now left) fixed
+        (place_bytes place.entry) (place_offset place.entry) path.now)) }
+{
+    match fixed {
+        Fixed::Number(number) => dump_leaf(out, path, leaf_of(number), place),
+        Fixed::Bool => dump_leaf(out, path, Leaf::Bool, place),
+        Fixed::F32 => match single_at(place) {
+            Ok(bits) => out.put_float(path, bits),
+            Err(kind) => out.put_fault(path, kind),
+        },
+        Fixed::F64 => match double_at(place) {
+            Ok(bits) => out.put_float(path, bits),
+            Err(kind) => out.put_fault(path, kind),
+        },
+        Fixed::Enum(index) => match schema.enums.get(index) {
+            Some(shape) => dump_enum(out, path, shape, place),
+            None => Ok(()),
+        },
+        Fixed::Struct(index) => dump_struct(schema, out, left, path, index, place),
+    }
+}
+
+/// Dumps the struct at a place, with up to `left - 1` levels of structs in it.
+#[cycle(fixed)]
+fn dump_struct(
+    schema: &Schema,
+    out: &mut LineSink,
+    left: usize,
+    path: &str,
+    index: usize,
+    place: Place<'_>,
+) -> Result<(), AllocError>
+    ensures { OnOk result (shown out.new ≡ feed (shown out.old) (structs schema.now left index
+        (place_bytes place.entry) (place_offset place.entry) path.now)) }
+{
+    if left == 0 {
+        out.put_deep();
+        return Ok(());
+    }
+    match schema.structs.get(index) {
+        Some(shape) => dump_struct_shape(schema, out, left - 1, path, shape, place),
+        None => Ok(()),
+    }
+}
+
+#[cycle(fixed)]
+fn dump_struct_shape(
+    schema: &Schema,
+    out: &mut LineSink,
+    left: usize,
+    path: &str,
+    shape: &StructSchema,
+    place: Place<'_>,
+) -> Result<(), AllocError>
+    ensures { OnOk result (shown out.new ≡ feed (shown out.old)
+        (struct_events schema.now (structs schema.now left) (Some shape.now)
+        (place_bytes place.entry) (place_offset place.entry) path.now)) }
+{
+    match slice_from(place, shape.size) {
+        Ok(slice) => {
+            out.put_struct(path, shape.name.as_str())?;
+            dump_struct_fields(schema, out, left, path, shape, slice)
+        }
+        Err(kind) => out.put_fault(path, kind),
+    }
+}
+
+#[cycle(fixed)]
+fn dump_struct_fields(
+    schema: &Schema,
+    out: &mut LineSink,
+    left: usize,
+    path: &str,
+    shape: &StructSchema,
+    slice: SliceWithStartOffset<'_>,
+) -> Result<(), AllocError>
+    ensures { OnOk result (shown out.new ≡ feed (shown out.old)
+        (struct_fields_events schema.now (structs schema.now left) shape.now.fields.items
+        (slice_bytes slice.entry) path.now)) }
+{
+    for field in &shape.fields {
+        if out.is_stopped() {
+            return Ok(());
+        }
+        let path = format!(in out.alloc; "{path}.{}", field.name)?;
+        let place = place_in(slice, field.distance);
+        dump_fixed(schema, out, left, path.as_str(), field.fixed, place)?;
+    }
+    Ok(())
+}
+
+/// Dumps a value of a fixed size.
+pub fn dump_value(
+    schema: &Schema,
+    out: &mut LineSink,
+    path: &str,
+    fixed: Fixed,
+    place: Place<'_>,
+) -> Result<(), AllocError>
+    ensures { OnOk result (shown out.new ≡ feed (shown out.old) (value_events schema.now fixed
+        (place_bytes place.entry) (place_offset place.entry) path.now)) }
+{
+    dump_fixed(schema, out, GREATEST_NESTING, path, fixed, place)
+}
+
+/// Dumps the vector of values of a fixed size to which the reference at a place leads.
+pub fn dump_values(
+    schema: &Schema,
+    out: &mut LineSink,
+    path: &str,
+    fixed: Fixed,
+    place: Place<'_>,
+) -> Result<(), AllocError>
+    ensures { OnOk result (shown out.new ≡ feed (shown out.old)
+        (fixed_list_events schema.now fixed path.now (vector_at (fixed_size_lem schema.now fixed)
+        (place_bytes place.entry) (place_offset place.entry)))) }
+{
+    let size = fixed_size(schema, fixed);
+    let (slice, count) = match read_values(place, size) {
+        Ok(values) => values,
+        Err(kind) => return out.put_fault(path, kind),
+    };
+    out.put_list(path, count)?;
+    for i in 0..count {
+        if out.is_stopped() {
+            return Ok(());
+        }
+        let path = format!(in out.alloc; "{path}[{i}]")?;
+        let place = place_in(slice, i * size);
+        dump_value(schema, out, path.as_str(), fixed, place)?;
+    }
+    Ok(())
+}

@@ -1,0 +1,101 @@
+//! Lines as text, floats printed.
+ghost use Rattle.std.specs.Prelude.{IfOk, map, IsTrue};
+ghost use Rattle.std.specs.String.{string_bytes};
+ghost use Rattle.planus_dump.specs.Dumped.{Shows, AreShown};
+ghost use Rattle.planus_dump.specs.Floats.{ReadsBackTo, IsNan, PrintsFloat};
+ghost use Rattle.planus_dump.specs.inner.Shown.{event_of};
+
+use crate::line::{Bits, Line};
+use std::alloc::{AllocError, Global};
+use std::num::{
+    f32_from_bits_with_nan, f32_to_bits_with_nan, f64_from_bits_with_nan, f64_to_bits_with_nan,
+};
+
+fn is_nan(bits: Bits) -> bool
+    ensures { IsTrue result → IsNan bits }
+{
+    match bits {
+        Bits::F32(bits) => 0x7f80_0000 < bits % 0x8000_0000,
+        Bits::F64(bits) => 0x7ff0_0000_0000_0000 < bits % 0x8000_0000_0000_0000,
+    }
+}
+
+/// Returns the decimal that `std` prints.
+fn decimal_text(alloc: Global, bits: Bits) -> Result<String, AllocError> {
+    match bits {
+        Bits::F32(bits) => {
+            let x = f32_from_bits_with_nan(bits);
+            format!(in alloc; "{x:?}")
+        }
+        Bits::F64(bits) => {
+            let x = f64_from_bits_with_nan(bits);
+            format!(in alloc; "{x:?}")
+        }
+    }
+}
+
+/// Returns whether a text reads back to the same bits.
+fn reads_back(text: &str, bits: Bits) -> bool
+    ensures { IsTrue result → ReadsBackTo bits text.now }
+{
+    match bits {
+        Bits::F32(bits) => match text.parse::<f32>() {
+            Ok(x) => f32_to_bits_with_nan(x) == bits,
+            Err(_) => false,
+        },
+        Bits::F64(bits) => match text.parse::<f64>() {
+            Ok(x) => f64_to_bits_with_nan(x) == bits,
+            Err(_) => false,
+        },
+    }
+}
+
+fn bits_text(alloc: Global, bits: Bits) -> Result<String, AllocError>
+    ensures { IfOk result (λ text. PrintsFloat bits (string_bytes text)) }
+{
+    match bits {
+        Bits::F32(bits) => format!(in alloc; "bits {bits}"),
+        Bits::F64(bits) => format!(in alloc; "bits {bits}"),
+    }
+}
+
+/// Returns a float as text: the shortest decimal that reads back to the same bits, as `std` prints
+/// it, `nan`, `inf` or `-inf`.
+fn float_text(alloc: Global, bits: Bits) -> Result<String, AllocError>
+    ensures { IfOk result (λ text. PrintsFloat bits (string_bytes text)) }
+{
+    if is_nan(bits) {
+        return String::from_str(alloc, "nan");
+    }
+    let text = decimal_text(alloc, bits)?;
+    if reads_back(text.as_str(), bits) {
+        return Ok(text);
+    }
+    bits_text(alloc, bits)
+}
+
+/// Returns a line as text.
+fn line_text(alloc: Global, line: Line) -> Result<String, AllocError>
+    ensures { IfOk result (λ text. Shows (event_of line) (string_bytes text)) }
+{
+    match line {
+        Line::Text(text) => Ok(text),
+        Line::Float(path, bits) => {
+            let text = float_text(alloc, bits)?;
+            format!(in alloc; "{path} = {text}")
+        }
+    }
+}
+
+/// Returns lines as text.
+pub fn line_texts(alloc: Global, lines: Vec<Line>) -> Result<Vec<String>, AllocError>
+    ensures { IfOk result (λ texts. AreShown (map event_of lines.items)
+        (map string_bytes texts.items)) }
+{
+    let mut texts = Vec::new(alloc);
+    for line in lines {
+        let text = line_text(alloc, line)?;
+        texts.push(text)?;
+    }
+    Ok(texts)
+}
