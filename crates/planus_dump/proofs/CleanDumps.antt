@@ -11,8 +11,8 @@ use Rattle.planus_read.proofs.PieceLaws.{references_lead}
 use Rattle.planus.specs.Headline.{root_at}
 use Rattle.planus_dump.specs.FaultLines.{is_fault_line, IsNoFault, HaveNoFault}
 use Rattle.planus_dump.specs.Events.{Event, line, deep, float}
-use Rattle.planus_dump.specs.Dumped.{events_of, greatest_depth, Shows, AreShown}
-use Rattle.planus_dump.specs.Laws.{FinishesHaveNoFault, DumpsHaveNoFault, piece_of}
+use Rattle.planus_dump.specs.Dumped.{greatest_depth, Shows, AreShown}
+use Rattle.planus_dump.specs.Laws.{FinishesHaveNoFault, DumpsHaveNoFault}
 use Rattle.planus_dump.proofs.FaultLines.{good_names, lines_told}
 use Rattle.planus_dump.proofs.NoFaults.{tables_no_fault}
 

@@ -1,7 +1,7 @@
 -- How events are fed one after another, and what comes of it.
 use Rattle.std.proofs.Common.{◌≡◌, ◌≢◌, ℕ, zero, suc, ◌+◌, ◌-◌, ◌*◌, ◌<◌, ◌≤◌, List, [], ◌∷◌, ◌++◌, map, length, drop, get_or, Option, Some, None, slice_get, refl, sym, ap, ◌∙◌, subst, arith, length-append, Bool, true, false, ◌==◌, inr}
 use Rattle.std.specs.Prelude.{if◌then◌else◌, slice_index}
-use Rattle.std.specs.Prelude.{Vec, String, codes}
+use Rattle.std.specs.Prelude.{Vec, String, codes, nat_lt, ⊤}
 use Rattle.std.specs.Fmt.{decimal}
 use Rattle.std.specs.List.{AllByRecursion}
 use Rattle.std.specs.declared.alloc.Global.{Global}
@@ -9,7 +9,7 @@ use Rattle.planus_read.specs.declared.errors.ErrorKind.TheVariants.{UnknownUnion
 use Rattle.planus_dump.specs.Tests.{fault_text}
 use Rattle.std.specs.String.{string_bytes}
 use Rattle.std.proofs.lemmas.List.{append_assoc, append-nil, drop_more, length-map}
-use Rattle.std.proofs.lemmas.Bool.{eqb-true, eqb-false}
+use Rattle.std.proofs.lemmas.Bool.{eqb-true, eqb-false, ltb-true, ltb-false}
 use Rattle.planus_dump.specs.Lines.{item_path, field_path, value_line}
 use Rattle.planus_dump.specs.Answers.{Seen, SeenUnions}
 use Rattle.planus_dump.specs.Events.{variant_of, variant_events, fault_event, Event, line, deep, float, field_label, events, TableEvents, shape_events, fields_events, kind_events, item_events, items_events, union_events, union_items_events, stride_of}
@@ -17,13 +17,14 @@ use Rattle.planus_dump.specs.Seeing.{IsFound, found_events, IsUnionIn}
 use Rattle.planus_read.specs.declared.place.TaggedPlace.{TaggedPlace}
 use Rattle.planus_read.specs.Places.{place_bytes, place_offset, tagged_tag, tagged_place}
 use Rattle.planus_dump.specs.declared.readings.Found.{Found}
-use Rattle.planus_dump.specs.inner.Shown.{begin, shown, event_of, Shown, added, step_at, step, feed}
+use Rattle.planus_dump.specs.inner.Shown.{begin, shown, event_of, Shown, by_room, added, step_at, step, feed}
 use Rattle.planus_dump.specs.Dumped.{Shows, AreShown, Begin}
 use Rattle.planus_dump.specs.Floats.{number_of}
+use Rattle.planus_dump.specs.Views.{cost, costs}
 use Rattle.planus_dump.specs.declared.line.Bits.{Bits}
 use Rattle.planus_dump.specs.declared.line_sink.Stop.{Stop}
 use Rattle.planus_dump.specs.declared.line_sink.LineSink.{LineSink}
-use Rattle.planus_dump.specs.declared.line_sink.Stop.TheVariants.{Going, TooDeep, TooMany}
+use Rattle.planus_dump.specs.declared.line_sink.Stop.TheVariants.{Going, TooDeep, TooMany, TooLong}
 use Rattle.planus_dump.specs.declared.schemas.Schema.{Schema}
 use Rattle.planus_dump.specs.declared.schemas.FieldSchema.{FieldSchema}
 use Rattle.planus_dump.specs.declared.schemas.Item.{Item}
@@ -37,6 +38,7 @@ stay : (s : Shown) (t : Stop) (e : Event) → t ≢ Going → step_at s t e ≡ 
 stay s Going e h = absurd (h refl)
 stay s TooDeep e h = refl
 stay s TooMany e h = refl
+stay s TooLong e h = refl
 
 -- a walk that was stopped takes no more events, so it may return at once
 pub feed-stopped : (s : Shown) (es : List Event) → s.stop ≢ Going → feed s es ≡ s
@@ -155,11 +157,31 @@ union_items-none E schema index items path (suc n) i h = absurd (omega (arith, h
 abbrev pub AreLines : List Event → Type 0
 AreLines es = AllByRecursion (λ e. e ≢ deep) es
 
--- what comes of some events behind those so far: their lines, or what stopped the walk
-abbrev pub Answered : List Event → List Event → ℕ → List Event → Stop → Type 0
-Answered ls es budget lines Going = (new : List Event) × (es ≡ new ++ []) × AreLines new × (lines ≡ ls ++ new) × (length (ls ++ new) ≤ budget)
-Answered ls es budget lines TooDeep = (new : List Event) × (rest : List Event) × (es ≡ new ++ deep ∷ rest) × AreLines new × (length (ls ++ new) ≤ budget)
-Answered ls es budget lines TooMany = (new : List Event) × (l : Event) × (rest : List Event) × (es ≡ new ++ l ∷ rest) × AreLines new × (l ≢ deep) × (length (ls ++ new) ≡ budget)
+-- the bytes of lines fit in a room, or don't
+abbrev pub Fits : Option ℕ → ℕ → Type 0
+Fits None n = ⊤
+Fits (Some room) n = n ≤ room
+
+abbrev pub Exceeds : Option ℕ → ℕ → Type 0
+Exceeds None n = ⊥
+Exceeds (Some room) n = room < n
+
+-- the first events were taken as lines, behind those so far
+pub record Taken (ls : List Event) (room : Option ℕ) (es rest lines : List Event) (budget : ℕ) : Type 0 where
+  pub new : List Event
+  pub split : es ≡ new ++ rest
+  pub all : AreLines new
+  pub is : lines ≡ ls ++ new
+  pub most : length lines ≤ budget
+  pub fits : Fits room (costs new)
+
+-- what comes of some events: their lines, or what stopped the walk
+abbrev pub Answered : List Event → Option ℕ → List Event → ℕ → List Event → Stop → Type 0
+Answered ls room es budget lines Going = Taken ls room es [] lines budget
+Answered ls room es budget lines TooDeep = (rest : List Event) × Taken ls room es (deep ∷ rest) lines budget
+Answered ls room es budget lines TooMany = (l : Event) × (rest : List Event) × (l ≢ deep) × Taken ls room es (l ∷ rest) lines budget × (length lines ≡ budget)
+Answered ls room es budget lines TooLong =
+    (l : Event) × (rest : List Event) × (l ≢ deep) × (taken : Taken ls room es (l ∷ rest) lines budget) × Exceeds room (costs taken.new + cost l)
 
 deep_stops : TooDeep ≢ Going
 deep_stops e = cc
@@ -167,28 +189,83 @@ deep_stops e = cc
 many_stops : TooMany ≢ Going
 many_stops e = cc
 
-shift : (ls : List Event) (l : Event) (es : List Event) (budget : ℕ) (lines : List Event) (t : Stop) → l ≢ deep → Answered (ls ++ l ∷ []) es budget lines t → Answered ls (l ∷ es) budget lines t
-shift ls l es budget lines Going is (new, e, all, f, le) = (l ∷ new, ap (λ z. l ∷ z) e, (is, all), f ∙ append_assoc ls (l ∷ []) new, subst (λ z. length z ≤ budget) (append_assoc ls (l ∷ []) new) le)
-shift ls l es budget lines TooDeep is (new, rest, e, all, le) = (l ∷ new, rest, ap (λ z. l ∷ z) e, (is, all), subst (λ z. length z ≤ budget) (append_assoc ls (l ∷ []) new) le)
-shift ls l es budget lines TooMany is (new, m, rest, e, all, other, n) = (l ∷ new, m, rest, ap (λ z. l ∷ z) e, (is, all), other, subst (λ z. length z ≡ budget) (append_assoc ls (l ∷ []) new) n)
+long_stops : TooLong ≢ Going
+long_stops e = cc
 
-abbrev here : List Event → ℕ → Stop → Shown
-here ls budget stop = record { lines = ls; budget = budget; stop = stop }
+-- the room that a line leaves
+abbrev left_in : Option ℕ → ℕ → Option ℕ
+left_in None n = None
+left_in (Some room) n = Some (room - n)
 
-abbrev After : List Event → List Event → ℕ → Shown → Type 0
-After ls es budget r = Answered ls es budget r.lines r.stop
+more_fits : (room : Option ℕ) (c n : ℕ) → Fits room c → Fits (left_in room c) n → Fits room (c + n)
+more_fits None c n h k = tt
+more_fits (Some room) c n h k = omega (arith, h, k)
+
+more_exceeds : (room : Option ℕ) (c n m : ℕ) → Fits room c → Exceeds (left_in room c) (n + m) → Exceeds room (c + n + m)
+more_exceeds None c n m h k = absurd k
+more_exceeds (Some room) c n m h k = omega (arith, h, k)
+
+taken_more : (ls : List Event) (room : Option ℕ) (l : Event) (es rest lines : List Event) (budget : ℕ) → l ≢ deep → Fits room (cost l)
+    → Taken (ls ++ l ∷ []) (left_in room (cost l)) es rest lines budget → Taken ls room (l ∷ es) rest lines budget
+taken_more ls room l es rest lines budget is fits t = record {
+  new = l ∷ t.new;
+  split = ap (λ z. l ∷ z) t.split;
+  all = (is, t.all);
+  is = t.is ∙ append_assoc ls (l ∷ []) t.new;
+  most = t.most;
+  fits = more_fits room (cost l) (costs t.new) fits t.fits;
+}
+
+shift : (ls : List Event) (room : Option ℕ) (l : Event) (es : List Event) (budget : ℕ) (lines : List Event) (t : Stop) → l ≢ deep → Fits room (cost l)
+    → Answered (ls ++ l ∷ []) (left_in room (cost l)) es budget lines t → Answered ls room (l ∷ es) budget lines t
+unfolding taken_more
+shift ls room l es budget lines Going is fits t = taken_more ls room l es [] lines budget is fits t
+shift ls room l es budget lines TooDeep is fits (rest, t) = (rest, taken_more ls room l es (deep ∷ rest) lines budget is fits t)
+shift ls room l es budget lines TooMany is fits (m, rest, other, t, n) = (m, rest, other, taken_more ls room l es (m ∷ rest) lines budget is fits t, n)
+shift ls room l es budget lines TooLong is fits (m, rest, other, t, n) =
+    (m, rest, other, taken_more ls room l es (m ∷ rest) lines budget is fits t, more_exceeds room (cost l) (costs t.new) (cost m) fits n)
+
+abbrev here : List Event → ℕ → Option ℕ → Stop → Shown
+here ls budget room stop = record { lines = ls; budget = budget; room = room; stop = stop }
+
+abbrev After : List Event → Option ℕ → List Event → ℕ → Shown → Type 0
+After ls room es budget r = Answered ls room es budget r.lines r.stop
+
+-- no line was taken
+none_taken : (ls : List Event) (room : Option ℕ) (es : List Event) (budget : ℕ) → length ls ≤ budget → Taken ls room es es ls budget
+none_taken ls None es budget h = record { new = []; split = refl; all = tt; is = sym (append-nil ls); most = h; fits = tt }
+none_taken ls (Some room) es budget h = record { new = []; split = refl; all = tt; is = sym (append-nil ls); most = h; fits = omega arith }
+
+-- a line comes next, and the budget has room for it
+within : (l : Event) (es ls : List Event) (budget : ℕ) (room : Option ℕ) → l ≢ deep → length (ls ++ l ∷ []) ≤ budget → length ls ≤ budget
+    → (After (ls ++ l ∷ []) (left_in room (cost l)) es budget (feed (here (ls ++ l ∷ []) budget (left_in room (cost l)) Going) es))
+    → After ls room (l ∷ es) budget (feed (by_room (here ls budget room Going) l room) es)
+unfolding none_taken
+within l es ls budget None is more h rest = let r = feed (here (ls ++ l ∷ []) budget None Going) es in shift ls None l es budget r.lines r.stop is tt rest
+within l es ls budget (Some room) is more h rest = by_test (nat_lt room (cost l)) refl
+  where
+    by_test : (b : Bool) → nat_lt room (cost l) ≡ b → After ls (Some room) (l ∷ es) budget
+        (feed (if b then here ls budget (Some room) TooLong else here (ls ++ l ∷ []) budget (Some (room - cost l)) Going) es)
+    by_test true e =
+        let above : room < cost l = ltb-true room (cost l) e in
+        let t = none_taken ls (Some room) (l ∷ es) budget h in
+        subst (After ls (Some room) (l ∷ es) budget) (sym (feed-stopped (here ls budget (Some room) TooLong) es long_stops)) (l, es, is, t, omega (arith, above))
+    by_test false e =
+        let below : cost l ≤ room = ltb-false room (cost l) e in
+        let r = feed (here (ls ++ l ∷ []) budget (Some (room - cost l)) Going) es in shift ls (Some room) l es budget r.lines r.stop is below rest
 
 -- a line comes next
-answered_line : (l : Event) (es ls : List Event) (budget : ℕ) → l ≢ deep → length ls ≤ budget
-    → (length (ls ++ l ∷ []) ≤ budget → After (ls ++ l ∷ []) es budget (feed (here (ls ++ l ∷ []) budget Going) es))
-    → After ls (l ∷ es) budget (feed (added (here ls budget Going) l) es)
-answered_line l es ls budget is h rest =
-    let by_test : (b : Bool) → (length ls == budget) ≡ b → After ls (l ∷ es) budget (feed (if b then here ls budget TooMany else here (ls ++ l ∷ []) budget Going) es) = λ b. elim b as (λ b. (length ls == budget) ≡ b → After ls (l ∷ es) budget (feed (if b then here ls budget TooMany else here (ls ++ l ∷ []) budget Going) es)) [
-      | true ↦ λ e. (let same : length ls ≡ budget = eqb-true (length ls) budget e in
-          subst (After ls (l ∷ es) budget) (sym (feed-stopped (here ls budget TooMany) es many_stops)) ([], l, es, refl, tt, is, subst (λ z. length z ≡ budget) (sym (append-nil ls)) same))
-      | false ↦ λ e. (let ne : length ls ≢ budget = eqb-false (length ls) budget e in
-          (let r = feed (here (ls ++ l ∷ []) budget Going) es in shift ls l es budget r.lines r.stop is (rest (omega (arith, h, ne, length-append ls (l ∷ []))))))
-    ] in by_test (length ls == budget) refl
+answered_line : (l : Event) (es ls : List Event) (budget : ℕ) (room : Option ℕ) → l ≢ deep → length ls ≤ budget
+    → (length (ls ++ l ∷ []) ≤ budget → After (ls ++ l ∷ []) (left_in room (cost l)) es budget (feed (here (ls ++ l ∷ []) budget (left_in room (cost l)) Going) es))
+    → After ls room (l ∷ es) budget (feed (added (here ls budget room Going) l) es)
+answered_line l es ls budget room is h rest = by_test (length ls == budget) refl
+  where
+    by_test : (b : Bool) → (length ls == budget) ≡ b → After ls room (l ∷ es) budget (feed (if b then here ls budget room TooMany else by_room (here ls budget room Going) l room) es)
+    by_test true e =
+        subst (After ls room (l ∷ es) budget) (sym (feed-stopped (here ls budget room TooMany) es many_stops)) (l, es, is, none_taken ls room (l ∷ es) budget h, eqb-true (length ls) budget e)
+    by_test false e =
+        let ne : length ls ≢ budget = eqb-false (length ls) budget e in
+        let more : length (ls ++ l ∷ []) ≤ budget = omega (arith, h, ne, length-append ls (l ∷ [])) in within l es ls budget room is more h (rest more)
 
 line_is : (l : List ℕ) → line l ≢ deep
 line_is l e = cc
@@ -196,18 +273,21 @@ line_is l e = cc
 float_is : (path : List ℕ) (number : Bits) → float path number ≢ deep
 float_is path number e = cc
 
-pub answered : (es : List Event) (ls : List Event) (budget : ℕ) → length ls ≤ budget → Answered ls es budget (feed (here ls budget Going) es).lines (feed (here ls budget Going) es).stop
-answered [] ls budget h = ([], refl, tt, sym (append-nil ls), subst (λ z. length z ≤ budget) (sym (append-nil ls)) h)
-answered (deep ∷ es) ls budget h =
-    subst (After ls (deep ∷ es) budget) (sym (feed-stopped (here ls budget TooDeep) es deep_stops)) ([], es, refl, tt, subst (λ z. length z ≤ budget) (sym (append-nil ls)) h)
-answered (line l ∷ es) ls budget h = answered_line (line l) es ls budget (line_is l) h (λ more. answered es (ls ++ line l ∷ []) budget more)
-answered (float path number ∷ es) ls budget h = answered_line (float path number) es ls budget (float_is path number) h (λ more. answered es (ls ++ float path number ∷ []) budget more)
+pub answered : (es ls : List Event) (budget : ℕ) (room : Option ℕ) → length ls ≤ budget
+    → Answered ls room es budget (feed (here ls budget room Going) es).lines (feed (here ls budget room Going) es).stop
+answered [] ls budget room h = none_taken ls room [] budget h
+answered (deep ∷ es) ls budget room h =
+    subst (After ls room (deep ∷ es) budget) (sym (feed-stopped (here ls budget room TooDeep) es deep_stops)) (es, none_taken ls room (deep ∷ es) budget h)
+answered (line l ∷ es) ls budget room h = answered_line (line l) es ls budget room (line_is l) h (λ more. answered es (ls ++ line l ∷ []) budget (left_in room (cost (line l))) more)
+answered (float path number ∷ es) ls budget room h =
+    answered_line (float path number) es ls budget room (float_is path number) h (λ more. answered es (ls ++ float path number ∷ []) budget (left_in room (cost (float path number))) more)
 
 -- what a walk from no lines leaves
-pub walked : (es : List Event) (budget : ℕ) (out : LineSink) (stop : Stop) → shown out ≡ feed (begin budget) es → out.stop ≡ stop → Answered [] es budget (map event_of out.lines.items) stop
-walked es budget out stop fed is =
-    let whole : After [] es budget (shown out) = subst (After [] es budget) (sym fed) (answered es [] budget (omega arith)) in
-    subst (Answered [] es budget (map event_of out.lines.items)) is whole
+pub walked : (es : List Event) (budget : ℕ) (room : Option ℕ) (out : LineSink) (stop : Stop) → shown out ≡ feed (begin budget room) es → out.stop ≡ stop
+    → Answered [] room es budget (map event_of out.lines.items) stop
+walked es budget room out stop fed is =
+    let whole : After [] room es budget (shown out) = subst (After [] room es budget) (sym fed) (answered es [] budget room (omega arith)) in
+    subst (Answered [] room es budget (map event_of out.lines.items)) is whole
 
 -- a line of an event; a float by the number of its bits
 abbrev pub some_line : Event → List ℕ
@@ -244,19 +324,24 @@ shown_length (e ∷ es) [] h = absurd h
 shown_length (e ∷ es) (l ∷ lines) h = ap suc (shown_length es lines h.1)
 
 -- the lines, where the walk wasn't stopped
-pub all_lines : (es : List Event) (budget : ℕ) (lines : List Event) (texts : List (String Global)) → Answered [] es budget lines Going → AreShown lines (map string_bytes texts)
+pub all_lines : (es : List Event) (budget : ℕ) (lines : List Event) (texts : List (String Global)) → Answered [] None es budget lines Going → AreShown lines (map string_bytes texts)
     → Begin es (map string_bytes texts) [] × (length texts ≤ budget)
-all_lines es budget lines texts (new, e, all, is, le) shows =
+all_lines es budget lines texts t shows =
     let same : length texts ≡ length lines = sym (length-map texts string_bytes) ∙ shown_length lines (map string_bytes texts) shows in
-    (record { front = lines; split = e ∙ ap (λ ls. ls ++ []) (sym is); shown = shows }, subst (λ n. n ≤ budget) (ap length (sym is) ∙ sym same) le)
+    (record { front = lines; split = t.split ∙ ap (λ ls. ls ++ []) (sym t.is); shown = shows }, subst (λ n. n ≤ budget) (sym same) t.most)
 
-pub too_deep : (es : List Event) (budget : ℕ) (lines : List Event) → Answered [] es budget lines TooDeep
+pub too_deep : (es : List Event) (budget : ℕ) (lines : List Event) → Answered [] None es budget lines TooDeep
     → (lines : List (List ℕ)) × (rest : List Event) × Begin es lines (deep ∷ rest) × (length lines ≤ budget)
-too_deep es budget lines (new, rest, e, all, le) = (map some_line new, rest, begins es new (deep ∷ rest) e all, subst (λ n. n ≤ budget) (sym (length-map new some_line)) le)
+too_deep es budget lines (rest, t) =
+    (map some_line t.new, rest, begins es t.new (deep ∷ rest) t.split t.all, subst (λ n. n ≤ budget) (ap length t.is ∙ sym (length-map t.new some_line)) t.most)
 
-pub too_many : (es : List Event) (budget : ℕ) (lines : List Event) → Answered [] es budget lines TooMany
+pub too_many : (es : List Event) (budget : ℕ) (lines : List Event) → Answered [] None es budget lines TooMany
     → (lines : List (List ℕ)) × (next : Event) × (rest : List Event) × Begin es lines (next ∷ rest) × (next ≢ deep) × (length lines ≡ budget)
-too_many es budget lines (new, l, rest, e, all, is, n) = (map some_line new, l, rest, begins es new (l ∷ rest) e all, is, length-map new some_line ∙ n)
+too_many es budget lines (l, rest, is, t, n) =
+    (map some_line t.new, l, rest, begins es t.new (l ∷ rest) t.split t.all, is, length-map t.new some_line ∙ sym (ap length t.is) ∙ n)
+
+pub not_too_long : (es : List Event) (budget : ℕ) (lines : List Event) → Answered [] None es budget lines TooLong → ⊥
+not_too_long es budget lines (l, rest, is, t, n) = n
 
 -- a union whose variants don't have its tag
 pub union_unknown : (E : TableEvents) (o : Option (Vec (ℕ × ℕ) Global)) (variants : Vec (ℕ × ℕ) Global) (tag : ℕ) (S : List ℕ) (f : ℕ) (path : List ℕ) → o ≡ Some variants → variant_of variants.items tag ≡ None
@@ -264,7 +349,7 @@ pub union_unknown : (E : TableEvents) (o : Option (Vec (ℕ × ℕ) Global)) (va
 union_unknown E o variants tag S f path some none = ap (λ v. union_events E v tag S f path) some ∙ ap (variant_events E tag S f path) none
 
 -- the walk from the root of a buffer
-pub root_fed : (schema : Schema) (budget : ℕ) (bytes S : List ℕ) (f : ℕ) (path : List ℕ) (o r : LineSink) → S ≡ bytes → f ≡ 0 → shown o ≡ begin budget
-    → shown r ≡ feed (shown o) (events schema 64 schema.root S f path) → shown r ≡ feed (begin budget) (events schema 64 schema.root bytes 0 path)
-root_fed schema budget bytes S f path o r same first empty fed =
-    fed ∙ ap (λ s. feed s (events schema 64 schema.root S f path)) empty ∙ ap (λ xs. feed (begin budget) (events schema 64 schema.root xs f path)) same ∙ ap (λ k. feed (begin budget) (events schema 64 schema.root bytes k path)) first
+pub root_fed : (schema : Schema) (budget : ℕ) (room : Option ℕ) (bytes S : List ℕ) (f : ℕ) (path : List ℕ) (o r : LineSink) → S ≡ bytes → f ≡ 0 → shown o ≡ begin budget room
+    → shown r ≡ feed (shown o) (events schema 64 schema.root S f path) → shown r ≡ feed (begin budget room) (events schema 64 schema.root bytes 0 path)
+root_fed schema budget room bytes S f path o r same first empty fed =
+    fed ∙ ap (λ s. feed s (events schema 64 schema.root S f path)) empty ∙ ap (λ xs. feed (begin budget room) (events schema 64 schema.root xs f path)) same ∙ ap (λ k. feed (begin budget room) (events schema 64 schema.root bytes k path)) first

@@ -1,7 +1,6 @@
 -- The first event of a dump is a line.
 use Rattle.std.proofs.Common.{◌≡◌, ◌≢◌, ℕ, zero, suc, ◌<◌, List, [], ◌∷◌, length, true, refl, ap, ◌∙◌, arith, Some, Result, Ok, Err}
-use Rattle.std.specs.Prelude.{slice_get, nat_lt, ◌&&◌, codes}
-use Rattle.std.specs.List.{list_all}
+use Rattle.std.specs.Prelude.{slice_get, codes}
 use Rattle.std.specs.String.{string_bytes}
 use Rattle.std.proofs.lemmas.Bool.Decides.{nat_tests}
 use Rattle.planus_dump.specs.Answers.{Seen, table_at}

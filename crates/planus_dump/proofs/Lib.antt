@@ -8,4 +8,5 @@ mod Written
 mod Leaves
 mod NoFaults
 mod CleanDumps
+mod Ending
 pub mod AsRead

@@ -7,6 +7,7 @@ pub mod AsRead
 pub mod Events
 pub mod Seeing
 pub mod Dumped
+pub mod Views
 pub mod FaultLines
 pub mod Describes
 pub mod Laws

@@ -13,7 +13,6 @@ use Rattle.planus_dump.specs.declared.schemas.Kind.TheVariants.{One, List as Lis
 use Rattle.planus_dump.specs.declared.schemas.Kind.TheVariants.{UnionVector, U8, I8, Bytes}
 use Rattle.planus_dump.specs.declared.schemas.Kind.TheVariants.{Fixed as FixedKind, FixedList}
 use Rattle.planus_dump.specs.declared.schemas.Kind.TheVariants.{Nested}
-use Rattle.planus_dump.specs.declared.schemas.EnumSchema.{EnumSchema}
 use Rattle.planus_dump.specs.declared.schemas.StructSchema.{StructSchema}
 use Rattle.planus_dump.specs.declared.schemas.StructFieldSchema.{StructFieldSchema}
 use Rattle.planus_dump.specs.declared.schemas.Fixed.{Fixed}

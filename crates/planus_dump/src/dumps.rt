@@ -13,7 +13,7 @@ use std::error::Error;
 use std::fmt;
 
 /// The greatest depth of a table, the root having depth 1.
-const GREATEST_DEPTH: usize = 64;
+pub(crate) const GREATEST_DEPTH: usize = 64;
 
 /// Why there is no dump.
 #[derive(Clone, Copy, Debug, PartialEq, Eq)]
@@ -79,7 +79,7 @@ pub fn dump(
         return Err(DumpError::TooManyLines);
     }
     let root = place_in(SliceWithStartOffset::new(bytes, 0), 0);
-    let mut out = LineSink::new(alloc, budget);
+    let mut out = LineSink::new(alloc, budget, None);
     dump_table(schema, &mut out, GREATEST_DEPTH, "root", schema.root, root)?;
     match out.stop {
         Stop::Going => {
@@ -88,5 +88,7 @@ pub fn dump(
         }
         Stop::TooDeep => Err(DumpError::TooDeep),
         Stop::TooMany => Err(DumpError::TooManyLines),
+        // Its lines may have any number of bytes.
+        Stop::TooLong => Err(DumpError::TooManyLines),
     }
 }

@@ -16,6 +16,7 @@ mod schemas;
 mod unions;
 mod validate;
 mod values;
+mod views;
 mod walk;
 
 pub use dumps::{DumpError, dump};
@@ -25,3 +26,4 @@ pub use schemas::{
     EnumSchema, FieldSchema, Fixed, Item, Kind, Number, Schema, StructFieldSchema, StructSchema,
     TableSchema,
 };
+pub use views::{End, FirstLines, view};

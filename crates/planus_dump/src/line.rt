@@ -1,4 +1,7 @@
 //! Lines that aren't printed yet.
+ghost use Rattle.std.specs.Prelude.{◌≡◌};
+ghost use Rattle.planus_dump.specs.Views.{cost};
+ghost use Rattle.planus_dump.specs.inner.Shown.{event_of};
 
 /// The bits of a float.
 #[derive(Clone, Copy)]
@@ -12,4 +15,16 @@ pub enum Bits {
 pub enum Line {
     Text(String),
     Float(String, Bits),
+}
+
+impl Line {
+    /// Returns how many bytes the line has at most, where a float has 32.
+    pub fn size(&self) -> usize
+        ensures { result ≡ cost (event_of self.now) }
+    {
+        match self {
+            Line::Text(text) => text.len(),
+            Line::Float(path, _) => path.len() + 35,
+        }
+    }
 }

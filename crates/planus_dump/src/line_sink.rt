@@ -7,7 +7,7 @@ ghost use Rattle.planus_dump.specs.Lines.{value_text};
 ghost use Rattle.planus_dump.specs.Lines.{value_line, fault_line, table_line, list_line};
 ghost use Rattle.planus_dump.specs.Lines.{union_line, unions_line, struct_line};
 ghost use Rattle.planus_dump.specs.Tests.{fault_text};
-ghost use Rattle.planus_dump.specs.inner.Shown.{shown, event_of, begin, step, IsStopped};
+ghost use Rattle.planus_dump.specs.inner.Shown.{shown, event_of, begin, by_room, step, IsStopped};
 
 use crate::line::{Bits, Line};
 use crate::printed::{hex_text, quoted_text};
@@ -21,14 +21,17 @@ pub enum Stop {
     Going,
     TooDeep,
     TooMany,
+    TooLong,
 }
 
-/// The lines so far, their greatest number, and whether the walk goes on.
+/// The lines so far, their greatest number, how many bytes more they may have, if that is bounded,
+/// and whether the walk goes on.
 #[derive(Drop)]
 pub struct LineSink {
     pub alloc: Global,
     pub lines: Vec<Line>,
     pub budget: usize,
+    pub room: Option<usize>,
     pub stop: Stop,
 }
 
@@ -48,13 +51,14 @@ fn value_string(alloc: Global, value: Value<'_>) -> Result<String, AllocError>
 
 impl LineSink {
     /// Creates a sink with no lines.
-    pub fn new(alloc: Global, budget: usize) -> LineSink
-        ensures { shown result ≡ begin budget }
+    pub fn new(alloc: Global, budget: usize, room: Option<usize>) -> LineSink
+        ensures { shown result ≡ begin budget room }
     {
         LineSink {
             alloc,
             lines: Vec::new(alloc),
             budget,
+            room,
             stop: Stop::Going,
         }
     }
@@ -64,6 +68,23 @@ impl LineSink {
         ensures { IsStopped self.now result }
     {
         !matches!(self.stop, Stop::Going)
+    }
+
+    /// Adds a line, or stops where there is no room for its bytes.
+    fn put_in_room(&mut self, line: Line) -> Result<(), AllocError>
+        ensures { OnOk result (shown self.new
+            ≡ by_room (shown self.old) (event_of line) self.old.room) }
+    {
+        if let Some(room) = self.room {
+            let size = line.size();
+            if room < size {
+                self.stop = Stop::TooLong;
+                return Ok(());
+            }
+            self.room = Some(room - size);
+        }
+        self.lines.push(line)?;
+        Ok(())
     }
 
     /// Adds a line, or stops where the budget is used up.
@@ -76,8 +97,7 @@ impl LineSink {
                     self.stop = Stop::TooMany;
                     return Ok(());
                 }
-                self.lines.push(line)?;
-                Ok(())
+                self.put_in_room(line)
             }
             _ => Ok(()),
         }

@@ -1,12 +1,13 @@
 -- How events add to the lines so far.
-use Rattle.std.specs.Prelude.{◌≡◌, ◌≢◌, ℕ, List, [], ◌∷◌, ◌++◌, length, map}
+use Rattle.std.specs.Prelude.{◌≡◌, ◌≢◌, ℕ, ◌-◌, nat_lt, Option, Some, None, List, [], ◌∷◌, ◌++◌, length, map}
 use Rattle.std.specs.Prelude.{Bool, true, false, if◌then◌else◌, ◌==◌}
 use Rattle.std.specs.String.{string_bytes}
 use Rattle.planus_dump.specs.Events.{Event, line, deep, float}
 use Rattle.planus_dump.specs.declared.line.Line.{Line}
 use Rattle.planus_dump.specs.declared.line.Line.TheVariants.{Text, Float}
+use Rattle.planus_dump.specs.Views.{cost}
 use Rattle.planus_dump.specs.declared.line_sink.Stop.{Stop}
-use Rattle.planus_dump.specs.declared.line_sink.Stop.TheVariants.{Going, TooDeep, TooMany}
+use Rattle.planus_dump.specs.declared.line_sink.Stop.TheVariants.{Going, TooDeep, TooMany, TooLong}
 use Rattle.planus_dump.specs.declared.line_sink.LineSink.{LineSink}
 
 -- the event of a line
@@ -14,24 +15,37 @@ abbrev pub event_of : Line → Event
 event_of (Text text) = line (string_bytes text)
 event_of (Float path number) = float (string_bytes path) number
 
--- the events of the lines so far, their greatest number, and whether the walk goes on
+-- the events of the lines so far, their greatest number, how many bytes more they may have, and
+-- whether the walk goes on
 pub record Shown : Type 0 where
   pub lines : List Event
   pub budget : ℕ
+  pub room : Option ℕ
   pub stop : Stop
 
 abbrev pub shown : LineSink → Shown
-shown out = record { lines = map event_of out.lines.items; budget = out.budget; stop = out.stop }
+shown out = record {
+  lines = map event_of out.lines.items;
+  budget = out.budget;
+  room = out.room;
+  stop = out.stop;
+}
 
 -- the state before the first event
-abbrev pub begin : ℕ → Shown
-begin budget = record { lines = []; budget = budget; stop = Going }
+abbrev pub begin : ℕ → Option ℕ → Shown
+begin budget room = record { lines = []; budget = budget; room = room; stop = Going }
+
+-- one more line, with this room
+abbrev pub by_room : Shown → Event → Option ℕ → Shown
+by_room s e None = record s { lines = s.lines ++ e ∷ [] }
+by_room s e (Some room) =
+    if nat_lt room (cost e) then record s { stop = TooLong }
+    else record s { lines = s.lines ++ e ∷ []; room = Some (room - cost e) }
 
 -- a line that comes while the walk goes on
 abbrev pub added : Shown → Event → Shown
 added s e =
-    if length s.lines == s.budget then record s { stop = TooMany }
-    else record s { lines = s.lines ++ e ∷ [] }
+    if length s.lines == s.budget then record s { stop = TooMany } else by_room s e s.room
 
 -- an event that comes while the walk goes on
 abbrev pub going : Shown → Event → Shown
@@ -43,6 +57,7 @@ abbrev pub step_at : Shown → Stop → Event → Shown
 step_at s Going e = going s e
 step_at s TooDeep e = s
 step_at s TooMany e = s
+step_at s TooLong e = s
 
 -- an event; a walk that was stopped stays as it is
 abbrev pub step : Shown → Event → Shown

@@ -1,8 +1,7 @@
-use Rattle.std.proofs.Common.{◌≡◌, ◌-◌, ◌*◌, ap, sym, ◌∙◌, arith}
+use Rattle.std.proofs.Common.{◌≡◌, ◌-◌, ◌*◌, ap, ◌∙◌, arith}
 use Rattle.planus_read.specs.Pieces.{slice_bytes}
-use Rattle.planus_read.specs.Places.{place_bytes, place_offset}
+use Rattle.planus_read.specs.Places.{place_offset}
 use Rattle.planus_dump.specs.Events.{values_events, value_events, fixed_size}
-use Rattle.planus_dump.specs.Lines.{item_path}
 use Rattle.planus_dump.specs.inner.Shown.{shown, feed}
 use Rattle.planus_dump.proofs.Feeds.{stopped_done}
 use Rattle.planus_dump.proofs.FixedFeeds.{value_fed}
