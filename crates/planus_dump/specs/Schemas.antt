@@ -90,14 +90,14 @@ abbrev pub fixed_kinds_fit : ℕ → ℕ → TableSchema → Bool
 fixed_kinds_fit enums structs table =
     list_all (λ field. fixed_kind_fits enums structs field.kind) table.fields.items
 
--- a struct has a name, a size, and good fields
+-- a struct has a name, and good fields
 abbrev pub struct_field_fits : ℕ → ℕ → StructFieldSchema → Bool
 struct_field_fits enums structs field =
     is_name (string_bytes field.name) && fixed_fits enums structs field.fixed
 
 abbrev pub struct_fits : ℕ → ℕ → StructSchema → Bool
 struct_fits enums structs shape =
-    is_name (string_bytes shape.name) && nat_lt 0 shape.size
+    is_name (string_bytes shape.name)
     && list_all (struct_field_fits enums structs) shape.fields.items
 
 -- what the schema says of values of a fixed size

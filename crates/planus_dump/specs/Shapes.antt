@@ -5,6 +5,11 @@ use Rattle.planus_dump.specs.declared.schemas.Schema.{Schema}
 use Rattle.planus_dump.specs.declared.schemas.TableSchema.{TableSchema}
 use Rattle.planus_dump.specs.declared.schemas.FieldSchema.{FieldSchema}
 use Rattle.planus_dump.specs.declared.schemas.Kind.{Kind}
+use Rattle.planus_dump.specs.declared.schemas.EnumSchema.{EnumSchema}
+use Rattle.planus_dump.specs.declared.schemas.StructSchema.{StructSchema}
+use Rattle.planus_dump.specs.declared.schemas.StructFieldSchema.{StructFieldSchema}
+use Rattle.planus_dump.specs.declared.schemas.Fixed.{Fixed}
+use Rattle.planus_dump.specs.declared.schemas.Number.{Number}
 
 -- a field: its slot, its name and its kind, and whether it is deprecated
 pub record FieldShape : Type 0 where
@@ -42,3 +47,50 @@ pub record HasShape
 
 abbrev pub field_of : ℕ → List ℕ → Kind → FieldShape
 field_of slot name kind = record { slot = slot; name = name; kind = kind; deprecated = false }
+
+-- ---- values of a fixed size
+
+-- an enum: its type, whether its values are flags, and their bits and names
+pub record EnumShape : Type 0 where
+  pub number : Number
+  pub flags : Bool
+  pub values : List (ℕ × List ℕ)
+
+abbrev pub enum_shape : EnumSchema → EnumShape
+enum_shape shape = record {
+  number = shape.number;
+  flags = shape.flags;
+  values = map (λ value. (value.0, string_bytes value.1)) shape.values.items;
+}
+
+-- a field of a struct: its distance, its name, and how it is read
+pub record StructFieldShape : Type 0 where
+  pub distance : ℕ
+  pub name : List ℕ
+  pub fixed : Fixed
+
+abbrev pub struct_field_shape : StructFieldSchema → StructFieldShape
+struct_field_shape field =
+    record { distance = field.distance; name = string_bytes field.name; fixed = field.fixed }
+
+-- a struct: its name, its size and its fields
+pub record StructShape : Type 0 where
+  pub name : List ℕ
+  pub size : ℕ
+  pub fields : List StructFieldShape
+
+abbrev pub struct_shape : StructSchema → StructShape
+struct_shape shape = record {
+  name = string_bytes shape.name;
+  size = shape.size;
+  fields = map struct_field_shape shape.fields.items;
+}
+
+-- the schema has these tables, unions, enums and structs, and this root
+pub record HasShapes (schema : Schema) (tables : List TableShape) (unions : List (List (ℕ × ℕ)))
+    (enums : List EnumShape) (structs : List StructShape) (root : ℕ) : Type 0 where
+  pub tables_are : map table_shape schema.tables.items ≡ tables
+  pub unions_are : map (λ variants. variants.items) schema.unions.items ≡ unions
+  pub enums_are : map enum_shape schema.enums.items ≡ enums
+  pub structs_are : map struct_shape schema.structs.items ≡ structs
+  pub root_is : schema.root ≡ root

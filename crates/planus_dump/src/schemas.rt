@@ -55,7 +55,7 @@ pub struct EnumSchema {
 pub struct StructSchema {
     /// Its name.
     pub name: String,
-    /// Its size in bytes, at least 1.
+    /// Its size in bytes.
     pub size: usize,
     /// Its fields, in the order in which they are dumped.
     pub fields: Vec<StructFieldSchema>,

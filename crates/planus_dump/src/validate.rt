@@ -132,7 +132,7 @@ fn struct_fits_in(shape: &StructSchema, enums: usize, structs: usize) -> bool
             return false;
         }
     }
-    is_name_of(shape.name.as_str()) && 0 < shape.size
+    is_name_of(shape.name.as_str())
 }
 
 fn structs_fit_in(all: &[StructSchema], enums: usize, structs: usize) -> bool

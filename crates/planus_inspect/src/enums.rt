@@ -1,0 +1,83 @@
+//! Enums as a dump reads them.
+ghost use Rattle.std.specs.Prelude.{◌≡◌, map, IfOk};
+ghost use Rattle.std.specs.String.{string_bytes};
+ghost use Rattle.planus_dump.specs.Shapes.{enum_shape};
+ghost use Rattle.planus_inspect.specs.Shown.{low_bytes as low_bytes_lem, bits_of as bits_lem};
+ghost use Rattle.planus_inspect.specs.Shown.{value_shown, enum_shown};
+
+use crate::kinds::scalar_number;
+use crate::names::shown_name;
+use planus_dump::{EnumSchema, Number as NumberType};
+use planus_layout::{Body, Declared, EnumValue, Number, Scalar};
+use std::alloc::{AllocError, Global};
+
+/// Returns the last bytes of a number.
+fn low_bytes(size: usize, number: u64) -> u64
+    ensures { result ≡ low_bytes_lem size number }
+{
+    if size == 1 {
+        number % 256
+    } else if size == 2 {
+        number % 65536
+    } else if size == 4 {
+        number % 4294967296
+    } else {
+        number
+    }
+}
+
+/// Returns the bits of a number in two's complement.
+fn bits_of(size: usize, number: Number) -> u64
+    ensures { result ≡ bits_lem size number }
+{
+    if number.negative && number.magnitude != 0 {
+        low_bytes(size, u64::MAX - (number.magnitude - 1))
+    } else {
+        low_bytes(size, number.magnitude)
+    }
+}
+
+fn values_of(
+    alloc: Global,
+    scalar: Scalar,
+    values: &[EnumValue],
+) -> Result<Vec<(u64, String)>, AllocError>
+    ensures { IfOk result (λ shown. map (λ value. (value.0, string_bytes value.1)) shown.items
+        ≡ map (value_shown scalar) values.now) }
+{
+    let mut shown = Vec::new(alloc);
+    for value in values {
+        let name = shown_name(alloc, &value.name)?;
+        shown.push((bits_of(scalar.size(), value.number), name))?;
+    }
+    Ok(shown)
+}
+
+/// Returns an enum, and one with no values for what is no enum.
+fn enum_schema(alloc: Global, declared: &Declared) -> Result<EnumSchema, AllocError>
+    ensures { IfOk result (λ shown. enum_shape shown ≡ enum_shown declared.now) }
+{
+    match &declared.body {
+        Body::Enum(body) => Ok(EnumSchema {
+            number: scalar_number(body.scalar),
+            flags: body.flags,
+            values: values_of(alloc, body.scalar, &body.values)?,
+        }),
+        _ => Ok(EnumSchema {
+            number: NumberType::U8,
+            flags: false,
+            values: Vec::new(alloc),
+        }),
+    }
+}
+
+/// Returns an enum for each declaration.
+pub(crate) fn enums_of(alloc: Global, declared: &[Declared]) -> Result<Vec<EnumSchema>, AllocError>
+    ensures { IfOk result (λ shown. map enum_shape shown.items ≡ map enum_shown declared.now) }
+{
+    let mut shown = Vec::new(alloc);
+    for declaration in declared {
+        shown.push(enum_schema(alloc, declaration)?)?;
+    }
+    Ok(shown)
+}

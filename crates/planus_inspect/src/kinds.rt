@@ -1,0 +1,123 @@
+//! Types as a dump reads them.
+ghost use Rattle.std.specs.Prelude.{◌≡◌};
+ghost use Rattle.planus_inspect.specs.Shown.{scalar_number as scalar_number_lem};
+ghost use Rattle.planus_inspect.specs.Shown.{scalar_fixed as scalar_fixed_lem};
+ghost use Rattle.planus_inspect.specs.Shown.{scalar_kind as scalar_kind_lem};
+ghost use Rattle.planus_inspect.specs.Shown.{scalar_list as scalar_list_lem};
+ghost use Rattle.planus_inspect.specs.Shown.{base_fixed as base_fixed_lem, kind_of as kind_lem};
+ghost use Rattle.planus_inspect.specs.Shown.{one_kind as one_kind_lem, list_kind as list_kind_lem};
+
+use planus_dump::{Fixed, Item, Kind, Number};
+use planus_layout::{Base, FieldType, Scalar};
+
+/// Returns the integer type of an enum.
+pub(crate) fn scalar_number(scalar: Scalar) -> Number
+    ensures { result ≡ scalar_number_lem scalar }
+{
+    match scalar {
+        Scalar::Bool | Scalar::UByte => Number::U8,
+        Scalar::Byte => Number::I8,
+        Scalar::Short => Number::I16,
+        Scalar::UShort => Number::U16,
+        Scalar::Int => Number::I32,
+        Scalar::UInt | Scalar::Float => Number::U32,
+        Scalar::Long => Number::I64,
+        Scalar::ULong | Scalar::Double => Number::U64,
+    }
+}
+
+fn scalar_fixed(scalar: Scalar) -> Fixed
+    ensures { result ≡ scalar_fixed_lem scalar }
+{
+    match scalar {
+        Scalar::Bool => Fixed::Bool,
+        Scalar::Float => Fixed::F32,
+        Scalar::Double => Fixed::F64,
+        scalar => Fixed::Number(scalar_number(scalar)),
+    }
+}
+
+fn scalar_kind(scalar: Scalar) -> Kind
+    ensures { result ≡ scalar_kind_lem scalar }
+{
+    match scalar {
+        Scalar::Bool => Kind::One(Item::Bool),
+        Scalar::Byte => Kind::I8,
+        Scalar::UByte => Kind::U8,
+        Scalar::Short => Kind::One(Item::I16),
+        Scalar::UShort => Kind::One(Item::U16),
+        Scalar::Int => Kind::One(Item::I32),
+        Scalar::UInt => Kind::One(Item::U32),
+        Scalar::Long => Kind::One(Item::I64),
+        Scalar::ULong => Kind::One(Item::U64),
+        Scalar::Float => Kind::Fixed(Fixed::F32),
+        Scalar::Double => Kind::Fixed(Fixed::F64),
+    }
+}
+
+fn scalar_list(scalar: Scalar) -> Kind
+    ensures { result ≡ scalar_list_lem scalar }
+{
+    match scalar {
+        Scalar::Bool => Kind::List(Item::Bool),
+        Scalar::Byte => Kind::FixedList(Fixed::Number(Number::I8)),
+        Scalar::UByte => Kind::Bytes,
+        Scalar::Short => Kind::List(Item::I16),
+        Scalar::UShort => Kind::List(Item::U16),
+        Scalar::Int => Kind::List(Item::I32),
+        Scalar::UInt => Kind::List(Item::U32),
+        Scalar::Long => Kind::List(Item::I64),
+        Scalar::ULong => Kind::List(Item::U64),
+        Scalar::Float => Kind::FixedList(Fixed::F32),
+        Scalar::Double => Kind::FixedList(Fixed::F64),
+    }
+}
+
+/// Returns how a value in a struct is read: a scalar, an enum or a struct.
+pub(crate) fn base_fixed(base: Base) -> Fixed
+    ensures { result ≡ base_fixed_lem base }
+{
+    match base {
+        Base::Scalar(scalar) => scalar_fixed(scalar),
+        Base::Enum(index) => Fixed::Enum(index),
+        Base::Struct(index) => Fixed::Struct(index),
+        Base::Text | Base::Table(_) | Base::Union(_) => Fixed::Bool,
+    }
+}
+
+fn one_kind(base: Base) -> Kind
+    ensures { result ≡ one_kind_lem base }
+{
+    match base {
+        Base::Scalar(scalar) => scalar_kind(scalar),
+        Base::Text => Kind::One(Item::Text),
+        Base::Enum(index) => Kind::Fixed(Fixed::Enum(index)),
+        Base::Struct(index) => Kind::Fixed(Fixed::Struct(index)),
+        Base::Table(index) => Kind::One(Item::Table(index)),
+        Base::Union(index) => Kind::Union(index),
+    }
+}
+
+fn list_kind(base: Base) -> Kind
+    ensures { result ≡ list_kind_lem base }
+{
+    match base {
+        Base::Scalar(scalar) => scalar_list(scalar),
+        Base::Text => Kind::List(Item::Text),
+        Base::Enum(index) => Kind::FixedList(Fixed::Enum(index)),
+        Base::Struct(index) => Kind::FixedList(Fixed::Struct(index)),
+        Base::Table(index) => Kind::List(Item::Table(index)),
+        Base::Union(index) => Kind::UnionVector(index),
+    }
+}
+
+/// Returns how a field is read. `nested` is the index of its root's table, if it is a buffer.
+pub(crate) fn kind_of(kind: FieldType, nested: Option<usize>) -> Kind
+    ensures { result ≡ kind_lem kind nested }
+{
+    match nested {
+        Some(table) => Kind::Nested(table),
+        None if kind.vector => list_kind(kind.base),
+        None => one_kind(kind.base),
+    }
+}

@@ -1,0 +1,60 @@
+//! Names as the lines of a dump have them.
+ghost use Rattle.std.specs.Prelude.{◌≡◌, ◌∷◌, [], ◌++◌, IfOk, OnOk};
+ghost use Rattle.std.specs.String.{string_bytes};
+ghost use Rattle.planus_dump.specs.Schemas.{is_name_byte as is_name_byte_lem};
+ghost use Rattle.planus_inspect.specs.Shown.{after_dot, last_word as last_word_lem, shown_byte};
+ghost use Rattle.planus_inspect.specs.Shown.{shown_name as shown_name_lem};
+
+use std::alloc::{AllocError, Global};
+
+fn is_name_byte(byte: u8) -> bool
+    ensures { result ≡ is_name_byte_lem byte }
+{
+    matches!(byte, b'A'..=b'Z' | b'a'..=b'z' | b'0'..=b'9' | b'_')
+}
+
+/// Adds a byte of a name, or `_` for what is none.
+fn push_byte(word: &mut String, byte: u8) -> Result<(), AllocError>
+    ensures { OnOk result (string_bytes word.new ≡ string_bytes word.old ++ shown_byte byte ∷ []) }
+{
+    if is_name_byte(byte) {
+        word.push(byte as char)
+    } else {
+        word.push('_')
+    }
+}
+
+/// Takes the next byte of a name, of which the word after the last dot is kept.
+fn take_byte(word: &mut String, byte: u8) -> Result<(), AllocError>
+    ensures { OnOk result (string_bytes word.new ≡ after_dot (string_bytes word.old) byte) }
+{
+    if byte == b'.' {
+        word.clear();
+        Ok(())
+    } else {
+        push_byte(word, byte)
+    }
+}
+
+/// Returns the word after the last dot of a name.
+fn last_word(alloc: Global, name: &[u8]) -> Result<String, AllocError>
+    ensures { IfOk result (λ word. string_bytes word ≡ last_word_lem name.now) }
+{
+    let mut word = String::new(alloc);
+    for byte in name {
+        take_byte(&mut word, *byte)?;
+    }
+    Ok(word)
+}
+
+/// Returns the name that the lines of a dump have: the word after the last dot, and `_` for an
+/// empty one.
+pub(crate) fn shown_name(alloc: Global, name: &[u8]) -> Result<String, AllocError>
+    ensures { IfOk result (λ word. string_bytes word ≡ shown_name_lem name.now) }
+{
+    let mut word = last_word(alloc, name)?;
+    if word.is_empty() {
+        word.push('_')?;
+    }
+    Ok(word)
+}

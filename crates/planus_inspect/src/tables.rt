@@ -1,0 +1,76 @@
+//! Tables as a dump reads them.
+ghost use Rattle.std.specs.Prelude.{◌≡◌, map, IfOk};
+ghost use Rattle.planus_dump.specs.Shapes.{field_shape, table_shape};
+ghost use Rattle.planus_inspect.specs.Shown.{first_slot as first_slot_lem, field_shown};
+ghost use Rattle.planus_inspect.specs.Shown.{fields_shown, table_shown};
+
+use crate::kinds::kind_of;
+use crate::names::shown_name;
+use planus_dump::{FieldSchema, TableSchema};
+use planus_layout::{Body, Declared, TableField, is_union};
+use std::alloc::{AllocError, Global};
+
+/// Returns the first slot of a field: that of the type of a union.
+fn first_slot(field: &TableField) -> usize
+    ensures { result ≡ first_slot_lem field.now }
+{
+    if is_union(field.kind) {
+        field.slot.saturating_sub(1)
+    } else {
+        field.slot
+    }
+}
+
+fn field_schema(alloc: Global, field: &TableField) -> Result<FieldSchema, AllocError>
+    ensures { IfOk result (λ shown. field_shape shown ≡ field_shown field.now) }
+{
+    Ok(FieldSchema {
+        slot: first_slot(field),
+        name: shown_name(alloc, &field.name)?,
+        kind: kind_of(field.kind, field.nested),
+        deprecated: field.deprecated,
+    })
+}
+
+fn field_schemas(alloc: Global, fields: &[TableField]) -> Result<Vec<FieldSchema>, AllocError>
+    ensures { IfOk result (λ shown. map field_shape shown.items ≡ map field_shown fields.now) }
+{
+    let mut shown = Vec::new(alloc);
+    for field in fields {
+        shown.push(field_schema(alloc, field)?)?;
+    }
+    Ok(shown)
+}
+
+/// Returns the fields of a table, and none for what is no table.
+fn fields_of(alloc: Global, body: &Body) -> Result<Vec<FieldSchema>, AllocError>
+    ensures { IfOk result (λ shown. map field_shape shown.items ≡ fields_shown body.now) }
+{
+    match body {
+        Body::Table(table) => field_schemas(alloc, &table.fields),
+        _ => Ok(Vec::new(alloc)),
+    }
+}
+
+fn table_schema(alloc: Global, declared: &Declared) -> Result<TableSchema, AllocError>
+    ensures { IfOk result (λ shown. table_shape shown ≡ table_shown declared.now) }
+{
+    Ok(TableSchema {
+        name: shown_name(alloc, &declared.name)?,
+        fields: fields_of(alloc, &declared.body)?,
+    })
+}
+
+/// Returns a table for each declaration.
+pub(crate) fn tables_of(
+    alloc: Global,
+    declared: &[Declared],
+) -> Result<Vec<TableSchema>, AllocError>
+    ensures { IfOk result (λ shown. map table_shape shown.items ≡ map table_shown declared.now) }
+{
+    let mut shown = Vec::new(alloc);
+    for declaration in declared {
+        shown.push(table_schema(alloc, declaration)?)?;
+    }
+    Ok(shown)
+}
