@@ -1,4 +1,5 @@
-//! The program `planus`: checks schemas of flatbuffers, and prints them in their canonical layout.
+//! The program `planus`: checks schemas of flatbuffers, prints them in their canonical layout, and
+//! shows what buffers hold by them.
 #![tactic(auto)]
 
 use planus_commands::run_program;

@@ -1,13 +1,17 @@
 -- What the words after the program's name ask for.
 use Rattle.std.specs.Prelude.{ℕ, Bool, true, false, ◌&&◌, ◌||◌, ◌==◌, nat_lt, List, [], ◌∷◌, ◌++◌}
 use Rattle.std.specs.Prelude.{fold, map, length, codes, slice_index, Option, Some, None}
-use Rattle.std.specs.Prelude.{if◌then◌else◌}
-use Rattle.std.specs.Option.{option_map}
+use Rattle.std.specs.Prelude.{if◌then◌else◌, not}
+use Rattle.std.specs.Option.{option_map, unwrap_or}
 use Rattle.std.specs.Str.{bytes_eq}
+use Rattle.planus_layout.specs.Numbers.{integer_said}
+use Rattle.planus_layout.specs.declared.number.Number.{Number}
 use Rattle.planus_commands.specs.declared.arguments.Command.{Command}
-use Rattle.planus_commands.specs.declared.arguments.Command.TheVariants.{Check, Format}
+use Rattle.planus_commands.specs.declared.arguments.Command.TheVariants.{Check, Format, View}
 use Rattle.planus_commands.specs.declared.arguments.Choice.{Choice}
-use Rattle.planus_commands.specs.declared.arguments.Choice.TheVariants.{Folder, Write, DropComments, Help as HelpChoice}
+use Rattle.planus_commands.specs.declared.arguments.Choice.TheVariants.{Folder, Write, DropComments}
+use Rattle.planus_commands.specs.declared.arguments.Choice.TheVariants.{Root, SizePrefixed, Lines}
+use Rattle.planus_commands.specs.declared.arguments.Choice.TheVariants.{Bytes, Help as HelpChoice}
 use Rattle.planus_commands.specs.declared.arguments.Words.{Words}
 use Rattle.planus_commands.specs.declared.arguments.Request.{Request}
 use Rattle.planus_commands.specs.declared.arguments.Request.TheVariants as code
@@ -18,8 +22,12 @@ pub record WordsV : Type 0 where
   pub folders : List (List ℕ)
   pub write : Bool
   pub drop_comments : Bool
+  pub root : Option (List ℕ)
+  pub size_prefixed : Bool
+  pub lines : Option (List ℕ)
+  pub bytes : Option (List ℕ)
   pub help : Bool
-  pub wants_folder : Bool
+  pub wants : Option Choice
   pub unknown : Option (List ℕ)
 
 abbrev pub no_words : WordsV
@@ -28,8 +36,12 @@ no_words = record {
   folders = [];
   write = false;
   drop_comments = false;
+  root = None;
+  size_prefixed = false;
+  lines = None;
+  bytes = None;
   help = false;
-  wants_folder = false;
+  wants = None;
   unknown = None;
 }
 
@@ -39,14 +51,25 @@ words_of w = record {
   folders = map (λ s. s.now) w.folders.items;
   write = w.write;
   drop_comments = w.drop_comments;
+  root = option_map (λ s. s.now) w.root;
+  size_prefixed = w.size_prefixed;
+  lines = option_map (λ s. s.now) w.lines;
+  bytes = option_map (λ s. s.now) w.bytes;
   help = w.help;
-  wants_folder = w.wants_folder;
+  wants = w.wants;
   unknown = option_map (λ s. s.now) w.unknown;
 }
 
 -- `-` alone is the name of standard input
 abbrev pub is_option : List ℕ → Bool
 is_option w = nat_lt 1 (length w) && slice_index w 0 == 45
+
+abbrev pub view_option : List ℕ → Option Choice
+view_option w = if bytes_eq w (codes "-I") then Some Folder
+    else if bytes_eq w (codes "--root") then Some Root
+    else if bytes_eq w (codes "--size-prefixed") then Some SizePrefixed
+    else if bytes_eq w (codes "--lines") then Some Lines
+    else if bytes_eq w (codes "--bytes") then Some Bytes else None
 
 abbrev pub option_of : Command → List ℕ → Option Choice
 option_of command w = if bytes_eq w (codes "--help") then Some HelpChoice else option_in command
@@ -55,6 +78,7 @@ option_of command w = if bytes_eq w (codes "--help") then Some HelpChoice else o
     option_in Check = if bytes_eq w (codes "-I") then Some Folder else None
     option_in Format = if bytes_eq w (codes "--write") then Some Write
         else if bytes_eq w (codes "--drop-comments") then Some DropComments else None
+    option_in View = view_option w
 
 -- the first of two
 abbrev pub or_first : Option (List ℕ) → List ℕ → Option (List ℕ)
@@ -62,18 +86,56 @@ or_first None w = Some w
 or_first (Some u) w = Some u
 
 abbrev pub with_option : WordsV → List ℕ → Option Choice → WordsV
-with_option ws w (Some Folder) = record ws { wants_folder = true }
+with_option ws w (Some Folder) = record ws { wants = Some Folder }
+with_option ws w (Some Root) = record ws { wants = Some Root }
+with_option ws w (Some Lines) = record ws { wants = Some Lines }
+with_option ws w (Some Bytes) = record ws { wants = Some Bytes }
+with_option ws w (Some SizePrefixed) = record ws { size_prefixed = true }
 with_option ws w (Some Write) = record ws { write = true }
 with_option ws w (Some DropComments) = record ws { drop_comments = true }
 with_option ws w (Some HelpChoice) = record ws { help = true }
 with_option ws w None = record ws { unknown = or_first ws.unknown w }
 
--- one word more: the folder after `-I`, a schema, or an option
+-- the word after an option
+abbrev pub with_value : WordsV → Choice → List ℕ → WordsV
+with_value ws Folder w = record ws { folders = ws.folders ++ w ∷ [] }
+with_value ws Root w = record ws { root = Some w }
+with_value ws Lines w = record ws { lines = Some w }
+with_value ws Bytes w = record ws { bytes = Some w }
+with_value ws Write w = ws
+with_value ws DropComments w = ws
+with_value ws SizePrefixed w = ws
+with_value ws HelpChoice w = ws
+
+-- one word more: that after an option, a schema or a buffer, or an option
 abbrev pub with_word : Command → WordsV → List ℕ → WordsV
-with_word command ws w =
-    if ws.wants_folder then record ws { wants_folder = false; folders = ws.folders ++ w ∷ [] }
-    else if is_option w then with_option ws w (option_of command w)
-    else record ws { schemas = ws.schemas ++ w ∷ [] }
+with_word command ws w = by_want ws.wants
+  where
+    by_want : Option Choice → WordsV
+    by_want (Some choice) = with_value (record ws { wants = None }) choice w
+    by_want None = if is_option w then with_option ws w (option_of command w)
+        else record ws { schemas = ws.schemas ++ w ∷ [] }
+
+-- ---- numbers
+
+abbrev pub not_negative : Option Number → Option ℕ
+not_negative None = None
+not_negative (Some n) = if n.negative then None else Some n.magnitude
+
+-- the number that a word is
+abbrev pub number_of : List ℕ → Option ℕ
+number_of w = not_negative (integer_said w)
+
+abbrev pub is_none : Option ℕ → Bool
+is_none None = true
+is_none (Some n) = false
+
+-- a word is there, and is no number
+abbrev pub is_no_number : Option (List ℕ) → Bool
+is_no_number None = false
+is_no_number (Some w) = is_none (number_of w)
+
+-- ---- requests
 
 -- what is asked for, or why the call is wrong
 pub data Asked : Type 0 where
@@ -84,8 +146,10 @@ pub data Asked : Type 0 where
   no_command : Asked
   unknown_command : List ℕ → Asked
   unknown_option : Command → List ℕ → Asked
-  no_folder : Asked
+  no_value : Choice → Asked
   no_schema : Asked
+  no_buffer : Asked
+  no_number : List ℕ → Asked
 
 abbrev pub asked : Request → Asked
 asked code.Help = help
@@ -95,26 +159,42 @@ asked (code.Run command words) = run command (words_of words)
 asked code.NoCommand = no_command
 asked (code.UnknownCommand w) = unknown_command w.now
 asked (code.UnknownOption command w) = unknown_option command w.now
-asked code.NoFolder = no_folder
+asked (code.NoValue choice) = no_value choice
 asked code.NoSchema = no_schema
+asked code.NoBuffer = no_buffer
+asked (code.NoNumber w) = no_number w.now
 
 abbrev pub is_empty : List (List ℕ) → Bool
 is_empty [] = true
 is_empty (x ∷ xs) = false
 
+-- `view` has a schema and a buffer, and numbers
+abbrev pub view_request : WordsV → Asked
+view_request ws = if not (length ws.schemas == 2) then no_buffer
+    else if is_no_number ws.lines then no_number (unwrap_or ws.lines [])
+    else if is_no_number ws.bytes then no_number (unwrap_or ws.bytes [])
+    else run View ws
+
+abbrev pub run_request : Command → WordsV → Asked
+run_request Check ws = run Check ws
+run_request Format ws = run Format ws
+run_request View ws = view_request ws
+
 abbrev pub request_by : Command → WordsV → Asked
 request_by command ws = unknown_or ws.unknown
   where
+    value_or : Option Choice → Asked
+    value_or (Some choice) = no_value choice
+    value_or None = if is_empty ws.schemas then no_schema else run_request command ws
+
     unknown_or : Option (List ℕ) → Asked
     unknown_or (Some w) = unknown_option command w
-    unknown_or None = if ws.help then help_of command
-        else if ws.wants_folder then no_folder
-        else if is_empty ws.schemas then no_schema
-        else run command ws
+    unknown_or None = if ws.help then help_of command else value_or ws.wants
 
 abbrev pub command_of : List ℕ → Option Command
 command_of w = if bytes_eq w (codes "check") then Some Check
-    else if bytes_eq w (codes "format") then Some Format else None
+    else if bytes_eq w (codes "format") then Some Format
+    else if bytes_eq w (codes "view") then Some View else None
 
 abbrev pub request_after : List ℕ → List (List ℕ) → Option Command → Asked
 request_after w rest None = unknown_command w

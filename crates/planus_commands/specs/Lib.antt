@@ -5,3 +5,4 @@ pub mod Outcomes
 pub mod Problems
 pub mod Checks
 pub mod Near
+pub mod Viewing

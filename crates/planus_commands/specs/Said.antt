@@ -4,11 +4,13 @@ use Rattle.std.specs.Prelude.{position, slice_index, Option, Some, None, if◌th
 use Rattle.std.specs.String.{string_bytes}
 use Rattle.std.specs.Io.KnownBytes.{Appends, Keeps}
 use Rattle.planus_commands.specs.declared.arguments.Command.{Command}
-use Rattle.planus_commands.specs.declared.arguments.Command.TheVariants.{Check, Format}
+use Rattle.planus_commands.specs.declared.arguments.Command.TheVariants.{Check, Format, View}
+use Rattle.planus_commands.specs.declared.arguments.Choice.{Choice}
+use Rattle.planus_commands.specs.declared.arguments.Choice.TheVariants.{Root, Lines, Bytes}
 use Rattle.planus_commands.specs.declared.said.Said.{Said}
 use Rattle.planus_commands.specs.Arguments.{Asked, help, help_of as help_asked, version, run}
 use Rattle.planus_commands.specs.Arguments.{no_command, unknown_command, unknown_option}
-use Rattle.planus_commands.specs.Arguments.{no_folder, no_schema}
+use Rattle.planus_commands.specs.Arguments.{no_value, no_schema, no_buffer, no_number}
 
 -- the text, and whether it says that the call is wrong
 pub record SaidV : Type 0 where
@@ -35,6 +37,7 @@ command_hint (Some b) =
     if b == 99 then codes "did you mean `check`?"
     else if b == 102 then codes "did you mean `format`?"
     else if b == 104 then codes "did you mean `help`?"
+    else if b == 118 then codes "did you mean `view`?"
     else codes "see planus help"
 
 abbrev pub option_hint : Command → Option ℕ → List ℕ
@@ -48,16 +51,32 @@ option_hint Format (Some b) =
     else if b == 100 then codes "did you mean `--drop-comments`?"
     else if b == 104 then codes "did you mean `--help`?"
     else codes "see planus help"
+option_hint View (Some b) =
+    if b == 73 then codes "did you mean `-I`?"
+    else if b == 114 then codes "did you mean `--root`?"
+    else if b == 115 then codes "did you mean `--size-prefixed`?"
+    else if b == 108 then codes "did you mean `--lines`?"
+    else if b == 98 then codes "did you mean `--bytes`?"
+    else if b == 104 then codes "did you mean `--help`?"
+    else codes "see planus help"
 
 abbrev pub version_text : List ℕ
 version_text = codes "planus 0.1.0\n"
 
 abbrev pub help_text : List ℕ
-help_text = codes "planus reads schemas of flatbuffers.\n\nusage: planus check [-I FOLDER].. SCHEMA..\n       planus format [--write] [--drop-comments] SCHEMA..\n       planus help, planus --help, planus COMMAND --help, planus --version\n\nSCHEMA is a file, or - for standard input.\n"
+help_text = codes "planus reads schemas of flatbuffers, and shows buffers by them.\n\nusage: planus check [-I FOLDER].. SCHEMA..\n       planus format [--write] [--drop-comments] SCHEMA..\n       planus view [OPTION].. SCHEMA BUFFER\n       planus help, planus --help, planus COMMAND --help, planus --version\n\nSCHEMA and BUFFER are files, or - for standard input.\n"
 
 abbrev pub help_of : Command → List ℕ
 help_of Check = codes "usage: planus check [-I FOLDER].. SCHEMA..\n\nSays on standard error what is wrong with each schema and the files that it includes,\nor nothing. Included files are sought beside the file and in each FOLDER.\nEnds with 0 where nothing is wrong, with 1 where a schema has a fault, and with 2\nwhere the call is wrong or a file can't be read.\n"
 help_of Format = codes "usage: planus format [--write] [--drop-comments] SCHEMA..\n\nPrints the canonical text of each schema.\n\n  --write          replaces each file by its text\n  --drop-comments  does so where comments are lost, all but documentation\n"
+help_of View = codes "usage: planus view [OPTION].. SCHEMA BUFFER\n\nPrints what a buffer holds, a line a value, as far as the lines and bytes go.\n\n  --root NAME      the root is this table, and not that of the schema\n  --size-prefixed  the buffer is one or more buffers, each after its size\n  --lines N        at most N lines, and not 1000\n  --bytes N        at most N bytes, and not 1048576\n  -I FOLDER        included files are sought in this folder too\n\nEnds with 0 where all is shown, with 1 where something is wrong with the buffer or\nmore follows, and with 2 where the call is wrong or a file can't be read.\n"
+
+-- where no word follows an option
+abbrev pub no_value_text : Choice → List ℕ
+no_value_text Root = codes "planus: no name follows --root\n"
+no_value_text Lines = codes "planus: no number follows --lines\n"
+no_value_text Bytes = codes "planus: no number follows --bytes\n"
+no_value_text choice = codes "planus: no folder follows -I\n"
 
 abbrev pub on_output : List ℕ → Option SaidV
 on_output text = Some (record { wrong = false; text = text })
@@ -76,8 +95,10 @@ said_of (unknown_command w) = on_errors (codes "planus: unknown command `"
     ++ (w ++ (codes "`; " ++ (command_hint (first_letter w) ++ codes "\n"))))
 said_of (unknown_option command w) = on_errors (codes "planus: unknown option `"
     ++ (w ++ (codes "`; " ++ (option_hint command (first_letter w) ++ codes "\n"))))
-said_of no_folder = on_errors (codes "planus: no folder follows -I\n")
+said_of (no_value choice) = on_errors (no_value_text choice)
 said_of no_schema = on_errors (codes "planus: no schema is named; - is standard input\n")
+said_of no_buffer = on_errors (codes "planus: view has a schema and a buffer\n")
+said_of (no_number w) = on_errors (codes "planus: `" ++ (w ++ codes "` is no number\n"))
 
 -- The text was written on standard error with status 2, or on standard output with status 0.
 abbrev pub SaysBy : Bool → List ℕ → Option ℕ → Option (List ℕ) → Option (List ℕ)

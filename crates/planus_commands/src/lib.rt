@@ -1,8 +1,9 @@
-//! What the program `planus` does: it checks schemas of flatbuffers, and prints them in their
-//! canonical layout.
+//! What the program `planus` does: it checks schemas of flatbuffers, prints them in their canonical
+//! layout, and shows what buffers hold by them.
 #![tactic(auto)]
 
 mod arguments;
+mod buffers;
 mod checking;
 mod include;
 mod message;
@@ -18,10 +19,12 @@ mod said;
 mod sources;
 mod streams;
 mod texts;
+mod viewing;
 
-pub use arguments::{Command, Request, Words, request_of};
+pub use arguments::{Choice, Command, Request, Words, number_of, request_of};
 pub use outcome::{Outcome, Printed};
 pub use program::{run_program, run_words};
 pub use said::{Said, said_of, say};
 pub use streams::{RunError, read_all, write_out};
 pub use texts::{format, has_comments, outcome_of};
+pub use viewing::{Limits, view_buffer};

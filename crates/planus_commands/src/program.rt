@@ -6,6 +6,7 @@ ghost use Rattle.planus_commands.specs.Arguments.{request_of as request_lem};
 ghost use Rattle.planus_commands.specs.Said.{said_of, SaysIf};
 
 use crate::arguments::{Command, Request, Words, request_of};
+use crate::buffers::view_file;
 use crate::checking::check_files;
 use crate::rewrite::{Formatting, format_file};
 use crate::said::{CLEAN, FAILED, FAULTY, say as say_of};
@@ -44,6 +45,9 @@ fn run_command<R: Files + AllocGlobal, S: Read, W: Write, X: Write>(
     writer: &mut W,
     errors: &mut X,
 ) -> Result<u8, RunError> {
+    if command == Command::View {
+        return view_file(rt, words, input, writer, errors);
+    }
     let how = Formatting {
         write: words.write,
         drop_comments: words.drop_comments,
@@ -51,8 +55,8 @@ fn run_command<R: Files + AllocGlobal, S: Read, W: Write, X: Write>(
     let mut worst = CLEAN;
     for name in &words.schemas {
         let status = match command {
-            Command::Check => check_file(rt, &words.folders, *name, input, errors)?,
             Command::Format => format_file(rt, how, *name, input, writer, errors)?,
+            _ => check_file(rt, &words.folders, *name, input, errors)?,
         };
         worst = worst.max(status);
     }
@@ -111,7 +115,7 @@ fn run<R: Env + Files + AllocGlobal, S: Read, W: Write, X: Write>(
 }
 
 /// Does what the words after the program's name ask for. Returns the exit status: 0 where all is
-/// well, 1 where a schema has a fault, and 2 where the call is wrong, a file can't be read or
+/// well, 1 where a schema or a buffer has a fault, and 2 where the call is wrong, a file can't be read or
 /// written, or memory is refused.
 pub fn run_program<R: Env + Files + AllocGlobal, S: Read, W: Write, X: Write>(
     rt: &R,

@@ -6,11 +6,11 @@ ghost use Rattle.planus_commands.specs.Arguments.{asked};
 ghost use Rattle.planus_commands.specs.Said.{first_letter as first_letter_lem, is_letter as is_letter_lem};
 ghost use Rattle.planus_commands.specs.Said.{command_hint as command_hint_lem};
 ghost use Rattle.planus_commands.specs.Said.{option_hint as option_hint_lem};
-ghost use Rattle.planus_commands.specs.Said.{help_of as help_of_lem, help_text};
+ghost use Rattle.planus_commands.specs.Said.{help_of as help_of_lem, help_text, no_value_text};
 ghost use Rattle.planus_commands.specs.Said.{said_of as said_of_lem, said_view, Says};
 ghost use Rattle.std.specs.Io.KnownBytes.{Appends, Keeps};
 
-use crate::arguments::{Command, Request};
+use crate::arguments::{Choice, Command, Request};
 use crate::streams::{RunError, write_out};
 use std::alloc::{AllocError, Global};
 use std::io::Write;
@@ -18,13 +18,16 @@ use std::io::Write;
 const VERSION: &str = "planus 0.1.0\n";
 
 const HELP: &str =
-    "planus reads schemas of flatbuffers.\n\nusage: planus check [-I FOLDER].. SCHEMA..\n       planus format [--write] [--drop-comments] SCHEMA..\n       planus help, planus --help, planus COMMAND --help, planus --version\n\nSCHEMA is a file, or - for standard input.\n";
+    "planus reads schemas of flatbuffers, and shows buffers by them.\n\nusage: planus check [-I FOLDER].. SCHEMA..\n       planus format [--write] [--drop-comments] SCHEMA..\n       planus view [OPTION].. SCHEMA BUFFER\n       planus help, planus --help, planus COMMAND --help, planus --version\n\nSCHEMA and BUFFER are files, or - for standard input.\n";
 
 const HELP_OF_CHECK: &str =
     "usage: planus check [-I FOLDER].. SCHEMA..\n\nSays on standard error what is wrong with each schema and the files that it includes,\nor nothing. Included files are sought beside the file and in each FOLDER.\nEnds with 0 where nothing is wrong, with 1 where a schema has a fault, and with 2\nwhere the call is wrong or a file can't be read.\n";
 
 const HELP_OF_FORMAT: &str =
     "usage: planus format [--write] [--drop-comments] SCHEMA..\n\nPrints the canonical text of each schema.\n\n  --write          replaces each file by its text\n  --drop-comments  does so where comments are lost, all but documentation\n";
+
+const HELP_OF_VIEW: &str =
+    "usage: planus view [OPTION].. SCHEMA BUFFER\n\nPrints what a buffer holds, a line a value, as far as the lines and bytes go.\n\n  --root NAME      the root is this table, and not that of the schema\n  --size-prefixed  the buffer is one or more buffers, each after its size\n  --lines N        at most N lines, and not 1000\n  --bytes N        at most N bytes, and not 1048576\n  -I FOLDER        included files are sought in this folder too\n\nEnds with 0 where all is shown, with 1 where something is wrong with the buffer or\nmore follows, and with 2 where the call is wrong or a file can't be read.\n";
 
 /// The exit status where all went well.
 pub const CLEAN: u8 = 0;
@@ -73,6 +76,7 @@ fn command_hint(word: &str) -> &'static str
         Some(b'c') => "did you mean `check`?",
         Some(b'f') => "did you mean `format`?",
         Some(b'h') => "did you mean `help`?",
+        Some(b'v') => "did you mean `view`?",
         _ => "see planus help",
     }
 }
@@ -82,9 +86,13 @@ fn option_hint(command: Command, word: &str) -> &'static str
     ensures { result.now ≡ option_hint_lem command (first_letter_lem word.now) }
 {
     match (command, first_letter(word)) {
-        (Command::Check, Some(b'I')) => "did you mean `-I`?",
+        (Command::Check | Command::View, Some(b'I')) => "did you mean `-I`?",
         (Command::Format, Some(b'w')) => "did you mean `--write`?",
         (Command::Format, Some(b'd')) => "did you mean `--drop-comments`?",
+        (Command::View, Some(b'r')) => "did you mean `--root`?",
+        (Command::View, Some(b's')) => "did you mean `--size-prefixed`?",
+        (Command::View, Some(b'l')) => "did you mean `--lines`?",
+        (Command::View, Some(b'b')) => "did you mean `--bytes`?",
         (_, Some(b'h')) => "did you mean `--help`?",
         _ => "see planus help",
     }
@@ -102,6 +110,19 @@ fn help_of(command: Command) -> &'static str
     match command {
         Command::Check => HELP_OF_CHECK,
         Command::Format => HELP_OF_FORMAT,
+        Command::View => HELP_OF_VIEW,
+    }
+}
+
+/// Returns what is said where no word follows an option.
+fn no_value(choice: Choice) -> &'static str
+    ensures { result.now ≡ no_value_text choice }
+{
+    match choice {
+        Choice::Root => "planus: no name follows --root\n",
+        Choice::Lines => "planus: no number follows --lines\n",
+        Choice::Bytes => "planus: no number follows --bytes\n",
+        _ => "planus: no folder follows -I\n",
     }
 }
 
@@ -130,10 +151,12 @@ pub fn said_of(alloc: Global, request: &Request<'_>) -> Result<Option<Said>, All
             let hint = option_hint(*command, *word);
             format!(in alloc; "planus: unknown option `{word}`; {hint}\n")?
         }
-        Request::NoFolder => String::from_str(alloc, "planus: no folder follows -I\n")?,
+        Request::NoValue(choice) => String::from_str(alloc, no_value(*choice))?,
         Request::NoSchema => {
             String::from_str(alloc, "planus: no schema is named; - is standard input\n")?
         }
+        Request::NoBuffer => String::from_str(alloc, "planus: view has a schema and a buffer\n")?,
+        Request::NoNumber(word) => format!(in alloc; "planus: `{word}` is no number\n")?,
     };
     Ok(Some(Said { wrong: true, text }))
 }

@@ -1,0 +1,55 @@
+-- What is written of a buffer.
+use Rattle.std.specs.Prelude.{◌≡◌, ℕ, ◌&&◌, not, Bool, true, false, List, [], ◌∷◌, ◌++◌, map}
+use Rattle.std.specs.Prelude.{codes, Ok, Option, take, length, ◌<◌}
+use Rattle.std.specs.Int.{from_le_bytes, w32}
+use Rattle.std.specs.List.{flat_map, list_any}
+use Rattle.std.specs.String.{string_bytes}
+use Rattle.std.specs.Io.KnownBytes.{Appends}
+use Rattle.planus_dump.specs.FaultLines.{is_fault_line}
+use Rattle.planus_dump.specs.Views.{Viewed}
+use Rattle.planus_dump.specs.declared.schemas.Schema.{Schema}
+use Rattle.planus_dump.specs.declared.views.End.{End}
+use Rattle.planus_dump.specs.declared.views.End.TheVariants.{Whole, TooDeep, TooManyLines}
+use Rattle.planus_dump.specs.declared.views.End.TheVariants.{TooManyBytes}
+use Rattle.planus_dump.specs.declared.views.FirstLines.{FirstLines}
+
+-- what is said after the lines of a view
+abbrev pub end_text : End → List ℕ
+end_text Whole = []
+end_text TooDeep = codes ".. what follows is nested too deep\n"
+end_text TooManyLines = codes ".. more lines follow; see --lines\n"
+end_text TooManyBytes = codes ".. more bytes follow; see --bytes\n"
+
+abbrev pub lines_of : FirstLines → List (List ℕ)
+lines_of view = map string_bytes view.lines.items
+
+-- each line, and a line feed after it
+abbrev pub lines_text : List (List ℕ) → List ℕ
+lines_text lines = flat_map (λ line. line ++ 10 ∷ []) lines
+
+abbrev pub view_text : FirstLines → List ℕ
+view_text view = lines_text (lines_of view) ++ end_text view.end
+
+abbrev pub is_whole : End → Bool
+is_whole Whole = true
+is_whole TooDeep = false
+is_whole TooManyLines = false
+is_whole TooManyBytes = false
+
+-- all is shown, and no line states an error
+abbrev pub is_clean : FirstLines → Bool
+is_clean view = is_whole view.end && not (list_any is_fault_line (lines_of view))
+
+-- The first lines of the buffer were written, and this says whether nothing is wrong.
+pub record WritesView (schema : Schema) (bytes : List ℕ) (most size : ℕ) (clean : Bool)
+    (before after : Option (List ℕ)) : Type 0 where
+  pub view : FirstLines
+  pub viewed : Viewed schema bytes most size (Ok view)
+  pub clean_is : clean ≡ is_clean view
+  pub written : Appends before after (view_text view)
+
+-- a buffer after its size, a number of four bytes, and what follows it
+pub record SplitsSized (bytes buffer rest : List ℕ) : Type 0 where
+  pub size : from_le_bytes w32 (take 4 bytes) ≡ length buffer
+  pub parts : bytes ≡ take 4 bytes ++ (buffer ++ rest)
+  pub shorter : length rest < length bytes
