@@ -5,7 +5,7 @@ use std::alloc::{AllocError, Global};
 /// output and on standard error.
 type Call = (&'static str, &'static str, u8, &'static str, &'static str);
 
-const CALLS: [Call; 14] = [
+const CALLS: [Call; 21] = [
     ("--version", "", 0, "planus 0.1.0\n", ""),
     (
         "chekc a",
@@ -19,7 +19,56 @@ const CALLS: [Call; 14] = [
         "",
         2,
         "",
-        "planus: unknown command `view`; see planus help\n",
+        "planus: view has a schema and a buffer\n",
+    ),
+    (
+        "view --lines ten a b",
+        "",
+        2,
+        "",
+        "planus: `ten` is no number\n",
+    ),
+    (
+        "view a b --bytes",
+        "",
+        2,
+        "",
+        "planus: no number follows --bytes\n",
+    ),
+    (
+        "view --roots T a b",
+        "",
+        2,
+        "",
+        "planus: unknown option `--roots`; did you mean `--root`?\n",
+    ),
+    (
+        "view - missing.bin",
+        "table T { x: int; }",
+        2,
+        "",
+        "planus: the schema has no root; see --root\n",
+    ),
+    (
+        "view --root T - missing.bin",
+        "table T { x: int; }",
+        2,
+        "",
+        "planus: can't read missing.bin\n",
+    ),
+    (
+        "view --root U - missing.bin",
+        "table T { x: int; }",
+        2,
+        "",
+        "planus: the schema has no table `U`\n",
+    ),
+    (
+        "render a",
+        "",
+        2,
+        "",
+        "planus: unknown command `render`; see planus help\n",
     ),
     (
         "format --wirte a",

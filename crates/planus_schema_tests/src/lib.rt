@@ -19,3 +19,7 @@ mod random;
 mod syntax;
 #[cfg(test)]
 mod syntax_rows;
+#[cfg(test)]
+mod view_rows;
+#[cfg(test)]
+mod views;
