@@ -1,6 +1,6 @@
 -- What is said of the meaning of files.
 use Rattle.std.specs.Prelude.{◌≡◌, ℕ, ◌==◌, ◌||◌, not, Bool, true, false, List, [], ◌∷◌, ◌++◌}
-use Rattle.std.specs.Prelude.{map, take, drop, slice_get, Option, Some}
+use Rattle.std.specs.Prelude.{map, take, drop, slice_get, Option, Some, None}
 use Rattle.std.specs.Prelude.{if◌then◌else◌}
 use Rattle.std.specs.List.{position_or_len}
 use Rattle.std.specs.Int.{is_in_range}
@@ -77,21 +77,21 @@ pub record AreTold (declarations : List (Vec Declaration)) (faults : List Fault)
   pub exact : AreInOrder (faults_found declarations) faults
   pub some : AreFaults faults
 
--- The files have no fault and mean a sound schema, and nothing is said; or their faults are
--- reported, each in order.
-abbrev pub ChecksFiles : List File → List (Vec Declaration) → Bool
+-- The files have no fault and mean this schema, which is sound, and nothing is said; or their faults
+-- are reported, each in order.
+abbrev pub ResolvesFiles : List File → List (Vec Declaration) → Option Schema
     → Option (List ℕ) → Option (List ℕ) → Type 0
-ChecksFiles files declarations true before after = (faults_found declarations ≡ [])
-    × ((s : Schema) × Means (schemas_of declarations) s × IsSound s) × Keeps before after
-ChecksFiles files declarations false before after = (faults : List Fault)
+ResolvesFiles files declarations (Some s) before after = (faults_found declarations ≡ [])
+    × Means (schemas_of declarations) s × IsSound s × Keeps before after
+ResolvesFiles files declarations None before after = (faults : List Fault)
     × AreTold declarations faults
     × ((out : List ℕ) × AreReports (names_of_files (schemas_of declarations)) files faults out
     × Appends before after out)
 
 -- Memory was refused before anything was written; or there are faults, and writing failed.
-abbrev pub FailsChecking : List (Vec Declaration) → RunError → Option (List ℕ)
+abbrev pub FailsResolving : List (Vec Declaration) → RunError → Option (List ℕ)
     → Option (List ℕ) → Type 0
-FailsChecking declarations OutOfMemory before after = Keeps before after
-FailsChecking declarations Read before after = ⊥
-FailsChecking declarations Write before after =
+FailsResolving declarations OutOfMemory before after = Keeps before after
+FailsResolving declarations Read before after = ⊥
+FailsResolving declarations Write before after =
     (faults : List Fault) × AreTold declarations faults

@@ -4,14 +4,13 @@ ghost use Rattle.std.specs.Prelude.{IfSome};
 ghost use Rattle.planus_commands.specs.Viewing.{SplitsSized};
 
 use crate::arguments::{Words, number_of};
-use crate::checking::check_files;
+use crate::checking::resolve_or_report;
 use crate::said::{CLEAN, FAILED, FAULTY};
-use crate::sources::{Sources, load_all, text_of};
+use crate::sources::{Sources, lists_of, load_all, text_of};
 use crate::streams::{RunError, say};
 use crate::viewing::{Limits, view_buffer};
 use planus_inspect::dump_schema;
 use planus_layout::{Body, Declared, Schema};
-use planus_schema::resolve;
 use std::alloc::Global;
 use std::io::{Read, Write};
 use std::rt::Files;
@@ -193,11 +192,9 @@ pub fn view_file<R: Files + AllocGlobal, S: Read, W: Write, X: Write>(
     if status != CLEAN {
         return Ok(status);
     }
-    if !check_files(alloc, &sources.files, &sources.declarations, errors)? {
-        return Ok(FAULTY);
-    }
-    match resolve(alloc, &sources.declarations) {
-        Ok(schema) => view_by(rt, &schema, words, *buffer, input, writer, errors),
-        Err(_) => Err(RunError::OutOfMemory),
+    let lists = lists_of(alloc, sources.read)?;
+    match resolve_or_report(alloc, &lists.files, &lists.declarations, errors)? {
+        Some(schema) => view_by(rt, &schema, words, *buffer, input, writer, errors),
+        None => Ok(FAULTY),
     }
 }

@@ -3,7 +3,7 @@
 ghost use Rattle.std.specs.Prelude.{◌≡◌, ◌<◌, length, position, IfOk, IfErr, OnOk};
 ghost use Rattle.std.specs.List.{All};
 ghost use Rattle.planus_syntax.specs.Values.{names_of};
-ghost use Rattle.planus_commands.specs.Checks.{AreReports, ChecksFiles, FailsChecking, IsReport};
+ghost use Rattle.planus_commands.specs.Checks.{AreReports, ResolvesFiles, FailsResolving, IsReport};
 ghost use Rattle.planus_commands.specs.Checks.{IsReportAdded};
 ghost use Rattle.planus_commands.specs.Checks.{ends_word as ends_word_lem};
 ghost use Rattle.planus_commands.specs.Checks.{unquoted as unquoted_lem};
@@ -14,7 +14,7 @@ use crate::placed::place_of;
 use crate::problem::message_text;
 use crate::report::report;
 use crate::streams::{RunError, write_out};
-use planus_schema::{Fault, Refusal, resolve};
+use planus_schema::{Fault, Refusal, Schema, resolve};
 use planus_syntax::Declaration;
 use std::alloc::{AllocError, Global};
 use std::io::Write;
@@ -106,30 +106,30 @@ fn reports(
     Ok(out)
 }
 
-/// Reports what is wrong with the meaning of these files, whose declarations are given in the same
-/// order. Returns whether nothing is.
+/// Returns what these files mean, whose declarations are given in the same order, or reports what is
+/// wrong with them.
 ///
 /// [`RunError::Write`] where writing failed, [`RunError::OutOfMemory`] where memory was refused.
-pub fn check_files<X: Write>(
+pub fn resolve_or_report<X: Write>(
     alloc: Global,
     files: &[File],
     declarations: &[Vec<Declaration>],
     errors: &mut X,
-) -> Result<bool, RunError>
+) -> Result<Option<Schema>, RunError>
     requires { length files.now ≡ length declarations.now }
-    ensures checked { IfOk result (λ clean. ChecksFiles files.now declarations.now clean
+    ensures resolved { IfOk result (λ found. ResolvesFiles files.now declarations.now found
         (X.contents errors.old) (X.contents errors.new)) }
-    ensures failed { IfErr result (λ error. FailsChecking declarations.now error
+    ensures failed { IfErr result (λ error. FailsResolving declarations.now error
         (X.contents errors.old) (X.contents errors.new)) }
 {
     match resolve(alloc, declarations) {
-        Ok(_) => Ok(true),
+        Ok(schema) => Ok(Some(schema)),
         Err(Refusal::OutOfMemory) => Err(RunError::OutOfMemory),
         Err(Refusal::Faults(faults)) => {
             let names = declared_names(alloc, declarations)?;
             let out = reports(alloc, &names, files, &faults)?;
             write_out(errors, &out)?;
-            Ok(false)
+            Ok(None)
         }
     }
 }

@@ -7,7 +7,7 @@ ghost use Rattle.planus_commands.specs.Said.{said_of, SaysIf};
 
 use crate::arguments::{Command, Request, Words, request_of};
 use crate::buffers::view_file;
-use crate::checking::check_files;
+use crate::checking::resolve_or_report;
 use crate::rewrite::{Formatting, format_file};
 use crate::said::{CLEAN, FAILED, FAULTY, say as say_of};
 use crate::sources::{Sources, lists_of, load_all};
@@ -30,10 +30,9 @@ fn check_file<R: Files + AllocGlobal, S: Read, X: Write>(
         return Ok(status);
     }
     let lists = lists_of(rt.alloc(), sources.read)?;
-    if check_files(rt.alloc(), &lists.files, &lists.declarations, errors)? {
-        Ok(CLEAN)
-    } else {
-        Ok(FAULTY)
+    match resolve_or_report(rt.alloc(), &lists.files, &lists.declarations, errors)? {
+        Some(_) => Ok(CLEAN),
+        None => Ok(FAULTY),
     }
 }
 

@@ -1,12 +1,13 @@
 //! Buffers, shown by a schema.
 
-ghost use Rattle.std.specs.Prelude.{◌≡◌, map, IfOk, OnOk, ◌++◌};
+ghost use Rattle.std.specs.Prelude.{◌≡◌, map, IfOk, IfErr, OnOk, ◌++◌};
 ghost use Rattle.std.specs.List.{list_any};
 ghost use Rattle.std.specs.String.{string_bytes};
 ghost use Rattle.planus_dump.specs.FaultLines.{is_fault_line as is_fault_line_lem, begins_with};
 ghost use Rattle.planus_commands.specs.Viewing.{end_text as end_lem, lines_text, lines_of};
 ghost use Rattle.planus_commands.specs.Viewing.{view_text as view_lem, is_whole as is_whole_lem};
 ghost use Rattle.planus_commands.specs.Viewing.{is_clean as is_clean_lem, WritesView};
+ghost use Rattle.planus_commands.specs.Viewing.{FailsViewing};
 
 use crate::streams::{RunError, write_out};
 use planus_dump::{DumpError, End, FirstLines, Schema, view};
@@ -103,8 +104,8 @@ fn is_clean(view: &FirstLines) -> bool
 /// Writes the first lines of a buffer, and after them why more are left out. Returns whether all is
 /// shown and no line states an error.
 ///
-/// [`RunError::Write`] where writing failed, [`RunError::OutOfMemory`] where memory was refused.
-/// The schema is a good one.
+/// [`RunError::Write`] where writing failed, [`RunError::OutOfMemory`] where memory was refused,
+/// [`RunError::Read`] for a bad schema, which no sound one is shown by.
 pub fn view_buffer<W: Write>(
     alloc: Global,
     schema: &Schema,
@@ -112,7 +113,9 @@ pub fn view_buffer<W: Write>(
     limits: Limits,
     writer: &mut W,
 ) -> Result<bool, RunError>
-    ensures { IfOk result (λ clean. WritesView schema.now bytes.now limits.lines limits.bytes clean
+    ensures shown { IfOk result (λ clean. WritesView schema.now bytes.now limits.lines limits.bytes
+        clean (W.contents writer.old) (W.contents writer.new)) }
+    ensures failed { IfErr result (λ error. FailsViewing schema.now error
         (W.contents writer.old) (W.contents writer.new)) }
 {
     let view = match view(alloc, schema, bytes, limits.lines, limits.bytes) {
