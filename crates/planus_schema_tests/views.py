@@ -3,7 +3,8 @@
 
 It wants flatc 2.0.8, which in Debian is flatbuffers-compiler.
 
-- `flatc -b` has to make the row's buffer of its value in JSON.
+- `flatc -b` has to make the row's buffer of its value in JSON. It writes no deprecated field, so it is
+  asked with fields that are not.
 - `flatc --json` of that buffer gives the value with its defaults left out. Each of its scalars has to
   stand in the lines, under its path, and the lines have no other value. Floats are compared by their
   bits, and have to be as short as Python's shortest.
@@ -99,10 +100,10 @@ def agrees(text, value):
 
 
 def faults(schema, value, digits, lines):
-    buffer, again = made(schema, value)
+    buffer, again = made(schema.replace(" (deprecated)", ""), value)
     if buffer.hex() != digits:
         yield "another buffer"
-    said = shown(lines)
+    said = shown(lines.replace("(deprecated)", ""))
     there = dict(leaves(again, "root"))
     for path, held in there.items():
         if path not in said or not agrees(said[path], held):

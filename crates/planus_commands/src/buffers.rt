@@ -149,6 +149,38 @@ fn view_sized<W: Write, X: Write>(
     Ok(worst)
 }
 
+/// How a buffer is viewed.
+#[derive(Clone, Copy, Debug)]
+pub struct Viewing {
+    /// The index of the root's table among the declarations.
+    pub root: usize,
+    /// Whether there are one or more buffers, each after its size.
+    pub size_prefixed: bool,
+    /// How much of each is wanted.
+    pub limits: Limits,
+}
+
+/// Writes what the bytes of a file hold by a schema, and says on standard error where they have
+/// another identifier or end too soon. Returns the exit status: 0 where all is shown and nothing is
+/// wrong, else 1.
+pub fn view_bytes<W: Write, X: Write>(
+    alloc: Global,
+    schema: &Schema,
+    how: Viewing,
+    name: &str,
+    bytes: &[u8],
+    writer: &mut W,
+    errors: &mut X,
+) -> Result<u8, RunError> {
+    let shown = dump_schema(alloc, schema, how.root)?;
+    let limits = how.limits;
+    if how.size_prefixed {
+        view_sized(alloc, schema, &shown, limits, name, bytes, writer, errors)
+    } else {
+        view_one(alloc, schema, &shown, limits, name, bytes, writer, errors)
+    }
+}
+
 /// Writes what a buffer holds by a schema.
 fn view_by<R: Files + AllocGlobal, S: Read, W: Write, X: Write>(
     rt: &R,
@@ -165,14 +197,12 @@ fn view_by<R: Files + AllocGlobal, S: Read, W: Write, X: Write>(
     let Some(bytes) = text_of(rt, name, input, errors)? else {
         return Ok(FAILED);
     };
-    let alloc = rt.alloc();
-    let shown = dump_schema(alloc, schema, root)?;
-    let limits = limits_of(words);
-    if words.size_prefixed {
-        view_sized(alloc, schema, &shown, limits, name, &bytes, writer, errors)
-    } else {
-        view_one(alloc, schema, &shown, limits, name, &bytes, writer, errors)
-    }
+    let how = Viewing {
+        root,
+        size_prefixed: words.size_prefixed,
+        limits: limits_of(words),
+    };
+    view_bytes(rt.alloc(), schema, how, name, &bytes, writer, errors)
 }
 
 /// Writes what a buffer holds by a schema, which the words name. Returns the exit status.

@@ -22,6 +22,7 @@ mod texts;
 mod viewing;
 
 pub use arguments::{Choice, Command, Request, Words, number_of, request_of};
+pub use buffers::{Viewing, view_bytes};
 pub use outcome::{Outcome, Printed};
 pub use program::{run_program, run_words};
 pub use said::{Said, said_of, say};

@@ -5,7 +5,7 @@
 /// and the lines of its view.
 pub type View = (&'static str, &'static str, &'static str, &'static str);
 
-pub const VIEWS: [View; 18] = [
+pub const VIEWS: [View; 19] = [
     (
         "table T { a: bool; b: byte; c: ubyte; d: short; e: ushort; f: int; g: uint; h: long; i: \
          ulong; } root_type T;",
@@ -230,6 +230,17 @@ pub const VIEWS: [View; 18] = [
          root.a = 1\n\
          root.b = \"s\"\n\
          root.c = 2\n",
+    ),
+    (
+        "struct S { x: short; } table T { old: int (deprecated); past: S (deprecated); now: int; \
+         } root_type T;",
+        "{ old: 1, past: { x: 2 }, now: 3 }",
+        "1000000000000a00100004000a000c000a000000010000000000020003000000",
+        "root: table T\n\
+         root.old(deprecated) = 1\n\
+         root.past(deprecated): struct S\n\
+         root.past(deprecated).x = 2\n\
+         root.now = 3\n",
     ),
     (
         "namespace x.y; enum E: ubyte { A, B } table Part { n: int; } namespace x; table T { p: \

@@ -1,6 +1,6 @@
 use crate::answers::meaning;
 use crate::view_rows::{VIEWS, View};
-use planus_commands::{Limits, view_buffer};
+use planus_commands::{Limits, Viewing, view_buffer, view_bytes};
 use planus_dump::Schema;
 use planus_inspect::dump_schema;
 use std::alloc::Global;
@@ -70,6 +70,88 @@ fn ends_damaged(alloc: Global, row: &View) -> Option<bool> {
         bytes[at] = byte;
     }
     Some(true)
+}
+
+/// A file with buffers of `table T { x: int; } root_type T; file_identifier "ABCD";`: whether each is
+/// after its size, its bytes in hexadecimal digits, the greatest number of lines, the exit status, and
+/// what is written on standard output and on standard error. `flatc -b` made the buffer with x = 7, and
+/// `flatc -b --size-prefixed` that after its size.
+type File = (bool, &'static str, usize, u8, &'static str, &'static str);
+
+const FILES: [File; 6] = [
+    (
+        false,
+        "100000004142434400000600080004000600000007000000",
+        9,
+        0,
+        "root: table T\nroot.x = 7\n",
+        "",
+    ),
+    (
+        false,
+        "100000004142434500000600080004000600000007000000",
+        9,
+        1,
+        "root: table T\nroot.x = 7\n",
+        "planus: f has not the identifier `ABCD`\n",
+    ),
+    (
+        false,
+        "100000004142434400000600080004000600000007000000",
+        1,
+        1,
+        "root: table T\n.. more lines follow; see --lines\n",
+        "",
+    ),
+    (
+        true,
+        "18000000100000004142434400000600080004000600000007000000180000001000000041424344\
+         00000600080004000600000007000000",
+        9,
+        0,
+        "root: table T\nroot.x = 7\nroot: table T\nroot.x = 7\n",
+        "",
+    ),
+    (
+        true,
+        "18000000100000004142434400000600080004000600000007000000190000001000000041424344\
+         00000600080004000600000007000000",
+        9,
+        1,
+        "root: table T\nroot.x = 7\n",
+        "planus: f ends before a buffer does\n",
+    ),
+    (true, "", 9, 0, "", ""),
+];
+
+/// Returns whether a file is viewed as its row says.
+fn is_viewed(alloc: Global, file: &File) -> Option<bool> {
+    let (size_prefixed, digits, lines, status, written, told) = *file;
+    let text = b"table T { x: int; } root_type T; file_identifier \"ABCD\";";
+    let schema = meaning(alloc, &[text])?.ok()?;
+    let how = Viewing {
+        root: schema.statements.root?,
+        size_prefixed,
+        limits: Limits { lines, bytes: 99 },
+    };
+    let bytes = bytes_of(alloc, digits)?;
+    let mut writer = Vec::new(alloc);
+    let mut errors = Vec::new(alloc);
+    let ended = view_bytes(alloc, &schema, how, "f", &bytes, &mut writer, &mut errors);
+    Some(
+        ended == Ok(status)
+            && writer.as_slice() == written.as_bytes()
+            && errors.as_slice() == told.as_bytes(),
+    )
+}
+
+#[test]
+fn files(rt: HostRuntime) {
+    assert!(rt;
+        FILES
+            .iter()
+            .all(|file| is_viewed(rt.alloc(), file) == Some(true))
+    );
 }
 
 #[test]
