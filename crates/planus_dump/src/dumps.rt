@@ -20,10 +20,12 @@ pub(crate) const GREATEST_DEPTH: usize = 64;
 pub enum DumpError {
     /// An allocation failed.
     OutOfMemory,
-    /// The schema names a table or a union that it doesn't have, has a union with a tag 0 or a tag
-    /// used twice, or a name that is empty or has a byte other than ASCII letters, digits and `_`.
+    /// The schema names a table, a union, an enum or a struct that it doesn't have, has a union with
+    /// a tag 0 or a tag used twice, or a name that is empty or has a byte other than ASCII letters,
+    /// digits and `_`.
     BadSchema,
-    /// A table at depth 65 is reached before a line past the budget. The root has depth 1.
+    /// A table at depth 65, or a struct in 64 others, is reached before a line past the budget. The
+    /// root has depth 1.
     TooDeep,
     /// There are more lines than the budget.
     TooManyLines,
