@@ -38,11 +38,11 @@ fn table_of(alloc: Global, parts: &TableParts<'_>) -> Result<TableSchema, AllocE
         let name = String::from_str(alloc, name)?;
         let (slot, kind) = (*slot, *kind);
         fields.push(FieldSchema {
-        slot,
-        name,
-        kind,
-        deprecated: false,
-    })?;
+            slot,
+            name,
+            kind,
+            deprecated: false,
+        })?;
     }
     let name = String::from_str(alloc, parts.0)?;
     Ok(TableSchema { name, fields })
