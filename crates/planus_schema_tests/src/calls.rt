@@ -5,7 +5,7 @@ use std::alloc::{AllocError, Global};
 /// output and on standard error.
 type Call = (&'static str, &'static str, u8, &'static str, &'static str);
 
-const CALLS: [Call; 21] = [
+const CALLS: [Call; 22] = [
     ("--version", "", 0, "planus 0.1.0\n", ""),
     (
         "chekc a",
@@ -119,6 +119,56 @@ const CALLS: [Call; 21] = [
         " table\tA{x:int=-1;}",
         0,
         "table A {\n  x: int = -1;\n}\n",
+        "",
+    ),
+    (
+        "format -",
+        "include \"items.fbs\";\n\
+         namespace game . data;   attribute \"priority\";\n\
+         /// What a field is good for.\n\
+         enum Color : ubyte (bit_flags) { Red = 1, Green , Blue = 0x4, }\n\
+         union Any { Sword: game.data.Item, Item }\n\
+         struct Vec3 (force_align: 8) { x:float; y:float; z:float; }\n\
+         /// A monster.\n\
+         /// It bites.\n\
+         table Monster\n\
+         {\n  pos:Vec3; mana:short=-150 (priority: 1);\n\
+         \x20 speed : double = 1.5e-3; far: float = -inf; kind: game.data.Color = Red;\n\
+         \x20 name:string(required,key);names:[string]=[];level:int=null;\n  /// Bytes.\n\
+         \x20 inventory : [ ubyte ] ( nested_flatbuffer : \"Item\" );\n\
+         }\n\
+         rpc_service Store { Put(Monster):Item (streaming: \"none\"); }\n\
+         root_type Monster; file_identifier \"MONS\"; file_extension \"mon\";\n",
+        0,
+        "include \"items.fbs\";\n\
+         \n\
+         namespace game.data;\n\
+         attribute \"priority\";\n\
+         \n\
+         /// What a field is good for.\n\
+         enum Color: ubyte (bit_flags) {\n  Red = 1,\n  Green,\n  Blue = 0x4,\n\
+         }\n\
+         \n\
+         union Any {\n  Sword: game.data.Item,\n  Item\n\
+         }\n\
+         \n\
+         struct Vec3 (force_align: 8) {\n  x: float;\n  y: float;\n  z: float;\n\
+         }\n\
+         \n\
+         /// A monster.\n\
+         /// It bites.\n\
+         table Monster {\n  pos: Vec3;\n  mana: short = -150 (priority: 1);\n\
+         \x20 speed: double = 1.5e-3;\n  far: float = -inf;\n  kind: game.data.Color = Red;\n\
+         \x20 name: string (required, key);\n  names: [string] = [];\n  level: int = null;\n\
+         \x20 /// Bytes.\n  inventory: [ubyte] (nested_flatbuffer: \"Item\");\n\
+         }\n\
+         \n\
+         rpc_service Store {\n  Put (Monster): Item (streaming: \"none\");\n\
+         }\n\
+         \n\
+         root_type Monster;\n\
+         file_identifier \"MONS\";\n\
+         file_extension \"mon\";\n",
         "",
     ),
     (
