@@ -10,15 +10,20 @@ const LIMITS: Limits = Limits {
     bytes: 2000,
 };
 
+/// Returns the number that a hexadecimal digit is.
+fn digit_at(digits: &[u8], index: usize) -> Option<u32> {
+    (*digits.get(index)? as char).to_digit(16)
+}
+
 /// Returns the bytes that hexadecimal digits say.
 fn bytes_of(alloc: Global, digits: &str) -> Option<Vec<u8>> {
+    let digits = digits.as_bytes();
     let mut bytes = Vec::new(alloc);
-    let mut rest = digits.as_bytes();
-    while let [high, low, after @ ..] = rest {
-        let high = (*high as char).to_digit(16)?;
-        let low = (*low as char).to_digit(16)?;
-        bytes.push((high * 16 + low) as u8).ok()?;
-        rest = after;
+    for i in 0..digits.len() / 2 {
+        let high = digit_at(digits, 2 * i)?;
+        let low = digit_at(digits, 2 * i + 1)?;
+        let byte = high.wrapping_mul(16).wrapping_add(low);
+        bytes.push(u8::try_from(byte).ok()?).ok()?;
     }
     Some(bytes)
 }
