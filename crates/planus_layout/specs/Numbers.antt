@@ -143,7 +143,7 @@ abbrev pub fits : Scalar → Number → Bool
 fits s n = if n.negative then nat_le n.magnitude (least s) else nat_le n.magnitude (greatest s)
 
 -- both names of a scalar type
-abbrev pub scalar_named : List ℕ → Option Scalar
+unfoldable pub scalar_named : List ℕ → Option Scalar
 scalar_named w =
     if bytes_eq w (codes "bool") then Some Boolean
     else if bytes_eq w (codes "byte") || bytes_eq w (codes "int8") then Some Byte

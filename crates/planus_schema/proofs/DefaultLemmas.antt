@@ -15,9 +15,9 @@ use Rattle.planus_layout.specs.declared.schema.Base.{Base}
 use Rattle.planus_layout.specs.declared.schema.Base.TheVariants as base
 use Rattle.planus_layout.specs.declared.schema.FieldType.{FieldType}
 use Rattle.planus_layout.specs.Numbers.{integer_said, is_float, is_bool, fits, zero_number, is_hexadecimal, without_sign}
-use Rattle.planus_schema.specs.Names.{HeadV, item_at}
+use Rattle.planus_schema.specs.Names.{HeadV, item_at, cut_words}
 use Rattle.planus_schema.specs.Enums.{is_flags}
-use Rattle.planus_schema.specs.Defaults.{ValueV, absent, integer, float, text, empty, is_word, absent_or, if_fits, whole_number, number_default, truth, named_bool, named_float, float_number, scalar_default, value_named, value_name, value_in, as_integer, enum_named, is_among_values, among_values, cut_words, flags_named, with_flag, or_flag, as_flags, text_default, vector_default, enum_at, default_in, base_default, zero_in, zero_scalar, zero_default, some_default, default_said, is_scalar_value, is_enum_value, is_text_value, is_vector_value, is_value, is_default}
+use Rattle.planus_schema.specs.Defaults.{ValueV, absent, integer, float, text, empty, is_word, absent_or, if_fits, whole_number, number_default, truth, named_bool, named_float, float_number, scalar_default, value_named, value_name, value_in, as_integer, enum_named, is_among_values, among_values, flags_named, with_flag, or_flag, as_flags, text_default, vector_default, enum_at, default_in, base_default, zero_in, zero_scalar, zero_default, some_default, default_said, is_scalar_value, is_enum_value, is_text_value, is_vector_value, is_value, is_default}
 
 -- whatever is there has this
 record Allowed (p : ValueV → Bool) (o : Option ValueV) : Type 0 where

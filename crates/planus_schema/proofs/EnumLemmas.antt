@@ -1,14 +1,23 @@
 -- Names and values that are added.
-use Rattle.std.proofs.Common.{◌≡◌, true, false, List, [], ◌∷◌, ◌++◌, map, refl, ap, ◌∙◌}
+use Rattle.std.proofs.Common.{◌≡◌, ℕ, Bool, true, false, List, [], ◌∷◌, ◌++◌, map, refl, sym, ap, subst, ◌∙◌, append_assoc}
+use Rattle.std.specs.Prelude.{Option, Some, None}
 use Rattle.std.specs.List.{list_any, list_all, IsDistinct}
 use Rattle.std.proofs.lemmas.List.{map_push}
 use Rattle.std.proofs.lemmas.List.Folds.{list_all-append}
-use Rattle.planus_syntax.specs.Values.{VariantV, names_of}
+use Rattle.planus_syntax.specs.Values.{Name, VariantV, names_of, digits_of}
+use Rattle.planus_syntax.specs.declared.value.Variant.{Variant}
+use Rattle.planus_layout.specs.Distinct.{is_in}
+use Rattle.planus_schema.specs.declared.fault.Problem.TheVariants as problem
+use Rattle.planus_schema.specs.declared.fault.Stop.{Stop}
+use Rattle.planus_schema.specs.declared.fault.Stop.TheVariants as stop
+use Rattle.planus_schema.specs.Wrong.{Broken, when, Stops}
+use Rattle.planus_schema.specs.WrongEnums.{value_said, wrong_value, wrong_values, wrong_names}
+use Rattle.planus_schema.proofs.FaultLemmas.{skip, passes, stops_first, stops_now}
 use Rattle.planus_layout.specs.declared.number.Number.{Number}
 use Rattle.planus_layout.specs.declared.scalar.Scalar.{Scalar}
 use Rattle.planus_layout.specs.declared.schema.EnumValue.{EnumValue}
 use Rattle.planus_layout.specs.Numbers.{fits}
-use Rattle.planus_schema.specs.Enums.{same_number, number_of_value, IsValueAdded}
+use Rattle.planus_schema.specs.Enums.{same_number, number_of_value, number_of, number_said, numbers_from, settled, settled_said, is_spelled, IsValueAdded}
 use Rattle.planus_layout.proofs.Lists.{distinct_push, distinct_none, list_any-map}
 
 pub value_added : (s : Scalar) (v : VariantV) (n : Number) (old new : List EnumValue) (x : EnumValue) → new ≡ old ++ x ∷ [] → x.name.items ≡ v.name → names_of x.docs.items ≡ v.docs → x.number ≡ n → fits s n ≡ true → list_any (λ v. same_number v.number n) old ≡ false → IsValueAdded s v n old new
@@ -27,3 +36,45 @@ no_values xs e = rw e (distinct_none same_number)
 
 pub numbers_any : (vs : List EnumValue) (n : Number) → list_any (λ m. same_number m n) (map number_of_value vs) ≡ list_any (λ v. same_number v.number n) vs
 numbers_any vs n = list_any-map (λ m. same_number m n) number_of_value vs
+
+-- ---- the values so far, and what is wrong with those that are left
+
+pub spelled_push : (vs : List VariantV) (v : VariantV) → list_all is_spelled vs ≡ true → is_spelled v ≡ true → list_all is_spelled (vs ++ v ∷ []) ≡ true
+spelled_push vs v h e = list_all-append is_spelled vs (v ∷ []) ∙ rw (h, e) refl
+
+pub numbers_next : (flags : Bool) (previous : Option Number) (front : List Number) (vs : List VariantV) (v : VariantV) (rest : List VariantV) (all : List Number) (n value : Number) → vs ≡ v ∷ rest → front ++ map (settled flags) (numbers_from previous vs) ≡ all → n ≡ number_of previous v.value → value ≡ settled flags n → (front ++ value ∷ []) ++ map (settled flags) (numbers_from (Some n) rest) ≡ all
+numbers_next flags previous front vs v rest all n value here same is e =
+    append_assoc front (value ∷ []) (map (settled flags) (numbers_from (Some n) rest))
+    ∙ ap (λ m. front ++ m ∷ map (settled flags) (numbers_from (Some n) rest)) e
+    ∙ ap (λ m. front ++ settled flags m ∷ map (settled flags) (numbers_from (Some m) rest)) is
+    ∙ ap (λ ws. front ++ map (settled flags) (numbers_from previous ws)) (sym here) ∙ same
+
+pub value_is : (flags : Bool) (previous : Option Number) (w : Option (List ℕ)) (n value : Number) → Some n ≡ number_said previous w → Some value ≡ settled_said flags n → value_said flags (number_said previous w) ≡ Some value
+value_is flags previous w n value e f = ap (value_said flags) (sym e) ∙ sym f
+
+pub value_stops : (s : Scalar) (flags : Bool) (previous : Option Number) (values : List Number) (vs : List Variant) (v : Variant) (rest : List Variant) (all : Option Broken) (o : Option Number) (e : Stop) → vs ≡ v ∷ rest → wrong_values s flags previous values vs ≡ all → value_said flags (number_said previous (digits_of v.value)) ≡ o → Stops (wrong_value s values v o) e → Stops all e
+value_stops s flags previous values vs v rest all o e here same said h =
+    subst (λ w. Stops w e) (ap (wrong_values s flags previous values) (sym here) ∙ same)
+    (stops_first _ _ e (subst (λ p. Stops (wrong_value s values v p) e) (sym said) h))
+
+pub no_value_stops : (s : Scalar) (flags : Bool) (previous : Option Number) (values : List Number) (vs : List Variant) (v : Variant) (rest : List Variant) (all : Option Broken) → vs ≡ v ∷ rest → wrong_values s flags previous values vs ≡ all → value_said flags (number_said previous (digits_of v.value)) ≡ None → Stops all (stop.Wrong problem.ValueOutOfRange v.left)
+no_value_stops s flags previous values vs v rest all here same said =
+    value_stops s flags previous values vs v rest all None (stop.Wrong problem.ValueOutOfRange v.left) here same said refl
+
+pub values_next : (s : Scalar) (flags : Bool) (previous : Option Number) (values : List Number) (vs : List Variant) (v : Variant) (rest : List Variant) (all : Option Broken) (n : Number) (value : Number) (values' : List Number) → vs ≡ v ∷ rest → wrong_values s flags previous values vs ≡ all → value_said flags (number_said previous (digits_of v.value)) ≡ Some value → wrong_value s values v (Some value) ≡ None → n ≡ number_of previous (digits_of v.value) → value ≡ settled flags n → values' ≡ values ++ value ∷ [] → wrong_values s flags (Some n) values' rest ≡ all
+values_next s flags previous values vs v rest all n value values' here same said none is e added =
+    ap (λ ws. wrong_values s flags (Some n) ws rest) (added ∙ ap (λ m. values ++ m ∷ []) e)
+    ∙ ap (λ m. wrong_values s flags (Some m) (values ++ settled flags m ∷ []) rest) is
+    ∙ sym (skip (wrong_value s values v (value_said flags (number_said previous (digits_of v.value)))) _ (ap (wrong_value s values v) said ∙ none))
+    ∙ ap (wrong_values s flags previous values) (sym here) ∙ same
+
+pub value_name_stops : (names : List Name) (vs : List Variant) (v : Variant) (rest : List Variant) (all : Option Broken) → vs ≡ v ∷ rest → wrong_names names vs ≡ all → is_in names v.name.items ≡ true → Stops all (stop.Wrong problem.ValueNameTaken v.left)
+value_name_stops names vs v rest all here same used =
+    subst (λ o. Stops o (stop.Wrong problem.ValueNameTaken v.left)) (ap (wrong_names names) (sym here) ∙ same)
+    (stops_now _ problem.ValueNameTaken v.left _ used)
+
+pub value_names_next : (names : List Name) (vs : List Variant) (v : Variant) (rest : List Variant) (all : Option Broken) (names' : List Name) → vs ≡ v ∷ rest → wrong_names names vs ≡ all → is_in names v.name.items ≡ false → names' ≡ names ++ v.name.items ∷ [] → wrong_names names' rest ≡ all
+value_names_next names vs v rest all names' here same new named =
+    ap (λ ns. wrong_names ns rest) named
+    ∙ sym (skip (when (is_in names v.name.items) problem.ValueNameTaken v.left) _ (passes _ problem.ValueNameTaken v.left new))
+    ∙ ap (wrong_names names) (sym here) ∙ same

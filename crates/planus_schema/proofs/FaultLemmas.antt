@@ -1,5 +1,5 @@
 -- Faults that are added.
-use Rattle.std.proofs.Common.{true, subst, ◌≡◌, ℕ, zero, suc, ◌<◌, ◌≤◌, List, [], ◌∷◌, ◌++◌, length, map, take, refl, sym, ap, ◌∙◌, append_assoc, arith, length-append}
+use Rattle.std.proofs.Common.{Bool, true, false, subst, ◌≡◌, ℕ, zero, suc, ◌<◌, ◌≤◌, List, [], ◌∷◌, ◌++◌, length, map, take, refl, sym, ap, ◌∙◌, append_assoc, arith, length-append}
 use Rattle.std.proofs.lemmas.List.{take-append-le}
 use Rattle.std.proofs.lemmas.Grind.{common_steps}
 use Rattle.planus_schema.specs.declared.fault.Fault.{Fault}
@@ -10,13 +10,13 @@ use Rattle.planus_schema.specs.declared.fault.Problem.{Problem}
 use Rattle.planus_schema.specs.declared.fault.Stop.{Stop}
 use Rattle.planus_schema.specs.declared.fault.Stop.TheVariants as stop
 use Rattle.planus_schema.specs.Names.{is_set, head_of, heads_of}
-use Rattle.planus_schema.specs.Wrong.{Broken, when, Stops}
+use Rattle.planus_schema.specs.Wrong.{Broken, when, first, Stops}
 use Rattle.planus_schema.specs.Faults.{first_twenty, Adds, fault_in, broken_in, is_index, measure_or_byte, placed_of, placed_from, name_faults, body_faults, file_faults, faults_found}
 use Rattle.std.specs.Global.{Vec}
 use Rattle.planus_syntax.specs.Values.{schema_of}
 use Rattle.planus_syntax.specs.declared.value.Declaration.{Declaration}
 use Rattle.planus_schema.specs.declared.head.Head.{Head}
-use Rattle.planus_schema.specs.WrongServices.{customs_of}
+use Rattle.planus_schema.specs.WrongServices.{known_attributes}
 
 capped : (n : ℕ) (a b : List Fault) → take n (take n a ++ b) ≡ take n (a ++ b)
 capped zero a b = refl
@@ -62,6 +62,43 @@ pub told_is : (o : Option Broken) (s : Stop) → Stops o s → is_set (broken_in
 told_is o stop.OutOfMemory h t = absurd cc
 told_is o (stop.Wrong p l) h t = h
 
+-- one of two parts is what it is stopped by
+pub stops_first : (o p : Option Broken) (s : Stop) → Stops o s → Stops (first o p) s
+stops_first o p stop.OutOfMemory h = tt
+stops_first o p (stop.Wrong q l) h = rw h refl
+
+pub stops_next : (o p : Option Broken) (s : Stop) → o ≡ None → Stops p s → Stops (first o p) s
+stops_next o p s e h = subst (λ x. Stops (first x p) s) (sym e) h
+
+pub stops_now : (b : Bool) (p : Problem) (left : ℕ) (o : Option Broken) → b ≡ true → Stops (first (when b p left) o) (stop.Wrong p left)
+stops_now b p left o e = rw e refl
+
+pub skip : (o p : Option Broken) → o ≡ None → first o p ≡ p
+skip o p e = rw e refl
+
+pub passes : (b : Bool) (p : Problem) (left : ℕ) → b ≡ false → when b p left ≡ None
+passes b p left e = rw e refl
+
+-- of a list, what is wrong with the first item or with those after it
+pub first_stops : {A : Type 0} (W : List A → Option Broken) (o next : Option Broken) (xs : List A) (x : A) (rest : List A) (all : Option Broken) (s : Stop) → xs ≡ x ∷ rest → W (x ∷ rest) ≡ first o next → W xs ≡ all → Stops o s → Stops all s
+first_stops W o next xs x rest all s here is same h = subst (λ w. Stops w s) (sym is ∙ ap W (sym here) ∙ same) (stops_first o next s h)
+
+pub told_now : {A : Type 0} (W : List A → Option Broken) (b : Bool) (p : Problem) (left : ℕ) (next : Option Broken) (xs : List A) (x : A) (rest : List A) (all : Option Broken) → xs ≡ x ∷ rest → W (x ∷ rest) ≡ first (when b p left) next → W xs ≡ all → b ≡ true → Stops all (stop.Wrong p left)
+told_now W b p left next xs x rest all here is same e =
+    subst (λ w. Stops w (stop.Wrong p left)) (sym is ∙ ap W (sym here) ∙ same) (stops_now b p left next e)
+
+pub next_is : {A : Type 0} (W : List A → Option Broken) (o next : Option Broken) (xs : List A) (x : A) (rest : List A) (all : Option Broken) → xs ≡ x ∷ rest → W (x ∷ rest) ≡ first o next → W xs ≡ all → o ≡ None → next ≡ all
+next_is W o next xs x rest all here is same none = sym (skip o next none) ∙ sym is ∙ ap W (sym here) ∙ same
+
+-- a name that is used, and one that is not
+pub name_used : (new used : Bool) → new ≡ false → new ≡ not used → used ≡ true
+name_used new true e n = refl
+name_used new false e n = absurd cc
+
+pub name_new : (new used : Bool) → new ≡ true → new ≡ not used → used ≡ false
+name_new new true e n = absurd cc
+name_new new false e n = refl
+
 pub adds_told : (file : ℕ) (o : Option Broken) (s : Stop) (old new : List Fault) → Stops o s → is_set (broken_in s) ≡ true → Adds (fault_in file (broken_in s)) old new → Adds (fault_in file o) old new
 adds_told file o s old new h t a = subst (λ x. Adds (fault_in file x) old new) (sym (told_is o s h t)) a
 
@@ -90,10 +127,10 @@ ok_anyway (Err e) P p = tt
 
 -- ---- the whole
 
-pub all_found : (files : List (Vec Declaration)) (hs : List Head) (start x y z : List Fault) → start ≡ [] → map head_of hs ≡ heads_of (map (λ f. schema_of f.items) files) → map placed_of hs ≡ placed_from 0 files → Adds (name_faults (map head_of hs) 0 (map placed_of hs)) start x → Adds (body_faults (map head_of hs) [] (map placed_of hs)) x y → Adds (file_faults (map head_of hs) (customs_of files) 0 files) y z → z ≡ faults_found files
+pub all_found : (files : List (Vec Declaration)) (hs : List Head) (start x y z : List Fault) → start ≡ [] → map head_of hs ≡ heads_of (map (λ f. schema_of f.items) files) → map placed_of hs ≡ placed_from 0 files → Adds (name_faults (map head_of hs) 0 (map placed_of hs)) start x → Adds (body_faults (map head_of hs) [] (map placed_of hs)) x y → Adds (file_faults (map head_of hs) (known_attributes files) 0 files) y z → z ≡ faults_found files
 all_found files hs start x y z s h p a b c =
     let names = name_faults (map head_of hs) 0 (map placed_of hs) in
     let first = subst (λ xs. Adds names xs x) s a in
-    adds_thrice names (body_faults (map head_of hs) [] (map placed_of hs)) (file_faults (map head_of hs) (customs_of files) 0 files) x y z first b c
-    ∙ ap (λ gs. first_twenty (name_faults gs 0 (map placed_of hs) ++ (body_faults gs [] (map placed_of hs) ++ file_faults gs (customs_of files) 0 files))) h
-    ∙ ap (λ ps. first_twenty (name_faults (heads_of (map (λ f. schema_of f.items) files)) 0 ps ++ (body_faults (heads_of (map (λ f. schema_of f.items) files)) [] ps ++ file_faults (heads_of (map (λ f. schema_of f.items) files)) (customs_of files) 0 files))) p
+    adds_thrice names (body_faults (map head_of hs) [] (map placed_of hs)) (file_faults (map head_of hs) (known_attributes files) 0 files) x y z first b c
+    ∙ ap (λ gs. first_twenty (name_faults gs 0 (map placed_of hs) ++ (body_faults gs [] (map placed_of hs) ++ file_faults gs (known_attributes files) 0 files))) h
+    ∙ ap (λ ps. first_twenty (name_faults (heads_of (map (λ f. schema_of f.items) files)) 0 ps ++ (body_faults (heads_of (map (λ f. schema_of f.items) files)) [] ps ++ file_faults (heads_of (map (λ f. schema_of f.items) files)) (known_attributes files) 0 files))) p

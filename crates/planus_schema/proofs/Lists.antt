@@ -1,10 +1,10 @@
 -- Lists.
-use Rattle.std.proofs.Common.{◌≡◌, ℕ, zero, suc, ◌+◌, ◌-◌, ◌<◌, Bool, cond, List, [], ◌∷◌, ◌++◌, length, map, take, refl, sym, ap, ◌∙◌, arith, sub-one}
-use Rattle.std.specs.Prelude.{position, nat_lt, not, Option, Some, None, fold}
+use Rattle.std.proofs.Common.{◌≡◌, ℕ, zero, suc, ◌+◌, ◌-◌, ◌<◌, Bool, false, cond, List, [], ◌∷◌, ◌++◌, length, map, take, drop, get_or, add-one, drop-cons, refl, sym, ap, ◌∙◌, arith, append_assoc, sub-one}
+use Rattle.std.specs.Prelude.{◌==◌, position, nat_lt, not, Option, Some, None, fold}
 use Rattle.std.specs.List.{prefix_len}
 use Rattle.std.proofs.Math.ListN.{length-map}
 use Rattle.planus_syntax.specs.Values.{Name}
-use Rattle.planus_schema.specs.Names.{HeadV, with_word, dotted, index_of, found_from}
+use Rattle.planus_schema.specs.Names.{HeadV, cut_words, with_word, dotted, index_of, found_from}
 
 prefix_len-map : {A B : Type 0} (p : B → Bool) (f : A → B) (xs : List A) → prefix_len p (map f xs) ≡ prefix_len (λ x. p (f x)) xs
 prefix_len-map p f [] = refl
@@ -28,3 +28,15 @@ further_out hs space words zero r h e i = absurd (omega arith)
 further_out hs space words (suc n) r h e i =
     let k : index_of hs (dotted (take (suc n) space ++ words)) ≡ None = sym i ∙ e in
     rw (sub-one, k) refl
+
+-- a byte of a text: the end of a word, or one more of it
+pub word_cut : (front : List Name) (word : List ℕ) (b : ℕ) (text rest : List ℕ) (all : List Name) → text ≡ b ∷ rest → b ≡ 32 → front ++ cut_words word text ≡ all → (front ++ word ∷ []) ++ cut_words [] rest ≡ all
+word_cut front word b text rest all here e same =
+    append_assoc front (word ∷ []) (cut_words [] rest) ∙ ap (λ x. front ++ cut_words word (x ∷ rest)) (sym e) ∙ ap (λ t. front ++ cut_words word t) (sym here) ∙ same
+
+pub word_goes_on : (front : List Name) (word : List ℕ) (b : ℕ) (text rest : List ℕ) (all : List Name) → text ≡ b ∷ rest → (b == 32) ≡ false → front ++ cut_words word text ≡ all → front ++ cut_words (word ++ b ∷ []) rest ≡ all
+word_goes_on front word b text rest all here e same =
+    ap (λ q. front ++ cond q (word ∷ cut_words [] rest) (cut_words (word ++ b ∷ []) rest)) (sym e) ∙ ap (λ t. front ++ cut_words word t) (sym here) ∙ same
+
+pub byte_next : (xs : List ℕ) (i d : ℕ) → i < length xs → drop i xs ≡ get_or xs i d ∷ drop (i + 1) xs
+byte_next xs i d h = rw add-one (drop-cons xs i d h)

@@ -4,7 +4,18 @@ use Rattle.std.proofs.lemmas.List.{map_push}
 use Rattle.std.proofs.lemmas.List.Sums.{fold-append}
 use Rattle.planus_layout.specs.declared.schema.StructField.{StructField}
 use Rattle.std.proofs.lemmas.Grind.{common_steps}
-use Rattle.planus_layout.specs.Distinct.{Each2, Takes, IsAdded}
+use Rattle.std.specs.Prelude.{Option, None}
+use Rattle.planus_syntax.specs.Values.{Name}
+use Rattle.planus_syntax.specs.declared.value.Field.{Field}
+use Rattle.planus_layout.specs.declared.measure.Measure.{Measure}
+use Rattle.planus_schema.specs.declared.fault.Problem.TheVariants as problem
+use Rattle.planus_schema.specs.declared.fault.Stop.{Stop}
+use Rattle.planus_schema.specs.declared.fault.Stop.TheVariants as stop
+use Rattle.planus_schema.specs.Names.{HeadV}
+use Rattle.planus_schema.specs.Wrong.{Broken, when, Stops}
+use Rattle.planus_schema.specs.WrongStructs.{wrong_struct_field, wrong_struct_fields, end_of, end_after, greatest_after, alignment_in, field_measure}
+use Rattle.planus_schema.proofs.FaultLemmas.{skip, passes, stops_first, stops_next, stops_now}
+use Rattle.planus_layout.specs.Distinct.{Each2, Takes, IsAdded, is_in}
 use Rattle.planus_layout.specs.Layouts.{IsNext, Laid, greatest_alignment}
 
 pub each2_push : {A B : Type 0} (R : A → B → Type 0) (xs : List A) (ys : List B) (x : A) (y : B) → Each2 R xs ys → R x y → Each2 R (xs ++ x ∷ []) (ys ++ y ∷ [])
@@ -37,3 +48,26 @@ drop_next xs i x h e = rw add-one (drop-cons xs i x h ∙ ap (λ y. y ∷ drop (
 
 pub map_rest : {A B : Type 0} (f : A → B) (xs : List A) (i : ℕ) (x : A) → i < length xs → x ≡ get_or xs i x → map f (drop i xs) ≡ f x ∷ map f (drop (i + 1) xs)
 map_rest f xs i x h e = ap (map f) (drop_next xs i x h e)
+
+-- ---- what is wrong with the fields that are left
+
+pub struct_field_stops : (hs : List HeadV) (space : List Name) (ms : List (Option Measure)) (at : ℕ) (names : List Name) (fs : List Field) (d : Field) (ds : List Field) (all : Option Broken) (s : Stop) → fs ≡ d ∷ ds → wrong_struct_fields hs space ms at names fs ≡ all → Stops (wrong_struct_field hs space ms at d) s → Stops all s
+struct_field_stops hs space ms at names fs d ds all s here same h =
+    subst (λ o. Stops o s) (ap (wrong_struct_fields hs space ms at names) (sym here) ∙ same) (stops_first _ _ s h)
+
+pub struct_name_stops : (hs : List HeadV) (space : List Name) (ms : List (Option Measure)) (at : ℕ) (names : List Name) (fs : List Field) (d : Field) (ds : List Field) (all : Option Broken) → fs ≡ d ∷ ds → wrong_struct_fields hs space ms at names fs ≡ all → wrong_struct_field hs space ms at d ≡ None → is_in names d.name.items ≡ true → Stops all (stop.Wrong problem.FieldNameTaken d.left)
+struct_name_stops hs space ms at names fs d ds all here same field used =
+    subst (λ o. Stops o (stop.Wrong problem.FieldNameTaken d.left)) (ap (wrong_struct_fields hs space ms at names) (sym here) ∙ same)
+    (stops_next _ _ (stop.Wrong problem.FieldNameTaken d.left) field (stops_now _ problem.FieldNameTaken d.left _ used))
+
+pub struct_fields_next : (hs : List HeadV) (space : List Name) (ms : List (Option Measure)) (at : ℕ) (names : List Name) (fs : List Field) (d : Field) (ds : List Field) (all : Option Broken) (at' : ℕ) (names' : List Name) → fs ≡ d ∷ ds → wrong_struct_fields hs space ms at names fs ≡ all → wrong_struct_field hs space ms at d ≡ None → is_in names d.name.items ≡ false → at' ≡ end_of at (field_measure hs space ms d) → names' ≡ names ++ d.name.items ∷ [] → wrong_struct_fields hs space ms at' names' ds ≡ all
+struct_fields_next hs space ms at names fs d ds all at' names' here same field new end named =
+    rw (end, named) (sym (skip (when (is_in names d.name.items) problem.FieldNameTaken d.left) _ (passes _ problem.FieldNameTaken d.left new))
+    ∙ sym (skip (wrong_struct_field hs space ms at d) _ field)
+    ∙ ap (wrong_struct_fields hs space ms at names) (sym here) ∙ same)
+
+pub end_next : (hs : List HeadV) (space : List Name) (ms : List (Option Measure)) (at : ℕ) (fs : List Field) (d : Field) (ds : List Field) (all at' : ℕ) → fs ≡ d ∷ ds → end_after hs space ms at fs ≡ all → at' ≡ end_of at (field_measure hs space ms d) → end_after hs space ms at' ds ≡ all
+end_next hs space ms at fs d ds all at' here same end = rw end (ap (end_after hs space ms at) (sym here) ∙ same)
+
+pub greatest_next : (hs : List HeadV) (space : List Name) (ms : List (Option Measure)) (n : ℕ) (fs : List Field) (d : Field) (ds : List Field) (all m n' : ℕ) → fs ≡ d ∷ ds → greatest_after hs space ms n fs ≡ all → n' ≡ max n m → m ≡ alignment_in (field_measure hs space ms d) → greatest_after hs space ms n' ds ≡ all
+greatest_next hs space ms n fs d ds all m n' here same e is = rw (e, is) (ap (greatest_after hs space ms n) (sym here) ∙ same)

@@ -1,15 +1,15 @@
 -- One more field of a table.
-use Rattle.std.proofs.Common.{Bool, false, ◌≡◌, ℕ, ◌+◌, true, List, [], ◌∷◌, ◌++◌, refl, sym, ap, ◌∙◌, append_assoc}
+use Rattle.std.proofs.Common.{Bool, false, ◌≡◌, ℕ, ◌+◌, true, List, [], ◌∷◌, ◌++◌, refl, sym, ap, subst, ◌∙◌, append_assoc}
 use Rattle.std.specs.Prelude.{Option, None, not, ◌&&◌, ◌||◌, nat_le, codes}
 use Rattle.std.specs.List.{list_all}
 use Rattle.planus_syntax.specs.Values.{Name, field_of}
 use Rattle.planus_syntax.specs.declared.value.Field.{Field}
-use Rattle.planus_schema.specs.declared.fault.Problem.{Problem}
 use Rattle.planus_schema.specs.declared.fault.Problem.TheVariants as problem
 use Rattle.planus_schema.specs.Names.{HeadV, has}
 use Rattle.planus_schema.specs.Wrong.{Broken, when, first, Stops}
 use Rattle.planus_schema.specs.declared.fault.Stop.{Stop}
 use Rattle.planus_schema.specs.declared.fault.Stop.TheVariants as stop
+use Rattle.planus_schema.proofs.FaultLemmas.{skip, passes, stops_first, stops_next, stops_now}
 use Rattle.planus_schema.specs.WrongTables.{field_type, field_slot, slots_at, slots_from, wrong_field, wrong_fields, names_in, are_among}
 use Rattle.planus_layout.specs.Slots.{slots_of, slots_taken}
 use Rattle.std.proofs.lemmas.List.{append-nil}
@@ -31,12 +31,6 @@ pub lawful_push : (fs : List TableField) (f : TableField) → list_all is_lawful
 lawful_push fs f h e = list_all-append is_lawful fs (f ∷ []) ∙ rw (h, e) refl
 
 -- ---- what is wrong with the fields that are left
-
-skip : (o r : Option Broken) → o ≡ None → first o r ≡ r
-skip o r e = rw e refl
-
-passes : (b : Bool) (p : Problem) (left : ℕ) → b ≡ false → when b p left ≡ None
-passes b p left e = rw e refl
 
 slots_push : (fs : List TableField) (f : TableField) → slots_taken (fs ++ f ∷ []) ≡ slots_taken fs ++ slots_of f
 slots_push [] f = append-nil (slots_of f)
@@ -75,11 +69,26 @@ after_is hs space ids next key names fs d ds all f l k is n =
     ∙ sym (skip (wrong_field hs space ids next d) _ l.field) ∙ sym (skip (when (not (nat_le next 65535)) problem.TooManySlots d.left) _ (passes _ problem.TooManySlots d.left low))
     ∙ ap (wrong_fields hs space ids next key names) (sym l.here) ∙ l.same
 
--- the names are taken already
-pub name_is_taken : (all rest : Option Broken) (b : Bool) (p : Problem) (left : ℕ) (e : Stop) → first (when b p left) rest ≡ all → Stops (when b p left) e → Stops all e
-name_is_taken all rest b p left stop.OutOfMemory h s = tt
-name_is_taken all rest true p left (stop.Wrong q l) h s = sym h ∙ s
-name_is_taken all rest false p left (stop.Wrong q l) h s = absurd cc
+-- no slot is left for the first field
+pub slot_stops : (hs : List HeadV) (space : List Name) (ids : Bool) (next : ℕ) (key : Bool) (names : List Name) (fs : List Field) (d : Field) (ds : List Field) (all : Option Broken) → fs ≡ d ∷ ds → nat_le next 65535 ≡ false → wrong_fields hs space ids next key names fs ≡ all → Stops all (stop.Wrong problem.TooManySlots d.left)
+slot_stops hs space ids next key names fs d ds all here high same =
+    subst (λ o. Stops o (stop.Wrong problem.TooManySlots d.left)) (ap (wrong_fields hs space ids next key names) (sym here) ∙ same)
+    (stops_now _ problem.TooManySlots d.left _ (ap not high))
+
+-- the first field has a fault
+pub field_stops : (hs : List HeadV) (space : List Name) (ids : Bool) (next : ℕ) (key : Bool) (names : List Name) (fs : List Field) (d : Field) (ds : List Field) (all : Option Broken) (s : Stop) → fs ≡ d ∷ ds → nat_le next 65535 ≡ true → wrong_fields hs space ids next key names fs ≡ all → Stops (wrong_field hs space ids next d) s → Stops all s
+field_stops hs space ids next key names fs d ds all s here low same h =
+    subst (λ o. Stops o s) (ap (wrong_fields hs space ids next key names) (sym here) ∙ same)
+    (stops_next _ _ s (passes _ problem.TooManySlots d.left (ap not low)) (stops_first _ _ s h))
+
+-- its names are taken
+pub names_stop : (hs : List HeadV) (space : List Name) (ids : Bool) (next : ℕ) (key : Bool) (names : List Name) (f : TableField) (d : Field) (ds : List Field) (all : Option Broken) (s : Stop) → after_field hs space ids next key names f d ds ≡ all → Stops (when (are_among names (names_taken f)) problem.FieldNameTaken d.left) s → Stops all s
+names_stop hs space ids next key names f d ds all s is h = subst (λ o. Stops o s) is (stops_first _ _ s h)
+
+-- it is a second key
+pub key_stops : (hs : List HeadV) (space : List Name) (ids : Bool) (next : ℕ) (key : Bool) (names : List Name) (f : TableField) (d : Field) (ds : List Field) (all : Option Broken) (s : Stop) → after_field hs space ids next key names f d ds ≡ all → are_among names (names_taken f) ≡ false → Stops (when (f.key && key) problem.SecondKey d.left) s → Stops all s
+key_stops hs space ids next key names f d ds all s is new h =
+    subst (λ o. Stops o s) is (stops_next _ _ s (passes _ problem.FieldNameTaken d.left new) (stops_first _ _ s h))
 
 pub nothing_wrong : (hs : List HeadV) (space : List Name) (ids : Bool) (next : ℕ) (key : Bool) (names : List Name) (d : Field) (ds : List Field) (all : Option Broken) (f : TableField) (names' : List Name) (key' : Bool) (next' : ℕ) → after_field hs space ids next key names f d ds ≡ all → are_among names (names_taken f) ≡ false → (f.key && key) ≡ false → names' ≡ names ++ names_taken f → key' ≡ (key || f.key) → next' ≡ next + width f.kind → wrong_fields hs space ids next' key' names' ds ≡ all
 nothing_wrong hs space ids next key names d ds all f names' key' next' h a b n k w =

@@ -1,6 +1,6 @@
 -- Defaults.
 use Rattle.std.specs.Prelude.{ℕ, Bool, true, false, ◌&&◌, ◌||◌}
-use Rattle.std.specs.Prelude.{not, if◌then◌else◌, ◌==◌, ◌++◌, fold, bit_or}
+use Rattle.std.specs.Prelude.{not, if◌then◌else◌, fold, bit_or}
 use Rattle.std.specs.Prelude.{List, [], ◌∷◌, Option, Some, None, codes}
 use Rattle.std.specs.List.{list_any}
 use Rattle.std.specs.Str.{bytes_eq}
@@ -18,7 +18,7 @@ use Rattle.planus_layout.specs.declared.schema.Value.TheVariants as value
 use Rattle.planus_layout.specs.Numbers.{integer_said, is_float, is_bool, fits}
 use Rattle.planus_layout.specs.Numbers.{zero_number}
 use Rattle.planus_layout.specs.Numbers.{is_hexadecimal, without_sign, scalar_named}
-use Rattle.planus_schema.specs.Names.{HeadV, item_at}
+use Rattle.planus_schema.specs.Names.{HeadV, item_at, cut_words}
 use Rattle.planus_schema.specs.Enums.{number_said, settled_said, is_flags, numbers_said}
 use Rattle.planus_schema.specs.Enums.{same_number}
 
@@ -122,12 +122,6 @@ is_among_values e n = if is_flags e then fits_in (scalar_named e.base.first)
 
 abbrev pub among_values : EnumerationV → Number → Option ValueV
 among_values e n = if is_among_values e n then Some (integer n) else None
-
--- the words of a text with a space between them, after the beginning of the first
-abbrev pub cut_words : List ℕ → List ℕ → List Name
-cut_words word [] = word ∷ []
-cut_words word (b ∷ bs) =
-    if b == 32 then word ∷ cut_words [] bs else cut_words (word ++ b ∷ []) bs
 
 abbrev pub or_flag : ℕ → Option Number → Option ℕ
 or_flag total None = None

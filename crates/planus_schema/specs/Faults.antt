@@ -29,7 +29,7 @@ use Rattle.planus_schema.specs.WrongEnums.{wrong_enum}
 use Rattle.planus_schema.specs.WrongStructs.{wrong_struct, struct_measure}
 use Rattle.planus_schema.specs.WrongUnions.{wrong_union}
 use Rattle.planus_schema.specs.WrongTables.{wrong_table_body}
-use Rattle.planus_schema.specs.WrongServices.{wrong_item, customs_of}
+use Rattle.planus_schema.specs.WrongServices.{wrong_item, known_attributes}
 
 -- ---- one fault, in its file
 
@@ -175,21 +175,21 @@ wrong_statement hs space left (item.FileExtension w) = None
 
 -- the attributes and methods of a declaration, and then what it states
 abbrev pub wrong_said : List HeadV → List Name → List Name → Declaration → Option Broken
-wrong_said hs space custom d =
-    first (wrong_item hs space custom d.item) (wrong_statement hs space d.left d.item)
+wrong_said hs space known d =
+    first (wrong_item hs space known d.item) (wrong_statement hs space d.left d.item)
 
 abbrev pub statement_faults : List HeadV → List Name → ℕ → Option PathV → List Declaration
     → List Fault
-statement_faults hs custom file space [] = []
-statement_faults hs custom file space (d ∷ ds) =
-    fault_in file (wrong_said hs (words_in space) custom d)
-    ++ statement_faults hs custom file (space_after space (item_of d.item)) ds
+statement_faults hs known file space [] = []
+statement_faults hs known file space (d ∷ ds) =
+    fault_in file (wrong_said hs (words_in space) known d)
+    ++ statement_faults hs known file (space_after space (item_of d.item)) ds
 
 -- of the files from the n-th on
 abbrev pub file_faults : List HeadV → List Name → ℕ → List (Vec Declaration) → List Fault
-file_faults hs custom n [] = []
-file_faults hs custom n (f ∷ fs) =
-    statement_faults hs custom n None f.items ++ file_faults hs custom (n + 1) fs
+file_faults hs known n [] = []
+file_faults hs known n (f ∷ fs) =
+    statement_faults hs known n None f.items ++ file_faults hs known (n + 1) fs
 
 -- ---- the whole
 
@@ -198,7 +198,7 @@ abbrev pub faults_found : List (Vec Declaration) → List Fault
 faults_found files =
     let hs = heads_of (map (λ f. schema_of f.items) files) in
     first_twenty (name_faults hs 0 (placed_from 0 files)
-    ++ (body_faults hs [] (placed_from 0 files) ++ file_faults hs (customs_of files) 0 files))
+    ++ (body_faults hs [] (placed_from 0 files) ++ file_faults hs (known_attributes files) 0 files))
 
 -- where a fault is: first the file, and then the word, which has more tokens left if it is earlier
 abbrev pub place_of : Fault → ℕ × ℕ

@@ -1,5 +1,5 @@
 -- What is declared, under which full name, and which declaration a name means.
-use Rattle.std.specs.Prelude.{ℕ, zero, suc, ◌+◌, Bool, true, false, if◌then◌else◌}
+use Rattle.std.specs.Prelude.{ℕ, zero, suc, ◌+◌, ◌==◌, Bool, true, false, if◌then◌else◌}
 use Rattle.std.specs.Prelude.{List, [], ◌∷◌, ◌++◌, length, take, fold, position, Option}
 use Rattle.std.specs.Prelude.{Some, None, codes, slice_get}
 use denote.Ref.{Bor}
@@ -87,6 +87,12 @@ heads_from n (ds ∷ files) = heads_in n None ds ++ heads_from (n + 1) files
 -- what the files declare, in order
 abbrev pub heads_of : List (List DeclarationV) → List HeadV
 heads_of files = heads_from 0 files
+
+-- the words of a text with a space between them, after the beginning of the first
+abbrev pub cut_words : List ℕ → List ℕ → List Name
+cut_words word [] = word ∷ []
+cut_words word (b ∷ bs) =
+    if b == 32 then word ∷ cut_words [] bs else cut_words (word ++ b ∷ []) bs
 
 -- ---- look-up
 

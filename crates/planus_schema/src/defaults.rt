@@ -25,7 +25,6 @@ ghost use Rattle.planus_schema.specs.Defaults.{enum_default as enum_default_lem}
 ghost use Rattle.planus_schema.specs.Defaults.{enum_at as enum_at_lem};
 ghost use Rattle.planus_schema.specs.Defaults.{base_default as base_default_lem};
 ghost use Rattle.planus_schema.specs.Defaults.{zero_default as zero_default_lem};
-ghost use Rattle.planus_schema.specs.Defaults.{cut_words as cut_words_lem};
 ghost use Rattle.planus_schema.specs.Defaults.{flags_named as flags_named_lem};
 ghost use Rattle.planus_schema.specs.Defaults.{flags_default as flags_default_lem};
 ghost use Rattle.planus_syntax.specs.Values.{names_of};
@@ -35,6 +34,7 @@ use crate::enums::{number_of, same_number, value_of as settled};
 use crate::fault::{Problem, Stop, wrong};
 use crate::heads::Heads;
 use crate::kind::item_of_head;
+use crate::words::cut_words;
 use planus_layout::{
     Base, FieldType, Number, Scalar, Value, integer, is_hexadecimal, scalar_named, without_sign,
 };
@@ -218,24 +218,6 @@ fn enum_named(declared: &Enumeration, path: &Path) -> Option<Value>
         },
         None => None,
     }
-}
-
-/// Returns the words of a text with a space between them.
-fn cut_words(alloc: Global, text: &[u8]) -> Result<Vec<Vec<u8>>, AllocError>
-    ensures { IfOk result (λ v. names_of v.items ≡ cut_words_lem [] text.now) }
-{
-    let mut words = Vec::new(alloc);
-    let mut word = Vec::new(alloc);
-    'bytes: for b in text {
-        if *b == b' ' {
-            words.push(word)?;
-            word = Vec::new(alloc);
-        } else {
-            word.push(*b)?;
-        }
-    }
-    words.push(word)?;
-    Ok(words)
 }
 
 /// Returns the values of these names together.

@@ -16,6 +16,7 @@ mod statements;
 mod structs;
 mod tables;
 mod unions;
+mod words;
 
 pub use fault::{Fault, Problem, Refusal};
 pub use meaning::resolve;

@@ -7,11 +7,11 @@ ghost use Rattle.planus_schema.specs.Schemas.{said_of, after, after_file, after_
 ghost use Rattle.planus_schema.specs.Schemas.{no_statements};
 ghost use Rattle.planus_syntax.specs.Values.{names_of};
 ghost use Rattle.planus_schema.specs.Wrong.{Tells};
-ghost use Rattle.planus_schema.specs.WrongServices.{customs_of};
+ghost use Rattle.planus_schema.specs.WrongServices.{known_attributes as known_attributes_lem};
 ghost use Rattle.planus_schema.specs.Faults.{Adds, fault_in, wrong_said, statement_faults};
 ghost use Rattle.planus_schema.specs.Faults.{file_faults};
 
-use crate::checks::{check_item, custom_attributes};
+use crate::checks::{check_item, known_attributes};
 use crate::fault::{Fault, Problem, Stop, note, wrong};
 use crate::head::space_after;
 use crate::heads::Heads;
@@ -25,7 +25,7 @@ fn state(
     alloc: Global,
     heads: &Heads,
     space: Option<&Path>,
-    custom: &[Vec<u8>],
+    known: &[Vec<u8>],
     declaration: &Declaration,
     statements: &mut Statements,
 ) -> Result<(), Stop>
@@ -34,9 +34,9 @@ fn state(
     ensures four { OnOk result (IsFour (said_of statements.old).identifier
         → IsFour (said_of statements.new).identifier) }
     ensures wrong { Tells (wrong_said (map head_of heads.now) (space_of space.entry)
-        (names_of custom.now) declaration.now) result }
+        (names_of known.now) declaration.now) result }
 {
-    check_item(alloc, heads, space, custom, &declaration.item)?;
+    check_item(alloc, heads, space, known, &declaration.item)?;
     match &declaration.item {
         Item::RootType(path) => {
             statements.root = Some(table_at(alloc, heads, space, path, Problem::RootIsNoTable)?);
@@ -61,7 +61,7 @@ fn state_or_note(
     alloc: Global,
     heads: &Heads,
     space: Option<&Path>,
-    custom: &[Vec<u8>],
+    known: &[Vec<u8>],
     declaration: &Declaration,
     file: usize,
     statements: &mut Statements,
@@ -76,10 +76,10 @@ fn state_or_note(
     ensures kept { OnOk result (faults.new.items ≡ [] → faults.old.items ≡ []) }
     ensures most { OnOk result (length faults.new.items ≤ 20) }
     ensures adds { OnOk result (Adds (fault_in file (wrong_said (map head_of heads.now)
-        (space_of space.entry) (names_of custom.now) declaration.now)) faults.old.items
+        (space_of space.entry) (names_of known.now) declaration.now)) faults.old.items
         faults.new.items) }
 {
-    match state(alloc, heads, space, custom, declaration, statements) {
+    match state(alloc, heads, space, known, declaration, statements) {
         Ok(()) => Ok(()),
         Err(stop) => {
             note(faults, file, stop)?;
@@ -92,7 +92,7 @@ fn state_or_note(
 fn state_file(
     alloc: Global,
     heads: &Heads,
-    custom: &[Vec<u8>],
+    known: &[Vec<u8>],
     file: usize,
     declarations: &[Declaration],
     statements: &mut Statements,
@@ -107,7 +107,7 @@ fn state_file(
     ensures kept { OnOk result (faults.new.items ≡ [] → faults.old.items ≡ []) }
     ensures most { OnOk result (length faults.new.items ≤ 20) }
     ensures adds { OnOk result (Adds (statement_faults (map head_of heads.now)
-        (names_of custom.now) file None declarations.now) faults.old.items faults.new.items) }
+        (names_of known.now) file None declarations.now) faults.old.items faults.new.items) }
 {
     let mut space = None;
     'declarations: for declaration in declarations {
@@ -115,7 +115,7 @@ fn state_file(
             alloc,
             heads,
             space,
-            custom,
+            known,
             declaration,
             file,
             statements,
@@ -153,18 +153,18 @@ pub(crate) fn statements(
     ensures four { IfOk result (λ s. faults.new.items ≡ [] → IsFour (said_of s).identifier) }
     ensures kept { OnOk result (faults.new.items ≡ [] → faults.old.items ≡ []) }
     ensures most { OnOk result (length faults.new.items ≤ 20) }
-    ensures adds { OnOk result (Adds (file_faults (map head_of heads.now) (customs_of files.now) 0
-        files.now) faults.old.items faults.new.items) }
+    ensures adds { OnOk result (Adds (file_faults (map head_of heads.now)
+        (known_attributes_lem files.now) 0 files.now) faults.old.items faults.new.items) }
 {
     let mut statements = nothing_stated();
-    let custom = custom_attributes(alloc, files)?;
+    let known = known_attributes(alloc, files)?;
     let mut file = 0;
     'files: for declarations in files {
         statements = nothing_stated();
         state_file(
             alloc,
             heads,
-            &custom,
+            &known,
             file,
             declarations,
             &mut statements,

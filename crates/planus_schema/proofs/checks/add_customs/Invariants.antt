@@ -5,5 +5,5 @@ use Rattle.planus_schema.proofs.checks.add_customs.Given as goal
 
 -- the attributes so far and those that are left are all
 abbrev pub invariant-declarations : goal.invariant-declarations
-invariant-declarations l = names_of l.custom.items ++ customs_in (drop l.declaration-index l.declarations)
-    ≡ names_of l.fn.custom.items ++ customs_in l.declarations
+invariant-declarations l = names_of l.known.items ++ customs_in (drop l.declaration-index l.declarations)
+    ≡ names_of l.fn.known.items ++ customs_in l.declarations

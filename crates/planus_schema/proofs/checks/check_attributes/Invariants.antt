@@ -5,5 +5,5 @@ use Rattle.planus_schema.proofs.checks.check_attributes.Given as goal
 
 -- what is wrong is what is wrong with those that are left
 abbrev pub invariant-attributes : goal.invariant-attributes
-invariant-attributes l = wrong_attributes (names_of l.custom) (drop l.attribute-index l.attributes)
-    ≡ wrong_attributes (names_of l.custom) l.attributes
+invariant-attributes l = wrong_attributes (names_of l.known) (drop l.attribute-index l.attributes)
+    ≡ wrong_attributes (names_of l.known) l.attributes

@@ -5,5 +5,5 @@ use Rattle.planus_schema.proofs.checks.check_fields.Given as goal
 
 -- what is wrong is what is wrong with those that are left
 abbrev pub invariant-fields : goal.invariant-fields
-invariant-fields l = wrong_in_fields (names_of l.custom) (drop l.field-index l.fields)
-    ≡ wrong_in_fields (names_of l.custom) l.fields
+invariant-fields l = wrong_in_fields (names_of l.known) (drop l.field-index l.fields)
+    ≡ wrong_in_fields (names_of l.known) l.fields

@@ -1,8 +1,12 @@
-use Rattle.std.proofs.Common.{◌≡◌, [], refl, sym, ◌∙◌, take, drop, map, arith}
-use Rattle.std.proofs.lemmas.List.{append-nil}
+use Rattle.std.proofs.Common.{◌++◌, ◌∷◌, [], refl, ap, sym, ◌∙◌, take, map, arith}
+use Rattle.std.specs.Prelude.{Some}
+use Rattle.std.proofs.lemmas.List.{append-nil, map_push, take_all, drop_all}
+use Rattle.std.proofs.lemmas.Result.{err_from_is_err_and}
+use Rattle.planus_syntax.specs.Values.{VariantV, variant_of, names_of}
 use Rattle.planus_schema.specs.Enums.{number_of_value}
-use Rattle.std.proofs.lemmas.Grind.{common_steps}
-use Rattle.planus_schema.proofs.EnumLemmas.{no_values}
+use Rattle.planus_schema.specs.WrongEnums.{value_said}
+use Rattle.planus_schema.proofs.StructLemmas.{map_next, map_rest, drop_next}
+use Rattle.planus_schema.proofs.EnumLemmas.{no_values, spelled_push, numbers_next, value_is, value_stops, no_value_stops, values_next}
 use Rattle.planus_schema.proofs.enums.enum_values.Goals as goal
 
 pub variants-init : goal.variants-init
@@ -19,8 +23,8 @@ variants-init c = let e = c.new-values.ensures.items in record {
 pub returns-clause-says : goal.returns-clause-says
 returns-clause-says c =
     let i = c.variants.invariant in
-    let t : take c.variants.variant-index c.args.variants.now ≡ c.args.variants.now = grind (arith, common_steps) in
-    let d : drop c.variants.variant-index c.args.variants.now ≡ [] = grind (arith, common_steps) in
+    let t = take_all c.variants.variant-index c.args.variants.now (omega arith) in
+    let d = drop_all c.variants.variant-index c.args.variants.now (omega arith) in
     record {
       names = rw t at i.names;
       docs = rw t at i.docs;
@@ -29,3 +33,48 @@ returns-clause-says c =
       within = i.within;
       distinct = i.distinct;
     }
+
+pub variants-preserved : goal.variants-preserved
+variants-preserved c =
+    let i = c.variants.invariant in
+    let a = c.in_ok-add_value.ensures.added in
+    let v = c.variant-item.result in
+    let before = map variant_of (take c.variants.variant-index c.args.variants.now) in
+    let t = map_next variant_of c.args.variants.now c.variants.variant-index v (omega arith) c.variant-item.is in
+    let m = map_rest variant_of c.args.variants.now c.variants.variant-index v (omega arith) c.variant-item.is in
+    let r = drop_next c.args.variants.now c.variants.variant-index c.variant-item.result (omega arith) c.variant-item.is in
+    record {
+      names = rw t (a.names ∙ ap (λ ns. ns ++ v.name.items ∷ []) i.names ∙ sym (map_push (λ (w : VariantV). w.name) before (variant_of v)));
+      docs = rw t (a.docs ∙ ap (λ ns. ns ++ names_of v.docs.items ∷ []) i.docs ∙ sym (map_push (λ (w : VariantV). w.docs) before (variant_of v)));
+      spelled = rw t (spelled_push before (variant_of v) i.spelled c.in-Some.ensures.spelled);
+      numbers = rw a.numbers (numbers_next c.args.flags c.variants.previous (map number_of_value c.variants.values.items) _ (variant_of v) _ _ c.in-Some.number c.in-Some-value_of.value m i.numbers c.in-Some.ensures.number c.in-Some-value_of.ensures.value);
+      wrong = values_next c.args.scalar c.args.flags c.variants.previous (map number_of_value c.variants.values.items) _ v _ _ c.in-Some.number c.in-Some-value_of.value _ r i.wrong
+          (value_is c.args.flags c.variants.previous (variant_of v).value c.in-Some.number c.in-Some-value_of.value c.in-Some.ensures.said c.in-Some-value_of.ensures.said)
+          c.in_ok-add_value.ensures.wrong c.in-Some.ensures.number c.in-Some-value_of.ensures.value a.numbers;
+      within = a.within i.within;
+      distinct = a.distinct i.distinct;
+    }
+
+pub returns-in-None-clause-wrong : goal.returns-in-None-clause-wrong
+returns-in-None-clause-wrong c =
+    let r = drop_next c.args.variants.now c.variants.variant-index c.variant-item.result (omega arith) c.variant-item.is in
+    rw c.wrong.ensures (no_value_stops c.args.scalar c.args.flags c.variants.previous (map number_of_value c.variants.values.items) _ c.variant-item.result _ _ r c.variants.invariant.wrong (ap (value_said c.args.flags) (sym c.in-None.ensures.said)))
+
+pub returns-in-None-value_of-clause-wrong : goal.returns-in-None-value_of-clause-wrong
+returns-in-None-value_of-clause-wrong c =
+    let r = drop_next c.args.variants.now c.variants.variant-index c.variant-item.result (omega arith) c.variant-item.is in
+    rw c.wrong-in-None-value_of.ensures (no_value_stops c.args.scalar c.args.flags c.variants.previous (map number_of_value c.variants.values.items) _ c.variant-item.result _ _ r c.variants.invariant.wrong
+    (ap (value_said c.args.flags) (sym c.in-Some.ensures.said) ∙ sym c.in-None-value_of.ensures.said))
+
+pub returns-in_err-add_value-clause-wrong : goal.returns-in_err-add_value-clause-wrong
+returns-in_err-add_value-clause-wrong c =
+    let r = drop_next c.args.variants.now c.variants.variant-index c.variant-item.result (omega arith) c.variant-item.is in
+    let p = err_from_is_err_and c.from_residual.result c.from_residual.ensures.1 in
+    rw (p.1, p.2) (value_stops c.args.scalar c.args.flags c.variants.previous (map number_of_value c.variants.values.items) _ c.variant-item.result _ _ (Some c.in-Some-value_of.value) _ r c.variants.invariant.wrong
+    (value_is c.args.flags c.variants.previous (variant_of c.variant-item.result).value c.in-Some.number c.in-Some-value_of.value c.in-Some.ensures.said c.in-Some-value_of.ensures.said)
+    c.in_err-add_value.ensures.wrong)
+
+pub returns-clause-wrong : goal.returns-clause-wrong
+returns-clause-wrong c =
+    let d = drop_all c.variants.variant-index c.args.variants.now (omega arith) in
+    sym (rw d at c.variants.invariant.wrong)

@@ -10,7 +10,7 @@ use Rattle.planus_schema.proofs.statements.state_file.Goals as goal
 pub declarations-preserved : goal.declarations-preserved
 declarations-preserved c =
     let hs = map head_of c.args.heads.now in
-    let custom = names_of c.args.custom.now in
+    let known = names_of c.args.known.now in
     let ds = c.args.declarations.now in
     let n = c.declarations.declaration-index in
     let r = drop_next c.args.declarations.now c.declarations.declaration-index c.declaration-item.result (omega arith) c.declaration-item.is in
@@ -19,9 +19,9 @@ declarations-preserved c =
       four = search rules;
       kept = search rules;
       most = c.in_ok-state_or_note.ensures.most;
-      adds = ap (λ sp. first_twenty (c.state_or_note.new.faults.items ++ statement_faults hs custom c.args.file sp (drop (n + 1) ds))) c.space_after-space.ensures
+      adds = ap (λ sp. first_twenty (c.state_or_note.new.faults.items ++ statement_faults hs known c.args.file sp (drop (n + 1) ds))) c.space_after-space.ensures
           ∙ adds_next c.declarations.faults.items _ c.state_or_note.new.faults.items _ _ c.in_ok-state_or_note.ensures.adds
-          (ap (λ ds'. first_twenty (c.declarations.faults.items ++ statement_faults hs custom c.args.file (path_in c.declarations.space) ds')) (sym r) ∙ c.declarations.invariant.adds);
+          (ap (λ ds'. first_twenty (c.declarations.faults.items ++ statement_faults hs known c.args.file (path_in c.declarations.space) ds')) (sym r) ∙ c.declarations.invariant.adds);
     }
 
 pub returns-clause-adds : goal.returns-clause-adds
@@ -29,4 +29,4 @@ returns-clause-adds c =
     let i = c.declarations.invariant in
     let d : drop c.declarations.declaration-index c.args.declarations.now ≡ [] = grind (arith, common_steps) in
     adds_none c.declarations.faults.items i.most
-    ∙ ap (λ ds. first_twenty (c.declarations.faults.items ++ statement_faults (map head_of c.args.heads.now) (names_of c.args.custom.now) c.args.file (path_in c.declarations.space) ds)) (sym d) ∙ i.adds
+    ∙ ap (λ ds. first_twenty (c.declarations.faults.items ++ statement_faults (map head_of c.args.heads.now) (names_of c.args.known.now) c.args.file (path_in c.declarations.space) ds)) (sym d) ∙ i.adds

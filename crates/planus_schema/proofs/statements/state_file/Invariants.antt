@@ -16,8 +16,8 @@ invariant-declarations l = record {
       → IsFour (said_of l.statements).identifier;
   kept : l.faults.items ≡ [] → l.fn.faults.items ≡ [];
   most : length l.faults.items ≤ 20;
-  adds : first_twenty (l.faults.items ++ statement_faults (map head_of l.heads) (names_of l.custom)
+  adds : first_twenty (l.faults.items ++ statement_faults (map head_of l.heads) (names_of l.known)
       l.file (path_in l.space) (drop l.declaration-index l.declarations))
-      ≡ first_twenty (l.fn.faults.items ++ statement_faults (map head_of l.heads) (names_of l.custom)
+      ≡ first_twenty (l.fn.faults.items ++ statement_faults (map head_of l.heads) (names_of l.known)
       l.file None l.declarations);
 }

@@ -1,6 +1,6 @@
 use Rattle.std.proofs.Common.{◌≡◌, ◌≤◌, ◌++◌, [], length, map, drop}
 use Rattle.planus_syntax.specs.Values.{schema_of, names_of}
-use Rattle.planus_schema.specs.WrongServices.{customs_of}
+use Rattle.planus_schema.specs.WrongServices.{known_attributes}
 use Rattle.planus_schema.specs.Faults.{first_twenty, file_faults}
 use Rattle.planus_schema.specs.Names.{head_of}
 use Rattle.planus_schema.specs.Schemas.{said_of, after_files, no_statements, IsFour}
@@ -16,8 +16,8 @@ invariant-files l = record {
   four : l.faults.items ≡ [] → IsFour (said_of l.statements).identifier;
   kept : l.faults.items ≡ [] → l.fn.faults.items ≡ [];
   most : length l.faults.items ≤ 20;
-  adds : first_twenty (l.faults.items ++ file_faults (map head_of l.heads) (customs_of l.files)
+  adds : first_twenty (l.faults.items ++ file_faults (map head_of l.heads) (known_attributes l.files)
       l.file (drop l.declarations-index l.files))
-      ≡ first_twenty (l.fn.faults.items ++ file_faults (map head_of l.heads) (customs_of l.files) 0 l.files);
-  customs : names_of l.custom.items ≡ customs_of l.files;
+      ≡ first_twenty (l.fn.faults.items ++ file_faults (map head_of l.heads) (known_attributes l.files) 0 l.files);
+  known : names_of l.known.items ≡ known_attributes l.files;
 }

@@ -1,11 +1,15 @@
-use Rattle.std.proofs.Common.{◌++◌, ◌∷◌, [], refl, ap, sym, ◌∙◌, take, map, max, arith}
-use Rattle.std.proofs.lemmas.Grind.{common_steps}
-use Rattle.std.proofs.lemmas.List.{map_push}
+use Rattle.std.proofs.Common.{◌++◌, ◌∷◌, [], refl, ap, sym, subst, ◌∙◌, take, map, max, arith}
+use Rattle.std.proofs.lemmas.List.{map_push, take_all, drop_all}
+use Rattle.std.proofs.lemmas.Result.{err_from_is_err_and}
+use Rattle.planus_layout.specs.Distinct.{AreDistinct, is_in}
+use Rattle.planus_schema.specs.Names.{head_of, space_of}
+use Rattle.planus_schema.specs.WrongStructs.{measures_of}
+use Rattle.planus_schema.proofs.FaultLemmas.{name_used, name_new}
 use Rattle.planus_syntax.specs.Values.{names_of, field_of}
 use Rattle.planus_layout.specs.declared.schema.StructField.{StructField}
 use Rattle.planus_layout.specs.Layouts.{greatest_alignment}
 use Rattle.planus_layout.proofs.NameLemmas.{no_names}
-use Rattle.planus_schema.proofs.StructLemmas.{each2_push, laid_push, greatest_push, map_next, taken}
+use Rattle.planus_schema.proofs.StructLemmas.{each2_push, laid_push, greatest_push, map_next, drop_next, taken, end_next, greatest_next, struct_field_stops, struct_name_stops, struct_fields_next}
 use Rattle.planus_schema.proofs.structs.struct_fields.Goals as goal
 
 pub fields-init : goal.fields-init
@@ -31,17 +35,65 @@ fields-preserved c =
     let f = c.in_ok-field.field in
     let fs = c.fields.fields.items in
     let t = map_next field_of c.args.declared.now c.fields.declaration-index c.declaration-item.result (omega arith) c.declaration-item.is in
+    let r = drop_next c.args.declared.now c.fields.declaration-index c.declaration-item.result (omega arith) c.declaration-item.is in
+    let name = c.deref.ensures.value ∙ c.in_ok-field.ensures.says.name in
     let a = taken c.in_ok-take_name.field-0 (names_of c.fields.names.items) c.deref.result.now (names_of c.take_name.new.names.items) c.if-not-branch.false c.in_ok-take_name.ensures.taken in
     record {
       says = rw (t, e) (each2_push _ (map field_of (take c.fields.declaration-index c.args.declared.now)) fs (field_of c.declaration-item.result) f i.says c.in_ok-field.ensures.says);
       laid = rw e (laid_push 0 fs c.fields.end f i.laid c.in_ok-field.ensures.placed);
       within = c.in_ok-field.ensures.within;
       greatest = c.greater-alignment.ensures ∙ ap (λ n. max n f.alignment) i.greatest ∙ sym (greatest_push fs f) ∙ ap greatest_alignment (sym e);
-      ends = grind (arith, common_steps);
-      aligns = grind (arith, common_steps);
-      wrong = grind (arith, common_steps);
+      ends = end_next (map head_of c.args.heads.now) (space_of c.args.space) (measures_of c.args.bodies.now) c.fields.end _ c.declaration-item.result _ _ _ r i.ends c.in_ok-field.ensures.next;
+      aligns = greatest_next (map head_of c.args.heads.now) (space_of c.args.space) (measures_of c.args.bodies.now) c.fields.alignment _ c.declaration-item.result _ _ f.alignment _ r i.aligns c.greater-alignment.ensures c.in_ok-field.ensures.alignment;
+      wrong = struct_fields_next (map head_of c.args.heads.now) (space_of c.args.space) (measures_of c.args.bodies.now) c.fields.end (names_of c.fields.names.items) _ c.declaration-item.result _ _ _ _ r i.wrong c.in_ok-field.ensures.wrong
+          (ap (is_in (names_of c.fields.names.items)) (sym name) ∙ name_new _ _ c.if-not-branch.false c.in_ok-take_name.ensures.new) c.in_ok-field.ensures.next
+          (a.added ∙ ap (λ w. names_of c.fields.names.items ++ w ∷ []) name);
       names = a.added ∙ ap (λ w. names_of c.fields.names.items ++ w ∷ []) c.deref.ensures.value
           ∙ ap (λ ns. ns ++ f.name.items ∷ []) i.names
           ∙ sym (map_push (λ (g : StructField). g.name.items) fs f) ∙ ap (map (λ (g : StructField). g.name.items)) (sym e);
       distinct = a.distinct i.distinct;
     }
+
+pub returns-in_err-field-clause-wrong : goal.returns-in_err-field-clause-wrong
+returns-in_err-field-clause-wrong c =
+    let r = drop_next c.args.declared.now c.fields.declaration-index c.declaration-item.result (omega arith) c.declaration-item.is in
+    let p = err_from_is_err_and c.from_residual.result c.from_residual.ensures.1 in
+    rw (p.1, p.2) (struct_field_stops (map head_of c.args.heads.now) (space_of c.args.space) (measures_of c.args.bodies.now) c.fields.end (names_of c.fields.names.items) _ c.declaration-item.result _ _ _ r c.fields.invariant.wrong c.in_err-field.ensures.wrong)
+
+pub returns-then-not-branch-clause-wrong : goal.returns-then-not-branch-clause-wrong
+returns-then-not-branch-clause-wrong c =
+    let r = drop_next c.args.declared.now c.fields.declaration-index c.declaration-item.result (omega arith) c.declaration-item.is in
+    rw c.wrong.ensures (struct_name_stops (map head_of c.args.heads.now) (space_of c.args.space) (measures_of c.args.bodies.now) c.fields.end (names_of c.fields.names.items) _ c.declaration-item.result _ _ r c.fields.invariant.wrong c.in_ok-field.ensures.wrong
+    (ap (is_in (names_of c.fields.names.items)) (sym (c.deref.ensures.value ∙ c.in_ok-field.ensures.says.name)) ∙ name_used _ _ c.if-not-branch.true c.in_ok-take_name.ensures.new))
+
+pub returns-clause-says : goal.returns-clause-says
+returns-clause-says c =
+    let t = take_all c.fields.declaration-index c.args.declared.now (omega arith) in
+    rw t at c.fields.invariant.says
+
+pub returns-clause-laid : goal.returns-clause-laid
+returns-clause-laid c = c.fields.invariant.laid
+
+pub returns-clause-within : goal.returns-clause-within
+returns-clause-within c = c.fields.invariant.within
+
+pub returns-clause-greatest : goal.returns-clause-greatest
+returns-clause-greatest c = c.fields.invariant.greatest
+
+pub returns-clause-names : goal.returns-clause-names
+returns-clause-names c = subst AreDistinct c.fields.invariant.names c.fields.invariant.distinct
+
+pub returns-clause-end : goal.returns-clause-end
+returns-clause-end c =
+    let d = drop_all c.fields.declaration-index c.args.declared.now (omega arith) in
+    rw d at c.fields.invariant.ends
+
+pub returns-clause-alignment : goal.returns-clause-alignment
+returns-clause-alignment c =
+    let d = drop_all c.fields.declaration-index c.args.declared.now (omega arith) in
+    rw d at c.fields.invariant.aligns
+
+pub returns-clause-wrong : goal.returns-clause-wrong
+returns-clause-wrong c =
+    let d = drop_all c.fields.declaration-index c.args.declared.now (omega arith) in
+    sym (rw d at c.fields.invariant.wrong)

@@ -1,10 +1,15 @@
-use Rattle.std.proofs.Common.{◌+◌, ◌++◌, drop, refl, ap, sym, ◌∙◌, take, map, arith}
+use Rattle.std.proofs.Common.{◌≡◌, false, ◌+◌, ◌++◌, drop, refl, ap, sym, subst, ◌∙◌, take, map, arith}
+use Rattle.std.specs.Prelude.{nat_le}
+use Rattle.std.proofs.lemmas.Result.{err_from_is_err_and}
+use Rattle.std.proofs.lemmas.List.{append-nil, take_all, drop_all}
+use Rattle.planus_layout.specs.Distinct.{AreDistinct}
+use Rattle.planus_layout.specs.Slots.{slots_taken}
 use Rattle.planus_syntax.specs.Values.{names_of, field_of}
 use Rattle.std.proofs.lemmas.Bool.Decides.{nat_tests}
 use Rattle.planus_schema.specs.Tables.{all_names, names_taken}
 use Rattle.planus_layout.proofs.NameLemmas.{no_names}
 use Rattle.planus_schema.proofs.StructLemmas.{each2_push, map_next, drop_next}
-use Rattle.planus_schema.proofs.TableLemmas.{names_are, after_is, nothing_wrong, slots_next, follow_push, names_push, lawful_push}
+use Rattle.planus_schema.proofs.TableLemmas.{names_are, after_is, nothing_wrong, slots_next, follow_push, names_push, lawful_push, slot_stops, field_stops, names_stop, key_stops}
 use Rattle.planus_schema.specs.Names.{head_of, space_of}
 use Rattle.planus_schema.specs.WrongTables.{field_type}
 use Rattle.planus_schema.proofs.tables.table_fields.Goals as goal
@@ -45,3 +50,57 @@ fields-preserved c =
       names = a.added ∙ ap (λ ns. ns ++ names_taken f) i.names ∙ sym (names_push fs f) ∙ ap all_names (sym e);
       distinct = a.distinct i.distinct;
     }
+
+pub returns-then-next-gt65535-clause-wrong : goal.returns-then-next-gt65535-clause-wrong
+returns-then-next-gt65535-clause-wrong c =
+    let r = drop_next c.args.declared.now c.fields.declaration-index c.declaration-item.result (omega arith) c.declaration-item.is in
+    let high : nat_le c.fields.next 65535 ≡ false = grind (arith, nat_tests, c.if-next-gt65535.true) in
+    rw c.wrong.ensures (slot_stops (map head_of c.args.heads.now) (space_of c.args.space) c.args.ids c.fields.next c.fields.key (names_of c.fields.names.items) _ c.declaration-item.result _ _ r high c.fields.invariant.wrong)
+
+pub returns-in_err-field-clause-wrong : goal.returns-in_err-field-clause-wrong
+returns-in_err-field-clause-wrong c =
+    let r = drop_next c.args.declared.now c.fields.declaration-index c.declaration-item.result (omega arith) c.declaration-item.is in
+    let p = err_from_is_err_and c.from_residual.result c.from_residual.ensures.1 in
+    rw (p.1, p.2) (field_stops (map head_of c.args.heads.now) (space_of c.args.space) c.args.ids c.fields.next c.fields.key (names_of c.fields.names.items) _ c.declaration-item.result _ _ _ r (grind (arith, nat_tests, c.if-next-gt65535.false)) c.fields.invariant.wrong c.in_err-field.ensures.wrong)
+
+pub returns-in_err-add_names-clause-wrong : goal.returns-in_err-add_names-clause-wrong
+returns-in_err-add_names-clause-wrong c =
+    let r = drop_next c.args.declared.now c.fields.declaration-index c.declaration-item.result (omega arith) c.declaration-item.is in
+    let after = after_is (map head_of c.args.heads.now) (space_of c.args.space) c.args.ids c.fields.next c.fields.key (names_of c.fields.names.items) (drop c.fields.declaration-index c.args.declared.now) c.declaration-item.result (drop (c.fields.declaration-index + 1) c.args.declared.now) _ c.in_ok-field.field
+    (record { here = r; low = grind (arith, nat_tests, c.if-next-gt65535.false); field = c.in_ok-field.ensures.wrong; same = c.fields.invariant.wrong })
+    c.in_ok-field.ensures.kind c.in_ok-field.ensures.says.key (names_are c.in_ok-field.field c.declaration-item.result (field_type (map head_of c.args.heads.now) (space_of c.args.space) c.declaration-item.result) c.in_ok-field.ensures.kind c.in_ok-field.ensures.says.name) in
+    let p = err_from_is_err_and c.from_residual-in_err-add_names.result c.from_residual-in_err-add_names.ensures.1 in
+    rw (p.1, p.2) (names_stop (map head_of c.args.heads.now) (space_of c.args.space) c.args.ids c.fields.next c.fields.key (names_of c.fields.names.items) c.in_ok-field.field c.declaration-item.result _ _ _ after c.in_err-add_names.ensures.wrong)
+
+pub returns-in_err-key-clause-wrong : goal.returns-in_err-key-clause-wrong
+returns-in_err-key-clause-wrong c =
+    let r = drop_next c.args.declared.now c.fields.declaration-index c.declaration-item.result (omega arith) c.declaration-item.is in
+    let after = after_is (map head_of c.args.heads.now) (space_of c.args.space) c.args.ids c.fields.next c.fields.key (names_of c.fields.names.items) (drop c.fields.declaration-index c.args.declared.now) c.declaration-item.result (drop (c.fields.declaration-index + 1) c.args.declared.now) _ c.in_ok-field.field
+    (record { here = r; low = grind (arith, nat_tests, c.if-next-gt65535.false); field = c.in_ok-field.ensures.wrong; same = c.fields.invariant.wrong })
+    c.in_ok-field.ensures.kind c.in_ok-field.ensures.says.key (names_are c.in_ok-field.field c.declaration-item.result (field_type (map head_of c.args.heads.now) (space_of c.args.space) c.declaration-item.result) c.in_ok-field.ensures.kind c.in_ok-field.ensures.says.name) in
+    let p = err_from_is_err_and c.from_residual-in_err-key.result c.from_residual-in_err-key.ensures.1 in
+    rw (p.1, p.2) (key_stops (map head_of c.args.heads.now) (space_of c.args.space) c.args.ids c.fields.next c.fields.key (names_of c.fields.names.items) c.in_ok-field.field c.declaration-item.result _ _ _ after c.in_ok-add_names.ensures.new c.in_err-key.ensures.wrong)
+
+pub returns-clause-says : goal.returns-clause-says
+returns-clause-says c =
+    let t = take_all c.fields.declaration-index c.args.declared.now (omega arith) in
+    rw t at c.fields.invariant.says
+
+pub returns-clause-order : goal.returns-clause-order
+returns-clause-order c = λ no. (c.fields.next, c.fields.invariant.order no)
+
+pub returns-clause-lawful : goal.returns-clause-lawful
+returns-clause-lawful c = c.fields.invariant.lawful
+
+pub returns-clause-names : goal.returns-clause-names
+returns-clause-names c = subst AreDistinct c.fields.invariant.names c.fields.invariant.distinct
+
+pub returns-clause-slots : goal.returns-clause-slots
+returns-clause-slots c =
+    let d = drop_all c.fields.declaration-index c.args.declared.now (omega arith) in
+    sym (append-nil (slots_taken c.fields.fields.items)) ∙ rw d at c.fields.invariant.slots
+
+pub returns-clause-wrong : goal.returns-clause-wrong
+returns-clause-wrong c =
+    let d = drop_all c.fields.declaration-index c.args.declared.now (omega arith) in
+    sym (rw d at c.fields.invariant.wrong)

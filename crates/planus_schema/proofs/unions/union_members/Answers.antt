@@ -1,13 +1,16 @@
-use Rattle.std.proofs.Common.{◌≡◌, ◌+◌, ◌++◌, ◌∷◌, [], refl, ap, sym, ◌∙◌, take, drop, map, arith}
-use Rattle.std.proofs.lemmas.Grind.{common_steps}
+use Rattle.std.proofs.Common.{◌≡◌, ◌+◌, ◌++◌, ◌∷◌, [], refl, ap, sym, subst, ◌∙◌, take, drop, map, arith}
+use Rattle.std.proofs.lemmas.Result.{err_from_is_err_and}
 use Rattle.std.specs.Prelude.{codes, nat_eq}
 use Rattle.std.specs.List.{list_any}
-use Rattle.std.proofs.lemmas.List.{map_push}
+use Rattle.std.proofs.lemmas.List.{map_push, append-nil, take_all, drop_all}
+use Rattle.planus_layout.specs.Distinct.{AreDistinct, is_in}
+use Rattle.planus_schema.specs.Names.{head_of, space_of}
+use Rattle.planus_schema.proofs.FaultLemmas.{name_used, name_new}
 use Rattle.planus_syntax.specs.Values.{names_of, member_of}
 use Rattle.planus_layout.specs.declared.schema.UnionMember.{UnionMember}
 use Rattle.planus_schema.specs.Unions.{tag_in}
-use Rattle.planus_schema.proofs.StructLemmas.{each2_push, map_next, map_rest, taken}
-use Rattle.planus_schema.proofs.UnionLemmas.{tags_next, tags_within, tags_apart, no_tags, one_name}
+use Rattle.planus_schema.proofs.StructLemmas.{each2_push, map_next, map_rest, drop_next, taken}
+use Rattle.planus_schema.proofs.UnionLemmas.{tags_next, tags_within, tags_apart, no_tags, one_name, member_stops, member_name_stops, members_next}
 use Rattle.planus_schema.proofs.unions.union_members.Goals as goal
 
 pub members-init : goal.members-init
@@ -34,6 +37,8 @@ members-preserved c =
     let n = c.members.member-index in
     let t = map_next member_of ds n c.member-item.result (omega arith) c.member-item.is in
     let r = map_rest member_of ds n c.member-item.result (omega arith) c.member-item.is in
+    let d = drop_next c.args.declared.now c.members.member-index c.member-item.result (omega arith) c.member-item.is in
+    let name = c.deref-in-members.ensures.value ∙ c.in_ok-next.ensures.says.name in
     let a = taken c.in_ok-take_name.field-0 (names_of c.members.names.items) c.deref-in-members.result.now (names_of c.take_name.new.names.items) c.if-not-branch.false c.in_ok-take_name.ensures.taken in
     let p : map tag_in c.push-in-members.new.self.items ≡ map tag_in ms ++ m.tag ∷ [] = ap (map tag_in) e ∙ map_push tag_in ms m in
     record {
@@ -44,6 +49,44 @@ members-preserved c =
       names = a.added ∙ ap (λ w. names_of c.members.names.items ++ w ∷ []) c.deref-in-members.ensures.value
           ∙ ap (λ ns. ns ++ m.name.items ∷ []) i.names
           ∙ ap (λ ns. codes "NONE" ∷ ns) (sym (map_push (λ (x : UnionMember). x.name.items) ms m) ∙ ap (map (λ (x : UnionMember). x.name.items)) (sym e));
-      wrong = grind (arith, common_steps);
+      wrong = members_next (map head_of c.args.heads.now) (space_of c.args.space) c.members.previous (map tag_in c.members.members.items) (names_of c.members.names.items) _ c.member-item.result _ _ m.tag _ _ d i.wrong (rw c.deref.ensures.value at c.in_ok-next.ensures.wrong)
+          (ap (is_in (names_of c.members.names.items)) (sym name) ∙ name_new _ _ c.if-not-branch.false c.in_ok-take_name.ensures.new) c.in_ok-next.ensures.tag p
+          (a.added ∙ ap (λ w. names_of c.members.names.items ++ w ∷ []) name);
       apart = a.distinct i.apart;
     }
+
+pub returns-in_err-next-clause-wrong : goal.returns-in_err-next-clause-wrong
+returns-in_err-next-clause-wrong c =
+    let d = drop_next c.args.declared.now c.members.member-index c.member-item.result (omega arith) c.member-item.is in
+    let p = err_from_is_err_and c.from_residual-in_err-next.result c.from_residual-in_err-next.ensures.1 in
+    rw (p.1, p.2) (member_stops (map head_of c.args.heads.now) (space_of c.args.space) c.members.previous (map tag_in c.members.members.items) (names_of c.members.names.items) _ c.member-item.result _ _ _ d c.members.invariant.wrong (rw c.deref.ensures.value at c.in_err-next.ensures.wrong))
+
+pub returns-then-not-branch-clause-wrong : goal.returns-then-not-branch-clause-wrong
+returns-then-not-branch-clause-wrong c =
+    let d = drop_next c.args.declared.now c.members.member-index c.member-item.result (omega arith) c.member-item.is in
+    rw c.wrong.ensures (member_name_stops (map head_of c.args.heads.now) (space_of c.args.space) c.members.previous (map tag_in c.members.members.items) (names_of c.members.names.items) _ c.member-item.result _ _ d c.members.invariant.wrong (rw c.deref.ensures.value at c.in_ok-next.ensures.wrong)
+    (ap (is_in (names_of c.members.names.items)) (sym (c.deref-in-members.ensures.value ∙ c.in_ok-next.ensures.says.name)) ∙ name_used _ _ c.if-not-branch.true c.in_ok-take_name.ensures.new))
+
+pub returns-clause-says : goal.returns-clause-says
+returns-clause-says c =
+    let t = take_all c.members.member-index c.args.declared.now (omega arith) in
+    rw t at c.members.invariant.says
+
+pub returns-clause-tags : goal.returns-clause-tags
+returns-clause-tags c =
+    let d = drop_all c.members.member-index c.args.declared.now (omega arith) in
+    sym (append-nil (map tag_in c.members.members.items)) ∙ rw d at c.members.invariant.tags
+
+pub returns-clause-within : goal.returns-clause-within
+returns-clause-within c = c.members.invariant.within
+
+pub returns-clause-distinct : goal.returns-clause-distinct
+returns-clause-distinct c = c.members.invariant.distinct
+
+pub returns-clause-names : goal.returns-clause-names
+returns-clause-names c = subst AreDistinct c.members.invariant.names c.members.invariant.apart
+
+pub returns-clause-wrong : goal.returns-clause-wrong
+returns-clause-wrong c =
+    let d = drop_all c.members.member-index c.args.declared.now (omega arith) in
+    sym (rw d at c.members.invariant.wrong)

@@ -1,7 +1,7 @@
 use Rattle.std.proofs.Common.{◌≡◌, ◌++◌, [], drop}
 use Rattle.planus_syntax.specs.Values.{names_of}
-use Rattle.planus_schema.specs.Defaults.{cut_words}
-use Rattle.planus_schema.proofs.defaults.cut_words.Given as goal
+use Rattle.planus_schema.specs.Names.{cut_words}
+use Rattle.planus_schema.proofs.words.cut_words.Given as goal
 
 -- the words so far, and those of what is left
 abbrev pub invariant-bytes : goal.invariant-bytes

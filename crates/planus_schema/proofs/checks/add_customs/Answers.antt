@@ -1,0 +1,11 @@
+use Rattle.std.proofs.Common.{◌++◌, ap, sym, ◌∙◌, append_assoc, arith}
+use Rattle.planus_syntax.specs.Values.{names_of}
+use Rattle.planus_schema.specs.WrongServices.{customs_in}
+use Rattle.planus_schema.proofs.StructLemmas.{drop_next}
+use Rattle.planus_schema.proofs.checks.add_customs.Goals as goal
+
+pub declarations-preserved : goal.declarations-preserved
+declarations-preserved c =
+    let known = names_of c.declarations.known.items in
+    let r = drop_next c.args.declarations.now c.declarations.declaration-index c.declaration-item.result (omega arith) c.declaration-item.is in
+    rw c.in_ok-add_custom.ensures (append_assoc known _ _ ∙ ap (λ ds. known ++ customs_in ds) (sym r) ∙ c.declarations.invariant)

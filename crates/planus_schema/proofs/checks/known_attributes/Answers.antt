@@ -1,0 +1,11 @@
+use Rattle.std.proofs.Common.{◌++◌, ap, sym, ◌∙◌, append_assoc, arith}
+use Rattle.planus_syntax.specs.Values.{names_of}
+use Rattle.planus_schema.specs.WrongServices.{customs_of}
+use Rattle.planus_schema.proofs.StructLemmas.{drop_next}
+use Rattle.planus_schema.proofs.checks.known_attributes.Goals as goal
+
+pub files-preserved : goal.files-preserved
+files-preserved c =
+    let known = names_of c.files.known.items in
+    let r = drop_next c.args.files.now c.files.declarations-index c.declarations-item.result (omega arith) c.declarations-item.is in
+    rw (c.in_ok-add_customs.ensures, c.deref.ensures.value) (append_assoc known _ _ ∙ ap (λ fs. known ++ customs_of fs) (sym r) ∙ c.files.invariant)

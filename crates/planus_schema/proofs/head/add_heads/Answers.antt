@@ -1,0 +1,19 @@
+use Rattle.std.proofs.Common.{◌++◌, ap, sym, ◌∙◌, map, append_assoc, arith}
+use Rattle.planus_syntax.specs.Values.{schema_of}
+use Rattle.planus_schema.specs.Names.{path_in, head_of, heads_in}
+use Rattle.planus_schema.specs.Faults.{placed_of, placed_in}
+use Rattle.planus_schema.proofs.StructLemmas.{drop_next}
+use Rattle.planus_schema.proofs.head.add_heads.Goals as goal
+
+pub declarations-preserved : goal.declarations-preserved
+declarations-preserved c =
+    let i = c.declarations.invariant in
+    let heads = map head_of c.declarations.heads.items in
+    let placed = map placed_of c.declarations.heads.items in
+    let r = drop_next c.args.declarations.now c.declarations.declaration-index c.declaration-item.result (omega arith) c.declaration-item.is in
+    record {
+      heads = rw (c.in_ok-add_head.ensures.heads, c.space_after-space.ensures) (append_assoc heads _ _
+          ∙ ap (λ ds. heads ++ heads_in c.args.file (path_in c.declarations.space) (schema_of ds)) (sym r) ∙ i.heads);
+      placed = rw (c.in_ok-add_head.ensures.placed, c.space_after-space.ensures) (append_assoc placed _ _
+          ∙ ap (λ ds. placed ++ placed_in c.args.file (path_in c.declarations.space) ds) (sym r) ∙ i.placed);
+    }

@@ -1,0 +1,33 @@
+use Rattle.std.proofs.Common.{◌+◌, ◌++◌, ap, sym, ◌∙◌, map, append_assoc, arith}
+use Rattle.std.proofs.lemmas.List.{append-nil, drop_all}
+use Rattle.std.specs.Global.{Vec}
+use Rattle.planus_syntax.specs.Values.{schema_of}
+use Rattle.planus_syntax.specs.declared.value.Declaration.{Declaration}
+use Rattle.planus_schema.specs.Names.{head_of, heads_from}
+use Rattle.planus_schema.specs.Faults.{placed_of, placed_from}
+use Rattle.planus_schema.proofs.StructLemmas.{drop_next}
+use Rattle.planus_schema.proofs.head.heads.Goals as goal
+
+pub files-preserved : goal.files-preserved
+files-preserved c =
+    let i = c.files.invariant in
+    let heads = map head_of c.files.heads.items in
+    let placed = map placed_of c.files.heads.items in
+    let r = drop_next c.args.files.now c.files.declarations-index c.declarations-item.result (omega arith) c.declarations-item.is in
+    record {
+      index = ap (λ n. n + 1) i.index;
+      all = rw (c.in_ok-add_heads.ensures.heads, c.deref.ensures.value) (append_assoc heads _ _
+          ∙ ap (λ fs. heads ++ heads_from c.files.file (map (λ (f : Vec Declaration). schema_of f.items) fs)) (sym r) ∙ i.all);
+      placed = rw (c.in_ok-add_heads.ensures.placed, c.deref.ensures.value) (append_assoc placed _ _
+          ∙ ap (λ fs. placed ++ placed_from c.files.file fs) (sym r) ∙ i.placed);
+    }
+
+pub returns-clause-heads : goal.returns-clause-heads
+returns-clause-heads c =
+    let d = drop_all c.files.declarations-index c.args.files.now (omega arith) in
+    sym (append-nil (map head_of c.files.heads.items)) ∙ rw d at c.files.invariant.all
+
+pub returns-clause-placed : goal.returns-clause-placed
+returns-clause-placed c =
+    let d = drop_all c.files.declarations-index c.args.files.now (omega arith) in
+    sym (append-nil (map placed_of c.files.heads.items)) ∙ rw d at c.files.invariant.placed

@@ -1,0 +1,16 @@
+use Rattle.std.proofs.Common.{[], ◌∷◌, ap, sym, ◌∙◌, take, arith}
+use Rattle.std.proofs.lemmas.List.Sums.{fold-append}
+use Rattle.std.specs.Global.{Vec}
+use Rattle.std.specs.Prelude.{ℕ}
+use Rattle.planus_syntax.specs.Values.{names_of}
+use Rattle.planus_schema.specs.Names.{with_word}
+use Rattle.planus_schema.proofs.StructLemmas.{map_next}
+use Rattle.planus_schema.proofs.head.put_words.Goals as goal
+
+pub words-preserved : goal.words-preserved
+words-preserved c =
+    let w = c.word-item.result in
+    let before = names_of (take c.words.word-index c.args.words.now) in
+    let t = map_next (λ (v : Vec ℕ). v.items) c.args.words.now c.words.word-index w (omega arith) c.word-item.is in
+    rw t (c.in_ok-put_word.ensures ∙ ap (with_word c.words.out.items) c.deref.ensures.value
+    ∙ ap (λ o. with_word o w.items) c.words.invariant ∙ sym (fold-append with_word c.args.out.now.items before (w.items ∷ [])))

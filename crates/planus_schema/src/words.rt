@@ -1,0 +1,25 @@
+//! The words of a text.
+
+ghost use Rattle.std.specs.Prelude.{◌≡◌, [], IfOk};
+ghost use Rattle.planus_syntax.specs.Values.{names_of};
+ghost use Rattle.planus_schema.specs.Names.{cut_words as cut_words_lem};
+
+use std::alloc::{AllocError, Global};
+
+/// Returns the words of a text with a space between them.
+pub(crate) fn cut_words(alloc: Global, text: &[u8]) -> Result<Vec<Vec<u8>>, AllocError>
+    ensures { IfOk result (λ v. names_of v.items ≡ cut_words_lem [] text.now) }
+{
+    let mut words = Vec::new(alloc);
+    let mut word = Vec::new(alloc);
+    'bytes: for b in text {
+        if *b == b' ' {
+            words.push(word)?;
+            word = Vec::new(alloc);
+        } else {
+            word.push(*b)?;
+        }
+    }
+    words.push(word)?;
+    Ok(words)
+}
