@@ -83,6 +83,7 @@ fn is_negative(digits: &[u8]) -> bool
     }
 }
 
+/// Returns the digits after the sign, if there is one.
 pub fn without_sign(digits: &[u8]) -> &[u8]
     ensures { result.now ≡ without_sign_lem digits.now }
 {
@@ -92,6 +93,7 @@ pub fn without_sign(digits: &[u8]) -> &[u8]
     }
 }
 
+/// Returns whether `0x` or `0X` stands first.
 pub fn is_hexadecimal(digits: &[u8]) -> bool
     ensures { result ≡ is_hexadecimal_lem digits.now }
 {

@@ -14,6 +14,7 @@ use Rattle.planus_syntax.proofs.Spelling as spelling
 use Rattle.planus_syntax.proofs.Laid.{layout_spells}
 use Rattle.planus_syntax.proofs.Again.{schema_again}
 use Rattle.planus_syntax.proofs.Loops.{schema_takes}
+use Rattle.planus_syntax.proofs.Placed.{not_both}
 
 abbrev pub lexed : List Piece → Read
 lexed ps = Ok ps
@@ -63,10 +64,6 @@ both_ends ds f (Err x) e g = cc
 
 pub is_no_other : (ps : List Piece) (ds : List DeclarationV) (fault : ParseFault) (left : ℕ) → AreWhole ds → ps ≡ schema_pieces ds → schema_at ps ≡ Err (fault, left) → ⊥
 is_no_other ps ds fault left w e h = both_ends ds (fault, left) (schema_at ps) (ap schema_at e ∙ schema_again ds w) h
-
-not_both : (ps : List Piece) (f : LexFault × ℕ) (r : Read) → r ≡ Ok ps → r ≡ Err f → ⊥
-not_both ps f (Ok x) e g = cc
-not_both ps f (Err x) e g = cc
 
 pub whole_pieces : (ds : List DeclarationV) (bytes : List ℕ) (ps : List Piece) → lex_of bytes ≡ Ok (schema_pieces ds) → lex_of bytes ≡ Ok ps → ps ≡ schema_pieces ds
 whole_pieces ds bytes ps e l = lexed_is ps (schema_pieces ds) (sym l ∙ e)

@@ -3,6 +3,7 @@ use Rattle.std.specs.Prelude.{◌==◌}
 use Rattle.std.proofs.Common.{true, ◌≡◌, ℕ, zero, suc, ◌+◌, ◌-◌, ◌<◌, ◌≤◌, List, [], ◌∷◌, ◌++◌, length, drop, refl, sym, ap, subst, ◌∙◌, append_assoc, arith, Ok, Err}
 use Rattle.std.proofs.lemmas.Bool.{eqb-true}
 use Rattle.std.proofs.lemmas.List.{length-append, append-nil, drop-drop}
+use Rattle.planus_syntax.specs.declared.lexer.LexFault.{LexFault}
 use Rattle.planus_syntax.specs.Tokens.{Piece, bytes_of}
 use Rattle.planus_syntax.specs.Lexing.{Read, with_front, lex_of}
 use Rattle.planus_syntax.specs.Cutting.{Ends}
@@ -36,6 +37,17 @@ ok ps = Ok ps
 
 ok_is : (a b : List Piece) → ok a ≡ ok b → a ≡ b
 ok_is a b e = cc
+
+-- what has tokens has no fault
+pub not_both : (ps : List Piece) (f : LexFault × ℕ) (r : Read) → r ≡ Ok ps → r ≡ Err f → ⊥
+not_both ps f (Ok x) e g = cc
+not_both ps f (Err x) e g = cc
+
+-- of the whole text no token is counted yet
+pub begun : (text : List ℕ) (index : ℕ) (ps : List Piece) → lex_of text ≡ Ok ps → lex_of text ≡ Ok (drop (index - index) ps)
+begun text index ps o =
+    let n : 0 ≡ index - index = omega arith in
+    o ∙ ap (λ k. ok (drop k ps)) n
 
 -- one token off the front of those that are read
 fronted : (p : Piece) (r : Read) (ps : List Piece) → with_front (p ∷ []) r ≡ Ok ps → (qs : List Piece) × (r ≡ Ok qs) × (p ∷ qs ≡ ps)

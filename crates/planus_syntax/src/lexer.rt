@@ -40,7 +40,7 @@ pub enum LexFault {
 }
 
 /// Why a text has no tokens.
-#[derive(Clone, Copy, Debug, PartialEq, Eq)]
+#[derive(Clone, Copy)]
 pub(crate) enum LexError {
     /// Memory was refused.
     OutOfMemory,

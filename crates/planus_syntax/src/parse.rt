@@ -2,6 +2,7 @@
 
 ghost use Rattle.std.specs.Prelude.{◌≡◌, ◌∷◌, [], ℕ, List, length, Ok, map, IfOk};
 ghost use Rattle.std.specs.Option.{option_map};
+ghost use Rattle.std.specs.Str.{bytes_eq};
 ghost use Rattle.planus_syntax.specs.Values.{DeclarationV, AreWhole, schema_pieces};
 ghost use Rattle.planus_syntax.specs.Parsed.{ParsesTo, AnswersParse};
 ghost use Rattle.planus_syntax.specs.Tokens.{pieces_of};
@@ -77,7 +78,7 @@ pub enum ParseFault {
     Declaration,
 }
 
-#[derive(Clone, Copy, Debug, PartialEq, Eq)]
+#[derive(Clone, Copy)]
 pub(crate) enum ReadError {
     OutOfMemory,
     /// A fault, and how many tokens are left where it stands.
@@ -817,6 +818,12 @@ fn declared_at(alloc: Global, tokens: &[Token]) -> Result<(Label, &[Token]), Rea
     Ok((label, rest))
 }
 
+fn is_word(word: &[u8], sought: &[u8]) -> bool
+    ensures { result ≡ bytes_eq word.now sought.now }
+{
+    word == sought
+}
+
 /// Reads a statement, from after its first word; `left` counts the tokens from that word on.
 #[tactic(auto, unfolding(crate::specs::Reading::statement_at))]
 fn statement_at<'a>(
@@ -828,22 +835,22 @@ fn statement_at<'a>(
     ensures { Gives (λ x. (item_of x.0, pieces_of x.1.now)) result
         (statement_at_lem key.now left (pieces_of tokens.now)) }
 {
-    if key == b"include".as_slice() {
+    if is_word(key, b"include") {
         let (held, rest) = quoted_at(alloc, tokens)?;
         Ok((Item::Include(held), rest))
-    } else if key == b"namespace".as_slice() {
+    } else if is_word(key, b"namespace") {
         let (held, rest) = namespace_at(alloc, tokens)?;
         Ok((Item::Namespace(held), rest))
-    } else if key == b"attribute".as_slice() {
+    } else if is_word(key, b"attribute") {
         let (held, rest) = declared_at(alloc, tokens)?;
         Ok((Item::Attribute(held), rest))
-    } else if key == b"root_type".as_slice() {
+    } else if is_word(key, b"root_type") {
         let (held, rest) = rooted_at(alloc, tokens)?;
         Ok((Item::RootType(held), rest))
-    } else if key == b"file_identifier".as_slice() {
+    } else if is_word(key, b"file_identifier") {
         let (held, rest) = quoted_at(alloc, tokens)?;
         Ok((Item::FileIdentifier(held), rest))
-    } else if key == b"file_extension".as_slice() {
+    } else if is_word(key, b"file_extension") {
         let (held, rest) = quoted_at(alloc, tokens)?;
         Ok((Item::FileExtension(held), rest))
     } else {
@@ -865,19 +872,19 @@ fn item_at<'a>(
     ensures { Gives (λ x. (item_of x.0, pieces_of x.1.now)) result
         (item_at_lem key.now left (pieces_of tokens.now)) }
 {
-    if key == b"table".as_slice() {
+    if is_word(key, b"table") {
         let (held, rest) = record_at(alloc, tokens)?;
         Ok((Item::Table(held), rest))
-    } else if key == b"struct".as_slice() {
+    } else if is_word(key, b"struct") {
         let (held, rest) = record_at(alloc, tokens)?;
         Ok((Item::Struct(held), rest))
-    } else if key == b"enum".as_slice() {
+    } else if is_word(key, b"enum") {
         let (held, rest) = enumeration_at(alloc, tokens)?;
         Ok((Item::Enum(held), rest))
-    } else if key == b"union".as_slice() {
+    } else if is_word(key, b"union") {
         let (held, rest) = union_at(alloc, tokens)?;
         Ok((Item::Union(held), rest))
-    } else if key == b"rpc_service".as_slice() {
+    } else if is_word(key, b"rpc_service") {
         let (held, rest) = service_at(alloc, tokens)?;
         Ok((Item::Service(held), rest))
     } else {
@@ -919,7 +926,7 @@ fn schema_at(alloc: Global, tokens: &[Token]) -> Result<Vec<Declaration>, ReadEr
 }
 
 /// Why tokens are no declarations.
-#[derive(Clone, Copy, Debug, PartialEq, Eq)]
+#[derive(Clone, Copy)]
 pub(crate) enum ParseError {
     /// Memory was refused.
     OutOfMemory,

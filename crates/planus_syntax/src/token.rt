@@ -1,7 +1,7 @@
 //! Tokens.
 
 /// A token that borrows the text.
-#[derive(Clone, Copy, Debug, PartialEq, Eq)]
+#[derive(Clone, Copy)]
 pub(crate) enum Lexeme<'a> {
     /// Letters, digits and `_`, with no digit first.
     Word(&'a [u8]),
@@ -16,7 +16,7 @@ pub(crate) enum Lexeme<'a> {
 }
 
 /// A token.
-#[derive(Debug, Drop)]
+#[derive(Drop)]
 pub(crate) enum Token {
     /// Letters, digits and `_`, with no digit first.
     Word(Vec<u8>),

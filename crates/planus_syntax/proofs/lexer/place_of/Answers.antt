@@ -1,8 +1,28 @@
 use Rattle.std.proofs.Common.{arith, sym, ◌∙◌}
 use Rattle.planus_syntax.specs.Cutting.{cut_piece}
 use Rattle.planus_syntax.specs.Tokens.{bytes_of}
-use Rattle.planus_syntax.proofs.Placed.{ends_in, counted, none_off, ends_at, empty_is}
+use Rattle.planus_syntax.proofs.Placed.{begun, ends_in, ends_self, counted, found_at, not_both, none_off, ends_at, empty_is}
 use Rattle.planus_syntax.proofs.lexer.place_of.Goals as goal
+
+pub returns-then-left-eq0-clause-stands : goal.returns-then-left-eq0-clause-stands
+returns-then-left-eq0-clause-stands c =
+    found_at (cut_piece c.in-Ok-Some-default.field-0-0-0) c.args.text.now c.loop-rest.rest.now
+    c.in-Ok-Some-default.after.now c.args.index c.loop-rest.left c.loop-rest.invariant.ends c.if-left-eq0.true
+    (rw c.in-Ok-Some-default.field-0-0-is at c.in-Ok-Some-default.ensures.cuts)
+    (rw c.in-Ok-Some-default.field-0-0-is at c.in-Ok-Some-default.ensures.starts)
+    c.loop-rest.invariant.tokens
+
+pub returns-in-Err-clause-stands : goal.returns-in-Err-clause-stands
+returns-in-Err-clause-stands c = λ ps o i.
+    absurd (not_both _ _ _ (c.loop-rest.invariant.tokens ps o i) c.in-Err.ensures.cuts)
+
+pub loop-rest-init : goal.loop-rest-init
+loop-rest-init c = record {
+  shorter = omega arith;
+  ends = ends_self c.args.text.now;
+  counted = omega arith;
+  tokens = λ ps o i. begun c.args.text.now c.args.index ps o;
+}
 
 pub loop-rest-preserved-in-Ok-Some-default : goal.loop-rest-preserved-in-Ok-Some-default
 loop-rest-preserved-in-Ok-Some-default c = record {
