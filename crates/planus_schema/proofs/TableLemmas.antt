@@ -1,23 +1,24 @@
 -- One more field of a table.
-use Rattle.std.proofs.Common.{Bool, false, ◌≡◌, ℕ, ◌+◌, true, List, [], ◌∷◌, ◌++◌, refl, sym, ap, subst, ◌∙◌, append_assoc}
-use Rattle.std.specs.Prelude.{Option, None, not, ◌&&◌, ◌||◌, nat_le, codes}
+use Rattle.std.proofs.Common.{Bool, false, ◌≡◌, ℕ, ◌+◌, true, List, [], ◌∷◌, ◌++◌, refl, sym, ap, subst, ◌∙◌, append_assoc, map}
+use Rattle.std.specs.Prelude.{Option, Some, None, not, ◌&&◌, ◌||◌, nat_le, codes}
 use Rattle.std.specs.List.{list_all}
-use Rattle.planus_syntax.specs.Values.{Name, field_of}
+use Rattle.planus_syntax.specs.Values.{Name, field_of, kind_of, attribute_of}
+use Rattle.planus_syntax.specs.declared.value.Attribute.{Attribute}
 use Rattle.planus_syntax.specs.declared.value.Field.{Field}
 use Rattle.planus_schema.specs.declared.fault.Problem.TheVariants as problem
-use Rattle.planus_schema.specs.Names.{HeadV, has}
-use Rattle.planus_schema.specs.Wrong.{Broken, when, first, Stops}
+use Rattle.planus_schema.specs.Names.{HeadV, has, type_named, attribute_named}
+use Rattle.planus_schema.specs.Wrong.{Broken, when, first, Stops, wrong_kind}
 use Rattle.planus_schema.specs.declared.fault.Stop.{Stop}
 use Rattle.planus_schema.specs.declared.fault.Stop.TheVariants as stop
 use Rattle.planus_schema.proofs.FaultLemmas.{skip, passes, stops_first, stops_next, stops_now}
-use Rattle.planus_schema.specs.WrongTables.{field_type, field_slot, slots_at, slots_from, wrong_field, wrong_fields, names_in, are_among}
+use Rattle.planus_schema.specs.WrongTables.{wrong_slot, wrong_default, wrong_nested, wrong_law, wrong_typed, field_type, field_slot, slots_at, slots_from, wrong_field, wrong_fields, names_in, are_among}
 use Rattle.planus_layout.specs.Slots.{slots_of, slots_taken}
 use Rattle.std.proofs.lemmas.List.{append-nil}
 use Rattle.std.proofs.lemmas.List.Folds.{list_all-append}
 use Rattle.planus_layout.specs.declared.schema.FieldType.{FieldType}
 use Rattle.planus_layout.specs.declared.schema.TableField.{TableField}
 use Rattle.planus_layout.specs.Slots.{Follow, width}
-use Rattle.planus_schema.specs.Tables.{all_names, names_for, names_taken, is_lawful}
+use Rattle.planus_schema.specs.Tables.{all_names, names_for, names_taken, is_lawful, is_required}
 
 pub follow_push : (at : ℕ) (fs : List TableField) (end : ℕ) (f : TableField) → Follow at fs end → f.slot + 1 ≡ end + width f.kind → Follow at (fs ++ f ∷ []) (end + width f.kind)
 follow_push at [] end f h e = (e ∙ ap (λ n. n + width f.kind) (sym h), ap (λ n. n + width f.kind) h)
@@ -97,3 +98,17 @@ nothing_wrong hs space ids next key names d ds all f names' key' next' h a b n k
 
 pub names_are : (f : TableField) (d : Field) (t : FieldType) → f.kind ≡ t → f.name.items ≡ d.name.items → names_taken f ≡ names_in t d
 names_are f d t k n = ap (λ u. names_for u f.name.items) k ∙ ap (names_for t) n
+
+-- a field whose type is known
+pub typed_is : (hs : List HeadV) (space : List Name) (ids : Bool) (next : ℕ) (f : Field) (t : FieldType) → wrong_kind hs space f.kind ≡ None → type_named hs space (kind_of f.kind) ≡ Some t → wrong_field hs space ids next f ≡ wrong_typed hs space ids next f (Some t)
+typed_is hs space ids next f t k n = skip (wrong_kind hs space f.kind) _ k ∙ ap (wrong_typed hs space ids next f) n
+
+abbrev pub field_law : FieldType → Field → Option Broken
+field_law t f = wrong_law (is_required t (field_of f)) (has (codes "key") (field_of f).attributes) (has (codes "nested_flatbuffer") (field_of f).attributes) t f.left
+
+-- what is left of it after its slot, its default and its nested buffer
+pub law_left : (hs : List HeadV) (space : List Name) (ids : Bool) (next : ℕ) (f : Field) (t : FieldType) → wrong_slot t ids next f ≡ None → wrong_default hs t f.left f.default ≡ None → wrong_nested hs space (attribute_named (codes "nested_flatbuffer") f.attributes.items) ≡ None → wrong_typed hs space ids next f (Some t) ≡ field_law t f
+law_left hs space ids next f t a b c = skip (wrong_slot t ids next f) _ a ∙ skip (wrong_default hs t f.left f.default) _ b ∙ skip (wrong_nested hs space (attribute_named (codes "nested_flatbuffer") f.attributes.items)) _ c
+
+pub law_is : (f : Field) (t : FieldType) (required key nested : Bool) (ks ns : List Attribute) → required ≡ is_required t (field_of f) → key ≡ has (codes "key") (map attribute_of ks) → ks ≡ f.attributes.items → nested ≡ has (codes "nested_flatbuffer") (map attribute_of ns) → ns ≡ f.attributes.items → wrong_law required key nested t f.left ≡ field_law t f
+law_is f t required key nested ks ns r k a n b = rw (r, k, a, n, b) refl
