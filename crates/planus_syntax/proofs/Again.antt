@@ -3,10 +3,11 @@ use Rattle.std.proofs.Common.{◌≡◌, ℕ, Bool, true, false, List, [], ◌�
 use Rattle.std.specs.Prelude.{codes, ◌==◌, ◌||◌, not}
 use Rattle.planus_syntax.specs.Tokens.{Piece, word, text, doc, mark}
 use Rattle.planus_syntax.specs.Values.{PathV, KindV, single, vector, LiteralV, numeral, named, quote, nothing, LabelV, AttributeV, FieldV, RecordV, VariantV, EnumerationV, MemberV, UnionV, MethodV, ServiceV, ItemV, include, namespace, attribute, table, struct, enumeration, union, service, root, identifier, extension, DeclarationV, Before, each_before, doc_before, docs_before, dotted_before, path_before, kind_before, literal_before, after_before, number_before, label_piece, label_before, attribute_before, next_before, attributes_before, field_before, record_before, variant_before, list_before, comma_before, enumeration_before, member_before, union_before, method_before, service_before, quoted_before, rooted_before, declared_before, namespace_before, item_before, declaration_before, schema_pieces}
-use Rattle.planus_syntax.specs.Reading.{Fault, Reads, ◌>>=◌, begins_mark, begins_doc, begins_next, is_some, inside, mark_at, word_at, doc_at, number_at, label_at, list_at, with_items, docs_at, dotted_at, path_at, kind_at, brackets_at, name_at, literal_at, setting_at, default_at, value_at, target_at, attribute_at, next_attribute_at, attributes_at, field_at, record_at, comma_at, variant_at, next_variant_at, variants_at, enumeration_at, member_at, next_member_at, members_at, union_at, method_at, service_at, quoted_at, rooted_at, namespace_at, declared_at, as_item, statement_at, item_at, declaration_at, schema_at}
+use Rattle.planus_syntax.specs.Reading.{Fault, Reads, optional_at, ◌>>=◌, begins_mark, begins_doc, begins_next, is_some, inside, mark_at, word_at, doc_at, number_at, label_at, list_at, with_items, docs_at, dotted_at, path_at, kind_at, brackets_at, name_at, literal_at, attribute_at, next_attribute_at, attributes_at, field_at, record_at, comma_at, variant_at, next_variant_at, variants_at, enumeration_at, member_at, next_member_at, members_at, union_at, method_at, service_at, quoted_at, rooted_at, namespace_at, declared_at, as_item, statement_at, item_at, declaration_at, schema_at}
 use Rattle.planus_syntax.specs.Values.{is_whole, is_whole_item, is_some_of, AreWhole}
 use Rattle.planus_syntax.proofs.Many.{Again, list_again, suits_all, always, all_always}
 use Rattle.planus_syntax.proofs.Loops.{dotted_looped, docs_looped, attributes_looped, fields_looped, variants_looped, members_looped, methods_looped, declarations_looped}
+use Rattle.std.proofs.lemmas.Bool.{eq-eqb}
 
 -- what follows does not matter
 abbrev any : List Piece → Bool
@@ -65,25 +66,11 @@ literal_again nothing rest h = brackets_again rest
 number_again : (w : List ℕ) (rest : List Piece) → begins_mark 46 rest ≡ false → number_at (number_before w rest) ≡ Ok (w, rest)
 number_again w rest h = refl
 
-setting_again : (x : Option (LiteralV)) (rest : List Piece) → begins_mark 46 rest ≡ false → begins_mark 58 rest ≡ false → setting_at (after_before 58 literal_before x rest) ≡ Ok (x, rest)
-unfolding setting_at
-setting_again None rest h k = rw k refl
-setting_again (Some x) rest h k = step (literal_at (literal_before x rest)) (x, rest) _ (literal_again x rest h)
-
-default_again : (x : Option (LiteralV)) (rest : List Piece) → begins_mark 46 rest ≡ false → begins_mark 61 rest ≡ false → default_at (after_before 61 literal_before x rest) ≡ Ok (x, rest)
-unfolding default_at
-default_again None rest h k = rw k refl
-default_again (Some x) rest h k = step (literal_at (literal_before x rest)) (x, rest) _ (literal_again x rest h)
-
-value_again : (x : Option (List ℕ)) (rest : List Piece) → begins_mark 46 rest ≡ false → begins_mark 61 rest ≡ false → value_at (after_before 61 number_before x rest) ≡ Ok (x, rest)
-unfolding value_at
-value_again None rest h k = rw k refl
-value_again (Some x) rest h k = refl
-
-target_again : (x : Option (PathV)) (rest : List Piece) → begins_mark 46 rest ≡ false → begins_mark 58 rest ≡ false → target_at (after_before 58 path_before x rest) ≡ Ok (x, rest)
-unfolding target_at
-target_again None rest h k = rw k refl
-target_again (Some x) rest h k = step (path_at (path_before x rest)) (x, rest) _ (path_again x rest h)
+optional_again : {A : Type 0} (m : ℕ) (item : List Piece → Reads A) (before : Before A) → ((a : A) (rest : List Piece) → begins_mark 46 rest ≡ false → item (before a rest) ≡ Ok (a, rest))
+    → (x : Option A) (rest : List Piece) → begins_mark 46 rest ≡ false → begins_mark m rest ≡ false → optional_at m item (after_before m before x rest) ≡ Ok (x, rest)
+unfolding optional_at
+optional_again m item before again None rest h k = rw k refl
+optional_again m item before again (Some x) rest h k = rw (eq-eqb m m refl) (step (item (before x rest)) (x, rest) _ (again x rest h))
 
 label_is : (q : Bool) (w : List ℕ) (rest : List Piece) → label_at (label_piece q w ∷ rest) ≡ Ok (record { quoted = q; name = w }, rest)
 label_is true w rest = refl
@@ -98,7 +85,7 @@ attribute_again a rest h =
     let n = ended rest h in
     let v = after_before 58 literal_before a.value rest in
     step (label_at (label_before a.label v)) (a.label, v) _ (label_again a.label v)
-    ∙ step (setting_at v) (a.value, rest) _ (setting_again a.value rest n.0 n.1)
+    ∙ step (optional_at 58 literal_at v) (a.value, rest) _ (optional_again 58 literal_at literal_before literal_again a.value rest n.0 n.1)
 
 attributes_are_again : Again (begins_mark 44) next_attribute_at (next_before attribute_before) ends_value always
 unfolding next_attribute_at
@@ -135,7 +122,7 @@ field_again f rest =
     let k = mark 58 ∷ kind_before f.kind d in
     step (docs_at (docs_before f.docs (word f.name ∷ k))) (f.docs, word f.name ∷ k) _ (docs_again f.docs (word f.name ∷ k) refl)
     ∙ step (kind_at (kind_before f.kind d)) (f.kind, d) _ (kind_again f.kind d (after_front 61 46 literal_before f.default a refl (attributes_front 46 f.attributes (mark 59 ∷ rest) refl refl)))
-    ∙ step (default_at d) (f.default, a) _ (default_again f.default a (attributes_front 46 f.attributes (mark 59 ∷ rest) refl refl) (attributes_front 61 f.attributes (mark 59 ∷ rest) refl refl))
+    ∙ step (optional_at 61 literal_at d) (f.default, a) _ (optional_again 61 literal_at literal_before literal_again f.default a (attributes_front 46 f.attributes (mark 59 ∷ rest) refl refl) (attributes_front 61 f.attributes (mark 59 ∷ rest) refl refl))
     ∙ step (attributes_at a) (f.attributes, mark 59 ∷ rest) _ (attributes_again f.attributes (mark 59 ∷ rest) refl)
 
 fields_are_again : Again inside field_at field_before any always
@@ -170,7 +157,7 @@ variant_again v rest h =
     let n = ended rest h in
     let b = after_before 61 number_before v.value rest in
     step (docs_at (docs_before v.docs (word v.name ∷ b))) (v.docs, word v.name ∷ b) _ (docs_again v.docs (word v.name ∷ b) refl)
-    ∙ step (value_at b) (v.value, rest) _ (value_again v.value rest n.0 n.2)
+    ∙ step (optional_at 61 number_at b) (v.value, rest) _ (optional_again 61 number_at number_before number_again v.value rest n.0 n.2)
 
 member_again : (m : MemberV) (rest : List Piece) → ends_value rest ≡ true → member_at (member_before m rest) ≡ Ok (m, rest)
 unfolding member_at
@@ -180,8 +167,8 @@ member_again m rest h =
     let t = after_before 58 path_before m.target v in
     step (docs_at (docs_before m.docs (path_before m.path t))) (m.docs, path_before m.path t) _ (docs_again m.docs (path_before m.path t) refl)
     ∙ step (path_at (path_before m.path t)) (m.path, t) _ (path_again m.path t (after_front 58 46 path_before m.target v refl (after_front 61 46 number_before m.value rest refl n.0)))
-    ∙ step (target_at t) (m.target, v) _ (target_again m.target v (after_front 61 46 number_before m.value rest refl n.0) (after_front 61 58 number_before m.value rest refl n.1))
-    ∙ step (value_at v) (m.value, rest) _ (value_again m.value rest n.0 n.2)
+    ∙ step (optional_at 58 path_at t) (m.target, v) _ (optional_again 58 path_at path_before path_again m.target v (after_front 61 46 number_before m.value rest refl n.0) (after_front 61 58 number_before m.value rest refl n.1))
+    ∙ step (optional_at 61 number_at v) (m.value, rest) _ (optional_again 61 number_at number_before number_again m.value rest n.0 n.2)
 
 -- no closing brace stands first
 abbrev goes_inside : List Piece → Bool

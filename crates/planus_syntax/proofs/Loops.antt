@@ -6,7 +6,7 @@ use Rattle.std.proofs.lemmas.Bool.{eqb-true}
 use Rattle.planus_syntax.specs.Tokens.{Piece, word, number, text, doc, mark}
 use Rattle.planus_syntax.specs.Values.{Name, PathV, KindV, single, vector, LiteralV, numeral, named, quote, nothing, LabelV, AttributeV, FieldV, RecordV, VariantV, EnumerationV, MemberV, UnionV, MethodV, ServiceV, ItemV, include, namespace, attribute, table, struct, enumeration, union, service, root, identifier, extension, DeclarationV, Before, each_before, doc_before, docs_before, dotted_before, path_before, kind_before, literal_before, after_before, number_before, label_before, attribute_before, next_before, attributes_before, field_before, record_before, variant_before, list_before, comma_before, enumeration_before, member_before, union_before, method_before, service_before, quoted_before, rooted_before, declared_before, namespace_before, item_before, declaration_before, schema_pieces}
 use Rattle.planus_syntax.specs.declared.parse.ParseFault.TheVariants as fault
-use Rattle.planus_syntax.specs.Reading.{Fault, Reads, begins_mark, begins_doc, begins_next, is_some, inside, mark_at, word_at, doc_at, number_at, text_at, label_at, list_at, with_items, docs_at, dotted_at, path_at, kind_at, brackets_at, name_at, literal_at, setting_at, default_at, value_at, target_at, attribute_at, next_attribute_at, attributes_at, field_at, record_at, comma_at, variant_at, next_variant_at, variants_at, enumeration_at, member_at, next_member_at, members_at, union_at, method_at, service_at, quoted_at, rooted_at, namespace_at, declared_at, as_item, statement_at, item_at, declaration_at, schema_at}
+use Rattle.planus_syntax.specs.Reading.{Fault, Reads, optional_at, begins_mark, begins_doc, begins_next, is_some, inside, mark_at, word_at, doc_at, number_at, text_at, label_at, list_at, with_items, docs_at, dotted_at, path_at, kind_at, brackets_at, name_at, literal_at, attribute_at, next_attribute_at, attributes_at, field_at, record_at, comma_at, variant_at, next_variant_at, variants_at, enumeration_at, member_at, next_member_at, members_at, union_at, method_at, service_at, quoted_at, rooted_at, namespace_at, declared_at, as_item, statement_at, item_at, declaration_at, schema_at}
 use Rattle.planus_syntax.proofs.Many.{Looped, Takes, bind_ok, ok_is, ok, list_takes}
 
 -- a choice that is Ok
@@ -142,53 +142,17 @@ literal_takes (text w ∷ ps) x e = subst (λ y. text w ∷ ps ≡ literal_befor
 literal_takes (doc w ∷ ps) x e = absurd cc
 literal_takes (mark b ∷ ps) x e = either (b == 91) _ _ (mark b ∷ ps ≡ literal_before x.0 x.1) x e (λ h. brackets_takes (mark b ∷ ps) x h) (λ h. absurd cc)
 
-setting_takes : Takes setting_at (after_before 58 literal_before)
-unfolding setting_at
-setting_takes ps x e = either (begins_mark 58 ps) _ _ (ps ≡ (after_before 58 literal_before) x.0 x.1) x e
+optional_takes : {A : Type 0} (m : ℕ) (item : List Piece → Reads A) (before : Before A) → Takes item before → Takes (optional_at m item) (after_before m before)
+unfolding optional_at
+optional_takes {A} m item before takes ps x e = either (begins_mark m ps) _ _ (ps ≡ after_before m before x.0 x.1) x e
     (λ h.
     let y0 = bind_ok _ _ x h in
     let y1 = bind_ok _ _ x y0.2 in
-    subst (λ (y : Option (LiteralV) × List Piece). ps ≡ (after_before 58 literal_before) y.0 y.1) (ok_is _ x y1.2)
-    ((mark_takes 58 ps y0.0 y0.1) ∙ ap (λ (r : List Piece). mark 58 ∷ r) (
-    literal_takes y0.0 y1.0 y1.1)))
+    subst (λ (y : Option A × List Piece). ps ≡ after_before m before y.0 y.1) (ok_is _ x y1.2)
+    ((mark_takes m ps y0.0 y0.1) ∙ ap (λ (r : List Piece). mark m ∷ r) (
+    takes y0.0 y1.0 y1.1)))
     (λ h.
-    subst (λ (y : Option (LiteralV) × List Piece). ps ≡ (after_before 58 literal_before) y.0 y.1) (ok_is (None, ps) x h) refl)
-
-default_takes : Takes default_at (after_before 61 literal_before)
-unfolding default_at
-default_takes ps x e = either (begins_mark 61 ps) _ _ (ps ≡ (after_before 61 literal_before) x.0 x.1) x e
-    (λ h.
-    let y0 = bind_ok _ _ x h in
-    let y1 = bind_ok _ _ x y0.2 in
-    subst (λ (y : Option (LiteralV) × List Piece). ps ≡ (after_before 61 literal_before) y.0 y.1) (ok_is _ x y1.2)
-    ((mark_takes 61 ps y0.0 y0.1) ∙ ap (λ (r : List Piece). mark 61 ∷ r) (
-    literal_takes y0.0 y1.0 y1.1)))
-    (λ h.
-    subst (λ (y : Option (LiteralV) × List Piece). ps ≡ (after_before 61 literal_before) y.0 y.1) (ok_is (None, ps) x h) refl)
-
-value_takes : Takes value_at (after_before 61 number_before)
-unfolding value_at
-value_takes ps x e = either (begins_mark 61 ps) _ _ (ps ≡ (after_before 61 number_before) x.0 x.1) x e
-    (λ h.
-    let y0 = bind_ok _ _ x h in
-    let y1 = bind_ok _ _ x y0.2 in
-    subst (λ (y : Option (List ℕ) × List Piece). ps ≡ (after_before 61 number_before) y.0 y.1) (ok_is _ x y1.2)
-    ((mark_takes 61 ps y0.0 y0.1) ∙ ap (λ (r : List Piece). mark 61 ∷ r) (
-    number_takes y0.0 y1.0 y1.1)))
-    (λ h.
-    subst (λ (y : Option (List ℕ) × List Piece). ps ≡ (after_before 61 number_before) y.0 y.1) (ok_is (None, ps) x h) refl)
-
-target_takes : Takes target_at (after_before 58 path_before)
-unfolding target_at
-target_takes ps x e = either (begins_mark 58 ps) _ _ (ps ≡ (after_before 58 path_before) x.0 x.1) x e
-    (λ h.
-    let y0 = bind_ok _ _ x h in
-    let y1 = bind_ok _ _ x y0.2 in
-    subst (λ (y : Option (PathV) × List Piece). ps ≡ (after_before 58 path_before) y.0 y.1) (ok_is _ x y1.2)
-    ((mark_takes 58 ps y0.0 y0.1) ∙ ap (λ (r : List Piece). mark 58 ∷ r) (
-    path_takes y0.0 y1.0 y1.1)))
-    (λ h.
-    subst (λ (y : Option (PathV) × List Piece). ps ≡ (after_before 58 path_before) y.0 y.1) (ok_is (None, ps) x h) refl)
+    subst (λ (y : Option A × List Piece). ps ≡ after_before m before y.0 y.1) (ok_is (None, ps) x h) refl)
 
 attribute_takes : Takes attribute_at attribute_before
 unfolding attribute_at
@@ -197,7 +161,7 @@ attribute_takes ps x e =
     let y1 = bind_ok _ _ x y0.2 in
     subst (λ (y : AttributeV × List Piece). ps ≡ attribute_before y.0 y.1) (ok_is _ x y1.2)
     ((label_takes ps y0.0 y0.1) ∙ ap (λ (r : List Piece). label_before y0.0.0 r) (
-    setting_takes y0.0.1 y1.0 y1.1))
+    optional_takes 58 literal_at literal_before literal_takes y0.0.1 y1.0 y1.1))
 
 next_attribute_takes : Takes next_attribute_at (next_before attribute_before)
 unfolding next_attribute_at
@@ -292,7 +256,7 @@ field_takes ps x e =
     (word_takes y0.0.1 y1.0 y1.1) ∙ ap (λ (r : List Piece). word y1.0.0 ∷ r) (
     (mark_takes 58 y1.0.1 y2.0 y2.1) ∙ ap (λ (r : List Piece). mark 58 ∷ r) (
     (kind_takes y2.0 y3.0 y3.1) ∙ ap (λ (r : List Piece). kind_before y3.0.0 r) (
-    (default_takes y3.0.1 y4.0 y4.1) ∙ ap (λ (r : List Piece). after_before 61 literal_before y4.0.0 r) (
+    (optional_takes 61 literal_at literal_before literal_takes y3.0.1 y4.0 y4.1) ∙ ap (λ (r : List Piece). after_before 61 literal_before y4.0.0 r) (
     (attributes_takes y4.0.1 y5.0 y5.1) ∙ ap (λ (r : List Piece). attributes_before y5.0.0 r) (
     mark_takes 59 y5.0.1 y6.0 y6.1)))))))
 
@@ -352,7 +316,7 @@ variant_takes ps x e =
     subst (λ (y : VariantV × List Piece). ps ≡ variant_before y.0 y.1) (ok_is _ x y2.2)
     ((docs_take ps y0.0 y0.1) ∙ ap (λ (r : List Piece). docs_before y0.0.0 r) (
     (word_takes y0.0.1 y1.0 y1.1) ∙ ap (λ (r : List Piece). word y1.0.0 ∷ r) (
-    value_takes y1.0.1 y2.0 y2.1)))
+    optional_takes 61 number_at number_before number_takes y1.0.1 y2.0 y2.1)))
 
 next_variant_takes : Takes next_variant_at (next_before variant_before)
 unfolding next_variant_at
@@ -403,8 +367,8 @@ member_takes ps x e =
     subst (λ (y : MemberV × List Piece). ps ≡ member_before y.0 y.1) (ok_is _ x y3.2)
     ((docs_take ps y0.0 y0.1) ∙ ap (λ (r : List Piece). docs_before y0.0.0 r) (
     (path_takes y0.0.1 y1.0 y1.1) ∙ ap (λ (r : List Piece). path_before y1.0.0 r) (
-    (target_takes y1.0.1 y2.0 y2.1) ∙ ap (λ (r : List Piece). after_before 58 path_before y2.0.0 r) (
-    value_takes y2.0.1 y3.0 y3.1))))
+    (optional_takes 58 path_at path_before path_takes y1.0.1 y2.0 y2.1) ∙ ap (λ (r : List Piece). after_before 58 path_before y2.0.0 r) (
+    optional_takes 61 number_at number_before number_takes y2.0.1 y3.0 y3.1))))
 
 next_member_takes : Takes next_member_at (next_before member_before)
 unfolding next_member_at

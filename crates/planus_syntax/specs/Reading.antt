@@ -175,34 +175,18 @@ literal_at (doc w ∷ ps) = Err (fault.Literal, suc (length ps))
 literal_at (mark b ∷ ps) =
     if b == 91 then brackets_at (mark b ∷ ps) else Err (fault.Literal, suc (length ps))
 
-unfoldable pub setting_at : List Piece → Reads (Option (LiteralV))
-setting_at ps = if begins_mark 58 ps then (do
-  at ← mark_at 58 ps
-  x ← literal_at at
-  Ok (Some x.0, x.1)) else Ok (None, ps)
-
-unfoldable pub default_at : List Piece → Reads (Option (LiteralV))
-default_at ps = if begins_mark 61 ps then (do
-  at ← mark_at 61 ps
-  x ← literal_at at
-  Ok (Some x.0, x.1)) else Ok (None, ps)
-
-unfoldable pub value_at : List Piece → Reads (Option (List ℕ))
-value_at ps = if begins_mark 61 ps then (do
-  at ← mark_at 61 ps
-  x ← number_at at
-  Ok (Some x.0, x.1)) else Ok (None, ps)
-
-unfoldable pub target_at : List Piece → Reads (Option (PathV))
-target_at ps = if begins_mark 58 ps then (do
-  at ← mark_at 58 ps
-  x ← path_at at
+-- what follows a mark, where the mark stands first
+unfoldable pub optional_at : {A : Type 0} → ℕ → (List Piece → Reads A) → List Piece
+    → Reads (Option A)
+optional_at m item ps = if begins_mark m ps then (do
+  start ← mark_at m ps
+  x ← item start
   Ok (Some x.0, x.1)) else Ok (None, ps)
 
 unfoldable pub attribute_at : List Piece → Reads AttributeV
 attribute_at ps = do
   label ← label_at ps
-  value ← setting_at label.1
+  value ← optional_at 58 literal_at label.1
   Ok (record { label = label.0; value = value.0 }, value.1)
 
 unfoldable pub next_attribute_at : List Piece → Reads AttributeV
@@ -224,7 +208,7 @@ field_at ps = do
   name ← word_at docs.1
   colon ← mark_at 58 name.1
   kind ← kind_at colon
-  default ← default_at kind.1
+  default ← optional_at 61 literal_at kind.1
   attributes ← attributes_at default.1
   end ← mark_at 59 attributes.1
   Ok (
@@ -258,7 +242,7 @@ unfoldable pub variant_at : List Piece → Reads VariantV
 variant_at ps = do
   docs ← docs_at ps
   name ← word_at docs.1
-  value ← value_at name.1
+  value ← optional_at 61 number_at name.1
   Ok (record { docs = docs.0; name = name.0; value = value.0 }, value.1)
 
 unfoldable pub next_variant_at : List Piece → Reads VariantV
@@ -294,8 +278,8 @@ unfoldable pub member_at : List Piece → Reads MemberV
 member_at ps = do
   docs ← docs_at ps
   path ← path_at docs.1
-  target ← target_at path.1
-  value ← value_at target.1
+  target ← optional_at 58 path_at path.1
+  value ← optional_at 61 number_at target.1
   Ok (record { docs = docs.0; path = path.0; target = target.0; value = value.0 }, value.1)
 
 unfoldable pub next_member_at : List Piece → Reads MemberV

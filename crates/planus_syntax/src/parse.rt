@@ -12,7 +12,7 @@ ghost use Rattle.planus_syntax.specs.Values.{variant_of, enumeration_of, member_
 ghost use Rattle.planus_syntax.specs.Values.{method_of, service_of, item_of, declaration_of};
 ghost use Rattle.planus_syntax.specs.Values.{schema_of};
 ghost use Rattle.planus_syntax.specs.Layout.{is_mark_of as is_mark_lem};
-ghost use Rattle.planus_syntax.specs.Reading.{Gives, list_at, with_items};
+ghost use Rattle.planus_syntax.specs.Reading.{Gives, list_at, optional_at, with_items};
 ghost use Rattle.planus_syntax.specs.Reading.{begins_mark as begins_mark_lem};
 ghost use Rattle.planus_syntax.specs.Reading.{begins_doc as begins_doc_lem};
 ghost use Rattle.planus_syntax.specs.Reading.{begins_next as begins_next_lem};
@@ -25,10 +25,6 @@ ghost use Rattle.planus_syntax.specs.Reading.{kind_at as kind_at_lem};
 ghost use Rattle.planus_syntax.specs.Reading.{brackets_at as brackets_at_lem};
 ghost use Rattle.planus_syntax.specs.Reading.{name_at as name_at_lem};
 ghost use Rattle.planus_syntax.specs.Reading.{literal_at as literal_at_lem};
-ghost use Rattle.planus_syntax.specs.Reading.{setting_at as setting_at_lem};
-ghost use Rattle.planus_syntax.specs.Reading.{default_at as default_at_lem};
-ghost use Rattle.planus_syntax.specs.Reading.{value_at as value_at_lem};
-ghost use Rattle.planus_syntax.specs.Reading.{target_at as target_at_lem};
 ghost use Rattle.planus_syntax.specs.Reading.{attribute_at as attribute_at_lem};
 ghost use Rattle.planus_syntax.specs.Reading.{next_attribute_at as next_attribute_at_lem};
 ghost use Rattle.planus_syntax.specs.Reading.{attributes_at as attributes_at_lem};
@@ -345,29 +341,18 @@ fn literal_at(alloc: Global, tokens: &[Token]) -> Result<(Literal, &[Token]), Re
     }
 }
 
-/// Reads the value of an attribute, if it has one.
-#[tactic(auto, unfolding(crate::specs::Reading::setting_at))]
-fn setting_at(alloc: Global, tokens: &[Token]) -> Result<(Option<Literal>, &[Token]), ReadError>
+/// Reads a value after this mark, if the mark stands first.
+#[tactic(auto, unfolding(crate::specs::Reading::optional_at))]
+fn literal_after(
+    alloc: Global,
+    mark: u8,
+    tokens: &[Token],
+) -> Result<(Option<Literal>, &[Token]), ReadError>
     ensures { Gives (λ x. (option_map literal_of x.0, pieces_of x.1.now)) result
-        (setting_at_lem (pieces_of tokens.now)) }
+        (optional_at mark literal_at_lem (pieces_of tokens.now)) }
 {
-    if begins_mark(tokens, b':') {
-        let rest = mark_at(tokens, b':')?;
-        let (value, rest) = literal_at(alloc, rest)?;
-        Ok((Some(value), rest))
-    } else {
-        Ok((None, tokens))
-    }
-}
-
-/// Reads a default, if there is one.
-#[tactic(auto, unfolding(crate::specs::Reading::default_at))]
-fn default_at(alloc: Global, tokens: &[Token]) -> Result<(Option<Literal>, &[Token]), ReadError>
-    ensures { Gives (λ x. (option_map literal_of x.0, pieces_of x.1.now)) result
-        (default_at_lem (pieces_of tokens.now)) }
-{
-    if begins_mark(tokens, b'=') {
-        let rest = mark_at(tokens, b'=')?;
+    if begins_mark(tokens, mark) {
+        let rest = mark_at(tokens, mark)?;
         let (value, rest) = literal_at(alloc, rest)?;
         Ok((Some(value), rest))
     } else {
@@ -376,10 +361,10 @@ fn default_at(alloc: Global, tokens: &[Token]) -> Result<(Option<Literal>, &[Tok
 }
 
 /// Reads the value of a variant, if it has one.
-#[tactic(auto, unfolding(crate::specs::Reading::value_at))]
+#[tactic(auto, unfolding(crate::specs::Reading::optional_at))]
 fn value_at(alloc: Global, tokens: &[Token]) -> Result<(Option<Vec<u8>>, &[Token]), ReadError>
     ensures { Gives (λ x. (digits_of x.0, pieces_of x.1.now)) result
-        (value_at_lem (pieces_of tokens.now)) }
+        (optional_at 61 number_at_lem (pieces_of tokens.now)) }
 {
     if begins_mark(tokens, b'=') {
         let rest = mark_at(tokens, b'=')?;
@@ -391,10 +376,10 @@ fn value_at(alloc: Global, tokens: &[Token]) -> Result<(Option<Vec<u8>>, &[Token
 }
 
 /// Reads what an alias stands for, if a member is one.
-#[tactic(auto, unfolding(crate::specs::Reading::target_at))]
+#[tactic(auto, unfolding(crate::specs::Reading::optional_at))]
 fn target_at(alloc: Global, tokens: &[Token]) -> Result<(Option<Path>, &[Token]), ReadError>
     ensures { Gives (λ x. (option_map path_of x.0, pieces_of x.1.now)) result
-        (target_at_lem (pieces_of tokens.now)) }
+        (optional_at 58 path_at_lem (pieces_of tokens.now)) }
 {
     if begins_mark(tokens, b':') {
         let rest = mark_at(tokens, b':')?;
@@ -412,7 +397,7 @@ fn attribute_at(alloc: Global, tokens: &[Token]) -> Result<(Attribute, &[Token])
         (attribute_at_lem (pieces_of tokens.now)) }
 {
     let (label, rest) = label_at(alloc, tokens)?;
-    let (value, rest) = setting_at(alloc, rest)?;
+    let (value, rest) = literal_after(alloc, b':', rest)?;
     Ok((Attribute { label, value }, rest))
 }
 
@@ -486,7 +471,7 @@ fn field_at(alloc: Global, tokens: &[Token]) -> Result<(Field, &[Token]), ReadEr
     let (name, rest) = word_at(alloc, start)?;
     let rest = mark_at(rest, b':')?;
     let (kind, rest) = kind_at(alloc, rest)?;
-    let (default, rest) = default_at(alloc, rest)?;
+    let (default, rest) = literal_after(alloc, b'=', rest)?;
     let (attributes, rest) = attributes_at(alloc, rest)?;
     let rest = mark_at(rest, b';')?;
     Ok((
