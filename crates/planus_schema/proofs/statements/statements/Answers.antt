@@ -1,7 +1,10 @@
-use Rattle.std.proofs.Common.{◌≡◌, ◌++◌, [], map, drop, ap, subst, sym, ◌∙◌, arith, rules}
-use Rattle.std.proofs.lemmas.Grind.{common_steps}
+use Rattle.std.proofs.Common.{◌+◌, ◌++◌, map, drop, ap, subst, sym, ◌∙◌, arith}
+use Rattle.std.proofs.lemmas.List.{drop_all}
 use Rattle.std.specs.Prelude.{None}
-use Rattle.planus_syntax.specs.Values.{names_of}
+use Rattle.std.specs.Global.{Vec}
+use Rattle.planus_syntax.specs.Values.{names_of, schema_of}
+use Rattle.planus_syntax.specs.declared.value.Declaration.{Declaration}
+use Rattle.planus_schema.specs.Schemas.{StatementsV, said_of, after_file, after_files, no_statements, IsFour}
 use Rattle.planus_schema.specs.Names.{head_of}
 use Rattle.planus_schema.specs.WrongServices.{known_attributes}
 use Rattle.planus_schema.specs.Faults.{Adds, first_twenty, statement_faults, file_faults}
@@ -11,6 +14,8 @@ use Rattle.planus_schema.proofs.statements.statements.Goals as goal
 
 pub files-preserved : goal.files-preserved
 files-preserved c =
+    let i = c.files.invariant in
+    let none = c.nothing_stated-statements-in-files.ensures in
     let r = drop_next c.args.files.now c.files.declarations-index c.declarations-item.result (omega arith) c.declarations-item.is in
     let hs = map head_of c.args.heads.now in
     let old = c.files.faults.items in
@@ -20,10 +25,13 @@ files-preserved c =
     let a = subst (λ cs. Adds (statement_faults hs cs file None d.items) old new) (ap names_of c.deref.ensures.value ∙ c.files.invariant.known)
     (subst (λ ds. Adds (statement_faults hs (names_of c.deref.result.now) file None ds) old new) c.deref-in-files.ensures.value c.in_ok-state_file.ensures.adds) in
     record {
-      index = search rules;
-      said = search rules;
-      four = search rules;
-      kept = search rules;
+      index = ap (λ n. n + 1) i.index;
+      said = λ e. ap (λ s. after_files hs s (map (λ (f : Vec Declaration). schema_of f.items) (drop (c.files.declarations-index + 1) c.args.files.now)))
+          (c.in_ok-state_file.ensures.said e ∙ ap (λ s. after_file hs None s (schema_of c.deref-in-files.result.now)) none
+          ∙ ap (λ ds. after_file hs None no_statements (schema_of ds)) c.deref-in-files.ensures.value)
+          ∙ ap (λ fs. after_files hs (said_of c.files.statements) (map (λ (f : Vec Declaration). schema_of f.items) fs)) (sym r) ∙ i.said (c.in_ok-state_file.ensures.kept e);
+      four = λ e. c.in_ok-state_file.ensures.four e (subst (λ (s : StatementsV). IsFour s.identifier) (sym none) tt);
+      kept = λ e. i.kept (c.in_ok-state_file.ensures.kept e);
       most = c.in_ok-state_file.ensures.most;
       adds = adds_next old (statement_faults hs (known_attributes c.args.files.now) file None d.items) new _ _ a
           (ap (λ fs. first_twenty (old ++ file_faults hs (known_attributes c.args.files.now) file fs)) (sym r) ∙ c.files.invariant.adds);
@@ -33,6 +41,17 @@ files-preserved c =
 pub returns-clause-adds : goal.returns-clause-adds
 returns-clause-adds c =
     let i = c.files.invariant in
-    let d : drop c.files.declarations-index c.args.files.now ≡ [] = grind (arith, common_steps) in
+    let d = drop_all c.files.declarations-index c.args.files.now (omega arith) in
     adds_none c.files.faults.items i.most
     ∙ ap (λ fs. first_twenty (c.files.faults.items ++ file_faults (map head_of c.args.heads.now) (known_attributes c.args.files.now) c.files.file fs)) (sym d) ∙ i.adds
+
+pub returns-clause-said : goal.returns-clause-said
+returns-clause-said c =
+    let d = drop_all c.files.declarations-index c.args.files.now (omega arith) in
+    λ e. rw d at c.files.invariant.said e
+
+pub returns-clause-four : goal.returns-clause-four
+returns-clause-four c = c.files.invariant.four
+
+pub returns-clause-kept : goal.returns-clause-kept
+returns-clause-kept c = c.files.invariant.kept
