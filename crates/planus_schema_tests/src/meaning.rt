@@ -4,6 +4,7 @@ use crate::meaning_rows::{
     DEFAULTS, ENUMS, FIELDS, INCLUDED, NAMESPACES, REFUSED, REFUSED_HERE, SETTLED_HERE, STATEMENTS,
     STRUCTS, TAKEN_HERE, UNIONS,
 };
+use crate::random::{TEXTS, are_answered};
 use planus_schema::Problem;
 use std::alloc::Global;
 
@@ -35,7 +36,9 @@ fn each_is_refused(alloc: Global, rows: &[(&str, Problem)]) -> bool {
 
 #[test]
 fn structs(rt: HostRuntime) {
-    assert!(rt; each_means(rt.alloc(), &STRUCTS));
+    let rows = &STRUCTS;
+    assert!(rt; each_means(rt.alloc(), rows));
+    assert!(rt; are_answered(rt.alloc(), rows, TEXTS) == Ok(true));
 }
 
 #[test]
@@ -45,7 +48,9 @@ fn enums(rt: HostRuntime) {
 
 #[test]
 fn unions(rt: HostRuntime) {
-    assert!(rt; each_means(rt.alloc(), &UNIONS));
+    let rows = &UNIONS;
+    assert!(rt; each_means(rt.alloc(), rows));
+    assert!(rt; are_answered(rt.alloc(), rows, TEXTS) == Ok(true));
 }
 
 #[test]

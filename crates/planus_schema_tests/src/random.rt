@@ -1,10 +1,9 @@
-use crate::meaning_rows::{STRUCTS, UNIONS};
 use crate::numbers::Numbers;
 use planus_schema::{Fault, Refusal, resolve};
 use planus_syntax::{SchemaError, parse_text, place_from_end};
 use std::alloc::{AllocError, Global};
 
-const TEXTS: usize = 16000;
+pub const TEXTS: usize = 16000;
 
 const WORDS: [&str; 32] = [
     "table ",
@@ -120,8 +119,12 @@ fn is_answered(alloc: Global, text: &[u8]) -> bool {
     }
 }
 
-/// Returns whether this many random texts are answered.
-fn are_answered(alloc: Global, rows: &[(&str, &str)], count: usize) -> Result<bool, AllocError> {
+/// Returns whether this many random texts are answered, of which many come from these rows.
+pub fn are_answered(
+    alloc: Global,
+    rows: &[(&str, &str)],
+    count: usize,
+) -> Result<bool, AllocError> {
     let mut numbers = Numbers::new();
     for _ in 0..count {
         let text = random_text(alloc, rows, &mut numbers)?;
@@ -130,14 +133,4 @@ fn are_answered(alloc: Global, rows: &[(&str, &str)], count: usize) -> Result<bo
         }
     }
     Ok(true)
-}
-
-#[test]
-fn texts_from_structs(rt: HostRuntime) {
-    assert!(rt; are_answered(rt.alloc(), &STRUCTS, TEXTS) == Ok(true));
-}
-
-#[test]
-fn texts_from_unions(rt: HostRuntime) {
-    assert!(rt; are_answered(rt.alloc(), &UNIONS, TEXTS) == Ok(true));
 }
