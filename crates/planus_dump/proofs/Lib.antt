@@ -6,6 +6,7 @@ mod FirstLine
 mod FaultLines
 mod Written
 mod Leaves
+mod Names
 mod NoFaults
 mod CleanDumps
 mod Ending

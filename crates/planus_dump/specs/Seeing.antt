@@ -11,31 +11,20 @@ use Rattle.planus_read.specs.declared.place.TaggedPlace.{TaggedPlace}
 use Rattle.planus_read.specs.declared.table_reader.Table.{Table}
 use Rattle.planus_read.specs.Places.{place_bytes, place_offset, tagged_tag, tagged_place}
 use Rattle.planus_read.specs.Tables.{Slot, table_object, table_slots}
-use Rattle.planus_view.specs.Views.{View}
-use Rattle.planus_view.specs.VectorView.{view_of}
 use Rattle.planus_view.specs.UnionViews.{UnionView}
 use Rattle.planus_view.specs.UnionVectorView.{view_of as union_view_of}
 use Rattle.planus_dump.specs.declared.unions.Unions.{Unions}
 use Rattle.planus_dump.specs.Lines.{value_text, value_line}
 use Rattle.planus_dump.specs.Tests.{fault_text}
 use Rattle.planus_dump.specs.Answers.{Seen, SeenItems, SeenUnion, SeenUnions}
-use Rattle.planus_dump.specs.Events.{Event, line, TableEvents, fault_event, item_events, stride_of}
+use Rattle.planus_dump.specs.Events.{Event, line, TableEvents, fault_event, item_events}
 use Rattle.planus_dump.specs.declared.schemas.Item.{Item}
-use Rattle.planus_dump.specs.declared.schemas.Item.TheVariants.{U16, U32, U64, I16, I32, I64}
-use Rattle.planus_dump.specs.declared.schemas.Item.TheVariants.{Bool, Text, Table as TableItem}
 use Rattle.planus_dump.specs.declared.line.Bits.{Bits}
 use Rattle.planus_dump.specs.declared.readings.Position.{Position}
 use Rattle.planus_dump.specs.declared.readings.Found.{Found}
 use Rattle.planus_dump.specs.declared.readings.Found.TheVariants.{Value as FoundValue}
 use Rattle.planus_dump.specs.declared.readings.Found.TheVariants.{Fault as FoundFault}
 use Rattle.planus_dump.specs.declared.readings.Found.TheVariants.{Table as FoundTable}
-use Rattle.planus_dump.specs.declared.items.Items.{Items}
-use Rattle.planus_dump.specs.declared.items.Items.TheVariants.{U16 as Items16, U32 as Items32}
-use Rattle.planus_dump.specs.declared.items.Items.TheVariants.{U64 as Items64}
-use Rattle.planus_dump.specs.declared.items.Items.TheVariants.{I16 as Signed16, I32 as Signed32}
-use Rattle.planus_dump.specs.declared.items.Items.TheVariants.{I64 as Signed64}
-use Rattle.planus_dump.specs.declared.items.Items.TheVariants.{Bool as Truths, Text as Texts}
-use Rattle.planus_dump.specs.declared.items.Items.TheVariants.{Table as Tables}
 
 -- a result, by its value
 abbrev pub answer_seen : {A B : Type 0} → (A → B) → Result A ErrorKind → Result B (List ℕ)
@@ -118,38 +107,3 @@ found_events E path (FoundTable index place) = E index (place_bytes place) (plac
 abbrev pub IsFound : Item → List ℕ → ℕ → Found → Type 0
 IsFound item S f found =
     (E : TableEvents) (path : List ℕ) → found_events E path found ≡ item_events E item S f path
-
--- the items of a vector
-abbrev pub item_of : Items → Item
-item_of (Items16 v) = U16
-item_of (Items32 v) = U32
-item_of (Items64 v) = U64
-item_of (Signed16 v) = I16
-item_of (Signed32 v) = I32
-item_of (Signed64 v) = I64
-item_of (Truths v) = Bool
-item_of (Texts v) = Text
-item_of (Tables index v) = TableItem index
-
--- their view
-abbrev pub items_view : Items → View
-items_view (Items16 v) = view_of v
-items_view (Items32 v) = view_of v
-items_view (Items64 v) = view_of v
-items_view (Signed16 v) = view_of v
-items_view (Signed32 v) = view_of v
-items_view (Signed64 v) = view_of v
-items_view (Truths v) = view_of v
-items_view (Texts v) = view_of v
-items_view (Tables index v) = view_of v
-
--- the bytes from the first item on, and the count
-abbrev pub items_seen : Items → SeenItems
-items_seen items = record { bytes = (items_view items).bytes; count = (items_view items).count }
-
--- item i of them; none out of bounds
-abbrev pub GetsFound : Items → ℕ → Option Found → Type 0
-GetsFound items i None = (items_view items).count ≤ i
-GetsFound items i (Some found) =
-    (i < (items_view items).count)
-    × IsFound (item_of items) (items_view items).bytes (i * stride_of (item_of items)) found

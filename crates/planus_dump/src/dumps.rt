@@ -1,5 +1,7 @@
 //! A dump.
-ghost use Rattle.planus_dump.specs.Dumped.{Dumped};
+ghost use Rattle.std.specs.Prelude.{◌≡◌, IfOk};
+ghost use Rattle.planus_dump.specs.Dumped.{Dumped, events_of};
+ghost use Rattle.planus_dump.specs.inner.Shown.{shown, feed, begin};
 
 use crate::floats::line_texts;
 use crate::line_sink::{LineSink, Stop};
@@ -13,16 +15,16 @@ use std::error::Error;
 use std::fmt;
 
 /// The greatest depth of a table, the root having depth 1.
-pub(crate) const GREATEST_DEPTH: usize = 64;
+const GREATEST_DEPTH: usize = 64;
 
 /// Why there is no dump.
 #[derive(Clone, Copy, Debug, PartialEq, Eq)]
 pub enum DumpError {
     /// An allocation failed.
     OutOfMemory,
-    /// The schema names a table, a union, an enum or a struct that it doesn't have, has a union with
-    /// a tag 0 or a tag used twice, or a name that is empty or has a byte other than ASCII letters,
-    /// digits and `_`.
+    /// The schema names a table, a union, an enum or a struct that it doesn't have, has a union
+    /// with a tag 0 or a tag used twice, or a name that is empty or has a byte other than ASCII
+    /// letters, digits and `_`.
     BadSchema,
     /// A table at depth 65, or a struct in 64 others, is reached before a line past the budget. The
     /// root has depth 1.
@@ -61,6 +63,24 @@ impl From<AllocError> for DumpError {
     }
 }
 
+/// Walks over the tables that are reached from the root of a buffer. `room` is the greatest number
+/// of bytes of its lines, if that is bounded.
+pub(crate) fn walk_from_root(
+    alloc: Global,
+    schema: &Schema,
+    bytes: &[u8],
+    budget: usize,
+    room: Option<usize>,
+) -> Result<LineSink, AllocError>
+    ensures { IfOk result (λ out. shown out
+        ≡ feed (begin budget room) (events_of schema.now bytes.now)) }
+{
+    let root = place_in(SliceWithStartOffset::new(bytes, 0), 0);
+    let mut out = LineSink::new(alloc, budget, room);
+    dump_table(schema, &mut out, GREATEST_DEPTH, "root", schema.root, root)?;
+    Ok(out)
+}
+
 /// Returns the lines of the tables that are reached from the root of a buffer, which begins with
 /// the reference to it. The path of the root is `root`. An error in the bytes is a line of its own.
 ///
@@ -80,9 +100,7 @@ pub fn dump(
     if budget == 0 {
         return Err(DumpError::TooManyLines);
     }
-    let root = place_in(SliceWithStartOffset::new(bytes, 0), 0);
-    let mut out = LineSink::new(alloc, budget, None);
-    dump_table(schema, &mut out, GREATEST_DEPTH, "root", schema.root, root)?;
+    let out = walk_from_root(alloc, schema, bytes, budget, None)?;
     match out.stop {
         Stop::Going => {
             let lines = line_texts(alloc, out.lines)?;

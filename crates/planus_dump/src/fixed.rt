@@ -2,12 +2,11 @@
 ghost use Rattle.std.specs.Prelude.{◌≡◌, ◌-◌, OnOk, slice_get};
 ghost use Rattle.std.specs.Int.{byte_len};
 ghost use Rattle.planus_read.specs.Places.{place_bytes, place_offset};
-ghost use Rattle.planus_read.specs.Pieces.{slice_bytes};
 ghost use Rattle.planus_dump.specs.Answers.{vector_at};
 ghost use Rattle.planus_dump.specs.Events.{number_leaf, number_width, enum_size, struct_size};
 ghost use Rattle.planus_dump.specs.Events.{leaf_events, enum_events, enum_at, answer_event};
 ghost use Rattle.planus_dump.specs.Events.{fixed_size as fixed_size_lem, fixed_events, structs};
-ghost use Rattle.planus_dump.specs.Events.{struct_events, struct_fields_events, value_events};
+ghost use Rattle.planus_dump.specs.Events.{struct_events, value_events};
 ghost use Rattle.planus_dump.specs.Events.{fixed_list_events};
 ghost use Rattle.planus_dump.specs.inner.Shown.{shown, feed};
 ghost use Rattle.std.specs.Prelude.{Some, [], ◌∷◌};
@@ -19,7 +18,7 @@ use crate::readings::{
 };
 use crate::schemas::{EnumSchema, Fixed, Number, Schema, StructSchema};
 use crate::values::Leaf;
-use planus::{Place, SliceWithStartOffset};
+use planus::Place;
 use std::alloc::AllocError;
 
 /// The greatest number of structs in one another.
@@ -160,6 +159,7 @@ fn dump_struct(
     }
 }
 
+/// Dumps a struct of this schema, with up to `left` levels of structs in it.
 #[cycle(fixed)]
 fn dump_struct_shape(
     schema: &Schema,
@@ -173,28 +173,11 @@ fn dump_struct_shape(
         (struct_events schema.now (structs schema.now left) (Some shape.now)
         (place_bytes place.entry) (place_offset place.entry) path.now)) }
 {
-    match slice_from(place, shape.size) {
-        Ok(slice) => {
-            out.put_struct(path, shape.name.as_str())?;
-            dump_struct_fields(schema, out, left, path, shape, slice)
-        }
-        Err(kind) => out.put_fault(path, kind),
-    }
-}
-
-#[cycle(fixed)]
-fn dump_struct_fields(
-    schema: &Schema,
-    out: &mut LineSink,
-    left: usize,
-    path: &str,
-    shape: &StructSchema,
-    slice: SliceWithStartOffset<'_>,
-) -> Result<(), AllocError>
-    ensures { OnOk result (shown out.new ≡ feed (shown out.old)
-        (struct_fields_events schema.now (structs schema.now left) shape.now.fields.items
-        (slice_bytes slice.entry) path.now)) }
-{
+    let slice = match slice_from(place, shape.size) {
+        Ok(slice) => slice,
+        Err(kind) => return out.put_fault(path, kind),
+    };
+    out.put_struct(path, shape.name.as_str())?;
     for field in &shape.fields {
         if out.is_stopped() {
             return Ok(());

@@ -5,7 +5,6 @@ mod dumps;
 mod enums;
 mod fixed;
 mod floats;
-mod items;
 pub mod laws;
 mod line;
 mod line_sink;

@@ -18,7 +18,7 @@ pub enum Line {
 }
 
 impl Line {
-    /// Returns how many bytes the line has at most, where a float has 32.
+    /// Returns how many bytes the line counts: its own, or those of the path, ` = ` and 32.
     pub fn size(&self) -> usize
         ensures { result ≡ cost (event_of self.now) }
     {

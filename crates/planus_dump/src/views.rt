@@ -1,14 +1,11 @@
 //! A view: a dump as far as it is wanted.
 ghost use Rattle.planus_dump.specs.Views.{Viewed};
 
-use crate::dumps::{DumpError, GREATEST_DEPTH};
+use crate::dumps::{DumpError, walk_from_root};
 use crate::floats::line_texts;
-use crate::line_sink::{LineSink, Stop};
-use crate::readings::place_in;
+use crate::line_sink::Stop;
 use crate::schemas::Schema;
 use crate::validate::is_good_schema;
-use crate::walk::dump_table;
-use planus::SliceWithStartOffset;
 use std::alloc::Global;
 
 /// Why the lines of a view end.
@@ -47,9 +44,7 @@ pub fn view(
     if !is_good_schema(schema) {
         return Err(DumpError::BadSchema);
     }
-    let root = place_in(SliceWithStartOffset::new(bytes, 0), 0);
-    let mut out = LineSink::new(alloc, most, Some(size));
-    dump_table(schema, &mut out, GREATEST_DEPTH, "root", schema.root, root)?;
+    let out = walk_from_root(alloc, schema, bytes, most, Some(size))?;
     let end = match out.stop {
         Stop::Going => End::Whole,
         Stop::TooDeep => End::TooDeep,

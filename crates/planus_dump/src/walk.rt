@@ -3,22 +3,20 @@ ghost use Rattle.std.specs.Prelude.{◌≡◌, ◌-◌, OnOk, IfOk, slice_get};
 ghost use Rattle.std.specs.String.{string_bytes};
 ghost use Rattle.planus_read.specs.Places.{place_bytes, place_offset, tagged_tag, tagged_place};
 ghost use Rattle.planus_dump.specs.Lines.{field_path as field_path_lem};
-ghost use Rattle.planus_dump.specs.Answers.{table_at};
+ghost use Rattle.planus_dump.specs.Answers.{table_at, vector_at};
 ghost use Rattle.planus_dump.specs.Events.{events, kind_events, place_events, variant_of};
-ghost use Rattle.planus_dump.specs.Events.{field_label, buffer_events};
+ghost use Rattle.planus_dump.specs.Events.{field_label, buffer_events, stride_of as stride_lem};
 ghost use Rattle.planus_dump.specs.Events.{union_events, unions_events, list_events, table_events};
 ghost use Rattle.planus_dump.specs.Seeing.{table_seen, found_events, unions_seen};
-ghost use Rattle.planus_dump.specs.Seeing.{items_seen, item_of};
 ghost use Rattle.planus_dump.specs.inner.Shown.{shown, feed};
 ghost use Rattle.std.specs.Prelude.{Some, Ok};
 
 use crate::fixed::{dump_value, dump_values};
-use crate::items::{Items, read_items};
 use crate::line_sink::LineSink;
 use crate::readings::{
-    Found, field_place, item_found, leaf_found, place_in, read_table, read_union,
+    Found, field_place, item_found, leaf_found, place_in, read_table, read_union, read_values,
 };
-use crate::schemas::{FieldSchema, Kind, Schema, TableSchema};
+use crate::schemas::{FieldSchema, Item, Kind, Schema, TableSchema};
 use crate::unions::{Unions, read_unions};
 use crate::values::{Leaf, Value};
 use planus::errors::ErrorKind;
@@ -78,6 +76,18 @@ fn dump_shape(
     Ok(())
 }
 
+/// Returns the size in bytes of an item of a vector.
+fn stride_of(item: Item) -> usize
+    ensures { result ≡ stride_lem item }
+{
+    match item {
+        Item::Bool => 1,
+        Item::U16 | Item::I16 => 2,
+        Item::U32 | Item::I32 | Item::Text | Item::Table(_) => 4,
+        Item::U64 | Item::I64 => 8,
+    }
+}
+
 /// Returns the path of a field.
 fn field_path(alloc: Global, path: &str, field: &FieldSchema) -> Result<String, AllocError>
     ensures { IfOk result (λ text. string_bytes text
@@ -104,7 +114,23 @@ fn dump_field(
         (table_seen table.entry) (field_path_lem path.now (field_label field.now)))) }
 {
     let path = field_path(out.alloc, path, field)?;
-    let path = path.as_str();
+    dump_kind(schema, out, left, path.as_str(), table, field)
+}
+
+/// Dumps a field at its path.
+#[cycle(walk)]
+fn dump_kind(
+    schema: &Schema,
+    out: &mut LineSink,
+    left: usize,
+    path: &str,
+    table: Table<'_>,
+    field: &FieldSchema,
+) -> Result<(), AllocError>
+    ensures { OnOk result (shown out.new ≡ feed (shown out.old)
+        (kind_events (events schema.now left) schema.now field.now.kind field.now.slot
+        (table_seen table.entry) path.now)) }
+{
     match field.kind {
         Kind::Union(index) => match read_union(table, field.slot) {
             Ok(None) => Ok(()),
@@ -185,10 +211,7 @@ fn dump_place(
         Kind::U8 => dump_found(schema, out, left, path, leaf_found(place, Leaf::U8)),
         Kind::I8 => dump_found(schema, out, left, path, leaf_found(place, Leaf::I8)),
         Kind::Bytes => dump_found(schema, out, left, path, leaf_found(place, Leaf::Bytes)),
-        Kind::List(item) => match read_items(place, item) {
-            Ok(items) => dump_items(schema, out, left, path, items),
-            Err(kind) => out.put_fault(path, kind),
-        },
+        Kind::List(item) => dump_items(schema, out, left, path, item, place),
         Kind::Nested(index) => match place.read::<&[u8]>() {
             Ok(content) => dump_nested(schema, out, left, path, index, content),
             Err(kind) => out.put_fault(path, kind),
@@ -197,29 +220,32 @@ fn dump_place(
     }
 }
 
+/// Dumps the vector of items to which the reference at a place leads.
 #[cycle(walk)]
 fn dump_items(
     schema: &Schema,
     out: &mut LineSink,
     left: usize,
     path: &str,
-    items: Items<'_>,
+    item: Item,
+    place: Place<'_>,
 ) -> Result<(), AllocError>
     ensures { OnOk result (shown out.new ≡ feed (shown out.old)
-        (list_events (events schema.now left) (item_of items.entry) path.now
-        (Ok (items_seen items.entry)))) }
+        (list_events (events schema.now left) item path.now
+        (vector_at (stride_lem item) (place_bytes place.entry) (place_offset place.entry)))) }
 {
-    let count = items.len();
+    let stride = stride_of(item);
+    let (slice, count) = match read_values(place, stride) {
+        Ok(values) => values,
+        Err(kind) => return out.put_fault(path, kind),
+    };
     out.put_list(path, count)?;
     for i in 0..count {
         if out.is_stopped() {
             return Ok(());
         }
-        let found = match items.get(i) {
-            None => return Ok(()),
-            Some(found) => found,
-        };
         let path = format!(in out.alloc; "{path}[{i}]")?;
+        let found = item_found(place_in(slice, i * stride), item);
         dump_found(schema, out, left, path.as_str(), found)?;
     }
     Ok(())

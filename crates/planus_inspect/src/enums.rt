@@ -54,7 +54,7 @@ fn values_of(
 }
 
 /// Returns an enum, and one with no values for what is no enum.
-fn enum_schema(alloc: Global, declared: &Declared) -> Result<EnumSchema, AllocError>
+pub(crate) fn enum_schema(alloc: Global, declared: &Declared) -> Result<EnumSchema, AllocError>
     ensures { IfOk result (λ shown. enum_shape shown ≡ enum_shown declared.now) }
 {
     match &declared.body {
@@ -69,15 +69,4 @@ fn enum_schema(alloc: Global, declared: &Declared) -> Result<EnumSchema, AllocEr
             values: Vec::new(alloc),
         }),
     }
-}
-
-/// Returns an enum for each declaration.
-pub(crate) fn enums_of(alloc: Global, declared: &[Declared]) -> Result<Vec<EnumSchema>, AllocError>
-    ensures { IfOk result (λ shown. map enum_shape shown.items ≡ map enum_shown declared.now) }
-{
-    let mut shown = Vec::new(alloc);
-    for declaration in declared {
-        shown.push(enum_schema(alloc, declaration)?)?;
-    }
-    Ok(shown)
 }

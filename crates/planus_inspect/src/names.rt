@@ -1,8 +1,8 @@
 //! Names as the lines of a dump have them.
-ghost use Rattle.std.specs.Prelude.{◌≡◌, ◌∷◌, [], ◌++◌, IfOk, OnOk};
+ghost use Rattle.std.specs.Prelude.{◌≡◌, IfOk, OnOk};
 ghost use Rattle.std.specs.String.{string_bytes};
 ghost use Rattle.planus_dump.specs.Schemas.{is_name_byte as is_name_byte_lem};
-ghost use Rattle.planus_inspect.specs.Shown.{after_dot, last_word as last_word_lem, shown_byte};
+ghost use Rattle.planus_inspect.specs.Shown.{after_dot, last_word as last_word_lem};
 ghost use Rattle.planus_inspect.specs.Shown.{shown_name as shown_name_lem};
 
 use std::alloc::{AllocError, Global};
@@ -13,17 +13,6 @@ fn is_name_byte(byte: u8) -> bool
     matches!(byte, b'A'..=b'Z' | b'a'..=b'z' | b'0'..=b'9' | b'_')
 }
 
-/// Adds a byte of a name, or `_` for what is none.
-fn push_byte(word: &mut String, byte: u8) -> Result<(), AllocError>
-    ensures { OnOk result (string_bytes word.new ≡ string_bytes word.old ++ shown_byte byte ∷ []) }
-{
-    if is_name_byte(byte) {
-        word.push(byte as char)
-    } else {
-        word.push('_')
-    }
-}
-
 /// Takes the next byte of a name, of which the word after the last dot is kept.
 fn take_byte(word: &mut String, byte: u8) -> Result<(), AllocError>
     ensures { OnOk result (string_bytes word.new ≡ after_dot (string_bytes word.old) byte) }
@@ -31,8 +20,10 @@ fn take_byte(word: &mut String, byte: u8) -> Result<(), AllocError>
     if byte == b'.' {
         word.clear();
         Ok(())
+    } else if is_name_byte(byte) {
+        word.push(byte as char)
     } else {
-        push_byte(word, byte)
+        word.push('_')
     }
 }
 

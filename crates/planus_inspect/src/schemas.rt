@@ -5,10 +5,10 @@ ghost use Rattle.planus_schema.specs.Sound.{IsSound, IsTableAt};
 ghost use Rattle.planus_dump.specs.Schemas.{is_good};
 ghost use Rattle.planus_inspect.specs.Shown.{Shows};
 
-use crate::enums::enums_of;
-use crate::structs::structs_of;
-use crate::tables::tables_of;
-use crate::unions::unions_of;
+use crate::enums::enum_schema;
+use crate::structs::struct_schema;
+use crate::tables::table_schema;
+use crate::unions::union_schema;
 use planus_layout::Schema;
 use std::alloc::{AllocError, Global};
 
@@ -28,12 +28,18 @@ pub fn dump_schema(
     ensures good { IsSound schema.now → IsTableAt (map body_in schema.now.declarations.items) root
         → IfOk result (λ shown. is_good shown ≡ true) }
 {
-    let declared = schema.declarations.as_slice();
-    Ok(planus_dump::Schema {
-        tables: tables_of(alloc, declared)?,
-        unions: unions_of(alloc, declared)?,
-        enums: enums_of(alloc, declared)?,
-        structs: structs_of(alloc, declared)?,
+    let mut shown = planus_dump::Schema {
+        tables: Vec::new(alloc),
+        unions: Vec::new(alloc),
+        enums: Vec::new(alloc),
+        structs: Vec::new(alloc),
         root,
-    })
+    };
+    for declared in &schema.declarations {
+        shown.tables.push(table_schema(alloc, declared)?)?;
+        shown.unions.push(union_schema(alloc, declared)?)?;
+        shown.enums.push(enum_schema(alloc, declared)?)?;
+        shown.structs.push(struct_schema(alloc, declared)?)?;
+    }
+    Ok(shown)
 }

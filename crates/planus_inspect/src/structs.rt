@@ -54,7 +54,8 @@ fn size_of(body: &Body) -> usize
     }
 }
 
-fn struct_schema(alloc: Global, declared: &Declared) -> Result<StructSchema, AllocError>
+/// Returns a struct, which has no fields for what is no struct.
+pub(crate) fn struct_schema(alloc: Global, declared: &Declared) -> Result<StructSchema, AllocError>
     ensures { IfOk result (λ shown. struct_shape shown ≡ struct_shown declared.now) }
 {
     Ok(StructSchema {
@@ -62,18 +63,4 @@ fn struct_schema(alloc: Global, declared: &Declared) -> Result<StructSchema, All
         size: size_of(&declared.body),
         fields: fields_of(alloc, &declared.body)?,
     })
-}
-
-/// Returns a struct for each declaration.
-pub(crate) fn structs_of(
-    alloc: Global,
-    declared: &[Declared],
-) -> Result<Vec<StructSchema>, AllocError>
-    ensures { IfOk result (λ shown. map struct_shape shown.items ≡ map struct_shown declared.now) }
-{
-    let mut shown = Vec::new(alloc);
-    for declaration in declared {
-        shown.push(struct_schema(alloc, declaration)?)?;
-    }
-    Ok(shown)
 }

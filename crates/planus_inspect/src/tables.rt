@@ -52,25 +52,12 @@ fn fields_of(alloc: Global, body: &Body) -> Result<Vec<FieldSchema>, AllocError>
     }
 }
 
-fn table_schema(alloc: Global, declared: &Declared) -> Result<TableSchema, AllocError>
+/// Returns a table, which has no fields for what is no table.
+pub(crate) fn table_schema(alloc: Global, declared: &Declared) -> Result<TableSchema, AllocError>
     ensures { IfOk result (λ shown. table_shape shown ≡ table_shown declared.now) }
 {
     Ok(TableSchema {
         name: shown_name(alloc, &declared.name)?,
         fields: fields_of(alloc, &declared.body)?,
     })
-}
-
-/// Returns a table for each declaration.
-pub(crate) fn tables_of(
-    alloc: Global,
-    declared: &[Declared],
-) -> Result<Vec<TableSchema>, AllocError>
-    ensures { IfOk result (λ shown. map table_shape shown.items ≡ map table_shown declared.now) }
-{
-    let mut shown = Vec::new(alloc);
-    for declaration in declared {
-        shown.push(table_schema(alloc, declaration)?)?;
-    }
-    Ok(shown)
 }

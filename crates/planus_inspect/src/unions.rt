@@ -16,26 +16,14 @@ fn members_of(alloc: Global, members: &[UnionMember]) -> Result<Vec<(u8, usize)>
 }
 
 /// Returns the tags and the tables of a union, and none for what is no union.
-fn union_schema(alloc: Global, declared: &Declared) -> Result<Vec<(u8, usize)>, AllocError>
+pub(crate) fn union_schema(
+    alloc: Global,
+    declared: &Declared,
+) -> Result<Vec<(u8, usize)>, AllocError>
     ensures { IfOk result (λ shown. shown.items ≡ union_shown declared.now) }
 {
     match &declared.body {
         Body::Union(body) => members_of(alloc, &body.members),
         _ => Ok(Vec::new(alloc)),
     }
-}
-
-/// Returns a union for each declaration.
-pub(crate) fn unions_of(
-    alloc: Global,
-    declared: &[Declared],
-) -> Result<Vec<Vec<(u8, usize)>>, AllocError>
-    ensures { IfOk result (λ shown. map (λ variants. variants.items) shown.items
-        ≡ map union_shown declared.now) }
-{
-    let mut shown = Vec::new(alloc);
-    for declaration in declared {
-        shown.push(union_schema(alloc, declaration)?)?;
-    }
-    Ok(shown)
 }

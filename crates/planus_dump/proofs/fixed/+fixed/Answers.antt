@@ -1,4 +1,4 @@
-use Rattle.std.proofs.Common.{◌≡◌, ◌+◌, ◌-◌, ◌≤◌, drop, ap, sym, subst, ◌∙◌, Some, None, OnOk, slice_get, arith, refl, length}
+use Rattle.std.proofs.Common.{◌≡◌, ◌-◌, ◌≤◌, drop, ap, sym, subst, ◌∙◌, Some, None, OnOk, slice_get, arith, refl, length}
 use Rattle.std.proofs.lemmas.Bool.{ltb-true, ltb-false}
 use Rattle.std.proofs.lemmas.Option.{slice_get_past, slice_get_read}
 use Rattle.std.specs.String.{string_bytes}
@@ -7,8 +7,8 @@ use Rattle.planus_read.specs.Places.{place_bytes, place_offset}
 use Rattle.planus_dump.specs.Events.{structs, struct_events, struct_fields_events, fixed_events}
 use Rattle.planus_dump.specs.Lines.{field_path}
 use Rattle.planus_dump.specs.inner.Shown.{shown, feed}
-use Rattle.planus_dump.proofs.Feeds.{stopped_done}
-use Rattle.planus_dump.proofs.FixedFeeds.{structs-more, structs-none, struct_field_fed}
+use Rattle.planus_dump.proofs.Feeds.{stopped_done, all_done}
+use Rattle.planus_dump.proofs.FixedFeeds.{structs-more, structs-none, struct_fields-none, struct_field_fed}
 use Rattle.planus_dump.proofs.fixed.+fixed.Goals as goal
 
 pub dump_struct-returns-then-left-eq0 : goal.dump_struct-returns-then-left-eq0
@@ -33,22 +33,25 @@ dump_struct-returns-in-Some t c =
     ∙ ap (λ o. struct_events c.args.schema.now (structs c.args.schema.now (c.args.left - 1)) o S f path) some))
     c.dump_struct_shape.ensures
 
-pub dump_struct_fields-returns-then-is_stopped : goal.dump_struct_fields-returns-then-is_stopped
-dump_struct_fields-returns-then-is_stopped t c =
-    stopped_done (shown c.loop-field.out) (struct_fields_events c.args.schema.now (structs c.args.schema.now c.args.left) (drop c.loop-field.field-index c.deref-field-items.result.now) (slice_bytes c.args.slice) c.args.path.now) _
-    c.if-is_stopped.ensures (ap (λ fields. feed (shown c.loop-field.out) (struct_fields_events c.args.schema.now (structs c.args.schema.now c.args.left) (drop c.loop-field.field-index fields) (slice_bytes c.args.slice) c.args.path.now)) c.deref-field-items.ensures.value ∙ c.loop-field.invariant)
+pub dump_struct_shape-returns-then-is_stopped : goal.dump_struct_shape-returns-then-is_stopped
+dump_struct_shape-returns-then-is_stopped t c =
+    stopped_done (shown c.loop-field.out) (struct_fields_events c.args.schema.now (structs c.args.schema.now c.args.left) (drop c.loop-field.field-index c.deref-field-items.result.now) (slice_bytes c.in-Ok.slice) c.args.path.now) _
+    c.if-is_stopped.ensures c.loop-field.invariant
 
-pub dump_struct_fields-loop-field-preserved : goal.dump_struct_fields-loop-field-preserved
-dump_struct_fields-loop-field-preserved t c =
-    let T = structs c.args.schema.now c.args.left in
-    let fields = c.args.shape.now.fields.items in
-    let items : c.deref-field-items.result.now ≡ fields = c.deref-field-items.ensures.value in
-    let fed : shown c.dump_fixed.new.out ≡ feed (shown c.loop-field.out) (fixed_events c.args.schema.now T c.field-item.result.fixed (slice_bytes c.args.slice) c.field-item.result.distance (field_path c.args.path.now (string_bytes c.field-item.result.name)))
+pub dump_struct_shape-returns : goal.dump_struct_shape-returns
+dump_struct_shape-returns t c =
+    let T = structs c.args.schema.now c.args.left in let fields = c.deref-field-items.result.now in
+    all_done (shown c.loop-field.out) (struct_fields_events c.args.schema.now T (drop c.loop-field.field-index fields) (slice_bytes c.in-Ok.slice) c.args.path.now) _
+    (struct_fields-none c.args.schema.now T (slice_bytes c.in-Ok.slice) c.args.path.now fields c.loop-field.field-index (omega arith)) c.loop-field.invariant
+
+pub dump_struct_shape-loop-field-preserved : goal.dump_struct_shape-loop-field-preserved
+dump_struct_shape-loop-field-preserved t c =
+    let T = structs c.args.schema.now c.args.left in let S = slice_bytes c.in-Ok.slice in
+    let field = c.field-item.result in
+    let fed : shown c.dump_fixed.new.out ≡ feed (shown c.loop-field.out) (fixed_events c.args.schema.now T field.fixed S field.distance (field_path c.args.path.now (string_bytes field.name)))
     = c.in_ok-dump_fixed.ensures
-    ∙ ap (λ xs. feed (shown c.loop-field.out) (fixed_events c.args.schema.now T c.field-item.result.fixed xs (place_offset c.place_in-place.result) c.as_str.result.now)) c.place_in-place.ensures.bytes
-    ∙ ap (λ n. feed (shown c.loop-field.out) (fixed_events c.args.schema.now T c.field-item.result.fixed (slice_bytes c.args.slice) n c.as_str.result.now)) c.place_in-place.ensures.offset
-    ∙ ap (λ xs. feed (shown c.loop-field.out) (fixed_events c.args.schema.now T c.field-item.result.fixed (slice_bytes c.args.slice) c.field-item.result.distance xs)) (c.as_str.ensures.value ∙ c.in_ok-path.ensures.ok) in
-    subst (λ xs. feed (shown c.dump_fixed.new.out) (struct_fields_events c.args.schema.now T (drop (c.loop-field.field-index + 1) xs) (slice_bytes c.args.slice) c.args.path.now) ≡ feed (shown c.args.out.now) (struct_fields_events c.args.schema.now T fields (slice_bytes c.args.slice) c.args.path.now)) items
-    (struct_field_fed c.args.schema.now T (slice_bytes c.args.slice) c.args.path.now c.deref-field-items.result.now c.loop-field.field-index c.field-item.result (shown c.loop-field.out) (shown c.dump_fixed.new.out) _
-    (omega arith) c.field-item.is fed
-    (ap (λ xs. feed (shown c.loop-field.out) (struct_fields_events c.args.schema.now T (drop c.loop-field.field-index xs) (slice_bytes c.args.slice) c.args.path.now)) items ∙ c.loop-field.invariant))
+    ∙ ap (λ xs. feed (shown c.loop-field.out) (fixed_events c.args.schema.now T field.fixed xs (place_offset c.place_in-place.result) c.as_str-in-loop-field.result.now)) c.place_in-place.ensures.bytes
+    ∙ ap (λ n. feed (shown c.loop-field.out) (fixed_events c.args.schema.now T field.fixed S n c.as_str-in-loop-field.result.now)) c.place_in-place.ensures.offset
+    ∙ ap (λ xs. feed (shown c.loop-field.out) (fixed_events c.args.schema.now T field.fixed S field.distance xs)) (c.as_str-in-loop-field.ensures.value ∙ c.in_ok-path.ensures.ok) in
+    struct_field_fed c.args.schema.now T S c.args.path.now c.deref-field-items.result.now c.loop-field.field-index field (shown c.loop-field.out) (shown c.dump_fixed.new.out) _
+    (omega arith) c.field-item.is fed c.loop-field.invariant

@@ -3,13 +3,19 @@ use Rattle.planus_read.specs.Pieces.{slice_bytes}
 use Rattle.planus_read.specs.Places.{place_offset}
 use Rattle.planus_dump.specs.Events.{values_events, value_events, fixed_size}
 use Rattle.planus_dump.specs.inner.Shown.{shown, feed}
-use Rattle.planus_dump.proofs.Feeds.{stopped_done}
-use Rattle.planus_dump.proofs.FixedFeeds.{value_fed}
+use Rattle.planus_dump.proofs.Feeds.{stopped_done, all_done}
+use Rattle.planus_dump.proofs.FixedFeeds.{value_fed, values-none}
 use Rattle.planus_dump.proofs.fixed.dump_values.Goals as goal
 
 pub returns-then-is_stopped : goal.returns-then-is_stopped
 returns-then-is_stopped c =
     stopped_done (shown c.loop-i.out) (values_events c.args.schema.now c.args.fixed (slice_bytes c.in-Ok.values.0) c.args.path.now (c.in-Ok.values.1 - c.loop-i.i-counter) c.loop-i.i-counter) _ c.if-is_stopped.ensures c.loop-i.invariant
+
+pub returns : goal.returns
+returns c =
+    let n = c.in-Ok.values.1 - c.loop-i.i-counter in
+    all_done (shown c.loop-i.out) (values_events c.args.schema.now c.args.fixed (slice_bytes c.in-Ok.values.0) c.args.path.now n c.loop-i.i-counter) _
+    (values-none c.args.schema.now c.args.fixed (slice_bytes c.in-Ok.values.0) c.args.path.now n c.loop-i.i-counter (omega arith)) c.loop-i.invariant
 
 pub loop-i-preserved : goal.loop-i-preserved
 loop-i-preserved c =

@@ -1,13 +1,14 @@
-use Rattle.std.proofs.Common.{rules, ◌≡◌, ◌-◌, ◌∷◌, [], drop, ap, sym, subst, ◌∙◌, Some, None, OnOk, slice_get, arith, refl, length, ◌≤◌}
+use Rattle.std.proofs.Common.{rules, ◌≡◌, ◌-◌, ◌*◌, ◌∷◌, [], drop, ap, sym, subst, ◌∙◌, Some, None, OnOk, slice_get, arith, refl, length, ◌≤◌}
 use Rattle.std.proofs.lemmas.Bool.{ltb-true, ltb-false}
 use Rattle.std.proofs.lemmas.Option.{slice_get_past, slice_get_read}
 use Rattle.std.specs.String.{string_bytes}
 use Rattle.planus_read.specs.declared.errors.ErrorKind.TheVariants.{UnknownUnionTag}
+use Rattle.planus_read.specs.Pieces.{slice_bytes}
 use Rattle.planus_read.specs.Places.{place_bytes, place_offset, tagged_tag, tagged_place}
-use Rattle.planus_dump.specs.Lines.{table_line, list_line, unions_line}
+use Rattle.planus_dump.specs.Lines.{table_line, unions_line}
 use Rattle.planus_dump.specs.Tests.{fault_text}
-use Rattle.planus_dump.specs.Events.{events, line, shape_events, items_events, union_items_events, fields_events, table_events, variant_of, fault_event}
-use Rattle.planus_dump.specs.Seeing.{items_view, item_of, unions_seen, table_seen}
+use Rattle.planus_dump.specs.Events.{events, line, shape_events, items_events, union_items_events, fields_events, table_events, variant_of, fault_event, stride_of}
+use Rattle.planus_dump.specs.Seeing.{IsFound, unions_seen, table_seen}
 use Rattle.planus_dump.specs.inner.Shown.{shown, feed, step}
 use Rattle.planus_dump.proofs.Feeds.{events-more, events-none, stopped_done, all_done, items-none, union_items-none, fields-none, found_fed, field_fed, tagged_fed, union_unknown}
 use Rattle.planus_dump.proofs.walk.+walk.Goals as goal
@@ -61,29 +62,23 @@ dump_shape-loop-field-preserved t c =
     (shown c.loop-field.out) (shown c.dump_field.new.out) _ (omega arith) c.field-item.is c.in_ok-dump_field.ensures c.loop-field.invariant
 
 pub dump_items-returns-then-is_stopped : goal.dump_items-returns-then-is_stopped
-dump_items-returns-then-is_stopped t c = stopped_done (shown c.loop-i.out) (items_events (events c.args.schema.now c.args.left) (item_of c.args.items) (items_view c.args.items).bytes c.args.path.now (c.len-count.result - c.loop-i.i-counter) c.loop-i.i-counter) _ c.if-is_stopped.ensures c.loop-i.invariant
+dump_items-returns-then-is_stopped t c = stopped_done (shown c.loop-i.out) (items_events (events c.args.schema.now c.args.left) c.args.item (slice_bytes c.in-Ok.values.0) c.args.path.now (c.in-Ok.values.1 - c.loop-i.i-counter) c.loop-i.i-counter) _ c.if-is_stopped.ensures c.loop-i.invariant
 
 pub dump_items-returns : goal.dump_items-returns
 dump_items-returns t c =
-    let E = events c.args.schema.now c.args.left in let n = c.len-count.result - c.loop-i.i-counter in
-    all_done (shown c.loop-i.out) (items_events E (item_of c.args.items) (items_view c.args.items).bytes c.args.path.now n c.loop-i.i-counter) _
-    (items-none E (item_of c.args.items) (items_view c.args.items).bytes c.args.path.now n c.loop-i.i-counter (omega arith)) c.loop-i.invariant
-
-pub dump_items-loop-i-init : goal.dump_items-loop-i-init
-dump_items-loop-i-init t c =
-    let E = events c.args.schema.now c.args.left in let item = item_of c.args.items in let B = (items_view c.args.items).bytes in let path = c.args.path.now in let n = c.len-count.result in
-    let same : n - 0 ≡ n = omega arith in
-    ap (λ k. feed (shown c.put_list.new.self) (items_events E item B path k 0)) same
-    ∙ ap (λ u. feed u (items_events E item B path n 0)) c.in_ok-put_list.ensures
-    ∙ ap (λ k. feed (shown c.args.out.now) (line (list_line path k) ∷ items_events E item B path k 0)) c.len-count.ensures
+    let E = events c.args.schema.now c.args.left in let n = c.in-Ok.values.1 - c.loop-i.i-counter in
+    all_done (shown c.loop-i.out) (items_events E c.args.item (slice_bytes c.in-Ok.values.0) c.args.path.now n c.loop-i.i-counter) _
+    (items-none E c.args.item (slice_bytes c.in-Ok.values.0) c.args.path.now n c.loop-i.i-counter (omega arith)) c.loop-i.invariant
 
 pub dump_items-loop-i-preserved : goal.dump_items-loop-i-preserved
 dump_items-loop-i-preserved t c =
-    found_fed (events c.args.schema.now c.args.left) (item_of c.args.items) (items_view c.args.items).bytes c.args.path.now c.as_str.result.now c.len-count.result c.loop-i.i-counter c.in-Some.found
-    (shown c.loop-i.out) (shown c.dump_found.new.out) _ (omega arith) c.in-Some.ensures.1 (c.as_str.ensures.value ∙ c.in_ok-path.ensures.ok) c.in_ok-dump_found.ensures c.loop-i.invariant
-
-pub dump_items-returns-in-None : goal.dump_items-returns-in-None
-dump_items-returns-in-None t c = absurd (omega (arith, c.in-None.ensures, c.len-count.ensures))
+    let E = events c.args.schema.now c.args.left in let item = c.args.item in
+    let S = slice_bytes c.in-Ok.values.0 in let i = c.loop-i.i-counter in let found = c.item_found-found.result in
+    let is : IsFound item S (i * stride_of item) found
+    = subst (λ n. IsFound item S n found) (c.place_in.ensures.offset ∙ ap (λ n. i * n) c.stride_of-stride.ensures)
+    (subst (λ xs. IsFound item xs (place_offset c.place_in.result) found) c.place_in.ensures.bytes c.item_found-found.ensures) in
+    found_fed E item S c.args.path.now c.as_str.result.now c.in-Ok.values.1 i found
+    (shown c.loop-i.out) (shown c.dump_found.new.out) _ (omega arith) is (c.as_str.ensures.value ∙ c.in_ok-path.ensures.ok) c.in_ok-dump_found.ensures c.loop-i.invariant
 
 pub dump_union-returns-in-None-variant_table : goal.dump_union-returns-in-None-variant_table
 dump_union-returns-in-None-variant_table t c =
@@ -121,5 +116,5 @@ dump_unions-loop-i-preserved t c =
 pub dump_unions-returns-in-None : goal.dump_unions-returns-in-None
 dump_unions-returns-in-None t c = absurd (omega (arith, c.in-None.ensures, c.len-count.ensures))
 
-pub dump_field-returns-in-None : goal.dump_field-returns-in-None
-dump_field-returns-in-None t c = search rules
+pub dump_kind-returns-in-None : goal.dump_kind-returns-in-None
+dump_kind-returns-in-None t c = search rules
