@@ -1,88 +1,23 @@
 use crate::answers::meaning;
 use crate::view_rows::{VIEWS, View};
-use planus_commands::{Limits, Viewing, view_buffer, view_bytes};
-use planus_dump::Schema;
-use planus_inspect::dump_schema;
+use planus_commands::{Limits, Viewing, view_bytes};
+use planus_schema::Schema;
 use std::alloc::Global;
 
-const LIMITS: Limits = Limits {
-    lines: 50,
-    bytes: 2000,
-};
+/// The greatest number of lines of a view of `VIEWS`.
+const LINES: usize = 50;
 
-/// Returns the number that a hexadecimal digit is.
-fn digit_at(digits: &[u8], index: usize) -> Option<u32> {
-    (*digits.get(index)? as char).to_digit(16)
-}
+/// The greatest number of their bytes.
+const BYTES: usize = 2000;
 
-/// Returns the bytes that hexadecimal digits say.
-fn bytes_of(alloc: Global, digits: &str) -> Option<Vec<u8>> {
-    let digits = digits.as_bytes();
-    let mut bytes = Vec::new(alloc);
-    for i in 0..digits.len() / 2 {
-        let high = digit_at(digits, 2 * i)?;
-        let low = digit_at(digits, 2 * i + 1)?;
-        let byte = high.wrapping_mul(16).wrapping_add(low);
-        bytes.push(u8::try_from(byte).ok()?).ok()?;
-    }
-    Some(bytes)
-}
-
-/// Returns what a dump reads by a schema.
-fn schema_of(alloc: Global, text: &str) -> Option<Schema> {
-    let schema = meaning(alloc, &[text.as_bytes()])?.ok()?;
-    dump_schema(alloc, &schema, schema.statements.root?).ok()
-}
-
-/// Returns what is written of a buffer, and whether it is clean.
-fn view_of(alloc: Global, schema: &Schema, bytes: &[u8]) -> Option<(bool, Vec<u8>)> {
-    let mut text = Vec::new(alloc);
-    let clean = view_buffer(alloc, schema, bytes, LIMITS, &mut text).ok()?;
-    Some((clean, text))
-}
-
-/// Returns whether the buffer of a row is shown in its lines.
-fn shows(alloc: Global, row: &View) -> Option<bool> {
-    let (schema, _, digits, lines) = *row;
-    let schema = schema_of(alloc, schema)?;
-    let bytes = bytes_of(alloc, digits)?;
-    let (clean, text) = view_of(alloc, &schema, &bytes)?;
-    Some(clean && text.as_slice() == lines.as_bytes())
-}
-
-/// Returns whether the view of a buffer ends within the limits. After the lines a last one says that
-/// there is more.
-fn ends(alloc: Global, schema: &Schema, bytes: &[u8]) -> bool {
-    match view_of(alloc, schema, bytes) {
-        Some((_, text)) => text.len() <= LIMITS.bytes + LIMITS.lines + 40,
-        None => false,
-    }
-}
-
-/// Returns whether the buffer of a row is viewed with each of its bytes changed.
-fn ends_damaged(alloc: Global, row: &View) -> Option<bool> {
-    let (schema, _, digits, _) = *row;
-    let schema = schema_of(alloc, schema)?;
-    let mut bytes = bytes_of(alloc, digits)?;
-    for at in 0..bytes.len() {
-        let byte = bytes[at];
-        for change in [1, 127, 255] {
-            bytes[at] = byte ^ change;
-            if !ends(alloc, &schema, &bytes) {
-                return Some(false);
-            }
-        }
-        bytes[at] = byte;
-    }
-    Some(true)
-}
-
-/// A file with buffers of `table T { x: int; } root_type T; file_identifier "ABCD";`: whether each is
-/// after its size, its bytes in hexadecimal digits, the greatest number of lines, the exit status, and
-/// what is written on standard output and on standard error. `flatc -b` made the buffer with x = 7, and
-/// `flatc -b --size-prefixed` that after its size.
+/// A file: whether each buffer is after its size, its bytes in hexadecimal digits, the greatest
+/// number of lines, the exit status, and what is written on standard output and standard error.
 type File = (bool, &'static str, usize, u8, &'static str, &'static str);
 
+/// The schema of `FILES`.
+const FILES_SCHEMA: &str = "table T { x: int; } root_type T; file_identifier \"ABCD\";";
+
+/// `flatc -b` made the buffer with x = 7, and `flatc -b --size-prefixed` that after its size.
 const FILES: [File; 6] = [
     (
         false,
@@ -129,39 +64,104 @@ const FILES: [File; 6] = [
     (true, "", 9, 0, "", ""),
 ];
 
-/// Returns whether a file is viewed as its row says.
-fn is_viewed(alloc: Global, file: &File) -> Option<bool> {
-    let (size_prefixed, digits, lines, status, written, told) = *file;
-    let text = b"table T { x: int; } root_type T; file_identifier \"ABCD\";";
-    let schema = meaning(alloc, &[text])?.ok()?;
+/// Returns the number that a hexadecimal digit is.
+fn digit_at(digits: &[u8], index: usize) -> Option<u32> {
+    (*digits.get(index)? as char).to_digit(16)
+}
+
+/// Returns the bytes that hexadecimal digits say.
+fn bytes_of(alloc: Global, digits: &str) -> Option<Vec<u8>> {
+    let digits = digits.as_bytes();
+    let mut bytes = Vec::new(alloc);
+    for i in 0..digits.len() / 2 {
+        let high = digit_at(digits, 2 * i)?;
+        let low = digit_at(digits, 2 * i + 1)?;
+        let byte = high.wrapping_mul(16).wrapping_add(low);
+        bytes.push(u8::try_from(byte).ok()?).ok()?;
+    }
+    Some(bytes)
+}
+
+/// Returns a schema and the bytes of a file.
+fn read(alloc: Global, schema: &str, digits: &str) -> Option<(Schema, Vec<u8>)> {
+    let schema = meaning(alloc, &[schema.as_bytes()])?.ok()?;
+    Some((schema, bytes_of(alloc, digits)?))
+}
+
+/// Returns the exit status of a view, and what is written on standard output and on standard error.
+fn view(
+    alloc: Global,
+    schema: &Schema,
+    size_prefixed: bool,
+    lines: usize,
+    bytes: &[u8],
+) -> Option<(u8, Vec<u8>, Vec<u8>)> {
     let how = Viewing {
         root: schema.statements.root?,
         size_prefixed,
-        limits: Limits { lines, bytes: 99 },
+        limits: Limits {
+            lines,
+            bytes: BYTES,
+        },
     };
-    let bytes = bytes_of(alloc, digits)?;
     let mut writer = Vec::new(alloc);
     let mut errors = Vec::new(alloc);
-    let ended = view_bytes(alloc, &schema, how, "f", &bytes, &mut writer, &mut errors);
+    let status = view_bytes(alloc, schema, how, "f", bytes, &mut writer, &mut errors).ok()?;
+    Some((status, writer, errors))
+}
+
+/// Returns whether a file is viewed as its row says.
+fn is_viewed(alloc: Global, schema: &str, file: &File) -> Option<bool> {
+    let (size_prefixed, digits, lines, status, written, told) = *file;
+    let (schema, bytes) = read(alloc, schema, digits)?;
+    let (ended, writer, errors) = view(alloc, &schema, size_prefixed, lines, &bytes)?;
     Some(
-        ended == Ok(status)
+        ended == status
             && writer.as_slice() == written.as_bytes()
             && errors.as_slice() == told.as_bytes(),
     )
 }
 
+/// Returns whether the buffer of a row is shown in its lines, and nothing is wrong.
+fn shows(alloc: Global, row: &View) -> bool {
+    let (schema, _, digits, lines) = *row;
+    is_viewed(alloc, schema, &(false, digits, LINES, 0, lines, "")) == Some(true)
+}
+
+/// Returns whether the view of a buffer ends within the limits. After the lines a last one says
+/// that there is more.
+fn ends(alloc: Global, schema: &Schema, bytes: &[u8]) -> bool {
+    match view(alloc, schema, false, LINES, bytes) {
+        Some((_, text, _)) => text.len() <= BYTES + LINES + 40,
+        None => false,
+    }
+}
+
+/// Returns whether the buffer of a row is viewed with each of its bytes changed.
+fn ends_damaged(alloc: Global, row: &View) -> Option<bool> {
+    let (schema, _, digits, _) = *row;
+    let (schema, mut bytes) = read(alloc, schema, digits)?;
+    for at in 0..bytes.len() {
+        let byte = bytes[at];
+        for change in [1, 127, 255] {
+            bytes[at] = byte ^ change;
+            if !ends(alloc, &schema, &bytes) {
+                return Some(false);
+            }
+        }
+        bytes[at] = byte;
+    }
+    Some(true)
+}
+
 #[test]
 fn files(rt: HostRuntime) {
-    assert!(rt;
-        FILES
-            .iter()
-            .all(|file| is_viewed(rt.alloc(), file) == Some(true))
-    );
+    assert!(rt; FILES.iter().all(|file| is_viewed(rt.alloc(), FILES_SCHEMA, file) == Some(true)));
 }
 
 #[test]
 fn views(rt: HostRuntime) {
-    assert!(rt; VIEWS.iter().all(|row| shows(rt.alloc(), row) == Some(true)));
+    assert!(rt; VIEWS.iter().all(|row| shows(rt.alloc(), row)));
 }
 
 #[test]
