@@ -1,6 +1,6 @@
 -- What is written of a buffer.
 use Rattle.std.specs.Prelude.{◌≡◌, ℕ, ◌&&◌, not, Bool, true, false, List, [], ◌∷◌, ◌++◌, map}
-use Rattle.std.specs.Prelude.{codes, Ok, Option, take, length, ◌<◌}
+use Rattle.std.specs.Prelude.{codes, Ok, Option, take, length, ◌<◌, ◌+◌, ◌⊎◌}
 use Rattle.std.specs.Int.{from_le_bytes, w32}
 use Rattle.std.specs.List.{flat_map, list_any}
 use Rattle.std.specs.String.{string_bytes}
@@ -62,3 +62,7 @@ pub record SplitsSized (bytes buffer rest : List ℕ) : Type 0 where
   pub size : from_le_bytes w32 (take 4 bytes) ≡ length buffer
   pub parts : bytes ≡ take 4 bytes ++ (buffer ++ rest)
   pub shorter : length rest < length bytes
+
+-- the bytes end in the size, or before the buffer does
+abbrev pub EndsEarly : List ℕ → Type 0
+EndsEarly bytes = (length bytes < 4) ⊎ (length bytes < 4 + from_le_bytes w32 (take 4 bytes))

@@ -1,7 +1,7 @@
 //! The command `view`: a schema, and what a buffer holds by it.
 
-ghost use Rattle.std.specs.Prelude.{IfSome};
-ghost use Rattle.planus_commands.specs.Viewing.{SplitsSized};
+ghost use Rattle.std.specs.Prelude.{MatchOption};
+ghost use Rattle.planus_commands.specs.Viewing.{SplitsSized, EndsEarly};
 
 use crate::arguments::{Words, number_of};
 use crate::checking::resolve_or_report;
@@ -91,7 +91,7 @@ fn check_identifier<X: Write>(
         &[
             "planus: ",
             name,
-            " has not the identifier `",
+            " doesn't have the identifier `",
             identifier,
             "`",
         ],
@@ -99,9 +99,11 @@ fn check_identifier<X: Write>(
     Ok(false)
 }
 
-/// Returns the first of some buffers, each after its size, and what follows it.
+/// Returns the first of some buffers, each after its size, and what follows it, or `None` where the
+/// bytes end before.
 fn split_sized(bytes: &[u8]) -> Option<(&[u8], &[u8])>
-    ensures { IfSome result (λ parts. SplitsSized bytes.now parts.0.now parts.1.now) }
+    ensures { MatchOption result (EndsEarly bytes.now)
+        (λ parts. SplitsSized bytes.now parts.0.now parts.1.now) }
 {
     let (head, rest) = bytes.split_first_chunk::<4>()?;
     let size = u32::from_le_bytes(*head) as usize;

@@ -33,7 +33,7 @@ const FILES: [File; 6] = [
         9,
         1,
         "root: table T\nroot.x = 7\n",
-        "planus: f has not the identifier `ABCD`\n",
+        "planus: f doesn't have the identifier `ABCD`\n",
     ),
     (
         false,
