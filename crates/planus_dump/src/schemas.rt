@@ -2,7 +2,7 @@
 
 /// The types of a format, and which table is a buffer's root. A name is one or more ASCII letters,
 /// digits and `_`.
-#[derive(Drop)]
+#[derive(Debug, Drop)]
 pub struct Schema {
     /// The tables, which items name by their indices here.
     pub tables: Vec<TableSchema>,
@@ -18,7 +18,7 @@ pub struct Schema {
 }
 
 /// A table.
-#[derive(Drop)]
+#[derive(Debug, Drop)]
 pub struct TableSchema {
     /// Its name.
     pub name: String,
@@ -27,7 +27,7 @@ pub struct TableSchema {
 }
 
 /// A field of a table.
-#[derive(Drop)]
+#[derive(Debug, Drop)]
 pub struct FieldSchema {
     /// Its slot in the vtable, from 0 on. A union or a union vector has this slot and the next.
     pub slot: usize,
@@ -40,7 +40,7 @@ pub struct FieldSchema {
 }
 
 /// An enum.
-#[derive(Drop)]
+#[derive(Debug, Drop)]
 pub struct EnumSchema {
     /// The type of its numbers.
     pub number: Number,
@@ -51,7 +51,7 @@ pub struct EnumSchema {
 }
 
 /// A struct.
-#[derive(Drop)]
+#[derive(Debug, Drop)]
 pub struct StructSchema {
     /// Its name.
     pub name: String,
@@ -62,7 +62,7 @@ pub struct StructSchema {
 }
 
 /// A field of a struct.
-#[derive(Drop)]
+#[derive(Debug, Drop)]
 pub struct StructFieldSchema {
     /// Its distance from the first byte of the struct, in bytes.
     pub distance: usize,
@@ -73,7 +73,7 @@ pub struct StructFieldSchema {
 }
 
 /// How a field is read.
-#[derive(Clone, Copy)]
+#[derive(Clone, Copy, Debug)]
 pub enum Kind {
     /// One item.
     One(Item),
@@ -99,7 +99,7 @@ pub enum Kind {
 }
 
 /// What can be an item of a vector.
-#[derive(Clone, Copy)]
+#[derive(Clone, Copy, Debug)]
 pub enum Item {
     /// An unsigned number of 2 bytes.
     U16,
@@ -122,7 +122,7 @@ pub enum Item {
 }
 
 /// A value of a fixed size, which stands in a table, a struct or a vector itself.
-#[derive(Clone, Copy)]
+#[derive(Clone, Copy, Debug)]
 pub enum Fixed {
     /// An integer.
     Number(Number),
@@ -139,7 +139,7 @@ pub enum Fixed {
 }
 
 /// An integer type.
-#[derive(Clone, Copy)]
+#[derive(Clone, Copy, Debug)]
 pub enum Number {
     /// An unsigned number of one byte.
     U8,
