@@ -9,3 +9,4 @@ pub mod Again
 pub mod Composed
 pub mod Placed
 pub mod Whole
+pub mod Steps
