@@ -242,7 +242,6 @@ fn label_at(alloc: Global, tokens: &[Token]) -> Result<(Label, &[Token]), ReadEr
     }
 }
 
-#[tactic(auto, unfolding(crate::specs::Reading::dotted_at))]
 fn dotted_at(alloc: Global, tokens: &[Token]) -> Result<(Vec<u8>, &[Token]), ReadError>
     ensures { Gives (λ x. (x.0.items, pieces_of x.1.now)) result
         (dotted_at_lem (pieces_of tokens.now)) }
@@ -266,7 +265,6 @@ fn dotted(alloc: Global, tokens: &[Token]) -> Result<(Vec<Vec<u8>>, &[Token]), R
 }
 
 /// Reads a name of one or more words.
-#[tactic(auto, unfolding(crate::specs::Reading::path_at))]
 fn path_at(alloc: Global, tokens: &[Token]) -> Result<(Path, &[Token]), ReadError>
     ensures { Gives (λ x. (path_of x.0, pieces_of x.1.now)) result
         (path_at_lem (pieces_of tokens.now)) }
@@ -284,7 +282,6 @@ fn path_at(alloc: Global, tokens: &[Token]) -> Result<(Path, &[Token]), ReadErro
 }
 
 /// Reads a type.
-#[tactic(auto, unfolding(crate::specs::Reading::kind_at))]
 fn kind_at(alloc: Global, tokens: &[Token]) -> Result<(Kind, &[Token]), ReadError>
     ensures { Gives (λ x. (kind_of x.0, pieces_of x.1.now)) result
         (kind_at_lem (pieces_of tokens.now)) }
@@ -301,7 +298,6 @@ fn kind_at(alloc: Global, tokens: &[Token]) -> Result<(Kind, &[Token]), ReadErro
 }
 
 /// Reads `[]`.
-#[tactic(auto, unfolding(crate::specs::Reading::brackets_at))]
 fn brackets_at(tokens: &[Token]) -> Result<(Literal, &[Token]), ReadError>
     ensures { Gives (λ x. (literal_of x.0, pieces_of x.1.now)) result
         (brackets_at_lem (pieces_of tokens.now)) }
@@ -311,7 +307,6 @@ fn brackets_at(tokens: &[Token]) -> Result<(Literal, &[Token]), ReadError>
     Ok((Literal::EmptyVector, rest))
 }
 
-#[tactic(auto, unfolding(crate::specs::Reading::name_at))]
 fn name_at(alloc: Global, tokens: &[Token]) -> Result<(Literal, &[Token]), ReadError>
     ensures { Gives (λ x. (literal_of x.0, pieces_of x.1.now)) result
         (name_at_lem (pieces_of tokens.now)) }
@@ -342,7 +337,6 @@ fn literal_at(alloc: Global, tokens: &[Token]) -> Result<(Literal, &[Token]), Re
 }
 
 /// Reads a value after this mark, if the mark stands first.
-#[tactic(auto, unfolding(crate::specs::Reading::optional_at))]
 fn literal_after(
     alloc: Global,
     mark: u8,
@@ -361,7 +355,6 @@ fn literal_after(
 }
 
 /// Reads the value of a variant, if it has one.
-#[tactic(auto, unfolding(crate::specs::Reading::optional_at))]
 fn value_at(alloc: Global, tokens: &[Token]) -> Result<(Option<Vec<u8>>, &[Token]), ReadError>
     ensures { Gives (λ x. (digits_of x.0, pieces_of x.1.now)) result
         (optional_at 61 number_at_lem (pieces_of tokens.now)) }
@@ -376,7 +369,6 @@ fn value_at(alloc: Global, tokens: &[Token]) -> Result<(Option<Vec<u8>>, &[Token
 }
 
 /// Reads what an alias stands for, if a member is one.
-#[tactic(auto, unfolding(crate::specs::Reading::optional_at))]
 fn target_at(alloc: Global, tokens: &[Token]) -> Result<(Option<Path>, &[Token]), ReadError>
     ensures { Gives (λ x. (option_map path_of x.0, pieces_of x.1.now)) result
         (optional_at 58 path_at_lem (pieces_of tokens.now)) }
@@ -391,7 +383,6 @@ fn target_at(alloc: Global, tokens: &[Token]) -> Result<(Option<Path>, &[Token])
 }
 
 /// Reads an attribute.
-#[tactic(auto, unfolding(crate::specs::Reading::attribute_at))]
 fn attribute_at(alloc: Global, tokens: &[Token]) -> Result<(Attribute, &[Token]), ReadError>
     ensures { Gives (λ x. (attribute_of x.0, pieces_of x.1.now)) result
         (attribute_at_lem (pieces_of tokens.now)) }
@@ -401,7 +392,6 @@ fn attribute_at(alloc: Global, tokens: &[Token]) -> Result<(Attribute, &[Token])
     Ok((Attribute { label, value }, rest))
 }
 
-#[tactic(auto, unfolding(crate::specs::Reading::next_attribute_at))]
 fn next_attribute_at(alloc: Global, tokens: &[Token]) -> Result<(Attribute, &[Token]), ReadError>
     ensures { Gives (λ x. (attribute_of x.0, pieces_of x.1.now)) result
         (next_attribute_at_lem (pieces_of tokens.now)) }
@@ -462,7 +452,6 @@ fn docs_at(alloc: Global, tokens: &[Token]) -> Result<(Vec<Vec<u8>>, &[Token]), 
 }
 
 /// Reads a field.
-#[tactic(auto, unfolding(crate::specs::Reading::field_at))]
 fn field_at(alloc: Global, tokens: &[Token]) -> Result<(Field, &[Token]), ReadError>
     ensures { Gives (λ x. (field_of x.0, pieces_of x.1.now)) result
         (field_at_lem (pieces_of tokens.now)) }
@@ -502,7 +491,6 @@ fn fields(alloc: Global, tokens: &[Token]) -> Result<(Vec<Field>, &[Token]), Rea
 }
 
 /// Reads a table or a struct, from its name on.
-#[tactic(auto, unfolding(crate::specs::Reading::record_at))]
 fn record_at(alloc: Global, tokens: &[Token]) -> Result<(Record, &[Token]), ReadError>
     ensures { Gives (λ x. (record_of x.0, pieces_of x.1.now)) result
         (record_at_lem (pieces_of tokens.now)) }
@@ -523,7 +511,6 @@ fn record_at(alloc: Global, tokens: &[Token]) -> Result<(Record, &[Token]), Read
 }
 
 /// Reads a comma, if there is one.
-#[tactic(auto, unfolding(crate::specs::Reading::comma_at))]
 fn comma_at(tokens: &[Token]) -> Result<(bool, &[Token]), ReadError>
     ensures { Gives (λ x. (x.0, pieces_of x.1.now)) result (comma_at_lem (pieces_of tokens.now)) }
 {
@@ -536,7 +523,6 @@ fn comma_at(tokens: &[Token]) -> Result<(bool, &[Token]), ReadError>
 }
 
 /// Reads a variant of an enum.
-#[tactic(auto, unfolding(crate::specs::Reading::variant_at))]
 fn variant_at(alloc: Global, tokens: &[Token]) -> Result<(Variant, &[Token]), ReadError>
     ensures { Gives (λ x. (variant_of x.0, pieces_of x.1.now)) result
         (variant_at_lem (pieces_of tokens.now)) }
@@ -555,7 +541,6 @@ fn variant_at(alloc: Global, tokens: &[Token]) -> Result<(Variant, &[Token]), Re
     ))
 }
 
-#[tactic(auto, unfolding(crate::specs::Reading::next_variant_at))]
 fn next_variant_at(alloc: Global, tokens: &[Token]) -> Result<(Variant, &[Token]), ReadError>
     ensures { Gives (λ x. (variant_of x.0, pieces_of x.1.now)) result
         (next_variant_at_lem (pieces_of tokens.now)) }
@@ -584,7 +569,6 @@ fn more_variants(
     Ok((items, rest))
 }
 
-#[tactic(auto, unfolding(crate::specs::Reading::variants_at))]
 fn variants_at(alloc: Global, tokens: &[Token]) -> Result<(Vec<Variant>, &[Token]), ReadError>
     ensures { Gives (λ x. (map variant_of x.0.items, pieces_of x.1.now)) result
         (variants_at_lem (pieces_of tokens.now)) }
@@ -594,7 +578,6 @@ fn variants_at(alloc: Global, tokens: &[Token]) -> Result<(Vec<Variant>, &[Token
 }
 
 /// Reads an enum, from its name on.
-#[tactic(auto, unfolding(crate::specs::Reading::enumeration_at))]
 fn enumeration_at(alloc: Global, tokens: &[Token]) -> Result<(Enumeration, &[Token]), ReadError>
     ensures { Gives (λ x. (enumeration_of x.0, pieces_of x.1.now)) result
         (enumeration_at_lem (pieces_of tokens.now)) }
@@ -620,7 +603,6 @@ fn enumeration_at(alloc: Global, tokens: &[Token]) -> Result<(Enumeration, &[Tok
 }
 
 /// Reads a member of a union.
-#[tactic(auto, unfolding(crate::specs::Reading::member_at))]
 fn member_at(alloc: Global, tokens: &[Token]) -> Result<(Member, &[Token]), ReadError>
     ensures { Gives (λ x. (member_of x.0, pieces_of x.1.now)) result
         (member_at_lem (pieces_of tokens.now)) }
@@ -640,7 +622,6 @@ fn member_at(alloc: Global, tokens: &[Token]) -> Result<(Member, &[Token]), Read
     ))
 }
 
-#[tactic(auto, unfolding(crate::specs::Reading::next_member_at))]
 fn next_member_at(alloc: Global, tokens: &[Token]) -> Result<(Member, &[Token]), ReadError>
     ensures { Gives (λ x. (member_of x.0, pieces_of x.1.now)) result
         (next_member_at_lem (pieces_of tokens.now)) }
@@ -669,7 +650,6 @@ fn more_members(
     Ok((items, rest))
 }
 
-#[tactic(auto, unfolding(crate::specs::Reading::members_at))]
 fn members_at(alloc: Global, tokens: &[Token]) -> Result<(Vec<Member>, &[Token]), ReadError>
     ensures { Gives (λ x. (map member_of x.0.items, pieces_of x.1.now)) result
         (members_at_lem (pieces_of tokens.now)) }
@@ -679,7 +659,6 @@ fn members_at(alloc: Global, tokens: &[Token]) -> Result<(Vec<Member>, &[Token])
 }
 
 /// Reads a union, from its name on.
-#[tactic(auto, unfolding(crate::specs::Reading::union_at))]
 fn union_at(alloc: Global, tokens: &[Token]) -> Result<(UnionBody, &[Token]), ReadError>
     ensures { Gives (λ x. (union_of x.0, pieces_of x.1.now)) result
         (union_at_lem (pieces_of tokens.now)) }
@@ -702,7 +681,6 @@ fn union_at(alloc: Global, tokens: &[Token]) -> Result<(UnionBody, &[Token]), Re
 }
 
 /// Reads a method of a service.
-#[tactic(auto, unfolding(crate::specs::Reading::method_at))]
 fn method_at(alloc: Global, tokens: &[Token]) -> Result<(Method, &[Token]), ReadError>
     ensures { Gives (λ x. (method_of x.0, pieces_of x.1.now)) result
         (method_at_lem (pieces_of tokens.now)) }
@@ -743,7 +721,6 @@ fn methods(alloc: Global, tokens: &[Token]) -> Result<(Vec<Method>, &[Token]), R
 }
 
 /// Reads a service, from its name on.
-#[tactic(auto, unfolding(crate::specs::Reading::service_at))]
 fn service_at(alloc: Global, tokens: &[Token]) -> Result<(Service, &[Token]), ReadError>
     ensures { Gives (λ x. (service_of x.0, pieces_of x.1.now)) result
         (service_at_lem (pieces_of tokens.now)) }
@@ -756,7 +733,6 @@ fn service_at(alloc: Global, tokens: &[Token]) -> Result<(Service, &[Token]), Re
 }
 
 /// Reads a string and a semicolon.
-#[tactic(auto, unfolding(crate::specs::Reading::quoted_at))]
 fn quoted_at(alloc: Global, tokens: &[Token]) -> Result<(Vec<u8>, &[Token]), ReadError>
     ensures { Gives (λ x. (x.0.items, pieces_of x.1.now)) result
         (quoted_at_lem (pieces_of tokens.now)) }
@@ -767,7 +743,6 @@ fn quoted_at(alloc: Global, tokens: &[Token]) -> Result<(Vec<u8>, &[Token]), Rea
 }
 
 /// Reads a name and a semicolon.
-#[tactic(auto, unfolding(crate::specs::Reading::rooted_at))]
 fn rooted_at(alloc: Global, tokens: &[Token]) -> Result<(Path, &[Token]), ReadError>
     ensures { Gives (λ x. (path_of x.0, pieces_of x.1.now)) result
         (rooted_at_lem (pieces_of tokens.now)) }
@@ -778,7 +753,6 @@ fn rooted_at(alloc: Global, tokens: &[Token]) -> Result<(Path, &[Token]), ReadEr
 }
 
 /// Reads the name of a namespace, or none, and a semicolon.
-#[tactic(auto, unfolding(crate::specs::Reading::namespace_at))]
 fn namespace_at(alloc: Global, tokens: &[Token]) -> Result<(Option<Path>, &[Token]), ReadError>
     ensures { Gives (λ x. (option_map path_of x.0, pieces_of x.1.now)) result
         (namespace_at_lem (pieces_of tokens.now)) }
@@ -793,7 +767,6 @@ fn namespace_at(alloc: Global, tokens: &[Token]) -> Result<(Option<Path>, &[Toke
 }
 
 /// Reads the name of an attribute and a semicolon.
-#[tactic(auto, unfolding(crate::specs::Reading::declared_at))]
 fn declared_at(alloc: Global, tokens: &[Token]) -> Result<(Label, &[Token]), ReadError>
     ensures { Gives (λ x. (label_of x.0, pieces_of x.1.now)) result
         (declared_at_lem (pieces_of tokens.now)) }
@@ -810,7 +783,6 @@ fn is_word(word: &[u8], sought: &[u8]) -> bool
 }
 
 /// Reads a statement, from after its first word; `left` counts the tokens from that word on.
-#[tactic(auto, unfolding(crate::specs::Reading::statement_at))]
 fn statement_at<'a>(
     alloc: Global,
     key: &[u8],
@@ -847,7 +819,6 @@ fn statement_at<'a>(
 }
 
 /// Reads an item, from after its first word.
-#[tactic(auto, unfolding(crate::specs::Reading::item_at))]
 fn item_at<'a>(
     alloc: Global,
     key: &[u8],
@@ -878,7 +849,6 @@ fn item_at<'a>(
 }
 
 /// Reads a declaration.
-#[tactic(auto, unfolding(crate::specs::Reading::declaration_at))]
 fn declaration_at(alloc: Global, tokens: &[Token]) -> Result<(Declaration, &[Token]), ReadError>
     ensures { Gives (λ x. (declaration_of x.0, pieces_of x.1.now)) result
         (declaration_at_lem (pieces_of tokens.now)) }
