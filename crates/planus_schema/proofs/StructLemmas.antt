@@ -1,19 +1,21 @@
 -- One more field.
-use Rattle.std.proofs.Common.{◌≡◌, ℕ, ◌+◌, ◌<◌, max, Bool, true, false, List, [], ◌∷◌, ◌++◌, length, map, take, drop, get_or, suc, add-one, drop-cons, refl, sym, ap, subst, ◌∙◌, arith}
+use Rattle.std.proofs.Common.{◌≡◌, ℕ, ◌+◌, ◌<◌, ◌≤◌, max, Bool, true, false, List, [], ◌∷◌, ◌++◌, length, map, take, drop, get_or, suc, add-one, drop-cons, refl, sym, ap, subst, ◌∙◌, arith}
 use Rattle.std.proofs.lemmas.List.{map_push}
 use Rattle.std.proofs.lemmas.List.Sums.{fold-append}
+use Rattle.std.proofs.lemmas.Bool.{le-leb, lt-leb}
 use Rattle.planus_layout.specs.declared.schema.StructField.{StructField}
 use Rattle.std.proofs.lemmas.Grind.{common_steps}
-use Rattle.std.specs.Prelude.{Option, None}
-use Rattle.planus_syntax.specs.Values.{Name}
+use Rattle.std.specs.Prelude.{Option, Some, None, not, nat_le}
+use Rattle.planus_syntax.specs.Values.{Name, kind_of}
 use Rattle.planus_syntax.specs.declared.value.Field.{Field}
 use Rattle.planus_layout.specs.declared.measure.Measure.{Measure}
+use Rattle.planus_layout.specs.declared.schema.Base.{Base}
 use Rattle.planus_schema.specs.declared.fault.Problem.TheVariants as problem
 use Rattle.planus_schema.specs.declared.fault.Stop.{Stop}
 use Rattle.planus_schema.specs.declared.fault.Stop.TheVariants as stop
-use Rattle.planus_schema.specs.Names.{HeadV}
-use Rattle.planus_schema.specs.Wrong.{Broken, when, Stops}
-use Rattle.planus_schema.specs.WrongStructs.{wrong_struct_field, wrong_struct_fields, end_of, end_after, greatest_after, alignment_in, field_measure}
+use Rattle.planus_schema.specs.Names.{HeadV, type_named}
+use Rattle.planus_schema.specs.Wrong.{Broken, broken, when, first, Stops}
+use Rattle.planus_schema.specs.WrongStructs.{wrong_plain, wrong_measure, wrong_type, measure_among, measure_in_type, wrong_struct_field, wrong_struct_fields, end_of, end_after, greatest_after, alignment_in, field_measure}
 use Rattle.planus_schema.proofs.FaultLemmas.{skip, passes, stops_first, stops_next, stops_now}
 use Rattle.planus_layout.specs.Distinct.{Each2, Takes, IsAdded, is_in}
 use Rattle.planus_layout.specs.Layouts.{IsNext, Laid, greatest_alignment}
@@ -71,3 +73,24 @@ end_next hs space ms at fs d ds all at' here same end = rw end (ap (end_after hs
 
 pub greatest_next : (hs : List HeadV) (space : List Name) (ms : List (Option Measure)) (n : ℕ) (fs : List Field) (d : Field) (ds : List Field) (all m n' : ℕ) → fs ≡ d ∷ ds → greatest_after hs space ms n fs ≡ all → n' ≡ max n m → m ≡ alignment_in (field_measure hs space ms d) → greatest_after hs space ms n' ds ≡ all
 greatest_next hs space ms n fs d ds all m n' here same e is = rw (e, is) (ap (greatest_after hs space ms n) (sym here) ∙ same)
+
+-- ---- one field, whose type is known
+
+pub field_known : (hs : List HeadV) (space : List Name) (ms : List (Option Measure)) (at : ℕ) (f : Field) (b : Base) → wrong_plain hs space f ≡ None → type_named hs space (kind_of f.kind) ≡ Some (record { vector = false; base = b }) → wrong_struct_field hs space ms at f ≡ first (wrong_measure b f.left (measure_among ms b)) (when (not (nat_le (end_of at (measure_among ms b)) 65535)) problem.StructTooLarge f.left)
+field_known hs space ms at f b p t = skip (wrong_plain hs space f) _ p ∙ ap (wrong_type ms at f.left) t
+
+pub measure_known : (hs : List HeadV) (space : List Name) (ms : List (Option Measure)) (f : Field) (b : Base) (m : Measure) → type_named hs space (kind_of f.kind) ≡ Some (record { vector = false; base = b }) → measure_among ms b ≡ Some m → field_measure hs space ms f ≡ Some m
+measure_known hs space ms f b m t a = ap (measure_in_type ms) t ∙ a
+
+-- it ends within a struct, or not
+pub ends_within : (at end left : ℕ) (o : Option Measure) (m : Measure) → o ≡ Some m → end ≡ end_of at (Some m) → end ≤ 65535 → when (not (nat_le (end_of at o) 65535)) problem.StructTooLarge left ≡ None
+ends_within at end left o m e is h =
+    ap (λ x. when (not (nat_le (end_of at x) 65535)) problem.StructTooLarge left) e
+    ∙ ap (λ n. when (not (nat_le n 65535)) problem.StructTooLarge left) (sym is)
+    ∙ ap (λ b. when (not b) problem.StructTooLarge left) (le-leb end 65535 h)
+
+pub ends_after : (at end left : ℕ) (o : Option Measure) (m : Measure) → o ≡ Some m → end ≡ end_of at (Some m) → 65535 < end → when (not (nat_le (end_of at o) 65535)) problem.StructTooLarge left ≡ broken problem.StructTooLarge left
+ends_after at end left o m e is h =
+    ap (λ x. when (not (nat_le (end_of at x) 65535)) problem.StructTooLarge left) e
+    ∙ ap (λ n. when (not (nat_le n 65535)) problem.StructTooLarge left) (sym is)
+    ∙ ap (λ b. when (not b) problem.StructTooLarge left) (lt-leb end 65535 h)

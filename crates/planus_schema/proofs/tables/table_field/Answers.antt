@@ -1,6 +1,8 @@
-use Rattle.std.proofs.Common.{sym, subst, ◌∙◌, map}
+use Rattle.std.proofs.Common.{sym, ap, subst, ◌∙◌, map}
+use Rattle.std.specs.Prelude.{codes}
+use Rattle.planus_syntax.specs.Values.{names_of, attribute_of}
 use Rattle.std.proofs.lemmas.Result.{err_from_is_err_and}
-use Rattle.planus_schema.specs.Names.{head_of, space_of}
+use Rattle.planus_schema.specs.Names.{head_of, space_of, has}
 use Rattle.planus_schema.specs.Wrong.{Stops}
 use Rattle.planus_schema.proofs.FaultLemmas.{stops_first, stops_next}
 use Rattle.planus_schema.proofs.TableLemmas.{typed_is, law_left, law_is}
@@ -44,3 +46,25 @@ returns-clause-wrong c =
     let law = law_left (map head_of c.args.heads.now) (space_of c.args.space) c.args.ids c.args.next c.args.field.now c.in_ok-kind.kind c.in_ok-slot.ensures.wrong c.in_ok-default.ensures.wrong (rw c.deref.ensures.value at c.in_ok-nested.ensures.wrong) in
     let same = law_is c.args.field.now c.in_ok-kind.kind _ _ _ c.deref-5.result.now c.deref.result.now c.is_required.ensures c.has-2.ensures c.deref-5.ensures.value c.in_ok-nested.ensures.set c.deref.ensures.value in
     typed ∙ law ∙ sym same ∙ c.in_ok-check_lawful.ensures.wrong
+
+pub returns-clause-says : goal.returns-clause-says
+returns-clause-says c = record {
+  name = c.in_ok-name.ensures.items ∙ c.deref-2.ensures.value;
+  docs = c.in_ok-docs.ensures ∙ ap names_of c.deref-3.ensures.value;
+  kind = c.in_ok-kind.ensures.named;
+  id = c.in_ok-slot.ensures.id;
+  default = c.in_ok-default.ensures.value;
+  required = c.is_required.ensures;
+  deprecated = c.has.ensures ∙ ap (λ set. has (codes "deprecated") (map attribute_of set)) c.deref-4.ensures.value;
+  key = c.has-2.ensures ∙ ap (λ set. has (codes "key") (map attribute_of set)) c.deref-5.ensures.value;
+  nested = rw c.deref.ensures.value at c.in_ok-nested.ensures.says;
+}
+
+pub returns-clause-order : goal.returns-clause-order
+returns-clause-order c = c.in_ok-slot.ensures.order
+
+pub returns-clause-lawful : goal.returns-clause-lawful
+returns-clause-lawful c = c.in_ok-check_lawful.ensures.lawful
+
+pub returns-clause-slot : goal.returns-clause-slot
+returns-clause-slot c = c.in_ok-slot.ensures.slot

@@ -1,0 +1,24 @@
+use Rattle.std.proofs.Common.{◌≡◌, map, ap, sym, subst, ◌∙◌}
+use Rattle.std.specs.Prelude.{nat_eq}
+use Rattle.planus_schema.specs.Names.{head_of, space_of}
+use Rattle.planus_schema.specs.Wrong.{Tells}
+use Rattle.planus_schema.specs.Unions.{tag_in}
+use Rattle.planus_schema.proofs.UnionLemmas.{tags_any, tag_missing, tag_used, tag_free}
+use Rattle.planus_schema.proofs.unions.next_member.Goals as goal
+
+pub returns-in-None-clause-wrong : goal.returns-in-None-clause-wrong
+returns-in-None-clause-wrong c =
+    rw c.wrong.ensures (tag_missing (map head_of c.args.heads.now) (space_of c.args.space) c.args.previous (map tag_in c.args.members.now) c.args.declared.now (sym c.in-None.ensures.said))
+
+pub returns-then-has_tag-clause-wrong : goal.returns-then-has_tag-clause-wrong
+returns-then-has_tag-clause-wrong c =
+    rw c.wrong-then-has_tag.ensures (tag_used (map head_of c.args.heads.now) (space_of c.args.space) c.args.previous (map tag_in c.args.members.now) c.args.declared.now _ (sym c.in-Some.ensures.said)
+    (tags_any c.args.members.now _ ∙ sym c.has_tag.ensures ∙ c.if-has_tag.true))
+
+pub returns-clause-says : goal.returns-clause-says
+returns-clause-says c = c.member.ensures.says
+
+pub returns-clause-wrong : goal.returns-clause-wrong
+returns-clause-wrong c =
+    subst (λ o. Tells o c.member.result) (sym (tag_free (map head_of c.args.heads.now) (space_of c.args.space) c.args.previous (map tag_in c.args.members.now) c.args.declared.now _ (sym c.in-Some.ensures.said)
+    (tags_any c.args.members.now _ ∙ sym c.has_tag.ensures ∙ c.if-has_tag.false))) c.member.ensures.wrong
