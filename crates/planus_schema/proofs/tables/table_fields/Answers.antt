@@ -5,7 +5,7 @@ use Rattle.std.proofs.lemmas.List.{append-nil, take_all, drop_all}
 use Rattle.planus_layout.specs.Distinct.{AreDistinct}
 use Rattle.planus_layout.specs.Slots.{slots_taken}
 use Rattle.planus_syntax.specs.Values.{names_of, field_of}
-use Rattle.std.proofs.lemmas.Bool.Decides.{nat_tests}
+use Rattle.std.proofs.lemmas.Bool.{le-leb, lt-leb}
 use Rattle.planus_schema.specs.Tables.{all_names, names_taken}
 use Rattle.planus_layout.proofs.NameLemmas.{no_names}
 use Rattle.planus_schema.proofs.StructLemmas.{each2_push, map_next, drop_next}
@@ -38,7 +38,7 @@ fields-preserved c =
     let r = drop_next c.args.declared.now c.fields.declaration-index c.declaration-item.result (omega arith) c.declaration-item.is in
     let a = c.in_ok-add_names.ensures.named in
     let after = after_is (map head_of c.args.heads.now) (space_of c.args.space) c.args.ids c.fields.next c.fields.key (names_of c.fields.names.items) (drop c.fields.declaration-index c.args.declared.now) c.declaration-item.result (drop (c.fields.declaration-index + 1) c.args.declared.now) _ f
-    (record { here = r; low = grind (arith, nat_tests, c.if-next-gt65535.false); field = c.in_ok-field.ensures.wrong; same = i.wrong })
+    (record { here = r; low = le-leb c.fields.next 65535 c.if-next-gt65535.false; field = c.in_ok-field.ensures.wrong; same = i.wrong })
     c.in_ok-field.ensures.kind c.in_ok-field.ensures.says.key (names_are f c.declaration-item.result (field_type (map head_of c.args.heads.now) (space_of c.args.space) c.declaration-item.result) c.in_ok-field.ensures.kind c.in_ok-field.ensures.says.name) in
     record {
       says = rw (t, e) (each2_push _ (map field_of (take c.fields.declaration-index c.args.declared.now)) fs (field_of c.declaration-item.result) f i.says c.in_ok-field.ensures.says);
@@ -54,20 +54,20 @@ fields-preserved c =
 pub returns-then-next-gt65535-clause-wrong : goal.returns-then-next-gt65535-clause-wrong
 returns-then-next-gt65535-clause-wrong c =
     let r = drop_next c.args.declared.now c.fields.declaration-index c.declaration-item.result (omega arith) c.declaration-item.is in
-    let high : nat_le c.fields.next 65535 ≡ false = grind (arith, nat_tests, c.if-next-gt65535.true) in
+    let high : nat_le c.fields.next 65535 ≡ false = lt-leb c.fields.next 65535 c.if-next-gt65535.true in
     rw c.wrong.ensures (slot_stops (map head_of c.args.heads.now) (space_of c.args.space) c.args.ids c.fields.next c.fields.key (names_of c.fields.names.items) _ c.declaration-item.result _ _ r high c.fields.invariant.wrong)
 
 pub returns-in_err-field-clause-wrong : goal.returns-in_err-field-clause-wrong
 returns-in_err-field-clause-wrong c =
     let r = drop_next c.args.declared.now c.fields.declaration-index c.declaration-item.result (omega arith) c.declaration-item.is in
     let p = err_from_is_err_and c.from_residual.result c.from_residual.ensures.1 in
-    rw (p.1, p.2) (field_stops (map head_of c.args.heads.now) (space_of c.args.space) c.args.ids c.fields.next c.fields.key (names_of c.fields.names.items) _ c.declaration-item.result _ _ _ r (grind (arith, nat_tests, c.if-next-gt65535.false)) c.fields.invariant.wrong c.in_err-field.ensures.wrong)
+    rw (p.1, p.2) (field_stops (map head_of c.args.heads.now) (space_of c.args.space) c.args.ids c.fields.next c.fields.key (names_of c.fields.names.items) _ c.declaration-item.result _ _ _ r (le-leb c.fields.next 65535 c.if-next-gt65535.false) c.fields.invariant.wrong c.in_err-field.ensures.wrong)
 
 pub returns-in_err-add_names-clause-wrong : goal.returns-in_err-add_names-clause-wrong
 returns-in_err-add_names-clause-wrong c =
     let r = drop_next c.args.declared.now c.fields.declaration-index c.declaration-item.result (omega arith) c.declaration-item.is in
     let after = after_is (map head_of c.args.heads.now) (space_of c.args.space) c.args.ids c.fields.next c.fields.key (names_of c.fields.names.items) (drop c.fields.declaration-index c.args.declared.now) c.declaration-item.result (drop (c.fields.declaration-index + 1) c.args.declared.now) _ c.in_ok-field.field
-    (record { here = r; low = grind (arith, nat_tests, c.if-next-gt65535.false); field = c.in_ok-field.ensures.wrong; same = c.fields.invariant.wrong })
+    (record { here = r; low = le-leb c.fields.next 65535 c.if-next-gt65535.false; field = c.in_ok-field.ensures.wrong; same = c.fields.invariant.wrong })
     c.in_ok-field.ensures.kind c.in_ok-field.ensures.says.key (names_are c.in_ok-field.field c.declaration-item.result (field_type (map head_of c.args.heads.now) (space_of c.args.space) c.declaration-item.result) c.in_ok-field.ensures.kind c.in_ok-field.ensures.says.name) in
     let p = err_from_is_err_and c.from_residual-in_err-add_names.result c.from_residual-in_err-add_names.ensures.1 in
     rw (p.1, p.2) (names_stop (map head_of c.args.heads.now) (space_of c.args.space) c.args.ids c.fields.next c.fields.key (names_of c.fields.names.items) c.in_ok-field.field c.declaration-item.result _ _ _ after c.in_err-add_names.ensures.wrong)
@@ -76,7 +76,7 @@ pub returns-in_err-key-clause-wrong : goal.returns-in_err-key-clause-wrong
 returns-in_err-key-clause-wrong c =
     let r = drop_next c.args.declared.now c.fields.declaration-index c.declaration-item.result (omega arith) c.declaration-item.is in
     let after = after_is (map head_of c.args.heads.now) (space_of c.args.space) c.args.ids c.fields.next c.fields.key (names_of c.fields.names.items) (drop c.fields.declaration-index c.args.declared.now) c.declaration-item.result (drop (c.fields.declaration-index + 1) c.args.declared.now) _ c.in_ok-field.field
-    (record { here = r; low = grind (arith, nat_tests, c.if-next-gt65535.false); field = c.in_ok-field.ensures.wrong; same = c.fields.invariant.wrong })
+    (record { here = r; low = le-leb c.fields.next 65535 c.if-next-gt65535.false; field = c.in_ok-field.ensures.wrong; same = c.fields.invariant.wrong })
     c.in_ok-field.ensures.kind c.in_ok-field.ensures.says.key (names_are c.in_ok-field.field c.declaration-item.result (field_type (map head_of c.args.heads.now) (space_of c.args.space) c.declaration-item.result) c.in_ok-field.ensures.kind c.in_ok-field.ensures.says.name) in
     let p = err_from_is_err_and c.from_residual-in_err-key.result c.from_residual-in_err-key.ensures.1 in
     rw (p.1, p.2) (key_stops (map head_of c.args.heads.now) (space_of c.args.space) c.args.ids c.fields.next c.fields.key (names_of c.fields.names.items) c.in_ok-field.field c.declaration-item.result _ _ _ after c.in_ok-add_names.ensures.new c.in_err-key.ensures.wrong)
