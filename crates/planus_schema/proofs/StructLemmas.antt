@@ -3,9 +3,10 @@ use Rattle.std.proofs.Common.{◌≡◌, ℕ, ◌+◌, ◌<◌, ◌≤◌, max, 
 use Rattle.std.proofs.lemmas.List.{map_push}
 use Rattle.std.proofs.lemmas.List.Sums.{fold-append}
 use Rattle.std.proofs.lemmas.Bool.{le-leb, lt-leb}
+use Rattle.std.proofs.lemmas.Bool.Decides.{nat_tests}
 use Rattle.planus_layout.specs.declared.schema.StructField.{StructField}
 use Rattle.std.proofs.lemmas.Grind.{common_steps}
-use Rattle.std.specs.Prelude.{Option, Some, None, not, nat_le}
+use Rattle.std.specs.Prelude.{Option, Some, None, not, nat_le, ◌==◌}
 use Rattle.planus_syntax.specs.Values.{Name, kind_of}
 use Rattle.planus_syntax.specs.declared.value.Field.{Field}
 use Rattle.planus_layout.specs.declared.measure.Measure.{Measure}
@@ -15,7 +16,7 @@ use Rattle.planus_schema.specs.declared.fault.Stop.{Stop}
 use Rattle.planus_schema.specs.declared.fault.Stop.TheVariants as stop
 use Rattle.planus_schema.specs.Names.{HeadV, type_named}
 use Rattle.planus_schema.specs.Wrong.{Broken, broken, when, first, Stops}
-use Rattle.planus_schema.specs.WrongStructs.{wrong_plain, wrong_measure, wrong_type, measure_among, measure_in_type, wrong_struct_field, wrong_struct_fields, end_of, end_after, greatest_after, alignment_in, field_measure}
+use Rattle.planus_schema.specs.WrongStructs.{is_empty, wrong_plain, wrong_measure, wrong_type, measure_among, measure_in_type, wrong_struct_field, wrong_struct_fields, end_of, end_after, greatest_after, alignment_in, field_measure}
 use Rattle.planus_schema.proofs.FaultLemmas.{skip, passes, stops_first, stops_next, stops_now}
 use Rattle.planus_layout.specs.Distinct.{Each2, Takes, IsAdded, is_in}
 use Rattle.planus_layout.specs.Layouts.{IsNext, Laid, greatest_alignment}
@@ -94,3 +95,9 @@ ends_after at end left o m e is h =
     ap (λ x. when (not (nat_le (end_of at x) 65535)) problem.StructTooLarge left) e
     ∙ ap (λ n. when (not (nat_le n 65535)) problem.StructTooLarge left) (sym is)
     ∙ ap (λ b. when (not b) problem.StructTooLarge left) (lt-leb end 65535 h)
+
+-- ---- the whole
+
+pub empty_is : (fs : List Field) → is_empty fs ≡ (length fs == 0)
+empty_is [] = refl
+empty_is (f ∷ fs) = grind (arith, nat_tests)
