@@ -1,4 +1,4 @@
-use Rattle.std.proofs.Common.{◌≡◌, refl, sym, ap, subst, ◌∙◌, length}
+use Rattle.std.proofs.Common.{refl, sym, ap, subst, ◌∙◌, length}
 use Rattle.std.proofs.Math.ListN.{length-map}
 use Rattle.std.proofs.lemmas.Result.{err_from_is_err_and}
 use Rattle.planus_syntax.specs.Tokens.{pieces_of}
