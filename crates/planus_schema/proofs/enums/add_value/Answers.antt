@@ -7,7 +7,7 @@ use Rattle.planus_schema.specs.Enums.{same_number}
 use Rattle.planus_schema.specs.Enums.{number_of_value}
 use Rattle.planus_schema.specs.Wrong.{when}
 use Rattle.planus_schema.specs.declared.fault.Problem.TheVariants as problem
-use Rattle.planus_schema.proofs.FaultLemmas.{skip, passes, stops_next, stops_now}
+use Rattle.planus_schema.proofs.FaultLemmas.{skip, passes, stops_now}
 use Rattle.planus_schema.proofs.EnumLemmas.{value_added, numbers_any}
 use Rattle.planus_schema.proofs.enums.add_value.Goals as goal
 

@@ -1,10 +1,10 @@
-use Rattle.std.proofs.Common.{map, ap, sym, subst, ◌+◌, ◌∙◌, arith}
+use Rattle.std.proofs.Common.{map, ap, sym, subst, ◌+◌, ◌∙◌}
 use Rattle.std.proofs.lemmas.Result.{err_from_is_err_and}
 use Rattle.planus_syntax.specs.Values.{names_of}
 use Rattle.planus_schema.specs.Names.{head_of, space_of}
 use Rattle.planus_schema.specs.Wrong.{Stops}
 use Rattle.planus_schema.specs.WrongStructs.{measures_of, end_of, alignment_in}
-use Rattle.planus_schema.proofs.FaultLemmas.{stops_first, stops_next, skip}
+use Rattle.planus_schema.proofs.FaultLemmas.{stops_first, skip}
 use Rattle.planus_schema.proofs.StructLemmas.{field_known, measure_known, ends_within, ends_after}
 use Rattle.planus_schema.proofs.structs.struct_field.Goals as goal
 
