@@ -1,0 +1,12 @@
+use Rattle.std.proofs.Common.{◌≡◌, ◌++◌, drop, map}
+use Rattle.planus_codegen.specs.Plans.{line_of, lines_from}
+use Rattle.planus_codegen.proofs.plan.lines_of.Given as goal
+
+-- the lines so far and those of what is left are all
+abbrev pub invariant-fields : goal.invariant-fields
+invariant-fields l = record {
+  place : l.place ≡ l.field-index;
+  lines : map line_of l.lines.items
+      ++ lines_from l.declared l.field-index (drop l.field-index l.fields)
+      ≡ lines_from l.declared 0 l.fields;
+}

@@ -1,0 +1,10 @@
+use Rattle.std.proofs.Common.{◌≡◌, length}
+use Rattle.planus_codegen.specs.Names.{are_apart_from}
+use Rattle.planus_codegen.proofs.scope.are_apart_from.Given as goal
+
+-- none is one of the others if none of those that are left is
+abbrev pub invariant-names : goal.invariant-names
+invariant-names l = are_apart_from l.others l.rest ≡ are_apart_from l.others l.names
+
+abbrev pub decreases-names : goal.decreases-names
+decreases-names l = length l.rest

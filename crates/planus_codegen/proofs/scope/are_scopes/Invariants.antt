@@ -1,0 +1,10 @@
+use Rattle.std.proofs.Common.{◌≡◌, length}
+use Rattle.planus_codegen.specs.Names.{are_scopes}
+use Rattle.planus_codegen.proofs.scope.are_scopes.Given as goal
+
+-- all are scopes if those that are left are
+abbrev pub invariant-scopes : goal.invariant-scopes
+invariant-scopes l = are_scopes l.rest ≡ are_scopes l.scopes
+
+abbrev pub decreases-scopes : goal.decreases-scopes
+decreases-scopes l = length l.rest

@@ -1,0 +1,179 @@
+//! The layout of printed text: where its lines end.
+
+use crate::printer::{ARGUMENT, BREAK, OWN};
+use std::alloc::{AllocError, Global};
+
+/// The columns of a line.
+const COLUMNS: usize = 100;
+
+/// The columns of a line that goes on.
+const WORD_COLUMNS: usize = 99;
+
+/// The columns of a call's arguments on one line.
+const ARGUMENT_COLUMNS: usize = 60;
+
+/// Text of which each line ends where it must.
+#[derive(Drop)]
+struct Arrangement {
+    text: String,
+    /// The letters since the last place where the line may end.
+    word: String,
+    /// The columns of the last line of the text, and those of the word.
+    column: usize,
+    width: usize,
+    /// Whether a blank or the end of a line stands before the word.
+    apart: bool,
+    /// The blanks that the line begins with.
+    indent: usize,
+}
+
+/// What a line has: its columns without marks, those of the arguments of a call, and how many marks
+/// of arguments there are.
+#[derive(Clone, Copy)]
+struct Measure {
+    columns: usize,
+    arguments: usize,
+    marks: usize,
+}
+
+fn measure_of(line: &str) -> Measure {
+    let mut columns = 0usize;
+    let mut start = 0usize;
+    let mut arguments = 0usize;
+    let mut marks = 0usize;
+    for letter in line.chars() {
+        if letter == ARGUMENT {
+            if marks == 0 {
+                start = columns;
+            }
+            arguments = columns.saturating_sub(start);
+            marks = marks.saturating_add(1);
+        }
+        if letter >= ' ' || letter == BREAK {
+            columns = columns.saturating_add(1);
+        }
+    }
+    let blanks = marks.saturating_sub(2);
+    Measure {
+        columns: columns.saturating_add(blanks),
+        arguments: arguments.saturating_add(blanks),
+        marks,
+    }
+}
+
+/// Returns the blanks of a line that goes on with one of so many: 4 more, but as many where they are
+/// 4, in lists of names and in definitions.
+fn going_on(indent: usize) -> usize {
+    if indent == 4 {
+        4
+    } else {
+        indent.saturating_add(4)
+    }
+}
+
+impl Measure {
+    /// Whether each argument of the call stands on a line of its own.
+    fn is_broken(self) -> bool {
+        self.marks > 0 && (self.columns > COLUMNS || self.arguments > ARGUMENT_COLUMNS)
+    }
+}
+
+impl Arrangement {
+    fn put_line_end(&mut self, indent: usize) -> Result<(), AllocError> {
+        self.text.push('\n')?;
+        for _ in 0..indent {
+            self.text.push(' ')?;
+        }
+        self.column = indent;
+        Ok(())
+    }
+
+    // Adds the word, on a new line where the last is full.
+    fn put_word(&mut self) -> Result<(), AllocError> {
+        let wanted = self.width.saturating_add(1);
+        if self.apart && self.column.saturating_add(wanted) > WORD_COLUMNS {
+            self.put_line_end(going_on(self.indent))?;
+        } else if self.apart {
+            self.text.push(' ')?;
+            self.column = self.column.saturating_add(1);
+        }
+        self.text.push_str(self.word.as_str())?;
+        self.column = self.column.saturating_add(self.width);
+        self.word.clear();
+        self.width = 0;
+        Ok(())
+    }
+
+    fn put_letter(&mut self, letter: char) -> Result<(), AllocError> {
+        if letter == ' ' && !self.apart && self.column == 0 && self.width == self.indent {
+            self.indent = self.indent.saturating_add(1);
+        }
+        self.word.push(letter)?;
+        self.width = self.width.saturating_add(1);
+        Ok(())
+    }
+
+    // Adds what stands before an argument of a call, or after the last one.
+    fn put_mark(&mut self, mark: usize, measure: Measure) -> Result<(), AllocError> {
+        let last = mark.saturating_add(1) == measure.marks;
+        if measure.is_broken() {
+            if last {
+                self.put_letter(',')?;
+            }
+            self.put_word()?;
+            let more = if last { 0 } else { 4 };
+            return self.put_line_end(self.indent.saturating_add(more));
+        }
+        if mark > 0 && !last {
+            self.put_letter(' ')?;
+        }
+        Ok(())
+    }
+
+    fn put_line(&mut self, line: &str) -> Result<(), AllocError> {
+        let measure = measure_of(line);
+        let mut mark = 0usize;
+        self.indent = 0;
+        self.column = 0;
+        self.apart = false;
+        for letter in line.chars() {
+            match letter {
+                BREAK => {
+                    self.put_word()?;
+                    self.apart = true;
+                }
+                ARGUMENT => {
+                    self.put_mark(mark, measure)?;
+                    mark = mark.saturating_add(1);
+                }
+                OWN => {}
+                letter => self.put_letter(letter)?,
+            }
+        }
+        self.put_word()?;
+        self.text.push('\n')?;
+        Ok(())
+    }
+}
+
+/// Returns printed text with its lines ended where they must, and without marks.
+pub(crate) fn arranged(alloc: Global, printed: &str) -> Result<String, AllocError> {
+    let mut out = Arrangement {
+        text: String::new(alloc),
+        word: String::new(alloc),
+        column: 0,
+        width: 0,
+        apart: false,
+        indent: 0,
+    };
+    let mut line = String::new(alloc);
+    for letter in printed.chars() {
+        if letter == '\n' {
+            out.put_line(line.as_str())?;
+            line.clear();
+        } else {
+            line.push(letter)?;
+        }
+    }
+    Ok(out.text)
+}

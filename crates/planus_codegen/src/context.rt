@@ -1,0 +1,193 @@
+//! What is known of a schema while its code is printed.
+
+use crate::at::At;
+use crate::names::Names;
+use crate::refusal::Refusal;
+use planus_layout::{Base, Body, Declared, Scalar, Schema, TableField};
+use std::alloc::{AllocError, Global};
+
+/// A schema, the names that its declarations have in code, and what its types are.
+#[derive(Drop)]
+pub(crate) struct Context<'a> {
+    pub(crate) alloc: Global,
+    /// The name of the crate.
+    pub(crate) crate_name: &'a str,
+    pub(crate) declared: &'a [Declared],
+    /// The bytes of the file identifier.
+    pub(crate) identifier: Option<&'a [u8]>,
+    pub(crate) names: Names,
+    /// Whether a read of each can't fail once its bytes are there.
+    totals: Vec<bool>,
+}
+
+fn is_total_base(totals: &[bool], base: Base) -> bool {
+    match base {
+        Base::Scalar(_) => true,
+        Base::Struct(index) | Base::Enum(index) => totals.get(index) == Some(&true),
+        _ => false,
+    }
+}
+
+fn is_total_body(totals: &[bool], body: &Body) -> bool {
+    match body {
+        Body::Enum(one) => one.flags,
+        Body::Struct(one) => {
+            for field in &one.fields {
+                if !is_total_base(totals, field.base) {
+                    return false;
+                }
+            }
+            true
+        }
+        _ => false,
+    }
+}
+
+// A struct holds only structs and enums that are declared before it.
+fn totals_of(alloc: Global, declared: &[Declared]) -> Result<Vec<bool>, AllocError> {
+    let mut totals = Vec::new(alloc);
+    for one in declared {
+        let total = is_total_body(&totals, &one.body);
+        totals.push(total)?;
+    }
+    Ok(totals)
+}
+
+/// The name of a member as the schema has it, and its documentation.
+fn member_in(body: &Body, place: usize) -> Option<(&Vec<u8>, &Vec<Vec<u8>>)> {
+    match body {
+        Body::Table(one) => {
+            let field = one.fields.get(place)?;
+            Some((&field.name, &field.docs))
+        }
+        Body::Struct(one) => {
+            let field = one.fields.get(place)?;
+            Some((&field.name, &field.docs))
+        }
+        Body::Enum(one) => {
+            let value = one.values.get(place)?;
+            Some((&value.name, &value.docs))
+        }
+        Body::Union(one) => {
+            let member = one.members.get(place)?;
+            Some((&member.name, &member.docs))
+        }
+    }
+}
+
+impl<'a> Context<'a> {
+    /// Returns what is known of a schema.
+    pub(crate) fn new(
+        alloc: Global,
+        schema: &'a Schema,
+        crate_name: &'a str,
+    ) -> Result<Context<'a>, Refusal> {
+        let declared = schema.declarations.as_slice();
+        Ok(Context {
+            alloc,
+            crate_name,
+            declared,
+            identifier: match &schema.statements.identifier {
+                Some(identifier) => Some(identifier.as_slice()),
+                None => None,
+            },
+            names: Names::of(alloc, declared)?,
+            totals: totals_of(alloc, declared)?,
+        })
+    }
+
+    /// Returns what a declaration says.
+    pub(crate) fn body(&self, index: usize) -> Option<&'a Body> {
+        match self.declared.get(index) {
+            Some(one) => Some(&one.body),
+            None => None,
+        }
+    }
+
+    fn member(&self, at: At) -> Option<(&'a Vec<u8>, &'a Vec<Vec<u8>>)> {
+        member_in(self.body(at.index)?, at.place)
+    }
+
+    /// Returns the name of a member as the schema has it.
+    pub(crate) fn said(&self, at: At) -> &'a [u8] {
+        match self.member(at) {
+            Some((name, _)) => name.as_slice(),
+            None => &[],
+        }
+    }
+
+    /// Returns the documentation of a member.
+    pub(crate) fn docs(&self, at: At) -> &'a [Vec<u8>] {
+        match self.member(at) {
+            Some((_, docs)) => docs.as_slice(),
+            None => &[],
+        }
+    }
+
+    /// Returns a field of a table.
+    pub(crate) fn field(&self, at: At) -> Option<&'a TableField> {
+        match self.body(at.index) {
+            Some(Body::Table(one)) => one.fields.get(at.place),
+            _ => None,
+        }
+    }
+
+    /// Returns whether a declaration is of flags.
+    pub(crate) fn is_flags(&self, index: usize) -> bool {
+        match self.body(index) {
+            Some(Body::Enum(one)) => one.flags,
+            _ => false,
+        }
+    }
+
+    /// Returns whether a declaration is an enum of numbers that may be negative.
+    pub(crate) fn is_signed_enum(&self, index: usize) -> bool {
+        match self.body(index) {
+            Some(Body::Enum(one)) => is_signed(one.scalar),
+            _ => false,
+        }
+    }
+
+    /// Returns the scalar type of an enum.
+    pub(crate) fn enum_scalar(&self, index: usize) -> &'static str {
+        match self.body(index) {
+            Some(Body::Enum(one)) => scalar_name(one.scalar),
+            _ => "",
+        }
+    }
+
+    /// Returns whether the read of a declared value can't fail once its bytes are there.
+    pub(crate) fn is_total_declaration(&self, index: usize) -> bool {
+        self.totals.get(index) == Some(&true)
+    }
+
+    /// Returns whether the read of a value can't fail once its bytes are there.
+    pub(crate) fn is_total(&self, base: Base) -> bool {
+        is_total_base(&self.totals, base)
+    }
+}
+
+/// Returns the name of a scalar's type in code.
+pub(crate) fn scalar_name(scalar: Scalar) -> &'static str {
+    match scalar {
+        Scalar::Bool => "bool",
+        Scalar::Byte => "i8",
+        Scalar::UByte => "u8",
+        Scalar::Short => "i16",
+        Scalar::UShort => "u16",
+        Scalar::Int => "i32",
+        Scalar::UInt => "u32",
+        Scalar::Long => "i64",
+        Scalar::ULong => "u64",
+        Scalar::Float => "f32",
+        Scalar::Double => "f64",
+    }
+}
+
+/// Returns whether the numbers of a scalar may be negative integers.
+pub(crate) fn is_signed(scalar: Scalar) -> bool {
+    matches!(
+        scalar,
+        Scalar::Byte | Scalar::Short | Scalar::Int | Scalar::Long
+    )
+}

@@ -1,0 +1,205 @@
+//! The files of a crate.
+
+use crate::arranged::arranged;
+use crate::at::At;
+use crate::context::Context;
+use crate::enums::{print_enum, print_flags, print_flags_layout, print_numbers};
+use crate::order::{keys_of, sort_by_key};
+use crate::plan::Plan;
+use crate::printer::Printer;
+use crate::refusal::Refusal;
+use crate::structs::{has_padding, print_padded, print_struct, print_struct_layout};
+use crate::supported::refuse_unsupported;
+use crate::table_contents::print_contents;
+use crate::tables::print_table;
+use crate::unions::{print_union, print_variants};
+use crate::words::{Part, Words};
+use planus_layout::{Body, Declared, Schema};
+use std::alloc::{AllocError, Global};
+
+/// A file: its path in the folder of the crate, and its text.
+#[derive(Drop)]
+pub struct PrintedFile {
+    pub path: String,
+    pub text: String,
+}
+
+/// The files of a crate while they are printed.
+#[derive(Drop)]
+struct Files<'a> {
+    context: &'a Context<'a>,
+    /// The declarations by their modules' names.
+    order: &'a [usize],
+    files: Vec<PrintedFile>,
+}
+
+impl<'a> Files<'a> {
+    // Adds a file, whose path is a template.
+    fn put(&mut self, path: &str, at: At, text: Printer<'_>) -> Result<(), AllocError> {
+        let text = text.finish()?;
+        let text = arranged(self.context.alloc, text.as_str())?;
+        let mut name = Printer::new(self.context);
+        name.put(path, at);
+        let path = name.finish()?;
+        self.files.push(PrintedFile { path, text })?;
+        Ok(())
+    }
+
+    // The imports of code.
+    fn code_uses(&self, code: &Printer<'_>, own: usize) -> Result<Printer<'a>, AllocError> {
+        let mut uses = Printer::new(self.context);
+        let words = Words::of(self.context.alloc, code.as_str(), Part::Code)?;
+        uses.put_code_uses(&words, self.order, own);
+        Ok(uses)
+    }
+
+    // The imports of clauses.
+    fn clause_uses(&self, code: &Printer<'_>) -> Result<Printer<'a>, AllocError> {
+        let mut uses = Printer::new(self.context);
+        let words = Words::of(self.context.alloc, code.as_str(), Part::Clauses)?;
+        uses.put_clause_uses(&words, self.order);
+        Ok(uses)
+    }
+
+    // Adds a file of code: its first line, its imports, and what is printed.
+    fn put_code(&mut self, head: &str, at: At, code: &Printer<'_>) -> Result<(), AllocError> {
+        let mut file = Printer::new(self.context);
+        file.put(head, at);
+        file.put_str("\n");
+        file.join(&self.clause_uses(code)?);
+        file.put_str("\n");
+        file.join(&self.code_uses(code, at.index)?);
+        file.put_str("\n");
+        file.join(code);
+        self.put("src/$M.rt", at, file)
+    }
+
+    // Adds a file of definitions in the same way.
+    fn put_definitions(
+        &mut self,
+        head: &str,
+        at: At,
+        text: &Printer<'_>,
+    ) -> Result<(), AllocError> {
+        let mut file = Printer::new(self.context);
+        file.put(head, at);
+        let words = Words::of(self.context.alloc, text.as_str(), Part::Definitions)?;
+        file.put_definition_uses(&words, self.order, at.index);
+        file.put_str("\n");
+        file.join(text);
+        self.put("specs/$T.antt", at, file)
+    }
+
+    fn put_declared(&mut self, at: At, declared: &Declared) -> Result<(), AllocError> {
+        let context = self.context;
+        match &declared.body {
+            Body::Table(one) => {
+                let plan = Plan::of(context.alloc, context.declared, at.index, one)?;
+                self.put_code(
+                    "//! Tables `$T`.\n",
+                    at,
+                    &print_table(context, &plan, declared),
+                )?;
+                self.put_definitions("-- What `$T` holds.\n", at, &print_contents(context, &plan))
+            }
+            Body::Struct(one) => {
+                self.put_code(
+                    "//! Structs `$T`.\n",
+                    at,
+                    &print_struct(context, at, declared),
+                )?;
+                if has_padding(one) {
+                    let proof = print_padded(context, at);
+                    self.put("proofs/$M/$TPlain/put/Answers.antt", at, proof)?;
+                }
+                let layout = print_struct_layout(context, at);
+                self.put_definitions("-- The layout of `$T`.\n", at, &layout)
+            }
+            Body::Enum(one) if one.flags => {
+                self.put_code("//! Flags `$T`.\n", at, &print_flags(context, at, declared))?;
+                let layout = print_flags_layout(context, at);
+                self.put_definitions("-- The layout of `$T`.\n", at, &layout)
+            }
+            Body::Enum(_) => {
+                self.put_code("//! Enum `$T`.\n", at, &print_enum(context, at, declared))?;
+                self.put_definitions("-- The numbers of `$T`.\n", at, &print_numbers(context, at))
+            }
+            Body::Union(one) => {
+                self.put_code(
+                    "//! Unions `$T`.\n",
+                    at,
+                    &print_union(context, at, declared),
+                )?;
+                let variants = print_variants(context, at, one);
+                self.put_definitions("-- The variants of `$T`.\n", at, &variants)
+            }
+        }
+    }
+
+    // Adds the root of the crate.
+    fn put_library(&mut self) -> Result<(), AllocError> {
+        let context = self.context;
+        let mut text = Printer::new(context);
+        text.put_str("//! Code of a schema.\n#![tactic(auto)]\n\n");
+        for index in by_module(context, &context.names.modules)? {
+            text.put("mod $M;\n", At::declaration(index));
+        }
+        text.put_str("\n");
+        for index in self.order {
+            if let Some(body) = context.body(*index) {
+                text.put_passed_on(*index, body)?;
+            }
+        }
+        if let Some(identifier) = context.identifier {
+            text.put_identifier(identifier);
+        }
+        self.put("src/lib.rt", At::declaration(0), text)
+    }
+
+    fn put_definition_list(&mut self) -> Result<(), AllocError> {
+        let mut text = Printer::new(self.context);
+        for index in 0..self.context.declared.len() {
+            text.put("pub mod $T\n", At::declaration(index));
+        }
+        self.put("specs/Lib.antt", At::declaration(0), text)
+    }
+}
+
+// The declarations by their modules' names, or by keys of these.
+fn by_module(context: &Context<'_>, keys: &[Vec<u8>]) -> Result<Vec<usize>, AllocError> {
+    let mut order = Vec::new(context.alloc);
+    for index in 0..context.declared.len() {
+        order.push(index)?;
+    }
+    sort_by_key(&mut order, keys)?;
+    Ok(order)
+}
+
+fn files_of(context: &Context<'_>) -> Result<Vec<PrintedFile>, AllocError> {
+    let keys = keys_of(context.alloc, &context.names.modules)?;
+    let order = by_module(context, &keys)?;
+    let mut files = Files {
+        context,
+        order: &order,
+        files: Vec::new(context.alloc),
+    };
+    for (index, declared) in context.declared.iter().enumerate() {
+        files.put_declared(At::declaration(index), declared)?;
+    }
+    files.put_library()?;
+    files.put_definition_list()?;
+    Ok(files.files)
+}
+
+/// Returns the files of a crate of this name with the code of a schema.
+///
+/// [`Refusal::Unsupported`] where something in it has no form in code.
+pub fn print_crate(
+    alloc: Global,
+    schema: &Schema,
+    name: &str,
+) -> Result<Vec<PrintedFile>, Refusal> {
+    refuse_unsupported(alloc, &schema.declarations)?;
+    let context = Context::new(alloc, schema, name)?;
+    Ok(files_of(&context)?)
+}

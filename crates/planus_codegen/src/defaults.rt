@@ -1,0 +1,149 @@
+//! Defaults of fields, in code and in clauses.
+
+use crate::context::{Context, is_signed, scalar_name};
+use crate::printer::Printer;
+use crate::types::has_default;
+use planus_layout::{Base, Body, Enum, Number, Scalar, TableField, Value};
+
+/// The default of a field as an integer, 0 if it has none.
+pub(crate) fn default_number(field: &TableField) -> Number {
+    match &field.default {
+        Some(Value::Integer(number)) => *number,
+        _ => Number {
+            negative: false,
+            magnitude: 0,
+        },
+    }
+}
+
+fn place_of(one: &Enum, number: Number) -> usize {
+    for (place, value) in one.values.iter().enumerate() {
+        if value.number == number {
+            return place;
+        }
+    }
+    one.values.len()
+}
+
+/// Returns the place of the value of an enum that is a field's default.
+pub(crate) fn default_place(context: &Context<'_>, index: usize, field: &TableField) -> usize {
+    match context.body(index) {
+        Some(Body::Enum(one)) => place_of(one, default_number(field)),
+        _ => 0,
+    }
+}
+
+/// Returns whether a field's default has a constant.
+pub(crate) fn has_constant(context: &Context<'_>, field: &TableField) -> bool {
+    has_default(field)
+        && match field.kind.base {
+            Base::Scalar(scalar) => scalar.is_float(),
+            Base::Enum(index) => context.is_flags(index),
+            _ => false,
+        }
+}
+
+/// Returns whether a field's default is told by a test that the contents are given.
+pub(crate) fn is_judged(field: &TableField) -> bool {
+    has_default(field)
+        && match field.kind.base {
+            Base::Scalar(Scalar::Bool | Scalar::Float | Scalar::Double) => true,
+            Base::Scalar(_) => false,
+            _ => true,
+        }
+}
+
+/// Returns the value of a field's default in code.
+pub(crate) fn default_value(context: &Context<'_>, field: &TableField) -> &'static str {
+    match field.kind.base {
+        Base::Scalar(Scalar::Bool) if default_number(field).magnitude == 0 => "false",
+        Base::Scalar(Scalar::Bool) => "true",
+        Base::Scalar(Scalar::Float | Scalar::Double) => "$F",
+        Base::Enum(index) if context.is_flags(index) => "$t { bits: $l }",
+        Base::Enum(_) => "$t::$e",
+        _ => "$l",
+    }
+}
+
+/// Returns a field's default in code, by its constant if it has one.
+pub(crate) fn default(context: &Context<'_>, field: &TableField) -> &'static str {
+    if has_constant(context, field) {
+        "DEFAULT_$N"
+    } else {
+        default_value(context, field)
+    }
+}
+
+/// Returns a field's default in clauses.
+pub(crate) fn default_clause(context: &Context<'_>, field: &TableField) -> &'static str {
+    match field.kind.base {
+        Base::Enum(index) if !context.is_flags(index) => "$h_value.$e",
+        Base::Scalar(scalar) if is_signed(scalar) => "($L)",
+        _ => default(context, field),
+    }
+}
+
+fn is_digit(byte: Option<&u8>) -> bool {
+    match byte {
+        Some(byte) => byte.is_ascii_digit(),
+        None => false,
+    }
+}
+
+// What stands behind the type of a float that isn't a number of digits.
+fn float_word(text: &[u8]) -> &'static str {
+    let negative = text.first() == Some(&b'-');
+    let sign = negative || text.first() == Some(&b'+');
+    match text.get(sign as usize) {
+        Some(b'n' | b'N') => "::NAN",
+        Some(b'i' | b'I') if negative => "::NEG_INFINITY",
+        Some(b'i' | b'I') => "::INFINITY",
+        _ => "",
+    }
+}
+
+impl<'a> Printer<'a> {
+    // A float as code has it: with digits on both sides of its point.
+    fn put_digits(&mut self, text: &[u8]) {
+        let mut whole = true;
+        let mut digit = false;
+        for (at, byte) in text.iter().enumerate() {
+            match *byte {
+                b'.' => {
+                    let more = is_digit(text.get(at.saturating_add(1)));
+                    self.put_str(if digit { "." } else { "0." });
+                    self.put_str(if more { "" } else { "0" });
+                    whole = false;
+                }
+                b'+' if at == 0 => {}
+                letter => {
+                    whole = whole && letter != b'e' && letter != b'E';
+                    self.put_char(letter as char);
+                }
+            }
+            digit = byte.is_ascii_digit();
+        }
+        self.put_str(if whole { ".0" } else { "" });
+    }
+
+    /// Adds the default of a float.
+    pub(crate) fn put_float(&mut self, scalar: Scalar, field: &TableField) {
+        match &field.default {
+            Some(Value::Float(text)) => {
+                let word = float_word(text);
+                if word.is_empty() {
+                    self.put_digits(text);
+                } else {
+                    self.put_str(scalar_name(scalar));
+                    self.put_str(word);
+                }
+            }
+            _ => {
+                let number = default_number(field);
+                self.put_str(if number.negative { "-" } else { "" });
+                self.put_number(number.magnitude);
+                self.put_str(".0");
+            }
+        }
+    }
+}

@@ -1,0 +1,310 @@
+//! What the letters of templates stand for.
+//!
+//! Of a declaration: `c` the name of the crate, `T` the type, `M` the module; of an enum or a struct
+//! `S` its size and `A` its alignment in bytes, `P` the exponent of the alignment, `Q` how many
+//! alignments the size has; of an enum `b` its scalar type, `j` the type of its numbers in
+//! definitions and `q` the test of two of them; of a struct `y` the padding at its end.
+//!
+//! Of a member: `n` its name, `N` the same in capitals, `s` as the schema has it, `p` its place; of a
+//! value of an enum `i` its number in code and `k` in definitions; of a field `t` the type of its
+//! value and `h` the name of its shape; of a field of a struct `z` its size and `d` its distance in
+//! bytes, `x` the padding before it, `w` the distance after a colon, if it isn't the first, `v` its
+//! value in the values of all; of a member of a union `g` its tag and `m` its table.
+//!
+//! Of a field of a table: `o` its slot, `u` the slot before, `r` the slot under which it is read; `l`
+//! its default as an integer and `L` the same in clauses, `e` as a value of an enum, `F` as a float;
+//! and, as templates of these letters, `G` its type as it is given, `R` as it is read, `E` as it is
+//! encoded, `D` its default in code and `K` in clauses.
+
+use crate::at::At;
+use crate::context::{Context, scalar_name};
+use crate::defaults::{default, default_clause, default_number, default_place};
+use crate::printer::{OWN, Printer};
+use crate::types::{encoded, given, has_default, is_optional, is_union, read};
+use planus_layout::{Base, Body, Number, StructField};
+
+const NOTHING: Number = Number {
+    negative: false,
+    magnitude: 0,
+};
+
+/// The size and the alignment in bytes of an enum or a struct.
+fn layout(context: &Context<'_>, index: usize) -> (usize, usize) {
+    match context.body(index) {
+        Some(Body::Enum(one)) => (one.scalar.size(), one.scalar.size()),
+        Some(Body::Struct(one)) => (one.size, one.alignment),
+        _ => (1, 1),
+    }
+}
+
+/// The size and the distance in bytes of a field of a struct.
+fn span(context: &Context<'_>, at: At) -> (usize, usize) {
+    match context.body(at.index) {
+        Some(Body::Struct(one)) => match one.fields.get(at.place) {
+            Some(field) => (field.size, field.distance),
+            None => (0, one.size),
+        },
+        _ => (0, 0),
+    }
+}
+
+/// The padding in bytes before a field of a struct, or after the last one.
+fn padding(context: &Context<'_>, at: At) -> usize {
+    let (_, distance) = span(context, at);
+    let before = match at.place.checked_sub(1) {
+        Some(place) => {
+            let (size, start) = span(context, at.member(place));
+            start.saturating_add(size)
+        }
+        None => 0,
+    };
+    distance.saturating_sub(before)
+}
+
+/// The slot of a field of a table, and that under which it is read: of a union that of its tag.
+fn slots(context: &Context<'_>, at: At) -> (usize, usize) {
+    match context.field(at) {
+        Some(field) if is_union(field.kind) => (field.slot, field.slot.saturating_sub(1)),
+        Some(field) => (field.slot, field.slot),
+        None => (0, 0),
+    }
+}
+
+fn tag(context: &Context<'_>, at: At) -> usize {
+    match context.body(at.index) {
+        Some(Body::Union(one)) => match one.members.get(at.place) {
+            Some(member) => member.tag as usize,
+            None => 0,
+        },
+        _ => 0,
+    }
+}
+
+fn number(context: &Context<'_>, letter: char, at: At) -> usize {
+    let (size, alignment) = layout(context, at.index);
+    match letter {
+        'S' => size,
+        'A' => alignment,
+        'P' => alignment.trailing_zeros() as usize,
+        'Q' => size.checked_div(alignment).unwrap_or(0),
+        'z' => span(context, at).0,
+        'd' => span(context, at).1,
+        'g' => tag(context, at),
+        'o' => slots(context, at).0,
+        'u' => slots(context, at).0.saturating_sub(1),
+        'r' => slots(context, at).1,
+        _ => at.place,
+    }
+}
+
+/// A value of an enum, or else the default of a field, as an integer.
+fn integer(context: &Context<'_>, at: At) -> Number {
+    match context.body(at.index) {
+        Some(Body::Enum(one)) => match one.values.get(at.place) {
+            Some(value) => value.number,
+            None => NOTHING,
+        },
+        _ => match context.field(at) {
+            Some(field) => default_number(field),
+            None => NOTHING,
+        },
+    }
+}
+
+/// The type of the value of a field, or the table of a member of a union.
+fn base(context: &Context<'_>, at: At) -> Base {
+    match context.body(at.index) {
+        Some(Body::Table(one)) => match one.fields.get(at.place) {
+            Some(field) => field.kind.base,
+            None => Base::Text,
+        },
+        Some(Body::Struct(one)) => match one.fields.get(at.place) {
+            Some(field) => field.base,
+            None => Base::Text,
+        },
+        Some(Body::Union(one)) => match one.members.get(at.place) {
+            Some(member) => Base::Table(member.table),
+            None => Base::Text,
+        },
+        _ => Base::Text,
+    }
+}
+
+fn is_forced(fields: &[StructField], alignment: usize) -> bool {
+    for field in fields {
+        if field.alignment == alignment {
+            return false;
+        }
+    }
+    true
+}
+
+/// Returns whether the alignment of a struct is above those of its fields.
+pub(crate) fn has_forced_alignment(context: &Context<'_>, at: At) -> bool {
+    match context.body(at.index) {
+        Some(Body::Struct(one)) => is_forced(&one.fields, one.alignment),
+        _ => false,
+    }
+}
+
+impl<'a> Printer<'a> {
+    fn put_integer(&mut self, number: Number) {
+        if number.negative {
+            self.put_char('-');
+        }
+        self.put_number(number.magnitude);
+    }
+
+    // An integer as clauses have it: a signed one by its constructor.
+    fn put_counted(&mut self, number: Number, signed: bool) {
+        if number.negative {
+            self.put_str("negsuc ");
+            self.put_number(number.magnitude.saturating_sub(1));
+        } else {
+            self.put_str(if signed { "pos " } else { "" });
+            self.put_number(number.magnitude);
+        }
+    }
+
+    fn put_capitals(&mut self, name: &[u8]) {
+        for letter in name {
+            self.put_char(letter.to_ascii_uppercase() as char);
+        }
+    }
+
+    fn put_type(&mut self, base: Base) {
+        let names = &self.context.names;
+        match base {
+            Base::Scalar(scalar) => self.put_str(scalar_name(scalar)),
+            Base::Text => self.put_str("Text"),
+            Base::Enum(index) | Base::Struct(index) | Base::Table(index) | Base::Union(index) => {
+                self.put_name(names.type_name(index));
+            }
+        }
+    }
+
+    fn put_shape(&mut self, base: Base) {
+        let names = &self.context.names;
+        match base {
+            Base::Enum(index) | Base::Struct(index) | Base::Union(index) => {
+                self.put_name(names.module(index));
+            }
+            base => self.put_type(base),
+        }
+    }
+
+    fn put_padding(&mut self, before: &str, bytes: usize, after: &str) {
+        if bytes > 0 {
+            self.put_str(before);
+            self.put_number(bytes as u64);
+            self.put_str(after);
+        }
+    }
+
+    // What stands for a field of a struct in the values of all: the first, or one of the others.
+    fn put_projection(&mut self, place: usize) {
+        self.put_char('v');
+        for _ in 0..place {
+            self.put_str(".1");
+        }
+        self.put_str(".0");
+    }
+
+    fn put_enum_word(&mut self, letter: char, index: usize) {
+        let signed = self.context.is_signed_enum(index);
+        match letter {
+            'j' => self.put_str(if signed { "ℤ" } else { "ℕ" }),
+            'q' => self.put_str(if signed { "int_eq" } else { "nat_eq" }),
+            _ => self.put_str(self.context.enum_scalar(index)),
+        }
+    }
+
+    fn put_struct_word(&mut self, letter: char, at: At) {
+        let context = self.context;
+        match letter {
+            'x' => self.put_padding("_: ", padding(context, at), ",\u{1}"),
+            'y' => {
+                let end = at.member(context.names.count(at.index));
+                self.put_padding(",\u{1}_: ", padding(context, end), "");
+            }
+            'w' if at.place == 0 => {}
+            'w' => {
+                self.put_str(": ");
+                self.put_number(span(context, at).1 as u64);
+            }
+            _ => self.put_projection(at.place),
+        }
+    }
+
+    fn put_default_value(&mut self, at: At) {
+        let context = self.context;
+        if let Some(field) = context.field(at) {
+            match field.kind.base {
+                Base::Enum(index) => {
+                    let place = default_place(context, index, field);
+                    self.put_char(OWN);
+                    self.put_name(context.names.member(index, place));
+                }
+                Base::Scalar(scalar) => self.put_float(scalar, field),
+                _ => {}
+            }
+        }
+    }
+
+    /// Adds what a letter stands for that is no template.
+    pub(crate) fn put_plain_hole(&mut self, letter: char, at: At) {
+        let context = self.context;
+        let names = &context.names;
+        match letter {
+            'c' => self.put_str(context.crate_name),
+            'T' => self.put_name(names.type_name(at.index)),
+            'M' => self.put_name(names.module(at.index)),
+            'n' => {
+                self.put_char(OWN);
+                self.put_name(names.member(at.index, at.place));
+            }
+            'N' => self.put_capitals(names.member(at.index, at.place)),
+            's' => self.put_name(context.said(at)),
+            'i' | 'l' => self.put_integer(integer(context, at)),
+            'k' => self.put_counted(integer(context, at), context.is_signed_enum(at.index)),
+            'L' => self.put_counted(integer(context, at), true),
+            't' | 'm' => self.put_type(base(context, at)),
+            'h' => self.put_shape(base(context, at)),
+            'b' | 'j' | 'q' => self.put_enum_word(letter, at.index),
+            'x' | 'y' | 'w' | 'v' => self.put_struct_word(letter, at),
+            'e' | 'F' => self.put_default_value(at),
+            _ => self.put_number(number(context, letter, at) as u64),
+        }
+    }
+
+    fn put_field_type(&mut self, optional: bool, template: &str, at: At) {
+        if optional {
+            self.put_str("Option<");
+        }
+        self.put_plain(template, at);
+        if optional {
+            self.put_char('>');
+        }
+    }
+
+    /// Adds what a letter stands for.
+    pub(crate) fn put_hole(&mut self, letter: char, at: At) {
+        let context = self.context;
+        let field = match context.field(at) {
+            Some(field) => field,
+            None => return self.put_plain_hole(letter, at),
+        };
+        match letter {
+            'G' => self.put_field_type(is_optional(field), given(field.kind), at),
+            'R' => {
+                let optional = !field.required && !has_default(field);
+                let total = context.is_total(field.kind.base);
+                self.put_field_type(optional, read(field.kind, total), at);
+            }
+            'E' => self.put_plain(encoded(field.kind), at),
+            'D' => self.put_plain(default(context, field), at),
+            'K' => self.put_plain(default_clause(context, field), at),
+            _ => self.put_plain_hole(letter, at),
+        }
+    }
+}

@@ -1,0 +1,29 @@
+//! Names that code has anyway.
+
+/// Words that are reserved in code, in clauses, or in what is printed.
+const RESERVED: &str =
+    "_ NOTHING Self abbrev core main planus std abstract as async await become box break builder clone const continue crate data do dyn elim else ensures enum extern false fields final fn for gen ghost if impl in let loop macro match mod module move mut omega override priv prove pub record ref requires result return self static struct super syntax table trait true try type typeof unfolding union unsafe unsized use virtual where while yield";
+
+/// Names of types that code has anyway, and of a file of definitions.
+const KNOWN_TYPES: &str =
+    "Bool BuildError Builder ByteList Clone Content Copy Debug Default Drop Err ErrorKind Float Lib List None Numbered Offset Ok Option OrDefault PartialEq Plain PlainField PlainTotal Result Shape SliceWithStartOffset Some Stride String Table TableKind TableReadUnion TableView TableWriter Text Type UnionOffset UnionVariant UnionVector Unit Vec Vector VectorReadUnion";
+
+fn has_word(words: &str, name: &[u8]) -> bool {
+    for word in words.split(' ') {
+        if word.as_bytes() == name {
+            return true;
+        }
+    }
+    false
+}
+
+/// Returns whether no field, type or module can have this name.
+pub(crate) fn is_reserved(name: &[u8]) -> bool {
+    has_word(RESERVED, name)
+}
+
+/// Returns whether code has a type of this name anyway. The names of a table's fields and of views
+/// end in `Fields` and `Ref`.
+pub(crate) fn is_known_type(name: &[u8]) -> bool {
+    has_word(KNOWN_TYPES, name) || name.ends_with(b"Ref") || name.ends_with(b"Fields")
+}

@@ -1,0 +1,33 @@
+//! Code of a schema: its tables, structs, enums and unions as a crate over `planus`, each accessor
+//! with the contract that it reads back what was written.
+#![tactic(auto)]
+
+mod arranged;
+mod at;
+mod context;
+mod crate_file;
+mod defaults;
+mod enums;
+mod holes;
+mod imports;
+mod known;
+mod names;
+mod order;
+mod plan;
+mod printer;
+mod refusal;
+mod scope;
+mod structs;
+mod supported;
+mod table_contents;
+mod table_views;
+mod tables;
+mod types;
+mod unions;
+mod uses;
+mod words;
+
+pub use crate_file::{PrintedFile, print_crate};
+pub use names::Names;
+pub use plan::{Line, Plan};
+pub use refusal::Refusal;

@@ -1,0 +1,247 @@
+//! The names that code has for what a schema declares.
+
+ghost use Rattle.std.specs.Prelude.{◌≡◌, true, IfOk};
+ghost use Rattle.planus_codegen.specs.Names.{are_names as are_names_lem, are_scopes as are_scopes_lem};
+ghost use Rattle.planus_codegen.specs.Names.{are_apart_from as are_apart_from_lem};
+
+use crate::known::{is_known_type, is_reserved};
+use crate::refusal::Refusal;
+use crate::scope::{are_apart_from, are_names, are_scopes, is_among};
+use planus_layout::{Body, Declared, Enum, is_among as is_in};
+use std::alloc::{AllocError, Global};
+
+/// The names of a schema's types and modules in code, and those of the members of each type.
+#[derive(Drop)]
+pub struct Names {
+    pub types: Vec<Vec<u8>>,
+    pub modules: Vec<Vec<u8>>,
+    pub members: Vec<Vec<Vec<u8>>>,
+}
+
+/// How a name of the schema becomes one of code.
+#[derive(Clone, Copy)]
+enum Spelling {
+    /// As it is.
+    Kept,
+    /// In small letters, with `_` between its words.
+    Snake,
+    /// The same in capitals.
+    Capitals,
+}
+
+fn is_upper(byte: Option<&u8>) -> bool {
+    match byte {
+        Some(byte) => byte.is_ascii_uppercase(),
+        None => false,
+    }
+}
+
+fn is_lower(byte: Option<&u8>) -> bool {
+    match byte {
+        Some(byte) => byte.is_ascii_lowercase(),
+        None => false,
+    }
+}
+
+// Whether a word begins at an upper letter that another byte stands before.
+fn begins_word(bytes: &[u8], at: usize) -> bool {
+    match at.checked_sub(1) {
+        Some(before) => {
+            bytes.get(before) != Some(&b'_')
+                && (!is_upper(bytes.get(before)) || is_lower(bytes.get(at.saturating_add(1))))
+        }
+        None => false,
+    }
+}
+
+fn spelled_byte(byte: u8, spelling: Spelling) -> u8 {
+    match spelling {
+        Spelling::Kept => byte,
+        Spelling::Snake => byte.to_ascii_lowercase(),
+        Spelling::Capitals => byte.to_ascii_uppercase(),
+    }
+}
+
+fn spelled(alloc: Global, name: &[u8], spelling: Spelling) -> Result<Vec<u8>, AllocError> {
+    let mut out = Vec::new(alloc);
+    for (at, byte) in name.iter().enumerate() {
+        let apart = !matches!(spelling, Spelling::Kept) && byte.is_ascii_uppercase();
+        if apart && begins_word(name, at) {
+            out.push(b'_')?;
+        }
+        out.push(spelled_byte(*byte, spelling))?;
+    }
+    Ok(out)
+}
+
+/// Returns the word after the last dot.
+fn last_word(name: &[u8]) -> &[u8] {
+    let mut word = name;
+    for (at, byte) in name.iter().enumerate() {
+        if *byte == b'.' {
+            word = name.get(at.saturating_add(1)..).unwrap_or(name);
+        }
+    }
+    word
+}
+
+/// Adds a name, with as many `_` behind it as make it differ from each that is there, also in letters
+/// that aren't capitals.
+fn add(names: &mut Vec<Vec<u8>>, mut name: Vec<u8>) -> Result<(), AllocError> {
+    for _ in 0..names.len() {
+        if !is_among(names, &name) {
+            break;
+        }
+        name.push(b'_')?;
+    }
+    names.push(name)?;
+    Ok(())
+}
+
+// Adds a name that isn't reserved: this one, or with `_` behind it.
+fn add_allowed(names: &mut Vec<Vec<u8>>, mut name: Vec<u8>) -> Result<(), AllocError> {
+    if is_reserved(&name) {
+        name.push(b'_')?;
+    }
+    add(names, name)
+}
+
+fn type_names(alloc: Global, declared: &[Declared]) -> Result<Vec<Vec<u8>>, AllocError> {
+    let mut names = Vec::new(alloc);
+    for one in declared {
+        let mut name = spelled(alloc, last_word(&one.name), Spelling::Kept)?;
+        if is_known_type(&name) {
+            name.push(b'_')?;
+        }
+        add_allowed(&mut names, name)?;
+    }
+    Ok(names)
+}
+
+fn module_names(alloc: Global, types: &[Vec<u8>]) -> Result<Vec<Vec<u8>>, AllocError> {
+    let mut names = Vec::new(alloc);
+    for name in types {
+        let mut name = spelled(alloc, name, Spelling::Snake)?;
+        if is_in(types, &name) {
+            name.push(b'_')?;
+        }
+        add_allowed(&mut names, name)?;
+    }
+    Ok(names)
+}
+
+// The spelling of an enum's values: those of flags are constants.
+fn value_spelling(one: &Enum) -> Spelling {
+    if one.flags {
+        Spelling::Capitals
+    } else {
+        Spelling::Kept
+    }
+}
+
+fn add_member(
+    alloc: Global,
+    names: &mut Vec<Vec<u8>>,
+    name: &[u8],
+    spelling: Spelling,
+) -> Result<(), AllocError> {
+    add_allowed(names, spelled(alloc, last_word(name), spelling)?)
+}
+
+fn members_of(alloc: Global, body: &Body) -> Result<Vec<Vec<u8>>, AllocError> {
+    let mut names = Vec::new(alloc);
+    match body {
+        Body::Table(one) => {
+            for field in &one.fields {
+                add_member(alloc, &mut names, &field.name, Spelling::Snake)?;
+            }
+        }
+        Body::Struct(one) => {
+            for field in &one.fields {
+                add_member(alloc, &mut names, &field.name, Spelling::Snake)?;
+            }
+        }
+        Body::Enum(one) => {
+            for value in &one.values {
+                add_member(alloc, &mut names, &value.name, value_spelling(one))?;
+            }
+        }
+        Body::Union(one) => {
+            for member in &one.members {
+                add_member(alloc, &mut names, &member.name, Spelling::Kept)?;
+            }
+        }
+    }
+    Ok(names)
+}
+
+pub(crate) fn name_at(names: &[Vec<u8>], index: usize) -> &[u8] {
+    match names.get(index) {
+        Some(name) => name.as_slice(),
+        None => &[],
+    }
+}
+
+fn names_of(alloc: Global, declared: &[Declared]) -> Result<Names, AllocError> {
+    let types = type_names(alloc, declared)?;
+    let modules = module_names(alloc, &types)?;
+    let mut members = Vec::new(alloc);
+    for one in declared {
+        members.push(members_of(alloc, &one.body)?)?;
+    }
+    Ok(Names {
+        types,
+        modules,
+        members,
+    })
+}
+
+impl Names {
+    /// Returns the names of what is declared.
+    ///
+    /// [`Refusal::Unsupported`] where one is no identifier, or two of a scope are alike: no names that
+    /// a schema may have come to that.
+    pub fn of(alloc: Global, declared: &[Declared]) -> Result<Names, Refusal>
+        ensures types { IfOk result (λ n. are_names_lem n.types.items ≡ true) }
+        ensures modules { IfOk result (λ n. are_names_lem n.modules.items ≡ true) }
+        ensures apart { IfOk result (λ n. are_apart_from_lem n.types.items n.modules.items ≡ true) }
+        ensures members { IfOk result (λ n. are_scopes_lem n.members.items ≡ true) }
+    {
+        let names = names_of(alloc, declared)?;
+        let apart = are_names(&names.types) && are_names(&names.modules);
+        let apart = apart && are_apart_from(&names.types, &names.modules);
+        if apart && are_scopes(&names.members) {
+            return Ok(names);
+        }
+        Err(Refusal::Unsupported {
+            what: "a name that no code can have",
+            name: Vec::new(alloc),
+        })
+    }
+
+    /// Returns the name of a declaration's type.
+    pub(crate) fn type_name(&self, index: usize) -> &[u8] {
+        name_at(&self.types, index)
+    }
+
+    /// Returns the name of a declaration's module.
+    pub(crate) fn module(&self, index: usize) -> &[u8] {
+        name_at(&self.modules, index)
+    }
+
+    /// Returns how many members a declaration has.
+    pub(crate) fn count(&self, index: usize) -> usize {
+        match self.members.get(index) {
+            Some(names) => names.len(),
+            None => 0,
+        }
+    }
+
+    /// Returns the name of a declaration's member.
+    pub(crate) fn member(&self, index: usize, place: usize) -> &[u8] {
+        match self.members.get(index) {
+            Some(names) => name_at(names, place),
+            None => &[],
+        }
+    }
+}

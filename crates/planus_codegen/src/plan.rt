@@ -1,0 +1,120 @@
+//! In which order the fields of a table are written.
+
+ghost use Rattle.std.specs.Prelude.{◌≡◌, map, IfOk, OnOk};
+ghost use Rattle.std.specs.List.Sorted.{IsPermutation};
+ghost use Rattle.planus_codegen.specs.Plans.{IsPlan, Falls, line_of, lines_from};
+ghost use Rattle.planus_codegen.specs.Plans.{alignment_of as alignment_of_lem};
+
+use crate::at::At;
+use planus_layout::{Base, Declared, FieldType, Table, TableField, measure_of, slots_taken};
+use std::alloc::{AllocError, Global};
+
+/// A field of a table: the index of the table, the field's place among the table's fields, what is
+/// said of it, and its alignment in bytes.
+#[derive(Clone, Copy)]
+pub struct Line<'a> {
+    pub table: usize,
+    pub place: usize,
+    pub field: &'a TableField,
+    pub alignment: usize,
+}
+
+impl<'a> Line<'a> {
+    /// Returns where a template of this field is filled.
+    pub(crate) fn at(&self) -> At {
+        At {
+            index: self.table,
+            place: self.place,
+        }
+    }
+}
+
+/// The fields of a table that aren't deprecated.
+#[derive(Drop)]
+pub struct Plan<'a> {
+    pub table: usize,
+    /// As they are declared.
+    pub lines: Vec<Line<'a>>,
+    /// By falling alignment.
+    pub order: Vec<Line<'a>>,
+    /// The size of the vtable in bytes.
+    pub vtable_size: usize,
+}
+
+fn alignment_of(declared: &[Declared], kind: FieldType) -> usize
+    ensures { result ≡ alignment_of_lem declared.now kind }
+{
+    if kind.vector {
+        return 4;
+    }
+    match measure_of(declared, kind.base) {
+        Some(measure) => measure.alignment,
+        None => 4,
+    }
+}
+
+fn lines_of<'a>(
+    alloc: Global,
+    declared: &[Declared],
+    table: usize,
+    fields: &'a [TableField],
+) -> Result<Vec<Line<'a>>, AllocError>
+    ensures { IfOk result (λ v. map line_of v.items ≡ lines_from declared.now 0 fields.now) }
+{
+    let mut lines = Vec::new(alloc);
+    let mut place = 0;
+    'fields: for field in fields {
+        if !field.deprecated {
+            lines.push(Line {
+                table,
+                place,
+                field,
+                alignment: alignment_of(declared, field.kind),
+            })?;
+        }
+        place += 1;
+    }
+    Ok(lines)
+}
+
+fn put_in_order(order: &mut Vec<Line<'_>>) -> Result<(), AllocError>
+    ensures once { OnOk result (IsPermutation order.old.items order.new.items) }
+    ensures falls { OnOk result (Falls order.new.items) }
+{
+    order.sort_by_key(|line| usize::MAX - line.alignment)?;
+    Ok(())
+}
+
+impl<'a> Plan<'a> {
+    /// Returns the plan of a table, whose declaration has this index: its fields by falling alignment,
+    /// and the size of its vtable.
+    pub fn of(
+        alloc: Global,
+        declared: &[Declared],
+        table: usize,
+        one: &'a Table,
+    ) -> Result<Plan<'a>, AllocError>
+        ensures { IfOk result (λ plan. IsPlan declared.now one.now.fields.items plan) }
+    {
+        let lines = lines_of(alloc, declared, table, &one.fields)?;
+        let mut order = Vec::from_slice(alloc, &lines)?;
+        put_in_order(&mut order)?;
+        let slots = slots_taken(alloc, &one.fields)?;
+        Ok(Plan {
+            table,
+            lines,
+            order,
+            vtable_size: slots.len().saturating_mul(2).saturating_add(4),
+        })
+    }
+
+    /// Returns whether a field that is given borrows.
+    pub(crate) fn borrows(&self) -> bool {
+        for line in &self.lines {
+            if line.field.kind.vector || line.field.kind.base == Base::Text {
+                return true;
+            }
+        }
+        false
+    }
+}

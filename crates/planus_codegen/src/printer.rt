@@ -1,0 +1,175 @@
+//! The text of a file while it is printed.
+
+use crate::at::At;
+use crate::context::Context;
+use std::alloc::AllocError;
+
+/// Stands in printed text where a line may end.
+pub(crate) const BREAK: char = '\u{1}';
+
+/// Stands in printed text before each argument of a call, and after the last.
+pub(crate) const ARGUMENT: char = '\u{2}';
+
+/// Stands in printed text before a name that no import brings.
+pub(crate) const OWN: char = '\u{3}';
+
+/// A text to which more is added until memory is refused, and which then says so.
+///
+/// What is added is a template: in it `$` and a letter stand for what the letter means where the
+/// template is filled (`holes.rt` has the letters), `~` for a blank where the line may end, and `^`
+/// for where a call may be broken.
+#[derive(Drop)]
+pub(crate) struct Printer<'a> {
+    pub(crate) context: &'a Context<'a>,
+    text: String,
+    failed: bool,
+}
+
+fn letter_of(letter: char) -> char {
+    match letter {
+        '~' => BREAK,
+        '^' => ARGUMENT,
+        letter => letter,
+    }
+}
+
+impl<'a> Printer<'a> {
+    /// Creates an empty text.
+    pub(crate) fn new(context: &'a Context<'a>) -> Printer<'a> {
+        Printer {
+            context,
+            text: String::new(context.alloc),
+            failed: false,
+        }
+    }
+
+    /// Adds a template.
+    pub(crate) fn put(&mut self, template: &str, at: At) {
+        let mut in_hole = false;
+        for letter in template.chars() {
+            if in_hole {
+                self.put_hole(letter, at);
+                in_hole = false;
+            } else if letter == '$' {
+                in_hole = true;
+            } else {
+                self.put_char(letter_of(letter));
+            }
+        }
+    }
+
+    /// Adds a template in which no letter stands for one.
+    pub(crate) fn put_plain(&mut self, template: &str, at: At) {
+        let mut in_hole = false;
+        for letter in template.chars() {
+            if in_hole {
+                self.put_plain_hole(letter, at);
+                in_hole = false;
+            } else if letter == '$' {
+                in_hole = true;
+            } else {
+                self.put_char(letter_of(letter));
+            }
+        }
+    }
+
+    /// Adds a template for each member of a declaration, and other words between them.
+    pub(crate) fn put_each(&mut self, template: &str, between: &str, at: At) {
+        for place in 0..self.context.names.count(at.index) {
+            if place > 0 {
+                self.put(between, at);
+            }
+            self.put(template, at.member(place));
+        }
+    }
+
+    /// Adds a template for each member of a declaration, after its documentation or else these words.
+    pub(crate) fn put_members(&mut self, words: &str, template: &str, at: At) {
+        for place in 0..self.context.names.count(at.index) {
+            let at = at.member(place);
+            self.put_docs("    ", self.context.docs(at), words, at);
+            self.put(template, at);
+        }
+    }
+
+    /// Adds documentation, a line each, or else a template.
+    pub(crate) fn put_docs(&mut self, indent: &str, docs: &[Vec<u8>], words: &str, at: At) {
+        if docs.is_empty() {
+            self.put(words, at);
+        }
+        for line in docs {
+            self.put_str(indent);
+            self.put_doc(line);
+        }
+    }
+
+    fn put_doc(&mut self, line: &[u8]) {
+        self.put_str("///");
+        let line = match str::from_utf8(line) {
+            Ok(line) => line.trim_ascii(),
+            Err(_) => "",
+        };
+        if !line.is_empty() {
+            self.put_char(' ');
+        }
+        for letter in line.chars() {
+            if letter >= ' ' {
+                self.put_char(letter);
+            }
+        }
+        self.put_char('\n');
+    }
+
+    /// Adds a number in decimal digits.
+    pub(crate) fn put_number(&mut self, number: u64) {
+        match format!(in self.context.alloc; "{number}") {
+            Ok(digits) => self.put_str(digits.as_str()),
+            Err(_) => self.failed = true,
+        }
+    }
+
+    /// Adds a name, whose bytes are letters of ASCII.
+    pub(crate) fn put_name(&mut self, name: &[u8]) {
+        for letter in name {
+            self.put_char(*letter as char);
+        }
+    }
+
+    /// Adds a text as it stands.
+    pub(crate) fn put_str(&mut self, text: &str) {
+        if self.text.push_str(text).is_err() {
+            self.failed = true;
+        }
+    }
+
+    /// Adds a letter as it stands.
+    pub(crate) fn put_char(&mut self, letter: char) {
+        if self.text.push(letter).is_err() {
+            self.failed = true;
+        }
+    }
+
+    /// Adds another printed text.
+    pub(crate) fn join(&mut self, other: &Printer<'_>) {
+        self.put_str(other.text.as_str());
+        self.failed = self.failed || other.failed;
+    }
+
+    /// Returns the text so far.
+    pub(crate) fn as_str(&self) -> &str {
+        self.text.as_str()
+    }
+
+    /// Returns how many letters there are.
+    pub(crate) fn columns(&self) -> usize {
+        self.text.chars().count()
+    }
+
+    /// Returns the text, or that memory was refused.
+    pub(crate) fn finish(self) -> Result<String, AllocError> {
+        if self.failed {
+            return Err(AllocError);
+        }
+        Ok(self.text)
+    }
+}

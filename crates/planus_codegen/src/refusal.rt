@@ -1,0 +1,24 @@
+//! Why no code is printed.
+
+ghost use Rattle.std.specs.Prelude.{◌≡◌};
+
+use std::alloc::AllocError;
+
+/// Why no code is printed.
+#[derive(Debug, Drop)]
+pub enum Refusal {
+    /// Memory was refused.
+    OutOfMemory,
+    /// Something that isn't supported: what it is, and the full name of the declaration with it.
+    Unsupported { what: &'static str, name: Vec<u8> },
+}
+
+impl From<AllocError> for Refusal {
+    ghost use Rattle.planus_codegen.specs.declared.refusal.Refusal.TheVariants.{OutOfMemory};
+
+    ghost from_gives = { λ _ refusal. refusal ≡ OutOfMemory };
+
+    fn from(_error: AllocError) -> Refusal {
+        Refusal::OutOfMemory
+    }
+}

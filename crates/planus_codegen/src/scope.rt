@@ -1,0 +1,109 @@
+//! What the names of a scope are.
+
+ghost use Rattle.std.specs.Prelude.{◌≡◌};
+ghost use Rattle.planus_codegen.specs.Names.{is_name as is_name_lem, is_name_byte as is_name_byte_lem};
+ghost use Rattle.planus_codegen.specs.Names.{are_apart as are_apart_lem, are_names as are_names_lem};
+ghost use Rattle.planus_codegen.specs.Names.{begins_name as begins_name_lem};
+ghost use Rattle.planus_codegen.specs.Names.{is_among as is_among_lem};
+ghost use Rattle.planus_codegen.specs.Names.{are_apart_from as are_apart_from_lem};
+ghost use Rattle.planus_codegen.specs.Names.{are_all_names as are_all_names_lem, are_scopes as are_scopes_lem};
+
+use planus_layout::is_among as is_in;
+
+fn is_name_byte(byte: u8) -> bool
+    ensures { result ≡ is_name_byte_lem byte }
+{
+    byte.is_ascii_alphanumeric() || byte == b'_'
+}
+
+fn begins_name(name: &[u8]) -> bool
+    ensures { result ≡ begins_name_lem name.now }
+{
+    match name {
+        [first, ..] => !first.is_ascii_digit(),
+        [] => false,
+    }
+}
+
+/// Returns whether a name is an identifier: letters, digits and `_`, of which the first is no digit.
+fn is_name(name: &[u8]) -> bool
+    ensures { result ≡ is_name_lem name.now }
+{
+    let mut rest = name;
+    'bytes: while let Some((first, after)) = rest.split_first() {
+        if !is_name_byte(*first) {
+            return false;
+        }
+        rest = after;
+    }
+    begins_name(name)
+}
+
+/// Returns whether a name is alike one of these, also where one has capitals.
+pub(crate) fn is_among(names: &[Vec<u8>], name: &[u8]) -> bool
+    ensures { result ≡ is_among_lem name.now names.now }
+{
+    names.iter().any(|one| one.eq_ignore_ascii_case(name))
+}
+
+/// Returns whether no two names are alike.
+fn are_apart(names: &[Vec<u8>]) -> bool
+    ensures { result ≡ are_apart_lem names.now }
+{
+    let mut rest = names;
+    'names: while let Some((first, after)) = rest.split_first() {
+        if is_among(after, first) {
+            return false;
+        }
+        rest = after;
+    }
+    true
+}
+
+fn are_all_names(names: &[Vec<u8>]) -> bool
+    ensures { result ≡ are_all_names_lem names.now }
+{
+    let mut rest = names;
+    'names: while let Some((first, after)) = rest.split_first() {
+        if !is_name(first) {
+            return false;
+        }
+        rest = after;
+    }
+    true
+}
+
+/// Returns whether these can be the names of a scope: identifiers, of which no two are alike.
+pub(crate) fn are_names(names: &[Vec<u8>]) -> bool
+    ensures { result ≡ are_names_lem names.now }
+{
+    are_all_names(names) && are_apart(names)
+}
+
+/// Returns whether each of these can be the names of a scope.
+pub(crate) fn are_scopes(scopes: &[Vec<Vec<u8>>]) -> bool
+    ensures { result ≡ are_scopes_lem scopes.now }
+{
+    let mut rest = scopes;
+    'scopes: while let Some((first, after)) = rest.split_first() {
+        if !are_names(first) {
+            return false;
+        }
+        rest = after;
+    }
+    true
+}
+
+/// Returns whether none of the names is one of the others.
+pub(crate) fn are_apart_from(others: &[Vec<u8>], names: &[Vec<u8>]) -> bool
+    ensures { result ≡ are_apart_from_lem others.now names.now }
+{
+    let mut rest = names;
+    'names: while let Some((first, after)) = rest.split_first() {
+        if is_in(others, first) {
+            return false;
+        }
+        rest = after;
+    }
+    true
+}

@@ -1,0 +1,91 @@
+//! Structs, and what all types of a fixed layout have.
+
+use crate::at::At;
+use crate::context::Context;
+use crate::holes::has_forced_alignment;
+use crate::printer::Printer;
+use planus_layout::{Declared, Struct};
+
+/// The layout of a type, up to the body of `put`.
+pub(crate) const LAYOUT: &str =
+    "}\n\nimpl Plain for $T {\n    ghost ALIGNMENT = { $A };\n\n    ghost SIZE = { $S };\n\n    ghost shape = { $M_shape };\n\n    const ALIGNMENT: usize = $A;\n\n    const SIZE: usize = $S;\n\n    fn put(&self, bytes: &mut [u8]) {\n";
+
+/// What stands between the bodies of `put` and `read`.
+pub(crate) const READ: &str =
+    "    }\n\n    fn read(^buffer: SliceWithStartOffset<'_>,^offset: usize^) -> Result<$T, ErrorKind> {\n";
+
+/// What stands after the body of `read`.
+pub(crate) const STRIDE: &str =
+    "    }\n}\n\nimpl Stride for $T {\n    type Stands = $T;\n}\n\nimpl PlainField for $T {}\n";
+
+/// What a type has of which a read can't fail.
+pub(crate) const TOTAL: &str =
+    "\nimpl PlainTotal for $T {\n    ghost never_fails = { λ S f e broken. broken };\n}\n";
+
+const HEAD: &str = "#[derive(Clone, Copy, Debug, PartialEq)]\npub struct $T {\n";
+
+const SHAPE: &str = "abbrev pub $M_shape : Shape $T $S $A\n$M_shape = struct_shape\n    ";
+
+/// The proof that a struct with padding is written as its layout says.
+const PADDED: &str =
+    "use Rattle.std.proofs.Common.{arith}\nuse Rattle.std.proofs.lemmas.Grind.{common_steps}\nuse Rattle.$c.proofs.$M.$TPlain.put.Goals as goal\n\npub returns-clause-encoded : goal.returns-clause-encoded\nreturns-clause-encoded c = grind (arith, common_steps)\n";
+
+/// Returns whether a struct has padding.
+pub(crate) fn has_padding(one: &Struct) -> bool {
+    let mut bytes = 0usize;
+    for field in &one.fields {
+        bytes = bytes.saturating_add(field.size);
+    }
+    bytes < one.size
+}
+
+/// Prints the code of a struct.
+pub(crate) fn print_struct<'a>(
+    context: &'a Context<'a>,
+    at: At,
+    declared: &Declared,
+) -> Printer<'a> {
+    let mut printer = Printer::new(context);
+    printer.put_docs("", &declared.docs, "/// A struct of $S bytes.\n", at);
+    printer.put(HEAD, at);
+    printer.put_members("", "    pub $n: $t,\n", at);
+    printer.put(LAYOUT, at);
+    printer.put("        put_fields!(self, bytes;~", at);
+    printer.put_each("$x$n: $z", ",~", at);
+    printer.put("$y);\n", at);
+    printer.put(READ, at);
+    printer.put("        read_fields!($T, buffer, offset;~", at);
+    printer.put_each("$n$w", ",~", at);
+    printer.put(")\n", at);
+    printer.put(STRIDE, at);
+    if context.is_total_declaration(at.index) {
+        printer.put(TOTAL, at);
+    }
+    printer
+}
+
+/// Prints the definition of the layout of a struct.
+pub(crate) fn print_struct_layout<'a>(context: &'a Context<'a>, at: At) -> Printer<'a> {
+    let mut printer = Printer::new(context);
+    let forced = has_forced_alignment(context, at);
+    printer.put(SHAPE, at);
+    printer.put(if forced { "(force_align $A~" } else { "" }, at);
+    printer.put_each("(field (λ x. x.$n) $h_shape~", "", at);
+    printer.put("no_more", at);
+    printer.put_each(")", "", at);
+    printer.put(if forced { ")\n" } else { "\n" }, at);
+    printer.put(
+        "    (struct_layout $P $Q (lit≤ tt) (lit< tt))\n    (λ v. record {~",
+        at,
+    );
+    printer.put_each("$n = $v", ";~", at);
+    printer.put(" })\n    (λ x. refl)\n", at);
+    printer
+}
+
+/// Prints the proof that a struct with padding is written as its layout says.
+pub(crate) fn print_padded<'a>(context: &'a Context<'a>, at: At) -> Printer<'a> {
+    let mut printer = Printer::new(context);
+    printer.put(PADDED, at);
+    printer
+}

@@ -1,0 +1,134 @@
+//! Views of tables: a method a field.
+
+use crate::at::At;
+use crate::plan::{Line, Plan};
+use crate::printer::Printer;
+use crate::types::{has_default, is_bytes, is_union};
+use planus_layout::{Base, TableField};
+
+const VIEW: &str =
+    "/// One in a buffer.\n#[derive(Clone, Copy)]\npub struct $TRef<'a> {\n    table: Table<'a>,\n}\n\n";
+
+const TABLE_VIEW: &str =
+    "impl<'a> TableView<'a> for $TRef<'a> {\n    type Kind = $T;\n\n    ghost table = { λ view. view.table };\n\n    fn of_table(read: Table<'a>) -> $TRef<'a> {\n        $TRef { table: read }\n    }\n}\n\n";
+
+/// The words of the clause of the function that reads a vector.
+fn vector_clause(field: &TableField) -> &'static str {
+    let bytes = is_bytes(field.kind);
+    match (field.kind.base, field.required) {
+        (Base::Text, false) => "~IsTextVector",
+        (Base::Text, true) => "~IsTextVectorRequired",
+        (Base::Table(_), false) => "~IsTableVector~$t",
+        (Base::Table(_), true) => "~IsTableVectorRequired~$t",
+        (Base::Union(_), false) => "~IsUnionVector",
+        (Base::Union(_), true) => "~IsUnionVectorRequired",
+        (_, false) if bytes => "~IsBytesField",
+        (_, true) if bytes => "~IsBytesRequired",
+        (_, false) => "~IsPlainVector",
+        (_, true) => "~IsPlainVectorRequired",
+    }
+}
+
+/// The words of the clause of the function that reads a value.
+fn value_clause(field: &TableField) -> &'static str {
+    match (field.kind.base, field.required) {
+        (Base::Text, false) => "~IsTextField",
+        (Base::Text, true) => "~IsTextRequired",
+        (Base::Table(_), false) => "~IsTableField~$t~(λ view. view.table)",
+        (Base::Table(_), true) => "~IsTableRequired~$t~(λ view. view.table)",
+        (Base::Union(_), false) => "~IsUnionField~(ReadsVariants $h_variants)",
+        (Base::Union(_), true) => "~IsUnionRequired~(ReadsVariants $h_variants)",
+        _ if has_default(field) => "~IsPlainFieldOr~$h_shape~$K",
+        (_, false) => "~IsPlainField~$h_shape",
+        (_, true) => "~IsPlainRequired~$h_shape",
+    }
+}
+
+/// The function of the library that reads a vector.
+fn vector_function(field: &TableField) -> &'static str {
+    let bytes = is_bytes(field.kind);
+    match (field.kind.base, field.required) {
+        (Base::Text, false) => "        text_vector",
+        (Base::Text, true) => "        text_vector_required",
+        (Base::Table(_), false) => "        table_vector",
+        (Base::Table(_), true) => "        table_vector_required",
+        (Base::Union(_), false) => "        union_vector",
+        (Base::Union(_), true) => "        union_vector_required",
+        (_, false) if bytes => "        bytes_field",
+        (_, true) if bytes => "        bytes_required",
+        (_, false) => "        plain_vector",
+        (_, true) => "        plain_vector_required",
+    }
+}
+
+/// The function of the library that reads a value.
+fn value_function(field: &TableField) -> &'static str {
+    match (field.kind.base, field.required) {
+        (Base::Text, false) => "        text_field",
+        (Base::Text, true) => "        text_required",
+        (Base::Table(_), false) => "        table_field",
+        (Base::Table(_), true) => "        table_required",
+        (Base::Union(_), false) => "        union_field::<$t, $tRef<'a>>",
+        (Base::Union(_), true) => "        union_required::<$tRef<'a>>",
+        _ if has_default(field) => "        plain_field_or",
+        (_, false) => "        plain_field",
+        (_, true) => "        plain_required",
+    }
+}
+
+/// What stands in the clause after the names: the kind of a union that may be absent.
+fn clause_end(field: &TableField) -> &'static str {
+    if is_union(field.kind) && !field.kind.vector && !field.required {
+        "~self.now.table~$r~(codes \"$T\")~(codes \"$s\")~$t~result }\n    {\n"
+    } else {
+        "~self.now.table~$r~(codes \"$T\")~(codes \"$s\")~result }\n    {\n"
+    }
+}
+
+/// The arguments of the call.
+fn arguments(field: &TableField) -> &'static str {
+    if has_default(field) {
+        "(^&self.table,^$r,^$D,^\"$T\",^\"$s\"^)\n    }\n"
+    } else {
+        "(^&self.table,^$r,^\"$T\",^\"$s\"^)\n    }\n"
+    }
+}
+
+impl<'a> Printer<'a> {
+    fn put_accessor(&mut self, line: Line<'_>) {
+        let field = line.field;
+        let at = line.at();
+        self.put_docs("    ", &field.docs, "    /// Returns `$s`.\n", at);
+        self.put(
+            "    pub fn $n(^&self^) -> Result<$R>\n        ensures {",
+            at,
+        );
+        if field.kind.vector {
+            self.put(vector_clause(field), at);
+            self.put(clause_end(field), at);
+            self.put(vector_function(field), at);
+        } else {
+            self.put(value_clause(field), at);
+            self.put(clause_end(field), at);
+            self.put(value_function(field), at);
+        }
+        self.put(arguments(field), at);
+    }
+
+    /// Adds the view of a table.
+    pub(crate) fn put_view(&mut self, plan: &Plan<'_>) {
+        let at = At::declaration(plan.table);
+        self.put(VIEW, at);
+        if !plan.lines.is_empty() {
+            self.put("impl<'a> $TRef<'a> {\n", at);
+        }
+        let mut first = true;
+        for line in &plan.lines {
+            self.put_str(if first { "" } else { "\n" });
+            first = false;
+            self.put_accessor(*line);
+        }
+        self.put(if first { "" } else { "}\n\n" }, at);
+        self.put(TABLE_VIEW, at);
+    }
+}

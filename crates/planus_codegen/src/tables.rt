@@ -1,0 +1,156 @@
+//! Tables.
+
+use crate::at::At;
+use crate::context::Context;
+use crate::defaults::{default_value, has_constant, is_judged};
+use crate::plan::Plan;
+use crate::printer::Printer;
+use crate::types::{has_default, is_optional, is_union};
+use planus_layout::{Base, Declared, TableField};
+
+const FIELDS: &str =
+    "/// The fields of `$T`, as [`$T::create`] takes them.\n#[derive(Drop)]\npub struct $TFields";
+
+const CREATE: &str =
+    "impl $T {\n    /// Writes a table with these fields. One that equals its default is left out.\n    ///\n    /// [`BuildError::TooLarge`] and [`BuildError::OutOfMemory`] as of [`Builder::create_vector`].\n    pub fn create(\n        builder: &mut Builder,\n        fields: $TFields";
+
+const KEPT: &str = "        ensures kept {~IfOk~result~(λ offset.~WritesContents~($M_contents";
+
+const CREATED: &str =
+    "~builder.old~offset.distance~builder.new) }\n        ensures reached { IfOk result (λ offset. offset.distance ≤ length builder.new.bytes) }\n        ensures grows { Grows builder.old builder.new }\n    {\n        let lines = fields![";
+
+const KIND: &str =
+    "impl TableKind for $T {\n    type Writer = TableWriter<$p>;\n\n    ghost name = { codes \"[$TRef]\" };\n\n    fn name() -> &'static str\n        ensures {~result.now ≡~codes \"[$TRef]\" }\n    {\n        \"[$TRef]\"\n    }\n}\n";
+
+/// The condition that what a field refers to is in the builder.
+fn condition(field: &TableField) -> &'static str {
+    match (field.kind.base, field.kind.vector, is_optional(field)) {
+        (Base::Table(_), false, false) => { "        requires $n {~IsIn~builder.old~fields.$n }\n" }
+        (Base::Table(_), false, true) => {
+            "        requires $n {~MatchOption~fields.$n~⊤~(λ x. IsIn builder.old x) }\n"
+        }
+        (Base::Table(_), true, false) => {
+            "        requires $n {~AllIn~builder.old~fields.$n.now }\n"
+        }
+        (Base::Table(_), true, true) => {
+            "        requires $n {~MatchOption~fields.$n~⊤~(λ x. AllIn builder.old x.now) }\n"
+        }
+        (Base::Union(_), false, false) => {
+            "        requires $n {~IsIn~builder.old~fields.$n.offset }\n"
+        }
+        (Base::Union(_), false, true) => {
+            "        requires $n {~MatchOption~fields.$n~⊤~(λ x. IsIn builder.old x.offset) }\n"
+        }
+        (Base::Union(_), true, _) => {
+            "        requires $n {~AllUnionsIn~builder.old~fields.$n.now }\n"
+        }
+        _ => "",
+    }
+}
+
+/// The line of a field in `fields!`.
+fn line_of(field: &TableField) -> &'static str {
+    match (is_union(field.kind), field.kind.vector) {
+        (true, true) if field.required => "            ($u, $o): unions $E = fields.$n,\n",
+        (true, true) => {
+            "            ($u, $o): unions $E = OrDefault { value: fields.$n, default: () },\n"
+        }
+        (true, false) => "            ($u, $o): union $E = fields.$n,\n",
+        _ if has_default(field) => {
+            "            $o: $E = OrDefault { value: fields.$n, default: $D },\n"
+        }
+        _ => "            $o: $E = fields.$n,\n",
+    }
+}
+
+impl<'a> Printer<'a> {
+    // The constants of the defaults that have one.
+    fn put_constants(&mut self, plan: &Plan<'_>) {
+        for line in &plan.lines {
+            if has_constant(self.context, line.field) {
+                let at = line.at();
+                self.put("/// The default of `$s`.\npub const DEFAULT_$N: $t = ", at);
+                self.put(default_value(self.context, line.field), at);
+                self.put(";\n\n", at);
+            }
+        }
+    }
+
+    fn put_fields(&mut self, plan: &Plan<'_>) {
+        let at = At::declaration(plan.table);
+        self.put(FIELDS, at);
+        self.put_str(if plan.borrows() { "<'a> {" } else { " {" });
+        self.put_str(if plan.lines.is_empty() { "" } else { "\n" });
+        for line in &plan.lines {
+            self.put_docs("    ", &line.field.docs, "", at);
+            self.put("    pub $n: $G,\n", line.at());
+        }
+        self.put("}\n\n", at);
+    }
+
+    // The clauses of `create`, up to its list of fields.
+    fn put_clauses(&mut self, plan: &Plan<'_>) {
+        let at = At::declaration(plan.table);
+        for line in &plan.lines {
+            self.put(condition(line.field), line.at());
+        }
+        self.put(KEPT, at);
+        for line in &plan.lines {
+            if is_judged(line.field) {
+                self.put("~(λ x. ⟦<$t as PartialEq>⟧.eq x $K)", line.at());
+            }
+        }
+        self.put(
+            if plan.borrows() {
+                "~fields.entry)"
+            } else {
+                "~fields)"
+            },
+            at,
+        );
+        self.put(CREATED, at);
+    }
+
+    fn put_create(&mut self, plan: &Plan<'_>) {
+        let at = At::declaration(plan.table);
+        self.put(CREATE, at);
+        self.put_str(if plan.borrows() { "<'_>" } else { "" });
+        self.put(
+            ",\n    ) -> std::result::Result<Offset<$T>, BuildError>\n",
+            at,
+        );
+        self.put_clauses(plan);
+        self.put_str(if plan.order.is_empty() { "" } else { "\n" });
+        for line in &plan.order {
+            self.put(line_of(line.field), line.at());
+        }
+        self.put_str(if plan.order.is_empty() {
+            ""
+        } else {
+            "        "
+        });
+        self.put(
+            "];\n        create_table::<$T, _>(builder, lines)\n    }\n}\n\n",
+            at,
+        );
+    }
+}
+
+/// Prints the code of a table.
+pub(crate) fn print_table<'a>(
+    context: &'a Context<'a>,
+    plan: &Plan<'_>,
+    declared: &Declared,
+) -> Printer<'a> {
+    let mut printer = Printer::new(context);
+    let at = At::declaration(plan.table);
+    let words = "/// The kind of `$T`, and of an offset to one.\n";
+    printer.put_docs("", &declared.docs, words, at);
+    printer.put("pub struct $T;\n\n", at);
+    printer.put_constants(plan);
+    printer.put_fields(plan);
+    printer.put_create(plan);
+    printer.put_view(plan);
+    printer.put(KIND, at.member(plan.vtable_size));
+    printer
+}

@@ -1,0 +1,68 @@
+//! Types of fields in code.
+
+use planus_layout::{Base, FieldType, Scalar, TableField, Value};
+
+/// Returns whether it is a vector of unsigned bytes.
+pub(crate) fn is_bytes(kind: FieldType) -> bool {
+    kind.vector && kind.base == Base::Scalar(Scalar::UByte)
+}
+
+/// Returns whether it is a union, or a vector of them.
+pub(crate) fn is_union(kind: FieldType) -> bool {
+    matches!(kind.base, Base::Union(_))
+}
+
+/// Returns whether a field is left out where it equals its default.
+pub(crate) fn has_default(field: &TableField) -> bool {
+    let number = matches!(field.kind.base, Base::Scalar(_) | Base::Enum(_)) && !field.kind.vector;
+    number && !matches!(field.default, Some(Value::Absent))
+}
+
+/// Returns whether a field may be absent when it is written: it has neither a default nor
+/// `required`, and is no vector of unions, which is left out where it is empty.
+pub(crate) fn is_optional(field: &TableField) -> bool {
+    let unions = is_union(field.kind) && field.kind.vector;
+    !field.required && !has_default(field) && !unions
+}
+
+/// Returns the encoded type of a field, as `fields!` has it.
+pub(crate) fn encoded(kind: FieldType) -> &'static str {
+    match (kind.base, kind.vector) {
+        (Base::Text | Base::Table(_), true) => "Offset<List<Offset<$t>>>",
+        (Base::Text | Base::Table(_), false) => "Offset<$t>",
+        (Base::Union(_), _) => "$t",
+        (_, true) => "Offset<List<$t>>",
+        (_, false) => "$t",
+    }
+}
+
+/// Returns the type of a field that is written, where it is there.
+pub(crate) fn given(kind: FieldType) -> &'static str {
+    match (kind.base, kind.vector) {
+        (Base::Text, true) => "&'a [&'a str]",
+        (Base::Text, false) => "&'a str",
+        (Base::Table(_), true) => "&'a [Offset<$t>]",
+        (Base::Table(_), false) => "Offset<$t>",
+        (Base::Union(_), true) => "&'a [UnionOffset<$t>]",
+        (Base::Union(_), false) => "UnionOffset<$t>",
+        (_, true) if is_bytes(kind) => "ByteList<'a>",
+        (_, true) => "&'a [$t]",
+        (_, false) => "$t",
+    }
+}
+
+/// Returns the type of a field that is read, where it is there. `total` says that the read of an
+/// item can't fail.
+pub(crate) fn read(kind: FieldType, total: bool) -> &'static str {
+    match (kind.base, kind.vector) {
+        (Base::Text, true) => "Vector<'a, Result<&'a str>>",
+        (Base::Text, false) => "&'a str",
+        (Base::Table(_), true) => "Vector<'a, Result<TableRef<'a, $t>>>",
+        (Base::Union(_), true) => "UnionVector<'a, $tRef<'a>>",
+        (Base::Table(_) | Base::Union(_), false) => "$tRef<'a>",
+        (_, true) if is_bytes(kind) => "&'a [u8]",
+        (_, true) if total => "Vector<'a, $t>",
+        (_, true) => "Vector<'a, Result<$t>>",
+        (_, false) => "$t",
+    }
+}

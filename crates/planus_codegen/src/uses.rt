@@ -1,0 +1,161 @@
+//! The imports of code.
+
+use crate::at::At;
+use crate::context::Context;
+use crate::defaults::has_constant;
+use crate::order::{keys_of, sort_by_key};
+use crate::printer::Printer;
+use crate::words::Words;
+use planus_layout::{Body, Table};
+use std::alloc::AllocError;
+
+/// The names of `planus` that code may need.
+const NAMES: &str =
+    "BuildError Builder ByteList List Offset OrDefault Plain PlainField PlainTotal Result SliceWithStartOffset Stride TableKind TableReadUnion TableRef TableView TableWriter Text UnionOffset UnionVector Vector VectorReadUnion bytes_field bytes_required create_table fields plain_field plain_field_or plain_required plain_vector plain_vector_required put_fields read_fields read_variant read_view table_field table_required table_vector table_vector_required text_field text_required text_vector text_vector_required union_field union_required union_vector union_vector_required";
+
+/// The columns of an import on one line.
+const COLUMNS: usize = 98;
+
+/// The words behind a type's name that name the types of a declaration.
+fn endings(body: &Body) -> &'static [&'static str] {
+    match body {
+        Body::Table(_) => &["", "Fields", "Ref"],
+        Body::Union(_) => &["", "Ref"],
+        Body::Struct(_) | Body::Enum(_) => &[""],
+    }
+}
+
+// The places of a table's fields whose default has a constant, by their names.
+fn constants_of(
+    context: &Context<'_>,
+    index: usize,
+    one: &Table,
+) -> Result<Vec<usize>, AllocError> {
+    let mut places = Vec::new(context.alloc);
+    for (place, field) in one.fields.iter().enumerate() {
+        if !field.deprecated && has_constant(context, field) {
+            places.push(place)?;
+        }
+    }
+    if let Some(names) = context.names.members.get(index) {
+        sort_by_key(&mut places, &keys_of(context.alloc, names)?)?;
+    }
+    Ok(places)
+}
+
+impl<'a> Printer<'a> {
+    // Starts a name of a list.
+    fn put_comma(&mut self) {
+        if !self.as_str().is_empty() {
+            self.put_str(",\u{1}");
+        }
+    }
+
+    // Adds the names of a declaration's types that are among the words, or all.
+    fn list_types(&mut self, at: At, body: &Body, words: Option<&Words<'_>>) {
+        let context = self.context;
+        for ending in endings(body) {
+            let wanted = match words {
+                Some(words) => words.has(context.names.type_name(at.index), *ending),
+                None => true,
+            };
+            if wanted {
+                self.put_comma();
+                self.put("$T", at);
+                self.put_str(*ending);
+            }
+        }
+    }
+
+    // Adds an import of the names of a list, in the layout of code.
+    fn put_use(&mut self, path: &Printer<'_>, names: &Printer<'_>) {
+        let width = names.columns();
+        if width == 0 {
+            return;
+        }
+        let whole = path.columns().saturating_add(width).saturating_add(3);
+        let several = names.as_str().contains(',');
+        let (start, end) = match (several, whole <= COLUMNS) {
+            (false, _) => ("", ";\n"),
+            (true, true) => ("{", "};\n"),
+            (true, false) => ("{\n    ", ",\n};\n"),
+        };
+        self.join(path);
+        self.put_str(start);
+        self.join(names);
+        self.put_str(end);
+    }
+
+    // Adds the imports of the types of a declaration that are among the words.
+    fn put_type_uses(&mut self, words: &Words<'_>, index: usize) {
+        let context = self.context;
+        let at = At::declaration(index);
+        let mut names = Printer::new(context);
+        if let Some(body) = context.body(index) {
+            names.list_types(at, body, Some(words));
+        }
+        let mut path = Printer::new(context);
+        path.put("use crate::$M::", at);
+        self.put_use(&path, &names);
+    }
+
+    // Adds the imports of the names of `planus` that are among the words.
+    fn put_planus_uses(&mut self, words: &Words<'_>) {
+        let has_kind = words.has(&[], "ErrorKind");
+        if has_kind {
+            self.put_str("use planus::errors::ErrorKind;\n");
+        }
+        if words.has(&[], "Table") {
+            self.put_str("use planus::table_reader::Table;\n");
+        }
+        let mut names = Printer::new(self.context);
+        for name in NAMES.split(' ') {
+            if words.has(&[], name) && !(has_kind && name == "Result") {
+                names.put_comma();
+                names.put_str(name);
+            }
+        }
+        let mut path = Printer::new(self.context);
+        path.put_str("use planus::");
+        self.put_use(&path, &names);
+    }
+
+    /// Adds the imports of code.
+    pub(crate) fn put_code_uses(&mut self, words: &Words<'_>, order: &[usize], own: usize) {
+        for index in order {
+            if *index != own {
+                self.put_type_uses(words, *index);
+            }
+        }
+        self.put_planus_uses(words);
+    }
+
+    /// Adds what the crate passes on of a declaration.
+    pub(crate) fn put_passed_on(&mut self, index: usize, body: &Body) -> Result<(), AllocError> {
+        let at = At::declaration(index);
+        let mut names = Printer::new(self.context);
+        if let Body::Table(one) = body {
+            for place in constants_of(self.context, index, one)? {
+                names.put_comma();
+                names.put("DEFAULT_$N", at.member(place));
+            }
+        }
+        names.list_types(at, body, None);
+        let mut path = Printer::new(self.context);
+        path.put("pub use $M::", at);
+        self.put_use(&path, &names);
+        Ok(())
+    }
+
+    /// Adds the file identifier, whose bytes these are.
+    pub(crate) fn put_identifier(&mut self, identifier: &[u8]) {
+        self.put_str("\n/// The file identifier, which [`planus::Builder::finish`] writes and ");
+        self.put_str("[`planus::has_identifier`]\n/// looks for.\n");
+        self.put_str("pub const FILE_IDENTIFIER: [u8; 4] = [");
+        for (place, byte) in identifier.iter().enumerate() {
+            self.put_str(if place == 0 { "" } else { ", " });
+            self.put_number(*byte as u64);
+        }
+        self.put_str("];\n");
+    }
+}

@@ -1,0 +1,116 @@
+//! The words of printed text.
+
+use std::alloc::{AllocError, Global};
+
+const ENSURES: &str = "ensures";
+
+const REQUIRES: &str = "requires";
+
+const GHOST: &str = "ghost";
+
+const DOCS: &str = "///";
+
+/// Which lines of a text are looked at.
+#[derive(Clone, Copy)]
+pub(crate) enum Part {
+    /// Those of code, without documentation.
+    Code,
+    /// Those of clauses in code. Each is one line until lines are broken.
+    Clauses,
+    /// All of a file of definitions.
+    Definitions,
+}
+
+/// The words of a text that an import may bring: those that stand behind no path, string or name of
+/// an implementation.
+#[derive(Drop)]
+pub(crate) struct Words<'a> {
+    words: Vec<&'a [u8]>,
+}
+
+fn begins_with(line: &[u8], word: &str) -> bool {
+    line.starts_with(word.as_bytes())
+}
+
+fn is_clause(line: &[u8]) -> bool {
+    begins_with(line, ENSURES) || begins_with(line, REQUIRES) || begins_with(line, GHOST)
+}
+
+fn is_in(line: &[u8], part: Part) -> bool {
+    let line = line.trim_ascii_start();
+    match part {
+        Part::Code => !is_clause(line) && !begins_with(line, DOCS),
+        Part::Clauses => is_clause(line),
+        Part::Definitions => true,
+    }
+}
+
+// Whether a byte is part of a word. In code brackets stand around words; elsewhere they are words.
+fn is_word_byte(byte: u8, part: Part) -> bool {
+    match byte {
+        b'[' | b']' | b'=' => !matches!(part, Part::Code),
+        b'A'..=b'Z' | b'a'..=b'z' | b'0'..=b'9' | b'_' | 3 | 0x80..=0xFF => true,
+        _ => false,
+    }
+}
+
+fn is_mark(byte: Option<&u8>, part: Part) -> bool {
+    match byte {
+        Some(b'.' | b':' | b'"') => true,
+        Some(b'<') => !matches!(part, Part::Code),
+        _ => false,
+    }
+}
+
+impl<'a> Words<'a> {
+    /// Returns the words of a part of a text.
+    pub(crate) fn of(alloc: Global, text: &'a str, part: Part) -> Result<Words<'a>, AllocError> {
+        let mut words = Words {
+            words: Vec::new(alloc),
+        };
+        for line in text.as_bytes().split(|byte| *byte == b'\n') {
+            if is_in(line, part) {
+                words.add_line(line, part)?;
+            }
+        }
+        Ok(words)
+    }
+
+    fn add_line(&mut self, line: &'a [u8], part: Part) -> Result<(), AllocError> {
+        let mut start = 0usize;
+        for (at, byte) in line.iter().enumerate() {
+            if !is_word_byte(*byte, part) {
+                self.add(line, (start, at), part)?;
+                start = at.saturating_add(1);
+            }
+        }
+        self.add(line, (start, line.len()), part)
+    }
+
+    fn add(&mut self, line: &'a [u8], range: (usize, usize), part: Part) -> Result<(), AllocError> {
+        let before = match range.0.checked_sub(1) {
+            Some(before) => line.get(before),
+            None => None,
+        };
+        if range.0 < range.1 && !is_mark(before, part) {
+            if let Some(word) = line.get(range.0..range.1) {
+                if !self.has(word, "") {
+                    self.words.push(word)?;
+                }
+            }
+        }
+        Ok(())
+    }
+
+    /// Returns whether there is a word of these letters and then those.
+    pub(crate) fn has(&self, start: &[u8], end: &str) -> bool {
+        let end = end.as_bytes();
+        let length = start.len().saturating_add(end.len());
+        for word in &self.words {
+            if word.len() == length && word.starts_with(start) && word.ends_with(end) {
+                return true;
+            }
+        }
+        false
+    }
+}
