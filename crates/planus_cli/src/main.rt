@@ -1,5 +1,5 @@
-//! The program `planus`: checks schemas of flatbuffers, prints them in their canonical layout, and
-//! shows what buffers hold by them.
+//! The program `planus`: checks schemas of flatbuffers, prints them in their canonical layout,
+//! shows what buffers hold by them, and prints their code as the files of a crate.
 #![tactic(auto)]
 
 use planus_commands::run_program;

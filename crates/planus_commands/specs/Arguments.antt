@@ -8,17 +8,20 @@ use Rattle.planus_layout.specs.Numbers.{integer_said}
 use Rattle.planus_layout.specs.declared.number.Number.{Number}
 use Rattle.planus_commands.specs.declared.arguments.Command.{Command}
 use Rattle.planus_commands.specs.declared.arguments.Command.TheVariants.{Check, Format, View}
+use Rattle.planus_commands.specs.declared.arguments.Command.TheVariants.{Rattle as RattleCommand}
 use Rattle.planus_commands.specs.declared.arguments.Choice.{Choice}
 use Rattle.planus_commands.specs.declared.arguments.Choice.TheVariants.{Folder, Write, DropComments}
 use Rattle.planus_commands.specs.declared.arguments.Choice.TheVariants.{Root, SizePrefixed, Lines}
-use Rattle.planus_commands.specs.declared.arguments.Choice.TheVariants.{Bytes, Help as HelpChoice}
+use Rattle.planus_commands.specs.declared.arguments.Choice.TheVariants.{Bytes, Output}
+use Rattle.planus_commands.specs.declared.arguments.Choice.TheVariants.{Check as CheckChoice}
+use Rattle.planus_commands.specs.declared.arguments.Choice.TheVariants.{Help as HelpChoice}
 use Rattle.planus_commands.specs.declared.arguments.Words.{Words}
 use Rattle.planus_commands.specs.declared.arguments.Request.{Request}
 use Rattle.planus_commands.specs.declared.arguments.Request.TheVariants as code
 
 -- the words after a command; see `Words`
 pub record WordsV : Type 0 where
-  pub schemas : List (List ℕ)
+  pub files : List (List ℕ)
   pub folders : List (List ℕ)
   pub write : Bool
   pub drop_comments : Bool
@@ -26,13 +29,15 @@ pub record WordsV : Type 0 where
   pub size_prefixed : Bool
   pub lines : Option (List ℕ)
   pub bytes : Option (List ℕ)
+  pub output : Option (List ℕ)
+  pub check : Bool
   pub help : Bool
   pub wants : Option Choice
   pub unknown : Option (List ℕ)
 
 abbrev pub no_words : WordsV
 no_words = record {
-  schemas = [];
+  files = [];
   folders = [];
   write = false;
   drop_comments = false;
@@ -40,6 +45,8 @@ no_words = record {
   size_prefixed = false;
   lines = None;
   bytes = None;
+  output = None;
+  check = false;
   help = false;
   wants = None;
   unknown = None;
@@ -47,7 +54,7 @@ no_words = record {
 
 abbrev pub words_of : Words → WordsV
 words_of w = record {
-  schemas = map (λ s. s.now) w.schemas.items;
+  files = map (λ s. s.now) w.files.items;
   folders = map (λ s. s.now) w.folders.items;
   write = w.write;
   drop_comments = w.drop_comments;
@@ -55,6 +62,8 @@ words_of w = record {
   size_prefixed = w.size_prefixed;
   lines = option_map (λ s. s.now) w.lines;
   bytes = option_map (λ s. s.now) w.bytes;
+  output = option_map (λ s. s.now) w.output;
+  check = w.check;
   help = w.help;
   wants = w.wants;
   unknown = option_map (λ s. s.now) w.unknown;
@@ -71,6 +80,11 @@ view_option w = if bytes_eq w (codes "-I") then Some Folder
     else if bytes_eq w (codes "--lines") then Some Lines
     else if bytes_eq w (codes "--bytes") then Some Bytes else None
 
+abbrev pub rattle_option : List ℕ → Option Choice
+rattle_option w = if bytes_eq w (codes "-I") then Some Folder
+    else if bytes_eq w (codes "-o") then Some Output
+    else if bytes_eq w (codes "--check") then Some CheckChoice else None
+
 abbrev pub option_of : Command → List ℕ → Option Choice
 option_of command w = if bytes_eq w (codes "--help") then Some HelpChoice else option_in command
   where
@@ -79,6 +93,7 @@ option_of command w = if bytes_eq w (codes "--help") then Some HelpChoice else o
     option_in Format = if bytes_eq w (codes "--write") then Some Write
         else if bytes_eq w (codes "--drop-comments") then Some DropComments else None
     option_in View = view_option w
+    option_in RattleCommand = rattle_option w
 
 -- the first of two
 abbrev pub or_first : Option (List ℕ) → List ℕ → Option (List ℕ)
@@ -90,7 +105,9 @@ with_option ws w (Some Folder) = record ws { wants = Some Folder }
 with_option ws w (Some Root) = record ws { wants = Some Root }
 with_option ws w (Some Lines) = record ws { wants = Some Lines }
 with_option ws w (Some Bytes) = record ws { wants = Some Bytes }
+with_option ws w (Some Output) = record ws { wants = Some Output }
 with_option ws w (Some SizePrefixed) = record ws { size_prefixed = true }
+with_option ws w (Some CheckChoice) = record ws { check = true }
 with_option ws w (Some Write) = record ws { write = true }
 with_option ws w (Some DropComments) = record ws { drop_comments = true }
 with_option ws w (Some HelpChoice) = record ws { help = true }
@@ -102,9 +119,11 @@ with_value ws Folder w = record ws { folders = ws.folders ++ w ∷ [] }
 with_value ws Root w = record ws { root = Some w }
 with_value ws Lines w = record ws { lines = Some w }
 with_value ws Bytes w = record ws { bytes = Some w }
+with_value ws Output w = record ws { output = Some w }
 with_value ws Write w = ws
 with_value ws DropComments w = ws
 with_value ws SizePrefixed w = ws
+with_value ws CheckChoice w = ws
 with_value ws HelpChoice w = ws
 
 -- one word more: that after an option, a schema or a buffer, or an option
@@ -114,7 +133,7 @@ with_word command ws w = by_want ws.wants
     by_want : Option Choice → WordsV
     by_want (Some choice) = with_value (record ws { wants = None }) choice w
     by_want None = if is_option w then with_option ws w (option_of command w)
-        else record ws { schemas = ws.schemas ++ w ∷ [] }
+        else record ws { files = ws.files ++ w ∷ [] }
 
 -- ---- numbers
 
@@ -150,6 +169,8 @@ pub data Asked : Type 0 where
   no_schema : Asked
   no_buffer : Asked
   no_number : List ℕ → Asked
+  several_schemas : Asked
+  no_output : Asked
 
 abbrev pub asked : Request → Asked
 asked code.Help = help
@@ -163,6 +184,8 @@ asked (code.NoValue choice) = no_value choice
 asked code.NoSchema = no_schema
 asked code.NoBuffer = no_buffer
 asked (code.NoNumber w) = no_number w.now
+asked code.SeveralSchemas = several_schemas
+asked code.NoOutput = no_output
 
 abbrev pub is_empty : List (List ℕ) → Bool
 is_empty [] = true
@@ -170,22 +193,32 @@ is_empty (x ∷ xs) = false
 
 -- `view` has a schema and a buffer, and numbers
 abbrev pub view_request : WordsV → Asked
-view_request ws = if not (length ws.schemas == 2) then no_buffer
+view_request ws = if not (length ws.files == 2) then no_buffer
     else if is_no_number ws.lines then no_number (unwrap_or ws.lines [])
     else if is_no_number ws.bytes then no_number (unwrap_or ws.bytes [])
     else run View ws
+
+abbrev pub run_with : Option (List ℕ) → WordsV → Asked
+run_with None ws = no_output
+run_with (Some folder) ws = run RattleCommand ws
+
+-- `rattle` has one schema, and a folder
+abbrev pub rattle_request : WordsV → Asked
+rattle_request ws = if not (length ws.files == 1) then several_schemas
+    else run_with ws.output ws
 
 abbrev pub run_request : Command → WordsV → Asked
 run_request Check ws = run Check ws
 run_request Format ws = run Format ws
 run_request View ws = view_request ws
+run_request RattleCommand ws = rattle_request ws
 
 abbrev pub request_by : Command → WordsV → Asked
 request_by command ws = unknown_or ws.unknown
   where
     value_or : Option Choice → Asked
     value_or (Some choice) = no_value choice
-    value_or None = if is_empty ws.schemas then no_schema else run_request command ws
+    value_or None = if is_empty ws.files then no_schema else run_request command ws
 
     unknown_or : Option (List ℕ) → Asked
     unknown_or (Some w) = unknown_option command w
@@ -194,7 +227,8 @@ request_by command ws = unknown_or ws.unknown
 abbrev pub command_of : List ℕ → Option Command
 command_of w = if bytes_eq w (codes "check") then Some Check
     else if bytes_eq w (codes "format") then Some Format
-    else if bytes_eq w (codes "view") then Some View else None
+    else if bytes_eq w (codes "view") then Some View
+    else if bytes_eq w (codes "rattle") then Some RattleCommand else None
 
 abbrev pub request_after : List ℕ → List (List ℕ) → Option Command → Asked
 request_after w rest None = unknown_command w

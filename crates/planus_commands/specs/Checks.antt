@@ -1,5 +1,5 @@
 -- What is said of the meaning of files.
-use Rattle.std.specs.Prelude.{◌≡◌, ℕ, ◌==◌, ◌||◌, not, Bool, true, false, List, [], ◌∷◌, ◌++◌}
+use Rattle.std.specs.Prelude.{◌≡◌, ℕ, ◌==◌, ◌||◌, not, Bool, List, [], ◌∷◌, ◌++◌}
 use Rattle.std.specs.Prelude.{map, take, drop, slice_get, Option, Some, None}
 use Rattle.std.specs.Prelude.{if◌then◌else◌}
 use Rattle.std.specs.List.{position_or_len}
@@ -12,6 +12,7 @@ use Rattle.planus_syntax.specs.declared.value.Declaration.{Declaration}
 use Rattle.planus_schema.specs.Faults.{AreInOrder, faults_found}
 use Rattle.planus_commands.specs.declared.streams.RunError.{RunError}
 use Rattle.planus_commands.specs.declared.streams.RunError.TheVariants.{OutOfMemory, Read, Write}
+use Rattle.planus_commands.specs.declared.streams.RunError.TheVariants.{BadSchema}
 use Rattle.planus_commands.specs.Outcomes.{IsPlaceAt}
 use Rattle.planus_schema.specs.Schemas.{Means, AreFaults}
 use Rattle.planus_schema.specs.Sound.{IsSound}
@@ -93,5 +94,6 @@ abbrev pub FailsResolving : List (Vec Declaration) → RunError → Option (List
     → Option (List ℕ) → Type 0
 FailsResolving declarations OutOfMemory before after = Keeps before after
 FailsResolving declarations Read before after = ⊥
+FailsResolving declarations BadSchema before after = ⊥
 FailsResolving declarations Write before after =
     (faults : List Fault) × AreTold declarations faults

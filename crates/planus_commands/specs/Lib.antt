@@ -6,3 +6,5 @@ pub mod Problems
 pub mod Checks
 pub mod Near
 pub mod Viewing
+pub mod Buffers
+pub mod Printing

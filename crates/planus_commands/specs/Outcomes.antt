@@ -1,5 +1,5 @@
 -- What becomes of the text of a schema.
-use Rattle.std.specs.Prelude.{◌≡◌, ℕ, Bool, true, false, not, List, [], ◌∷◌, codes, count_by}
+use Rattle.std.specs.Prelude.{◌≡◌, ℕ, Bool, true, false, not, List, [], ◌∷◌, ◌++◌, codes, count_by}
 use Rattle.std.specs.Prelude.{Option, ◌⊎◌, ◌-◌, length, Ok}
 use Rattle.std.specs.Str.{IsUtf8, IsValidUpTo}
 use Rattle.std.specs.Io.KnownBytes.{Appends, Keeps}
@@ -13,6 +13,7 @@ use Rattle.planus_syntax.specs.Values.{DeclarationV, text_of}
 use Rattle.planus_syntax.specs.Parsed.{IsFaultOf, Spells}
 use Rattle.planus_commands.specs.declared.streams.RunError.{RunError}
 use Rattle.planus_commands.specs.declared.streams.RunError.TheVariants.{OutOfMemory, Read, Write}
+use Rattle.planus_commands.specs.declared.streams.RunError.TheVariants.{BadSchema}
 use Rattle.planus_commands.specs.declared.outcome.Outcome.{Outcome}
 use Rattle.planus_commands.specs.declared.outcome.Outcome.TheVariants.{Formatted, Faulty}
 use Rattle.planus_commands.specs.declared.outcome.Printed.{Printed}
@@ -100,11 +101,16 @@ abbrev pub SaysComments : List ℕ → List ℕ → Bool → Type 0
 SaysComments text out comments = (parts : List Part) → AreParts parts → text ≡ spelled parts
     → out ≡ printed (tokens_in parts) → comments ≡ has_comment parts
 
+-- the line of a message with these words
+abbrev pub line_of : List ℕ → List ℕ → List ℕ → List ℕ
+line_of before name after = codes "planus: " ++ (before ++ (name ++ (after ++ codes "\n")))
+
 -- Memory was refused before anything was written, or writing failed.
 abbrev pub FailsPrinting : RunError → Option (List ℕ) → Option (List ℕ)
     → Option (List ℕ) → Option (List ℕ) → Type 0
 FailsPrinting OutOfMemory before after unsaid said = Keeps before after × Keeps unsaid said
 FailsPrinting Read before after unsaid said = ⊥
+FailsPrinting BadSchema before after unsaid said = ⊥
 FailsPrinting Write before after unsaid said = Unit {0}
 
 -- The canonical text was written, and nothing was said; or nothing was written, and the first fault

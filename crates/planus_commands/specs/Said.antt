@@ -5,12 +5,14 @@ use Rattle.std.specs.String.{string_bytes}
 use Rattle.std.specs.Io.KnownBytes.{Appends, Keeps}
 use Rattle.planus_commands.specs.declared.arguments.Command.{Command}
 use Rattle.planus_commands.specs.declared.arguments.Command.TheVariants.{Check, Format, View}
+use Rattle.planus_commands.specs.declared.arguments.Command.TheVariants.{Rattle as RattleCommand}
 use Rattle.planus_commands.specs.declared.arguments.Choice.{Choice}
-use Rattle.planus_commands.specs.declared.arguments.Choice.TheVariants.{Root, Lines, Bytes}
+use Rattle.planus_commands.specs.declared.arguments.Choice.TheVariants.{Root, Lines, Bytes, Output}
 use Rattle.planus_commands.specs.declared.said.Said.{Said}
 use Rattle.planus_commands.specs.Arguments.{Asked, help, help_of as help_asked, version, run}
 use Rattle.planus_commands.specs.Arguments.{no_command, unknown_command, unknown_option}
 use Rattle.planus_commands.specs.Arguments.{no_value, no_schema, no_buffer, no_number}
+use Rattle.planus_commands.specs.Arguments.{several_schemas, no_output}
 
 -- the text, and whether it says that the call is wrong
 pub record SaidV : Type 0 where
@@ -38,6 +40,7 @@ command_hint (Some b) =
     else if b == 102 then codes "did you mean `format`?"
     else if b == 104 then codes "did you mean `help`?"
     else if b == 118 then codes "did you mean `view`?"
+    else if b == 114 then codes "did you mean `rattle`?"
     else codes "see planus help"
 
 abbrev pub option_hint : Command → Option ℕ → List ℕ
@@ -59,23 +62,31 @@ option_hint View (Some b) =
     else if b == 98 then codes "did you mean `--bytes`?"
     else if b == 104 then codes "did you mean `--help`?"
     else codes "see planus help"
+option_hint RattleCommand (Some b) =
+    if b == 73 then codes "did you mean `-I`?"
+    else if b == 111 then codes "did you mean `-o`?"
+    else if b == 99 then codes "did you mean `--check`?"
+    else if b == 104 then codes "did you mean `--help`?"
+    else codes "see planus help"
 
 abbrev pub version_text : List ℕ
 version_text = codes "planus 0.1.0\n"
 
 abbrev pub help_text : List ℕ
-help_text = codes "planus reads schemas of flatbuffers, and shows buffers by them.\n\nusage: planus check [-I FOLDER].. SCHEMA..\n       planus format [--write] [--drop-comments] SCHEMA..\n       planus view [OPTION].. SCHEMA BUFFER\n       planus help, planus --help, planus COMMAND --help, planus --version\n\nSCHEMA and BUFFER are files, or - for standard input.\n"
+help_text = codes "planus reads schemas of flatbuffers, shows buffers by them, and prints their code.\n\nusage: planus check [-I FOLDER].. SCHEMA..\n       planus format [--write] [--drop-comments] SCHEMA..\n       planus view [OPTION].. SCHEMA BUFFER\n       planus rattle [--check] [-I FOLDER].. SCHEMA -o FOLDER\n       planus help, planus --help, planus COMMAND --help, planus --version\n\nSCHEMA and BUFFER are files, or - for standard input.\n"
 
 abbrev pub help_of : Command → List ℕ
 help_of Check = codes "usage: planus check [-I FOLDER].. SCHEMA..\n\nSays on standard error what is wrong with each schema and the files that it includes,\nor nothing. Included files are sought beside the file and in each FOLDER.\nEnds with 0 where nothing is wrong, with 1 where a schema has a fault, and with 2\nwhere the call is wrong or a file can't be read.\n"
 help_of Format = codes "usage: planus format [--write] [--drop-comments] SCHEMA..\n\nPrints the canonical text of each schema.\n\n  --write          replaces each file by its text\n  --drop-comments  does so where comments are lost, all but documentation\n"
-help_of View = codes "usage: planus view [OPTION].. SCHEMA BUFFER\n\nPrints what a buffer holds, a line a value, as far as the lines and bytes go.\n\n  --root NAME      the root is this table, and not that of the schema\n  --size-prefixed  the buffer is one or more buffers, each after its size\n  --lines N        at most N lines, and not 1000\n  --bytes N        at most N bytes, and not 1048576\n  -I FOLDER        included files are sought in this folder too\n\nEnds with 0 where all is shown, with 1 where something is wrong with the buffer or\nmore follows, and with 2 where the call is wrong or a file can't be read.\n"
+help_of View = codes "usage: planus view [OPTION].. SCHEMA BUFFER\n\nPrints what a buffer holds, a line a value, as far as the lines and bytes go.\n\n  --root NAME      the root is this table, and not that of the schema\n  --size-prefixed  BUFFER is any number of buffers, each after its size\n  --lines N        at most N lines, and not 1000\n  --bytes N        at most N bytes, and not 1048576\n  -I FOLDER        included files are sought in this folder too\n\nEnds with 0 where all is shown, with 1 where something is wrong with the buffer or\nmore follows, and with 2 where the call is wrong or a file can't be read.\n"
+help_of RattleCommand = codes "usage: planus rattle [--check] [-I FOLDER].. SCHEMA -o FOLDER\n\nPrints the code of a schema as a crate: its files in FOLDER, whose last word is the\ncrate's name. A file that has its text already is left alone.\n\n  -o FOLDER        the folder of the crate, which is made if it isn't there\n  --check          writes nothing, and says which files aren't what is printed\n  -I FOLDER        included files are sought in this folder too\n\nEnds with 0 where all is printed, with 1 where the schema has a fault or something\nthat isn't supported, or --check names a file, and with 2 where the call is wrong or\na file can't be read or written.\n"
 
 -- where no word follows an option
 abbrev pub no_value_text : Choice → List ℕ
 no_value_text Root = codes "planus: no name follows --root\n"
 no_value_text Lines = codes "planus: no number follows --lines\n"
 no_value_text Bytes = codes "planus: no number follows --bytes\n"
+no_value_text Output = codes "planus: no folder follows -o\n"
 no_value_text choice = codes "planus: no folder follows -I\n"
 
 abbrev pub on_output : List ℕ → Option SaidV
@@ -99,6 +110,8 @@ said_of (no_value choice) = on_errors (no_value_text choice)
 said_of no_schema = on_errors (codes "planus: no schema is named; - is standard input\n")
 said_of no_buffer = on_errors (codes "planus: view has a schema and a buffer\n")
 said_of (no_number w) = on_errors (codes "planus: `" ++ (w ++ codes "` is no number\n"))
+said_of several_schemas = on_errors (codes "planus: rattle has one schema\n")
+said_of no_output = on_errors (codes "planus: no folder is given: -o FOLDER\n")
 
 -- The text was written on standard error with status 2, or on standard output with status 0.
 abbrev pub SaysBy : Bool → List ℕ → Option ℕ → Option (List ℕ) → Option (List ℕ)

@@ -8,6 +8,7 @@ use Rattle.std.specs.Io.KnownBytes.{Appends, Keeps}
 use Rattle.planus_dump.specs.Schemas.{is_good}
 use Rattle.planus_commands.specs.declared.streams.RunError.{RunError}
 use Rattle.planus_commands.specs.declared.streams.RunError.TheVariants.{OutOfMemory, Read, Write}
+use Rattle.planus_commands.specs.declared.streams.RunError.TheVariants.{BadSchema}
 use Rattle.planus_dump.specs.FaultLines.{is_fault_line}
 use Rattle.planus_dump.specs.Views.{Viewed}
 use Rattle.planus_dump.specs.declared.schemas.Schema.{Schema}
@@ -54,8 +55,9 @@ pub record WritesView (schema : Schema) (bytes : List ℕ) (most size : ℕ) (cl
 -- Memory was refused, or the schema is a bad one, and nothing was written; or writing failed.
 abbrev pub FailsViewing : Schema → RunError → Option (List ℕ) → Option (List ℕ) → Type 0
 FailsViewing schema OutOfMemory before after = Keeps before after
-FailsViewing schema Read before after = (is_good schema ≡ false) × Keeps before after
+FailsViewing schema Read before after = ⊥
 FailsViewing schema Write before after = Unit {0}
+FailsViewing schema BadSchema before after = (is_good schema ≡ false) × Keeps before after
 
 -- a buffer after its size, a number of four bytes, and what follows it
 pub record SplitsSized (bytes buffer rest : List ℕ) : Type 0 where

@@ -1,17 +1,22 @@
 //! The command `view`: a schema, and what a buffer holds by it.
 
-ghost use Rattle.std.specs.Prelude.{MatchOption};
+ghost use Rattle.std.specs.Prelude.{◌≡◌, MatchOption, IfOk, OnOk, position};
+ghost use Rattle.std.specs.Option.{option_map};
+ghost use Rattle.std.specs.Io.KnownBytes.{Appends};
+ghost use Rattle.planus_commands.specs.Buffers.{is_table_named as is_table_named_lem};
+ghost use Rattle.planus_commands.specs.Buffers.{root_of as root_lem, no_root_text};
+ghost use Rattle.planus_commands.specs.Buffers.{has_identifier as has_identifier_lem};
+ghost use Rattle.planus_commands.specs.Buffers.{other_identifier_text, ChecksIdentifier};
 ghost use Rattle.planus_commands.specs.Viewing.{SplitsSized, EndsEarly};
 
 use crate::arguments::{Words, number_of};
-use crate::checking::resolve_or_report;
 use crate::said::{CLEAN, FAILED, FAULTY};
-use crate::sources::{Sources, lists_of, load_all, text_of};
-use crate::streams::{RunError, say};
+use crate::sources::{schema_of, text_of};
+use crate::streams::{RunError, say, write_out};
 use crate::viewing::{Limits, view_buffer};
 use planus_inspect::dump_schema;
 use planus_layout::{Body, Declared, Schema};
-use std::alloc::Global;
+use std::alloc::{AllocError, Global};
 use std::io::{Read, Write};
 use std::rt::Files;
 
@@ -40,63 +45,84 @@ fn limits_of(words: &Words<'_>) -> Limits {
 }
 
 /// Returns whether this declaration is the table of this full name.
-fn is_table(declared: &Declared, name: &str) -> bool {
+fn is_table_named(declared: &Declared, name: &str) -> bool
+    ensures { result ≡ is_table_named_lem name.now declared.now }
+{
     matches!(declared.body, Body::Table(_)) && declared.name.as_slice() == name.as_bytes()
 }
 
-fn table_named(declared: &[Declared], name: &str) -> Option<usize> {
-    for (index, declaration) in declared.iter().enumerate() {
-        if is_table(declaration, name) {
-            return Some(index);
-        }
-    }
-    None
+fn table_named(declared: &[Declared], name: &str) -> Option<usize>
+    ensures { result ≡ position (is_table_named_lem name.now) declared.now }
+{
+    declared
+        .iter()
+        .position(|declared| is_table_named(declared, name))
 }
 
-/// Returns the index of the root's table, or says that there is none.
-fn root_of<X: Write>(
-    schema: &Schema,
-    root: Option<&str>,
-    errors: &mut X,
-) -> Result<Option<usize>, RunError> {
-    if let Some(name) = root {
-        let table = table_named(&schema.declarations, name);
-        if table.is_none() {
-            say(errors, &["planus: the schema has no table `", name, "`"])?;
-        }
-        return Ok(table);
+/// Returns the index of the root's table: that of this name, or else that of the schema.
+fn root_of(schema: &Schema, root: Option<&str>) -> Option<usize>
+    ensures { result ≡ root_lem schema.now (option_map (λ name. name.now) root.entry) }
+{
+    match root {
+        Some(name) => table_named(&schema.declarations, name),
+        None => schema.statements.root,
     }
-    if schema.statements.root.is_none() {
-        say(errors, &["planus: the schema has no root; see --root"])?;
+}
+
+/// Says that there is no such root.
+fn say_no_root<X: Write>(root: Option<&str>, errors: &mut X) -> Result<(), RunError>
+    ensures { OnOk result (Appends (X.contents errors.old) (X.contents errors.new)
+        (no_root_text (option_map (λ name. name.now) root.entry))) }
+{
+    match root {
+        Some(name) => say(errors, "the schema has no table `", name, "`"),
+        None => say(errors, "the schema has no root; see --root", "", ""),
     }
-    Ok(schema.statements.root)
+}
+
+/// Returns whether a buffer has this identifier.
+fn has_identifier(bytes: &[u8], identifier: &[u8]) -> bool
+    ensures { result ≡ has_identifier_lem identifier.now bytes.now }
+{
+    match bytes.get(IDENTIFIER..IDENTIFIER + 4) {
+        Some(found) => found == identifier,
+        None => false,
+    }
+}
+
+/// Returns what is said of a buffer that doesn't have this identifier.
+fn other_identifier(alloc: Global, name: &str, identifier: &[u8]) -> Result<Vec<u8>, AllocError>
+    ensures { IfOk result (λ text. text.items
+        ≡ other_identifier_text name.now identifier.now) }
+{
+    let mut text = Vec::from_slice(alloc, b"planus: ")?;
+    text.extend_from_slice(name.as_bytes())?;
+    text.extend_from_slice(b" doesn't have the identifier `")?;
+    text.extend_from_slice(identifier)?;
+    text.extend_from_slice(b"`\n")?;
+    Ok(text)
 }
 
 /// Says so where the identifier of a buffer isn't that of the schema. Returns whether it is.
 fn check_identifier<X: Write>(
+    alloc: Global,
     schema: &Schema,
     name: &str,
     bytes: &[u8],
     errors: &mut X,
-) -> Result<bool, RunError> {
-    let Some(identifier) = &schema.statements.identifier else {
-        return Ok(true);
-    };
-    if bytes.get(IDENTIFIER..IDENTIFIER + 4) == Some(identifier.as_slice()) {
-        return Ok(true);
+) -> Result<bool, RunError>
+    ensures { IfOk result (λ known. ChecksIdentifier
+        (option_map (λ v. v.items) schema.now.statements.identifier) name.now bytes.now known
+        (X.contents errors.old) (X.contents errors.new)) }
+{
+    match &schema.statements.identifier {
+        Some(identifier) if !has_identifier(bytes, identifier) => {
+            let text = other_identifier(alloc, name, identifier)?;
+            write_out(errors, &text)?;
+            Ok(false)
+        }
+        _ => Ok(true),
     }
-    let identifier = std::str::from_utf8(identifier).unwrap_or("");
-    say(
-        errors,
-        &[
-            "planus: ",
-            name,
-            " doesn't have the identifier `",
-            identifier,
-            "`",
-        ],
-    )?;
-    Ok(false)
 }
 
 /// Returns the first of some buffers, each after its size, and what follows it, or `None` where the
@@ -110,29 +136,34 @@ fn split_sized(bytes: &[u8]) -> Option<(&[u8], &[u8])>
     rest.split_at_checked(size)
 }
 
+/// What the buffers of a file are viewed by.
+#[derive(Clone, Copy)]
+struct View<'a> {
+    schema: &'a Schema,
+    /// The schema as a dump reads it.
+    shown: &'a planus_dump::Schema,
+    limits: Limits,
+    /// What messages call the file.
+    name: &'a str,
+}
+
 /// Writes what one buffer holds.
 fn view_one<W: Write, X: Write>(
     alloc: Global,
-    schema: &Schema,
-    shown: &planus_dump::Schema,
-    limits: Limits,
-    name: &str,
+    view: &View<'_>,
     bytes: &[u8],
     writer: &mut W,
     errors: &mut X,
 ) -> Result<u8, RunError> {
-    let known = check_identifier(schema, name, bytes, errors)?;
-    let clean = view_buffer(alloc, shown, bytes, limits, writer)?;
+    let known = check_identifier(alloc, view.schema, view.name, bytes, errors)?;
+    let clean = view_buffer(alloc, view.shown, bytes, view.limits, writer)?;
     Ok(if known && clean { CLEAN } else { FAULTY })
 }
 
 /// Writes what buffers hold, one after another, each after its size.
 fn view_sized<W: Write, X: Write>(
     alloc: Global,
-    schema: &Schema,
-    shown: &planus_dump::Schema,
-    limits: Limits,
-    name: &str,
+    view: &View<'_>,
     bytes: &[u8],
     writer: &mut W,
     errors: &mut X,
@@ -141,10 +172,10 @@ fn view_sized<W: Write, X: Write>(
     let mut worst = CLEAN;
     while !rest.is_empty() {
         let Some((buffer, after)) = split_sized(rest) else {
-            say(errors, &["planus: ", name, " ends before a buffer does"])?;
+            say(errors, "", view.name, " ends before a buffer does")?;
             return Ok(FAULTY);
         };
-        let status = view_one(alloc, schema, shown, limits, name, buffer, writer, errors)?;
+        let status = view_one(alloc, view, buffer, writer, errors)?;
         worst = worst.max(status);
         rest = after;
     }
@@ -156,7 +187,7 @@ fn view_sized<W: Write, X: Write>(
 pub struct Viewing {
     /// The index of the root's table among the declarations.
     pub root: usize,
-    /// Whether there are one or more buffers, each after its size.
+    /// Whether there is any number of buffers, each after its size.
     pub size_prefixed: bool,
     /// How much of each is wanted.
     pub limits: Limits,
@@ -175,11 +206,16 @@ pub fn view_bytes<W: Write, X: Write>(
     errors: &mut X,
 ) -> Result<u8, RunError> {
     let shown = dump_schema(alloc, schema, how.root)?;
-    let limits = how.limits;
+    let view = View {
+        schema,
+        shown: &shown,
+        limits: how.limits,
+        name,
+    };
     if how.size_prefixed {
-        view_sized(alloc, schema, &shown, limits, name, bytes, writer, errors)
+        view_sized(alloc, &view, bytes, writer, errors)
     } else {
-        view_one(alloc, schema, &shown, limits, name, bytes, writer, errors)
+        view_one(alloc, &view, bytes, writer, errors)
     }
 }
 
@@ -193,7 +229,8 @@ fn view_by<R: Files + AllocGlobal, S: Read, W: Write, X: Write>(
     writer: &mut W,
     errors: &mut X,
 ) -> Result<u8, RunError> {
-    let Some(root) = root_of(schema, words.root, errors)? else {
+    let Some(root) = root_of(schema, words.root) else {
+        say_no_root(words.root, errors)?;
         return Ok(FAILED);
     };
     let Some(bytes) = text_of(rt, name, input, errors)? else {
@@ -215,18 +252,11 @@ pub fn view_file<R: Files + AllocGlobal, S: Read, W: Write, X: Write>(
     writer: &mut W,
     errors: &mut X,
 ) -> Result<u8, RunError> {
-    let [schema, buffer] = words.schemas.as_slice() else {
+    let [schema, buffer] = words.files.as_slice() else {
         return Ok(FAILED);
     };
-    let alloc = rt.alloc();
-    let mut sources = Sources::new(alloc);
-    let status = load_all(rt, &words.folders, *schema, &mut sources, input, errors)?;
-    if status != CLEAN {
-        return Ok(status);
-    }
-    let lists = lists_of(alloc, sources.read)?;
-    match resolve_or_report(alloc, &lists.files, &lists.declarations, errors)? {
-        Some(schema) => view_by(rt, &schema, words, *buffer, input, writer, errors),
-        None => Ok(FAULTY),
+    match schema_of(rt, &words.folders, *schema, input, errors)? {
+        Ok(schema) => view_by(rt, &schema, words, *buffer, input, writer, errors),
+        Err(status) => Ok(status),
     }
 }

@@ -20,7 +20,7 @@ use std::alloc::{AllocError, Global};
 use std::io::Write;
 
 /// A file: what reports call it, and its text.
-#[derive(Debug, Drop)]
+#[derive(Drop)]
 pub struct File {
     pub name: String,
     pub text: Vec<u8>,

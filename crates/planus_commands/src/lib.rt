@@ -1,5 +1,5 @@
 //! What the program `planus` does: it checks schemas of flatbuffers, prints them in their canonical
-//! layout, and shows what buffers hold by them.
+//! layout, shows what buffers hold by them, and prints their code as the files of a crate.
 #![tactic(auto)]
 
 mod arguments;
@@ -11,6 +11,7 @@ mod near;
 mod outcome;
 mod parsed;
 mod placed;
+mod printing;
 mod problem;
 mod program;
 mod report;

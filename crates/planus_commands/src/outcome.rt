@@ -1,7 +1,7 @@
 //! What becomes of a text.
 
 /// What becomes of the text of a schema.
-#[derive(Debug, Drop)]
+#[derive(Drop)]
 pub enum Outcome {
     /// Its canonical text.
     Formatted(Vec<u8>),

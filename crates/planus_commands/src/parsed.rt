@@ -9,7 +9,7 @@ use planus_syntax::{Declaration, parse_text};
 use std::alloc::{AllocError, Global};
 
 /// What a text is.
-#[derive(Debug, Drop)]
+#[derive(Drop)]
 pub enum Parsed {
     /// The declarations that it spells.
     Declarations(Vec<Declaration>),

@@ -7,10 +7,10 @@ ghost use Rattle.planus_commands.specs.Said.{said_of, SaysIf};
 
 use crate::arguments::{Command, Request, Words, request_of};
 use crate::buffers::view_file;
-use crate::checking::resolve_or_report;
+use crate::printing::print_code;
 use crate::rewrite::{Formatting, format_file};
-use crate::said::{CLEAN, FAILED, FAULTY, say as say_of};
-use crate::sources::{Sources, lists_of, load_all};
+use crate::said::{CLEAN, FAILED, say as say_of};
+use crate::sources::schema_of;
 use crate::streams::{RunError, say};
 use std::env;
 use std::env::Env;
@@ -24,16 +24,43 @@ fn check_file<R: Files + AllocGlobal, S: Read, X: Write>(
     input: &mut S,
     errors: &mut X,
 ) -> Result<u8, RunError> {
-    let mut sources = Sources::new(rt.alloc());
-    let status = load_all(rt, folders, name, &mut sources, input, errors)?;
-    if status != CLEAN {
-        return Ok(status);
+    match schema_of(rt, folders, name, input, errors)? {
+        Ok(_) => Ok(CLEAN),
+        Err(status) => Ok(status),
     }
-    let lists = lists_of(rt.alloc(), sources.read)?;
-    match resolve_or_report(rt.alloc(), &lists.files, &lists.declarations, errors)? {
-        Some(_) => Ok(CLEAN),
-        None => Ok(FAULTY),
+}
+
+/// Checks the schemas that the words name.
+fn check_files<R: Files + AllocGlobal, S: Read, X: Write>(
+    rt: &R,
+    words: &Words<'_>,
+    input: &mut S,
+    errors: &mut X,
+) -> Result<u8, RunError> {
+    let mut worst = CLEAN;
+    for name in &words.files {
+        worst = worst.max(check_file(rt, &words.folders, *name, input, errors)?);
     }
+    Ok(worst)
+}
+
+/// Formats the schemas that the words name.
+fn format_files<R: Files + AllocGlobal, S: Read, W: Write, X: Write>(
+    rt: &R,
+    words: &Words<'_>,
+    input: &mut S,
+    writer: &mut W,
+    errors: &mut X,
+) -> Result<u8, RunError> {
+    let how = Formatting {
+        write: words.write,
+        drop_comments: words.drop_comments,
+    };
+    let mut worst = CLEAN;
+    for name in &words.files {
+        worst = worst.max(format_file(rt, how, *name, input, writer, errors)?);
+    }
+    Ok(worst)
 }
 
 fn run_command<R: Files + AllocGlobal, S: Read, W: Write, X: Write>(
@@ -44,22 +71,12 @@ fn run_command<R: Files + AllocGlobal, S: Read, W: Write, X: Write>(
     writer: &mut W,
     errors: &mut X,
 ) -> Result<u8, RunError> {
-    if command == Command::View {
-        return view_file(rt, words, input, writer, errors);
+    match command {
+        Command::Check => check_files(rt, words, input, errors),
+        Command::Format => format_files(rt, words, input, writer, errors),
+        Command::View => view_file(rt, words, input, writer, errors),
+        Command::Rattle => print_code(rt, words, input, errors),
     }
-    let how = Formatting {
-        write: words.write,
-        drop_comments: words.drop_comments,
-    };
-    let mut worst = CLEAN;
-    for name in &words.schemas {
-        let status = match command {
-            Command::Format => format_file(rt, how, *name, input, writer, errors)?,
-            _ => check_file(rt, &words.folders, *name, input, errors)?,
-        };
-        worst = worst.max(status);
-    }
-    Ok(worst)
 }
 
 /// Does what these words, after the program's name, ask for. Returns the exit status.
@@ -114,8 +131,8 @@ fn run<R: Env + Files + AllocGlobal, S: Read, W: Write, X: Write>(
 }
 
 /// Does what the words after the program's name ask for. Returns the exit status: 0 where all is
-/// well, 1 where a schema or a buffer has a fault, and 2 where the call is wrong, a file can't be read or
-/// written, or memory is refused.
+/// well, 1 where a schema or a buffer has a fault or a file isn't what is printed, and 2 where the
+/// call is wrong, a file can't be read or written, or memory is refused.
 pub fn run_program<R: Env + Files + AllocGlobal, S: Read, W: Write, X: Write>(
     rt: &R,
     input: &mut S,
@@ -129,8 +146,9 @@ pub fn run_program<R: Env + Files + AllocGlobal, S: Read, W: Write, X: Write>(
                 RunError::OutOfMemory => "out of memory",
                 RunError::Read => "a word of the call is no text",
                 RunError::Write => "can't write",
+                RunError::BadSchema => "the schema isn't sound",
             };
-            let _said = say(errors, &["planus: ", reason]);
+            let _said = say(errors, "", reason, "");
             FAILED
         }
     }

@@ -1,7 +1,7 @@
 //! A schema in its canonical layout, on standard output or in place of its file.
 
 use crate::outcome::{Outcome, Printed};
-use crate::said::{CLEAN, FAILED, FAULTY};
+use crate::said::{CLEAN, FAILED, FAULTY, fail};
 use crate::sources::text_of;
 use crate::streams::{RunError, say, write_out};
 use crate::texts::{format, has_comments, outcome_of};
@@ -10,14 +10,18 @@ use std::io::{Read, Write};
 use std::rt::Files;
 
 /// What `format` was asked to do.
-#[derive(Clone, Copy, Debug)]
+#[derive(Clone, Copy)]
 pub struct Formatting {
     pub write: bool,
     pub drop_comments: bool,
 }
 
 /// Replaces a file by these bytes, once all of them are written beside it.
-fn replace<R: Files + AllocGlobal>(rt: &R, name: &str, bytes: &[u8]) -> Result<(), RunError> {
+pub(crate) fn replace<R: Files + AllocGlobal>(
+    rt: &R,
+    name: &str,
+    bytes: &[u8],
+) -> Result<(), RunError> {
     let beside = format!(in rt.alloc(); "{name}.planus")?;
     if fs::write(rt, beside.as_str(), bytes).is_err() {
         return Err(RunError::Write);
@@ -37,28 +41,25 @@ fn write_back<R: Files + AllocGlobal, X: Write>(
     errors: &mut X,
 ) -> Result<u8, RunError> {
     if name == "-" {
-        say(
+        return fail(
             errors,
-            &["planus: --write needs a file, and - is standard input"],
-        )?;
-        return Ok(FAILED);
+            "--write needs a file, and - is standard input",
+            "",
+            "",
+        );
     }
     if loses_comments {
-        say(
+        return fail(
             errors,
-            &[
-                "planus: ",
-                name,
-                ": its comments would be lost; see --drop-comments",
-            ],
-        )?;
-        return Ok(FAILED);
+            "",
+            name,
+            ": its comments would be lost; see --drop-comments",
+        );
     }
-    if replace(rt, name, out).is_err() {
-        say(errors, &["planus: can't write ", name])?;
-        return Ok(FAILED);
+    match replace(rt, name, out) {
+        Ok(()) => Ok(CLEAN),
+        Err(_) => fail(errors, "can't write ", name, ""),
     }
-    Ok(CLEAN)
 }
 
 fn rewrite<R: Files + AllocGlobal, X: Write>(
@@ -92,14 +93,15 @@ fn print<R: AllocGlobal, W: Write, X: Write>(
         Printed::Report => Ok(FAULTY),
         Printed::Text { comments } => {
             if comments && !how.drop_comments {
-                say(errors, &["planus: ", name, ": its comments are left out"])?;
+                say(errors, "", name, ": its comments are left out")?;
             }
             Ok(CLEAN)
         }
     }
 }
 
-/// Prints the canonical text of a schema, or writes it in place of its file. Returns the exit status.
+/// Prints the canonical text of a schema, or writes it in place of its file. Returns the exit
+/// status.
 pub fn format_file<R: Files + AllocGlobal, S: Read, W: Write, X: Write>(
     rt: &R,
     how: Formatting,

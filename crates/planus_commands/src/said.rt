@@ -1,24 +1,30 @@
 //! What is written of a call that names no schema: help, the version, or why it is wrong.
 
-ghost use Rattle.std.specs.Prelude.{◌≡◌, false, IfOk, position};
+ghost use Rattle.std.specs.Prelude.{◌≡◌, IfOk, position};
 ghost use Rattle.std.specs.Option.{option_map};
 ghost use Rattle.planus_commands.specs.Arguments.{asked};
-ghost use Rattle.planus_commands.specs.Said.{first_letter as first_letter_lem, is_letter as is_letter_lem};
+ghost use Rattle.planus_commands.specs.Arguments.{unknown_command as unknown_command_asked};
+ghost use Rattle.planus_commands.specs.Arguments.{unknown_option as unknown_option_asked};
+ghost use Rattle.planus_commands.specs.Arguments.{no_number as no_number_asked};
+ghost use Rattle.planus_commands.specs.Said.{first_letter as first_letter_lem};
+ghost use Rattle.planus_commands.specs.Said.{is_letter as is_letter_lem};
 ghost use Rattle.planus_commands.specs.Said.{command_hint as command_hint_lem};
 ghost use Rattle.planus_commands.specs.Said.{option_hint as option_hint_lem};
 ghost use Rattle.planus_commands.specs.Said.{help_of as help_of_lem, help_text, no_value_text};
+ghost use Rattle.planus_commands.specs.Said.{on_output as on_output_lem};
+ghost use Rattle.planus_commands.specs.Said.{on_errors as on_errors_lem};
 ghost use Rattle.planus_commands.specs.Said.{said_of as said_of_lem, said_view, Says};
 ghost use Rattle.std.specs.Io.KnownBytes.{Appends, Keeps};
 
 use crate::arguments::{Choice, Command, Request};
-use crate::streams::{RunError, write_out};
+use crate::streams::{RunError, say as say_line, write_out};
 use std::alloc::{AllocError, Global};
 use std::io::Write;
 
 const VERSION: &str = "planus 0.1.0\n";
 
 const HELP: &str =
-    "planus reads schemas of flatbuffers, and shows buffers by them.\n\nusage: planus check [-I FOLDER].. SCHEMA..\n       planus format [--write] [--drop-comments] SCHEMA..\n       planus view [OPTION].. SCHEMA BUFFER\n       planus help, planus --help, planus COMMAND --help, planus --version\n\nSCHEMA and BUFFER are files, or - for standard input.\n";
+    "planus reads schemas of flatbuffers, shows buffers by them, and prints their code.\n\nusage: planus check [-I FOLDER].. SCHEMA..\n       planus format [--write] [--drop-comments] SCHEMA..\n       planus view [OPTION].. SCHEMA BUFFER\n       planus rattle [--check] [-I FOLDER].. SCHEMA -o FOLDER\n       planus help, planus --help, planus COMMAND --help, planus --version\n\nSCHEMA and BUFFER are files, or - for standard input.\n";
 
 const HELP_OF_CHECK: &str =
     "usage: planus check [-I FOLDER].. SCHEMA..\n\nSays on standard error what is wrong with each schema and the files that it includes,\nor nothing. Included files are sought beside the file and in each FOLDER.\nEnds with 0 where nothing is wrong, with 1 where a schema has a fault, and with 2\nwhere the call is wrong or a file can't be read.\n";
@@ -27,7 +33,18 @@ const HELP_OF_FORMAT: &str =
     "usage: planus format [--write] [--drop-comments] SCHEMA..\n\nPrints the canonical text of each schema.\n\n  --write          replaces each file by its text\n  --drop-comments  does so where comments are lost, all but documentation\n";
 
 const HELP_OF_VIEW: &str =
-    "usage: planus view [OPTION].. SCHEMA BUFFER\n\nPrints what a buffer holds, a line a value, as far as the lines and bytes go.\n\n  --root NAME      the root is this table, and not that of the schema\n  --size-prefixed  the buffer is one or more buffers, each after its size\n  --lines N        at most N lines, and not 1000\n  --bytes N        at most N bytes, and not 1048576\n  -I FOLDER        included files are sought in this folder too\n\nEnds with 0 where all is shown, with 1 where something is wrong with the buffer or\nmore follows, and with 2 where the call is wrong or a file can't be read.\n";
+    "usage: planus view [OPTION].. SCHEMA BUFFER\n\nPrints what a buffer holds, a line a value, as far as the lines and bytes go.\n\n  --root NAME      the root is this table, and not that of the schema\n  --size-prefixed  BUFFER is any number of buffers, each after its size\n  --lines N        at most N lines, and not 1000\n  --bytes N        at most N bytes, and not 1048576\n  -I FOLDER        included files are sought in this folder too\n\nEnds with 0 where all is shown, with 1 where something is wrong with the buffer or\nmore follows, and with 2 where the call is wrong or a file can't be read.\n";
+
+const HELP_OF_RATTLE: &str =
+    "usage: planus rattle [--check] [-I FOLDER].. SCHEMA -o FOLDER\n\nPrints the code of a schema as a crate: its files in FOLDER, whose last word is the\ncrate's name. A file that has its text already is left alone.\n\n  -o FOLDER        the folder of the crate, which is made if it isn't there\n  --check          writes nothing, and says which files aren't what is printed\n  -I FOLDER        included files are sought in this folder too\n\nEnds with 0 where all is printed, with 1 where the schema has a fault or something\nthat isn't supported, or --check names a file, and with 2 where the call is wrong or\na file can't be read or written.\n";
+
+const NO_SCHEMA: &str = "planus: no schema is named; - is standard input\n";
+
+const NO_BUFFER: &str = "planus: view has a schema and a buffer\n";
+
+const SEVERAL_SCHEMAS: &str = "planus: rattle has one schema\n";
+
+const NO_OUTPUT: &str = "planus: no folder is given: -o FOLDER\n";
 
 /// The exit status where all went well.
 pub const CLEAN: u8 = 0;
@@ -38,8 +55,19 @@ pub const FAULTY: u8 = 1;
 /// The exit status where the call is wrong, or a file can't be read or written.
 pub const FAILED: u8 = 2;
 
+/// Says a line, as [`say_line`], and returns [`FAILED`].
+pub fn fail<X: Write>(
+    errors: &mut X,
+    before: &str,
+    name: &str,
+    after: &str,
+) -> Result<u8, RunError> {
+    say_line(errors, before, name, after)?;
+    Ok(FAILED)
+}
+
 /// What is written, and whether it says that the call is wrong.
-#[derive(Debug, Drop)]
+#[derive(Drop)]
 pub struct Said {
     pub wrong: bool,
     pub text: String,
@@ -77,6 +105,7 @@ fn command_hint(word: &str) -> &'static str
         Some(b'f') => "did you mean `format`?",
         Some(b'h') => "did you mean `help`?",
         Some(b'v') => "did you mean `view`?",
+        Some(b'r') => "did you mean `rattle`?",
         _ => "see planus help",
     }
 }
@@ -86,13 +115,15 @@ fn option_hint(command: Command, word: &str) -> &'static str
     ensures { result.now ≡ option_hint_lem command (first_letter_lem word.now) }
 {
     match (command, first_letter(word)) {
-        (Command::Check | Command::View, Some(b'I')) => "did you mean `-I`?",
+        (Command::Check | Command::View | Command::Rattle, Some(b'I')) => "did you mean `-I`?",
         (Command::Format, Some(b'w')) => "did you mean `--write`?",
         (Command::Format, Some(b'd')) => "did you mean `--drop-comments`?",
         (Command::View, Some(b'r')) => "did you mean `--root`?",
         (Command::View, Some(b's')) => "did you mean `--size-prefixed`?",
         (Command::View, Some(b'l')) => "did you mean `--lines`?",
         (Command::View, Some(b'b')) => "did you mean `--bytes`?",
+        (Command::Rattle, Some(b'o')) => "did you mean `-o`?",
+        (Command::Rattle, Some(b'c')) => "did you mean `--check`?",
         (_, Some(b'h')) => "did you mean `--help`?",
         _ => "see planus help",
     }
@@ -111,6 +142,7 @@ fn help_of(command: Command) -> &'static str
         Command::Check => HELP_OF_CHECK,
         Command::Format => HELP_OF_FORMAT,
         Command::View => HELP_OF_VIEW,
+        Command::Rattle => HELP_OF_RATTLE,
     }
 }
 
@@ -122,43 +154,70 @@ fn no_value(choice: Choice) -> &'static str
         Choice::Root => "planus: no name follows --root\n",
         Choice::Lines => "planus: no number follows --lines\n",
         Choice::Bytes => "planus: no number follows --bytes\n",
+        Choice::Output => "planus: no folder follows -o\n",
         _ => "planus: no folder follows -I\n",
     }
 }
 
-fn plain(alloc: Global, text: &str) -> Result<Said, AllocError>
-    ensures { IfOk result (λ said. said_view said ≡ record { wrong = false; text = text.now }) }
+fn on_output(alloc: Global, text: &str) -> Result<Option<Said>, AllocError>
+    ensures { IfOk result (λ said. option_map said_view said ≡ on_output_lem text.now) }
 {
     let text = String::from_str(alloc, text)?;
-    Ok(Said { wrong: false, text })
+    Ok(Some(Said { wrong: false, text }))
+}
+
+fn on_errors(alloc: Global, text: &str) -> Result<Option<Said>, AllocError>
+    ensures { IfOk result (λ said. option_map said_view said ≡ on_errors_lem text.now) }
+{
+    let text = String::from_str(alloc, text)?;
+    Ok(Some(Said { wrong: true, text }))
+}
+
+fn unknown_command(alloc: Global, word: &str) -> Result<Option<Said>, AllocError>
+    ensures { IfOk result (λ said. option_map said_view said
+        ≡ said_of_lem (unknown_command_asked word.now)) }
+{
+    let hint = command_hint(word);
+    let text = format!(in alloc; "planus: unknown command `{word}`; {hint}\n")?;
+    Ok(Some(Said { wrong: true, text }))
+}
+
+fn unknown_option(alloc: Global, command: Command, word: &str) -> Result<Option<Said>, AllocError>
+    ensures { IfOk result (λ said. option_map said_view said
+        ≡ said_of_lem (unknown_option_asked command word.now)) }
+{
+    let hint = option_hint(command, word);
+    let text = format!(in alloc; "planus: unknown option `{word}`; {hint}\n")?;
+    Ok(Some(Said { wrong: true, text }))
+}
+
+fn no_number(alloc: Global, word: &str) -> Result<Option<Said>, AllocError>
+    ensures { IfOk result (λ said. option_map said_view said
+        ≡ said_of_lem (no_number_asked word.now)) }
+{
+    let text = format!(in alloc; "planus: `{word}` is no number\n")?;
+    Ok(Some(Said { wrong: true, text }))
 }
 
 /// Returns what is written of a request that names no schema.
 pub fn said_of(alloc: Global, request: &Request<'_>) -> Result<Option<Said>, AllocError>
     ensures { IfOk result (λ said. option_map said_view said ≡ said_of_lem (asked request.now)) }
 {
-    let text = match request {
-        Request::Run { .. } => return Ok(None),
-        Request::Help => return Ok(Some(plain(alloc, help())?)),
-        Request::HelpOf(command) => return Ok(Some(plain(alloc, help_of(*command))?)),
-        Request::Version => return Ok(Some(plain(alloc, VERSION)?)),
-        Request::NoCommand => String::from_str(alloc, help())?,
-        Request::UnknownCommand(word) => {
-            let hint = command_hint(*word);
-            format!(in alloc; "planus: unknown command `{word}`; {hint}\n")?
-        }
-        Request::UnknownOption(command, word) => {
-            let hint = option_hint(*command, *word);
-            format!(in alloc; "planus: unknown option `{word}`; {hint}\n")?
-        }
-        Request::NoValue(choice) => String::from_str(alloc, no_value(*choice))?,
-        Request::NoSchema => {
-            String::from_str(alloc, "planus: no schema is named; - is standard input\n")?
-        }
-        Request::NoBuffer => String::from_str(alloc, "planus: view has a schema and a buffer\n")?,
-        Request::NoNumber(word) => format!(in alloc; "planus: `{word}` is no number\n")?,
-    };
-    Ok(Some(Said { wrong: true, text }))
+    match request {
+        Request::Run { .. } => Ok(None),
+        Request::Help => on_output(alloc, help()),
+        Request::HelpOf(command) => on_output(alloc, help_of(*command)),
+        Request::Version => on_output(alloc, VERSION),
+        Request::NoCommand => on_errors(alloc, help()),
+        Request::UnknownCommand(word) => unknown_command(alloc, *word),
+        Request::UnknownOption(command, word) => unknown_option(alloc, *command, *word),
+        Request::NoValue(choice) => on_errors(alloc, no_value(*choice)),
+        Request::NoSchema => on_errors(alloc, NO_SCHEMA),
+        Request::NoBuffer => on_errors(alloc, NO_BUFFER),
+        Request::NoNumber(word) => no_number(alloc, *word),
+        Request::SeveralSchemas => on_errors(alloc, SEVERAL_SCHEMAS),
+        Request::NoOutput => on_errors(alloc, NO_OUTPUT),
+    }
 }
 
 /// Writes help and the version, and reports a wrong call. Returns the exit status, or `None` for

@@ -2,13 +2,13 @@
 
 ghost use Rattle.std.specs.Prelude.{◌≡◌, length, IfOk};
 
-use crate::checking::File;
+use crate::checking::{File, resolve_or_report};
 use crate::include::{file_beside, file_in};
 use crate::parsed::{Parsed, parse_or_report};
 use crate::placed::placed_report;
 use crate::said::{CLEAN, FAILED, FAULTY};
 use crate::streams::{GREATEST_TEXT, RunError, read_all, say, write_out};
-use planus_schema::file_index;
+use planus_schema::{Schema, file_index};
 use planus_syntax::{Declaration, Item};
 use std::alloc::{AllocError, Global};
 use std::fs;
@@ -19,29 +19,29 @@ use std::rt::Files;
 const GREATEST_DEPTH: usize = 64;
 
 /// A file that was read, with what it declares.
-#[derive(Debug, Drop)]
-pub struct Source {
-    pub file: File,
-    pub declarations: Vec<Declaration>,
+#[derive(Drop)]
+struct Source {
+    file: File,
+    declarations: Vec<Declaration>,
 }
 
 /// The names of the files that were begun, and those that were read.
-#[derive(Debug, Drop)]
-pub struct Sources {
-    pub begun: Vec<Vec<u8>>,
-    pub read: Vec<Source>,
+#[derive(Drop)]
+struct Sources {
+    begun: Vec<Vec<u8>>,
+    read: Vec<Source>,
 }
 
 /// Files and what each declares, in two lists of one length.
-#[derive(Debug, Drop)]
-pub struct Lists {
-    pub files: Vec<File>,
-    pub declarations: Vec<Vec<Declaration>>,
+#[derive(Drop)]
+struct Lists {
+    files: Vec<File>,
+    declarations: Vec<Vec<Declaration>>,
 }
 
 impl Sources {
     /// Creates an empty list.
-    pub fn new(alloc: Global) -> Sources {
+    fn new(alloc: Global) -> Sources {
         Sources {
             begun: Vec::new(alloc),
             read: Vec::new(alloc),
@@ -60,7 +60,7 @@ impl Sources {
 }
 
 /// Returns the files that were read, and what each declares.
-pub fn lists_of(alloc: Global, read: Vec<Source>) -> Result<Lists, AllocError>
+fn lists_of(alloc: Global, read: Vec<Source>) -> Result<Lists, AllocError>
     ensures { IfOk result (λ d. length d.files.items ≡ length d.declarations.items) }
 {
     let mut files = Vec::new(alloc);
@@ -101,15 +101,12 @@ pub fn text_of<R: Files + AllocGlobal, S: Read, X: Write>(
         Ok(text) => text,
         Err(RunError::OutOfMemory) => return Err(RunError::OutOfMemory),
         Err(_) => {
-            say(errors, &["planus: can't read ", name])?;
+            say(errors, "can't read ", name, "")?;
             return Ok(None);
         }
     };
     if text.len() > GREATEST_TEXT {
-        say(
-            errors,
-            &["planus: ", name, " is longer than 16777216 bytes"],
-        )?;
+        say(errors, "", name, " is longer than 16777216 bytes")?;
         return Ok(None);
     }
     Ok(Some(text))
@@ -236,15 +233,30 @@ fn load_include<R: Files + AllocGlobal, S: Read, X: Write>(
     Ok(FAULTY)
 }
 
-/// Reads a file and all that it includes, and reports faults of their syntax. Returns the exit
-/// status.
-pub fn load_all<R: Files + AllocGlobal, S: Read, X: Write>(
+/// Reads a file and all that it includes, and reports what is wrong with them. Returns what they
+/// mean, or the exit status.
+pub fn schema_of<R: Files + AllocGlobal, S: Read, X: Write>(
     rt: &R,
     folders: &[&str],
     name: &str,
-    sources: &mut Sources,
     input: &mut S,
     errors: &mut X,
-) -> Result<u8, RunError> {
-    load(rt, folders, GREATEST_DEPTH, name, sources, input, errors)
+) -> Result<Result<Schema, u8>, RunError> {
+    let alloc = rt.alloc();
+    let mut sources = Sources::new(alloc);
+    let status = load(
+        rt,
+        folders,
+        GREATEST_DEPTH,
+        name,
+        &mut sources,
+        input,
+        errors,
+    )?;
+    if status != CLEAN {
+        return Ok(Err(status));
+    }
+    let lists = lists_of(alloc, sources.read)?;
+    let schema = resolve_or_report(alloc, &lists.files, &lists.declarations, errors)?;
+    Ok(schema.ok_or(FAULTY))
 }

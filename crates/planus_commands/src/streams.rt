@@ -1,9 +1,10 @@
 //! Reading whole texts, and writing.
 
-ghost use Rattle.std.specs.Prelude.{◌≡◌, ◌+◌, ◌<◌, ◌≤◌, take, length, IfOk, IfErr, IfSome, OnOk};
+ghost use Rattle.std.specs.Prelude.{◌≡◌, ◌+◌, ◌<◌, ◌≤◌, take, length};
+ghost use Rattle.std.specs.Prelude.{IfOk, IfErr, IfSome, OnOk};
 ghost use Rattle.std.specs.Io.{ReadsAtMost};
 ghost use Rattle.std.specs.Io.KnownBytes.{Appends, Consumes, IsAtEnd};
-ghost use Rattle.planus_commands.specs.Outcomes.{greatest_text};
+ghost use Rattle.planus_commands.specs.Outcomes.{greatest_text, line_of};
 
 use std::alloc::{AllocError, Global};
 use std::io::{ErrorKind, Read, Write};
@@ -23,6 +24,8 @@ pub enum RunError {
     Read,
     /// Writing failed.
     Write,
+    /// A schema isn't sound, so that no buffer is shown by it.
+    BadSchema,
 }
 
 impl From<AllocError> for RunError {
@@ -89,10 +92,14 @@ pub fn write_out<W: Write>(writer: &mut W, bytes: &[u8]) -> Result<(), RunError>
     }
 }
 
-/// Writes a line of these words.
-pub fn say<X: Write>(errors: &mut X, words: &[&str]) -> Result<(), RunError> {
-    for word in words {
-        write_out(errors, word.as_bytes())?;
-    }
+/// Writes a line: these words after `planus: `.
+pub fn say<X: Write>(errors: &mut X, before: &str, name: &str, after: &str) -> Result<(), RunError>
+    ensures { OnOk result (Appends (X.contents errors.old) (X.contents errors.new)
+        (line_of before.now name.now after.now)) }
+{
+    write_out(errors, b"planus: ")?;
+    write_out(errors, before.as_bytes())?;
+    write_out(errors, name.as_bytes())?;
+    write_out(errors, after.as_bytes())?;
     write_out(errors, b"\n")
 }

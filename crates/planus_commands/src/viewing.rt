@@ -105,7 +105,7 @@ fn is_clean(view: &FirstLines) -> bool
 /// shown and no line states an error.
 ///
 /// [`RunError::Write`] where writing failed, [`RunError::OutOfMemory`] where memory was refused,
-/// [`RunError::Read`] for a bad schema, which no sound one is shown by.
+/// [`RunError::BadSchema`] for a schema that isn't good, as that of a sound one is.
 pub fn view_buffer<W: Write>(
     alloc: Global,
     schema: &Schema,
@@ -120,7 +120,7 @@ pub fn view_buffer<W: Write>(
 {
     let view = match view(alloc, schema, bytes, limits.lines, limits.bytes) {
         Ok(view) => view,
-        Err(DumpError::BadSchema) => return Err(RunError::Read),
+        Err(DumpError::BadSchema) => return Err(RunError::BadSchema),
         Err(_) => return Err(RunError::OutOfMemory),
     };
     let text = view_text(alloc, &view)?;

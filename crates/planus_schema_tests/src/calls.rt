@@ -5,7 +5,7 @@ use std::alloc::{AllocError, Global};
 /// output and on standard error.
 type Call = (&'static str, &'static str, u8, &'static str, &'static str);
 
-const CALLS: [Call; 22] = [
+const CALLS: [Call; 32] = [
     ("--version", "", 0, "planus 0.1.0\n", ""),
     (
         "chekc a",
@@ -64,11 +64,76 @@ const CALLS: [Call; 22] = [
         "planus: the schema has no table `U`\n",
     ),
     (
+        "view --size-prefixed - -",
+        "table T { x: int; } root_type T;",
+        0,
+        "",
+        "",
+    ),
+    (
         "render a",
         "",
         2,
         "",
-        "planus: unknown command `render`; see planus help\n",
+        "planus: unknown command `render`; did you mean `rattle`?\n",
+    ),
+    (
+        "rattle a b -o ship",
+        "",
+        2,
+        "",
+        "planus: rattle has one schema\n",
+    ),
+    (
+        "rattle a",
+        "",
+        2,
+        "",
+        "planus: no folder is given: -o FOLDER\n",
+    ),
+    ("rattle a -o", "", 2, "", "planus: no folder follows -o\n"),
+    (
+        "rattle --out ship a",
+        "",
+        2,
+        "",
+        "planus: unknown option `--out`; did you mean `-o`?\n",
+    ),
+    (
+        "rattle --chekc a -o ship",
+        "",
+        2,
+        "",
+        "planus: unknown option `--chekc`; did you mean `--check`?\n",
+    ),
+    (
+        "rattle --check a",
+        "",
+        2,
+        "",
+        "planus: no folder is given: -o FOLDER\n",
+    ),
+    (
+        "rattle --check - -o missing/ship/",
+        "",
+        1,
+        "",
+        "planus: missing/ship/src/lib.rt isn't what is printed\n\
+         planus: missing/ship/specs/Lib.antt isn't what is printed\n",
+    ),
+    (
+        "rattle a -o out/Ship/",
+        "",
+        2,
+        "",
+        "planus: no crate can have the name `Ship`\n",
+    ),
+    (
+        "rattle - -I lib -o ship -o out/ship",
+        "table A { x: Orcc; }",
+        1,
+        "",
+        "-:1:14: unknown type `Orcc`\ntable A { x: Orcc; }\n             ^\n",
     ),
     (
         "format --wirte a",

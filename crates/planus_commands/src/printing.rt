@@ -1,0 +1,220 @@
+//! The command `rattle`: the code of a schema, as the files of a crate.
+
+ghost use Rattle.std.specs.Prelude.{◌≡◌};
+ghost use Rattle.std.specs.List.{list_all};
+ghost use Rattle.planus_commands.specs.Printing.{is_small_letter as is_small_letter_lem};
+ghost use Rattle.planus_commands.specs.Printing.{is_in_name as is_in_name_lem};
+ghost use Rattle.planus_commands.specs.Printing.{is_crate_name as is_crate_name_lem};
+
+use crate::arguments::Words;
+use crate::rewrite::replace;
+use crate::said::{CLEAN, FAILED, FAULTY, fail};
+use crate::sources::schema_of;
+use crate::streams::{RunError, say};
+use planus_codegen::{PrintedFile, Refusal, print_crate};
+use planus_schema::Schema;
+use std::alloc::Global;
+use std::fs;
+use std::io::{Read, Write};
+use std::rt::Files;
+
+/// A folder of a crate.
+#[derive(Clone, Copy)]
+struct Folder<'a> {
+    path: &'a str,
+    /// The crate's name.
+    name: &'a str,
+    /// Whether its files are compared, and none is written.
+    check: bool,
+}
+
+/// Returns the last word of a path.
+fn last_word(path: &str) -> &str {
+    match path.rsplit_once('/') {
+        Some((_, word)) => word,
+        None => path,
+    }
+}
+
+fn is_small_letter(b: u8) -> bool
+    ensures { result ≡ is_small_letter_lem b }
+{
+    matches!(b, b'a'..=b'z')
+}
+
+fn is_in_name(b: u8) -> bool
+    ensures { result ≡ is_in_name_lem b }
+{
+    matches!(b, b'a'..=b'z' | b'0'..=b'9' | b'_')
+}
+
+fn are_in_name(bytes: &[u8]) -> bool
+    ensures { result ≡ list_all is_in_name_lem bytes.now }
+{
+    bytes.iter().all(|b| is_in_name(*b))
+}
+
+/// Returns whether a crate can have this name.
+fn is_crate_name(word: &str) -> bool
+    ensures { result ≡ is_crate_name_lem word.now }
+{
+    match word.as_bytes().split_first() {
+        Some((first, rest)) => is_small_letter(*first) && are_in_name(rest),
+        None => false,
+    }
+}
+
+/// Returns whether a file has these bytes.
+fn holds<R: Files + AllocGlobal>(rt: &R, name: &str, bytes: &[u8]) -> bool {
+    match fs::read(rt, name) {
+        Ok(found) => found.as_slice() == bytes,
+        Err(_) => false,
+    }
+}
+
+/// Makes the folder of a file, and those that it lies in, where they aren't there.
+fn make_folder<R: Files>(rt: &R, name: &str) -> Result<(), RunError> {
+    match name.rsplit_once('/') {
+        Some((folder, _)) if fs::create_dir_all(rt, folder).is_err() => Err(RunError::Write),
+        _ => Ok(()),
+    }
+}
+
+/// Makes a file of these bytes, unless it is there.
+fn put_file<R: Files + AllocGlobal>(rt: &R, name: &str, bytes: &[u8]) -> Result<(), RunError> {
+    if holds(rt, name, bytes) {
+        return Ok(());
+    }
+    make_folder(rt, name)?;
+    replace(rt, name, bytes)
+}
+
+/// Writes a file, or says that it can't be written.
+fn write_file<R: Files + AllocGlobal, X: Write>(
+    rt: &R,
+    name: &str,
+    bytes: &[u8],
+    errors: &mut X,
+) -> Result<u8, RunError> {
+    match put_file(rt, name, bytes) {
+        Ok(()) => Ok(CLEAN),
+        Err(RunError::OutOfMemory) => Err(RunError::OutOfMemory),
+        Err(_) => fail(errors, "can't write ", name, ""),
+    }
+}
+
+/// Says so where a file doesn't have these bytes.
+fn compare_file<R: Files + AllocGlobal, X: Write>(
+    rt: &R,
+    name: &str,
+    bytes: &[u8],
+    errors: &mut X,
+) -> Result<u8, RunError> {
+    if holds(rt, name, bytes) {
+        return Ok(CLEAN);
+    }
+    say(errors, "", name, " isn't what is printed")?;
+    Ok(FAULTY)
+}
+
+/// Writes or compares a file of a crate.
+fn print_file<R: Files + AllocGlobal, X: Write>(
+    rt: &R,
+    folder: Folder<'_>,
+    file: &PrintedFile,
+    errors: &mut X,
+) -> Result<u8, RunError> {
+    let (folder_path, path) = (folder.path, file.path.as_str());
+    let name = format!(in rt.alloc(); "{folder_path}/{path}")?;
+    if folder.check {
+        compare_file(rt, name.as_str(), file.text.as_bytes(), errors)
+    } else {
+        write_file(rt, name.as_str(), file.text.as_bytes(), errors)
+    }
+}
+
+/// Compares the files of a crate, or writes them, up to the first that can't be written.
+fn print_files<R: Files + AllocGlobal, X: Write>(
+    rt: &R,
+    folder: Folder<'_>,
+    files: &[PrintedFile],
+    errors: &mut X,
+) -> Result<u8, RunError> {
+    let mut worst = CLEAN;
+    for file in files {
+        let status = print_file(rt, folder, file, errors)?;
+        if status == FAILED {
+            return Ok(FAILED);
+        }
+        worst = worst.max(status);
+    }
+    Ok(worst)
+}
+
+/// Says what isn't supported.
+fn say_unsupported<X: Write>(
+    alloc: Global,
+    what: &str,
+    name: &[u8],
+    errors: &mut X,
+) -> Result<u8, RunError> {
+    let name = std::str::from_utf8(name).unwrap_or("");
+    let why = format!(in alloc; ": {what} isn't supported by planus rattle")?;
+    say(errors, "", name, why.as_str())?;
+    Ok(FAULTY)
+}
+
+/// Prints the code of a schema as a crate, or says what isn't supported.
+fn print_to<R: Files + AllocGlobal, X: Write>(
+    rt: &R,
+    schema: &Schema,
+    folder: Folder<'_>,
+    errors: &mut X,
+) -> Result<u8, RunError> {
+    match print_crate(rt.alloc(), schema, folder.name) {
+        Ok(files) => print_files(rt, folder, &files, errors),
+        Err(Refusal::OutOfMemory) => Err(RunError::OutOfMemory),
+        Err(Refusal::Unsupported { what, name }) => {
+            say_unsupported(rt.alloc(), what, &name, errors)
+        }
+    }
+}
+
+/// Prints the code of the schema that the words name, as a crate in a folder, or compares the crate
+/// with it.
+fn print_schema<R: Files + AllocGlobal, S: Read, X: Write>(
+    rt: &R,
+    words: &Words<'_>,
+    folder: Folder<'_>,
+    input: &mut S,
+    errors: &mut X,
+) -> Result<u8, RunError> {
+    let Some(name) = words.files.first() else {
+        return Ok(FAILED);
+    };
+    match schema_of(rt, &words.folders, *name, input, errors)? {
+        Ok(schema) => print_to(rt, &schema, folder, errors),
+        Err(status) => Ok(status),
+    }
+}
+
+/// Prints the code of the schema that the words name, as a crate in the folder that they name, or
+/// compares the crate with it. Returns the exit status.
+pub fn print_code<R: Files + AllocGlobal, S: Read, X: Write>(
+    rt: &R,
+    words: &Words<'_>,
+    input: &mut S,
+    errors: &mut X,
+) -> Result<u8, RunError> {
+    let path = words.output.unwrap_or("").trim_end_matches('/');
+    let name = last_word(path);
+    if !is_crate_name(name) {
+        return fail(errors, "no crate can have the name `", name, "`");
+    }
+    let folder = Folder {
+        path,
+        name,
+        check: words.check,
+    };
+    print_schema(rt, words, folder, input, errors)
+}
