@@ -79,6 +79,21 @@ fn run_command<R: Files + AllocGlobal, S: Read, W: Write, X: Write>(
     }
 }
 
+fn run_request<R: Files + AllocGlobal, S: Read, W: Write, X: Write>(
+    rt: &R,
+    request: &Request<'_>,
+    input: &mut S,
+    writer: &mut W,
+    errors: &mut X,
+) -> Result<u8, RunError> {
+    match request {
+        Request::Run { command, words } => {
+            run_command(rt, *command, words, input, writer, errors)
+        }
+        _ => Ok(FAILED),
+    }
+}
+
 /// Does what these words, after the program's name, ask for. Returns the exit status.
 ///
 /// [`RunError::OutOfMemory`] where memory was refused, [`RunError::Write`] where writing failed.
@@ -95,14 +110,9 @@ pub fn run_words<R: Files + AllocGlobal, S: Read, W: Write, X: Write>(
 {
     let alloc = rt.alloc();
     let request = request_of(alloc, words)?;
-    if let Some(status) = say_of(alloc, &request, writer, errors)? {
-        return Ok(status);
-    }
-    match &request {
-        Request::Run { command, words } => {
-            run_command(rt, *command, words, input, writer, errors)
-        }
-        _ => Ok(FAILED),
+    match say_of(alloc, &request, writer, errors)? {
+        Some(status) => Ok(status),
+        None => run_request(rt, &request, input, writer, errors),
     }
 }
 

@@ -233,6 +233,17 @@ fn load_include<R: Files + AllocGlobal, S: Read, X: Write>(
     Ok(FAULTY)
 }
 
+/// Returns what files mean, or reports what is wrong with them and returns the exit status.
+fn meaning_of<X: Write>(
+    alloc: Global,
+    read: Vec<Source>,
+    errors: &mut X,
+) -> Result<Result<Schema, u8>, RunError> {
+    let lists = lists_of(alloc, read)?;
+    let schema = resolve_or_report(alloc, &lists.files, &lists.declarations, errors)?;
+    Ok(schema.ok_or(FAULTY))
+}
+
 /// Reads a file and all that it includes, and reports what is wrong with them. Returns what they
 /// mean, or the exit status.
 pub fn schema_of<R: Files + AllocGlobal, S: Read, X: Write>(
@@ -256,7 +267,5 @@ pub fn schema_of<R: Files + AllocGlobal, S: Read, X: Write>(
     if status != CLEAN {
         return Ok(Err(status));
     }
-    let lists = lists_of(alloc, sources.read)?;
-    let schema = resolve_or_report(alloc, &lists.files, &lists.declarations, errors)?;
-    Ok(schema.ok_or(FAULTY))
+    meaning_of(alloc, sources.read, errors)
 }
