@@ -1,0 +1,26 @@
+//! Code of a schema.
+#![tactic(auto)]
+
+mod company;
+mod fix;
+mod kind;
+mod level;
+mod needs;
+mod owner;
+mod person;
+mod pos;
+mod ship;
+
+pub use company::{Company, CompanyFields, CompanyRef};
+pub use fix::Fix;
+pub use kind::Kind;
+pub use level::Level;
+pub use needs::Needs;
+pub use owner::{Owner, OwnerRef};
+pub use person::{Person, PersonFields, PersonRef};
+pub use pos::Pos;
+pub use ship::{DEFAULT_HEAT, DEFAULT_NEEDS, Ship, ShipFields, ShipRef};
+
+/// The file identifier, which [`planus::Builder::finish`] writes and [`planus::has_identifier`]
+/// looks for.
+pub const FILE_IDENTIFIER: [u8; 4] = [83, 72, 73, 80];

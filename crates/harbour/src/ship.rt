@@ -1,0 +1,357 @@
+//! Tables `Ship`.
+
+ghost use Rattle.std.specs.Prelude.{◌≡◌, ◌≤◌, length, codes, pos, negsuc, true, false, IfOk};
+ghost use Rattle.std.specs.Prelude.{MatchOption, ⊤};
+ghost use Rattle.planus.specs.read.Shapes.{u16_shape, i16_shape, i32_shape, i64_shape, bool_shape};
+ghost use Rattle.planus.specs.read.Shapes.{f32_shape};
+ghost use Rattle.planus.specs.write.InBuilder.{IsIn, AllIn, AllUnionsIn};
+ghost use Rattle.planus.specs.write.State.{Grows};
+ghost use Rattle.planus.specs.Accessors.{IsPlainVector, IsPlainRequired, IsTextRequired};
+ghost use Rattle.planus.specs.Accessors.{IsBytesField, IsTextVector, IsTableField, IsTableVector};
+ghost use Rattle.planus.specs.Contents.{WritesContents};
+ghost use Rattle.planus.specs.ReadPlain.{IsPlainField, IsPlainFieldOr};
+ghost use Rattle.planus.specs.UnionAccessors.{IsUnionField, IsUnionVector};
+ghost use Rattle.planus.specs.Unions.{ReadsVariants};
+ghost use Rattle.harbour.specs.Fix.{fix_shape};
+ghost use Rattle.harbour.specs.Kind.{kind_shape};
+ghost use Rattle.harbour.specs.declared.kind.Kind.TheVariants as kind_value;
+ghost use Rattle.harbour.specs.Level.{level_shape};
+ghost use Rattle.harbour.specs.declared.level.Level.TheVariants as level_value;
+ghost use Rattle.harbour.specs.Needs.{needs_shape};
+ghost use Rattle.harbour.specs.Owner.{owner_variants};
+ghost use Rattle.harbour.specs.declared.owner.Owner.{Owner};
+ghost use Rattle.harbour.specs.Pos.{pos_shape};
+ghost use Rattle.harbour.specs.Ship.{ship_contents};
+ghost use Rattle.harbour.specs.declared.ship.Ship.{Ship};
+
+use crate::fix::Fix;
+use crate::kind::Kind;
+use crate::level::Level;
+use crate::needs::Needs;
+use crate::owner::{Owner, OwnerRef};
+use crate::pos::Pos;
+use planus::table_reader::Table;
+use planus::{
+    BuildError, Builder, ByteList, List, Offset, OrDefault, Result, TableKind, TableRef, TableView,
+    TableWriter, Text, UnionOffset, UnionVector, Vector, bytes_field, create_table, fields,
+    plain_field, plain_field_or, plain_required, plain_vector, table_field, table_vector,
+    text_required, text_vector, union_field, union_vector,
+};
+
+/// A ship in a harbour.
+pub struct Ship;
+
+/// The default of `needs`.
+pub const DEFAULT_NEEDS: Needs = Needs { bits: 1 };
+
+/// The default of `heat`.
+pub const DEFAULT_HEAT: f32 = 1.5;
+
+/// The fields of `Ship`, as [`Ship::create`] takes them.
+#[derive(Drop)]
+pub struct ShipFields<'a> {
+    /// Its name.
+    pub name: &'a str,
+    pub hull: u16,
+    pub cargo: Option<&'a [u32]>,
+    pub kind: Kind,
+    pub level: Level,
+    pub needs: Needs,
+    pub home: Option<Pos>,
+    pub track: Option<&'a [Pos]>,
+    pub heat: f32,
+    pub depth: i16,
+    pub open: bool,
+    pub shut: bool,
+    pub maybe: Option<i32>,
+    pub photo: Option<ByteList<'a>>,
+    pub names: Option<&'a [&'a str]>,
+    pub mate: Option<Offset<Ship>>,
+    pub consorts: Option<&'a [Offset<Ship>]>,
+    pub kinds: Option<&'a [Kind]>,
+    pub owner: Option<UnionOffset<Owner>>,
+    pub shares: &'a [UnionOffset<Owner>],
+    pub tall: i64,
+    pub temps: Option<&'a [f64]>,
+    pub deltas: Option<&'a [i8]>,
+    pub fix: Fix,
+    pub which: Option<Kind>,
+    pub flags: Option<&'a [bool]>,
+}
+
+impl Ship {
+    /// Writes a table with these fields. One that equals its default is left out.
+    ///
+    /// [`BuildError::TooLarge`] and [`BuildError::OutOfMemory`] as of [`Builder::create_vector`].
+    pub fn create(
+        builder: &mut Builder,
+        fields: ShipFields<'_>,
+    ) -> std::result::Result<Offset<Ship>, BuildError>
+        requires mate { MatchOption fields.mate ⊤ (λ x. IsIn builder.old x) }
+        requires consorts { MatchOption fields.consorts ⊤ (λ x. AllIn builder.old x.now) }
+        requires owner { MatchOption fields.owner ⊤ (λ x. IsIn builder.old x.offset) }
+        requires shares { AllUnionsIn builder.old fields.shares.now }
+        ensures kept { IfOk result (λ offset. WritesContents (ship_contents
+            (λ x. ⟦<Kind as PartialEq>⟧.eq x kind_value.Bike)
+            (λ x. ⟦<Level as PartialEq>⟧.eq x level_value.Mid)
+            (λ x. ⟦<Needs as PartialEq>⟧.eq x DEFAULT_NEEDS)
+            (λ x. ⟦<f32 as PartialEq>⟧.eq x DEFAULT_HEAT) (λ x. ⟦<bool as PartialEq>⟧.eq x true)
+            (λ x. ⟦<bool as PartialEq>⟧.eq x false) fields.entry) builder.old offset.distance
+            builder.new) }
+        ensures reached { IfOk result (λ offset. offset.distance ≤ length builder.new.bytes) }
+        ensures grows { Grows builder.old builder.new }
+    {
+        let lines = fields![
+            23: i64 = OrDefault { value: fields.tall, default: 0 },
+            26: Fix = fields.fix,
+            0: Offset<Text> = fields.name,
+            2: Offset<List<u32>> = fields.cargo,
+            6: Pos = fields.home,
+            7: Offset<List<Pos>> = fields.track,
+            8: f32 = OrDefault { value: fields.heat, default: DEFAULT_HEAT },
+            12: i32 = fields.maybe,
+            13: Offset<List<u8>> = fields.photo,
+            14: Offset<List<Offset<Text>>> = fields.names,
+            15: Offset<Ship> = fields.mate,
+            16: Offset<List<Offset<Ship>>> = fields.consorts,
+            17: Offset<List<Kind>> = fields.kinds,
+            (18, 19): union Owner = fields.owner,
+            (20, 21): unions Owner = OrDefault { value: fields.shares, default: () },
+            24: Offset<List<f64>> = fields.temps,
+            25: Offset<List<i8>> = fields.deltas,
+            28: Offset<List<bool>> = fields.flags,
+            1: u16 = OrDefault { value: fields.hull, default: 100 },
+            4: Level = OrDefault { value: fields.level, default: Level::Mid },
+            5: Needs = OrDefault { value: fields.needs, default: DEFAULT_NEEDS },
+            9: i16 = OrDefault { value: fields.depth, default: -5 },
+            3: Kind = OrDefault { value: fields.kind, default: Kind::Bike },
+            10: bool = OrDefault { value: fields.open, default: true },
+            11: bool = OrDefault { value: fields.shut, default: false },
+            27: Kind = fields.which,
+        ];
+        create_table::<Ship, _>(builder, lines)
+    }
+}
+
+/// One in a buffer.
+#[derive(Clone, Copy)]
+pub struct ShipRef<'a> {
+    table: Table<'a>,
+}
+
+impl<'a> ShipRef<'a> {
+    /// Its name.
+    pub fn name(&self) -> Result<&'a str>
+        ensures { IsTextRequired self.now.table 0 (codes "Ship") (codes "name") result }
+    {
+        text_required(&self.table, 0, "Ship", "name")
+    }
+
+    /// Returns `hull`.
+    pub fn hull(&self) -> Result<u16>
+        ensures { IsPlainFieldOr u16_shape 100 self.now.table 1 (codes "Ship") (codes "hull")
+            result }
+    {
+        plain_field_or(&self.table, 1, 100, "Ship", "hull")
+    }
+
+    /// Returns `cargo`.
+    pub fn cargo(&self) -> Result<Option<Vector<'a, u32>>>
+        ensures { IsPlainVector self.now.table 2 (codes "Ship") (codes "cargo") result }
+    {
+        plain_vector(&self.table, 2, "Ship", "cargo")
+    }
+
+    /// Returns `kind`.
+    pub fn kind(&self) -> Result<Kind>
+        ensures { IsPlainFieldOr kind_shape kind_value.Bike self.now.table 3 (codes "Ship")
+            (codes "kind") result }
+    {
+        plain_field_or(&self.table, 3, Kind::Bike, "Ship", "kind")
+    }
+
+    /// Returns `level`.
+    pub fn level(&self) -> Result<Level>
+        ensures { IsPlainFieldOr level_shape level_value.Mid self.now.table 4 (codes "Ship")
+            (codes "level") result }
+    {
+        plain_field_or(&self.table, 4, Level::Mid, "Ship", "level")
+    }
+
+    /// Returns `needs`.
+    pub fn needs(&self) -> Result<Needs>
+        ensures { IsPlainFieldOr needs_shape DEFAULT_NEEDS self.now.table 5 (codes "Ship")
+            (codes "needs") result }
+    {
+        plain_field_or(&self.table, 5, DEFAULT_NEEDS, "Ship", "needs")
+    }
+
+    /// Returns `home`.
+    pub fn home(&self) -> Result<Option<Pos>>
+        ensures { IsPlainField pos_shape self.now.table 6 (codes "Ship") (codes "home") result }
+    {
+        plain_field(&self.table, 6, "Ship", "home")
+    }
+
+    /// Returns `track`.
+    pub fn track(&self) -> Result<Option<Vector<'a, Pos>>>
+        ensures { IsPlainVector self.now.table 7 (codes "Ship") (codes "track") result }
+    {
+        plain_vector(&self.table, 7, "Ship", "track")
+    }
+
+    /// Returns `heat`.
+    pub fn heat(&self) -> Result<f32>
+        ensures { IsPlainFieldOr f32_shape DEFAULT_HEAT self.now.table 8 (codes "Ship")
+            (codes "heat") result }
+    {
+        plain_field_or(&self.table, 8, DEFAULT_HEAT, "Ship", "heat")
+    }
+
+    /// Returns `depth`.
+    pub fn depth(&self) -> Result<i16>
+        ensures { IsPlainFieldOr i16_shape (negsuc 4) self.now.table 9 (codes "Ship")
+            (codes "depth") result }
+    {
+        plain_field_or(&self.table, 9, -5, "Ship", "depth")
+    }
+
+    /// Returns `open`.
+    pub fn open(&self) -> Result<bool>
+        ensures { IsPlainFieldOr bool_shape true self.now.table 10 (codes "Ship") (codes "open")
+            result }
+    {
+        plain_field_or(&self.table, 10, true, "Ship", "open")
+    }
+
+    /// Returns `shut`.
+    pub fn shut(&self) -> Result<bool>
+        ensures { IsPlainFieldOr bool_shape false self.now.table 11 (codes "Ship") (codes "shut")
+            result }
+    {
+        plain_field_or(&self.table, 11, false, "Ship", "shut")
+    }
+
+    /// Returns `maybe`.
+    pub fn maybe(&self) -> Result<Option<i32>>
+        ensures { IsPlainField i32_shape self.now.table 12 (codes "Ship") (codes "maybe") result }
+    {
+        plain_field(&self.table, 12, "Ship", "maybe")
+    }
+
+    /// Returns `photo`.
+    pub fn photo(&self) -> Result<Option<&'a [u8]>>
+        ensures { IsBytesField self.now.table 13 (codes "Ship") (codes "photo") result }
+    {
+        bytes_field(&self.table, 13, "Ship", "photo")
+    }
+
+    /// Returns `names`.
+    pub fn names(&self) -> Result<Option<Vector<'a, Result<&'a str>>>>
+        ensures { IsTextVector self.now.table 14 (codes "Ship") (codes "names") result }
+    {
+        text_vector(&self.table, 14, "Ship", "names")
+    }
+
+    /// Returns `mate`.
+    pub fn mate(&self) -> Result<Option<ShipRef<'a>>>
+        ensures { IsTableField Ship (λ view. view.table) self.now.table 15 (codes "Ship")
+            (codes "mate") result }
+    {
+        table_field(&self.table, 15, "Ship", "mate")
+    }
+
+    /// Returns `consorts`.
+    pub fn consorts(&self) -> Result<Option<Vector<'a, Result<TableRef<'a, Ship>>>>>
+        ensures { IsTableVector Ship self.now.table 16 (codes "Ship") (codes "consorts") result }
+    {
+        table_vector(&self.table, 16, "Ship", "consorts")
+    }
+
+    /// Returns `kinds`.
+    pub fn kinds(&self) -> Result<Option<Vector<'a, Result<Kind>>>>
+        ensures { IsPlainVector self.now.table 17 (codes "Ship") (codes "kinds") result }
+    {
+        plain_vector(&self.table, 17, "Ship", "kinds")
+    }
+
+    /// Returns `owner`.
+    pub fn owner(&self) -> Result<Option<OwnerRef<'a>>>
+        ensures { IsUnionField (ReadsVariants owner_variants) self.now.table 18 (codes "Ship")
+            (codes "owner") Owner result }
+    {
+        union_field::<Owner, OwnerRef<'a>>(&self.table, 18, "Ship", "owner")
+    }
+
+    /// Returns `shares`.
+    pub fn shares(&self) -> Result<Option<UnionVector<'a, OwnerRef<'a>>>>
+        ensures { IsUnionVector self.now.table 20 (codes "Ship") (codes "shares") result }
+    {
+        union_vector(&self.table, 20, "Ship", "shares")
+    }
+
+    /// Returns `tall`.
+    pub fn tall(&self) -> Result<i64>
+        ensures { IsPlainFieldOr i64_shape (pos 0) self.now.table 23 (codes "Ship") (codes "tall")
+            result }
+    {
+        plain_field_or(&self.table, 23, 0, "Ship", "tall")
+    }
+
+    /// Returns `temps`.
+    pub fn temps(&self) -> Result<Option<Vector<'a, f64>>>
+        ensures { IsPlainVector self.now.table 24 (codes "Ship") (codes "temps") result }
+    {
+        plain_vector(&self.table, 24, "Ship", "temps")
+    }
+
+    /// Returns `deltas`.
+    pub fn deltas(&self) -> Result<Option<Vector<'a, i8>>>
+        ensures { IsPlainVector self.now.table 25 (codes "Ship") (codes "deltas") result }
+    {
+        plain_vector(&self.table, 25, "Ship", "deltas")
+    }
+
+    /// Returns `fix`.
+    pub fn fix(&self) -> Result<Fix>
+        ensures { IsPlainRequired fix_shape self.now.table 26 (codes "Ship") (codes "fix") result }
+    {
+        plain_required(&self.table, 26, "Ship", "fix")
+    }
+
+    /// Returns `which`.
+    pub fn which(&self) -> Result<Option<Kind>>
+        ensures { IsPlainField kind_shape self.now.table 27 (codes "Ship") (codes "which") result }
+    {
+        plain_field(&self.table, 27, "Ship", "which")
+    }
+
+    /// Returns `flags`.
+    pub fn flags(&self) -> Result<Option<Vector<'a, bool>>>
+        ensures { IsPlainVector self.now.table 28 (codes "Ship") (codes "flags") result }
+    {
+        plain_vector(&self.table, 28, "Ship", "flags")
+    }
+}
+
+impl<'a> TableView<'a> for ShipRef<'a> {
+    type Kind = Ship;
+
+    ghost table = { λ view. view.table };
+
+    fn of_table(read: Table<'a>) -> ShipRef<'a> {
+        ShipRef { table: read }
+    }
+}
+
+impl TableKind for Ship {
+    type Writer = TableWriter<62>;
+
+    ghost name = { codes "[ShipRef]" };
+
+    fn name() -> &'static str
+        ensures { result.now ≡ codes "[ShipRef]" }
+    {
+        "[ShipRef]"
+    }
+}
