@@ -1,4 +1,5 @@
-//! Tests of schemas: texts that `flatc` took or refused, random texts, and the words of a call.
+//! Tests of schemas: texts that `flatc` took or refused, random texts, the words of a call, buffers
+//! that are viewed, and printed code.
 #![tactic(auto)]
 
 #[cfg(test)]
@@ -13,6 +14,8 @@ mod meaning;
 mod meaning_rows;
 #[cfg(test)]
 mod numbers;
+#[cfg(test)]
+mod printed;
 #[cfg(test)]
 mod random;
 #[cfg(test)]

@@ -70,7 +70,7 @@ fn digit_at(digits: &[u8], index: usize) -> Option<u32> {
 }
 
 /// Returns the bytes that hexadecimal digits say.
-fn bytes_of(alloc: Global, digits: &str) -> Option<Vec<u8>> {
+pub fn bytes_of(alloc: Global, digits: &str) -> Option<Vec<u8>> {
     let digits = digits.as_bytes();
     let mut bytes = Vec::new(alloc);
     for i in 0..digits.len() / 2 {

@@ -1,0 +1,222 @@
+//! Code that `planus rattle` prints: what it writes is read back, and so is what flatc writes.
+
+use crate::views::bytes_of;
+use harbour::{
+    Company, CompanyFields, FILE_IDENTIFIER, Fix, Kind, Level, Needs, OwnerRef, Person,
+    PersonFields, Pos, Ship, ShipFields, ShipRef,
+};
+use planus::{
+    BuildError, Builder, ByteList, Offset, Result, UnionOffset, has_identifier, read_root,
+    table_item, union_item,
+};
+use std::alloc::Global;
+
+/// By flatc 2.0.8 of `harbour.fbs`: a ship with the values of `write_anna`, its tables too.
+const FLATC_ANNA: &str =
+    "4c000000534849500000000000003e00840014000c00180007000e0010001c0028002c001200080009003000\
+     340038003c00400044000a0048004c00500000007c00540058005c000b0078003e0000000000000200010201\
+     00022c010300f9fff4010000e401000035000000f6fffffffdff0000b80100000000803e00000000a4010000\
+     8401000058010000ec000000e0000000bc000000a80000005c0000004400000038000000ffffffffffffffff\
+     05000000060000000700000002000000000000000c00000000e68ee7fdffffff020000000100000000000000\
+     02000000807f000002000000000000000000f83f000000000000e0bf020000003000000004000000bcffffff\
+     10000000040000000100000009000000040000004c696e650000000008000c0008000700080000000000002c\
+     040000000300000050696100020000000102000008000c000400080008000000100000000400000001000000\
+     09000000040000004c696e650000000002000000020000000100000004000000daffffff1c000000ffffffff\
+     ffffffff050000000600000007000000010000000100000043003a0020000400000000000000000000000000\
+     000000000000000000000000000000000000000000000000000000000000000000000000000008003a000000\
+     1c000000ffffffffffffffff0500000006000000070000000000000002000000426f00000200000010000000\
+     0400000000000000000000000100000061000000030000000102ff0002000000050000000600000007000000\
+     35000000f6fffffffdff00000200000007000000ffffffff04000000416e6e6100000000";
+
+const HOME: Pos = Pos {
+    lat: 53,
+    lon: -10,
+    alt: -3,
+};
+
+const FIX: Fix = Fix {
+    when: u64::MAX,
+    at: Pos {
+        lat: 5,
+        lon: 6,
+        alt: 7,
+    },
+    kind: Kind::Ship,
+};
+
+/// A ship with a name and the kind of its fix, and else with what is written by default.
+fn plain_ship(name: &str, kind: Kind) -> ShipFields<'_> {
+    ShipFields {
+        name,
+        hull: 100,
+        cargo: None,
+        kind: Kind::Bike,
+        level: Level::Mid,
+        needs: Needs::WATER,
+        home: None,
+        track: None,
+        heat: 1.5,
+        depth: -5,
+        open: true,
+        shut: false,
+        maybe: None,
+        photo: None,
+        names: None,
+        mate: None,
+        consorts: None,
+        kinds: None,
+        owner: None,
+        shares: &[],
+        tall: 0,
+        temps: None,
+        deltas: None,
+        fix: Fix { kind, ..FIX },
+        which: None,
+        flags: None,
+    }
+}
+
+fn write_anna(builder: &mut Builder) -> std::result::Result<Offset<Ship>, BuildError> {
+    let mate = Ship::create(builder, plain_ship("Bo", Kind::Car))?;
+    let consort = Ship::create(builder, plain_ship("C", Kind::Bike))?;
+    let line = CompanyFields {
+        title: Some("Line"),
+        vat: Some(ByteList(&[9])),
+    };
+    let line = Company::create(builder, line)?;
+    let pia = PersonFields {
+        name: "Pia",
+        age: 44,
+    };
+    let pia = Person::create(builder, pia)?;
+    let anna = ShipFields {
+        name: "Anna",
+        hull: 512,
+        cargo: Some(&[7, u32::MAX]),
+        kind: Kind::Ship,
+        level: Level::High,
+        needs: Needs::WATER.with(Needs::POWER),
+        home: Some(HOME),
+        track: Some(&[FIX.at, HOME]),
+        heat: 0.25,
+        depth: -7,
+        open: false,
+        shut: true,
+        maybe: Some(0),
+        photo: Some(ByteList(&[1, 2, 255])),
+        names: Some(&["a", ""]),
+        mate: Some(mate),
+        consorts: Some(&[consort]),
+        kinds: Some(&[Kind::Ship, Kind::Car]),
+        owner: Some(UnionOffset::new(2, line.downcast())),
+        shares: &[
+            UnionOffset::new(1, pia.downcast()),
+            UnionOffset::new(2, line.downcast()),
+        ],
+        tall: -9_000_000_000,
+        temps: Some(&[1.5, -0.5]),
+        deltas: Some(&[-128, 127]),
+        fix: FIX,
+        which: Some(Kind::Bike),
+        flags: Some(&[true, false]),
+    };
+    Ship::create(builder, anna)
+}
+
+fn has_numbers(ship: &ShipRef<'_>) -> bool {
+    matches!(ship.name(), Ok("Anna"))
+        && matches!(ship.hull(), Ok(512))
+        && matches!(ship.kind(), Ok(Kind::Ship))
+        && matches!(ship.level(), Ok(Level::High))
+        && matches!(ship.needs(), Ok(needs) if needs.bits == 3)
+        && matches!(ship.heat(), Ok(heat) if heat == 0.25)
+        && matches!(ship.depth(), Ok(-7))
+        && matches!(ship.open(), Ok(false))
+        && matches!(ship.shut(), Ok(true))
+        && matches!(ship.maybe(), Ok(Some(0)))
+        && matches!(ship.tall(), Ok(-9_000_000_000))
+        && matches!(ship.which(), Ok(Some(Kind::Bike)))
+        && matches!(ship.home(), Ok(Some(home)) if home == HOME)
+        && matches!(ship.fix(), Ok(fix) if fix == FIX)
+}
+
+fn has_vectors(ship: &ShipRef<'_>) -> bool {
+    matches!(ship.cargo(), Ok(Some(cargo)) if cargo.len() == 2 && cargo.get(1) == Some(u32::MAX))
+        && matches!(ship.track(), Ok(Some(track)) if track.len() == 2 && track.get(1) == Some(HOME))
+        && matches!(ship.photo(), Ok(Some([1, 2, 255])))
+        && matches!(ship.names(), Ok(Some(names)) if matches!(names.get(0), Some(Ok("a"))))
+        && matches!(ship.kinds(), Ok(Some(kinds)) if matches!(kinds.get(1), Some(Ok(Kind::Car))))
+        && matches!(ship.temps(), Ok(Some(temps)) if temps.get(1) == Some(-0.5))
+        && matches!(ship.deltas(), Ok(Some(deltas)) if deltas.get(0) == Some(-128))
+        && matches!(ship.flags(), Ok(Some(flags)) if flags.get(0) == Some(true))
+}
+
+/// Whether a ship has this name and else what is written by default.
+fn is_plain(ship: &ShipRef<'_>, name: &str, kind: Kind) -> bool {
+    matches!(ship.name(), Ok(read) if read == name)
+        && matches!(ship.hull(), Ok(100))
+        && matches!(ship.kind(), Ok(Kind::Bike))
+        && matches!(ship.needs(), Ok(Needs::WATER))
+        && matches!(ship.heat(), Ok(heat) if heat == 1.5)
+        && matches!(ship.depth(), Ok(-5))
+        && matches!(ship.open(), Ok(true))
+        && matches!(ship.fix(), Ok(fix) if fix.kind == kind)
+        && matches!(ship.mate(), Ok(None))
+        && matches!(ship.owner(), Ok(None))
+        && matches!(ship.shares(), Ok(None))
+        && matches!(ship.which(), Ok(None))
+}
+
+fn has_ships(ship: &ShipRef<'_>) -> bool {
+    let consort = match ship.consorts() {
+        Ok(Some(ships)) => table_item(ships.get(0)),
+        _ => None,
+    };
+    matches!(ship.mate(), Ok(Some(mate)) if is_plain(&mate, "Bo", Kind::Car))
+        && matches!(consort, Some(Ok(ship)) if is_plain(&ship, "C", Kind::Bike))
+}
+
+fn has_owners(ship: &ShipRef<'_>) -> bool {
+    let (first, second) = match ship.shares() {
+        Ok(Some(shares)) => (union_item(&shares, 0), union_item(&shares, 1)),
+        _ => (None, None),
+    };
+    matches!(ship.owner(), Ok(Some(OwnerRef::Firm(firm))) if matches!(firm.vat(), Ok(Some([9]))))
+        && matches!(first, Some(Ok(OwnerRef::Person(pia))) if matches!(pia.age(), Ok(44)))
+        && matches!(second, Some(Ok(OwnerRef::Firm(firm))) if matches!(firm.title(), Ok(Some("Line"))))
+}
+
+fn is_anna(bytes: &[u8]) -> bool {
+    let ship: Result<ShipRef<'_>> = read_root(bytes);
+    let Ok(ship) = ship else {
+        return false;
+    };
+    has_identifier(bytes, FILE_IDENTIFIER)
+        && has_numbers(&ship)
+        && has_vectors(&ship)
+        && has_ships(&ship)
+        && has_owners(&ship)
+}
+
+fn writes_anna(builder: &mut Builder) -> std::result::Result<bool, BuildError> {
+    let ship = write_anna(builder)?;
+    let bytes = builder.finish(ship, Some(FILE_IDENTIFIER))?;
+    Ok(is_anna(bytes))
+}
+
+fn in_builder(alloc: Global) -> bool {
+    match Builder::new(alloc) {
+        Ok(mut builder) => matches!(writes_anna(&mut builder), Ok(true)),
+        Err(_) => false,
+    }
+}
+
+#[test]
+fn written_and_read(rt: HostRuntime) {
+    assert!(rt; in_builder(rt.alloc()));
+}
+
+#[test]
+fn read_of_flatc(rt: HostRuntime) {
+    assert!(rt; matches!(bytes_of(rt.alloc(), FLATC_ANNA), Some(bytes) if is_anna(&bytes)));
+}
