@@ -6,7 +6,6 @@ ghost use Rattle.planus.specs.Accessors.{IsTextField, IsBytesField};
 ghost use Rattle.planus.specs.Contents.{WritesContents};
 ghost use Rattle.harbour.specs.Company.{company_contents};
 
-use crate::kind::Kind;
 use planus::table_reader::Table;
 use planus::{
     BuildError, Builder, ByteList, List, Offset, Result, TableKind, TableView, TableWriter, Text,

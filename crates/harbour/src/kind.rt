@@ -1,5 +1,7 @@
 //! Enum `Kind`.
 
+ghost use Rattle.std.specs.Prelude.{◌≡◌};
+ghost use Rattle.harbour.specs.Kind.{kind_is};
 ghost use Rattle.harbour.specs.Kind.{kind_shape};
 
 use planus::errors::ErrorKind;
@@ -14,6 +16,19 @@ pub enum Kind {
     Ship = 2,
 }
 
+impl Kind {
+    /// Returns its number.
+    pub fn number(self) -> u8
+        ensures { result ≡ (kind_is self).number }
+    {
+        match self {
+            Kind::Car => 0,
+            Kind::Bike => 1,
+            Kind::Ship => 2,
+        }
+    }
+}
+
 impl Plain for Kind {
     ghost ALIGNMENT = { 1 };
 
@@ -26,7 +41,7 @@ impl Plain for Kind {
     const SIZE: usize = 1;
 
     fn put(&self, bytes: &mut [u8]) {
-        (*self as u8).put(bytes);
+        self.number().put(bytes);
     }
 
     fn read(buffer: SliceWithStartOffset<'_>, offset: usize) -> Result<Kind, ErrorKind> {

@@ -1,5 +1,7 @@
 //! Enum `Level`.
 
+ghost use Rattle.std.specs.Prelude.{◌≡◌};
+ghost use Rattle.harbour.specs.Level.{level_is};
 ghost use Rattle.harbour.specs.Level.{level_shape};
 
 use planus::errors::ErrorKind;
@@ -11,6 +13,19 @@ pub enum Level {
     Low = -300,
     Mid = 0,
     High = 300,
+}
+
+impl Level {
+    /// Returns its number.
+    pub fn number(self) -> i16
+        ensures { result ≡ (level_is self).number }
+    {
+        match self {
+            Level::Low => -300,
+            Level::Mid => 0,
+            Level::High => 300,
+        }
+    }
 }
 
 impl Plain for Level {
@@ -25,7 +40,7 @@ impl Plain for Level {
     const SIZE: usize = 2;
 
     fn put(&self, bytes: &mut [u8]) {
-        (*self as i16).put(bytes);
+        self.number().put(bytes);
     }
 
     fn read(buffer: SliceWithStartOffset<'_>, offset: usize) -> Result<Level, ErrorKind> {

@@ -8,7 +8,6 @@ ghost use Rattle.planus.specs.Contents.{WritesContents};
 ghost use Rattle.planus.specs.ReadPlain.{IsPlainFieldOr};
 ghost use Rattle.harbour.specs.Person.{person_contents};
 
-use crate::kind::Kind;
 use planus::table_reader::Table;
 use planus::{
     BuildError, Builder, Offset, OrDefault, Result, TableKind, TableView, TableWriter, Text,

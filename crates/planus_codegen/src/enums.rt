@@ -8,6 +8,9 @@ use planus_layout::Declared;
 
 const ENUM: &str = "#[derive(Clone, Copy, Debug, PartialEq)]\npub enum $T {\n";
 
+const NUMBER: &str =
+    "}\n\nimpl $T {\n    /// Returns its number.\n    pub fn number(self) -> $b\n        ensures {~result ≡~($M_is self).number }\n    {\n        match self {\n";
+
 const NUMBERS: &str = "~[]\n\nabbrev pub $M_is : (x : $T) → Numbered $q $M_values x\n";
 
 const ENUM_SHAPE: &str = "\nabbrev pub $M_shape : Shape $T $S $S\n$M_shape = $b_enum $M_is\n";
@@ -27,8 +30,11 @@ pub(crate) fn print_enum<'a>(context: &'a Context<'a>, at: At, declared: &Declar
     printer.put_docs("", &declared.docs, "/// One of some values.\n", at);
     printer.put(ENUM, at);
     printer.put_members("", "    $n = $i,\n", at);
+    printer.put(NUMBER, at);
+    printer.put_each("            $T::$n => $i,\n", "", at);
+    printer.put("        }\n    }\n", at);
     printer.put(LAYOUT, at);
-    printer.put("        (*self as $b).put(bytes);\n", at);
+    printer.put("        self.number().put(bytes);\n", at);
     printer.put(READ, at);
     printer.put("        read_variant!($b, buffer, offset;~", at);
     printer.put_each("$T::$n", ",~", at);

@@ -64,9 +64,10 @@ const IN_DEFINITIONS: [(&str, &str); 12] = [
 const NAME_COLUMNS: usize = 80;
 
 /// The words behind a module's name that name a definition, and its import.
-const OWN_DEFINITIONS: [(&str, &str); 5] = [
+const OWN_DEFINITIONS: [(&str, &str); 6] = [
     ("_contents", " Rattle.$c.specs.$T.{$M_contents}"),
     ("_variants", " Rattle.$c.specs.$T.{$M_variants}"),
+    ("_is", " Rattle.$c.specs.$T.{$M_is}"),
     ("_shape", " Rattle.$c.specs.$T.{$M_shape}"),
     (
         "_value",

@@ -110,6 +110,9 @@ fn type_names(alloc: Global, declared: &[Declared]) -> Result<Vec<Vec<u8>>, Allo
     let mut names = Vec::new(alloc);
     for one in declared {
         let mut name = spelled(alloc, last_word(&one.name), Spelling::Kept)?;
+        if let Some(first) = name.first_mut() {
+            *first = first.to_ascii_uppercase();
+        }
         if is_known_type(&name) {
             name.push(b'_')?;
         }

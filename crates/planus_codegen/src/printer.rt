@@ -16,8 +16,8 @@ pub(crate) const OWN: char = '\u{3}';
 /// A text to which more is added until memory is refused, and which then says so.
 ///
 /// What is added is a template: in it `$` and a letter stand for what the letter means where the
-/// template is filled (`holes.rt` has the letters), `~` for a blank where the line may end, and `^`
-/// for where a call may be broken.
+/// template is filled (`holes.rt` has the letters), `~` for a blank where the line may end, `^` for
+/// where a call may be broken, and `%` stands before a name that no import brings.
 #[derive(Drop)]
 pub(crate) struct Printer<'a> {
     pub(crate) context: &'a Context<'a>,
@@ -29,6 +29,7 @@ fn letter_of(letter: char) -> char {
     match letter {
         '~' => BREAK,
         '^' => ARGUMENT,
+        '%' => OWN,
         letter => letter,
     }
 }

@@ -16,7 +16,7 @@ pub(crate) const READ: &str =
 
 /// What stands after the body of `read`.
 pub(crate) const STRIDE: &str =
-    "    }\n}\n\nimpl Stride for $T {\n    type Stands = $T;\n}\n\nimpl PlainField for $T {}\n";
+    "    }\n}\n\nimpl Stride for $T {\n    type %Stands = $T;\n}\n\nimpl PlainField for $T {}\n";
 
 /// What a type has of which a read can't fail.
 pub(crate) const TOTAL: &str =

@@ -10,7 +10,7 @@ const VIEW: &str =
     "/// One in a buffer.\n#[derive(Clone, Copy)]\npub struct $TRef<'a> {\n    table: Table<'a>,\n}\n\n";
 
 const TABLE_VIEW: &str =
-    "impl<'a> TableView<'a> for $TRef<'a> {\n    type Kind = $T;\n\n    ghost table = { λ view. view.table };\n\n    fn of_table(read: Table<'a>) -> $TRef<'a> {\n        $TRef { table: read }\n    }\n}\n\n";
+    "impl<'a> TableView<'a> for $TRef<'a> {\n    type %Kind = $T;\n\n    ghost table = { λ view. view.table };\n\n    fn of_table(read: Table<'a>) -> $TRef<'a> {\n        $TRef { table: read }\n    }\n}\n\n";
 
 /// The words of the clause of the function that reads a vector.
 fn vector_clause(field: &TableField) -> &'static str {

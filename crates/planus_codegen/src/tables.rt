@@ -20,7 +20,7 @@ const CREATED: &str =
     "~builder.old~offset.distance~builder.new) }\n        ensures reached { IfOk result (λ offset. offset.distance ≤ length builder.new.bytes) }\n        ensures grows { Grows builder.old builder.new }\n    {\n        let lines = fields![";
 
 const KIND: &str =
-    "impl TableKind for $T {\n    type Writer = TableWriter<$p>;\n\n    ghost name = { codes \"[$TRef]\" };\n\n    fn name() -> &'static str\n        ensures {~result.now ≡~codes \"[$TRef]\" }\n    {\n        \"[$TRef]\"\n    }\n}\n";
+    "impl TableKind for $T {\n    type %Writer = TableWriter<$p>;\n\n    ghost name = { codes \"[$TRef]\" };\n\n    fn name() -> &'static str\n        ensures {~result.now ≡~codes \"[$TRef]\" }\n    {\n        \"[$TRef]\"\n    }\n}\n";
 
 /// The condition that what a field refers to is in the builder.
 fn condition(field: &TableField) -> &'static str {
