@@ -5,7 +5,7 @@ use std::alloc::{AllocError, Global};
 /// output and on standard error.
 type Call = (&'static str, &'static str, u8, &'static str, &'static str);
 
-const CALLS: [Call; 32] = [
+const CALLS: [Call; 33] = [
     ("--version", "", 0, "planus 0.1.0\n", ""),
     (
         "chekc a",
@@ -127,6 +127,13 @@ const CALLS: [Call; 32] = [
         2,
         "",
         "planus: no crate can have the name `Ship`\n",
+    ),
+    (
+        "rattle - -o ship",
+        "table A { s: string = \"x\"; }",
+        1,
+        "",
+        "planus: A: a default of a string isn't supported by planus rattle\n",
     ),
     (
         "rattle - -I lib -o ship -o out/ship",
