@@ -1,6 +1,6 @@
 //! Tables `Company`.
 
-ghost use Rattle.std.specs.Prelude.{◌≡◌, ◌≤◌, length, codes, IfOk};
+ghost use Rattle.std.specs.Prelude.{◌≡◌, ◌≤◌, length, codes, IfOk, None};
 ghost use Rattle.planus.specs.write.State.{Grows};
 ghost use Rattle.planus.specs.Accessors.{IsTextField, IsBytesField};
 ghost use Rattle.planus.specs.Contents.{WritesContents};
@@ -20,6 +20,17 @@ pub struct Company;
 pub struct CompanyFields<'a> {
     pub title: Option<&'a str>,
     pub vat: Option<ByteList<'a>>,
+}
+
+impl<'a> Default for CompanyFields<'a> {
+    ghost is_default = { λ x. (x.title ≡ None) × (x.vat ≡ None) };
+
+    fn default() -> CompanyFields<'a> {
+        CompanyFields {
+            title: None,
+            vat: None,
+        }
+    }
 }
 
 impl Company {

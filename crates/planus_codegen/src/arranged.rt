@@ -9,8 +9,10 @@ const COLUMNS: usize = 100;
 /// The columns of a line that goes on.
 const WORD_COLUMNS: usize = 99;
 
-/// The columns of a call's arguments on one line.
+/// The columns of a call's arguments on one line, and those of a struct's fields.
 const ARGUMENT_COLUMNS: usize = 60;
+
+const FIELD_COLUMNS: usize = 18;
 
 /// Text of which each line ends where it must.
 #[derive(Drop)]
@@ -23,48 +25,57 @@ struct Arrangement {
     width: usize,
     /// Whether a blank or the end of a line stands before the word.
     apart: bool,
-    /// The blanks that the line begins with.
+    /// The blanks that the line begins with, and whether it is a ghost item.
     indent: usize,
+    is_ghost: bool,
 }
 
-/// What a line has: its columns without marks, those of the arguments of a call, and how many marks
-/// of arguments there are.
+/// What a line has: its columns without marks, those of the arguments of a call or of the fields of
+/// a struct, how many marks of these there are, and whether they are of a struct.
 #[derive(Clone, Copy)]
 struct Measure {
     columns: usize,
     arguments: usize,
     marks: usize,
+    fields: bool,
+    /// Whether it is a ghost item.
+    is_ghost: bool,
 }
 
 fn measure_of(line: &str) -> Measure {
-    let mut columns = 0usize;
+    let mut measure = Measure {
+        columns: 0,
+        arguments: 0,
+        marks: 0,
+        fields: false,
+        is_ghost: line.trim_start().starts_with("ghost"),
+    };
     let mut start = 0usize;
-    let mut arguments = 0usize;
-    let mut marks = 0usize;
+    let mut before = ' ';
     for letter in line.chars() {
         if letter == ARGUMENT {
-            if marks == 0 {
-                start = columns;
+            if measure.marks == 0 {
+                start = measure.columns;
+                measure.fields = before == '{';
             }
-            arguments = columns.saturating_sub(start);
-            marks = marks.saturating_add(1);
+            measure.arguments = measure.columns.saturating_sub(start);
+            measure.marks = measure.marks.saturating_add(1);
         }
         if letter >= ' ' || letter == BREAK {
-            columns = columns.saturating_add(1);
+            measure.columns = measure.columns.saturating_add(1);
         }
+        before = letter;
     }
-    let blanks = marks.saturating_sub(2);
-    Measure {
-        columns: columns.saturating_add(blanks),
-        arguments: arguments.saturating_add(blanks),
-        marks,
-    }
+    let blanks = measure.marks.saturating_sub(2);
+    measure.columns = measure.columns.saturating_add(blanks);
+    measure.arguments = measure.arguments.saturating_add(blanks);
+    measure
 }
 
 /// Returns the blanks of a line that goes on with one of so many: 4 more, but as many where they are
 /// 4, in lists of names and in definitions.
-fn going_on(indent: usize) -> usize {
-    if indent == 4 {
+fn going_on(indent: usize, is_ghost: bool) -> usize {
+    if indent == 4 && !is_ghost {
         4
     } else {
         indent.saturating_add(4)
@@ -72,9 +83,14 @@ fn going_on(indent: usize) -> usize {
 }
 
 impl Measure {
-    /// Whether each argument of the call stands on a line of its own.
+    /// Whether each argument or field stands on a line of its own.
     fn is_broken(self) -> bool {
-        self.marks > 0 && (self.columns > COLUMNS || self.arguments > ARGUMENT_COLUMNS)
+        let most = if self.fields {
+            FIELD_COLUMNS
+        } else {
+            ARGUMENT_COLUMNS
+        };
+        self.marks > 0 && (self.columns > COLUMNS || self.arguments > most)
     }
 }
 
@@ -92,7 +108,7 @@ impl Arrangement {
     fn put_word(&mut self) -> Result<(), AllocError> {
         let wanted = self.width.saturating_add(1);
         if self.apart && self.column.saturating_add(wanted) > WORD_COLUMNS {
-            self.put_line_end(going_on(self.indent))?;
+            self.put_line_end(going_on(self.indent, self.is_ghost))?;
         } else if self.apart {
             self.text.push(' ')?;
             self.column = self.column.saturating_add(1);
@@ -124,7 +140,7 @@ impl Arrangement {
             let more = if last { 0 } else { 4 };
             return self.put_line_end(self.indent.saturating_add(more));
         }
-        if mark > 0 && !last {
+        if measure.fields || (mark > 0 && !last) {
             self.put_letter(' ')?;
         }
         Ok(())
@@ -134,6 +150,7 @@ impl Arrangement {
         let measure = measure_of(line);
         let mut mark = 0usize;
         self.indent = 0;
+        self.is_ghost = measure.is_ghost;
         self.column = 0;
         self.apart = false;
         for letter in line.chars() {
@@ -165,6 +182,7 @@ pub(crate) fn arranged(alloc: Global, printed: &str) -> Result<String, AllocErro
         width: 0,
         apart: false,
         indent: 0,
+        is_ghost: false,
     };
     let mut line = String::new(alloc);
     for letter in printed.chars() {

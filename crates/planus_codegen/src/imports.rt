@@ -8,7 +8,7 @@ use crate::words::Words;
 const IN_CLAUSES: [(&str, &str); 9] = [
     (
         "std.specs.Prelude",
-        "◌≡◌ ◌≤◌ ◌==◌ length codes pos negsuc true false bit_and bit_or IfOk MatchOption ⊤ Some",
+        "◌≡◌ ◌≤◌ ◌==◌ length codes pos negsuc true false bit_and bit_or IfOk MatchOption ⊤ Some None []",
     ),
     (
         "planus.specs.read.Shapes",

@@ -117,4 +117,14 @@ impl<'a> Plan<'a> {
         }
         false
     }
+
+    /// Returns whether each field has a value where none is said, and there is one.
+    pub(crate) fn has_defaults(&self) -> bool {
+        for line in &self.lines {
+            if line.field.required {
+                return false;
+            }
+        }
+        !self.lines.is_empty()
+    }
 }

@@ -24,31 +24,31 @@ fn test_type(field: &TableField) -> &'static str {
 fn optional_row(field: &TableField) -> &'static str {
     match (field.kind.base, field.kind.vector) {
         (Base::Text, true) => {
-            "    ($o,~holds_if~(λ x. holds_texts (λ text. text.now) x.now)~fields.$n)~∷\n"
+            "    ($o,~holds_if~(λ x. holds_texts (λ text. text.now) x.now)~fields.$n) ∷\n"
         }
-        (Base::Text, false) => "    ($o,~holds_if~(λ x. holds_text x.now)~fields.$n)~∷\n",
-        (Base::Table(_), true) => "    ($o,~holds_if~(λ x. holds_offsets x.now)~fields.$n)~∷\n",
+        (Base::Text, false) => "    ($o,~holds_if~(λ x. holds_text x.now)~fields.$n) ∷\n",
+        (Base::Table(_), true) => "    ($o,~holds_if~(λ x. holds_offsets x.now)~fields.$n) ∷\n",
         (Base::Table(_), false) => {
-            "    ($o,~holds_if~(λ x. holds_offset x.distance)~fields.$n)~∷\n"
+            "    ($o,~holds_if~(λ x. holds_offset x.distance)~fields.$n) ∷\n"
         }
         (_, true) if is_bytes(field.kind) => {
-            "    ($o,~holds_if~(λ x. holds_bytes x.0.now)~fields.$n)~∷\n"
+            "    ($o,~holds_if~(λ x. holds_bytes x.0.now)~fields.$n) ∷\n"
         }
-        (_, true) => "    ($o,~holds_if~(λ x. holds_plains $h_shape x.now)~fields.$n)~∷\n",
-        (_, false) => "    ($o,~holds_if~(λ x. holds_plain $h_shape x)~fields.$n)~∷\n",
+        (_, true) => "    ($o,~holds_if~(λ x. holds_plains $h_shape x.now)~fields.$n) ∷\n",
+        (_, false) => "    ($o,~holds_if~(λ x. holds_plain $h_shape x)~fields.$n) ∷\n",
     }
 }
 
 /// What the slot of a field holds that is always there.
 fn row(field: &TableField) -> &'static str {
     match (field.kind.base, field.kind.vector) {
-        (Base::Text, true) => "    ($o,~holds_texts~(λ text. text.now)~fields.$n.now)~∷\n",
-        (Base::Text, false) => "    ($o,~holds_text~fields.$n.now)~∷\n",
-        (Base::Table(_), true) => "    ($o,~holds_offsets~fields.$n.now)~∷\n",
-        (Base::Table(_), false) => "    ($o,~holds_offset~fields.$n.distance)~∷\n",
-        (_, true) if is_bytes(field.kind) => "    ($o,~holds_bytes~fields.$n.0.now)~∷\n",
-        (_, true) => "    ($o,~holds_plains~$h_shape~fields.$n.now)~∷\n",
-        (_, false) => "    ($o,~holds_plain~$h_shape~fields.$n)~∷\n",
+        (Base::Text, true) => "    ($o,~holds_texts~(λ text. text.now)~fields.$n.now) ∷\n",
+        (Base::Text, false) => "    ($o,~holds_text~fields.$n.now) ∷\n",
+        (Base::Table(_), true) => "    ($o,~holds_offsets~fields.$n.now) ∷\n",
+        (Base::Table(_), false) => "    ($o,~holds_offset~fields.$n.distance) ∷\n",
+        (_, true) if is_bytes(field.kind) => "    ($o,~holds_bytes~fields.$n.0.now) ∷\n",
+        (_, true) => "    ($o,~holds_plains~$h_shape~fields.$n.now) ∷\n",
+        (_, false) => "    ($o,~holds_plain~$h_shape~fields.$n) ∷\n",
     }
 }
 
@@ -56,12 +56,12 @@ fn row(field: &TableField) -> &'static str {
 fn number_row(field: &TableField) -> &'static str {
     match field.kind.base {
         _ if is_judged(field) => {
-            "    ($o,~unless~(usual_$p fields.$n)~(holds_plain $h_shape fields.$n))~∷\n"
+            "    ($o,~unless~(usual_$p fields.$n)~(holds_plain $h_shape fields.$n)) ∷\n"
         }
         Base::Scalar(scalar) if is_signed(scalar) => {
-            "    ($o,~unless~(equals_$t fields.$n $K)~(holds_$t fields.$n))~∷\n"
+            "    ($o,~unless~(equals_$t fields.$n $K)~(holds_$t fields.$n)) ∷\n"
         }
-        _ => "    ($o,~unless~(fields.$n == $K)~(holds_plain $h_shape fields.$n))~∷\n",
+        _ => "    ($o,~unless~(fields.$n == $K)~(holds_plain $h_shape fields.$n)) ∷\n",
     }
 }
 
@@ -70,13 +70,13 @@ fn number_row(field: &TableField) -> &'static str {
 fn union_rows(field: &TableField) -> &'static str {
     match (field.kind.vector, field.required) {
         (true, true) => {
-            "    ($u,~holds_union_tags~fields.$n.now)~∷\n    ($o,~holds_union_values~fields.$n.now)~∷\n"
+            "    ($u,~holds_union_tags~fields.$n.now) ∷\n    ($o,~holds_union_values~fields.$n.now) ∷\n"
         }
         (true, false) => {
-            "    ($u,~holds_any_union_tags~fields.$n.now)~∷\n    ($o,~holds_any_union_values~fields.$n.now)~∷\n"
+            "    ($u,~holds_any_union_tags~fields.$n.now) ∷\n    ($o,~holds_any_union_values~fields.$n.now) ∷\n"
         }
-        (false, true) => "    ($o,~holds_union_value~(Some fields.$n))~∷\n",
-        (false, false) => "    ($o,~holds_union_value~fields.$n)~∷\n",
+        (false, true) => "    ($o,~holds_union_value~(Some fields.$n)) ∷\n",
+        (false, false) => "    ($o,~holds_union_value~fields.$n) ∷\n",
     }
 }
 
@@ -96,8 +96,8 @@ fn rows(field: &TableField) -> &'static str {
 /// What the slot of the tag of a union holds that is no vector.
 fn tag_row(field: &TableField) -> &'static str {
     match (is_union(field.kind) && !field.kind.vector, field.required) {
-        (true, true) => "    ($u,~holds_union_tag~(Some fields.$n))~∷\n",
-        (true, false) => "    ($u,~holds_union_tag~fields.$n)~∷\n",
+        (true, true) => "    ($u,~holds_union_tag~(Some fields.$n)) ∷\n",
+        (true, false) => "    ($u,~holds_union_tag~fields.$n) ∷\n",
         (false, _) => "",
     }
 }

@@ -11,6 +11,12 @@ use planus_layout::{Base, Declared, TableField};
 const FIELDS: &str =
     "/// The fields of `$T`, as [`$T::create`] takes them.\n#[derive(Drop)]\npub struct $TFields";
 
+const CONSTANT: &str = "    ghost use Rattle.$c.specs.declared.$M.TheConstants.{DEFAULT_$N};\n";
+
+const BORROWED_FIELDS: &str = " };\n\n    fn default() -> $TFields<'a> {\n        $TFields {";
+
+const OWNED_FIELDS: &str = " };\n\n    fn default() -> $TFields {\n        $TFields {";
+
 const CREATE: &str =
     "impl $T {\n    /// Writes a table with these fields. One that equals its default is left out.\n    ///\n    /// [`BuildError::TooLarge`] and [`BuildError::OutOfMemory`] as of [`Builder::create_vector`].\n    pub fn create(\n        builder: &mut Builder,\n        fields: $TFields";
 
@@ -21,6 +27,24 @@ const CREATED: &str =
 
 const KIND: &str =
     "impl TableKind for $T {\n    type %Writer = TableWriter<$p>;\n\n    ghost name = { codes \"[$TRef]\" };\n\n    fn name() -> &'static str\n        ensures {~result.now ≡~codes \"[$TRef]\" }\n    {\n        \"[$TRef]\"\n    }\n}\n";
+
+/// The value of a field where none is said.
+fn default_of(field: &TableField) -> &'static str {
+    match field.kind.base {
+        _ if has_default(field) => "$n: $D",
+        Base::Union(_) if field.kind.vector => "$n: &[]",
+        _ => "$n: None",
+    }
+}
+
+/// What is said of that value.
+fn default_is(field: &TableField) -> &'static str {
+    match field.kind.base {
+        _ if has_default(field) => "~(x.$n ≡ $K)",
+        Base::Union(_) if field.kind.vector => "~(x.$n.now ≡ [])",
+        _ => "~(x.$n ≡ None)",
+    }
+}
 
 /// The condition that what a field refers to is in the builder.
 fn condition(field: &TableField) -> &'static str {
@@ -88,6 +112,50 @@ impl<'a> Printer<'a> {
         self.put("}\n\n", at);
     }
 
+    // The fields where nothing is said of them.
+    fn put_default_fields(&mut self, plan: &Plan<'_>) {
+        let at = At::declaration(plan.table);
+        let borrows = plan.borrows();
+        self.put(
+            if borrows {
+                "impl<'a> Default for $TFields<'a> {\n"
+            } else {
+                "impl Default for $TFields {\n"
+            },
+            at,
+        );
+        let mut constants = false;
+        for line in &plan.lines {
+            if has_constant(self.context, line.field) {
+                self.put(CONSTANT, line.at());
+                constants = true;
+            }
+        }
+        self.put_str(if constants { "\n" } else { "" });
+        self.put("    ghost is_default = {~λ x.", at);
+        let mut first = true;
+        for line in &plan.lines {
+            self.put(if first { "" } else { "~×" }, at);
+            first = false;
+            self.put(default_is(line.field), line.at());
+        }
+        self.put(
+            if borrows {
+                BORROWED_FIELDS
+            } else {
+                OWNED_FIELDS
+            },
+            at,
+        );
+        first = true;
+        for line in &plan.lines {
+            self.put(if first { "^" } else { ",^" }, at);
+            first = false;
+            self.put(default_of(line.field), line.at());
+        }
+        self.put("^}\n    }\n}\n\n", at);
+    }
+
     // The clauses of `create`, up to its list of fields.
     fn put_clauses(&mut self, plan: &Plan<'_>) {
         let at = At::declaration(plan.table);
@@ -149,6 +217,9 @@ pub(crate) fn print_table<'a>(
     printer.put("pub struct $T;\n\n", at);
     printer.put_constants(plan);
     printer.put_fields(plan);
+    if plan.has_defaults() {
+        printer.put_default_fields(plan);
+    }
     printer.put_create(plan);
     printer.put_view(plan);
     printer.put(KIND, at.member(plan.vtable_size));
