@@ -1,17 +1,19 @@
 //! Code that `planus rattle` prints: what it writes is read back, and so is what flatc writes.
 
+ghost use Rattle.std.specs.Prelude.{◌≡◌, None, []};
+
 use crate::views::bytes_of;
 use harbour::{
     Company, CompanyFields, FILE_IDENTIFIER, Fix, Kind, Level, Needs, OwnerRef, Person,
     PersonFields, Pos, Ship, ShipFields, ShipRef,
 };
 use planus::{
-    BuildError, Builder, ByteList, Offset, Result, UnionOffset, has_identifier, read_root,
-    table_item, union_item,
+    BuildError, Builder, ByteList, Result, UnionOffset, has_identifier, read_root, table_item,
+    union_item,
 };
 use std::alloc::Global;
 
-/// By flatc 2.0.8 of `harbour.fbs`: a ship with the values of `write_anna`, its tables too.
+/// By flatc 2.0.8 of `harbour.fbs`: a ship with the values of `writes_anna`, its tables too.
 const FLATC_ANNA: &str =
     "4c000000534849500000000000003e00840014000c00180007000e0010001c0028002c001200080009003000\
      340038003c00400044000a0048004c00500000007c00540058005c000b0078003e0000000000000200010201\
@@ -45,7 +47,12 @@ const FIX: Fix = Fix {
 };
 
 /// A ship with a name and the kind of its fix, and else with what is written by default.
-fn plain_ship(name: &str, kind: Kind) -> ShipFields<'_> {
+fn plain_ship(name: &'static str, kind: Kind) -> ShipFields<'static>
+    ensures mate { result.mate ≡ None }
+    ensures consorts { result.consorts ≡ None }
+    ensures owner { result.owner ≡ None }
+    ensures shares { result.shares.now ≡ [] }
+{
     ShipFields {
         name,
         hull: 100,
@@ -74,53 +81,6 @@ fn plain_ship(name: &str, kind: Kind) -> ShipFields<'_> {
         which: None,
         flags: None,
     }
-}
-
-fn write_anna(builder: &mut Builder) -> std::result::Result<Offset<Ship>, BuildError> {
-    let mate = Ship::create(builder, plain_ship("Bo", Kind::Car))?;
-    let consort = Ship::create(builder, plain_ship("C", Kind::Bike))?;
-    let line = CompanyFields {
-        title: Some("Line"),
-        vat: Some(ByteList(&[9])),
-    };
-    let line = Company::create(builder, line)?;
-    let pia = PersonFields {
-        name: "Pia",
-        age: 44,
-    };
-    let pia = Person::create(builder, pia)?;
-    let anna = ShipFields {
-        name: "Anna",
-        hull: 512,
-        cargo: Some(&[7, u32::MAX]),
-        kind: Kind::Ship,
-        level: Level::High,
-        needs: Needs::WATER.with(Needs::POWER),
-        home: Some(HOME),
-        track: Some(&[FIX.at, HOME]),
-        heat: 0.25,
-        depth: -7,
-        open: false,
-        shut: true,
-        maybe: Some(0),
-        photo: Some(ByteList(&[1, 2, 255])),
-        names: Some(&["a", ""]),
-        mate: Some(mate),
-        consorts: Some(&[consort]),
-        kinds: Some(&[Kind::Ship, Kind::Car]),
-        owner: Some(UnionOffset::new(2, line.downcast())),
-        shares: &[
-            UnionOffset::new(1, pia.downcast()),
-            UnionOffset::new(2, line.downcast()),
-        ],
-        tall: -9_000_000_000,
-        temps: Some(&[1.5, -0.5]),
-        deltas: Some(&[-128, 127]),
-        fix: FIX,
-        which: Some(Kind::Bike),
-        flags: Some(&[true, false]),
-    };
-    Ship::create(builder, anna)
 }
 
 fn has_numbers(ship: &ShipRef<'_>) -> bool {
@@ -198,9 +158,57 @@ fn is_anna(bytes: &[u8]) -> bool {
         && has_owners(&ship)
 }
 
+fn the_line() -> CompanyFields<'static> {
+    CompanyFields {
+        title: Some("Line"),
+        vat: Some(ByteList(&[9])),
+    }
+}
+
 fn writes_anna(builder: &mut Builder) -> std::result::Result<bool, BuildError> {
-    let ship = write_anna(builder)?;
-    let bytes = builder.finish(ship, Some(FILE_IDENTIFIER))?;
+    let mate = Ship::create(builder, plain_ship("Bo", Kind::Car))?;
+    let consort = Ship::create(builder, plain_ship("C", Kind::Bike))?;
+    let line = Company::create(builder, the_line())?;
+    let pia = Person::create(
+        builder,
+        PersonFields {
+            name: "Pia",
+            age: 44,
+        },
+    )?;
+    let anna = ShipFields {
+        name: "Anna",
+        hull: 512,
+        cargo: Some(&[7, u32::MAX]),
+        kind: Kind::Ship,
+        level: Level::High,
+        needs: Needs::WATER.with(Needs::POWER),
+        home: Some(HOME),
+        track: Some(&[FIX.at, HOME]),
+        heat: 0.25,
+        depth: -7,
+        open: false,
+        shut: true,
+        maybe: Some(0),
+        photo: Some(ByteList(&[1, 2, 255])),
+        names: Some(&["a", ""]),
+        mate: Some(mate),
+        consorts: Some(&[consort]),
+        kinds: Some(&[Kind::Ship, Kind::Car]),
+        owner: Some(UnionOffset::new(2, line.downcast())),
+        shares: &[
+            UnionOffset::new(1, pia.downcast()),
+            UnionOffset::new(2, line.downcast()),
+        ],
+        tall: -9_000_000_000,
+        temps: Some(&[1.5, -0.5]),
+        deltas: Some(&[-128, 127]),
+        fix: FIX,
+        which: Some(Kind::Bike),
+        flags: Some(&[true, false]),
+    };
+    let anna = Ship::create(builder, anna)?;
+    let bytes = builder.finish(anna, Some(FILE_IDENTIFIER))?;
     Ok(is_anna(bytes))
 }
 
