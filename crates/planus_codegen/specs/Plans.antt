@@ -20,29 +20,41 @@ abbrev pub alignment_of : List Declared → FieldType → ℕ
 alignment_of ds kind =
     if kind.vector then 4 else alignment_or (measure_in (map body_in ds) kind.base)
 
--- a field, by its place among those of its table
+-- a field, by the index of its table and its place there
 pub record LineV : Type 0 where
+  pub table : ℕ
   pub place : ℕ
   pub field : TableField
   pub alignment : ℕ
 
 abbrev pub line_of : Line → LineV
-line_of l = record { place = l.place; field = l.field.now; alignment = l.alignment }
+line_of l = record {
+  table = l.table;
+  place = l.place;
+  field = l.field.now;
+  alignment = l.alignment;
+}
 
 -- those that aren't deprecated, from a place on
-abbrev pub lines_from : List Declared → ℕ → List TableField → List LineV
-lines_from ds place [] = []
-lines_from ds place (f ∷ fs) = if f.deprecated then lines_from ds (place + 1) fs
-    else record { place = place; field = f; alignment = alignment_of ds f.kind }
-    ∷ lines_from ds (place + 1) fs
+abbrev pub lines_from : List Declared → ℕ → ℕ → List TableField → List LineV
+lines_from ds table place [] = []
+lines_from ds table place (f ∷ fs) = if f.deprecated then lines_from ds table (place + 1) fs
+    else record {
+      table = table;
+      place = place;
+      field = f;
+      alignment = alignment_of ds f.kind;
+    } ∷ lines_from ds table (place + 1) fs
 
 -- no alignment is above one before it
 abbrev pub Falls : List Line → Type 0
 Falls lines = IsNonDecreasingBy (λ l. 18446744073709551615 - l.alignment) lines
 
 -- each field that isn't deprecated once, by falling alignment; and a vtable with room for each slot
-pub record IsPlan (ds : List Declared) (fields : List TableField) (p : Plan) : Type 0 where
-  pub lines : map line_of p.lines.items ≡ lines_from ds 0 fields
-  pub once : IsPermutation p.lines.items p.order.items
-  pub falls : Falls p.order.items
-  pub size : AreSlots (slots_taken fields) → p.vtable_size ≡ 4 + 2 * length (slots_taken fields)
+pub record IsPlan (ds : List Declared) (table : ℕ) (fields : List TableField) (p : Plan) : Type 0
+  where
+    pub table_is : p.table ≡ table
+    pub lines : map line_of p.lines.items ≡ lines_from ds table 0 fields
+    pub once : IsPermutation p.lines.items p.order.items
+    pub falls : Falls p.order.items
+    pub size : AreSlots (slots_taken fields) → p.vtable_size ≡ 4 + 2 * length (slots_taken fields)

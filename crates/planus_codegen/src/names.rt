@@ -1,6 +1,6 @@
 //! The names that code has for what a schema declares.
 
-ghost use Rattle.std.specs.Prelude.{◌≡◌, true, IfOk};
+ghost use Rattle.std.specs.Prelude.{◌≡◌, length, true, IfOk};
 ghost use Rattle.planus_codegen.specs.Names.{are_names as are_names_lem, are_scopes as are_scopes_lem};
 ghost use Rattle.planus_codegen.specs.Names.{are_apart_from as are_apart_from_lem};
 
@@ -205,15 +205,20 @@ impl Names {
     /// [`Refusal::Unsupported`] where one is no identifier, or two of a scope are alike: no names that
     /// a schema may have come to that.
     pub fn of(alloc: Global, declared: &[Declared]) -> Result<Names, Refusal>
+        ensures counts { IfOk result (λ n. length n.types.items ≡ length declared.now) }
+        ensures counts_of_modules { IfOk result (λ n. length n.modules.items ≡ length declared.now) }
+        ensures counts_of_members { IfOk result (λ n. length n.members.items ≡ length declared.now) }
         ensures types { IfOk result (λ n. are_names_lem n.types.items ≡ true) }
         ensures modules { IfOk result (λ n. are_names_lem n.modules.items ≡ true) }
         ensures apart { IfOk result (λ n. are_apart_from_lem n.types.items n.modules.items ≡ true) }
         ensures members { IfOk result (λ n. are_scopes_lem n.members.items ≡ true) }
     {
         let names = names_of(alloc, declared)?;
+        let whole = names.types.len() == declared.len() && names.modules.len() == declared.len();
+        let whole = whole && names.members.len() == declared.len();
         let apart = are_names(&names.types) && are_names(&names.modules);
         let apart = apart && are_apart_from(&names.types, &names.modules);
-        if apart && are_scopes(&names.members) {
+        if whole && apart && are_scopes(&names.members) {
             return Ok(names);
         }
         Err(Refusal::Unsupported {

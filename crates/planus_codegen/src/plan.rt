@@ -59,7 +59,7 @@ fn lines_of<'a>(
     table: usize,
     fields: &'a [TableField],
 ) -> Result<Vec<Line<'a>>, AllocError>
-    ensures { IfOk result (λ v. map line_of v.items ≡ lines_from declared.now 0 fields.now) }
+    ensures { IfOk result (λ v. map line_of v.items ≡ lines_from declared.now table 0 fields.now) }
 {
     let mut lines = Vec::new(alloc);
     let mut place = 0;
@@ -94,7 +94,7 @@ impl<'a> Plan<'a> {
         table: usize,
         one: &'a Table,
     ) -> Result<Plan<'a>, AllocError>
-        ensures { IfOk result (λ plan. IsPlan declared.now one.now.fields.items plan) }
+        ensures { IfOk result (λ plan. IsPlan declared.now table one.now.fields.items plan) }
     {
         let lines = lines_of(alloc, declared, table, &one.fields)?;
         let mut order = Vec::from_slice(alloc, &lines)?;

@@ -7,6 +7,6 @@ abbrev pub invariant-fields : goal.invariant-fields
 invariant-fields l = record {
   place : l.place ≡ l.field-index;
   lines : map line_of l.lines.items
-      ++ lines_from l.declared l.field-index (drop l.field-index l.fields)
-      ≡ lines_from l.declared 0 l.fields;
+      ++ lines_from l.declared l.table l.field-index (drop l.field-index l.fields)
+      ≡ lines_from l.declared l.table 0 l.fields;
 }
