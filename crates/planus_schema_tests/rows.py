@@ -1,6 +1,6 @@
 #!/usr/bin/env python3
-"""Asks flatc again for the rows of src/syntax_rows.rt and src/meaning_rows.rt, and prints each text
-of which it says anything else.
+"""Asks flatc again for the rows of src/meaning_rows.rt and for the cases of schemas, and prints each
+text of which it says anything else.
 
 It wants flatc 2.0.8, g++ and the headers of flatbuffers; in Debian these are flatbuffers-compiler,
 g++ and libflatbuffers-dev. Each text is the file main.fbs, and what it includes is a.fbs beside it.
@@ -18,6 +18,8 @@ import subprocess
 import sys
 import tempfile
 
+from cases import cases
+
 HERE = pathlib.Path(__file__).resolve().parent
 STRING = r'"(?:[^"\\]|\\.)*"'
 ROW = rf"\(\s*{STRING}(?:,\s*(?:{STRING}|[\w:]+))*,?\s*\),|{STRING},"
@@ -25,9 +27,9 @@ ROW = rf"\(\s*{STRING}(?:,\s*(?:{STRING}|[\w:]+))*,?\s*\),|{STRING},"
 TAKEN = ["STRUCTS", "ENUMS", "UNIONS", "NAMESPACES", "STATEMENTS", "DEFAULTS", "FIELDS"]
 
 
-def rows(file, name):
+def rows(name):
     """The rows of a table, each as the list of its strings."""
-    text = (HERE / "src" / file).read_text()
+    text = (HERE / "src" / "meaning_rows.rt").read_text()
     start = text.index(f"pub const {name}: ")
     begin = text.index("= [", start)
     # A table of one row ends in ")];".
@@ -81,15 +83,17 @@ def header_agrees(lines):
 
 def differing():
     """The texts of which flatc says anything else than their row does."""
-    for name, taken in ("TAKEN", True), ("TAKEN_THERE", True), ("REFUSED", False), ("TAKEN_HERE", False):
-        yield from (text for [text] in rows("syntax_rows.rt", name) if is_taken(text) != taken)
-    for name, taken in ("REFUSED", False), ("TAKEN_HERE", False), ("REFUSED_HERE", True):
-        yield from (row[0] for row in rows("meaning_rows.rt", name) if is_taken(row[0]) != taken)
-    for included, text, said in rows("meaning_rows.rt", "SETTLED_HERE"):
+    taken = {"taken.txt": True, "taken_here.txt": False, "refused.txt": False, "refused_here.txt": True}
+    for name in taken:
+        for case in cases(name):
+            if is_taken(case.input) != taken[name]:
+                yield case.input
+    yield from (text for text, said in rows("TAKEN_HERE") if is_taken(text))
+    for included, text, said in rows("SETTLED_HERE"):
         if not is_taken(text, included) or facts() == said.split("; "):
             yield text
-    taken = [["", *row] for name in TAKEN for row in rows("meaning_rows.rt", name)]
-    for included, text, said in taken + rows("meaning_rows.rt", "INCLUDED"):
+    taken = [["", *row] for name in TAKEN for row in rows(name)]
+    for included, text, said in taken + rows("INCLUDED"):
         if not is_taken(text, included) or "; ".join(facts()) != said or not header_agrees(facts()):
             yield text
 

@@ -1,9 +1,9 @@
 #!/usr/bin/env python3
-"""Asks flatc again for the rows of src/view_rows.rt, and prints each of which it says anything else.
+"""Asks flatc again for the cases of cases/views.txt, and prints each of which it says anything else.
 
 It wants flatc 2.0.8, which in Debian is flatbuffers-compiler.
 
-- `flatc -b` has to make the row's buffer of its value in JSON. It writes no deprecated field, so it is
+- `flatc -b` has to make the case's buffer of its value in JSON, v.json. It writes no deprecated field, so it is
   asked with fields that are not.
 - `flatc --json` of that buffer gives the value with its defaults left out. Each of its scalars has to
   stand in the lines, under its path, and the lines have no other value. Floats are compared by their
@@ -19,9 +19,8 @@ import subprocess
 import sys
 import tempfile
 
-from rows import rows
+from cases import cases
 
-HERE = pathlib.Path(__file__).resolve().parent
 FLATC = ["flatc", "--json-nested-bytes"]
 
 
@@ -99,9 +98,9 @@ def agrees(text, value):
     return float(text) == value if "." in text or "e" in text else int(text.split()[0]) == value
 
 
-def faults(schema, value, digits, lines):
+def faults(schema, value, bytes_given, lines):
     buffer, again = made(schema.replace(" (deprecated)", ""), value)
-    if buffer.hex() != digits:
+    if buffer != bytes_given:
         yield "another buffer"
     said = shown(lines.replace("(deprecated)", ""))
     there = dict(leaves(again, "root"))
@@ -118,9 +117,9 @@ def faults(schema, value, digits, lines):
 
 def main():
     status = 0
-    for row in rows("view_rows.rt", "VIEWS"):
-        for fault in faults(*row):
-            print(f"{row[0]}: {fault}")
+    for case in cases("views.txt"):
+        for fault in faults(case.input, case.texts["v.json"], case.bytes["b.bin"], case.written):
+            print(f"{case.input}{fault}")
             status = 1
     return status
 

@@ -1,7 +1,7 @@
 //! What texts of schemas mean.
 
-use planus_schema::{Fault, Problem, Refusal, Schema, resolve};
-use planus_syntax::{Declaration, parse_text, place_from_end};
+use planus_schema::{Schema, resolve};
+use planus_syntax::{Declaration, parse_text};
 use std::alloc::Global;
 
 /// Returns the declarations of these texts, if each is read and memory isn't refused.
@@ -13,20 +13,7 @@ fn declarations(alloc: Global, texts: &[&[u8]]) -> Option<Vec<Vec<Declaration>>>
     Some(files)
 }
 
-/// Returns what these texts mean, or what is wrong. `None` where one of them is not read, or memory
-/// is refused.
-pub fn meaning(alloc: Global, texts: &[&[u8]]) -> Option<Result<Schema, Vec<Fault>>> {
-    match resolve(alloc, &declarations(alloc, texts)?) {
-        Ok(schema) => Some(Ok(schema)),
-        Err(Refusal::Faults(faults)) => Some(Err(faults)),
-        Err(Refusal::OutOfMemory) => None,
-    }
-}
-
-/// Returns the first problem of a text.
-pub fn problem_of(alloc: Global, text: &str) -> Option<Problem> {
-    match meaning(alloc, &[text.as_bytes()])? {
-        Ok(_) => None,
-        Err(faults) => Some(faults.first()?.problem),
-    }
+/// Returns the schema that these texts mean.
+pub fn meaning(alloc: Global, texts: &[&[u8]]) -> Option<Schema> {
+    resolve(alloc, &declarations(alloc, texts)?).ok()
 }

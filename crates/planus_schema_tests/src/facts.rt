@@ -1,7 +1,7 @@
 //! The facts of a schema, as `facts.cpp` prints them: `T.x slot 3`, `T.x of [int]`, `P size 12`.
 
 use planus_schema::{
-    Base, Body, Declared, FieldType, Number, Scalar, Schema, Statements, StructField, TableField,
+    Base, Body, Declared, EnumValue, FieldType, Number, Scalar, Schema, StructField, TableField,
     UnionMember, Value,
 };
 
@@ -153,6 +153,10 @@ fn struct_says(schema: &Schema, field: &StructField, name: &[u8], fact: &Fact<'_
         }
 }
 
+fn value_says(value: &EnumValue, name: &[u8], fact: &Fact<'_>) -> bool {
+    value.name.as_slice() == name && fact.word == "is" && is_number(value.number, fact.said)
+}
+
 fn member_says(schema: &Schema, member: &UnionMember, name: &[u8], fact: &Fact<'_>) -> bool {
     member.name.as_slice() == name
         && match fact.word {
@@ -165,25 +169,37 @@ fn member_says(schema: &Schema, member: &UnionMember, name: &[u8], fact: &Fact<'
 /// Returns whether this is said of a part of this name.
 fn part_says(schema: &Schema, body: &Body, name: &[u8], fact: &Fact<'_>) -> bool {
     match body {
-        Body::Table(table) => table
-            .fields
-            .iter()
-            .any(|x| table_says(schema, x, name, fact)),
-        Body::Struct(body) => body
-            .fields
-            .iter()
-            .any(|x| struct_says(schema, x, name, fact)),
-        Body::Enum(body) => {
-            fact.word == "is"
-                && body.values.iter().any(|x| x.name.as_slice() == name
-                    && is_number(x.number, fact.said))
+        Body::Table(table) => {
+            for field in &table.fields {
+                if table_says(schema, field, name, fact) {
+                    return true;
+                }
+            }
         }
-        Body::Union(body) if name == b"NONE".as_slice() => fact.word == "is" && fact.said == "0",
-        Body::Union(body) => body
-            .members
-            .iter()
-            .any(|x| member_says(schema, x, name, fact)),
+        Body::Struct(body) => {
+            for field in &body.fields {
+                if struct_says(schema, field, name, fact) {
+                    return true;
+                }
+            }
+        }
+        Body::Enum(body) => {
+            for value in &body.values {
+                if value_says(value, name, fact) {
+                    return true;
+                }
+            }
+        }
+        Body::Union(body) => {
+            for member in &body.members {
+                if member_says(schema, member, name, fact) {
+                    return true;
+                }
+            }
+            return name == b"NONE".as_slice() && fact.word == "is" && fact.said == "0";
+        }
     }
+    false
 }
 
 /// Returns whether this is said of a declaration as a whole.
@@ -225,24 +241,33 @@ fn schema_says(schema: &Schema, fact: &Fact<'_>) -> bool {
 
 /// Returns whether this is a fact of the schema.
 fn holds(schema: &Schema, line: &str) -> bool {
-    match fact_of(line) {
-        Some(fact) if fact.of == b"schema".as_slice() => schema_says(schema, &fact),
-        Some(fact) => schema
-            .declarations
-            .iter()
-            .any(|x| declared_says(schema, x, &fact)),
-        None => false,
+    let Some(fact) = fact_of(line) else {
+        return false;
+    };
+    if fact.of == b"schema".as_slice() {
+        return schema_says(schema, &fact);
     }
+    for declared in &schema.declarations {
+        if declared_says(schema, declared, &fact) {
+            return true;
+        }
+    }
+    false
 }
 
 /// Returns how many of these hold.
 fn holding(facts: &[bool]) -> usize {
-    facts.iter().filter(|holds| **holds).count()
+    let mut count: usize = 0;
+    for holds in facts {
+        count = count.wrapping_add(*holds as usize);
+    }
+    count
 }
 
+/// Returns how many facts there are of a field.
 fn field_count(field: &TableField) -> usize {
     let union = is_union(field.kind);
-    let own = [
+    holding(&[
         true,
         true,
         integer(field).is_some(),
@@ -250,20 +275,22 @@ fn field_count(field: &TableField) -> usize {
         field.required,
         field.deprecated,
         field.key,
-    ];
-    // The slot of a union's type, its type, and whether it is deprecated.
-    let of_type = [union, union, union && field.deprecated];
-    holding(&own).wrapping_add(holding(&of_type))
+        // The slot of a union's type, its type, and whether it is deprecated.
+        union,
+        union,
+        union && field.deprecated,
+    ])
 }
 
 /// Returns how many facts there are of a declaration.
 fn body_count(body: &Body) -> usize {
     match body {
         Body::Table(table) => {
-            table
-                .fields
-                .iter()
-                .fold(0, |count: usize, x| count.wrapping_add(field_count(x)))
+            let mut count: usize = 0;
+            for field in &table.fields {
+                count = count.wrapping_add(field_count(field));
+            }
+            count
         }
         Body::Struct(body) => body.fields.len().wrapping_mul(2).wrapping_add(2),
         Body::Enum(body) => body.values.len().wrapping_add(1),
@@ -271,21 +298,28 @@ fn body_count(body: &Body) -> usize {
     }
 }
 
-fn statement_count(statements: &Statements) -> usize {
-    holding(&[
+/// Returns how many facts there are of a schema.
+fn schema_count(schema: &Schema) -> usize {
+    let statements = &schema.statements;
+    let mut count = holding(&[
         statements.root.is_some(),
         statements.identifier.is_some(),
         statements.extension.is_some(),
-    ])
+    ]);
+    for declared in &schema.declarations {
+        count = count.wrapping_add(body_count(&declared.body));
+    }
+    count
 }
 
 /// Returns whether the facts of the schema are these, with `; ` between them.
 pub fn are_facts(schema: &Schema, facts: &str) -> bool {
-    let stated = statement_count(&schema.statements);
-    let count = schema.declarations.iter().fold(
-        stated,
-        |count: usize, x| count.wrapping_add(body_count(&x.body)),
-    );
-    facts.split_terminator("; ").count() == count
-        && facts.split_terminator("; ").all(|line| holds(schema, line))
+    let mut count: usize = 0;
+    for line in facts.split_terminator("; ") {
+        if !holds(schema, line) {
+            return false;
+        }
+        count = count.wrapping_add(1);
+    }
+    count == schema_count(schema)
 }

@@ -1,11 +1,10 @@
-//! Tests of schemas: texts that `flatc` took or refused, random texts, the words of a call, buffers
-//! that are viewed, and printed code.
+//! Tests of schemas: what texts mean that `flatc` took, random texts, and printed code.
 #![tactic(auto)]
 
 #[cfg(test)]
 mod answers;
 #[cfg(test)]
-mod calls;
+mod digits;
 #[cfg(test)]
 mod facts;
 #[cfg(test)]
@@ -18,11 +17,3 @@ mod numbers;
 mod printed;
 #[cfg(test)]
 mod random;
-#[cfg(test)]
-mod syntax;
-#[cfg(test)]
-mod syntax_rows;
-#[cfg(test)]
-mod view_rows;
-#[cfg(test)]
-mod views;

@@ -4,10 +4,14 @@
 //! with status 0. The facts are what `facts.cpp` prints of the binary schema. `rows.py` makes all
 //! this again, and tells where a row says anything else.
 
-use planus_schema::Problem;
+/// A schema, and its facts.
+pub type Row = (&'static str, &'static str);
+
+/// A file `a.fbs`, a schema that includes it, and the facts of both.
+pub type Including = (&'static str, &'static str, &'static str);
 
 /// Taken by both, with the facts: structs.
-pub const STRUCTS: [(&str, &str); 21] = [
+pub const STRUCTS: [Row; 21] = [
     (
         "struct P { x: int; y: int; }",
         "P size 8; P align 4; P.x at 0; P.x of int; P.y at 4; P.y of int",
@@ -111,7 +115,7 @@ pub const STRUCTS: [(&str, &str); 21] = [
 ];
 
 /// Taken by both, with the facts: enums.
-pub const ENUMS: [(&str, &str); 23] = [
+pub const ENUMS: [Row; 23] = [
     (
         "enum A: byte { X = -128, Y = 127 } enum B: ubyte { X, Y = 255 } enum C: short { X = \
         -32768, Y = 32767 } enum D: ushort { X, Y = 65535 }",
@@ -216,7 +220,7 @@ pub const ENUMS: [(&str, &str); 23] = [
 ];
 
 /// Taken by both, with the facts: unions.
-pub const UNIONS: [(&str, &str); 15] = [
+pub const UNIONS: [Row; 15] = [
     (
         "table A {} table B {} union U { A, B } table T { x: int; u: U; y: int; }",
         "T.u slot 2; T.u of U; T.u_type slot 1; T.u_type of ubyte; T.x slot 0; T.x of int; T.y \
@@ -289,7 +293,7 @@ pub const UNIONS: [(&str, &str); 15] = [
 ];
 
 /// Taken by both, with the facts: names.
-pub const NAMESPACES: [(&str, &str); 14] = [
+pub const NAMESPACES: [Row; 14] = [
     (
         "namespace a.b; table T { x: U; } table U { y: int; } namespace a; table V { t: b.T; } \
         namespace; table W { t: a.b.T; v: a.V; }",
@@ -368,7 +372,7 @@ pub const NAMESPACES: [(&str, &str); 14] = [
 ];
 
 /// Taken by both, with the facts: statements, attributes and services.
-pub const STATEMENTS: [(&str, &str); 11] = [
+pub const STATEMENTS: [Row; 11] = [
     (
         "table T { x: int; } root_type T;",
         "T.x slot 0; T.x of int; schema root T",
@@ -418,7 +422,7 @@ pub const STATEMENTS: [(&str, &str); 11] = [
 ];
 
 /// Taken by both, with the facts: defaults.
-pub const DEFAULTS: [(&str, &str); 10] = [
+pub const DEFAULTS: [Row; 10] = [
     (
         "table T { a: int = 5; b: int = -5; c: ubyte = 255; d: long = -9223372036854775808; e: \
         ulong = 9223372036854775807; }",
@@ -471,7 +475,8 @@ pub const DEFAULTS: [(&str, &str); 10] = [
 ];
 
 /// Taken by both, with the facts: fields of tables.
-pub const FIELDS: [(&str, &str); 27] = [
+pub const FIELDS: [Row; 28] = [
+    ("table T {\r\n  x: int;\r\n}\r\n", "T.x slot 0; T.x of int"),
     (
         "table T { a: byte; b: ubyte; c: short; d: ushort; e: int; f: uint; g: long; h: ulong; i: \
         float; j: double; k: bool; }",
@@ -577,8 +582,8 @@ pub const FIELDS: [(&str, &str); 27] = [
     ),
 ];
 
-/// A file `a.fbs`, a schema that includes it, and the facts of both.
-pub const INCLUDED: [(&str, &str, &str); 8] = [
+/// Taken by both, with the facts: what is included.
+pub const INCLUDED: [Including; 8] = [
     (
         "table A { x: int; }",
         "include \"a.fbs\"; table B { a: A; }",
@@ -625,270 +630,14 @@ pub const INCLUDED: [(&str, &str, &str); 8] = [
 ];
 
 /// As `INCLUDED`, with other facts than those of `flatc`, which are written by hand.
-pub const SETTLED_HERE: [(&str, &str, &str); 1] = [(
+pub const SETTLED_HERE: [Including; 1] = [(
     "",
     "namespace n; table A {} namespace m; union U { n.A }",
     "m.U.NONE is 0; m.U.n.A is 1; m.U.n.A of n.A",
 )];
 
-/// Refused by both, with the problem that is found first here.
-pub const REFUSED: [(&str, Problem); 102] = [
-    (
-        "struct B { a: A; } struct A { x: int; }",
-        Problem::DeclaredLater,
-    ),
-    ("table T { x: Orcc; }", Problem::UnknownType),
-    ("table T { x: [Orcc]; }", Problem::UnknownType),
-    ("union U { A }", Problem::UnknownType),
-    ("table T {} table T {}", Problem::NameTaken),
-    ("table T {} struct T { x: int; }", Problem::NameTaken),
-    (
-        "table A {} enum E: byte { X } union E { A }",
-        Problem::NameTaken,
-    ),
-    ("table T { x: int; x: int; }", Problem::FieldNameTaken),
-    ("struct P { x: int; x: int; }", Problem::FieldNameTaken),
-    ("enum E: byte { A, A }", Problem::ValueNameTaken),
-    ("table A {} union U { A, A }", Problem::MemberNameTaken),
-    (
-        "table A {} union U { A } table T { u_type: ubyte; u: U; }",
-        Problem::FieldNameTaken,
-    ),
-    ("enum E: byte { A = 128 }", Problem::ValueOutOfRange),
-    ("enum E: ubyte { A = -1 }", Problem::ValueOutOfRange),
-    ("enum E: ubyte { A = 255, B }", Problem::ValueOutOfRange),
-    ("enum E: byte { A = 1, B = 1 }", Problem::ValueTaken),
-    (
-        "enum F: ubyte (bit_flags) { A = 8 }",
-        Problem::ValueOutOfRange,
-    ),
-    ("enum E: float { A }", Problem::NoIntegerType),
-    ("enum E: bool { A }", Problem::NoIntegerType),
-    ("table T { a: int (id: 0); b: int; }", Problem::IdMissing),
-    (
-        "table T { a: int (id: 0); b: int (id: 2); }",
-        Problem::IdsWithGap,
-    ),
-    (
-        "table T { a: int (id: 0); b: int (id: 0); }",
-        Problem::IdsWithGap,
-    ),
-    (
-        "table A {} union U { A } table T { u: U (id: 0); a: int (id: 1); }",
-        Problem::WrongId,
-    ),
-    ("table T { a: int (id: -1); }", Problem::WrongId),
-    ("table T { a: int (id: \"x\"); }", Problem::WrongId),
-    ("struct P { p: P; }", Problem::DeclaredLater),
-    (
-        "struct A { b: B; } struct B { a: A; }",
-        Problem::DeclaredLater,
-    ),
-    ("struct P { s: string; }", Problem::NoStructField),
-    ("table T {} struct P { t: T; }", Problem::NoStructField),
-    ("struct P { v: [int]; }", Problem::NoStructField),
-    (
-        "table A {} union U { A } struct P { u: U; }",
-        Problem::NoStructField,
-    ),
-    ("struct P { x: int = 3; }", Problem::DefaultInStruct),
-    (
-        "struct P { x: int (deprecated); }",
-        Problem::AttributeInStruct,
-    ),
-    (
-        "struct P { x: int (required); }",
-        Problem::AttributeInStruct,
-    ),
-    ("struct P {}", Problem::EmptyStruct),
-    (
-        "struct P (force_align: 3) { x: int; }",
-        Problem::WrongAlignment,
-    ),
-    (
-        "struct P (force_align: 2) { x: int; }",
-        Problem::WrongAlignment,
-    ),
-    (
-        "struct P (force_align: 64) { x: int; }",
-        Problem::WrongAlignment,
-    ),
-    ("table T { x: int (required); }", Problem::RequiredScalar),
-    ("table T { x: ubyte = 256; }", Problem::WrongDefault),
-    ("table T { x: uint = -1; }", Problem::WrongDefault),
-    ("table T { x: int = 1.5; }", Problem::WrongDefault),
-    ("table T { x: int = \"abc\"; }", Problem::WrongDefault),
-    ("table T { x: int = abc; }", Problem::WrongDefault),
-    (
-        "enum E: byte { A } table T { e: E = B; }",
-        Problem::WrongDefault,
-    ),
-    (
-        "enum E: byte { A = 1, B = 5 } table T { e: E = 3; }",
-        Problem::WrongDefault,
-    ),
-    (
-        "enum E: byte { A = 1, B = 5 } table T { e: E; }",
-        Problem::UnknownValue,
-    ),
-    ("table A {} table T { a: A = 3; }", Problem::WrongDefault),
-    (
-        "struct P { x: int; } table T { p: P = 3; }",
-        Problem::WrongDefault,
-    ),
-    ("table T { v: [int] = 3; }", Problem::WrongDefault),
-    (
-        "table A {} union U { A } table T { u: U = 1; }",
-        Problem::WrongDefault,
-    ),
-    ("table T { s: string = null; }", Problem::WrongDefault),
-    (
-        "enum F: ubyte (bit_flags) { A } table T { f: F = \"A B\"; }",
-        Problem::WrongDefault,
-    ),
-    ("struct P { x: int; } root_type P;", Problem::RootIsNoTable),
-    ("root_type T;", Problem::UnknownType),
-    (
-        "table T {} root_type T; file_identifier \"ABC\";",
-        Problem::WrongIdentifier,
-    ),
-    (
-        "table T {} root_type T; file_identifier \"ABCDE\";",
-        Problem::WrongIdentifier,
-    ),
-    ("table T { x: int (mine); }", Problem::UnknownAttribute),
-    (
-        "table T { a: int (key); b: int (key); }",
-        Problem::SecondKey,
-    ),
-    ("table T { a: [int] (key); }", Problem::WrongKey),
-    ("table A {} table T { a: A (key); }", Problem::WrongKey),
-    (
-        "table A {} table T { a: string (nested_flatbuffer: \"A\"); }",
-        Problem::WrongNested,
-    ),
-    (
-        "table T { a: [ubyte] (nested_flatbuffer: \"A\"); }",
-        Problem::WrongNested,
-    ),
-    (
-        "table A {} table T { a: [byte] (nested_flatbuffer: \"A\"); }",
-        Problem::WrongNested,
-    ),
-    ("enum E: byte { A } union U { E }", Problem::MemberIsNoTable),
-    ("union U { int }", Problem::MemberIsNoTable),
-    ("table A {} union U { A = 0 }", Problem::TagOutOfRange),
-    ("table A {} union U { NONE: A }", Problem::MemberNameTaken),
-    (
-        "table A {} rpc_service S { Call(A): A; } table T { s: S; }",
-        Problem::UnknownType,
-    ),
-    (
-        "struct P { x: int; } table A {} rpc_service S { Call(P): A; }",
-        Problem::MethodIsNoTable,
-    ),
-    (
-        "table A {} rpc_service S { Call(A): Q; }",
-        Problem::UnknownType,
-    ),
-    ("table T { x: [none]; }", Problem::UnknownType),
-    ("table T { x: int (id: 65536); }", Problem::WrongId),
-    (
-        "enum F: int (bit_flags) { A, B = 31 }",
-        Problem::ValueOutOfRange,
-    ),
-    ("enum E: Foo { A }", Problem::NoIntegerType),
-    ("enum E: byte { A = 1.5 }", Problem::ValueOutOfRange),
-    (
-        "table A {} union U { X: A = 255, Y: A }",
-        Problem::TagOutOfRange,
-    ),
-    ("table A {} union U { X: A = 256 }", Problem::TagOutOfRange),
-    (
-        "table A {} union U { A } table T { u: U; u_type: ubyte; }",
-        Problem::FieldNameTaken,
-    ),
-    (
-        "struct P (force_align: 0) { x: int; }",
-        Problem::WrongAlignment,
-    ),
-    (
-        "struct P (force_align) { x: int; }",
-        Problem::WrongAlignment,
-    ),
-    ("table T { a: byte = -129; }", Problem::WrongDefault),
-    (
-        "table T { a: ulong = 18446744073709551616; }",
-        Problem::WrongDefault,
-    ),
-    ("table T { a: int = true; }", Problem::WrongDefault),
-    (
-        "enum E: byte { A } table T { e: [E] = A; }",
-        Problem::WrongDefault,
-    ),
-    (
-        "enum F: ubyte (bit_flags) { A, B, C } table T { f: F = \"F.A F.C\"; }",
-        Problem::WrongDefault,
-    ),
-    (
-        "enum F: ubyte (bit_flags) { A, B } table T { f: F = C; }",
-        Problem::WrongDefault,
-    ),
-    (
-        "table T { x: int = null (required); }",
-        Problem::RequiredScalar,
-    ),
-    ("table T { v: [int] = null; }", Problem::WrongDefault),
-    (
-        "struct P { x: int; } table T { p: P (key); }",
-        Problem::WrongKey,
-    ),
-    (
-        "table T { a: [ubyte] (nested_flatbuffer); }",
-        Problem::WrongNested,
-    ),
-    (
-        "table A {} union U { A } table T { a: int (id: 0); u: U (id: 1); }",
-        Problem::IdsWithGap,
-    ),
-    (
-        "table A {} rpc_service S { F(A): A; F(A): A; }",
-        Problem::MethodNameTaken,
-    ),
-    ("table T (mine) { x: int; }", Problem::UnknownAttribute),
-    (
-        "table A {} union U { A } union V { U }",
-        Problem::MemberIsNoTable,
-    ),
-    (
-        "table A {} union U { A } struct P { u: [U]; }",
-        Problem::NoStructField,
-    ),
-    ("enum E: byte { A } root_type E;", Problem::RootIsNoTable),
-    (
-        "table T {} root_type T; file_identifier \"\";",
-        Problem::WrongIdentifier,
-    ),
-    (
-        "struct P { e: E; } enum E: byte { A }",
-        Problem::DeclaredLater,
-    ),
-    (
-        "enum E: long { A = 9223372036854775807, B }",
-        Problem::ValueOutOfRange,
-    ),
-    (
-        "enum F: ulong (bit_flags) { A = 63, B }",
-        Problem::ValueOutOfRange,
-    ),
-    (
-        "enum F: ubyte (bit_flags) { A = 1, B = 1 }",
-        Problem::ValueTaken,
-    ),
-];
-
 /// Refused by `flatc` alone. The facts are written by hand.
-pub const TAKEN_HERE: [(&str, &str); 14] = [
+pub const TAKEN_HERE: [Row; 14] = [
     (
         "enum E: byte { A = 1, B = 5 } table T { e: E = E.B; }",
         "T.e slot 0; T.e of E; T.e default 5; E of byte; E.A is 1; E.B is 5",
@@ -930,33 +679,4 @@ pub const TAKEN_HERE: [(&str, &str); 14] = [
         "table T { v: [ubyte] (cpp_type: \"V\"); }",
         "T.v slot 0; T.v of [ubyte]",
     ),
-];
-
-/// Taken by `flatc` alone.
-pub const REFUSED_HERE: [(&str, Problem); 10] = [
-    (
-        "enum E: ubyte { A, B } table T { e: E = \"A B\"; }",
-        Problem::WrongDefault,
-    ),
-    (
-        "struct P { x: int; } table T { a: [ubyte] (nested_flatbuffer: \"P\"); }",
-        Problem::WrongNested,
-    ),
-    (
-        "struct P { x: int; } union U { P }",
-        Problem::MemberIsNoTable,
-    ),
-    ("union U { s: string }", Problem::MemberIsNoTable),
-    ("enum A: byte { X } enum B: A { Y }", Problem::NoIntegerType),
-    (
-        "struct P (force_align: \"16\") { x: int; }",
-        Problem::WrongAlignment,
-    ),
-    ("table T { a: bool = 2; }", Problem::WrongDefault),
-    (
-        "table T { a: int (id: \"1\"); b: int (id: \"0\"); }",
-        Problem::WrongId,
-    ),
-    ("table T { a: int (id); }", Problem::WrongId),
-    ("table T { a: int = \"5\"; }", Problem::WrongDefault),
 ];

@@ -2,7 +2,7 @@
 
 ghost use Rattle.std.specs.Prelude.{◌≡◌, None, []};
 
-use crate::views::bytes_of;
+use crate::digits::bytes_of;
 use harbour::{
     Company, CompanyFields, FILE_IDENTIFIER, Fix, Kind, Level, Needs, OwnerRef, Person,
     PersonFields, Pos, Ship, ShipFields, ShipRef,

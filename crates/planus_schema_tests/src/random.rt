@@ -1,3 +1,4 @@
+use crate::meaning_rows::Row;
 use crate::numbers::Numbers;
 use planus_schema::{Fault, Refusal, resolve};
 use planus_syntax::{SchemaError, parse_text, place_from_end};
@@ -41,7 +42,7 @@ const WORDS: [&str; 32] = [
 ];
 
 /// Returns the text of a row.
-fn good<'a>(rows: &[(&'a str, &'a str)], numbers: &mut Numbers) -> &'a [u8] {
+fn good(rows: &[Row], numbers: &mut Numbers) -> &'static [u8] {
     let index = numbers.draw().checked_rem(rows.len()).unwrap_or(0);
     match rows.get(index) {
         Some((text, _)) => text.as_bytes(),
@@ -81,11 +82,7 @@ fn random_words(alloc: Global, numbers: &mut Numbers) -> Result<Vec<u8>, AllocEr
     Ok(text)
 }
 
-fn random_text(
-    alloc: Global,
-    rows: &[(&str, &str)],
-    numbers: &mut Numbers,
-) -> Result<Vec<u8>, AllocError> {
+fn random_text(alloc: Global, rows: &[Row], numbers: &mut Numbers) -> Result<Vec<u8>, AllocError> {
     match numbers.draw() % 4 {
         0 => cut(alloc, good(rows, numbers), numbers),
         1 => changed(alloc, good(rows, numbers), numbers),
@@ -120,11 +117,7 @@ fn is_answered(alloc: Global, text: &[u8]) -> bool {
 }
 
 /// Returns whether this many random texts are answered, of which many come from these rows.
-pub fn are_answered(
-    alloc: Global,
-    rows: &[(&str, &str)],
-    count: usize,
-) -> Result<bool, AllocError> {
+pub fn are_answered(alloc: Global, rows: &[Row], count: usize) -> Result<bool, AllocError> {
     let mut numbers = Numbers::new();
     for _ in 0..count {
         let text = random_text(alloc, rows, &mut numbers)?;

@@ -1,0 +1,133 @@
+#!/usr/bin/env python3
+"""Calls the program as the cases of the folder `cases` do, and prints each that ends otherwise.
+
+    cases.py PROGRAM
+
+A case is some lines of a file, and an empty line ends it. The first mark of a line says what it is:
+
+    $ view s.fbs b.bin      the words of the call; left out, they are those of the case before
+    < table A { }           a line of standard input
+    > root.x = 7            a line that is written on standard output
+    ! planus: ..            a line that is written on standard error
+    = 1                     the exit status, 0 if left out
+    s.fbs| table A { }      a line of a file beside
+    b.bin: 0c000000         bytes of a file beside, in hexadecimal digits
+    # ..                    a comment
+
+After a `view` of a file of bytes that is as the case says, it is viewed with each byte changed: the
+call has to end with a status of 0 or 1 and within the limits.
+"""
+
+import pathlib
+import re
+import subprocess
+import sys
+import tempfile
+
+HERE = pathlib.Path(__file__).resolve().parent
+
+LINES = 50
+BYTES = 2000
+
+
+class Case:
+    def __init__(self, words):
+        self.words = words
+        self.input = self.written = self.told = ""
+        self.status = 0
+        self.texts = {}
+        self.bytes = {}
+
+    def add(self, line):
+        """Adds a line of the case's file."""
+        beside = re.match(r"([\w.]+)([|:]) ?(.*)", line)
+        mark, said = line[0], line[2:]
+        if mark == "$":
+            self.words = said.split()
+        elif mark == "<":
+            self.input += said + "\n"
+        elif mark == ">":
+            self.written += said + "\n"
+        elif mark == "!":
+            self.told += said + "\n"
+        elif mark == "=":
+            self.status = int(said)
+        elif beside and beside[2] == "|":
+            self.texts[beside[1]] = self.texts.get(beside[1], "") + beside[3] + "\n"
+        elif beside:
+            self.bytes[beside[1]] = self.bytes.get(beside[1], b"") + bytes.fromhex(beside[3])
+        else:
+            raise ValueError(f"no line of a case: {line}")
+
+
+def cases(name):
+    """The cases of a file."""
+    text = (HERE / "cases" / name).read_bytes().decode()
+    found, case, words = [], None, []
+    for line in text.split("\n") + [""]:
+        if line.startswith("#"):
+            continue
+        if line:
+            case = case or Case(words)
+            case.add(line)
+        elif case:
+            words = case.words
+            found.append(case)
+            case = None
+    return found
+
+
+def called(call, folder, case, words=()):
+    """How a call of the program ends in this folder."""
+    given = case.input.encode()
+    words = [call, *case.words, *words]
+    return subprocess.run(words, cwd=folder, input=given, capture_output=True, timeout=60)
+
+
+def ends_damaged(program, folder, case):
+    """Whether the call ends within the limits for each change of a byte."""
+    limits = ["--lines", str(LINES), "--bytes", str(BYTES)]
+    for name, whole in case.bytes.items():
+        for at in range(len(whole)):
+            for change in (1, 127, 255):
+                damaged = bytearray(whole)
+                damaged[at] ^= change
+                (folder / name).write_bytes(damaged)
+                ended = called(program, folder, case, limits)
+                if ended.returncode not in (0, 1) or len(ended.stdout) > BYTES + LINES + 40:
+                    return False
+    return True
+
+
+def difference(program, folder, case):
+    """What a call does otherwise, and nothing if it does as the case says."""
+    for name, text in case.texts.items():
+        (folder / name).write_bytes(text.encode())
+    for name, whole in case.bytes.items():
+        (folder / name).write_bytes(whole)
+    ended = called(program, folder, case)
+    got = (ended.stdout.decode(), ended.stderr.decode(), ended.returncode)
+    if got != (case.written, case.told, case.status):
+        return f"wanted {(case.written, case.told, case.status)}\ngot    {got}"
+    if case.bytes and not ends_damaged(program, folder, case):
+        return "it doesn't end so for each changed byte"
+    return ""
+
+
+def main(program):
+    program = str(pathlib.Path(program).resolve())
+    passed = failed = 0
+    for file in sorted((HERE / "cases").iterdir()):
+        for case in cases(file.name):
+            with tempfile.TemporaryDirectory() as folder:
+                said = difference(program, pathlib.Path(folder), case)
+            passed += not said
+            failed += bool(said)
+            if said:
+                print(f"{file.name}: {' '.join(case.words)}\n{case.input}{said}")
+    print(f"cases: {passed} passed, {failed} failed")
+    return 1 if failed or not passed else 0
+
+
+if __name__ == "__main__":
+    sys.exit(main(*sys.argv[1:]))
