@@ -12,6 +12,7 @@ A case is some lines of a file, and an empty line ends it. The first mark of a l
     = 1                     the exit status, 0 if left out
     s.fbs| table A { }      a line of a file beside
     b.bin: 0c000000         bytes of a file beside, in hexadecimal digits
+    s.fbs> table A {        a line that the file has afterwards
     # ..                    a comment
 
 After a `view` of a file of bytes that is as the case says, it is viewed with each byte changed: the
@@ -37,10 +38,11 @@ class Case:
         self.status = 0
         self.texts = {}
         self.bytes = {}
+        self.left = {}
 
     def add(self, line):
         """Adds a line of the case's file."""
-        beside = re.match(r"([\w.]+)([|:]) ?(.*)", line)
+        beside = re.match(r"([\w./]+)([|:>]) ?(.*)", line)
         mark, said = line[0], line[2:]
         if mark == "$":
             self.words = said.split()
@@ -52,8 +54,9 @@ class Case:
             self.told += said + "\n"
         elif mark == "=":
             self.status = int(said)
-        elif beside and beside[2] == "|":
-            self.texts[beside[1]] = self.texts.get(beside[1], "") + beside[3] + "\n"
+        elif beside and beside[2] != ":":
+            files = self.texts if beside[2] == "|" else self.left
+            files[beside[1]] = files.get(beside[1], "") + beside[3] + "\n"
         elif beside:
             self.bytes[beside[1]] = self.bytes.get(beside[1], b"") + bytes.fromhex(beside[3])
         else:
@@ -84,8 +87,13 @@ def called(call, folder, case, words=()):
     return subprocess.run(words, cwd=folder, input=given, capture_output=True, timeout=60)
 
 
+def text_of(written):
+    """What is written, as a case has it: a byte that is no UTF-8 is two hexadecimal digits after \\x."""
+    return written.decode(errors="backslashreplace")
+
+
 def ends_damaged(program, folder, case):
-    """Whether the call ends within the limits for each change of a byte."""
+    """Whether the call ends within the limits for each change of a byte of a file."""
     limits = ["--lines", str(LINES), "--bytes", str(BYTES)]
     for name, whole in case.bytes.items():
         for at in range(len(whole)):
@@ -101,15 +109,18 @@ def ends_damaged(program, folder, case):
 
 def difference(program, folder, case):
     """What a call does otherwise, and nothing if it does as the case says."""
-    for name, text in case.texts.items():
-        (folder / name).write_bytes(text.encode())
-    for name, whole in case.bytes.items():
+    texts = {name: text.encode() for name, text in case.texts.items()}
+    for name, whole in {**texts, **case.bytes}.items():
+        (folder / name).parent.mkdir(parents=True, exist_ok=True)
         (folder / name).write_bytes(whole)
     ended = called(program, folder, case)
-    got = (ended.stdout.decode(), ended.stderr.decode(), ended.returncode)
+    got = (text_of(ended.stdout), text_of(ended.stderr), ended.returncode)
     if got != (case.written, case.told, case.status):
         return f"wanted {(case.written, case.told, case.status)}\ngot    {got}"
-    if case.bytes and not ends_damaged(program, folder, case):
+    for name, text in case.left.items():
+        if (folder / name).read_bytes() != text.encode():
+            return f"{name} holds {(folder / name).read_bytes()}"
+    if case.words[0] == "view" and not ends_damaged(program, folder, case):
         return "it doesn't end so for each changed byte"
     return ""
 
