@@ -1,5 +1,5 @@
 #!/usr/bin/env python3
-"""Proves what `planus rattle` prints of the schemas of the folder `printed`.
+"""Proves what `planus rattle` prints of the schemas of the folder `printed` and of the demo's.
 
     printed.py PROGRAM [NAME]..
 
@@ -40,7 +40,8 @@ def proved(repository, name):
 
 def main(program, *names):
     program = pathlib.Path(program).resolve()
-    schemas = [file for file in sorted((HERE / "printed").glob("*.fbs")) if file.stem in names or not names]
+    schemas = [*sorted((HERE / "printed").glob("*.fbs")), REPOSITORY / "crates/planus_demo/monster.fbs"]
+    schemas = [file for file in schemas if file.stem in names or not names]
     with tempfile.TemporaryDirectory() as folder:
         repository = pathlib.Path(folder) / "copy"
         subprocess.check_call(["git", "clone", "-q", REPOSITORY, repository])
