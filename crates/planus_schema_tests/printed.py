@@ -4,9 +4,9 @@
     printed.py [--slots] PROGRAM [NAME]..
 
 Each schema, or each that is named, is printed as a crate of a copy of this repository. The slot and
-the default that each method reads by have to be those of the C++ that flatc 2.0.8 makes. Then the
-crate is proved with `rt ci`, which also says whether it is in its layout; with --slots it isn't.
-It prints the lines of each crate, and the seconds that its proof took.
+the default that each method reads by, and the alignment and size of each struct, have to be those of
+the C++ that flatc 2.0.8 makes. Then the crate is proved with `rt ci`, which also tests its layout;
+--slots leaves that out. The lines of each crate, and the seconds that its proof took, are printed.
 """
 
 import pathlib
@@ -29,10 +29,15 @@ def lines_of(crate):
 
 
 def read_by(crate):
-    """Of each method the table, the field, its slot and, where it is a number, its default."""
+    """Of each method the table, the field, its slot and, where it is a number, its default; and of
+    each struct its name, alignment and size."""
     call = r'\(\s*&self\.table,\s*(\d+),\s*(?:([-\w:]+),\s*)?"(\w+)",\s*"(\w+)",?\s*\)'
     for file in crate.rglob("*.rt"):
-        for slot, default, table, field in re.findall(call, file.read_text()):
+        text = file.read_text()
+        if text.startswith("//! Structs `"):
+            ghosts = re.findall(r"ghost (?:ALIGNMENT|SIZE) = \{ (\d+) \}", text)
+            yield file.stem.rstrip("_"), "", *map(int, ghosts)
+        for slot, default, table, field in re.findall(call, text):
             default = {"true": "1", "false": "0"}.get(default, default)
             default = default if re.fullmatch(r"-?\d+", default) else ""
             # A name that is taken or reserved has a `_` after it.
@@ -44,6 +49,9 @@ def read_by_flatc(schema, folder):
     made = ["flatc", "--cpp", "--gen-all", "-o", folder, schema]
     subprocess.run(made, check=True, capture_output=True)
     text = (folder / f"{schema.stem}_generated.h").read_text()
+    structs = r"STRUCT\((\d+)\) (\w+) .*?STRUCT_END\(\2, (\d+)\)"
+    for alignment, name, size in re.findall(structs, text, re.S):
+        yield re.sub(r"(?<=[a-z])(?=[A-Z])", "_", name).lower(), "", int(alignment), int(size)
     # The least number of a type is a difference, as its digits alone are no number of C++.
     text = re.sub(r"\((-\d+)(\d)L* - 1L*\)", lambda least: f"{least[1]}{int(least[2]) + 1}", text)
     for table in re.split(r"\nstruct (?=\w+ FLATBUFFERS_FINAL_CLASS)", text)[1:]:
@@ -66,7 +74,7 @@ def same_slots(schema, crate):
     numbers = {method[:3] for method in printed if method[3]}
     wanted = [(*one[:3], one[3] if one[:3] in numbers else "") for one in wanted]
     if sorted(printed) == sorted(wanted):
-        print(f"{schema.stem}: {len(wanted)} slots are those of flatc")
+        print(f"{schema.stem}: {len(wanted)} slots and structs are those of flatc")
         return True
     print(f"{schema.stem}: {sorted(set(printed) ^ set(wanted))}")
     return False
