@@ -1,0 +1,27 @@
+//! A finish that is read at once.
+
+ghost use Rattle.std.specs.Prelude.{IfOk};
+ghost use Rattle.planus.specs.write.InBuilder.{IsIn};
+ghost use Rattle.planus_laws.specs.FieldLines.{RootIsRead};
+
+use planus::located::Error;
+use planus::{BuildError, Builder, Offset, TableView, laws, read_root};
+
+/// Finishes a buffer with this root, and reads the root. The read never fails: the view has all
+/// contents with which its table was written, and all tables that the builder had before are in the
+/// buffer.
+///
+/// An error is that of [`Builder::finish`].
+pub fn finish_and_read<'b, 'n, V: TableView<'b>>(
+    builder: &'b mut Builder,
+    root: Offset<V::Kind>,
+    identifier: Option<[u8; 4]>,
+) -> Result<Result<V, Error<'n>>, BuildError>
+    requires { IsIn builder.old root }
+    ensures { IfOk result (RootIsRead V.table root.distance builder.old) }
+{
+    laws::kept_tables_stay();
+    laws::finishes_keep_tables::<V::Kind, Offset<V::Kind>>();
+    let bytes = builder.finish(root, identifier)?;
+    Ok(read_root(bytes))
+}

@@ -1,0 +1,7 @@
+//! Laws over tables that are written, finished and read: each method of a view returns what was
+//! given for its field.
+#![tactic(auto)]
+
+mod finished;
+
+pub use finished::finish_and_read;
