@@ -1,14 +1,14 @@
--- What `Person` holds.
-use Rattle.std.specs.Prelude.{ℕ, ◌==◌, List, [], ◌∷◌, Option}
+-- The fields of `Person`.
+use Rattle.std.specs.Prelude.{List, [], ◌∷◌}
 use Rattle.planus.specs.read.Shapes.{u8_shape}
-use Rattle.planus.specs.write.Contents.{Content}
-use Rattle.planus.specs.fields.Contents.{unless}
-use Rattle.planus.specs.Holds.{holds_text, holds_plain}
+use Rattle.planus.specs.Accessors.{text_kind}
+use Rattle.planus_laws.specs.FieldLines.{FieldLine}
+use Rattle.planus_laws.specs.FieldLines.FieldLine.{required, number_or}
 use Rattle.harbour.specs.declared.person.PersonFields.{PersonFields}
 
--- slot by slot, in the order in which they are written, given which values are the defaults
-abbrev pub person_contents : PersonFields → List (ℕ × Option Content)
-person_contents fields =
-    (0, holds_text fields.name.now) ∷
-    (1, unless (fields.age == 18) (holds_plain u8_shape fields.age)) ∷
+-- by slots, in the order in which they are written, given which values are the defaults
+abbrev pub person_lines : PersonFields → List FieldLine
+person_lines fields =
+    required text_kind 0 fields.name ∷
+    number_or u8_shape 1 18 fields.age ∷
     []

@@ -1,16 +1,18 @@
 //! Tables `Company`.
 
-ghost use Rattle.std.specs.Prelude.{◌≡◌, ◌≤◌, length, codes, IfOk, None};
+ghost use Rattle.std.specs.Prelude.{◌≡◌, ◌≤◌, length, codes, IfOk, IsOkAnd, None};
 ghost use Rattle.planus.specs.write.State.{Grows};
 ghost use Rattle.planus.specs.Accessors.{IsTextField, IsBytesField};
 ghost use Rattle.planus.specs.Contents.{WritesContents};
-ghost use Rattle.harbour.specs.Company.{company_contents};
+ghost use Rattle.planus_laws.specs.FieldLines.{contents_of, ReadsBack};
+ghost use Rattle.harbour.specs.Company.{company_lines};
 
 use planus::table_reader::Table;
 use planus::{
     BuildError, Builder, ByteList, List, Offset, Result, TableKind, TableView, TableWriter, Text,
     bytes_field, create_table, fields, text_field,
 };
+use planus_laws::finish_and_read;
 
 /// The kind of `Company`, and of an offset to one.
 pub struct Company;
@@ -41,8 +43,8 @@ impl Company {
         builder: &mut Builder,
         fields: CompanyFields<'_>,
     ) -> std::result::Result<Offset<Company>, BuildError>
-        ensures kept { IfOk result (λ offset. WritesContents (company_contents fields.entry)
-            builder.old offset.distance builder.new) }
+        ensures kept { IfOk result (λ offset. WritesContents (contents_of (company_lines
+            fields.entry)) builder.old offset.distance builder.new) }
         ensures reached { IfOk result (λ offset. offset.distance ≤ length builder.new.bytes) }
         ensures grows { Grows builder.old builder.new }
     {
@@ -51,6 +53,21 @@ impl Company {
             1: Offset<List<u8>> = fields.vat,
         ];
         create_table::<Company, _>(builder, lines)
+    }
+
+    /// Writes a table with these fields as the root of a buffer, and reads it: each method of the
+    /// view returns what was given.
+    pub fn read_back<'b>(
+        builder: &'b mut Builder,
+        fields: CompanyFields<'_>,
+        identifier: Option<[u8; 4]>,
+    ) -> std::result::Result<Result<CompanyRef<'b>>, BuildError>
+        ensures { IfOk result (λ read. IsOkAnd read (λ view. ReadsBack builder.old (company_lines
+            fields.entry) view.table)) }
+    {
+        builder.has_a_past();
+        let root = Company::create(builder, fields)?;
+        finish_and_read(builder, root, identifier)
     }
 }
 

@@ -1,18 +1,20 @@
 //! Tables `Person`.
 
-ghost use Rattle.std.specs.Prelude.{◌≡◌, ◌≤◌, length, codes, IfOk};
+ghost use Rattle.std.specs.Prelude.{◌≡◌, ◌≤◌, length, codes, IfOk, IsOkAnd};
 ghost use Rattle.planus.specs.read.Shapes.{u8_shape};
 ghost use Rattle.planus.specs.write.State.{Grows};
 ghost use Rattle.planus.specs.Accessors.{IsTextRequired};
 ghost use Rattle.planus.specs.Contents.{WritesContents};
 ghost use Rattle.planus.specs.ReadPlain.{IsPlainFieldOr};
-ghost use Rattle.harbour.specs.Person.{person_contents};
+ghost use Rattle.planus_laws.specs.FieldLines.{contents_of, ReadsBack};
+ghost use Rattle.harbour.specs.Person.{person_lines};
 
 use planus::table_reader::Table;
 use planus::{
     BuildError, Builder, Offset, OrDefault, Result, TableKind, TableView, TableWriter, Text,
     create_table, fields, plain_field_or, text_required,
 };
+use planus_laws::finish_and_read;
 
 /// The kind of `Person`, and of an offset to one.
 pub struct Person;
@@ -32,8 +34,8 @@ impl Person {
         builder: &mut Builder,
         fields: PersonFields<'_>,
     ) -> std::result::Result<Offset<Person>, BuildError>
-        ensures kept { IfOk result (λ offset. WritesContents (person_contents fields.entry)
-            builder.old offset.distance builder.new) }
+        ensures kept { IfOk result (λ offset. WritesContents (contents_of (person_lines
+            fields.entry)) builder.old offset.distance builder.new) }
         ensures reached { IfOk result (λ offset. offset.distance ≤ length builder.new.bytes) }
         ensures grows { Grows builder.old builder.new }
     {
@@ -42,6 +44,21 @@ impl Person {
             1: u8 = OrDefault { value: fields.age, default: 18 },
         ];
         create_table::<Person, _>(builder, lines)
+    }
+
+    /// Writes a table with these fields as the root of a buffer, and reads it: each method of the
+    /// view returns what was given.
+    pub fn read_back<'b>(
+        builder: &'b mut Builder,
+        fields: PersonFields<'_>,
+        identifier: Option<[u8; 4]>,
+    ) -> std::result::Result<Result<PersonRef<'b>>, BuildError>
+        ensures { IfOk result (λ read. IsOkAnd read (λ view. ReadsBack builder.old (person_lines
+            fields.entry) view.table)) }
+    {
+        builder.has_a_past();
+        let root = Person::create(builder, fields)?;
+        finish_and_read(builder, root, identifier)
     }
 }
 

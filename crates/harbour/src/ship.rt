@@ -1,7 +1,7 @@
 //! Tables `Ship`.
 
 ghost use Rattle.std.specs.Prelude.{◌≡◌, ◌≤◌, length, codes, pos, negsuc, true, false, IfOk};
-ghost use Rattle.std.specs.Prelude.{MatchOption, ⊤};
+ghost use Rattle.std.specs.Prelude.{IsOkAnd, MatchOption, ⊤};
 ghost use Rattle.planus.specs.read.Shapes.{u16_shape, i16_shape, i32_shape, i64_shape, bool_shape};
 ghost use Rattle.planus.specs.read.Shapes.{f32_shape};
 ghost use Rattle.planus.specs.write.InBuilder.{IsIn, AllIn, AllUnionsIn};
@@ -12,6 +12,7 @@ ghost use Rattle.planus.specs.Contents.{WritesContents};
 ghost use Rattle.planus.specs.ReadPlain.{IsPlainField, IsPlainFieldOr};
 ghost use Rattle.planus.specs.UnionAccessors.{IsUnionField, IsUnionVector};
 ghost use Rattle.planus.specs.Unions.{ReadsVariants};
+ghost use Rattle.planus_laws.specs.FieldLines.{contents_of, ReadsBack};
 ghost use Rattle.harbour.specs.Fix.{fix_shape};
 ghost use Rattle.harbour.specs.Kind.{kind_shape};
 ghost use Rattle.harbour.specs.declared.kind.Kind.TheVariants as kind_value;
@@ -21,7 +22,7 @@ ghost use Rattle.harbour.specs.Needs.{needs_shape};
 ghost use Rattle.harbour.specs.Owner.{owner_variants};
 ghost use Rattle.harbour.specs.declared.owner.Owner.{Owner};
 ghost use Rattle.harbour.specs.Pos.{pos_shape};
-ghost use Rattle.harbour.specs.Ship.{ship_contents};
+ghost use Rattle.harbour.specs.Ship.{ship_lines};
 ghost use Rattle.harbour.specs.declared.ship.Ship.{Ship};
 
 use crate::fix::Fix;
@@ -37,6 +38,7 @@ use planus::{
     plain_field, plain_field_or, plain_required, plain_vector, table_field, table_vector,
     text_required, text_vector, union_field, union_vector,
 };
+use planus_laws::finish_and_read;
 
 /// A ship in a harbour.
 pub struct Ship;
@@ -91,12 +93,12 @@ impl Ship {
         requires consorts { MatchOption fields.consorts ⊤ (λ x. AllIn builder.old x.now) }
         requires owner { MatchOption fields.owner ⊤ (λ x. IsIn builder.old x.offset) }
         requires shares { AllUnionsIn builder.old fields.shares.now }
-        ensures kept { IfOk result (λ offset. WritesContents (ship_contents
+        ensures kept { IfOk result (λ offset. WritesContents (contents_of (ship_lines
             (λ x. ⟦<Kind as PartialEq>⟧.eq x kind_value.Bike)
             (λ x. ⟦<Level as PartialEq>⟧.eq x level_value.Mid)
             (λ x. ⟦<Needs as PartialEq>⟧.eq x DEFAULT_NEEDS)
             (λ x. ⟦<f32 as PartialEq>⟧.eq x DEFAULT_HEAT) (λ x. ⟦<bool as PartialEq>⟧.eq x true)
-            (λ x. ⟦<bool as PartialEq>⟧.eq x false) fields.entry) builder.old offset.distance
+            (λ x. ⟦<bool as PartialEq>⟧.eq x false) fields.entry)) builder.old offset.distance
             builder.new) }
         ensures reached { IfOk result (λ offset. offset.distance ≤ length builder.new.bytes) }
         ensures grows { Grows builder.old builder.new }
@@ -130,6 +132,29 @@ impl Ship {
             27: Kind = fields.which,
         ];
         create_table::<Ship, _>(builder, lines)
+    }
+
+    /// Writes a table with these fields as the root of a buffer, and reads it: each method of the
+    /// view returns what was given.
+    pub fn read_back<'b>(
+        builder: &'b mut Builder,
+        fields: ShipFields<'_>,
+        identifier: Option<[u8; 4]>,
+    ) -> std::result::Result<Result<ShipRef<'b>>, BuildError>
+        requires mate { MatchOption fields.mate ⊤ (λ x. IsIn builder.old x) }
+        requires consorts { MatchOption fields.consorts ⊤ (λ x. AllIn builder.old x.now) }
+        requires owner { MatchOption fields.owner ⊤ (λ x. IsIn builder.old x.offset) }
+        requires shares { AllUnionsIn builder.old fields.shares.now }
+        ensures { IfOk result (λ read. IsOkAnd read (λ view. ReadsBack builder.old (ship_lines
+            (λ x. ⟦<Kind as PartialEq>⟧.eq x kind_value.Bike)
+            (λ x. ⟦<Level as PartialEq>⟧.eq x level_value.Mid)
+            (λ x. ⟦<Needs as PartialEq>⟧.eq x DEFAULT_NEEDS)
+            (λ x. ⟦<f32 as PartialEq>⟧.eq x DEFAULT_HEAT) (λ x. ⟦<bool as PartialEq>⟧.eq x true)
+            (λ x. ⟦<bool as PartialEq>⟧.eq x false) fields.entry) view.table)) }
+    {
+        builder.has_a_past();
+        let root = Ship::create(builder, fields)?;
+        finish_and_read(builder, root, identifier)
     }
 }
 

@@ -4,14 +4,14 @@ use crate::arranged::arranged;
 use crate::at::At;
 use crate::context::Context;
 use crate::enums::{print_enum, print_flags, print_flags_layout, print_numbers};
+use crate::field_lines::{print_constant_uses, print_field_lines};
 use crate::order::{keys_of, sort_by_key};
 use crate::plan::Plan;
 use crate::printer::Printer;
 use crate::refusal::Refusal;
 use crate::structs::{has_padding, print_padded, print_struct, print_struct_layout};
 use crate::supported::refuse_unsupported;
-use crate::table_contents::print_contents;
-use crate::tables::print_table;
+use crate::tables::{print_read_back, print_table};
 use crate::unions::{print_union, print_variants};
 use crate::words::{Part, Words};
 use planus_layout::{Body, Declared, Schema};
@@ -80,11 +80,13 @@ impl<'a> Files<'a> {
         head: &str,
         at: At,
         text: &Printer<'_>,
+        uses: &Printer<'_>,
     ) -> Result<(), AllocError> {
         let mut file = Printer::new(self.context);
         file.put(head, at);
         let words = Words::of(self.context.alloc, text.as_str(), Part::Definitions)?;
         file.put_definition_uses(&words, self.order, at.index);
+        file.join(uses);
         file.put_str("\n");
         file.join(text);
         self.put("specs/$T.antt", at, file)
@@ -92,6 +94,7 @@ impl<'a> Files<'a> {
 
     fn put_declared(&mut self, at: At, declared: &Declared) -> Result<(), AllocError> {
         let context = self.context;
+        let none = Printer::new(context);
         match &declared.body {
             Body::Table(one) => {
                 let plan = Plan::of(context.alloc, context.declared, at.index, one)?;
@@ -100,7 +103,11 @@ impl<'a> Files<'a> {
                     at,
                     &print_table(context, &plan, declared),
                 )?;
-                self.put_definitions("-- What `$T` holds.\n", at, &print_contents(context, &plan))
+                let proof = print_read_back(context, at);
+                self.put("proofs/$M/$T/read_back/Answers.antt", at, proof)?;
+                let lines = print_field_lines(context, &plan);
+                let uses = print_constant_uses(context, &plan);
+                self.put_definitions("-- The fields of `$T`.\n", at, &lines, &uses)
             }
             Body::Struct(one) => {
                 self.put_code(
@@ -113,16 +120,21 @@ impl<'a> Files<'a> {
                     self.put("proofs/$M/$TPlain/put/Answers.antt", at, proof)?;
                 }
                 let layout = print_struct_layout(context, at);
-                self.put_definitions("-- The layout of `$T`.\n", at, &layout)
+                self.put_definitions("-- The layout of `$T`.\n", at, &layout, &none)
             }
             Body::Enum(one) if one.flags => {
                 self.put_code("//! Flags `$T`.\n", at, &print_flags(context, at, declared))?;
                 let layout = print_flags_layout(context, at);
-                self.put_definitions("-- The layout of `$T`.\n", at, &layout)
+                self.put_definitions("-- The layout of `$T`.\n", at, &layout, &none)
             }
             Body::Enum(_) => {
                 self.put_code("//! Enum `$T`.\n", at, &print_enum(context, at, declared))?;
-                self.put_definitions("-- The numbers of `$T`.\n", at, &print_numbers(context, at))
+                self.put_definitions(
+                    "-- The numbers of `$T`.\n",
+                    at,
+                    &print_numbers(context, at),
+                    &none,
+                )
             }
             Body::Union(one) => {
                 self.put_code(
@@ -131,7 +143,7 @@ impl<'a> Files<'a> {
                     &print_union(context, at, declared),
                 )?;
                 let variants = print_variants(context, at, one);
-                self.put_definitions("-- The variants of `$T`.\n", at, &variants)
+                self.put_definitions("-- The variants of `$T`.\n", at, &variants, &none)
             }
         }
     }

@@ -5,10 +5,10 @@ use crate::printer::Printer;
 use crate::words::Words;
 
 /// The names that clauses may need, by their modules.
-const IN_CLAUSES: [(&str, &str); 9] = [
+const IN_CLAUSES: [(&str, &str); 10] = [
     (
         "std.specs.Prelude",
-        "◌≡◌ ◌≤◌ ◌==◌ length codes pos negsuc true false bit_and bit_or IfOk MatchOption ⊤ Some None []",
+        "◌≡◌ ◌≤◌ ◌==◌ length codes pos negsuc true false bit_and bit_or IfOk IsOkAnd MatchOption ⊤ Some None []",
     ),
     (
         "planus.specs.read.Shapes",
@@ -27,14 +27,16 @@ const IN_CLAUSES: [(&str, &str); 9] = [
         "IsUnionField IsUnionRequired IsUnionVector IsUnionVectorRequired",
     ),
     ("planus.specs.Unions", "ReadsVariants"),
+    ("planus_laws.specs.FieldLines", "contents_of ReadsBack"),
 ];
 
 /// The names that definitions may need, by their modules.
-const IN_DEFINITIONS: [(&str, &str); 12] = [
+const IN_DEFINITIONS: [(&str, &str); 13] = [
     (
         "std.specs.Prelude",
         "ℕ ℤ ◌==◌ Bool true false pos negsuc nat_eq List [] ◌∷◌ Option Some None",
     ),
+    ("std.specs.Int", "w8 w16 w32 w64"),
     ("std.specs.Ordering", "int_eq"),
     ("std.proofs.Common", "refl lit≤ lit<"),
     ("planus.specs.read.declared.table_reader.Table", "Table"),
@@ -51,13 +53,19 @@ const IN_DEFINITIONS: [(&str, &str); 12] = [
         "planus.specs.read.Structs",
         "field force_align no_more struct_layout struct_shape",
     ),
-    ("planus.specs.write.Contents", "Content"),
-    ("planus.specs.fields.Contents", "holds_if unless"),
     (
-        "planus.specs.Holds",
-        "holds_i8 holds_i16 holds_i32 holds_i64 holds_text holds_texts holds_bytes holds_plain holds_plains holds_offset holds_offsets holds_union_value holds_union_tag holds_union_tags holds_union_values holds_any_union_tags holds_any_union_values equals_i8 equals_i16 equals_i32 equals_i64",
+        "planus.specs.Accessors",
+        "plain_kind text_kind bytes_kind table_kind",
     ),
     ("planus.specs.Unions", "UnionVariant table_variant"),
+    (
+        "planus_laws.specs.FieldLines",
+        "FieldLine plains judged texts tables",
+    ),
+    (
+        "planus_laws.specs.FieldLines.FieldLine",
+        "optional required plain_if plain_or number_or signed_or union union_required unions unions_required",
+    ),
 ];
 
 /// The columns of names that are imported from one module in one line.
@@ -65,7 +73,7 @@ const NAME_COLUMNS: usize = 80;
 
 /// The words behind a module's name that name a definition, and its import.
 const OWN_DEFINITIONS: [(&str, &str); 6] = [
-    ("_contents", " Rattle.$c.specs.$T.{$M_contents}"),
+    ("_lines", " Rattle.$c.specs.$T.{$M_lines}"),
     ("_variants", " Rattle.$c.specs.$T.{$M_variants}"),
     ("_is", " Rattle.$c.specs.$T.{$M_is}"),
     ("_shape", " Rattle.$c.specs.$T.{$M_shape}"),

@@ -6,7 +6,7 @@ const RESERVED: &str =
 
 /// Names of types that code has anyway, and of a file of definitions.
 const KNOWN_TYPES: &str =
-    "Bool BuildError Builder ByteList Clone Content Copy Debug Default Drop Err ErrorKind Float Lib List None Numbered Offset Ok Option OrDefault PartialEq Plain PlainField PlainTotal Result Shape SliceWithStartOffset Some Stride String Table TableKind TableReadUnion TableView TableWriter Text Type UnionOffset UnionVariant UnionVector Unit Vec Vector VectorReadUnion";
+    "Bool BuildError Builder ByteList Clone Copy Debug Default Drop Err ErrorKind FieldLine Float Lib List None Numbered Offset Ok Option OrDefault PartialEq Plain PlainField PlainTotal Result Shape SliceWithStartOffset Some Stride String Table TableKind TableReadUnion TableView TableWriter Text Type UnionOffset UnionVariant UnionVector Unit Vec Vector VectorReadUnion";
 
 fn has_word(words: &str, name: &[u8]) -> bool {
     for word in words.split(' ') {

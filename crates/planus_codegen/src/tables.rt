@@ -20,10 +20,26 @@ const OWNED_FIELDS: &str = " };\n\n    fn default() -> $TFields {\n        $TFie
 const CREATE: &str =
     "impl $T {\n    /// Writes a table with these fields. One that equals its default is left out.\n    ///\n    /// [`BuildError::TooLarge`] and [`BuildError::OutOfMemory`] as of [`Builder::create_vector`].\n    pub fn create(\n        builder: &mut Builder,\n        fields: $TFields";
 
-const KEPT: &str = "        ensures kept {~IfOk~result~(λ offset.~WritesContents~($M_contents";
+const KEPT: &str =
+    "        ensures kept {~IfOk~result~(λ offset.~WritesContents~(contents_of~($M_lines";
 
 const CREATED: &str =
-    "~builder.old~offset.distance~builder.new) }\n        ensures reached { IfOk result (λ offset. offset.distance ≤ length builder.new.bytes) }\n        ensures grows { Grows builder.old builder.new }\n    {\n        let lines = fields![";
+    ")~builder.old~offset.distance~builder.new) }\n        ensures reached { IfOk result (λ offset. offset.distance ≤ length builder.new.bytes) }\n        ensures grows { Grows builder.old builder.new }\n    {\n        let lines = fields![";
+
+const READ_BACK: &str =
+    "    /// Writes a table with these fields as the root of a buffer, and reads it: each method of the\n    /// view returns what was given.\n    pub fn read_back<'b>(\n        builder: &'b mut Builder,\n        fields: $TFields";
+
+const READ: &str =
+    ",\n        identifier: Option<[u8; 4]>,\n    ) -> std::result::Result<Result<$TRef<'b>>, BuildError>\n";
+
+const RETURNS: &str =
+    "        ensures {~IfOk~result~(λ read.~IsOkAnd~read~(λ view.~ReadsBack~builder.old~($M_lines";
+
+const READING: &str =
+    "~view.table)) }\n    {\n        builder.has_a_past();\n        let root = $T::create(builder, fields)?;\n        finish_and_read(builder, root, identifier)\n    }\n}\n\n";
+
+const ANSWER: &str =
+    "use Rattle.std.proofs.Common.{refl}\nuse Rattle.planus_laws.proofs.FieldLines.{written_reads_back}\nuse Rattle.$c.proofs.$M.$T.read_back.Goals as goal\n\npub returns : goal.returns\nreturns c =\n    written_reads_back (λ view. view.table) _ _ _ _ _ c.finish_and_read.ensures\n    c.has_a_past.ensures c.in_ok-root.ensures.kept refl\n";
 
 const KIND: &str =
     "impl TableKind for $T {\n    type %Writer = TableWriter<$p>;\n\n    ghost name = { codes \"[$TRef]\" };\n\n    fn name() -> &'static str\n        ensures {~result.now ≡~codes \"[$TRef]\" }\n    {\n        \"[$TRef]\"\n    }\n}\n";
@@ -156,13 +172,15 @@ impl<'a> Printer<'a> {
         self.put("^}\n    }\n}\n\n", at);
     }
 
-    // The clauses of `create`, up to its list of fields.
-    fn put_clauses(&mut self, plan: &Plan<'_>) {
-        let at = At::declaration(plan.table);
+    // The conditions of what the fields refer to.
+    fn put_conditions(&mut self, plan: &Plan<'_>) {
         for line in &plan.lines {
             self.put(condition(line.field), line.at());
         }
-        self.put(KEPT, at);
+    }
+
+    // What the lines of the fields are of: the tests of defaults, and the fields.
+    fn put_given(&mut self, plan: &Plan<'_>) {
         for line in &plan.lines {
             if is_judged(line.field) {
                 self.put("~(λ x. ⟦<$t as PartialEq>⟧.eq x $K)", line.at());
@@ -174,9 +192,8 @@ impl<'a> Printer<'a> {
             } else {
                 "~fields)"
             },
-            at,
+            At::declaration(plan.table),
         );
-        self.put(CREATED, at);
     }
 
     fn put_create(&mut self, plan: &Plan<'_>) {
@@ -187,7 +204,10 @@ impl<'a> Printer<'a> {
             ",\n    ) -> std::result::Result<Offset<$T>, BuildError>\n",
             at,
         );
-        self.put_clauses(plan);
+        self.put_conditions(plan);
+        self.put(KEPT, at);
+        self.put_given(plan);
+        self.put(CREATED, at);
         self.put_str(if plan.order.is_empty() { "" } else { "\n" });
         for line in &plan.order {
             self.put(line_of(line.field), line.at());
@@ -198,10 +218,28 @@ impl<'a> Printer<'a> {
             "        "
         });
         self.put(
-            "];\n        create_table::<$T, _>(builder, lines)\n    }\n}\n\n",
+            "];\n        create_table::<$T, _>(builder, lines)\n    }\n\n",
             at,
         );
     }
+
+    fn put_read_back(&mut self, plan: &Plan<'_>) {
+        let at = At::declaration(plan.table);
+        self.put(READ_BACK, at);
+        self.put_str(if plan.borrows() { "<'_>" } else { "" });
+        self.put(READ, at);
+        self.put_conditions(plan);
+        self.put(RETURNS, at);
+        self.put_given(plan);
+        self.put(READING, at);
+    }
+}
+
+/// Prints the proof that the methods return what was given.
+pub(crate) fn print_read_back<'a>(context: &'a Context<'a>, at: At) -> Printer<'a> {
+    let mut printer = Printer::new(context);
+    printer.put(ANSWER, at);
+    printer
 }
 
 /// Prints the code of a table.
@@ -221,6 +259,7 @@ pub(crate) fn print_table<'a>(
         printer.put_default_fields(plan);
     }
     printer.put_create(plan);
+    printer.put_read_back(plan);
     printer.put_view(plan);
     printer.put(KIND, at.member(plan.vtable_size));
     printer

@@ -118,6 +118,9 @@ impl<'a> Printer<'a> {
         let mut path = Printer::new(self.context);
         path.put_str("use planus::");
         self.put_use(&path, &names);
+        if words.has(&[], "finish_and_read") {
+            self.put_str("use planus_laws::finish_and_read;\n");
+        }
     }
 
     /// Adds the imports of code.

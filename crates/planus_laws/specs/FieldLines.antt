@@ -15,6 +15,7 @@ use Rattle.planus.specs.write.Past.{Past}
 use Rattle.planus.specs.write.State.{State, IsPast}
 use Rattle.planus.specs.write.declared.offset.Offset.{Offset}
 use Rattle.planus.specs.write.declared.union_offset.UnionOffset.{UnionOffset}
+use Rattle.planus.specs.view.declared.item_errors.AsRead.{AsRead}
 use Rattle.planus.specs.view.declared.vector.SliceView.{SliceView}
 use Rattle.planus.specs.view.declared.vector_of.VectorOf.{VectorOf}
 use Rattle.planus.specs.fields.Contents.{holds_if, unless}
@@ -149,10 +150,10 @@ ReturnsGiven B table (union_required variants slot given) =
     → Returns (IsUnionRequired (ReadsVariants variants) table slot)
     (λ r. IsOkAnd r (IsUnion variants B given.tag (written given.offset.distance)))
 ReturnsGiven B table (unions T slot given) =
-    Returns (IsUnionVector {T = T} {E = Error} table slot)
+    Returns (IsUnionVector {T = T} {E = AsRead} table slot)
     (λ r. IsOkAnd r (AreAnyUnions B (map written_union given.now)))
 ReturnsGiven B table (unions_required T slot given) =
-    Returns (IsUnionVectorRequired {T = T} {E = Error} table slot)
+    Returns (IsUnionVectorRequired {T = T} {E = AsRead} table slot)
     (λ r. IsOkAnd r (AreUnionsOf B (map written_union given.now)))
 
 abbrev pub AllReturnGiven : List ℕ → Table → List FieldLine → Type 0
