@@ -60,14 +60,13 @@ impl Company {
     pub fn read_back<'b>(
         builder: &'b mut Builder,
         fields: CompanyFields<'_>,
-        identifier: Option<[u8; 4]>,
     ) -> std::result::Result<Result<CompanyRef<'b>>, BuildError>
         ensures { IfOk result (λ read. IsOkAnd read (λ view. ReadsBack builder.old (company_lines
             fields.entry) view.table)) }
     {
         builder.has_a_past();
         let root = Company::create(builder, fields)?;
-        finish_and_read(builder, root, identifier)
+        finish_and_read(builder, root, None)
     }
 }
 

@@ -21,6 +21,13 @@ pub use person::{Person, PersonFields, PersonRef};
 pub use pos::Pos;
 pub use ship::{DEFAULT_HEAT, DEFAULT_NEEDS, Ship, ShipFields, ShipRef};
 
+mod root;
+
+pub use root::{
+    finish_root, finish_root_size_prefixed, has_identifier, read_as_root,
+    read_size_prefixed_as_root,
+};
+
 /// The file identifier, which [`planus::Builder::finish`] writes and [`planus::has_identifier`]
 /// looks for.
 pub const FILE_IDENTIFIER: [u8; 4] = [83, 72, 73, 80];

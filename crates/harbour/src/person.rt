@@ -51,14 +51,13 @@ impl Person {
     pub fn read_back<'b>(
         builder: &'b mut Builder,
         fields: PersonFields<'_>,
-        identifier: Option<[u8; 4]>,
     ) -> std::result::Result<Result<PersonRef<'b>>, BuildError>
         ensures { IfOk result (λ read. IsOkAnd read (λ view. ReadsBack builder.old (person_lines
             fields.entry) view.table)) }
     {
         builder.has_a_past();
         let root = Person::create(builder, fields)?;
-        finish_and_read(builder, root, identifier)
+        finish_and_read(builder, root, None)
     }
 }
 

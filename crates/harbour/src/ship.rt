@@ -139,7 +139,6 @@ impl Ship {
     pub fn read_back<'b>(
         builder: &'b mut Builder,
         fields: ShipFields<'_>,
-        identifier: Option<[u8; 4]>,
     ) -> std::result::Result<Result<ShipRef<'b>>, BuildError>
         requires mate { MatchOption fields.mate ⊤ (λ x. IsIn builder.old x) }
         requires consorts { MatchOption fields.consorts ⊤ (λ x. AllIn builder.old x.now) }
@@ -154,7 +153,7 @@ impl Ship {
     {
         builder.has_a_past();
         let root = Ship::create(builder, fields)?;
-        finish_and_read(builder, root, identifier)
+        finish_and_read(builder, root, None)
     }
 }
 

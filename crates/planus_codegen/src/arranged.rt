@@ -25,7 +25,7 @@ struct Arrangement {
     width: usize,
     /// Whether a blank or the end of a line stands before the word.
     apart: bool,
-    /// The blanks that the line begins with, and whether it is a ghost item.
+    /// The blanks that the line begins with, and whether it is a ghost item or a clause.
     indent: usize,
     is_ghost: bool,
 }
@@ -38,8 +38,12 @@ struct Measure {
     arguments: usize,
     marks: usize,
     fields: bool,
-    /// Whether it is a ghost item.
+    /// Whether it is a ghost item or a clause.
     is_ghost: bool,
+}
+
+fn is_ghost_line(line: &str) -> bool {
+    line.starts_with("ghost") || line.starts_with("ensures")
 }
 
 fn measure_of(line: &str) -> Measure {
@@ -48,7 +52,7 @@ fn measure_of(line: &str) -> Measure {
         arguments: 0,
         marks: 0,
         fields: false,
-        is_ghost: line.trim_start().starts_with("ghost"),
+        is_ghost: is_ghost_line(line.trim_start()),
     };
     let mut start = 0usize;
     let mut before = ' ';

@@ -15,6 +15,8 @@ pub(crate) struct Context<'a> {
     pub(crate) declared: &'a [Declared],
     /// The bytes of the file identifier.
     pub(crate) identifier: Option<&'a [u8]>,
+    /// The index of the root's table.
+    pub(crate) root: Option<usize>,
     pub(crate) names: Names,
     /// Whether a read of each can't fail once its bytes are there.
     totals: Vec<bool>,
@@ -91,6 +93,7 @@ impl<'a> Context<'a> {
                 Some(identifier) => Some(identifier.as_slice()),
                 None => None,
             },
+            root: schema.statements.root,
             names: Names::of(alloc, declared)?,
             totals: totals_of(alloc, declared)?,
         })

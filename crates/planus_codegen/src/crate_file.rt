@@ -9,6 +9,7 @@ use crate::order::{keys_of, sort_by_key};
 use crate::plan::Plan;
 use crate::printer::Printer;
 use crate::refusal::Refusal;
+use crate::root::print_root;
 use crate::structs::{has_padding, print_padded, print_struct, print_struct_layout};
 use crate::supported::refuse_unsupported;
 use crate::tables::{print_read_back, print_table};
@@ -16,6 +17,12 @@ use crate::unions::{print_union, print_variants};
 use crate::words::{Part, Words};
 use planus_layout::{Body, Declared, Schema};
 use std::alloc::{AllocError, Global};
+
+const ROOT: &str =
+    "\nmod root;\n\npub use root::{\n    finish_root, finish_root_size_prefixed, has_identifier, read_as_root,\n    read_size_prefixed_as_root,\n};\n";
+
+const ROOT_ALONE: &str =
+    "\nmod root;\n\npub use root::{read_as_root, read_size_prefixed_as_root};\n";
 
 /// A file: its path in the folder of the crate, and its text.
 #[derive(Drop)]
@@ -61,17 +68,39 @@ impl<'a> Files<'a> {
         Ok(uses)
     }
 
-    // Adds a file of code: its first line, its imports, and what is printed.
-    fn put_code(&mut self, head: &str, at: At, code: &Printer<'_>) -> Result<(), AllocError> {
+    // A file of code: its first line, its imports, and what is printed. `own` is the declaration whose
+    // types it has.
+    fn code_file(
+        &self,
+        head: &str,
+        at: At,
+        own: usize,
+        code: &Printer<'_>,
+    ) -> Result<Printer<'a>, AllocError> {
         let mut file = Printer::new(self.context);
         file.put(head, at);
         file.put_str("\n");
         file.join(&self.clause_uses(code)?);
         file.put_str("\n");
-        file.join(&self.code_uses(code, at.index)?);
+        file.join(&self.code_uses(code, own)?);
         file.put_str("\n");
         file.join(code);
+        Ok(file)
+    }
+
+    // Adds such a file of a declaration.
+    fn put_code(&mut self, head: &str, at: At, code: &Printer<'_>) -> Result<(), AllocError> {
+        let file = self.code_file(head, at, at.index, code)?;
         self.put("src/$M.rt", at, file)
+    }
+
+    // Adds the file of the functions of a buffer's root.
+    fn put_root(&mut self, root: usize) -> Result<(), AllocError> {
+        let at = At::declaration(root);
+        let code = print_root(self.context, at);
+        let none = self.context.declared.len();
+        let file = self.code_file("//! The root of a buffer.\n", at, none, &code)?;
+        self.put("src/root.rt", at, file)
     }
 
     // Adds a file of definitions in the same way.
@@ -162,6 +191,13 @@ impl<'a> Files<'a> {
                 text.put_passed_on(*index, body)?;
             }
         }
+        if context.root.is_some() {
+            text.put_str(if context.identifier.is_some() {
+                ROOT
+            } else {
+                ROOT_ALONE
+            });
+        }
         if let Some(identifier) = context.identifier {
             text.put_identifier(identifier);
         }
@@ -197,6 +233,9 @@ fn files_of(context: &Context<'_>) -> Result<Vec<PrintedFile>, AllocError> {
     };
     for (index, declared) in context.declared.iter().enumerate() {
         files.put_declared(At::declaration(index), declared)?;
+    }
+    if let Some(root) = context.root {
+        files.put_root(root)?;
     }
     files.put_library()?;
     files.put_definition_list()?;

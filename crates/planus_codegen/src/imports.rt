@@ -5,16 +5,23 @@ use crate::printer::Printer;
 use crate::words::Words;
 
 /// The names that clauses may need, by their modules.
-const IN_CLAUSES: [(&str, &str); 10] = [
+const IN_CLAUSES: [(&str, &str); 16] = [
     (
         "std.specs.Prelude",
-        "◌≡◌ ◌≤◌ ◌==◌ length codes pos negsuc true false bit_and bit_or IfOk IsOkAnd MatchOption ⊤ Some None []",
+        "◌≡◌ ◌≤◌ ◌==◌ ◌↔◌ length codes pos negsuc true false bit_and bit_or IfOk IsOkAnd IsTrue MatchOption ⊤ Some None []",
     ),
     (
         "planus.specs.read.Shapes",
         "u8_shape u16_shape u32_shape u64_shape i8_shape i16_shape i32_shape i64_shape bool_shape f32_shape f64_shape",
     ),
+    ("planus.specs.read.Bytes", "BytesStand"),
+    ("planus.specs.read.SizePrefixed", "IsPrefixed"),
+    (
+        "planus.specs.write.Finishing",
+        "FinishGives SizedFinishGives",
+    ),
     ("planus.specs.write.InBuilder", "IsIn AllIn AllUnionsIn"),
+    ("planus.specs.write.Preparing", "IsPrepared"),
     ("planus.specs.write.State", "Grows"),
     (
         "planus.specs.Accessors",
@@ -22,12 +29,14 @@ const IN_CLAUSES: [(&str, &str); 10] = [
     ),
     ("planus.specs.Contents", "WritesContents"),
     ("planus.specs.ReadPlain", "IsPlainField IsPlainFieldOr"),
+    ("planus.specs.Roots", "IsRoot"),
     (
         "planus.specs.UnionAccessors",
         "IsUnionField IsUnionRequired IsUnionVector IsUnionVectorRequired",
     ),
     ("planus.specs.Unions", "ReadsVariants"),
     ("planus_laws.specs.FieldLines", "contents_of ReadsBack"),
+    ("planus_laws.specs.SizedRoots", "IsSizedRoot"),
 ];
 
 /// The names that definitions may need, by their modules.

@@ -8,6 +8,10 @@ const RESERVED: &str =
 const KNOWN_TYPES: &str =
     "Bool BuildError Builder ByteList Clone Copy Debug Default Drop Err ErrorKind FieldLine Float Lib List None Numbered Offset Ok Option OrDefault PartialEq Plain PlainField PlainTotal Result Shape SliceWithStartOffset Some Stride String Table TableKind TableReadUnion TableView TableWriter Text Type UnionOffset UnionVariant UnionVector Unit Vec Vector VectorReadUnion";
 
+/// Names of what a crate has beside its modules.
+const KNOWN_MODULES: &str =
+    "finish_root finish_root_size_prefixed has_identifier read_as_root read_size_prefixed_as_root root";
+
 fn has_word(words: &str, name: &[u8]) -> bool {
     for word in words.split(' ') {
         if word.as_bytes() == name {
@@ -20,6 +24,11 @@ fn has_word(words: &str, name: &[u8]) -> bool {
 /// Returns whether no field, type or module can have this name.
 pub(crate) fn is_reserved(name: &[u8]) -> bool {
     has_word(RESERVED, name)
+}
+
+/// Returns whether the crate has something else of this name.
+pub(crate) fn is_known_module(name: &[u8]) -> bool {
+    has_word(KNOWN_MODULES, name)
 }
 
 /// Returns whether code has a type of this name anyway. The names of a table's fields and of views

@@ -17,6 +17,7 @@ mod order;
 mod plan;
 mod printer;
 mod refusal;
+mod root;
 mod scope;
 mod structs;
 mod supported;

@@ -4,7 +4,7 @@ ghost use Rattle.std.specs.Prelude.{◌≡◌, length, true, IfOk};
 ghost use Rattle.planus_codegen.specs.Names.{are_names as are_names_lem, are_scopes as are_scopes_lem};
 ghost use Rattle.planus_codegen.specs.Names.{are_apart_from as are_apart_from_lem};
 
-use crate::known::{is_known_type, is_reserved};
+use crate::known::{is_known_module, is_known_type, is_reserved};
 use crate::refusal::Refusal;
 use crate::scope::{are_apart_from, are_names, are_scopes, is_among};
 use planus_layout::{Body, Declared, Enum, is_among as is_in};
@@ -125,7 +125,7 @@ fn module_names(alloc: Global, types: &[Vec<u8>]) -> Result<Vec<Vec<u8>>, AllocE
     let mut names = Vec::new(alloc);
     for name in types {
         let mut name = spelled(alloc, name, Spelling::Snake)?;
-        if is_in(types, &name) {
+        if is_in(types, &name) || is_known_module(&name) {
             name.push(b'_')?;
         }
         add_allowed(&mut names, name)?;

@@ -29,17 +29,16 @@ const CREATED: &str =
 const READ_BACK: &str =
     "    /// Writes a table with these fields as the root of a buffer, and reads it: each method of the\n    /// view returns what was given.\n    pub fn read_back<'b>(\n        builder: &'b mut Builder,\n        fields: $TFields";
 
-const READ: &str =
-    ",\n        identifier: Option<[u8; 4]>,\n    ) -> std::result::Result<Result<$TRef<'b>>, BuildError>\n";
+const READ: &str = ",\n    ) -> std::result::Result<Result<$TRef<'b>>, BuildError>\n";
 
 const RETURNS: &str =
     "        ensures {~IfOk~result~(λ read.~IsOkAnd~read~(λ view.~ReadsBack~builder.old~($M_lines";
 
 const READING: &str =
-    "~view.table)) }\n    {\n        builder.has_a_past();\n        let root = $T::create(builder, fields)?;\n        finish_and_read(builder, root, identifier)\n    }\n}\n\n";
+    "~view.table)) }\n    {\n        builder.has_a_past();\n        let root = $T::create(builder, fields)?;\n        finish_and_read(builder, root, None)\n    }\n}\n\n";
 
 const ANSWER: &str =
-    "use Rattle.std.proofs.Common.{refl}\nuse Rattle.planus_laws.proofs.FieldLines.{written_reads_back}\nuse Rattle.$c.proofs.$M.$T.read_back.Goals as goal\n\npub returns : goal.returns\nreturns c =\n    written_reads_back (λ view. view.table) _ _ _ _ _ c.finish_and_read.ensures\n    c.has_a_past.ensures c.in_ok-root.ensures.kept refl\n";
+    "use Rattle.std.proofs.Common.{refl, None}\nuse Rattle.planus_laws.proofs.FieldLines.{written_reads_back}\nuse Rattle.$c.proofs.$M.$T.read_back.Goals as goal\n\npub returns : goal.returns\nreturns c =\n    written_reads_back (λ view. view.table) _ _ _ _ None _ c.finish_and_read.ensures\n    c.has_a_past.ensures c.in_ok-root.ensures.kept refl\n";
 
 const KIND: &str =
     "impl TableKind for $T {\n    type %Writer = TableWriter<$p>;\n\n    ghost name = { codes \"[$TRef]\" };\n\n    fn name() -> &'static str\n        ensures {~result.now ≡~codes \"[$TRef]\" }\n    {\n        \"[$TRef]\"\n    }\n}\n";

@@ -11,7 +11,7 @@ use std::alloc::AllocError;
 
 /// The names of `planus` that code may need.
 const NAMES: &str =
-    "BuildError Builder ByteList List Offset OrDefault Plain PlainField PlainTotal Result SliceWithStartOffset Stride TableKind TableReadUnion TableRef TableView TableWriter Text UnionOffset UnionVector Vector VectorReadUnion bytes_field bytes_required create_table fields plain_field plain_field_or plain_required plain_vector plain_vector_required put_fields read_fields read_variant read_view table_field table_required table_vector table_vector_required text_field text_required text_vector text_vector_required union_field union_required union_vector union_vector_required";
+    "BuildError Builder ByteList List Offset OrDefault Plain PlainField PlainTotal Result SliceWithStartOffset Stride TableKind TableReadUnion TableRef TableView TableWriter Text UnionOffset UnionVector Vector VectorReadUnion bytes_field bytes_required create_table fields plain_field plain_field_or plain_required plain_vector plain_vector_required put_fields read_fields read_root read_variant read_view table_field table_required table_vector table_vector_required text_field text_required text_vector text_vector_required union_field union_required union_vector union_vector_required";
 
 /// The columns of an import on one line.
 const COLUMNS: usize = 98;
@@ -118,13 +118,20 @@ impl<'a> Printer<'a> {
         let mut path = Printer::new(self.context);
         path.put_str("use planus::");
         self.put_use(&path, &names);
-        if words.has(&[], "finish_and_read") {
-            self.put_str("use planus_laws::finish_and_read;\n");
+        for name in ["finish_and_read", "read_sized_root"] {
+            if words.has(&[], name) {
+                self.put_str("use planus_laws::");
+                self.put_str(name);
+                self.put_str(";\n");
+            }
         }
     }
 
     /// Adds the imports of code.
     pub(crate) fn put_code_uses(&mut self, words: &Words<'_>, order: &[usize], own: usize) {
+        if words.has(&[], "FILE_IDENTIFIER") {
+            self.put_str("use crate::FILE_IDENTIFIER;\n");
+        }
         for index in order {
             if *index != own {
                 self.put_type_uses(words, *index);

@@ -6,6 +6,7 @@ use Rattle.std.proofs.lemmas.Bool.{and_parts, eqb-true, eqb-false, eq-eqb, ne_eq
 use Rattle.std.proofs.lemmas.Bool.Decides.{Decides-int_eq}
 use Rattle.planus.specs.read.declared.table_reader.Table.{Table}
 use Rattle.planus.specs.write.Contents.{Content, written, written_union}
+use Rattle.planus.specs.write.declared.offset.Offset.{Offset}
 use Rattle.planus.specs.write.Past.{Past}
 use Rattle.planus.specs.write.State.{State, IsPast}
 use Rattle.planus.specs.read.declared.located.Error.{Error}
@@ -128,14 +129,14 @@ ok_also P Q (Err e) also is = elim is [ ]
 
 -- So they do of a table that was written with these fields, finished and read.
 pub written_reads_back
-    : {V E : Type 0} (table_of : V → Table) (before builder : State) (lines : List FieldLine)
-    (distance : ℕ) (r : Result (Result V Error) E)
-    → IfOk r (RootIsRead table_of distance builder) → (past : Past) × IsPast before past
-    → WritesContents (contents_of lines) before distance builder
+    : {V K E : Type 0} (table_of : V → Table) (before builder : State) (lines : List FieldLine)
+    (root : Offset K) (identifier : Option (List ℕ)) (r : Result (Result V Error) E)
+    → IfOk r (RootIsRead table_of root identifier builder) → (past : Past) × IsPast before past
+    → WritesContents (contents_of lines) before root.distance builder
     → are_apart (contents_of lines) ≡ true
     → IfOk r (λ read. IsOkAnd read (λ view. ReadsBack before lines (table_of view)))
-written_reads_back table_of before builder lines distance (Err e) is past writes apart = tt
-written_reads_back table_of before builder lines distance (Ok read) is past writes apart =
+written_reads_back table_of before builder lines root identifier (Err e) is past writes apart = tt
+written_reads_back table_of before builder lines root identifier (Ok read) is past writes apart =
     ok_also _ (λ view. ReadsBack before lines (table_of view)) read
-    (λ view found. reads_back before lines found.0 (table_of view) found.1 found.2 apart)
+    (λ view found. reads_back before lines found.0 (table_of view) found.2 found.3 apart)
     (is before (contents_of lines) past writes apart)

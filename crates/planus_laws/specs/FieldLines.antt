@@ -11,7 +11,9 @@ use Rattle.planus.specs.read.Plain.{Shape}
 use Rattle.planus.specs.read.Shapes.{u32_shape}
 use Rattle.planus.specs.read.declared.plain.Plain.{Ghosts as PlainGhosts}
 use Rattle.planus.specs.write.Contents.{Content, written, written_union}
+use Rattle.planus.specs.write.Finishing.{FinishGives}
 use Rattle.planus.specs.write.Past.{Past}
+use Rattle.planus.specs.write.Preparing.{IsPrepared}
 use Rattle.planus.specs.write.State.{State, IsPast}
 use Rattle.planus.specs.write.declared.offset.Offset.{Offset}
 use Rattle.planus.specs.write.declared.union_offset.UnionOffset.{UnionOffset}
@@ -167,14 +169,16 @@ KeptTablesStandIn B builder =
     → TableIsKept past contents distance → IsTrue (are_apart contents)
     → TableStands B contents distance
 
--- What is read of a root with this distance that a builder finishes: a view with all contents with
--- which its table was written, and with all tables that the builder had before.
-abbrev pub RootIsRead : {V : Type 0} → (V → Table) → ℕ → State → Result V Error → Type 0
-RootIsRead table_of distance builder read =
+-- What is read of a root that a builder finishes: a view with all contents with which its table was
+-- written. The buffer has all tables that the builder had before.
+abbrev pub RootIsRead :
+    {V K : Type 0} → (V → Table) → Offset K → Option (List ℕ) → State → Result V Error → Type 0
+RootIsRead table_of root identifier builder read =
     (before : State) (contents : List (ℕ × Option Content)) → (past : Past) × IsPast before past
-    → WritesContents contents before distance builder → IsTrue (are_apart contents)
+    → WritesContents contents before root.distance builder → IsTrue (are_apart contents)
     → IsOkAnd read
-    (λ view. (B : List ℕ) × KeptTablesStandIn B before × TableHolds B contents (table_of view))
+    (λ view. (B : List ℕ) × FinishGives (IsPrepared root) identifier builder B
+    × KeptTablesStandIn B before × TableHolds B contents (table_of view))
 
 -- A table was written with these fields over what a builder had, and is read: each method returns
 -- what was given for its field.

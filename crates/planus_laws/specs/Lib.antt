@@ -1,1 +1,2 @@
 pub mod FieldLines
+pub mod SizedRoots

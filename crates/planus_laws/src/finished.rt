@@ -18,7 +18,7 @@ pub fn finish_and_read<'b, 'n, V: TableView<'b>>(
     identifier: Option<[u8; 4]>,
 ) -> Result<Result<V, Error<'n>>, BuildError>
     requires { IsIn builder.old root }
-    ensures { IfOk result (RootIsRead V.table root.distance builder.old) }
+    ensures { IfOk result (RootIsRead V.table root identifier builder.old) }
 {
     laws::kept_tables_stay();
     laws::finishes_keep_tables::<V::Kind, Offset<V::Kind>>();

@@ -3,5 +3,7 @@
 #![tactic(auto)]
 
 mod finished;
+mod sized_roots;
 
 pub use finished::finish_and_read;
+pub use sized_roots::read_sized_root;

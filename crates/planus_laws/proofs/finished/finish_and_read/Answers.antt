@@ -14,6 +14,6 @@ returns g c = λ before contents past writes apart.
     (c.kept_tables_stay.ensures any later.0 others distance later.2 is_kept) are_apart
     c.requires gives in
     ok_also (λ view. TableHolds B contents (g.V.TableView.table view)) _ c.read_root.result
-    (λ view holds. (B, keeps, holds))
+    (λ view holds. (B, gives, keeps, holds))
     (c.read_root.ensures.written contents before c.args.builder.now c.args.root c.args.identifier past
     writes c.requires gives apart)

@@ -1,0 +1,60 @@
+//! The root of a buffer.
+
+ghost use Rattle.std.specs.Prelude.{◌↔◌, codes, IfOk, IsTrue, Some};
+ghost use Rattle.planus.specs.read.Bytes.{BytesStand};
+ghost use Rattle.planus.specs.read.SizePrefixed.{IsPrefixed};
+ghost use Rattle.planus.specs.write.Finishing.{FinishGives, SizedFinishGives};
+ghost use Rattle.planus.specs.write.InBuilder.{IsIn};
+ghost use Rattle.planus.specs.write.Preparing.{IsPrepared};
+ghost use Rattle.planus.specs.Roots.{IsRoot};
+ghost use Rattle.planus_laws.specs.SizedRoots.{IsSizedRoot};
+ghost use Rattle.harbour.specs.declared.ship.Ship.{Ship};
+
+use crate::FILE_IDENTIFIER;
+use crate::ship::{Ship, ShipRef};
+use planus::errors::ErrorKind;
+use planus::{BuildError, Builder, Offset, read_root};
+use planus_laws::read_sized_root;
+
+/// Reads the root of a buffer.
+pub fn read_as_root(bytes: &[u8]) -> planus::Result<ShipRef<'_>>
+    ensures { IsRoot Ship (codes "[ShipRef]") (λ view. view.table) bytes.now result }
+{
+    read_root(bytes)
+}
+
+/// Reads the root of the first of these size-prefixed buffers; also returns what follows the buffer.
+pub fn read_size_prefixed_as_root(bytes: &[u8]) -> Result<(ShipRef<'_>, &[u8]), ErrorKind>
+    ensures { IsSizedRoot (λ view. view.table) bytes.now result }
+{
+    read_sized_root(bytes)
+}
+
+/// Finishes a buffer with this root and the file identifier, as [`Builder::finish`].
+pub fn finish_root(builder: &mut Builder, root: Offset<Ship>) -> Result<&[u8], BuildError>
+    requires { IsIn builder.old root }
+    ensures { IfOk result (λ bytes. FinishGives (IsPrepared root) (Some FILE_IDENTIFIER)
+        builder.old bytes.now) }
+{
+    builder.finish(root, Some(FILE_IDENTIFIER))
+}
+
+/// The same after the size of what follows, as [`Builder::finish_size_prefixed`].
+pub fn finish_root_size_prefixed(
+    builder: &mut Builder,
+    root: Offset<Ship>,
+) -> Result<&[u8], BuildError>
+    requires { IsIn builder.old root }
+    ensures bytes { IfOk result (λ bytes. SizedFinishGives (IsPrepared root) (Some FILE_IDENTIFIER)
+        builder.old bytes.now) }
+    ensures size { IfOk result (λ bytes. IsPrefixed bytes.now) }
+{
+    builder.finish_size_prefixed(root, Some(FILE_IDENTIFIER))
+}
+
+/// Returns whether a buffer has the file identifier; of one after its size, pass what follows it.
+pub fn has_identifier(bytes: &[u8]) -> bool
+    ensures { IsTrue result ↔ BytesStand bytes.now 4 FILE_IDENTIFIER }
+{
+    planus::has_identifier(bytes, FILE_IDENTIFIER)
+}

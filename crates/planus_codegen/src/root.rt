@@ -1,0 +1,34 @@
+//! The functions of a buffer's root.
+
+use crate::at::At;
+use crate::context::Context;
+use crate::printer::Printer;
+
+const READ: &str =
+    "/// Reads the root of a buffer.\npub fn read_as_root(^bytes: &[u8]^) -> planus::Result<$TRef<'_>>\n    ensures {~IsRoot~$T~(codes \"[$TRef]\")~(λ view. view.table)~bytes.now~result }\n{\n    read_root(bytes)\n}\n";
+
+const READ_SIZED: &str =
+    "\n/// Reads the root of the first of these size-prefixed buffers; also returns what follows the buffer.\npub fn read_size_prefixed_as_root(^bytes: &[u8]^) -> Result<($TRef<'_>, &[u8]), ErrorKind>\n    ensures { IsSizedRoot (λ view. view.table) bytes.now result }\n{\n    read_sized_root(bytes)\n}\n";
+
+const FINISH: &str =
+    "\n/// Finishes a buffer with this root and the file identifier, as [`Builder::finish`].\npub fn finish_root(^builder: &mut Builder,^root: Offset<$T>^) -> Result<&[u8], BuildError>\n    requires { IsIn builder.old root }\n    ensures {~IfOk~result~(λ bytes.~FinishGives~(IsPrepared root)~(Some FILE_IDENTIFIER)~builder.old~bytes.now) }\n{\n    builder.finish(root, Some(FILE_IDENTIFIER))\n}\n";
+
+const FINISH_SIZED: &str =
+    "\n/// The same after the size of what follows, as [`Builder::finish_size_prefixed`].\npub fn finish_root_size_prefixed(^builder: &mut Builder,^root: Offset<$T>^) -> Result<&[u8], BuildError>\n    requires { IsIn builder.old root }\n    ensures bytes {~IfOk~result~(λ bytes.~SizedFinishGives~(IsPrepared root)~(Some FILE_IDENTIFIER)~builder.old~bytes.now) }\n    ensures size { IfOk result (λ bytes. IsPrefixed bytes.now) }\n{\n    builder.finish_size_prefixed(root, Some(FILE_IDENTIFIER))\n}\n";
+
+const CHECK: &str =
+    "\n/// Returns whether a buffer has the file identifier; of one after its size, pass what follows it.\npub fn has_identifier(bytes: &[u8]) -> bool\n    ensures { IsTrue result ↔ BytesStand bytes.now 4 FILE_IDENTIFIER }\n{\n    planus::has_identifier(bytes, FILE_IDENTIFIER)\n}\n";
+
+/// Prints the functions that read and finish a buffer whose root is a table, with the schema's file
+/// identifier if it has one.
+pub(crate) fn print_root<'a>(context: &'a Context<'a>, at: At) -> Printer<'a> {
+    let mut printer = Printer::new(context);
+    printer.put(READ, at);
+    printer.put(READ_SIZED, at);
+    if context.identifier.is_some() {
+        printer.put(FINISH, at);
+        printer.put(FINISH_SIZED, at);
+        printer.put(CHECK, at);
+    }
+    printer
+}

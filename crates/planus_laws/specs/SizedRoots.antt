@@ -1,0 +1,23 @@
+-- The roots of size-prefixed buffers.
+use Rattle.std.specs.Prelude.{◌≡◌, ◌⊎◌, List, ℕ, Result, Ok, Err}
+use Rattle.std.specs.Borrow.{Bor}
+use Rattle.planus.specs.read.declared.errors.ErrorKind.{ErrorKind}
+use Rattle.planus.specs.read.declared.table_reader.Table.{Table}
+use Rattle.planus.specs.read.Clauses.{FirstBroken}
+use Rattle.planus.specs.read.SizePrefixed.{Prefixed, PrefixedThere, prefixed_clauses}
+use Rattle.planus.specs.Views.{reads_as}
+
+module _ {V : Type 0} (table_of : V → Table) (B : List ℕ) where
+  -- the result for the root of the buffer after a size, whose first byte is at 4
+  abbrev pub ReadsContent : Prefixed → Result V ErrorKind → Type 0
+  ReadsContent prefixed = reads_as table_of prefixed.content 4 0
+
+  -- the root of the first buffer and what follows the buffer, or the error of the size or the root
+  abbrev pub IsSizedRoot : Result (V × Bor (List ℕ)) ErrorKind → Type 0
+  IsSizedRoot (Ok read) =
+      (prefixed : Prefixed) × PrefixedThere B prefixed.content prefixed.rest
+      × ReadsContent prefixed (Ok read.0) × (read.1.now ≡ prefixed.rest)
+  IsSizedRoot (Err e) =
+      FirstBroken (prefixed_clauses B) e
+      ⊎ ((prefixed : Prefixed) × PrefixedThere B prefixed.content prefixed.rest
+      × ReadsContent prefixed (Err e))
