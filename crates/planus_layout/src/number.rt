@@ -11,7 +11,7 @@ ghost use Rattle.planus_layout.specs.Numbers.{value_in, is_integer, integer_of};
 ghost use Rattle.planus_layout.specs.Numbers.{following as following_lem};
 
 /// An integer: its sign, and its distance from zero. Zero is not negative.
-#[derive(Clone, Copy, Debug, PartialEq, Eq)]
+#[derive(Clone, Copy, PartialEq, Eq)]
 pub struct Number {
     pub negative: bool,
     pub magnitude: u64,

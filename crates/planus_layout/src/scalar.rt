@@ -10,7 +10,7 @@ ghost use Rattle.planus_layout.specs.Numbers.{fits as fits_lem, is_bool as is_bo
 use crate::number::Number;
 
 /// A scalar type.
-#[derive(Clone, Copy, Debug, PartialEq, Eq)]
+#[derive(Clone, Copy, PartialEq, Eq)]
 pub enum Scalar {
     Bool,
     Byte,

@@ -4,7 +4,7 @@ use crate::number::Number;
 use crate::scalar::Scalar;
 
 /// What a value or an item of a vector is. An index is that of a declaration.
-#[derive(Clone, Copy, Debug, PartialEq, Eq)]
+#[derive(Clone, Copy, PartialEq, Eq)]
 pub enum Base {
     Scalar(Scalar),
     /// `string`.
@@ -16,14 +16,14 @@ pub enum Base {
 }
 
 /// The type of a field: a value, or a vector of them.
-#[derive(Clone, Copy, Debug, PartialEq, Eq)]
+#[derive(Clone, Copy, PartialEq, Eq)]
 pub struct FieldType {
     pub vector: bool,
     pub base: Base,
 }
 
 /// The default of a field.
-#[derive(Debug, Drop)]
+#[derive(Drop)]
 pub enum Value {
     /// `null`: the field may be absent.
     Absent,
@@ -39,7 +39,7 @@ pub enum Value {
 
 /// A field of a table. `slot` is that of its value; the type of a union has the slot before it.
 /// `nested` is the index of the table that a `nested_flatbuffer` has as its root.
-#[derive(Debug, Drop)]
+#[derive(Drop)]
 pub struct TableField {
     pub name: Vec<u8>,
     pub docs: Vec<Vec<u8>>,
@@ -53,13 +53,13 @@ pub struct TableField {
 }
 
 /// A table, with its fields as they are declared.
-#[derive(Debug, Drop)]
+#[derive(Drop)]
 pub struct Table {
     pub fields: Vec<TableField>,
 }
 
 /// A field of a struct: `size` bytes, `distance` bytes after where the struct begins.
-#[derive(Debug, Drop)]
+#[derive(Drop)]
 pub struct StructField {
     pub name: Vec<u8>,
     pub docs: Vec<Vec<u8>>,
@@ -70,7 +70,7 @@ pub struct StructField {
 }
 
 /// A struct, with its size and its alignment in bytes.
-#[derive(Debug, Drop)]
+#[derive(Drop)]
 pub struct Struct {
     pub fields: Vec<StructField>,
     pub size: usize,
@@ -78,7 +78,7 @@ pub struct Struct {
 }
 
 /// A value of an enum.
-#[derive(Debug, Drop)]
+#[derive(Drop)]
 pub struct EnumValue {
     pub name: Vec<u8>,
     pub docs: Vec<Vec<u8>>,
@@ -86,7 +86,7 @@ pub struct EnumValue {
 }
 
 /// An enum. With `flags` each value is a power of two.
-#[derive(Debug, Drop)]
+#[derive(Drop)]
 pub struct Enum {
     pub scalar: Scalar,
     pub flags: bool,
@@ -94,7 +94,7 @@ pub struct Enum {
 }
 
 /// A member of a union: the index of its table, and its tag, from 1 on.
-#[derive(Debug, Drop)]
+#[derive(Drop)]
 pub struct UnionMember {
     pub name: Vec<u8>,
     pub docs: Vec<Vec<u8>>,
@@ -103,13 +103,13 @@ pub struct UnionMember {
 }
 
 /// A union.
-#[derive(Debug, Drop)]
+#[derive(Drop)]
 pub struct Union {
     pub members: Vec<UnionMember>,
 }
 
 /// What a declaration says.
-#[derive(Debug, Drop)]
+#[derive(Drop)]
 pub enum Body {
     Table(Table),
     Struct(Struct),
@@ -119,7 +119,7 @@ pub enum Body {
 
 /// A declaration of a table, a struct, an enum or a union. `name` is its full name with dots, and
 /// `file` the index of its file.
-#[derive(Debug, Drop)]
+#[derive(Drop)]
 pub struct Declared {
     pub name: Vec<u8>,
     pub docs: Vec<Vec<u8>>,
@@ -128,7 +128,7 @@ pub struct Declared {
 }
 
 /// What the last statement of each kind says. `root` is the index of a table.
-#[derive(Debug, Drop)]
+#[derive(Drop)]
 pub struct Statements {
     pub root: Option<usize>,
     pub identifier: Option<Vec<u8>>,
@@ -136,7 +136,7 @@ pub struct Statements {
 }
 
 /// What the files of a schema mean. An index is a place in `declarations`.
-#[derive(Debug, Drop)]
+#[derive(Drop)]
 pub struct Schema {
     pub declarations: Vec<Declared>,
     pub statements: Statements,
