@@ -27,29 +27,5 @@ after : (p : ℕ → Bool) (xs : List ℕ) → begins p (drop (end p xs) xs) ≡
 after p [] = refl
 after p (x ∷ xs) = after_at p x xs (p x) refl (after p xs)
 
-all_at : (p : ℕ → Bool) (x : ℕ) (xs : List ℕ) (b : Bool) → p x ≡ b → (length xs ≤ end p xs → list_all p xs ≡ true) → suc (length xs) ≤ cond (not (not b)) (1 + end p xs) 0 → list_all p (x ∷ xs) ≡ true
-all_at p x xs true e h le = rw e (h (omega arith))
-all_at p x xs false e h le = absurd (omega arith)
-
-all_when : (p : ℕ → Bool) (xs : List ℕ) → length xs ≤ end p xs → list_all p xs ≡ true
-all_when p [] le = refl
-all_when p (x ∷ xs) le = all_at p x xs (p x) refl (all_when p xs) le
-
-abbrev SplitsAt : (ℕ → Bool) → List ℕ → Option ℕ → Type 0
-SplitsAt p xs r = MatchOption r (Splits p xs xs []) (λ i. (i < length xs) × Splits p xs (take i xs) (drop i xs))
-
-by_test : (p : ℕ → Bool) (xs : List ℕ) (b : Bool) → nat_lt (end p xs) (length xs) ≡ b → SplitsAt p xs (cond b (Some (end p xs)) None)
-by_test p xs true h = (grind (arith, nat_tests, h), record { whole = sym (take-append-drop (end p xs) xs); each = before p xs; stops = after p xs })
-by_test p xs false h = record { whole = sym (append-nil xs); each = all_when p xs (grind (arith, nat_tests, h)); stops = refl }
-
-pub splits_at : (p : ℕ → Bool) (xs : List ℕ) (r : Option ℕ) → r ≡ position (λ b. not (p b)) xs → SplitsAt p xs r
-splits_at p xs r h = subst (λ o. SplitsAt p xs o) (sym h) (by_test p xs (nat_lt (end p xs) (length xs)) refl)
-
-pub splits_none : (p : ℕ → Bool) (xs : List ℕ) → None ≡ position (λ b. not (p b)) xs → Splits p xs xs []
-splits_none p xs h = splits_at p xs None h
-
-pub splits_some : (p : ℕ → Bool) (xs : List ℕ) (i : ℕ) → Some i ≡ position (λ b. not (p b)) xs → (i < length xs) × Splits p xs (take i xs) (drop i xs)
-splits_some p xs i h = splits_at p xs (Some i) h
-
 pub splits : (p : ℕ → Bool) (xs : List ℕ) → Splits p xs (take (end p xs) xs) (drop (end p xs) xs)
 splits p xs = record { whole = sym (take-append-drop (end p xs) xs); each = before p xs; stops = after p xs }

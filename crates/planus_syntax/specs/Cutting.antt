@@ -8,7 +8,10 @@ use Rattle.planus_syntax.specs.declared.lexer.LexFault.TheVariants.{OpenString}
 use Rattle.planus_syntax.specs.declared.lexer.Stop.{Stop}
 use Rattle.planus_syntax.specs.declared.token.Lexeme.{Lexeme}
 use Rattle.planus_syntax.specs.declared.token.Lexeme.TheVariants as token
+use Rattle.planus_syntax.specs.declared.run.Run.{Run}
+use Rattle.planus_syntax.specs.declared.run.Run.TheVariants as run
 use Rattle.planus_syntax.specs.Tokens.{Piece, word, number, text, doc, mark, begins, bytes_of}
+use Rattle.planus_syntax.specs.Tokens.{is_word_byte, is_number_byte, is_string_byte, is_line_byte}
 use Rattle.planus_syntax.specs.Lexing.{Read, with_front, lex_of, string_fault}
 
 abbrev pub cut_piece : Lexeme → Piece
@@ -17,6 +20,13 @@ cut_piece (token.Number w) = number w.now
 cut_piece (token.Text w) = text w.now
 cut_piece (token.Doc w) = doc w.now
 cut_piece (token.Mark b) = mark b
+
+-- the bytes of a run
+abbrev pub in_run : Run → ℕ → Bool
+in_run run.Word = is_word_byte
+in_run run.Number = is_number_byte
+in_run run.Text = is_string_byte
+in_run run.Line = is_line_byte
 
 -- a front all of whose bytes pass, and a rest that does not go on so
 pub record Splits (p : ℕ → Bool) (bytes front rest : List ℕ) : Type 0 where
@@ -37,14 +47,10 @@ abbrev pub pieces_in : Option Lexeme → List Piece
 pieces_in None = []
 pieces_in (Some t) = cut_piece t ∷ []
 
--- what is read is this token and what is read of the rest
-abbrev pub Cuts : List ℕ → Result (Lexeme × Bor (List ℕ)) Stop → Type 0
-Cuts bytes (Ok x) = lex_of bytes ≡ with_front (cut_piece x.0 ∷ []) (lex_of x.1.now)
+-- what is read is this token, if there is one, and what is read of the rest
+abbrev pub Cuts : List ℕ → Result (Option Lexeme × Bor (List ℕ)) Stop → Type 0
+Cuts bytes (Ok x) = lex_of bytes ≡ with_front (pieces_in x.0) (lex_of x.1.now)
 Cuts bytes (Err stop) = lex_of bytes ≡ Err (stop.fault, stop.left)
-
-abbrev pub CutsSome : List ℕ → Result (Option Lexeme × Bor (List ℕ)) Stop → Type 0
-CutsSome bytes (Ok x) = lex_of bytes ≡ with_front (pieces_in x.0) (lex_of x.1.now)
-CutsSome bytes (Err stop) = lex_of bytes ≡ Err (stop.fault, stop.left)
 
 -- why a string ends before these bytes
 abbrev pub string_stop : List ℕ → LexFault

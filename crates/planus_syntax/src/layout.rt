@@ -61,13 +61,13 @@ fn place_after(place: Place, token: &Token) -> Place
 fn is_tight_mark(b: u8) -> bool
     ensures { result ≡ is_tight_lem b }
 {
-    b":;,)]".iter().any(|mark| *mark == b)
+    b":;,)]".contains(&b)
 }
 
 fn is_open(b: u8) -> bool
     ensures { result ≡ is_open_lem b }
 {
-    b"([.".iter().any(|mark| *mark == b)
+    b"([.".contains(&b)
 }
 
 fn is_tight(token: &Token) -> bool

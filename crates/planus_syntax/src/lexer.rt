@@ -10,17 +10,16 @@ ghost use Rattle.planus_syntax.specs.Tokens.{is_mark as is_mark_lem};
 ghost use Rattle.planus_syntax.specs.Tokens.{is_number_start as is_number_start_lem};
 ghost use Rattle.planus_syntax.specs.Tokens.{is_number_byte as is_number_byte_lem};
 ghost use Rattle.planus_syntax.specs.Tokens.{is_blank as is_blank_lem};
-ghost use Rattle.planus_syntax.specs.Tokens.{is_string_byte as is_string_byte_lem};
-ghost use Rattle.planus_syntax.specs.Tokens.{is_line_byte as is_line_byte_lem};
 ghost use Rattle.planus_syntax.specs.Lexing.{Answers, block, lex_from, lex_of, slashes, with_front};
-ghost use Rattle.planus_syntax.specs.Cutting.{cut_piece, pieces_in, Cuts, CutsSome, Skips, Splits};
-ghost use Rattle.planus_syntax.specs.Cutting.{Ends, Starts};
+ghost use Rattle.planus_syntax.specs.Cutting.{cut_piece, pieces_in, Cuts, Skips, Splits};
+ghost use Rattle.planus_syntax.specs.Cutting.{Ends, Starts, in_run};
 ghost use Rattle.planus_syntax.specs.Placing.{StandsAt};
 ghost use Rattle.planus_syntax.specs.Tokens.{Piece, bytes_of};
 ghost use Rattle.planus_syntax.specs.Cutting.{string_stop};
 ghost use Rattle.planus_syntax.specs.Spelled.{closes};
 
 use crate::number::is_number;
+use crate::run::Run;
 use crate::token::{Lexeme, Token};
 use std::alloc::{AllocError, AllocFailed, Global};
 
@@ -97,83 +96,32 @@ fn is_blank(b: u8) -> bool
 fn is_mark(b: u8) -> bool
     ensures { result ≡ is_mark_lem b }
 {
-    b"{}()[]:;,=.".iter().any(|mark| *mark == b)
+    b"{}()[]:;,=.".contains(&b)
 }
 
-fn is_string_byte(b: u8) -> bool
-    ensures { result ≡ is_string_byte_lem b }
+fn goes_on(run: Run, b: u8) -> bool
+    ensures { result ≡ in_run run b }
 {
-    !(b == b'"' || b == b'\\' || b == b'\n')
-}
-
-fn is_line_byte(b: u8) -> bool
-    ensures { result ≡ is_line_byte_lem b }
-{
-    b != b'\n'
-}
-
-fn word_end(bytes: &[u8]) -> Option<usize>
-    ensures { result ≡ position (λ b. not (is_word_byte_lem b)) bytes.now }
-{
-    bytes.iter().position(|b| !is_word_byte(*b))
-}
-
-/// Cuts after the letters and digits at the front.
-fn split_word(bytes: &[u8]) -> (&[u8], &[u8])
-    ensures { Splits is_word_byte_lem bytes.now result.0.now result.1.now }
-{
-    match word_end(bytes) {
-        Some(n) => bytes.split_at(n),
-        None => (bytes, &[]),
+    match run {
+        Run::Word => is_word_byte(b),
+        Run::Number => is_number_byte(b),
+        Run::Text => !(b == b'"' || b == b'\\' || b == b'\n'),
+        Run::Line => b != b'\n',
     }
 }
 
-fn number_end(bytes: &[u8]) -> Option<usize>
-    ensures { result ≡ position (λ b. not (is_number_byte_lem b)) bytes.now }
+/// Cuts after the bytes of a run at the front.
+fn split(run: Run, bytes: &[u8]) -> (&[u8], &[u8])
+    ensures { Splits (in_run run) bytes.now result.0.now result.1.now }
 {
-    bytes.iter().position(|b| !is_number_byte(*b))
-}
-
-/// Cuts after the bytes of a number at the front.
-fn split_number(bytes: &[u8]) -> (&[u8], &[u8])
-    ensures { Splits is_number_byte_lem bytes.now result.0.now result.1.now }
-{
-    match number_end(bytes) {
-        Some(n) => bytes.split_at(n),
-        None => (bytes, &[]),
+    let mut length = 0;
+    'bytes: for b in bytes {
+        if !goes_on(run, *b) {
+            return bytes.split_at(length);
+        }
+        length += 1;
     }
-}
-
-fn string_end(bytes: &[u8]) -> Option<usize>
-    ensures { result ≡ position (λ b. not (is_string_byte_lem b)) bytes.now }
-{
-    bytes.iter().position(|b| !is_string_byte(*b))
-}
-
-/// Cuts after what stands before the end of a string.
-fn split_string(bytes: &[u8]) -> (&[u8], &[u8])
-    ensures { Splits is_string_byte_lem bytes.now result.0.now result.1.now }
-{
-    match string_end(bytes) {
-        Some(n) => bytes.split_at(n),
-        None => (bytes, &[]),
-    }
-}
-
-fn line_end(bytes: &[u8]) -> Option<usize>
-    ensures { result ≡ position (λ b. not (is_line_byte_lem b)) bytes.now }
-{
-    bytes.iter().position(|b| !is_line_byte(*b))
-}
-
-/// Cuts after what stands before the end of a line.
-fn split_line(bytes: &[u8]) -> (&[u8], &[u8])
-    ensures { Splits is_line_byte_lem bytes.now result.0.now result.1.now }
-{
-    match line_end(bytes) {
-        Some(n) => bytes.split_at(n),
-        None => (bytes, &[]),
-    }
+    (bytes, &[])
 }
 
 /// Returns what follows this byte, if it stands at the front.
@@ -195,28 +143,28 @@ struct Stop {
 }
 
 /// Reads a word.
-fn word_at(bytes: &[u8]) -> (Lexeme, &[u8])
+fn word_at(bytes: &[u8]) -> (Option<Lexeme>, &[u8])
     requires start { begins is_word_byte_lem bytes.now ≡ true }
     requires letter { begins is_number_start_lem bytes.now ≡ false }
-    ensures cuts { lex_of bytes.now ≡ with_front (cut_piece result.0 ∷ []) (lex_of result.1.now) }
-    ensures starts { bytes.now ≡ bytes_of (cut_piece result.0) ++ result.1.now }
+    ensures cuts { lex_of bytes.now ≡ with_front (pieces_in result.0) (lex_of result.1.now) }
+    ensures starts { Starts bytes.now result.0 result.1.now }
     ensures shorter { length result.1.now < length bytes.now }
 {
-    let (word, rest) = split_word(bytes);
-    (Lexeme::Word(word), rest)
+    let (word, rest) = split(Run::Word, bytes);
+    (Some(Lexeme::Word(word)), rest)
 }
 
 /// Reads a number.
-fn number_at(bytes: &[u8]) -> Result<(Lexeme, &[u8]), Stop>
+fn number_at(bytes: &[u8]) -> Result<(Option<Lexeme>, &[u8]), Stop>
     requires { begins is_number_start_lem bytes.now ≡ true }
     ensures cuts { Cuts bytes.now result }
-    ensures starts { IfOk result (λ x. bytes.now ≡ bytes_of (cut_piece x.0) ++ x.1.now) }
+    ensures starts { IfOk result (λ x. Starts bytes.now x.0 x.1.now) }
     ensures shorter { IfOk result (λ x. length x.1.now < length bytes.now) }
     ensures within { IfErr result (λ stop. stop.left ≤ length bytes.now) }
 {
-    let (number, rest) = split_number(bytes);
+    let (number, rest) = split(Run::Number, bytes);
     if is_number(number) {
-        Ok((Lexeme::Number(number), rest))
+        Ok((Some(Lexeme::Number(number)), rest))
     } else {
         Err(Stop {
             fault: LexFault::BadNumber,
@@ -235,15 +183,15 @@ fn string_fault(bytes: &[u8]) -> LexFault
 }
 
 /// Reads a string, from after its first quote.
-fn string_at(bytes: &[u8]) -> Result<(Lexeme, &[u8]), Stop>
+fn string_at(bytes: &[u8]) -> Result<(Option<Lexeme>, &[u8]), Stop>
     ensures cuts { Cuts (34 ∷ bytes.now) result }
-    ensures starts { IfOk result (λ x. 34 ∷ bytes.now ≡ bytes_of (cut_piece x.0) ++ x.1.now) }
+    ensures starts { IfOk result (λ x. Starts (34 ∷ bytes.now) x.0 x.1.now) }
     ensures shorter { IfOk result (λ x. length x.1.now < length bytes.now) }
     ensures within { IfErr result (λ stop. stop.left ≤ length bytes.now) }
 {
-    let (text, rest) = split_string(bytes);
+    let (text, rest) = split(Run::Text, bytes);
     match after(rest, b'"') {
-        Some(rest) => Ok((Lexeme::Text(text), rest)),
+        Some(rest) => Ok((Some(Lexeme::Text(text)), rest)),
         None => Err(Stop {
             fault: string_fault(rest),
             left: rest.len(),
@@ -291,11 +239,11 @@ fn line_at(bytes: &[u8]) -> (Option<Lexeme>, &[u8])
 {
     match after(bytes, b'/') {
         Some(rest) => {
-            let (line, rest) = split_line(rest);
+            let (line, rest) = split(Run::Line, rest);
             (Some(Lexeme::Doc(line)), rest)
         }
         None => {
-            let (_, rest) = split_line(bytes);
+            let (_, rest) = split(Run::Line, bytes);
             (None, rest)
         }
     }
@@ -303,7 +251,7 @@ fn line_at(bytes: &[u8]) -> (Option<Lexeme>, &[u8])
 
 /// Reads a comment or documentation, from after its first slash.
 fn comment_at(bytes: &[u8]) -> Result<(Option<Lexeme>, &[u8]), Stop>
-    ensures cuts { CutsSome (47 ∷ bytes.now) result }
+    ensures cuts { Cuts (47 ∷ bytes.now) result }
     ensures starts { IfOk result (λ x. Starts (47 ∷ bytes.now) x.0 x.1.now) }
     ensures shorter { IfOk result (λ x. length x.1.now < length bytes.now) }
     ensures within { IfErr result (λ stop. stop.left ≤ length bytes.now) }
@@ -323,7 +271,7 @@ fn comment_at(bytes: &[u8]) -> Result<(Option<Lexeme>, &[u8]), Stop>
 /// Reads the token at the front, if one begins there.
 fn token_at(bytes: &[u8]) -> Result<(Option<Lexeme>, &[u8]), Stop>
     requires { 0 < length bytes.now }
-    ensures cuts { CutsSome bytes.now result }
+    ensures cuts { Cuts bytes.now result }
     ensures starts { IfOk result (λ x. Starts bytes.now x.0 x.1.now) }
     ensures shorter { IfOk result (λ x. length x.1.now < length bytes.now) }
     ensures within { IfErr result (λ stop. stop.left ≤ length bytes.now) }
@@ -333,18 +281,15 @@ fn token_at(bytes: &[u8]) -> Result<(Option<Lexeme>, &[u8]), Stop>
     };
     let first = *first;
     if is_number_start(first) {
-        let (token, rest) = number_at(bytes)?;
-        Ok((Some(token), rest))
+        number_at(bytes)
     } else if is_word_byte(first) {
-        let (token, rest) = word_at(bytes);
-        Ok((Some(token), rest))
+        Ok(word_at(bytes))
     } else if is_blank(first) {
         Ok((None, rest))
     } else if is_mark(first) {
         Ok((Some(Lexeme::Mark(first)), rest))
     } else if first == b'"' {
-        let (token, rest) = string_at(rest)?;
-        Ok((Some(token), rest))
+        string_at(rest)
     } else if first == b'/' {
         comment_at(rest)
     } else {

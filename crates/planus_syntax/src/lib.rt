@@ -11,6 +11,7 @@ mod layout;
 mod lexer;
 mod number;
 mod parse;
+mod run;
 mod text;
 mod token;
 mod value;

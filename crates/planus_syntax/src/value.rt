@@ -4,7 +4,7 @@
 //! word counted. [`place_from_end`](crate::place_from_end) returns its byte.
 
 /// A name of one or more words, with dots between them.
-#[derive(Debug, Drop)]
+#[derive(Drop)]
 pub struct Path {
     pub left: usize,
     pub first: Vec<u8>,
@@ -12,7 +12,7 @@ pub struct Path {
 }
 
 /// The type of a field.
-#[derive(Debug, Drop)]
+#[derive(Drop)]
 pub enum Kind {
     /// A type by its name.
     Single(Path),
@@ -21,7 +21,7 @@ pub enum Kind {
 }
 
 /// A default, or the value of an attribute.
-#[derive(Debug, Drop)]
+#[derive(Drop)]
 pub enum Literal {
     /// A number, as it is written.
     Number(Vec<u8>),
@@ -34,7 +34,7 @@ pub enum Literal {
 }
 
 /// The name of an attribute: a word, or a string.
-#[derive(Debug, Drop)]
+#[derive(Drop)]
 pub struct Label {
     pub left: usize,
     pub quoted: bool,
@@ -42,14 +42,14 @@ pub struct Label {
 }
 
 /// An attribute in parentheses, as `id: 3` and `required`.
-#[derive(Debug, Drop)]
+#[derive(Drop)]
 pub struct Attribute {
     pub label: Label,
     pub value: Option<Literal>,
 }
 
 /// A field of a table or of a struct.
-#[derive(Debug, Drop)]
+#[derive(Drop)]
 pub struct Field {
     pub docs: Vec<Vec<u8>>,
     pub left: usize,
@@ -60,7 +60,7 @@ pub struct Field {
 }
 
 /// A table or a struct.
-#[derive(Debug, Drop)]
+#[derive(Drop)]
 pub struct Record {
     pub name: Vec<u8>,
     pub attributes: Vec<Attribute>,
@@ -68,7 +68,7 @@ pub struct Record {
 }
 
 /// A variant of an enum, with the digits of its value where it has one.
-#[derive(Debug, Drop)]
+#[derive(Drop)]
 pub struct Variant {
     pub docs: Vec<Vec<u8>>,
     pub left: usize,
@@ -77,7 +77,7 @@ pub struct Variant {
 }
 
 /// An enum. `comma` says that a comma follows the last variant.
-#[derive(Debug, Drop)]
+#[derive(Drop)]
 pub struct Enumeration {
     pub name: Vec<u8>,
     pub base: Path,
@@ -88,7 +88,7 @@ pub struct Enumeration {
 
 /// A member of a union: a table by its name, or an alias and the table, as `M: Monster`, with the
 /// digits of its value where it has one.
-#[derive(Debug, Drop)]
+#[derive(Drop)]
 pub struct Member {
     pub docs: Vec<Vec<u8>>,
     pub path: Path,
@@ -97,7 +97,7 @@ pub struct Member {
 }
 
 /// A union. `comma` says that a comma follows the last member.
-#[derive(Debug, Drop)]
+#[derive(Drop)]
 pub struct UnionBody {
     pub name: Vec<u8>,
     pub attributes: Vec<Attribute>,
@@ -106,7 +106,7 @@ pub struct UnionBody {
 }
 
 /// A method of a service.
-#[derive(Debug, Drop)]
+#[derive(Drop)]
 pub struct Method {
     pub docs: Vec<Vec<u8>>,
     pub name: Vec<u8>,
@@ -116,14 +116,14 @@ pub struct Method {
 }
 
 /// A service, `rpc_service`.
-#[derive(Debug, Drop)]
+#[derive(Drop)]
 pub struct Service {
     pub name: Vec<u8>,
     pub methods: Vec<Method>,
 }
 
 /// What is declared.
-#[derive(Debug, Drop)]
+#[derive(Drop)]
 pub enum Item {
     /// `include "FILE";`.
     Include(Vec<u8>),
@@ -151,7 +151,7 @@ pub enum Item {
 
 /// A declaration with its documentation: what follows `///` on each of its lines. `left` is where
 /// its first word stands, as `table`.
-#[derive(Debug, Drop)]
+#[derive(Drop)]
 pub struct Declaration {
     pub docs: Vec<Vec<u8>>,
     pub left: usize,

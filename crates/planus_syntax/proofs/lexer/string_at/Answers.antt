@@ -10,19 +10,19 @@ use Rattle.planus_syntax.proofs.lexer.string_at.Goals as goal
 pub returns-in-Some-clause-cuts : goal.returns-in-Some-clause-cuts
 returns-in-Some-clause-cuts c =
     no_front (lex_from (quoted []) c.args.bytes.now)
-    ∙ a_string c.args.bytes.now c.split_string.result.0.now c.in-Some.rest.now
-    (subst (λ r. Splits is_string_byte c.args.bytes.now c.split_string.result.0.now r)
-    c.in-Some.ensures c.split_string.ensures)
+    ∙ a_string c.args.bytes.now c.split.result.0.now c.in-Some.rest.now
+    (subst (λ r. Splits is_string_byte c.args.bytes.now c.split.result.0.now r)
+    c.in-Some.ensures c.split.ensures)
 
 pub returns-in-None-clause-cuts : goal.returns-in-None-clause-cuts
 returns-in-None-clause-cuts c =
-    let failed : LexFault → Read = λ f. Err (f, length c.split_string.result.1.now) in
+    let failed : LexFault → Read = λ f. Err (f, length c.split.result.1.now) in
     no_front (lex_from (quoted []) c.args.bytes.now)
-    ∙ no_string c.args.bytes.now c.split_string.result.0.now c.split_string.result.1.now
-    c.split_string.ensures c.in-None.ensures
+    ∙ no_string c.args.bytes.now c.split.result.0.now c.split.result.1.now
+    c.split.ensures c.in-None.ensures
     ∙ ap failed (sym c.string_fault.ensures)
 
 pub returns-in-Some-clause-starts : goal.returns-in-Some-clause-starts
 returns-in-Some-clause-starts c =
-    string_whole c.args.bytes.now c.split_string.result.0.now c.split_string.result.1.now
-    c.in-Some.rest.now c.split_string.ensures.whole c.in-Some.ensures
+    string_whole c.args.bytes.now c.split.result.0.now c.split.result.1.now
+    c.in-Some.rest.now c.split.ensures.whole c.in-Some.ensures
