@@ -1,5 +1,5 @@
 -- Lists of distinct items.
-use Rattle.std.proofs.Common.{◌≡◌, Bool, true, false, List, [], ◌∷◌, ◌++◌, map, refl, ap}
+use Rattle.std.proofs.Common.{◌≡◌, Bool, true, false, List, [], ◌∷◌, ◌++◌, map, length, drop, get_or, ℕ, ◌+◌, ◌<◌, suc, add-one, drop-cons, refl, sym, ap, ◌∙◌}
 use Rattle.std.specs.Prelude.{◌||◌}
 use Rattle.std.specs.List.{list_any, IsDistinct, AllByRecursion}
 
@@ -29,3 +29,7 @@ list_any-map p f (x ∷ xs) = ap (λ b. p (f x) || b) (list_any-map p f xs)
 pub distinct_none : {A : Type 0} (eq : A → A → Bool) → IsDistinct eq []
 unfolding IsDistinct
 distinct_none eq = tt
+
+-- the item at the front of those that are left
+pub drop_next : {A : Type 0} (xs : List A) (i : ℕ) (x : A) → i < length xs → x ≡ get_or xs i x → drop i xs ≡ x ∷ drop (i + 1) xs
+drop_next xs i x h e = rw add-one (drop-cons xs i x h ∙ ap (λ y. y ∷ drop (suc i) xs) (sym e))

@@ -1,9 +1,9 @@
 -- Names that are added.
-use Rattle.std.proofs.Common.{◌≡◌, ℕ, false, List, [], ◌∷◌, ◌++◌, ap, ◌∙◌}
+use Rattle.std.proofs.Common.{◌≡◌, ℕ, ◌+◌, ◌<◌, false, List, [], ◌∷◌, ◌++◌, length, take, get_or, sym, ap, ◌∙◌}
 use Rattle.std.specs.Global.{Vec}
 use Rattle.std.specs.List.{list_any}
 use Rattle.std.specs.Str.{bytes_eq}
-use Rattle.std.proofs.lemmas.List.{map_push}
+use Rattle.std.proofs.lemmas.List.{map_push, take_more}
 use Rattle.planus_layout.specs.Distinct.{AreDistinct, IsAdded, items_of, is_in}
 use Rattle.planus_layout.proofs.Lists.{distinct_push, distinct_none, list_any-map}
 
@@ -21,3 +21,10 @@ name_added old new copy name e i h =
 
 pub no_names : (xs : List (Vec ℕ)) → xs ≡ [] → AreDistinct (items_of xs)
 no_names xs e = rw e (distinct_none bytes_eq)
+
+-- one more word is copied
+pub copied_more : (out words : List (Vec ℕ)) (i : ℕ) (word copy : Vec ℕ) → i < length words → word ≡ get_or words i word → copy.items ≡ word.items → items_of out ≡ items_of (take i words) → items_of (out ++ copy ∷ []) ≡ items_of (take (i + 1) words)
+copied_more out words i word copy l w e h =
+    let same : copy.items ≡ (get_or words i word).items = e ∙ ap (λ (v : Vec ℕ). v.items) w in
+    map_push _ out copy ∙ ap (λ ns. ns ++ copy.items ∷ []) h ∙ ap (λ n. items_of (take i words) ++ n ∷ []) same
+    ∙ sym (map_push _ (take i words) (get_or words i word)) ∙ ap items_of (sym (take_more words i word l))

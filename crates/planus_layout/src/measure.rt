@@ -36,20 +36,11 @@ fn declared_at(bodies: &[Declared], index: usize) -> Option<&Declared>
     bodies.get(index)
 }
 
-fn body_at(bodies: &[Declared], index: usize) -> Option<&Body>
-    ensures { option_map (λ b. b.now) result ≡ slice_get (map body_in bodies.now) index }
-{
-    match declared_at(bodies, index) {
-        Some(declared) => Some(&declared.body),
-        None => None,
-    }
-}
-
 fn measure_at(bodies: &[Declared], index: usize) -> Option<Measure>
     ensures { result ≡ measure_of_body_lem (slice_get (map body_in bodies.now) index) }
 {
-    match body_at(bodies, index) {
-        Some(body) => body_measure(body),
+    match declared_at(bodies, index) {
+        Some(declared) => body_measure(&declared.body),
         None => None,
     }
 }

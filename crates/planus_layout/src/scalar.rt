@@ -31,7 +31,6 @@ fn is_either(name: &[u8], short: &[u8], long: &[u8]) -> bool
     name == short || name == long
 }
 
-#[tactic(auto, unfolding(crate::specs::Numbers::scalar_named))]
 /// Returns the scalar type of this name; each has two but `bool`.
 pub fn scalar_named(name: &[u8]) -> Option<Scalar>
     ensures { result ≡ scalar_named_lem name.now }

@@ -1,9 +1,8 @@
 -- A text is cut where a run ends.
-use Rattle.std.proofs.Common.{◌≡◌, ℕ, suc, ◌<◌, ◌≤◌, ◌+◌, List, [], ◌∷◌, length, take, drop, Bool, true, false, cond, refl, sym, subst, arith, Option, Some, None}
-use Rattle.std.specs.Prelude.{MatchOption, nat_lt, not}
-use Rattle.std.specs.List.{list_all, position, position_or_len}
-use Rattle.std.proofs.lemmas.List.{append-nil, take-append-drop}
-use Rattle.std.proofs.lemmas.Bool.Decides.{nat_tests}
+use Rattle.std.proofs.Common.{◌≡◌, ℕ, suc, ◌+◌, List, [], ◌∷◌, take, drop, Bool, true, false, cond, refl, sym, arith}
+use Rattle.std.specs.Prelude.{not}
+use Rattle.std.specs.List.{list_all, position_or_len}
+use Rattle.std.proofs.lemmas.List.{take-append-drop}
 use Rattle.planus_syntax.specs.Tokens.{begins}
 use Rattle.planus_syntax.specs.Cutting.{Splits}
 
