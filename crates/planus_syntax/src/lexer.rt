@@ -24,7 +24,7 @@ use crate::token::{Lexeme, Token};
 use std::alloc::{AllocError, AllocFailed, Global};
 
 /// What is wrong with a text.
-#[derive(Clone, Copy, Debug, PartialEq, Eq)]
+#[derive(Clone, Copy)]
 pub enum LexFault {
     /// What begins with a digit or a sign is no number. It ends here.
     BadNumber,

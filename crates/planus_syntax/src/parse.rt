@@ -58,7 +58,7 @@ use crate::value::{
 use std::alloc::{AllocError, AllocFailed, Global};
 
 /// What should stand where other tokens do.
-#[derive(Clone, Copy, Debug, PartialEq, Eq)]
+#[derive(Clone, Copy, PartialEq, Eq)]
 pub enum ParseFault {
     /// This mark.
     Mark(u8),

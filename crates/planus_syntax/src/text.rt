@@ -18,7 +18,7 @@ use crate::value::Declaration;
 use std::alloc::{AllocError, Global};
 
 /// Why a text is no schema. `at` counts the bytes of the text before the place of the fault.
-#[derive(Clone, Copy, Debug, PartialEq, Eq)]
+#[derive(Clone, Copy)]
 pub enum SchemaError {
     /// Memory was refused.
     OutOfMemory,
