@@ -7,7 +7,7 @@ ghost use Rattle.planus_schema.specs.Faults.{Adds, fault_in, broken_in};
 use std::alloc::{AllocError, AllocFailed};
 
 /// What is wrong.
-#[derive(Clone, Copy, Debug, PartialEq, Eq)]
+#[derive(Clone, Copy, PartialEq, Eq)]
 pub enum Problem {
     /// No scalar type and no declaration has this name.
     UnknownType,
@@ -79,7 +79,7 @@ pub enum Problem {
 
 /// A fault: what is wrong, and where. `file` is the index of its file, and `left` how many tokens
 /// there are from the word at fault to the end of its text, the word counted.
-#[derive(Clone, Copy, Debug, PartialEq, Eq)]
+#[derive(Clone, Copy, PartialEq, Eq)]
 pub struct Fault {
     pub problem: Problem,
     pub file: usize,
@@ -87,7 +87,7 @@ pub struct Fault {
 }
 
 /// Why files have no meaning.
-#[derive(Debug, Drop)]
+#[derive(Drop)]
 pub enum Refusal {
     /// Memory was refused.
     OutOfMemory,

@@ -16,13 +16,12 @@ ghost use Rattle.planus_schema.specs.Tables.{is_bytes as is_bytes_lem};
 ghost use Rattle.planus_schema.specs.Tables.{names_taken, all_names, SaysField, SaysTable};
 ghost use Rattle.planus_schema.specs.Tables.{IsTable, AreNamed};
 ghost use Rattle.planus_layout.specs.Slots.{Follow, width as width_lem};
-ghost use Rattle.planus_layout.specs.Slots.{slots_taken as slots_taken_lem, AreSlots};
+ghost use Rattle.planus_layout.specs.Slots.{slots_taken as slots_taken_lem};
 ghost use Rattle.planus_schema.specs.Names.{has as has_lem, is_set, table_in, attribute_named};
-ghost use Rattle.planus_schema.specs.Tables.{table_found, has_ids as has_ids_lem};
+ghost use Rattle.planus_schema.specs.Tables.{table_found};
 ghost use Rattle.planus_schema.specs.Wrong.{Tells, when};
 ghost use Rattle.planus_schema.specs.WrongTables.{wrong_law, wrong_nested, wrong_field};
 ghost use Rattle.planus_schema.specs.WrongTables.{wrong_fields, wrong_table_body, are_among};
-ghost use Rattle.planus_schema.specs.WrongTables.{wrong_table_fields};
 ghost use Rattle.planus_schema.specs.WrongTables.{field_type, slots_from};
 ghost use Rattle.planus_schema.specs.WrongTables.{field_slot as field_slot_lem};
 
@@ -288,31 +287,6 @@ fn table_fields(
     Ok(fields)
 }
 
-/// Returns what the fields of a table say.
-fn whole_fields(
-    alloc: Global,
-    heads: &Heads,
-    space: Option<&Path>,
-    declared: &[Field],
-    left: usize,
-) -> Result<Vec<TableField>, Stop>
-    ensures says { IfOk result (λ v. Each2 (SaysField (map head_of heads.now)
-        (space_of space.entry) (has_ids_lem (map field_of declared.now)))
-        (map field_of declared.now) v.items) }
-    ensures order { IfOk result (λ v. has_ids_lem (map field_of declared.now) ≡ false
-        → (end : ℕ) × Follow 0 v.items end) }
-    ensures lawful { IfOk result (λ v. list_all is_lawful_lem v.items ≡ true) }
-    ensures names { IfOk result (λ v. AreDistinct (all_names v.items)) }
-    ensures slots { IfOk result (λ v. AreSlots (slots_taken_lem v.items)) }
-    ensures wrong { Tells (wrong_table_fields (map head_of heads.now) (space_of space.entry) left
-        declared.now) result }
-{
-    let ids = has_ids(declared);
-    let fields = table_fields(alloc, heads, space, declared, ids)?;
-    check_slots(alloc, &fields, left)?;
-    Ok(fields)
-}
-
 /// Returns what a table says.
 pub(crate) fn table_of(
     alloc: Global,
@@ -327,6 +301,8 @@ pub(crate) fn table_of(
     ensures wrong { Tells (wrong_table_body (map head_of heads.now) (space_of space.entry)
         declared.now left) result }
 {
-    let fields = whole_fields(alloc, heads, space, &declared.fields, left)?;
+    let ids = has_ids(&declared.fields);
+    let fields = table_fields(alloc, heads, space, &declared.fields, ids)?;
+    check_slots(alloc, &fields, left)?;
     Ok(Table { fields })
 }
