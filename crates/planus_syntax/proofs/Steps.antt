@@ -37,3 +37,6 @@ fails_other e b x y h k = subst (Fails e) (sym (other_way b x y h)) k
 
 pub gives_other : {B X : Type 0} (view : X → B) (result : Result X ReadError) (b : Bool) (x y : Result B Fault) → b ≡ false → Gives view result y → Gives view result (cond b x y)
 gives_other view result b x y h k = subst (Gives view result) (sym (other_way b x y h)) k
+
+pub gives_first : {B X : Type 0} (view : X → B) (result : Result X ReadError) (b : Bool) (x y : Result B Fault) → b ≡ true → Gives view result x → Gives view result (cond b x y)
+gives_first view result b x y h k = subst (Gives view result) (sym (first_way b x y h)) k

@@ -12,7 +12,10 @@ ghost use Rattle.planus_syntax.specs.Values.{variant_of, enumeration_of, member_
 ghost use Rattle.planus_syntax.specs.Values.{method_of, service_of, item_of, declaration_of};
 ghost use Rattle.planus_syntax.specs.Values.{schema_of};
 ghost use Rattle.planus_syntax.specs.Layout.{is_mark_of as is_mark_lem};
-ghost use Rattle.planus_syntax.specs.Reading.{Gives, list_at, optional_at, with_items};
+ghost use Rattle.planus_syntax.specs.Values.{enumeration as enumeration_item, union as union_item};
+ghost use Rattle.planus_syntax.specs.Values.{service as service_item, namespace as namespace_item};
+ghost use Rattle.planus_syntax.specs.Values.{attribute as attribute_item};
+ghost use Rattle.planus_syntax.specs.Reading.{Gives, list_at, optional_at, with_items, as_item};
 ghost use Rattle.planus_syntax.specs.Reading.{begins_mark as begins_mark_lem};
 ghost use Rattle.planus_syntax.specs.Reading.{begins_doc as begins_doc_lem};
 ghost use Rattle.planus_syntax.specs.Reading.{begins_next as begins_next_lem};
@@ -578,9 +581,9 @@ fn variants_at(alloc: Global, tokens: &[Token]) -> Result<(Vec<Variant>, &[Token
 }
 
 /// Reads an enum, from its name on.
-fn enumeration_at(alloc: Global, tokens: &[Token]) -> Result<(Enumeration, &[Token]), ReadError>
-    ensures { Gives (λ x. (enumeration_of x.0, pieces_of x.1.now)) result
-        (enumeration_at_lem (pieces_of tokens.now)) }
+fn enumeration_at(alloc: Global, tokens: &[Token]) -> Result<(Item, &[Token]), ReadError>
+    ensures { Gives (λ x. (item_of x.0, pieces_of x.1.now)) result
+        (as_item enumeration_item (enumeration_at_lem (pieces_of tokens.now))) }
 {
     let (name, rest) = word_at(alloc, tokens)?;
     let rest = mark_at(rest, b':')?;
@@ -591,13 +594,13 @@ fn enumeration_at(alloc: Global, tokens: &[Token]) -> Result<(Enumeration, &[Tok
     let (comma, rest) = comma_at(rest)?;
     let rest = mark_at(rest, b'}')?;
     Ok((
-        Enumeration {
+        Item::Enum(Enumeration {
             name,
             base,
             attributes,
             variants,
             comma,
-        },
+        }),
         rest,
     ))
 }
@@ -659,9 +662,9 @@ fn members_at(alloc: Global, tokens: &[Token]) -> Result<(Vec<Member>, &[Token])
 }
 
 /// Reads a union, from its name on.
-fn union_at(alloc: Global, tokens: &[Token]) -> Result<(UnionBody, &[Token]), ReadError>
-    ensures { Gives (λ x. (union_of x.0, pieces_of x.1.now)) result
-        (union_at_lem (pieces_of tokens.now)) }
+fn union_at(alloc: Global, tokens: &[Token]) -> Result<(Item, &[Token]), ReadError>
+    ensures { Gives (λ x. (item_of x.0, pieces_of x.1.now)) result
+        (as_item union_item (union_at_lem (pieces_of tokens.now))) }
 {
     let (name, rest) = word_at(alloc, tokens)?;
     let (attributes, rest) = attributes_at(alloc, rest)?;
@@ -670,12 +673,12 @@ fn union_at(alloc: Global, tokens: &[Token]) -> Result<(UnionBody, &[Token]), Re
     let (comma, rest) = comma_at(rest)?;
     let rest = mark_at(rest, b'}')?;
     Ok((
-        UnionBody {
+        Item::Union(UnionBody {
             name,
             attributes,
             members,
             comma,
-        },
+        }),
         rest,
     ))
 }
@@ -721,15 +724,15 @@ fn methods(alloc: Global, tokens: &[Token]) -> Result<(Vec<Method>, &[Token]), R
 }
 
 /// Reads a service, from its name on.
-fn service_at(alloc: Global, tokens: &[Token]) -> Result<(Service, &[Token]), ReadError>
-    ensures { Gives (λ x. (service_of x.0, pieces_of x.1.now)) result
-        (service_at_lem (pieces_of tokens.now)) }
+fn service_at(alloc: Global, tokens: &[Token]) -> Result<(Item, &[Token]), ReadError>
+    ensures { Gives (λ x. (item_of x.0, pieces_of x.1.now)) result
+        (as_item service_item (service_at_lem (pieces_of tokens.now))) }
 {
     let (name, rest) = word_at(alloc, tokens)?;
     let rest = mark_at(rest, b'{')?;
     let (methods, rest) = methods(alloc, rest)?;
     let rest = mark_at(rest, b'}')?;
-    Ok((Service { name, methods }, rest))
+    Ok((Item::Service(Service { name, methods }), rest))
 }
 
 /// Reads a string and a semicolon.
@@ -753,27 +756,27 @@ fn rooted_at(alloc: Global, tokens: &[Token]) -> Result<(Path, &[Token]), ReadEr
 }
 
 /// Reads the name of a namespace, or none, and a semicolon.
-fn namespace_at(alloc: Global, tokens: &[Token]) -> Result<(Option<Path>, &[Token]), ReadError>
-    ensures { Gives (λ x. (option_map path_of x.0, pieces_of x.1.now)) result
-        (namespace_at_lem (pieces_of tokens.now)) }
+fn namespace_at(alloc: Global, tokens: &[Token]) -> Result<(Item, &[Token]), ReadError>
+    ensures { Gives (λ x. (item_of x.0, pieces_of x.1.now)) result
+        (as_item namespace_item (namespace_at_lem (pieces_of tokens.now))) }
 {
     if begins_mark(tokens, b';') {
         let rest = mark_at(tokens, b';')?;
-        Ok((None, rest))
+        Ok((Item::Namespace(None), rest))
     } else {
         let (path, rest) = rooted_at(alloc, tokens)?;
-        Ok((Some(path), rest))
+        Ok((Item::Namespace(Some(path)), rest))
     }
 }
 
 /// Reads the name of an attribute and a semicolon.
-fn declared_at(alloc: Global, tokens: &[Token]) -> Result<(Label, &[Token]), ReadError>
-    ensures { Gives (λ x. (label_of x.0, pieces_of x.1.now)) result
-        (declared_at_lem (pieces_of tokens.now)) }
+fn declared_at(alloc: Global, tokens: &[Token]) -> Result<(Item, &[Token]), ReadError>
+    ensures { Gives (λ x. (item_of x.0, pieces_of x.1.now)) result
+        (as_item attribute_item (declared_at_lem (pieces_of tokens.now))) }
 {
     let (label, rest) = label_at(alloc, tokens)?;
     let rest = mark_at(rest, b';')?;
-    Ok((label, rest))
+    Ok((Item::Attribute(label), rest))
 }
 
 fn is_word(word: &[u8], sought: &[u8]) -> bool
@@ -796,11 +799,9 @@ fn statement_at<'a>(
         let (held, rest) = quoted_at(alloc, tokens)?;
         Ok((Item::Include(held), rest))
     } else if is_word(key, b"namespace") {
-        let (held, rest) = namespace_at(alloc, tokens)?;
-        Ok((Item::Namespace(held), rest))
+        namespace_at(alloc, tokens)
     } else if is_word(key, b"attribute") {
-        let (held, rest) = declared_at(alloc, tokens)?;
-        Ok((Item::Attribute(held), rest))
+        declared_at(alloc, tokens)
     } else if is_word(key, b"root_type") {
         let (held, rest) = rooted_at(alloc, tokens)?;
         Ok((Item::RootType(held), rest))
@@ -835,14 +836,11 @@ fn item_at<'a>(
         let (held, rest) = record_at(alloc, tokens)?;
         Ok((Item::Struct(held), rest))
     } else if is_word(key, b"enum") {
-        let (held, rest) = enumeration_at(alloc, tokens)?;
-        Ok((Item::Enum(held), rest))
+        enumeration_at(alloc, tokens)
     } else if is_word(key, b"union") {
-        let (held, rest) = union_at(alloc, tokens)?;
-        Ok((Item::Union(held), rest))
+        union_at(alloc, tokens)
     } else if is_word(key, b"rpc_service") {
-        let (held, rest) = service_at(alloc, tokens)?;
-        Ok((Item::Service(held), rest))
+        service_at(alloc, tokens)
     } else {
         statement_at(alloc, key, left, tokens)
     }

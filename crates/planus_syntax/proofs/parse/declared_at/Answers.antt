@@ -8,14 +8,14 @@ pub returns-in_err-label : goal.returns-in_err-label
 unfolding declared_at
 returns-in_err-label c =
     let p = err_from_is_err_and c.from_residual.result c.from_residual.ensures.1 in
-    rw (p.1, p.2) (fails_here _ _ _ c.in_err-label.ensures)
+    rw (p.1, p.2) (fails_here _ _ _ (fails_here _ _ _ c.in_err-label.ensures))
 
 pub returns-in_err-rest : goal.returns-in_err-rest
 unfolding declared_at
 returns-in_err-rest c =
     let p = err_from_is_err_and c.from_residual-in_err-rest.result c.from_residual-in_err-rest.ensures.1 in
-    rw (p.1, p.2) (fails_later _ _ _ _ c.in_ok-label.ensures (fails_here _ _ _ c.in_err-rest.ensures))
+    rw (p.1, p.2) (fails_here _ _ _ (fails_later _ _ _ _ c.in_ok-label.ensures (fails_here _ _ _ c.in_err-rest.ensures)))
 
 pub returns : goal.returns
 unfolding declared_at
-returns c = reads_on _ _ _ _ c.in_ok-label.ensures (reads_on _ _ _ _ c.in_ok-rest.ensures refl)
+returns c = reads_on _ _ _ _ (reads_on _ _ _ _ c.in_ok-label.ensures (reads_on _ _ _ _ c.in_ok-rest.ensures refl)) refl

@@ -1,7 +1,7 @@
 use Rattle.std.proofs.Common.{refl, sym, ◌∙◌}
 use Rattle.std.proofs.lemmas.Result.{err_from_is_err_and}
 use Rattle.planus_syntax.specs.Reading.{item_at}
-use Rattle.planus_syntax.proofs.Steps.{fails_here, reads_on, first_way, other_way, fails_first, fails_other, gives_other}
+use Rattle.planus_syntax.proofs.Steps.{fails_here, reads_on, first_way, other_way, fails_first, fails_other, gives_first, gives_other}
 use Rattle.planus_syntax.proofs.parse.item_at.Goals as goal
 
 pub returns-in_err-held : goal.returns-in_err-held
@@ -24,35 +24,17 @@ pub returns-in_ok-held-2 : goal.returns-in_ok-held-2
 unfolding item_at
 returns-in_ok-held-2 c = other_way _ _ _ (sym c.is_word.ensures ∙ c.if-is_word.false) ∙ first_way _ _ _ (sym c.is_word-else-is_word.ensures ∙ c.if-is_word-2.true) ∙ reads_on _ _ _ _ c.in_ok-held-2.ensures refl
 
-pub returns-in_err-held-3 : goal.returns-in_err-held-3
+pub returns-then-is_word-3 : goal.returns-then-is_word-3
 unfolding item_at
-returns-in_err-held-3 c =
-    let p = err_from_is_err_and c.from_residual-in_err-held-3.result c.from_residual-in_err-held-3.ensures.1 in
-    rw (p.1, p.2) (fails_other _ _ _ _ (sym c.is_word.ensures ∙ c.if-is_word.false) (fails_other _ _ _ _ (sym c.is_word-else-is_word.ensures ∙ c.if-is_word-2.false) (fails_first _ _ _ _ (sym c.is_word-else-is_word-2.ensures ∙ c.if-is_word-3.true) (fails_here _ _ _ c.in_err-held-3.ensures))))
+returns-then-is_word-3 c = gives_other _ _ _ _ _ (sym c.is_word.ensures ∙ c.if-is_word.false) (gives_other _ _ _ _ _ (sym c.is_word-else-is_word.ensures ∙ c.if-is_word-2.false) (gives_first _ _ _ _ _ (sym c.is_word-else-is_word-2.ensures ∙ c.if-is_word-3.true) c.enumeration_at.ensures))
 
-pub returns-in_ok-held-3 : goal.returns-in_ok-held-3
+pub returns-then-is_word-4 : goal.returns-then-is_word-4
 unfolding item_at
-returns-in_ok-held-3 c = other_way _ _ _ (sym c.is_word.ensures ∙ c.if-is_word.false) ∙ other_way _ _ _ (sym c.is_word-else-is_word.ensures ∙ c.if-is_word-2.false) ∙ first_way _ _ _ (sym c.is_word-else-is_word-2.ensures ∙ c.if-is_word-3.true) ∙ reads_on _ _ _ _ c.in_ok-held-3.ensures refl
+returns-then-is_word-4 c = gives_other _ _ _ _ _ (sym c.is_word.ensures ∙ c.if-is_word.false) (gives_other _ _ _ _ _ (sym c.is_word-else-is_word.ensures ∙ c.if-is_word-2.false) (gives_other _ _ _ _ _ (sym c.is_word-else-is_word-2.ensures ∙ c.if-is_word-3.false) (gives_first _ _ _ _ _ (sym c.is_word-else-is_word-3.ensures ∙ c.if-is_word-4.true) c.union_at.ensures)))
 
-pub returns-in_err-held-4 : goal.returns-in_err-held-4
+pub returns-then-is_word-5 : goal.returns-then-is_word-5
 unfolding item_at
-returns-in_err-held-4 c =
-    let p = err_from_is_err_and c.from_residual-in_err-held-4.result c.from_residual-in_err-held-4.ensures.1 in
-    rw (p.1, p.2) (fails_other _ _ _ _ (sym c.is_word.ensures ∙ c.if-is_word.false) (fails_other _ _ _ _ (sym c.is_word-else-is_word.ensures ∙ c.if-is_word-2.false) (fails_other _ _ _ _ (sym c.is_word-else-is_word-2.ensures ∙ c.if-is_word-3.false) (fails_first _ _ _ _ (sym c.is_word-else-is_word-3.ensures ∙ c.if-is_word-4.true) (fails_here _ _ _ c.in_err-held-4.ensures)))))
-
-pub returns-in_ok-held-4 : goal.returns-in_ok-held-4
-unfolding item_at
-returns-in_ok-held-4 c = other_way _ _ _ (sym c.is_word.ensures ∙ c.if-is_word.false) ∙ other_way _ _ _ (sym c.is_word-else-is_word.ensures ∙ c.if-is_word-2.false) ∙ other_way _ _ _ (sym c.is_word-else-is_word-2.ensures ∙ c.if-is_word-3.false) ∙ first_way _ _ _ (sym c.is_word-else-is_word-3.ensures ∙ c.if-is_word-4.true) ∙ reads_on _ _ _ _ c.in_ok-held-4.ensures refl
-
-pub returns-in_err-held-5 : goal.returns-in_err-held-5
-unfolding item_at
-returns-in_err-held-5 c =
-    let p = err_from_is_err_and c.from_residual-in_err-held-5.result c.from_residual-in_err-held-5.ensures.1 in
-    rw (p.1, p.2) (fails_other _ _ _ _ (sym c.is_word.ensures ∙ c.if-is_word.false) (fails_other _ _ _ _ (sym c.is_word-else-is_word.ensures ∙ c.if-is_word-2.false) (fails_other _ _ _ _ (sym c.is_word-else-is_word-2.ensures ∙ c.if-is_word-3.false) (fails_other _ _ _ _ (sym c.is_word-else-is_word-3.ensures ∙ c.if-is_word-4.false) (fails_first _ _ _ _ (sym c.is_word-else-is_word-4.ensures ∙ c.if-is_word-5.true) (fails_here _ _ _ c.in_err-held-5.ensures))))))
-
-pub returns-in_ok-held-5 : goal.returns-in_ok-held-5
-unfolding item_at
-returns-in_ok-held-5 c = other_way _ _ _ (sym c.is_word.ensures ∙ c.if-is_word.false) ∙ other_way _ _ _ (sym c.is_word-else-is_word.ensures ∙ c.if-is_word-2.false) ∙ other_way _ _ _ (sym c.is_word-else-is_word-2.ensures ∙ c.if-is_word-3.false) ∙ other_way _ _ _ (sym c.is_word-else-is_word-3.ensures ∙ c.if-is_word-4.false) ∙ first_way _ _ _ (sym c.is_word-else-is_word-4.ensures ∙ c.if-is_word-5.true) ∙ reads_on _ _ _ _ c.in_ok-held-5.ensures refl
+returns-then-is_word-5 c = gives_other _ _ _ _ _ (sym c.is_word.ensures ∙ c.if-is_word.false) (gives_other _ _ _ _ _ (sym c.is_word-else-is_word.ensures ∙ c.if-is_word-2.false) (gives_other _ _ _ _ _ (sym c.is_word-else-is_word-2.ensures ∙ c.if-is_word-3.false) (gives_other _ _ _ _ _ (sym c.is_word-else-is_word-3.ensures ∙ c.if-is_word-4.false) (gives_first _ _ _ _ _ (sym c.is_word-else-is_word-4.ensures ∙ c.if-is_word-5.true) c.service_at.ensures))))
 
 pub returns-else-is_word-5 : goal.returns-else-is_word-5
 unfolding item_at

@@ -8,38 +8,38 @@ pub returns-in_err-name : goal.returns-in_err-name
 unfolding union_at
 returns-in_err-name c =
     let p = err_from_is_err_and c.from_residual.result c.from_residual.ensures.1 in
-    rw (p.1, p.2) (fails_here _ _ _ c.in_err-name.ensures)
+    rw (p.1, p.2) (fails_here _ _ _ (fails_here _ _ _ c.in_err-name.ensures))
 
 pub returns-in_err-attributes : goal.returns-in_err-attributes
 unfolding union_at
 returns-in_err-attributes c =
     let p = err_from_is_err_and c.from_residual-in_err-attributes.result c.from_residual-in_err-attributes.ensures.1 in
-    rw (p.1, p.2) (fails_later _ _ _ _ c.in_ok-name.ensures (fails_here _ _ _ c.in_err-attributes.ensures))
+    rw (p.1, p.2) (fails_here _ _ _ (fails_later _ _ _ _ c.in_ok-name.ensures (fails_here _ _ _ c.in_err-attributes.ensures)))
 
 pub returns-in_err-rest : goal.returns-in_err-rest
 unfolding union_at
 returns-in_err-rest c =
     let p = err_from_is_err_and c.from_residual-in_err-rest.result c.from_residual-in_err-rest.ensures.1 in
-    rw (p.1, p.2) (fails_later _ _ _ _ c.in_ok-name.ensures (fails_later _ _ _ _ c.in_ok-attributes.ensures (fails_here _ _ _ c.in_err-rest.ensures)))
+    rw (p.1, p.2) (fails_here _ _ _ (fails_later _ _ _ _ c.in_ok-name.ensures (fails_later _ _ _ _ c.in_ok-attributes.ensures (fails_here _ _ _ c.in_err-rest.ensures))))
 
 pub returns-in_err-members : goal.returns-in_err-members
 unfolding union_at
 returns-in_err-members c =
     let p = err_from_is_err_and c.from_residual-in_err-members.result c.from_residual-in_err-members.ensures.1 in
-    rw (p.1, p.2) (fails_later _ _ _ _ c.in_ok-name.ensures (fails_later _ _ _ _ c.in_ok-attributes.ensures (fails_later _ _ _ _ c.in_ok-rest.ensures (fails_here _ _ _ c.in_err-members.ensures))))
+    rw (p.1, p.2) (fails_here _ _ _ (fails_later _ _ _ _ c.in_ok-name.ensures (fails_later _ _ _ _ c.in_ok-attributes.ensures (fails_later _ _ _ _ c.in_ok-rest.ensures (fails_here _ _ _ c.in_err-members.ensures)))))
 
 pub returns-in_err-comma : goal.returns-in_err-comma
 unfolding union_at
 returns-in_err-comma c =
     let p = err_from_is_err_and c.from_residual-in_err-comma.result c.from_residual-in_err-comma.ensures.1 in
-    rw (p.1, p.2) (fails_later _ _ _ _ c.in_ok-name.ensures (fails_later _ _ _ _ c.in_ok-attributes.ensures (fails_later _ _ _ _ c.in_ok-rest.ensures (fails_later _ _ _ _ c.in_ok-members.ensures (fails_here _ _ _ c.in_err-comma.ensures)))))
+    rw (p.1, p.2) (fails_here _ _ _ (fails_later _ _ _ _ c.in_ok-name.ensures (fails_later _ _ _ _ c.in_ok-attributes.ensures (fails_later _ _ _ _ c.in_ok-rest.ensures (fails_later _ _ _ _ c.in_ok-members.ensures (fails_here _ _ _ c.in_err-comma.ensures))))))
 
 pub returns-in_err-rest-2 : goal.returns-in_err-rest-2
 unfolding union_at
 returns-in_err-rest-2 c =
     let p = err_from_is_err_and c.from_residual-in_err-rest-2.result c.from_residual-in_err-rest-2.ensures.1 in
-    rw (p.1, p.2) (fails_later _ _ _ _ c.in_ok-name.ensures (fails_later _ _ _ _ c.in_ok-attributes.ensures (fails_later _ _ _ _ c.in_ok-rest.ensures (fails_later _ _ _ _ c.in_ok-members.ensures (fails_later _ _ _ _ c.in_ok-comma.ensures (fails_here _ _ _ c.in_err-rest-2.ensures))))))
+    rw (p.1, p.2) (fails_here _ _ _ (fails_later _ _ _ _ c.in_ok-name.ensures (fails_later _ _ _ _ c.in_ok-attributes.ensures (fails_later _ _ _ _ c.in_ok-rest.ensures (fails_later _ _ _ _ c.in_ok-members.ensures (fails_later _ _ _ _ c.in_ok-comma.ensures (fails_here _ _ _ c.in_err-rest-2.ensures)))))))
 
 pub returns : goal.returns
 unfolding union_at
-returns c = reads_on _ _ _ _ c.in_ok-name.ensures (reads_on _ _ _ _ c.in_ok-attributes.ensures (reads_on _ _ _ _ c.in_ok-rest.ensures (reads_on _ _ _ _ c.in_ok-members.ensures (reads_on _ _ _ _ c.in_ok-comma.ensures (reads_on _ _ _ _ c.in_ok-rest-2.ensures refl)))))
+returns c = reads_on _ _ _ _ (reads_on _ _ _ _ c.in_ok-name.ensures (reads_on _ _ _ _ c.in_ok-attributes.ensures (reads_on _ _ _ _ c.in_ok-rest.ensures (reads_on _ _ _ _ c.in_ok-members.ensures (reads_on _ _ _ _ c.in_ok-comma.ensures (reads_on _ _ _ _ c.in_ok-rest-2.ensures refl)))))) refl
