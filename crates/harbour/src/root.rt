@@ -23,7 +23,7 @@ pub fn read_as_root(bytes: &[u8]) -> planus::Result<ShipRef<'_>>
     read_root(bytes)
 }
 
-/// Reads the root of the first of these size-prefixed buffers; also returns what follows the buffer.
+/// Reads the root of the first of these size-prefixed buffers, and returns what follows it too.
 pub fn read_size_prefixed_as_root(bytes: &[u8]) -> Result<(ShipRef<'_>, &[u8]), ErrorKind>
     ensures { IsSizedRoot (λ view. view.table) bytes.now result }
 {
