@@ -31,13 +31,15 @@ struct Arrangement {
 }
 
 /// What a line has: its columns without marks, those of the arguments of a call or of the fields of
-/// a struct, how many marks of these there are, and whether they are of a struct.
+/// a struct, how many marks of these there are, and whether they are of a struct, or of a record of
+/// definitions.
 #[derive(Clone, Copy)]
 struct Measure {
     columns: usize,
     arguments: usize,
     marks: usize,
     fields: bool,
+    record: bool,
     /// Whether it is a ghost item or a clause.
     is_ghost: bool,
 }
@@ -52,6 +54,7 @@ fn measure_of(line: &str) -> Measure {
         arguments: 0,
         marks: 0,
         fields: false,
+        record: line.contains("record {"),
         is_ghost: is_ghost_line(line.trim_start()),
     };
     let mut start = 0usize;
@@ -89,10 +92,10 @@ fn going_on(indent: usize, is_ghost: bool) -> usize {
 impl Measure {
     /// Whether each argument or field stands on a line of its own.
     fn is_broken(self) -> bool {
-        let most = if self.fields {
-            FIELD_COLUMNS
-        } else {
-            ARGUMENT_COLUMNS
+        let most = match (self.record, self.fields) {
+            (true, _) => COLUMNS,
+            (false, true) => FIELD_COLUMNS,
+            (false, false) => ARGUMENT_COLUMNS,
         };
         self.marks > 0 && (self.columns > COLUMNS || self.arguments > most)
     }
@@ -138,10 +141,14 @@ impl Arrangement {
         let last = mark.saturating_add(1) == measure.marks;
         if measure.is_broken() {
             if last {
-                self.put_letter(',')?;
+                self.put_letter(if measure.record { ';' } else { ',' })?;
             }
             self.put_word()?;
-            let more = if last { 0 } else { 4 };
+            let more = match (last, measure.record) {
+                (true, _) => 0,
+                (false, true) => 2,
+                (false, false) => 4,
+            };
             return self.put_line_end(self.indent.saturating_add(more));
         }
         if measure.fields || (mark > 0 && !last) {

@@ -59,7 +59,7 @@ pub(crate) fn default_value(context: &Context<'_>, field: &TableField) -> &'stat
         Base::Scalar(Scalar::Bool) if default_number(field).magnitude == 0 => "false",
         Base::Scalar(Scalar::Bool) => "true",
         Base::Scalar(Scalar::Float | Scalar::Double) => "$F",
-        Base::Enum(index) if context.is_flags(index) => "$t { bits: $l }",
+        Base::Enum(index) if context.is_flags(index) => "$t {^bits: $l^}",
         Base::Enum(_) => "$t::$e",
         _ => "$l",
     }

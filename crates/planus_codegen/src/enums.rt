@@ -73,7 +73,7 @@ pub(crate) fn print_flags<'a>(
     printer.put(FLAGS, at);
     printer.put_members(
         "    /// `$s`.\n",
-        "    pub const $n: $T = $T { bits: $i };\n",
+        "    pub const $n: $T = $T {^bits: $i^};\n",
         at,
     );
     printer.put(METHODS, at);

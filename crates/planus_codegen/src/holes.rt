@@ -8,8 +8,9 @@
 //! Of a member: `n` its name, `N` the same in capitals, `s` as the schema has it, `p` its place; of a
 //! value of an enum `i` its number in code and `k` in definitions; of a field `t` the type of its
 //! value and `h` the name of its shape; of a field of a struct `z` its size and `d` its distance in
-//! bytes, `x` the padding before it, `w` the distance after a colon, if it isn't the first, `v` its
-//! value in the values of all; of a member of a union `g` its tag and `m` its table.
+//! bytes, `x` the padding before it, `w` the distance after a colon, if it isn't the first, `f` its
+//! name in a record and `v` its value in the values of all; of a member of a union `g` its tag and
+//! `m` its table.
 //!
 //! Of a field of a table: `o` its slot, `u` the slot before, `r` the slot under which it is read; `l`
 //! its default as an integer and `L` the same in clauses, `e` as a value of an enum, `F` as a float;
@@ -19,6 +20,7 @@
 use crate::at::At;
 use crate::context::{Context, scalar_name};
 use crate::defaults::{default, default_clause, default_number, default_place};
+use crate::known::is_escaped;
 use crate::printer::{OWN, Printer};
 use crate::types::{encoded, given, has_default, is_optional, is_union, read};
 use planus_layout::{Base, Body, Number, StructField};
@@ -172,6 +174,15 @@ impl<'a> Printer<'a> {
         }
     }
 
+    // The name of a field as a record has it.
+    fn put_record_name(&mut self, name: &[u8]) {
+        let escaped = is_escaped(name);
+        self.put_char(OWN);
+        self.put_str(if escaped { "«" } else { "" });
+        self.put_name(name);
+        self.put_str(if escaped { "»" } else { "" });
+    }
+
     fn put_type(&mut self, base: Base) {
         let names = &self.context.names;
         match base {
@@ -263,6 +274,7 @@ impl<'a> Printer<'a> {
                 self.put_char(OWN);
                 self.put_name(names.member(at.index, at.place));
             }
+            'f' => self.put_record_name(names.member(at.index, at.place)),
             'N' => self.put_capitals(names.member(at.index, at.place)),
             's' => self.put_name(context.said(at)),
             'i' | 'l' => self.put_integer(integer(context, at)),

@@ -2,7 +2,10 @@
 
 /// Words that are reserved in code, in clauses, or in what is printed.
 const RESERVED: &str =
-    "_ NOTHING Self abbrev bool core f32 f64 i16 i32 i64 i8 main planus std u16 u32 u64 u8 abstract as async await become box break builder clone const continue crate data do dyn elim else ensures enum extern false fields final fn for gen ghost if impl in let loop macro match mod module move mut omega override priv prove pub record ref requires result return self static struct super syntax table trait true try type typeof unfolding union unsafe unsized use virtual where while yield";
+    "_ NOTHING Self abbrev bool core f32 f64 i16 i32 i64 i8 main planus std u16 u32 u64 u8 abstract as async await become box break builder clone const continue crate data deriving do dyn elim else ensures enum extern false fields final fn for gen ghost if impl in let loop macro match mod module move mut omega override priv prove pub record ref requires result return self static struct super syntax table trait true try type typeof unfolding union unsafe unsized use virtual where while yield";
+
+/// Words that definitions reserve as names of a record's fields, unless they are escaped.
+const ESCAPED: &str = "axiom infix infixl infixr mutual open unfold";
 
 /// Names of types that code has anyway, and of a file of definitions.
 const KNOWN_TYPES: &str =
@@ -24,6 +27,11 @@ fn has_word(words: &str, name: &[u8]) -> bool {
 /// Returns whether no field, type or module can have this name.
 pub(crate) fn is_reserved(name: &[u8]) -> bool {
     has_word(RESERVED, name)
+}
+
+/// Returns whether a field of a record has this name only if it is escaped.
+pub(crate) fn is_escaped(name: &[u8]) -> bool {
+    has_word(ESCAPED, name)
 }
 
 /// Returns whether the crate has something else of this name.

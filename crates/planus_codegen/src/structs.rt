@@ -75,11 +75,11 @@ pub(crate) fn print_struct_layout<'a>(context: &'a Context<'a>, at: At) -> Print
     printer.put_each(")", "", at);
     printer.put(if forced { ")\n" } else { "\n" }, at);
     printer.put(
-        "    (struct_layout $P $Q (lit≤ tt) (lit< tt))\n    (λ v. record {~",
+        "    (struct_layout $P $Q (lit≤ tt) (lit< tt))\n    (λ v. record {^",
         at,
     );
-    printer.put_each("$n = $v", ";~", at);
-    printer.put(" })\n    (λ x. refl)\n", at);
+    printer.put_each("$f = $v", ";^", at);
+    printer.put("^})\n    (λ x. refl)\n", at);
     printer
 }
 
