@@ -1,6 +1,6 @@
 //! Tokens to declarations.
 
-ghost use Rattle.std.specs.Prelude.{◌≡◌, ◌∷◌, [], ℕ, List, length, Ok, map, IfOk};
+ghost use Rattle.std.specs.Prelude.{◌≡◌, ◌∷◌, [], ℕ, List, true, false, length, Ok, map, IfOk, MatchOption};
 ghost use Rattle.std.specs.Option.{option_map};
 ghost use Rattle.std.specs.Str.{bytes_eq};
 ghost use Rattle.planus_syntax.specs.Values.{DeclarationV, AreWhole, schema_pieces};
@@ -160,6 +160,18 @@ fn mark_at(tokens: &[Token], mark: u8) -> Result<&[Token], ReadError>
     }
 }
 
+/// Returns what follows this mark, if the mark stands first.
+fn after_mark(tokens: &[Token], mark: u8) -> Option<&[Token]>
+    ensures { MatchOption result (begins_mark_lem mark (pieces_of tokens.now) ≡ false)
+        (λ rest. (begins_mark_lem mark (pieces_of tokens.now) ≡ true)
+        × (mark_at_lem mark (pieces_of tokens.now) ≡ Ok (pieces_of rest.now))) }
+{
+    match tokens.split_first() {
+        Some((Token::Mark(byte), rest)) if *byte == mark => Some(rest),
+        _ => None,
+    }
+}
+
 /// Reads a word.
 fn word_at(alloc: Global, tokens: &[Token]) -> Result<(Vec<u8>, &[Token]), ReadError>
     ensures { Gives (λ x. (x.0.items, pieces_of x.1.now)) result
@@ -289,14 +301,16 @@ fn kind_at(alloc: Global, tokens: &[Token]) -> Result<(Kind, &[Token]), ReadErro
     ensures { Gives (λ x. (kind_of x.0, pieces_of x.1.now)) result
         (kind_at_lem (pieces_of tokens.now)) }
 {
-    if begins_mark(tokens, b'[') {
-        let rest = mark_at(tokens, b'[')?;
-        let (path, rest) = path_at(alloc, rest)?;
-        let rest = mark_at(rest, b']')?;
-        Ok((Kind::Vector(path), rest))
-    } else {
-        let (path, rest) = path_at(alloc, tokens)?;
-        Ok((Kind::Single(path), rest))
+    match after_mark(tokens, b'[') {
+        Some(rest) => {
+            let (path, rest) = path_at(alloc, rest)?;
+            let rest = mark_at(rest, b']')?;
+            Ok((Kind::Vector(path), rest))
+        }
+        None => {
+            let (path, rest) = path_at(alloc, tokens)?;
+            Ok((Kind::Single(path), rest))
+        }
     }
 }
 
@@ -348,12 +362,12 @@ fn literal_after(
     ensures { Gives (λ x. (option_map literal_of x.0, pieces_of x.1.now)) result
         (optional_at mark literal_at_lem (pieces_of tokens.now)) }
 {
-    if begins_mark(tokens, mark) {
-        let rest = mark_at(tokens, mark)?;
-        let (value, rest) = literal_at(alloc, rest)?;
-        Ok((Some(value), rest))
-    } else {
-        Ok((None, tokens))
+    match after_mark(tokens, mark) {
+        Some(rest) => {
+            let (value, rest) = literal_at(alloc, rest)?;
+            Ok((Some(value), rest))
+        }
+        None => Ok((None, tokens)),
     }
 }
 
@@ -362,12 +376,12 @@ fn value_at(alloc: Global, tokens: &[Token]) -> Result<(Option<Vec<u8>>, &[Token
     ensures { Gives (λ x. (digits_of x.0, pieces_of x.1.now)) result
         (optional_at 61 number_at_lem (pieces_of tokens.now)) }
 {
-    if begins_mark(tokens, b'=') {
-        let rest = mark_at(tokens, b'=')?;
-        let (value, rest) = number_at(alloc, rest)?;
-        Ok((Some(value), rest))
-    } else {
-        Ok((None, tokens))
+    match after_mark(tokens, b'=') {
+        Some(rest) => {
+            let (value, rest) = number_at(alloc, rest)?;
+            Ok((Some(value), rest))
+        }
+        None => Ok((None, tokens)),
     }
 }
 
@@ -376,12 +390,12 @@ fn target_at(alloc: Global, tokens: &[Token]) -> Result<(Option<Path>, &[Token])
     ensures { Gives (λ x. (option_map path_of x.0, pieces_of x.1.now)) result
         (optional_at 58 path_at_lem (pieces_of tokens.now)) }
 {
-    if begins_mark(tokens, b':') {
-        let rest = mark_at(tokens, b':')?;
-        let (value, rest) = path_at(alloc, rest)?;
-        Ok((Some(value), rest))
-    } else {
-        Ok((None, tokens))
+    match after_mark(tokens, b':') {
+        Some(rest) => {
+            let (value, rest) = path_at(alloc, rest)?;
+            Ok((Some(value), rest))
+        }
+        None => Ok((None, tokens)),
     }
 }
 
@@ -429,14 +443,14 @@ fn attributes_at(alloc: Global, tokens: &[Token]) -> Result<(Vec<Attribute>, &[T
     ensures { Gives (λ x. (map attribute_of x.0.items, pieces_of x.1.now)) result
         (attributes_at_lem (pieces_of tokens.now)) }
 {
-    if begins_mark(tokens, b'(') {
-        let rest = mark_at(tokens, b'(')?;
-        let (first, rest) = attribute_at(alloc, rest)?;
-        let (items, rest) = more_attributes(alloc, first, rest)?;
-        let rest = mark_at(rest, b')')?;
-        Ok((items, rest))
-    } else {
-        Ok((Vec::new(alloc), tokens))
+    match after_mark(tokens, b'(') {
+        Some(rest) => {
+            let (first, rest) = attribute_at(alloc, rest)?;
+            let (items, rest) = more_attributes(alloc, first, rest)?;
+            let rest = mark_at(rest, b')')?;
+            Ok((items, rest))
+        }
+        None => Ok((Vec::new(alloc), tokens)),
     }
 }
 
@@ -517,11 +531,9 @@ fn record_at(alloc: Global, tokens: &[Token]) -> Result<(Record, &[Token]), Read
 fn comma_at(tokens: &[Token]) -> Result<(bool, &[Token]), ReadError>
     ensures { Gives (λ x. (x.0, pieces_of x.1.now)) result (comma_at_lem (pieces_of tokens.now)) }
 {
-    if begins_mark(tokens, b',') {
-        let rest = mark_at(tokens, b',')?;
-        Ok((true, rest))
-    } else {
-        Ok((false, tokens))
+    match after_mark(tokens, b',') {
+        Some(rest) => Ok((true, rest)),
+        None => Ok((false, tokens)),
     }
 }
 
@@ -760,12 +772,12 @@ fn namespace_at(alloc: Global, tokens: &[Token]) -> Result<(Item, &[Token]), Rea
     ensures { Gives (λ x. (item_of x.0, pieces_of x.1.now)) result
         (as_item namespace_item (namespace_at_lem (pieces_of tokens.now))) }
 {
-    if begins_mark(tokens, b';') {
-        let rest = mark_at(tokens, b';')?;
-        Ok((Item::Namespace(None), rest))
-    } else {
-        let (path, rest) = rooted_at(alloc, tokens)?;
-        Ok((Item::Namespace(Some(path)), rest))
+    match after_mark(tokens, b';') {
+        Some(rest) => Ok((Item::Namespace(None), rest)),
+        None => {
+            let (path, rest) = rooted_at(alloc, tokens)?;
+            Ok((Item::Namespace(Some(path)), rest))
+        }
     }
 }
 

@@ -1,33 +1,27 @@
-use Rattle.std.proofs.Common.{refl, sym, ◌∙◌}
+use Rattle.std.proofs.Common.{refl, ◌∙◌}
 use Rattle.std.proofs.lemmas.Result.{err_from_is_err_and}
 use Rattle.planus_syntax.specs.Reading.{attributes_at}
 use Rattle.planus_syntax.proofs.Steps.{fails_here, fails_later, reads_on, first_way, fails_first}
 use Rattle.planus_syntax.proofs.parse.attributes_at.Goals as goal
 
-pub returns-in_err-rest : goal.returns-in_err-rest
+pub returns-in_err-first-in-Some : goal.returns-in_err-first-in-Some
 unfolding attributes_at
-returns-in_err-rest c =
+returns-in_err-first-in-Some c =
     let p = err_from_is_err_and c.from_residual.result c.from_residual.ensures.1 in
-    rw (p.1, p.2) (fails_first _ _ _ _ (sym c.begins_mark.ensures ∙ c.if-begins_mark.true) (fails_here _ _ _ c.in_err-rest.ensures))
+    rw (p.1, p.2) (fails_first _ _ _ _ c.in-Some.ensures.0 (fails_later _ _ _ _ c.in-Some.ensures.1 (fails_here _ _ _ c.in_err-first-in-Some.ensures)))
 
-pub returns-in_err-first : goal.returns-in_err-first
+pub returns-in_err-items-in-Some : goal.returns-in_err-items-in-Some
 unfolding attributes_at
-returns-in_err-first c =
-    let p = err_from_is_err_and c.from_residual-in_err-first.result c.from_residual-in_err-first.ensures.1 in
-    rw (p.1, p.2) (fails_first _ _ _ _ (sym c.begins_mark.ensures ∙ c.if-begins_mark.true) (fails_later _ _ _ _ c.in_ok-rest.ensures (fails_here _ _ _ c.in_err-first.ensures)))
+returns-in_err-items-in-Some c =
+    let p = err_from_is_err_and c.from_residual-in_err-items-in-Some.result c.from_residual-in_err-items-in-Some.ensures.1 in
+    rw (p.1, p.2) (fails_first _ _ _ _ c.in-Some.ensures.0 (fails_later _ _ _ _ c.in-Some.ensures.1 (fails_later _ _ _ _ c.in_ok-first-in-Some.ensures (fails_here _ _ _ c.in_err-items-in-Some.ensures))))
 
-pub returns-in_err-items : goal.returns-in_err-items
+pub returns-in_err-rest-in-Some : goal.returns-in_err-rest-in-Some
 unfolding attributes_at
-returns-in_err-items c =
-    let p = err_from_is_err_and c.from_residual-in_err-items.result c.from_residual-in_err-items.ensures.1 in
-    rw (p.1, p.2) (fails_first _ _ _ _ (sym c.begins_mark.ensures ∙ c.if-begins_mark.true) (fails_later _ _ _ _ c.in_ok-rest.ensures (fails_later _ _ _ _ c.in_ok-first.ensures (fails_here _ _ _ c.in_err-items.ensures))))
+returns-in_err-rest-in-Some c =
+    let p = err_from_is_err_and c.from_residual-in_err-rest-in-Some.result c.from_residual-in_err-rest-in-Some.ensures.1 in
+    rw (p.1, p.2) (fails_first _ _ _ _ c.in-Some.ensures.0 (fails_later _ _ _ _ c.in-Some.ensures.1 (fails_later _ _ _ _ c.in_ok-first-in-Some.ensures (fails_later _ _ _ _ c.in_ok-items-in-Some.ensures (fails_here _ _ _ c.in_err-rest-in-Some.ensures)))))
 
-pub returns-in_err-rest-2 : goal.returns-in_err-rest-2
+pub returns-in_ok-rest-in-Some : goal.returns-in_ok-rest-in-Some
 unfolding attributes_at
-returns-in_err-rest-2 c =
-    let p = err_from_is_err_and c.from_residual-in_err-rest-2.result c.from_residual-in_err-rest-2.ensures.1 in
-    rw (p.1, p.2) (fails_first _ _ _ _ (sym c.begins_mark.ensures ∙ c.if-begins_mark.true) (fails_later _ _ _ _ c.in_ok-rest.ensures (fails_later _ _ _ _ c.in_ok-first.ensures (fails_later _ _ _ _ c.in_ok-items.ensures (fails_here _ _ _ c.in_err-rest-2.ensures)))))
-
-pub returns-in_ok-rest-2 : goal.returns-in_ok-rest-2
-unfolding attributes_at
-returns-in_ok-rest-2 c = first_way _ _ _ (sym c.begins_mark.ensures ∙ c.if-begins_mark.true) ∙ reads_on _ _ _ _ c.in_ok-rest.ensures (reads_on _ _ _ _ c.in_ok-first.ensures (reads_on _ _ _ _ c.in_ok-items.ensures (reads_on _ _ _ _ c.in_ok-rest-2.ensures refl)))
+returns-in_ok-rest-in-Some c = first_way _ _ _ c.in-Some.ensures.0 ∙ reads_on _ _ _ _ c.in-Some.ensures.1 (reads_on _ _ _ _ c.in_ok-first-in-Some.ensures (reads_on _ _ _ _ c.in_ok-items-in-Some.ensures (reads_on _ _ _ _ c.in_ok-rest-in-Some.ensures refl)))

@@ -1,19 +1,12 @@
-use Rattle.std.proofs.Common.{refl, sym, ◌∙◌}
-use Rattle.std.proofs.lemmas.Result.{err_from_is_err_and}
+use Rattle.std.proofs.Common.{refl, ◌∙◌}
 use Rattle.planus_syntax.specs.Reading.{comma_at}
-use Rattle.planus_syntax.proofs.Steps.{fails_here, reads_on, first_way, other_way, fails_first}
+use Rattle.planus_syntax.proofs.Steps.{reads_on, first_way, other_way}
 use Rattle.planus_syntax.proofs.parse.comma_at.Goals as goal
 
-pub returns-in_err-rest : goal.returns-in_err-rest
+pub returns-in-Some : goal.returns-in-Some
 unfolding comma_at
-returns-in_err-rest c =
-    let p = err_from_is_err_and c.from_residual.result c.from_residual.ensures.1 in
-    rw (p.1, p.2) (fails_first _ _ _ _ (sym c.begins_mark.ensures ∙ c.if-begins_mark.true) (fails_here _ _ _ c.in_err-rest.ensures))
+returns-in-Some c = first_way _ _ _ c.in-Some.ensures.0 ∙ reads_on _ _ _ _ c.in-Some.ensures.1 refl
 
-pub returns-in_ok-rest : goal.returns-in_ok-rest
+pub returns-in-None : goal.returns-in-None
 unfolding comma_at
-returns-in_ok-rest c = first_way _ _ _ (sym c.begins_mark.ensures ∙ c.if-begins_mark.true) ∙ reads_on _ _ _ _ c.in_ok-rest.ensures refl
-
-pub returns-else-begins_mark : goal.returns-else-begins_mark
-unfolding comma_at
-returns-else-begins_mark c = other_way _ _ _ (sym c.begins_mark.ensures ∙ c.if-begins_mark.false)
+returns-in-None c = other_way _ _ _ c.in-None.ensures
