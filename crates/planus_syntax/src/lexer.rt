@@ -1,10 +1,9 @@
 //! Bytes to tokens.
 
-ghost use Rattle.std.specs.Prelude.{◌≡◌, ◌++◌, ◌<◌, ◌≤◌, ◌+◌, ℕ, drop, length, IfOk, IfErr};
+ghost use Rattle.std.specs.Prelude.{◌≡◌, ◌<◌, ◌≤◌, ◌+◌, length, IfOk, IfErr};
 ghost use Rattle.std.specs.Prelude.{MatchOption};
-ghost use Rattle.std.specs.Prelude.{Ok, false, Bool, true, List, [], ◌∷◌, ◌==◌, not};
-ghost use Rattle.std.specs.List.{list_all, position};
-ghost use Rattle.planus_syntax.specs.Tokens.{begins, piece_of, pieces_of};
+ghost use Rattle.std.specs.Prelude.{Ok, false, true, List, [], ◌∷◌, ◌==◌};
+ghost use Rattle.planus_syntax.specs.Tokens.{begins, piece_of};
 ghost use Rattle.planus_syntax.specs.Tokens.{is_word_byte as is_word_byte_lem};
 ghost use Rattle.planus_syntax.specs.Tokens.{is_mark as is_mark_lem};
 ghost use Rattle.planus_syntax.specs.Tokens.{is_number_start as is_number_start_lem};
@@ -14,7 +13,7 @@ ghost use Rattle.planus_syntax.specs.Lexing.{Answers, block, lex_from, lex_of, s
 ghost use Rattle.planus_syntax.specs.Cutting.{cut_piece, pieces_in, Cuts, Skips, Splits};
 ghost use Rattle.planus_syntax.specs.Cutting.{Ends, Starts, in_run};
 ghost use Rattle.planus_syntax.specs.Placing.{StandsAt};
-ghost use Rattle.planus_syntax.specs.Tokens.{Piece, bytes_of};
+ghost use Rattle.planus_syntax.specs.Tokens.{Piece};
 ghost use Rattle.planus_syntax.specs.Cutting.{string_stop};
 ghost use Rattle.planus_syntax.specs.Spelled.{closes};
 

@@ -1,6 +1,7 @@
 //! Tokens to declarations.
 
-ghost use Rattle.std.specs.Prelude.{◌≡◌, ◌∷◌, [], ℕ, List, true, false, length, Ok, map, IfOk, MatchOption};
+ghost use Rattle.std.specs.Prelude.{◌≡◌, ◌∷◌, [], List, true, false, length, Ok, map, IfOk};
+ghost use Rattle.std.specs.Prelude.{MatchOption};
 ghost use Rattle.std.specs.Option.{option_map};
 ghost use Rattle.std.specs.Str.{bytes_eq};
 ghost use Rattle.planus_syntax.specs.Values.{DeclarationV, AreWhole, schema_pieces};
@@ -8,10 +9,9 @@ ghost use Rattle.planus_syntax.specs.Parsed.{ParsesTo, AnswersParse};
 ghost use Rattle.planus_syntax.specs.Tokens.{pieces_of};
 ghost use Rattle.planus_syntax.specs.Values.{names_of, path_of, kind_of, literal_of, label_of};
 ghost use Rattle.planus_syntax.specs.Values.{attribute_of, field_of, record_of, digits_of};
-ghost use Rattle.planus_syntax.specs.Values.{variant_of, enumeration_of, member_of, union_of};
-ghost use Rattle.planus_syntax.specs.Values.{method_of, service_of, item_of, declaration_of};
+ghost use Rattle.planus_syntax.specs.Values.{variant_of, member_of};
+ghost use Rattle.planus_syntax.specs.Values.{method_of, item_of, declaration_of};
 ghost use Rattle.planus_syntax.specs.Values.{schema_of};
-ghost use Rattle.planus_syntax.specs.Layout.{is_mark_of as is_mark_lem};
 ghost use Rattle.planus_syntax.specs.Values.{enumeration as enumeration_item, union as union_item};
 ghost use Rattle.planus_syntax.specs.Values.{service as service_item, namespace as namespace_item};
 ghost use Rattle.planus_syntax.specs.Values.{attribute as attribute_item};
