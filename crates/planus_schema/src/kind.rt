@@ -105,19 +105,12 @@ pub(crate) fn type_of(
     ensures wrong { Tells (wrong_kind (map head_of heads.now) (space_of space.entry) kind.now)
         result }
 {
-    match kind {
-        Kind::Single(path) => {
-            let base = base_of(alloc, heads, space, path)?;
-            Ok(FieldType {
-                vector: false,
-                base,
-            })
-        }
-        Kind::Vector(path) => {
-            let base = base_of(alloc, heads, space, path)?;
-            Ok(FieldType { vector: true, base })
-        }
-    }
+    let (vector, path) = match kind {
+        Kind::Single(path) => (false, path),
+        Kind::Vector(path) => (true, path),
+    };
+    let base = base_of(alloc, heads, space, path)?;
+    Ok(FieldType { vector, base })
 }
 
 /// Returns the index of the table that a name means.
