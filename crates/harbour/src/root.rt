@@ -1,9 +1,11 @@
 //! The root of a buffer.
 
 ghost use Rattle.std.specs.Prelude.{◌↔◌, codes, IfOk, IsTrue, Some};
+ghost use Rattle.std.specs.Borrow.{sem};
 ghost use Rattle.planus.specs.read.Bytes.{BytesStand};
 ghost use Rattle.planus.specs.read.SizePrefixed.{IsPrefixed};
-ghost use Rattle.planus.specs.write.Finishing.{FinishGives, SizedFinishGives};
+ghost use Rattle.planus.specs.write.Finishing.{FinishGives, SizedFinishGives, EndsAs};
+ghost use Rattle.planus.specs.write.Finishing.{FinishLeaves, SizedFinishLeaves};
 ghost use Rattle.planus.specs.write.InBuilder.{IsIn};
 ghost use Rattle.planus.specs.write.Preparing.{IsPrepared};
 ghost use Rattle.planus.specs.Roots.{IsRoot};
@@ -33,8 +35,10 @@ pub fn read_size_prefixed_as_root(bytes: &[u8]) -> Result<(ShipRef<'_>, &[u8]), 
 /// Finishes a buffer with this root and the file identifier, as [`Builder::finish`].
 pub fn finish_root(builder: &mut Builder, root: Offset<Ship>) -> Result<&[u8], BuildError>
     requires { IsIn builder.old root }
-    ensures { IfOk result (λ bytes. FinishGives (IsPrepared root) (Some FILE_IDENTIFIER)
+    ensures bytes { IfOk result (λ bytes. FinishGives (IsPrepared root) (Some FILE_IDENTIFIER)
         builder.old bytes.now) }
+    ensures* after { sem 𝓛 (EndsAs builder.entry (FinishLeaves (IsPrepared root)
+        (Some FILE_IDENTIFIER) builder.old result)) }
 {
     builder.finish(root, Some(FILE_IDENTIFIER))
 }
@@ -48,6 +52,8 @@ pub fn finish_root_size_prefixed(
     ensures bytes { IfOk result (λ bytes. SizedFinishGives (IsPrepared root) (Some FILE_IDENTIFIER)
         builder.old bytes.now) }
     ensures size { IfOk result (λ bytes. IsPrefixed bytes.now) }
+    ensures* after { sem 𝓛 (EndsAs builder.entry (SizedFinishLeaves (IsPrepared root)
+        (Some FILE_IDENTIFIER) builder.old result)) }
 {
     builder.finish_size_prefixed(root, Some(FILE_IDENTIFIER))
 }

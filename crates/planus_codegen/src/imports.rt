@@ -5,11 +5,12 @@ use crate::printer::Printer;
 use crate::words::Words;
 
 /// The names that clauses may need, by their modules.
-const IN_CLAUSES: [(&str, &str); 16] = [
+const IN_CLAUSES: [(&str, &str); 17] = [
     (
         "std.specs.Prelude",
         "◌≡◌ ◌≤◌ ◌==◌ ◌↔◌ length codes pos negsuc true false bit_and bit_or IfOk IsOkAnd IsTrue MatchOption ⊤ Some None []",
     ),
+    ("std.specs.Borrow", "sem"),
     (
         "planus.specs.read.Shapes",
         "u8_shape u16_shape u32_shape u64_shape i8_shape i16_shape i32_shape i64_shape bool_shape f32_shape f64_shape",
@@ -18,7 +19,7 @@ const IN_CLAUSES: [(&str, &str); 16] = [
     ("planus.specs.read.SizePrefixed", "IsPrefixed"),
     (
         "planus.specs.write.Finishing",
-        "FinishGives SizedFinishGives",
+        "FinishGives SizedFinishGives EndsAs FinishLeaves SizedFinishLeaves",
     ),
     ("planus.specs.write.InBuilder", "IsIn AllIn AllUnionsIn"),
     ("planus.specs.write.Preparing", "IsPrepared"),

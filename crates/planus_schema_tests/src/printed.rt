@@ -4,13 +4,11 @@ ghost use Rattle.std.specs.Prelude.{◌≡◌, None, []};
 
 use crate::digits::bytes_of;
 use harbour::{
-    Company, CompanyFields, FILE_IDENTIFIER, Fix, Kind, Level, Needs, OwnerRef, Person,
-    PersonFields, Pos, Ship, ShipFields, ShipRef,
+    Company, CompanyFields, Fix, Kind, Level, Needs, OwnerRef, Person, PersonFields, Pos, Ship,
+    ShipFields, ShipRef, finish_root, finish_root_size_prefixed, has_identifier, read_as_root,
+    read_size_prefixed_as_root,
 };
-use planus::{
-    BuildError, Builder, ByteList, Result, UnionOffset, has_identifier, read_root, table_item,
-    union_item,
-};
+use planus::{BuildError, Builder, ByteList, UnionOffset, table_item, union_item};
 use std::alloc::Global;
 
 /// By flatc 2.0.8 of `harbour.fbs`: a ship with the values of `writes_anna`, its tables too.
@@ -146,16 +144,17 @@ fn has_owners(ship: &ShipRef<'_>) -> bool {
         && matches!(second, Some(Ok(OwnerRef::Firm(firm))) if matches!(firm.title(), Ok(Some("Line"))))
 }
 
+fn has_all(ship: &ShipRef<'_>) -> bool {
+    has_numbers(ship) && has_vectors(ship) && has_ships(ship) && has_owners(ship)
+}
+
 fn is_anna(bytes: &[u8]) -> bool {
-    let ship: Result<ShipRef<'_>> = read_root(bytes);
-    let Ok(ship) = ship else {
-        return false;
-    };
-    has_identifier(bytes, FILE_IDENTIFIER)
-        && has_numbers(&ship)
-        && has_vectors(&ship)
-        && has_ships(&ship)
-        && has_owners(&ship)
+    matches!(read_as_root(bytes), Ok(ship) if has_all(&ship)) && has_identifier(bytes)
+}
+
+/// Whether a buffer after its size is Anna's, and nothing follows it.
+fn is_anna_after_size(bytes: &[u8]) -> bool {
+    matches!(read_size_prefixed_as_root(bytes), Ok((ship, [])) if has_all(&ship))
 }
 
 fn the_line() -> CompanyFields<'static> {
@@ -208,8 +207,9 @@ fn writes_anna(builder: &mut Builder) -> std::result::Result<bool, BuildError> {
         flags: Some(&[true, false]),
     };
     let anna = Ship::create(builder, anna)?;
-    let bytes = builder.finish(anna, Some(FILE_IDENTIFIER))?;
-    Ok(is_anna(bytes))
+    let plain = is_anna(finish_root(builder, anna)?);
+    let sized = is_anna_after_size(finish_root_size_prefixed(builder, anna)?);
+    Ok(plain && sized)
 }
 
 fn in_builder(alloc: Global) -> bool {
