@@ -5,6 +5,7 @@ use crate::at::At;
 use crate::context::Context;
 use crate::enums::{print_enum, print_flags, print_flags_layout, print_numbers};
 use crate::field_lines::{print_constant_uses, print_field_lines};
+use crate::names::namespace_around;
 use crate::order::{keys_of, sort_by_key};
 use crate::plan::Plan;
 use crate::printer::Printer;
@@ -19,10 +20,9 @@ use planus_layout::{Body, Declared, Schema};
 use std::alloc::{AllocError, Global};
 
 const ROOT: &str =
-    "\nmod root;\n\npub use root::{\n    finish_root, finish_root_size_prefixed, has_identifier, read_as_root,\n    read_size_prefixed_as_root,\n};\n";
+    "\npub use root::{\n    finish_root, finish_root_size_prefixed, has_identifier, read_as_root,\n    read_size_prefixed_as_root,\n};\n";
 
-const ROOT_ALONE: &str =
-    "\nmod root;\n\npub use root::{read_as_root, read_size_prefixed_as_root};\n";
+const ROOT_ALONE: &str = "\npub use root::{read_as_root, read_size_prefixed_as_root};\n";
 
 /// A file: its path in the folder of the crate, and its text.
 #[derive(Drop)]
@@ -37,6 +37,8 @@ struct Files<'a> {
     context: &'a Context<'a>,
     /// The declarations by their modules' names.
     order: &'a [usize],
+    /// The indices of the names of all modules, by their bytes.
+    modules: &'a [usize],
     files: Vec<PrintedFile>,
 }
 
@@ -177,20 +179,75 @@ impl<'a> Files<'a> {
         }
     }
 
+    // The modules of the namespaces in one; outside of all also those of declarations, and the root's
+    // if it is wanted.
+    fn modules_in(&self, namespace: &[u8], root: bool) -> Printer<'a> {
+        let context = self.context;
+        let mut text = Printer::new(context);
+        for index in self.modules {
+            let inner = namespace_around(context.names.namespace(*index)) == namespace;
+            let (public, wanted) = if *index < context.declared.len() {
+                ("", namespace.is_empty())
+            } else if *index < context.names.places.len() {
+                ("pub ", inner)
+            } else {
+                ("", root)
+            };
+            if wanted {
+                text.put_str(public);
+                text.put("mod $M;\n", At::declaration(*index));
+            }
+        }
+        text
+    }
+
+    // Adds the modules in a namespace, and what is declared in it.
+    fn put_namespace(
+        &self,
+        text: &mut Printer<'_>,
+        namespace: &[u8],
+        template: &str,
+    ) -> Result<(), AllocError> {
+        let context = self.context;
+        let mut uses = Printer::new(context);
+        for index in self.order {
+            if let Some(one) = context.declared.get(*index) {
+                if namespace_around(&one.name) == namespace {
+                    uses.put_passed_on(template, *index, &one.body)?;
+                }
+            }
+        }
+        // Lists of modules with nothing between them are one list.
+        let has_root = namespace.is_empty() && context.root.is_some();
+        let with_root = has_root && uses.as_str().is_empty();
+        text.join_apart(&self.modules_in(namespace, with_root));
+        text.join_apart(&uses);
+        if has_root && !with_root {
+            text.put_str("\nmod root;\n");
+        }
+        Ok(())
+    }
+
+    // Adds the files of the namespaces' modules.
+    fn put_namespaces(&mut self) -> Result<(), AllocError> {
+        let context = self.context;
+        for index in context.declared.len()..context.names.places.len() {
+            let at = At::declaration(index);
+            let mut text = Printer::new(context);
+            text.put("//! Namespace `$O`.\n", at);
+            let namespace = context.names.namespace(index);
+            self.put_namespace(&mut text, namespace, "pub use crate::$M::")?;
+            self.put("src$W.rt", at, text)?;
+        }
+        Ok(())
+    }
+
     // Adds the root of the crate.
     fn put_library(&mut self) -> Result<(), AllocError> {
         let context = self.context;
         let mut text = Printer::new(context);
-        text.put_str("//! Code of a schema.\n#![tactic(auto)]\n\n");
-        for index in by_module(context, &context.names.modules)? {
-            text.put("mod $M;\n", At::declaration(index));
-        }
-        text.put_str("\n");
-        for index in self.order {
-            if let Some(body) = context.body(*index) {
-                text.put_passed_on(*index, body)?;
-            }
-        }
+        text.put_str("//! Code of a schema.\n#![tactic(auto)]\n");
+        self.put_namespace(&mut text, &[], "pub use $M::")?;
         if context.root.is_some() {
             text.put_str(if context.identifier.is_some() {
                 ROOT
@@ -213,22 +270,33 @@ impl<'a> Files<'a> {
     }
 }
 
-// The declarations by their modules' names, or by keys of these.
-fn by_module(context: &Context<'_>, keys: &[Vec<u8>]) -> Result<Vec<usize>, AllocError> {
-    let mut order = Vec::new(context.alloc);
-    for index in 0..context.declared.len() {
+// The places of keys, by these.
+fn in_order(alloc: Global, keys: &[Vec<u8>]) -> Result<Vec<usize>, AllocError> {
+    let mut order = Vec::new(alloc);
+    for index in 0..keys.len() {
         order.push(index)?;
     }
     sort_by_key(&mut order, keys)?;
     Ok(order)
 }
 
+// The indices of modules, by their names.
+fn modules_of(context: &Context<'_>) -> Result<Vec<usize>, AllocError> {
+    let mut names = Vec::new(context.alloc);
+    for index in 0..=context.names.places.len() {
+        names.push(Vec::from_slice(context.alloc, context.names.module(index))?)?;
+    }
+    in_order(context.alloc, &names)
+}
+
 fn files_of(context: &Context<'_>) -> Result<Vec<PrintedFile>, AllocError> {
     let keys = keys_of(context.alloc, &context.names.modules)?;
-    let order = by_module(context, &keys)?;
+    let order = in_order(context.alloc, &keys)?;
+    let modules = modules_of(context)?;
     let mut files = Files {
         context,
         order: &order,
+        modules: &modules,
         files: Vec::new(context.alloc),
     };
     for (index, declared) in context.declared.iter().enumerate() {
@@ -237,6 +305,7 @@ fn files_of(context: &Context<'_>) -> Result<Vec<PrintedFile>, AllocError> {
     if let Some(root) = context.root {
         files.put_root(root)?;
     }
+    files.put_namespaces()?;
     files.put_library()?;
     files.put_definition_list()?;
     Ok(files.files)

@@ -1,7 +1,8 @@
 //! What the letters of templates stand for.
 //!
-//! Of a declaration: `c` the name of the crate, `T` the type, `M` the module; of an enum or a struct
-//! `S` its size and `A` its alignment in bytes, `P` the exponent of the alignment, `Q` how many
+//! Of a declaration: `c` the name of the crate, `T` the type, `U` the same in its namespace, `M` the
+//! module; of a namespace `M` the module, `O` the name in the schema, `W` the module's path in the
+//! folder of code; of an enum or a struct `S` its size and `A` its alignment in bytes, `P` the exponent of the alignment, `Q` how many
 //! alignments the size has; of an enum `b` its scalar type, `j` the type of its numbers in
 //! definitions and `q` the test of two of them; of a struct `y` the padding at its end.
 //!
@@ -262,6 +263,19 @@ impl<'a> Printer<'a> {
         }
     }
 
+    // The modules of the namespaces around one, and its own.
+    fn put_module_path(&mut self, namespace: &[u8]) {
+        let names = &self.context.names;
+        for index in names.modules.len()..names.places.len() {
+            let around = names.namespace(index);
+            let ends = matches!(namespace.get(around.len()), None | Some(b'.'));
+            if ends && namespace.starts_with(around) {
+                self.put_char('/');
+                self.put_name(names.module(index));
+            }
+        }
+    }
+
     /// Adds what a letter stands for that is no template.
     pub(crate) fn put_plain_hole(&mut self, letter: char, at: At) {
         let context = self.context;
@@ -269,7 +283,10 @@ impl<'a> Printer<'a> {
         match letter {
             'c' => self.put_str(context.crate_name),
             'T' => self.put_name(names.type_name(at.index)),
+            'U' => self.put_name(names.type_in_namespace(at.index)),
             'M' => self.put_name(names.module(at.index)),
+            'O' => self.put_name(names.namespace(at.index)),
+            'W' => self.put_module_path(names.namespace(at.index)),
             'n' => {
                 self.put_char(OWN);
                 self.put_name(names.member(at.index, at.place));

@@ -1,8 +1,11 @@
 //! Names that code has anyway.
 
-/// Words that are reserved in code, in clauses, or in what is printed.
+/// Words that are reserved in code.
 const RESERVED: &str =
-    "_ NOTHING Self abbrev bool core f32 f64 i16 i32 i64 i8 main planus std u16 u32 u64 u8 abstract as async await become box break builder clone const continue crate data deriving do dyn elim else ensures enum extern false fields final fn for gen ghost if impl in let loop macro match mod module move mut omega override priv prove pub record ref requires result return self static struct super syntax table trait true try type typeof unfolding union unsafe unsized use virtual where while yield";
+    "_ NOTHING Self abbrev bool core f32 f64 i16 i32 i64 i8 main planus planus_laws std u16 u32 u64 u8 abstract as async await become box break const continue crate do dyn elim else ensures enum extern false final fn for gen ghost if impl in let loop macro match mod move mut omega override priv prove pub ref requires return self static struct super syntax trait true try type typeof unfolding union unsafe unsized use virtual where while yield";
+
+/// Words that are reserved in clauses or in what is printed, and that a namespace can have.
+const RESERVED_IN_CLAUSES: &str = "builder clone data deriving fields module record result table";
 
 /// Words that definitions reserve as names of a record's fields, unless they are escaped.
 const ESCAPED: &str = "axiom infix infixl infixr mutual open unfold";
@@ -13,7 +16,7 @@ const KNOWN_TYPES: &str =
 
 /// Names of what a crate has beside its modules.
 const KNOWN_MODULES: &str =
-    "finish_root finish_root_size_prefixed has_identifier read_as_root read_size_prefixed_as_root root";
+    "finish_root finish_root_size_prefixed has_identifier lib read_as_root read_size_prefixed_as_root root";
 
 fn has_word(words: &str, name: &[u8]) -> bool {
     for word in words.split(' ') {
@@ -24,9 +27,14 @@ fn has_word(words: &str, name: &[u8]) -> bool {
     false
 }
 
-/// Returns whether no field, type or module can have this name.
-pub(crate) fn is_reserved(name: &[u8]) -> bool {
+/// Returns whether no namespace can have this name.
+pub(crate) fn is_reserved_word(name: &[u8]) -> bool {
     has_word(RESERVED, name)
+}
+
+/// Returns whether no field, type or declaration's module can have this name.
+pub(crate) fn is_reserved(name: &[u8]) -> bool {
+    is_reserved_word(name) || has_word(RESERVED_IN_CLAUSES, name)
 }
 
 /// Returns whether a field of a record has this name only if it is escaped.

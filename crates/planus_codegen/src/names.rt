@@ -2,11 +2,12 @@
 
 ghost use Rattle.std.specs.Prelude.{◌≡◌, length, true, IfOk};
 ghost use Rattle.planus_codegen.specs.Names.{are_names as are_names_lem, are_scopes as are_scopes_lem};
+ghost use Rattle.planus_codegen.specs.Names.{are_apart as are_apart_lem};
 ghost use Rattle.planus_codegen.specs.Names.{are_apart_from as are_apart_from_lem};
 
-use crate::known::{is_known_module, is_known_type, is_reserved};
+use crate::known::{is_known_module, is_known_type, is_reserved, is_reserved_word};
 use crate::refusal::Refusal;
-use crate::scope::{are_apart_from, are_names, are_scopes, is_among};
+use crate::scope::{are_apart, are_apart_from, are_names, are_scopes, is_among};
 use planus_layout::{Body, Declared, Enum, is_among as is_in};
 use std::alloc::{AllocError, Global};
 
@@ -16,6 +17,11 @@ pub struct Names {
     pub types: Vec<Vec<u8>>,
     pub modules: Vec<Vec<u8>>,
     pub members: Vec<Vec<Vec<u8>>>,
+    /// Of each type, and then of each namespace, the name in the module of the namespace around it,
+    /// after that namespace's name in the schema: `game.data.Item`.
+    pub places: Vec<Vec<u8>>,
+    /// The namespaces as the schema has them, each after the one around it.
+    pub namespaces: Vec<Vec<u8>>,
 }
 
 /// How a name of the schema becomes one of code.
@@ -47,7 +53,7 @@ fn is_lower(byte: Option<&u8>) -> bool {
 fn begins_word(bytes: &[u8], at: usize) -> bool {
     match at.checked_sub(1) {
         Some(before) => {
-            bytes.get(before) != Some(&b'_')
+            !matches!(bytes.get(before), Some(b'_' | b'.'))
                 && (!is_upper(bytes.get(before)) || is_lower(bytes.get(at.saturating_add(1))))
         }
         None => false,
@@ -62,9 +68,12 @@ fn spelled_byte(byte: u8, spelling: Spelling) -> u8 {
     }
 }
 
+// The last word of a name is spelled so; the namespaces before it are kept.
 fn spelled(alloc: Global, name: &[u8], spelling: Spelling) -> Result<Vec<u8>, AllocError> {
     let mut out = Vec::new(alloc);
+    let start = name.len().saturating_sub(last_word(name).len());
     for (at, byte) in name.iter().enumerate() {
+        let spelling = if at < start { Spelling::Kept } else { spelling };
         let apart = !matches!(spelling, Spelling::Kept) && byte.is_ascii_uppercase();
         if apart && begins_word(name, at) {
             out.push(b'_')?;
@@ -83,6 +92,13 @@ fn last_word(name: &[u8]) -> &[u8] {
         }
     }
     word
+}
+
+/// Returns the namespace around what has this name in the schema; it is empty where there is none.
+pub(crate) fn namespace_around(name: &[u8]) -> &[u8] {
+    let behind = last_word(name).len().saturating_add(1);
+    name.get(..name.len().saturating_sub(behind))
+        .unwrap_or(name)
 }
 
 /// Adds a name, with as many `_` behind it as make it differ from each that is there, also in letters
@@ -106,17 +122,25 @@ fn add_allowed(names: &mut Vec<Vec<u8>>, mut name: Vec<u8>) -> Result<(), AllocE
     add(names, name)
 }
 
-fn type_names(alloc: Global, declared: &[Declared]) -> Result<Vec<Vec<u8>>, AllocError> {
+// The names of types: `whole` ones stand after their namespaces, and differ in each of these.
+fn type_names(
+    alloc: Global,
+    declared: &[Declared],
+    whole: bool,
+) -> Result<Vec<Vec<u8>>, AllocError> {
     let mut names = Vec::new(alloc);
     for one in declared {
-        let mut name = spelled(alloc, last_word(&one.name), Spelling::Kept)?;
-        if let Some(first) = name.first_mut() {
+        let word = last_word(&one.name);
+        let said = if whole { one.name.as_slice() } else { word };
+        let mut name = Vec::from_slice(alloc, said)?;
+        if let Some(first) = name.get_mut(said.len().saturating_sub(word.len())) {
             *first = first.to_ascii_uppercase();
         }
-        if is_known_type(&name) {
+        let word = last_word(&name);
+        if is_known_type(word) || is_reserved(word) {
             name.push(b'_')?;
         }
-        add_allowed(&mut names, name)?;
+        add(&mut names, name)?;
     }
     Ok(names)
 }
@@ -186,20 +210,54 @@ pub(crate) fn name_at(names: &[Vec<u8>], index: usize) -> &[u8] {
 }
 
 fn names_of(alloc: Global, declared: &[Declared]) -> Result<Names, AllocError> {
-    let types = type_names(alloc, declared)?;
+    let types = type_names(alloc, declared, false)?;
     let modules = module_names(alloc, &types)?;
     let mut members = Vec::new(alloc);
     for one in declared {
         members.push(members_of(alloc, &one.body)?)?;
     }
-    Ok(Names {
+    let mut names = Names {
         types,
         modules,
         members,
-    })
+        places: type_names(alloc, declared, true)?,
+        namespaces: Vec::new(alloc),
+    };
+    for one in declared {
+        names.add_namespaces(alloc, &one.name)?;
+    }
+    Ok(names)
 }
 
 impl Names {
+    // Adds the namespaces around a name that aren't there.
+    fn add_namespaces(&mut self, alloc: Global, name: &[u8]) -> Result<(), AllocError> {
+        for (at, byte) in name.iter().enumerate() {
+            let namespace = name.get(..at).unwrap_or(name);
+            if *byte == b'.' && !is_in(&self.namespaces, namespace) {
+                self.add_namespace(alloc, namespace)?;
+            }
+        }
+        Ok(())
+    }
+
+    // Adds a namespace, its module with as many `_` behind its name as make it differ.
+    fn add_namespace(&mut self, alloc: Global, namespace: &[u8]) -> Result<(), AllocError> {
+        let mut place = spelled(alloc, namespace, Spelling::Snake)?;
+        if is_reserved_word(last_word(&place)) || is_known_module(&place) {
+            place.push(b'_')?;
+        }
+        for _ in 0..self.places.len().saturating_add(self.modules.len()) {
+            if !is_among(&self.places, &place) && !is_among(&self.modules, &place) {
+                break;
+            }
+            place.push(b'_')?;
+        }
+        self.places.push(place)?;
+        self.namespaces.push(Vec::from_slice(alloc, namespace)?)?;
+        Ok(())
+    }
+
     /// Returns the names of what is declared.
     ///
     /// [`Refusal::Unsupported`] where one is no identifier, or two of a scope are alike: no names that
@@ -212,12 +270,14 @@ impl Names {
         ensures modules { IfOk result (λ n. are_names_lem n.modules.items ≡ true) }
         ensures apart { IfOk result (λ n. are_apart_from_lem n.types.items n.modules.items ≡ true) }
         ensures members { IfOk result (λ n. are_scopes_lem n.members.items ≡ true) }
+        ensures places { IfOk result (λ n. are_apart_lem n.places.items ≡ true) }
     {
         let names = names_of(alloc, declared)?;
         let whole = names.types.len() == declared.len() && names.modules.len() == declared.len();
         let whole = whole && names.members.len() == declared.len();
         let apart = are_names(&names.types) && are_names(&names.modules);
         let apart = apart && are_apart_from(&names.types, &names.modules);
+        let apart = apart && are_apart(&names.places);
         if whole && apart && are_scopes(&names.members) {
             return Ok(names);
         }
@@ -232,9 +292,27 @@ impl Names {
         name_at(&self.types, index)
     }
 
-    /// Returns the name of a declaration's module.
+    /// Returns the name of a declaration's type in its namespace.
+    pub(crate) fn type_in_namespace(&self, index: usize) -> &[u8] {
+        last_word(name_at(&self.places, index))
+    }
+
+    /// Returns the name of a declaration's module, of a namespace's or of the root's. The indices of
+    /// namespaces follow those of declarations, and then comes the root's.
     pub(crate) fn module(&self, index: usize) -> &[u8] {
-        name_at(&self.modules, index)
+        match (self.modules.get(index), self.places.get(index)) {
+            (Some(name), _) => name.as_slice(),
+            (None, Some(place)) => last_word(place),
+            (None, None) => b"root",
+        }
+    }
+
+    /// Returns the name of a namespace in the schema.
+    pub(crate) fn namespace(&self, index: usize) -> &[u8] {
+        match index.checked_sub(self.modules.len()) {
+            Some(place) => name_at(&self.namespaces, place),
+            None => &[],
+        }
     }
 
     /// Returns how many members a declaration has.

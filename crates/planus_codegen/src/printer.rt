@@ -156,6 +156,14 @@ impl<'a> Printer<'a> {
         self.failed = self.failed || other.failed;
     }
 
+    /// Adds another printed text after an empty line, if it isn't empty.
+    pub(crate) fn join_apart(&mut self, other: &Printer<'_>) {
+        if !other.text.is_empty() {
+            self.put_char('\n');
+        }
+        self.join(other);
+    }
+
     /// Returns the text so far.
     pub(crate) fn as_str(&self) -> &str {
         self.text.as_str()

@@ -47,7 +47,7 @@ pub(crate) fn is_among(names: &[Vec<u8>], name: &[u8]) -> bool
 }
 
 /// Returns whether no two names are alike.
-fn are_apart(names: &[Vec<u8>]) -> bool
+pub(crate) fn are_apart(names: &[Vec<u8>]) -> bool
     ensures { result ≡ are_apart_lem names.now }
 {
     let mut rest = names;

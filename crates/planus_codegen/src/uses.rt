@@ -51,9 +51,12 @@ impl<'a> Printer<'a> {
         }
     }
 
-    // Adds the names of a declaration's types that are among the words, or all.
+    // Adds the names of a declaration's types that are among the words, or all, as its namespace has
+    // them.
     fn list_types(&mut self, at: At, body: &Body, words: Option<&Words<'_>>) {
         let context = self.context;
+        let names = &context.names;
+        let renamed = names.type_in_namespace(at.index) != names.type_name(at.index);
         for ending in endings(body) {
             let wanted = match words {
                 Some(words) => words.has(context.names.type_name(at.index), *ending),
@@ -63,6 +66,10 @@ impl<'a> Printer<'a> {
                 self.put_comma();
                 self.put("$T", at);
                 self.put_str(*ending);
+                if words.is_none() && renamed {
+                    self.put(" as $U", at);
+                    self.put_str(*ending);
+                }
             }
         }
     }
@@ -140,8 +147,13 @@ impl<'a> Printer<'a> {
         self.put_planus_uses(words);
     }
 
-    /// Adds what the crate passes on of a declaration.
-    pub(crate) fn put_passed_on(&mut self, index: usize, body: &Body) -> Result<(), AllocError> {
+    /// Adds what a module passes on of a declaration, whose module is found by a template.
+    pub(crate) fn put_passed_on(
+        &mut self,
+        template: &str,
+        index: usize,
+        body: &Body,
+    ) -> Result<(), AllocError> {
         let at = At::declaration(index);
         let mut names = Printer::new(self.context);
         if let Body::Table(one) = body {
@@ -152,7 +164,7 @@ impl<'a> Printer<'a> {
         }
         names.list_types(at, body, None);
         let mut path = Printer::new(self.context);
-        path.put("pub use $M::", at);
+        path.put(template, at);
         self.put_use(&path, &names);
         Ok(())
     }
