@@ -79,8 +79,8 @@ fn measure_of(line: &str) -> Measure {
     measure
 }
 
-/// Returns the blanks of a line that goes on with one of so many: 4 more, but as many where they are
-/// 4, in lists of names and in definitions.
+/// Returns the blanks of a line that goes on with one of so many: 4 more, but as many where they
+/// are 4, in lists of names and in definitions.
 fn going_on(indent: usize, is_ghost: bool) -> usize {
     if indent == 4 && !is_ghost {
         4

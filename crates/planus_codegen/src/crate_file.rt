@@ -70,8 +70,8 @@ impl<'a> Files<'a> {
         Ok(uses)
     }
 
-    // A file of code: its first line, its imports, and what is printed. `own` is the declaration whose
-    // types it has.
+    // A file of code: its first line, its imports, and what is printed. `own` is the declaration
+    // whose types it has.
     fn code_file(
         &self,
         head: &str,
@@ -179,8 +179,8 @@ impl<'a> Files<'a> {
         }
     }
 
-    // The modules of the namespaces in one; outside of all also those of declarations, and the root's
-    // if it is wanted.
+    // The modules of the namespaces in one; outside of all also those of declarations, and the
+    // root's if it is wanted.
     fn modules_in(&self, namespace: &[u8], root: bool) -> Printer<'a> {
         let context = self.context;
         let mut text = Printer::new(context);

@@ -1,22 +1,23 @@
 //! What the letters of templates stand for.
 //!
-//! Of a declaration: `c` the name of the crate, `T` the type, `U` the same in its namespace, `M` the
-//! module; of a namespace `M` the module, `O` the name in the schema, `W` the module's path in the
-//! folder of code; of an enum or a struct `S` its size and `A` its alignment in bytes, `P` the exponent of the alignment, `Q` how many
-//! alignments the size has; of an enum `b` its scalar type, `j` the type of its numbers in
-//! definitions and `q` the test of two of them; of a struct `y` the padding at its end.
+//! Of a declaration: `c` the name of the crate, `T` the type, `U` the same in its namespace, `M`
+//! the module; of a namespace `M` the module, `O` the name in the schema, `W` the module's path in
+//! the folder of code; of an enum or a struct `S` its size and `A` its alignment in bytes, `P` the
+//! exponent of the alignment, `Q` how many alignments the size has; of an enum `b` its scalar type,
+//! `j` the type of its numbers in definitions and `q` the test of two of them; of a struct `y` the
+//! padding at its end.
 //!
-//! Of a member: `n` its name, `N` the same in capitals, `s` as the schema has it, `p` its place; of a
-//! value of an enum `i` its number in code and `k` in definitions; of a field `t` the type of its
+//! Of a member: `n` its name, `N` the same in capitals, `s` as the schema has it, `p` its place; of
+//! a value of an enum `i` its number in code and `k` in definitions; of a field `t` the type of its
 //! value and `h` the name of its shape; of a field of a struct `z` its size and `d` its distance in
 //! bytes, `x` the padding before it, `w` the distance after a colon, if it isn't the first, `f` its
 //! name in a record and `v` its value in the values of all; of a member of a union `g` its tag and
 //! `m` its table.
 //!
-//! Of a field of a table: `o` its slot, `u` the slot before, `r` the slot under which it is read; `l`
-//! its default as an integer and `L` the same in clauses, `e` as a value of an enum, `F` as a float;
-//! and, as templates of these letters, `G` its type as it is given, `R` as it is read, `E` as it is
-//! encoded, `D` its default in code and `K` in clauses.
+//! Of a field of a table: `o` its slot, `u` the slot before, `r` the slot under which it is read;
+//! `l` its default as an integer and `L` the same in clauses, `e` as a value of an enum, `F` as a
+//! float; and, as templates of these letters, `G` its type as it is given, `R` as it is read, `E`
+//! as it is encoded, `D` its default in code and `K` in clauses.
 
 use crate::at::At;
 use crate::context::{Context, scalar_name};

@@ -1,7 +1,8 @@
 //! The names that code has for what a schema declares.
 
 ghost use Rattle.std.specs.Prelude.{◌≡◌, length, true, IfOk};
-ghost use Rattle.planus_codegen.specs.Names.{are_names as are_names_lem, are_scopes as are_scopes_lem};
+ghost use Rattle.planus_codegen.specs.Names.{are_names as are_names_lem};
+ghost use Rattle.planus_codegen.specs.Names.{are_scopes as are_scopes_lem};
 ghost use Rattle.planus_codegen.specs.Names.{are_apart as are_apart_lem};
 ghost use Rattle.planus_codegen.specs.Names.{are_apart_from as are_apart_from_lem};
 
@@ -101,8 +102,8 @@ pub(crate) fn namespace_around(name: &[u8]) -> &[u8] {
         .unwrap_or(name)
 }
 
-/// Adds a name, with as many `_` behind it as make it differ from each that is there, also in letters
-/// that aren't capitals.
+/// Adds a name, with as many `_` behind it as make it differ from each that is there, also in
+/// letters that aren't capitals.
 fn add(names: &mut Vec<Vec<u8>>, mut name: Vec<u8>) -> Result<(), AllocError> {
     for _ in 0..names.len() {
         if !is_among(names, &name) {
@@ -260,12 +261,14 @@ impl Names {
 
     /// Returns the names of what is declared.
     ///
-    /// [`Refusal::Unsupported`] where one is no identifier, or two of a scope are alike: no names that
-    /// a schema may have come to that.
+    /// [`Refusal::Unsupported`] where one is no identifier, or two of a scope are alike: no names
+    /// that a schema may have come to that.
     pub fn of(alloc: Global, declared: &[Declared]) -> Result<Names, Refusal>
         ensures counts { IfOk result (λ n. length n.types.items ≡ length declared.now) }
-        ensures counts_of_modules { IfOk result (λ n. length n.modules.items ≡ length declared.now) }
-        ensures counts_of_members { IfOk result (λ n. length n.members.items ≡ length declared.now) }
+        ensures counts_of_modules { IfOk result (λ n. length n.modules.items
+            ≡ length declared.now) }
+        ensures counts_of_members { IfOk result (λ n. length n.members.items
+            ≡ length declared.now) }
         ensures types { IfOk result (λ n. are_names_lem n.types.items ≡ true) }
         ensures modules { IfOk result (λ n. are_names_lem n.modules.items ≡ true) }
         ensures apart { IfOk result (λ n. are_apart_from_lem n.types.items n.modules.items ≡ true) }
@@ -297,8 +300,8 @@ impl Names {
         last_word(name_at(&self.places, index))
     }
 
-    /// Returns the name of a declaration's module, of a namespace's or of the root's. The indices of
-    /// namespaces follow those of declarations, and then comes the root's.
+    /// Returns the name of a declaration's module, of a namespace's or of the root's. The indices
+    /// of namespaces follow those of declarations, and then comes the root's.
     pub(crate) fn module(&self, index: usize) -> &[u8] {
         match (self.modules.get(index), self.places.get(index)) {
             (Some(name), _) => name.as_slice(),

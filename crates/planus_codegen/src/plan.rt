@@ -86,8 +86,8 @@ fn put_in_order(order: &mut Vec<Line<'_>>) -> Result<(), AllocError>
 }
 
 impl<'a> Plan<'a> {
-    /// Returns the plan of a table, whose declaration has this index: its fields by falling alignment,
-    /// and the size of its vtable.
+    /// Returns the plan of a table, whose declaration has this index: its fields by falling
+    /// alignment, and the size of its vtable.
     pub fn of(
         alloc: Global,
         declared: &[Declared],

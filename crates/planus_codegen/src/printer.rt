@@ -84,7 +84,8 @@ impl<'a> Printer<'a> {
         }
     }
 
-    /// Adds a template for each member of a declaration, after its documentation or else these words.
+    /// Adds a template for each member of a declaration, after its documentation or else these
+    /// words.
     pub(crate) fn put_members(&mut self, words: &str, template: &str, at: At) {
         for place in 0..self.context.names.count(at.index) {
             let at = at.member(place);

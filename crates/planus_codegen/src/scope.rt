@@ -1,12 +1,15 @@
 //! What the names of a scope are.
 
 ghost use Rattle.std.specs.Prelude.{◌≡◌};
-ghost use Rattle.planus_codegen.specs.Names.{is_name as is_name_lem, is_name_byte as is_name_byte_lem};
-ghost use Rattle.planus_codegen.specs.Names.{are_apart as are_apart_lem, are_names as are_names_lem};
+ghost use Rattle.planus_codegen.specs.Names.{is_name as is_name_lem};
+ghost use Rattle.planus_codegen.specs.Names.{is_name_byte as is_name_byte_lem};
+ghost use Rattle.planus_codegen.specs.Names.{are_apart as are_apart_lem};
+ghost use Rattle.planus_codegen.specs.Names.{are_names as are_names_lem};
 ghost use Rattle.planus_codegen.specs.Names.{begins_name as begins_name_lem};
 ghost use Rattle.planus_codegen.specs.Names.{is_among as is_among_lem};
 ghost use Rattle.planus_codegen.specs.Names.{are_apart_from as are_apart_from_lem};
-ghost use Rattle.planus_codegen.specs.Names.{are_all_names as are_all_names_lem, are_scopes as are_scopes_lem};
+ghost use Rattle.planus_codegen.specs.Names.{are_all_names as are_all_names_lem};
+ghost use Rattle.planus_codegen.specs.Names.{are_scopes as are_scopes_lem};
 
 use planus_layout::is_among as is_in;
 
@@ -25,7 +28,8 @@ fn begins_name(name: &[u8]) -> bool
     }
 }
 
-/// Returns whether a name is an identifier: letters, digits and `_`, of which the first is no digit.
+/// Returns whether a name is an identifier: letters, digits and `_`, of which the first is no
+/// digit.
 fn is_name(name: &[u8]) -> bool
     ensures { result ≡ is_name_lem name.now }
 {

@@ -51,8 +51,8 @@ impl<'a> Printer<'a> {
         }
     }
 
-    // Adds the names of a declaration's types that are among the words, or all, as its namespace has
-    // them.
+    // Adds the names of a declaration's types that are among the words, or all, as its namespace
+    // has them.
     fn list_types(&mut self, at: At, body: &Body, words: Option<&Words<'_>>) {
         let context = self.context;
         let names = &context.names;
