@@ -37,7 +37,7 @@ struct Files<'a> {
     context: &'a Context<'a>,
     /// The declarations by their modules' names.
     order: &'a [usize],
-    /// The indices of the names of all modules, by their bytes.
+    /// The indices of all modules, by the bytes of their names.
     modules: &'a [usize],
     files: Vec<PrintedFile>,
 }

@@ -69,7 +69,7 @@ fn spelled_byte(byte: u8, spelling: Spelling) -> u8 {
     }
 }
 
-// The last word of a name is spelled so; the namespaces before it are kept.
+// Spells the last word of a name; the namespaces before it are kept.
 fn spelled(alloc: Global, name: &[u8], spelling: Spelling) -> Result<Vec<u8>, AllocError> {
     let mut out = Vec::new(alloc);
     let start = name.len().saturating_sub(last_word(name).len());
