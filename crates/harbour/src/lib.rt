@@ -19,7 +19,7 @@ pub use needs::Needs;
 pub use owner::{Owner, OwnerRef};
 pub use person::{Person, PersonFields, PersonRef};
 pub use pos::Pos;
-pub use ship::{DEFAULT_HEAT, DEFAULT_NEEDS, Ship, ShipFields, ShipRef};
+pub use ship::{Ship, ShipFields, ShipRef};
 
 mod root;
 

@@ -202,18 +202,13 @@ impl<'a> Files<'a> {
     }
 
     // Adds the modules in a namespace, and what is declared in it.
-    fn put_namespace(
-        &self,
-        text: &mut Printer<'_>,
-        namespace: &[u8],
-        template: &str,
-    ) -> Result<(), AllocError> {
+    fn put_namespace(&self, text: &mut Printer<'_>, namespace: &[u8], template: &str) {
         let context = self.context;
         let mut uses = Printer::new(context);
         for index in self.order {
             if let Some(one) = context.declared.get(*index) {
                 if namespace_around(&one.name) == namespace {
-                    uses.put_passed_on(template, *index, &one.body)?;
+                    uses.put_passed_on(template, *index, &one.body);
                 }
             }
         }
@@ -225,7 +220,6 @@ impl<'a> Files<'a> {
         if has_root && !with_root {
             text.put_str("\nmod root;\n");
         }
-        Ok(())
     }
 
     // Adds the files of the namespaces' modules.
@@ -236,7 +230,7 @@ impl<'a> Files<'a> {
             let mut text = Printer::new(context);
             text.put("//! Namespace `$O`.\n", at);
             let namespace = context.names.namespace(index);
-            self.put_namespace(&mut text, namespace, "pub use crate::$M::")?;
+            self.put_namespace(&mut text, namespace, "pub use crate::$M::");
             self.put("src$W.rt", at, text)?;
         }
         Ok(())
@@ -247,7 +241,7 @@ impl<'a> Files<'a> {
         let context = self.context;
         let mut text = Printer::new(context);
         text.put_str("//! Code of a schema.\n#![tactic(auto)]\n");
-        self.put_namespace(&mut text, &[], "pub use $M::")?;
+        self.put_namespace(&mut text, &[], "pub use $M::");
         if context.root.is_some() {
             text.put_str(if context.identifier.is_some() {
                 ROOT

@@ -146,11 +146,25 @@ fn type_names(
     Ok(names)
 }
 
-fn module_names(alloc: Global, types: &[Vec<u8>]) -> Result<Vec<Vec<u8>>, AllocError> {
+// Whether a namespace that is in no other has this name.
+fn is_outermost(declared: &[Declared], name: &[u8]) -> bool {
+    for one in declared {
+        if one.name.starts_with(name) && one.name.get(name.len()) == Some(&b'.') {
+            return true;
+        }
+    }
+    false
+}
+
+fn module_names(
+    alloc: Global,
+    declared: &[Declared],
+    types: &[Vec<u8>],
+) -> Result<Vec<Vec<u8>>, AllocError> {
     let mut names = Vec::new(alloc);
     for name in types {
         let mut name = spelled(alloc, name, Spelling::Snake)?;
-        if is_in(types, &name) || is_known_module(&name) {
+        if is_in(types, &name) || is_known_module(&name) || is_outermost(declared, &name) {
             name.push(b'_')?;
         }
         add_allowed(&mut names, name)?;
@@ -212,7 +226,7 @@ pub(crate) fn name_at(names: &[Vec<u8>], index: usize) -> &[u8] {
 
 fn names_of(alloc: Global, declared: &[Declared]) -> Result<Names, AllocError> {
     let types = type_names(alloc, declared, false)?;
-    let modules = module_names(alloc, &types)?;
+    let modules = module_names(alloc, declared, &types)?;
     let mut members = Vec::new(alloc);
     for one in declared {
         members.push(members_of(alloc, &one.body)?)?;

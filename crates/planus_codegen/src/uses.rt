@@ -2,12 +2,9 @@
 
 use crate::at::At;
 use crate::context::Context;
-use crate::defaults::has_constant;
-use crate::order::{keys_of, sort_by_key};
 use crate::printer::Printer;
 use crate::words::Words;
-use planus_layout::{Body, Table};
-use std::alloc::AllocError;
+use planus_layout::Body;
 
 /// The names of `planus` that code may need.
 const NAMES: &str =
@@ -23,24 +20,6 @@ fn endings(body: &Body) -> &'static [&'static str] {
         Body::Union(_) => &["", "Ref"],
         Body::Struct(_) | Body::Enum(_) => &[""],
     }
-}
-
-// The places of a table's fields whose default has a constant, by their names.
-fn constants_of(
-    context: &Context<'_>,
-    index: usize,
-    one: &Table,
-) -> Result<Vec<usize>, AllocError> {
-    let mut places = Vec::new(context.alloc);
-    for (place, field) in one.fields.iter().enumerate() {
-        if !field.deprecated && has_constant(context, field) {
-            places.push(place)?;
-        }
-    }
-    if let Some(names) = context.names.members.get(index) {
-        sort_by_key(&mut places, &keys_of(context.alloc, names)?)?;
-    }
-    Ok(places)
 }
 
 impl<'a> Printer<'a> {
@@ -148,25 +127,13 @@ impl<'a> Printer<'a> {
     }
 
     /// Adds what a module passes on of a declaration, whose module is found by a template.
-    pub(crate) fn put_passed_on(
-        &mut self,
-        template: &str,
-        index: usize,
-        body: &Body,
-    ) -> Result<(), AllocError> {
+    pub(crate) fn put_passed_on(&mut self, template: &str, index: usize, body: &Body) {
         let at = At::declaration(index);
         let mut names = Printer::new(self.context);
-        if let Body::Table(one) = body {
-            for place in constants_of(self.context, index, one)? {
-                names.put_comma();
-                names.put("DEFAULT_$N", at.member(place));
-            }
-        }
         names.list_types(at, body, None);
         let mut path = Printer::new(self.context);
         path.put(template, at);
         self.put_use(&path, &names);
-        Ok(())
     }
 
     /// Adds the file identifier, whose bytes these are.
