@@ -50,32 +50,27 @@ fn scalar_name(scalar: Scalar) -> &'static str {
 }
 
 /// Returns whether the declaration of this index has this name.
-fn is_named(schema: &Schema, index: usize, said: &str) -> bool {
+fn is_named(schema: &Schema, index: usize, said: &[u8]) -> bool {
     match schema.declarations.get(index) {
-        Some(declared) => declared.name.as_slice() == said.as_bytes(),
+        Some(declared) => declared.name.as_slice() == said,
         None => false,
     }
 }
 
-fn is_base(schema: &Schema, base: Base, said: &str) -> bool {
+fn is_base(schema: &Schema, base: Base, said: &[u8]) -> bool {
     match base {
-        Base::Scalar(scalar) => scalar_name(scalar) == said,
-        Base::Text => said == "string",
+        Base::Scalar(scalar) => scalar_name(scalar).as_bytes() == said,
+        Base::Text => said == b"string".as_slice(),
         Base::Enum(index) | Base::Struct(index) | Base::Table(index) | Base::Union(index) => {
             is_named(schema, index, said)
         }
     }
 }
 
-/// Returns what a vector's items are called.
-fn item(said: &str) -> Option<&str> {
-    said.strip_prefix('[')?.strip_suffix(']')
-}
-
-fn is_type(schema: &Schema, kind: FieldType, said: &str) -> bool {
-    match item(said) {
-        Some(item) => kind.vector && is_base(schema, kind.base, item),
-        None => !kind.vector && is_base(schema, kind.base, said),
+fn is_type(schema: &Schema, kind: FieldType, said: &[u8]) -> bool {
+    match said {
+        [b'[', item @ .., b']'] => kind.vector && is_base(schema, kind.base, item),
+        _ => !kind.vector && is_base(schema, kind.base, said),
     }
 }
 
@@ -114,7 +109,7 @@ fn field_has(field: &TableField, said: &str) -> bool {
 fn field_says(schema: &Schema, field: &TableField, fact: &Fact<'_>) -> bool {
     match fact.word {
         "slot" => is_size(field.slot, fact.said),
-        "of" => is_type(schema, field.kind, fact.said),
+        "of" => is_type(schema, field.kind, fact.said.as_bytes()),
         "has" => field_has(field, fact.said),
         "default" => match integer(field) {
             Some(number) => is_number(number, fact.said),
@@ -148,7 +143,7 @@ fn struct_says(schema: &Schema, field: &StructField, name: &[u8], fact: &Fact<'_
     field.name.as_slice() == name
         && match fact.word {
             "at" => is_size(field.distance, fact.said),
-            "of" => is_base(schema, field.base, fact.said),
+            "of" => is_base(schema, field.base, fact.said.as_bytes()),
             _ => false,
         }
 }
@@ -161,7 +156,7 @@ fn member_says(schema: &Schema, member: &UnionMember, name: &[u8], fact: &Fact<'
     member.name.as_slice() == name
         && match fact.word {
             "is" => is_size(member.tag as usize, fact.said),
-            "of" => is_named(schema, member.table, fact.said),
+            "of" => is_named(schema, member.table, fact.said.as_bytes()),
             _ => false,
         }
 }
@@ -230,7 +225,7 @@ fn is_text(text: &Option<Vec<u8>>, said: &str) -> bool {
 fn schema_says(schema: &Schema, fact: &Fact<'_>) -> bool {
     match fact.word {
         "root" => match schema.statements.root {
-            Some(index) => is_named(schema, index, fact.said),
+            Some(index) => is_named(schema, index, fact.said.as_bytes()),
             None => false,
         },
         "identifier" => is_text(&schema.statements.identifier, fact.said),
