@@ -7,7 +7,6 @@ use crate::enums::{print_enum, print_flags, print_flags_layout, print_numbers};
 use crate::field_lines::{print_constant_uses, print_field_lines};
 use crate::names::namespace_around;
 use crate::order::{keys_of, sort_by_key};
-use crate::plan::Plan;
 use crate::printer::Printer;
 use crate::refusal::Refusal;
 use crate::root::print_root;
@@ -17,6 +16,7 @@ use crate::tables::{print_read_back, print_table};
 use crate::unions::{print_union, print_variants};
 use crate::words::{Part, Words};
 use planus_layout::{Body, Declared, Schema};
+use planus_plan::Plan;
 use std::alloc::{AllocError, Global};
 
 const ROOT: &str =

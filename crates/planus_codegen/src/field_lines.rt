@@ -3,10 +3,10 @@
 use crate::at::At;
 use crate::context::{Context, is_signed};
 use crate::defaults::{has_constant, is_judged};
-use crate::plan::Plan;
 use crate::printer::Printer;
 use crate::types::{has_default, is_bytes, is_optional, is_union};
 use planus_layout::{Base, Scalar, TableField};
+use planus_plan::Plan;
 
 const HEAD: &str =
     "-- by slots, in the order in which they are written, given which values are the defaults\nabbrev pub $M_lines :";
@@ -93,7 +93,7 @@ pub(crate) fn print_constant_uses<'a>(context: &'a Context<'a>, plan: &Plan<'_>)
     let mut printer = Printer::new(context);
     for line in &plan.lines {
         if has_constant(context, line.field) {
-            printer.put(CONSTANT, line.at());
+            printer.put(CONSTANT, At::line(line));
         }
     }
     printer
@@ -111,7 +111,7 @@ pub(crate) fn print_field_lines<'a>(context: &'a Context<'a>, plan: &Plan<'_>) -
             } else {
                 ""
             },
-            line.at(),
+            At::line(line),
         );
     }
     printer.put("~$TFields~→~List FieldLine\n$M_lines", at);
@@ -122,12 +122,12 @@ pub(crate) fn print_field_lines<'a>(context: &'a Context<'a>, plan: &Plan<'_>) -
             } else {
                 ""
             },
-            line.at(),
+            At::line(line),
         );
     }
     printer.put("~fields~=\n", at);
     for line in &plan.order {
-        printer.put_field_line(line.field, line.at());
+        printer.put_field_line(line.field, At::line(line));
     }
     printer.put("    []\n", at);
     printer

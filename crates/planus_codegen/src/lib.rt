@@ -14,11 +14,9 @@ mod imports;
 mod known;
 mod names;
 mod order;
-mod plan;
 mod printer;
 mod refusal;
 mod root;
-mod scope;
 mod structs;
 mod supported;
 mod table_views;
@@ -30,5 +28,4 @@ mod words;
 
 pub use crate_file::{PrintedFile, print_crate};
 pub use names::Names;
-pub use plan::{Line, Plan};
 pub use refusal::Refusal;

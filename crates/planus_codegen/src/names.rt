@@ -1,15 +1,15 @@
 //! The names that code has for what a schema declares.
 
 ghost use Rattle.std.specs.Prelude.{◌≡◌, length, true, IfOk};
-ghost use Rattle.planus_codegen.specs.Names.{are_names as are_names_lem};
-ghost use Rattle.planus_codegen.specs.Names.{are_scopes as are_scopes_lem};
-ghost use Rattle.planus_codegen.specs.Names.{are_apart as are_apart_lem};
-ghost use Rattle.planus_codegen.specs.Names.{are_apart_from as are_apart_from_lem};
+ghost use Rattle.planus_plan.specs.Names.{are_names as are_names_lem};
+ghost use Rattle.planus_plan.specs.Names.{are_scopes as are_scopes_lem};
+ghost use Rattle.planus_plan.specs.Names.{are_apart as are_apart_lem};
+ghost use Rattle.planus_plan.specs.Names.{are_apart_from as are_apart_from_lem};
 
 use crate::known::{is_known_module, is_known_type, is_reserved, is_reserved_word};
 use crate::refusal::Refusal;
-use crate::scope::{are_apart, are_apart_from, are_names, are_scopes, is_among};
 use planus_layout::{Body, Declared, Enum, is_among as is_in};
+use planus_plan::{are_apart, are_apart_from, are_names, are_scopes, is_among};
 use std::alloc::{AllocError, Global};
 
 /// The names of a schema's types and modules in code, and those of the members of each type.

@@ -1,10 +1,10 @@
 //! Views of tables: a method a field.
 
 use crate::at::At;
-use crate::plan::{Line, Plan};
 use crate::printer::Printer;
 use crate::types::{has_default, is_bytes, is_union};
 use planus_layout::{Base, TableField};
+use planus_plan::{Line, Plan};
 
 const VIEW: &str =
     "/// One in a buffer.\n#[derive(Clone, Copy)]\npub struct $TRef<'a> {\n    table: Table<'a>,\n}\n\n";
@@ -97,7 +97,7 @@ fn arguments(field: &TableField) -> &'static str {
 impl<'a> Printer<'a> {
     fn put_accessor(&mut self, line: Line<'_>) {
         let field = line.field;
-        let at = line.at();
+        let at = At::line(line);
         self.put_docs("    ", &field.docs, "    /// Returns `$s`.\n", at);
         self.put(
             "    pub fn $n(^&self^) -> Result<$R>\n        ensures {",

@@ -3,10 +3,10 @@
 use crate::at::At;
 use crate::context::Context;
 use crate::defaults::{default_value, has_constant, is_judged};
-use crate::plan::Plan;
 use crate::printer::Printer;
 use crate::types::{has_default, is_optional, is_union};
 use planus_layout::{Base, Declared, TableField};
+use planus_plan::Plan;
 
 const FIELDS: &str =
     "/// The fields of `$T`, as [`$T::create`] takes them.\n#[derive(Drop)]\npub struct $TFields";
@@ -107,7 +107,7 @@ impl<'a> Printer<'a> {
     fn put_constants(&mut self, plan: &Plan<'_>) {
         for line in &plan.lines {
             if has_constant(self.context, line.field) {
-                let at = line.at();
+                let at = At::line(line);
                 self.put("/// The default of `$s`.\npub const DEFAULT_$N: $t = ", at);
                 self.put(default_value(self.context, line.field), at);
                 self.put(";\n\n", at);
@@ -122,7 +122,7 @@ impl<'a> Printer<'a> {
         self.put_str(if plan.lines.is_empty() { "" } else { "\n" });
         for line in &plan.lines {
             self.put_docs("    ", &line.field.docs, "", at);
-            self.put("    pub $n: $G,\n", line.at());
+            self.put("    pub $n: $G,\n", At::line(line));
         }
         self.put("}\n\n", at);
     }
@@ -142,7 +142,7 @@ impl<'a> Printer<'a> {
         let mut constants = false;
         for line in &plan.lines {
             if has_constant(self.context, line.field) {
-                self.put(CONSTANT, line.at());
+                self.put(CONSTANT, At::line(line));
                 constants = true;
             }
         }
@@ -152,7 +152,7 @@ impl<'a> Printer<'a> {
         for line in &plan.lines {
             self.put(if first { "" } else { "~×" }, at);
             first = false;
-            self.put(default_is(line.field), line.at());
+            self.put(default_is(line.field), At::line(line));
         }
         self.put(
             if borrows {
@@ -166,7 +166,7 @@ impl<'a> Printer<'a> {
         for line in &plan.lines {
             self.put(if first { "^" } else { ",^" }, at);
             first = false;
-            self.put(default_of(line.field), line.at());
+            self.put(default_of(line.field), At::line(line));
         }
         self.put("^}\n    }\n}\n\n", at);
     }
@@ -174,7 +174,7 @@ impl<'a> Printer<'a> {
     // The conditions of what the fields refer to.
     fn put_conditions(&mut self, plan: &Plan<'_>) {
         for line in &plan.lines {
-            self.put(condition(line.field), line.at());
+            self.put(condition(line.field), At::line(line));
         }
     }
 
@@ -182,7 +182,7 @@ impl<'a> Printer<'a> {
     fn put_given(&mut self, plan: &Plan<'_>) {
         for line in &plan.lines {
             if is_judged(line.field) {
-                self.put("~(λ x. ⟦<$t as PartialEq>⟧.eq x $K)", line.at());
+                self.put("~(λ x. ⟦<$t as PartialEq>⟧.eq x $K)", At::line(line));
             }
         }
         self.put(
@@ -209,7 +209,7 @@ impl<'a> Printer<'a> {
         self.put(CREATED, at);
         self.put_str(if plan.order.is_empty() { "" } else { "\n" });
         for line in &plan.order {
-            self.put(line_of(line.field), line.at());
+            self.put(line_of(line.field), At::line(line));
         }
         self.put_str(if plan.order.is_empty() {
             ""

@@ -2,10 +2,9 @@
 
 ghost use Rattle.std.specs.Prelude.{◌≡◌, map, IfOk, OnOk};
 ghost use Rattle.std.specs.List.Sorted.{IsPermutation};
-ghost use Rattle.planus_codegen.specs.Plans.{IsPlan, Falls, line_of, lines_from};
-ghost use Rattle.planus_codegen.specs.Plans.{alignment_of as alignment_of_lem};
+ghost use Rattle.planus_plan.specs.Plans.{IsPlan, Falls, line_of, lines_from};
+ghost use Rattle.planus_plan.specs.Plans.{alignment_of as alignment_of_lem};
 
-use crate::at::At;
 use planus_layout::{Base, Declared, FieldType, Table, TableField, measure_of, slots_taken};
 use std::alloc::{AllocError, Global};
 
@@ -17,16 +16,6 @@ pub struct Line<'a> {
     pub place: usize,
     pub field: &'a TableField,
     pub alignment: usize,
-}
-
-impl<'a> Line<'a> {
-    /// Returns where a template of this field is filled.
-    pub(crate) fn at(&self) -> At {
-        At {
-            index: self.table,
-            place: self.place,
-        }
-    }
 }
 
 /// The fields of a table that aren't deprecated.
@@ -109,7 +98,7 @@ impl<'a> Plan<'a> {
     }
 
     /// Returns whether a field that is given borrows.
-    pub(crate) fn borrows(&self) -> bool {
+    pub fn borrows(&self) -> bool {
         for line in &self.lines {
             if line.field.kind.vector || line.field.kind.base == Base::Text {
                 return true;
@@ -119,7 +108,7 @@ impl<'a> Plan<'a> {
     }
 
     /// Returns whether each field has a value where none is said, and there is one.
-    pub(crate) fn has_defaults(&self) -> bool {
+    pub fn has_defaults(&self) -> bool {
         for line in &self.lines {
             if line.field.required {
                 return false;

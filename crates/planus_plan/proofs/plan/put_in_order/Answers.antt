@@ -1,6 +1,6 @@
 use Rattle.std.proofs.Common.{rules, ◌-◌}
 use Rattle.std.proofs.lemmas.List.Sorted.{IsNonDecreasingBy-from_sort_by_key}
-use Rattle.planus_codegen.proofs.plan.put_in_order.Goals as goal
+use Rattle.planus_plan.proofs.plan.put_in_order.Goals as goal
 
 pub returns-clause-falls : goal.returns-clause-falls
 returns-clause-falls c =

@@ -8,8 +8,8 @@ use Rattle.planus_layout.specs.declared.measure.Measure.{Measure}
 use Rattle.planus_layout.specs.declared.schema.Declared.{Declared}
 use Rattle.planus_layout.specs.declared.schema.FieldType.{FieldType}
 use Rattle.planus_layout.specs.declared.schema.TableField.{TableField}
-use Rattle.planus_codegen.specs.declared.plan.Line.{Line}
-use Rattle.planus_codegen.specs.declared.plan.Plan.{Plan}
+use Rattle.planus_plan.specs.declared.plan.Line.{Line}
+use Rattle.planus_plan.specs.declared.plan.Plan.{Plan}
 
 -- of what is written by a reference: 4
 abbrev pub alignment_or : Option Measure → ℕ

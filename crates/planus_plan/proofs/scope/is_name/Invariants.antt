@@ -1,7 +1,7 @@
 use Rattle.std.proofs.Common.{◌≡◌, length}
 use Rattle.std.specs.List.{list_all}
-use Rattle.planus_codegen.specs.Names.{is_name_byte}
-use Rattle.planus_codegen.proofs.scope.is_name.Given as goal
+use Rattle.planus_plan.specs.Names.{is_name_byte}
+use Rattle.planus_plan.proofs.scope.is_name.Given as goal
 
 -- all bytes are those of names if what is left are
 abbrev pub invariant-bytes : goal.invariant-bytes

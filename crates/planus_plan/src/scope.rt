@@ -1,15 +1,15 @@
 //! What the names of a scope are.
 
 ghost use Rattle.std.specs.Prelude.{◌≡◌};
-ghost use Rattle.planus_codegen.specs.Names.{is_name as is_name_lem};
-ghost use Rattle.planus_codegen.specs.Names.{is_name_byte as is_name_byte_lem};
-ghost use Rattle.planus_codegen.specs.Names.{are_apart as are_apart_lem};
-ghost use Rattle.planus_codegen.specs.Names.{are_names as are_names_lem};
-ghost use Rattle.planus_codegen.specs.Names.{begins_name as begins_name_lem};
-ghost use Rattle.planus_codegen.specs.Names.{is_among as is_among_lem};
-ghost use Rattle.planus_codegen.specs.Names.{are_apart_from as are_apart_from_lem};
-ghost use Rattle.planus_codegen.specs.Names.{are_all_names as are_all_names_lem};
-ghost use Rattle.planus_codegen.specs.Names.{are_scopes as are_scopes_lem};
+ghost use Rattle.planus_plan.specs.Names.{is_name as is_name_lem};
+ghost use Rattle.planus_plan.specs.Names.{is_name_byte as is_name_byte_lem};
+ghost use Rattle.planus_plan.specs.Names.{are_apart as are_apart_lem};
+ghost use Rattle.planus_plan.specs.Names.{are_names as are_names_lem};
+ghost use Rattle.planus_plan.specs.Names.{begins_name as begins_name_lem};
+ghost use Rattle.planus_plan.specs.Names.{is_among as is_among_lem};
+ghost use Rattle.planus_plan.specs.Names.{are_apart_from as are_apart_from_lem};
+ghost use Rattle.planus_plan.specs.Names.{are_all_names as are_all_names_lem};
+ghost use Rattle.planus_plan.specs.Names.{are_scopes as are_scopes_lem};
 
 use planus_layout::is_among as is_in;
 
@@ -44,14 +44,14 @@ fn is_name(name: &[u8]) -> bool
 }
 
 /// Returns whether a name is alike one of these, also where one has capitals.
-pub(crate) fn is_among(names: &[Vec<u8>], name: &[u8]) -> bool
+pub fn is_among(names: &[Vec<u8>], name: &[u8]) -> bool
     ensures { result ≡ is_among_lem name.now names.now }
 {
     names.iter().any(|one| one.eq_ignore_ascii_case(name))
 }
 
 /// Returns whether no two names are alike.
-pub(crate) fn are_apart(names: &[Vec<u8>]) -> bool
+pub fn are_apart(names: &[Vec<u8>]) -> bool
     ensures { result ≡ are_apart_lem names.now }
 {
     let mut rest = names;
@@ -78,14 +78,14 @@ fn are_all_names(names: &[Vec<u8>]) -> bool
 }
 
 /// Returns whether these can be the names of a scope: identifiers, of which no two are alike.
-pub(crate) fn are_names(names: &[Vec<u8>]) -> bool
+pub fn are_names(names: &[Vec<u8>]) -> bool
     ensures { result ≡ are_names_lem names.now }
 {
     are_all_names(names) && are_apart(names)
 }
 
 /// Returns whether each of these can be the names of a scope.
-pub(crate) fn are_scopes(scopes: &[Vec<Vec<u8>>]) -> bool
+pub fn are_scopes(scopes: &[Vec<Vec<u8>>]) -> bool
     ensures { result ≡ are_scopes_lem scopes.now }
 {
     let mut rest = scopes;
@@ -99,7 +99,7 @@ pub(crate) fn are_scopes(scopes: &[Vec<Vec<u8>>]) -> bool
 }
 
 /// Returns whether none of the names is one of the others.
-pub(crate) fn are_apart_from(others: &[Vec<u8>], names: &[Vec<u8>]) -> bool
+pub fn are_apart_from(others: &[Vec<u8>], names: &[Vec<u8>]) -> bool
     ensures { result ≡ are_apart_from_lem others.now names.now }
 {
     let mut rest = names;

@@ -1,6 +1,6 @@
 use Rattle.std.proofs.Common.{◌≡◌, length}
-use Rattle.planus_codegen.specs.Names.{are_all_names}
-use Rattle.planus_codegen.proofs.scope.are_all_names.Given as goal
+use Rattle.planus_plan.specs.Names.{are_all_names}
+use Rattle.planus_plan.proofs.scope.are_all_names.Given as goal
 
 -- all are names if those that are left are
 abbrev pub invariant-names : goal.invariant-names

@@ -1,6 +1,6 @@
 use Rattle.std.proofs.Common.{◌≡◌, length}
-use Rattle.planus_codegen.specs.Names.{are_apart}
-use Rattle.planus_codegen.proofs.scope.are_apart.Given as goal
+use Rattle.planus_plan.specs.Names.{are_apart}
+use Rattle.planus_plan.proofs.scope.are_apart.Given as goal
 
 -- the names are apart if those that are left are
 abbrev pub invariant-names : goal.invariant-names

@@ -1,0 +1,8 @@
+//! What printed code follows: the order of a table's fields, and which names a scope can have.
+#![tactic(auto)]
+
+mod plan;
+mod scope;
+
+pub use plan::{Line, Plan};
+pub use scope::{are_apart, are_apart_from, are_names, are_scopes, is_among};
