@@ -97,7 +97,7 @@ fn arguments(field: &TableField) -> &'static str {
 impl<'a> Printer<'a> {
     fn put_accessor(&mut self, line: Line<'_>) {
         let field = line.field;
-        let at = At::line(line);
+        let at = At::line(&line);
         self.put_docs("    ", &field.docs, "    /// Returns `$s`.\n", at);
         self.put(
             "    pub fn $n(^&self^) -> Result<$R>\n        ensures {",
