@@ -212,9 +212,20 @@ fn writes_anna(builder: &mut Builder) -> std::result::Result<bool, BuildError> {
     Ok(plain && sized)
 }
 
+/// Whether the law of a table is met by a table that is written.
+fn reads_pia_back(builder: &mut Builder) -> bool {
+    let pia = PersonFields {
+        name: "Pia",
+        age: 44,
+    };
+    matches!(Person::read_back(builder, pia), Ok(Ok(pia)) if matches!(pia.age(), Ok(44)))
+}
+
 fn in_builder(alloc: Global) -> bool {
     match Builder::new(alloc) {
-        Ok(mut builder) => matches!(writes_anna(&mut builder), Ok(true)),
+        Ok(mut builder) => {
+            matches!(writes_anna(&mut builder), Ok(true)) && reads_pia_back(&mut builder)
+        }
         Err(_) => false,
     }
 }
