@@ -1,4 +1,4 @@
--- Contents are found at the front of the bytes that were put there.
+-- Contents at the front of written bytes.
 use Rattle.std.proofs.Common.{◌≡◌, ℕ, ◌+◌, ◌<◌, ◌≤◌, ◌^◌, List, [], ◌∷◌, ◌++◌, length, take, drop, Some}
 use Rattle.std.proofs.Common.{ap, ◌∙◌, arith, append_assoc, length-append}
 use Rattle.std.proofs.lemmas.Bool.Decides.{leb_tells}
@@ -22,7 +22,6 @@ counted_in contents rest small =
     behind_count (to_le_bytes w32 (length contents) ++ (contents ++ rest)) (omega arith)
     ∙ ap (λ n. first_bytes n (contents ++ rest)) (from_le_bytes-to_le_bytes_4 (length contents) small) ∙ first_in contents rest
 
--- a vtable that stands at the front stands there with more bytes behind it
 pub vtable_in_front : (bytes rest key : List ℕ) → vtable_in bytes ≡ Some key → vtable_in (bytes ++ rest) ≡ Some key
 vtable_in_front bytes rest key h =
     let two : 2 ≤ length bytes = grind (arith, leb_tells, h) in
@@ -32,7 +31,6 @@ vtable_in_front bytes rest key h =
     let whole : take (from_le_bytes w16 (take 2 bytes)) (bytes ++ rest) ≡ take (from_le_bytes w16 (take 2 bytes)) bytes = take-append-le (from_le_bytes w16 (take 2 bytes)) bytes rest size in
     grind (arith, leb_tells, two, more, pair, size, whole, h)
 
--- the same behind padding, as they are put
 pub text_in_front : (text count padding rest bytes : List ℕ) → length text < 2 ^ 32 → count ≡ to_le_bytes w32 (length text)
     → bytes ≡ (((count ++ text) ++ 0 ∷ []) ++ padding) ++ rest → bytes_in bytes ≡ Some text
 text_in_front text count padding rest bytes small count_is are =

@@ -1,4 +1,4 @@
--- What the definitions of what is held say of each other.
+-- How the definitions of remembered contents relate.
 use Rattle.std.proofs.Common.{◌≡◌, ℕ, ◌+◌, ◌<◌, List, [], ◌∷◌, ◌++◌, length, get_or, Some, None, inl, inr, arith, refl, sym, ap, ◌∙◌, Bool, true, false, cond, Result, Ok, Err}
 use Rattle.std.specs.Result.{OnOk}
 use Rattle.std.specs.declared.alloc.AllocError.{AllocError}
@@ -12,23 +12,19 @@ use Rattle.planus_back.proofs.Caches.{key_at-front, Fits-front, Fits-empty, Has-
 use Rattle.planus_write.specs.Holding.{Holding, few, many, FindContents, Holds, HoldsNothing, HoldsMore, HoldingFits, FitsInFront}
 use Rattle.planus_write.specs.inner.Sharing.{LooksIn, KeepsIf}
 
--- it fits with bytes in front
 pub holding_fits-front : (contents_in : FindContents) (holding : Holding) (front bytes : List ℕ) → HoldingFits contents_in holding bytes → HoldingFits contents_in holding (front ++ bytes)
 holding_fits-front contents_in (few distances) front bytes fits = λ i below. let x = fits i below in (x.0, key_at-front contents_in front bytes _ x.0 x.1)
 holding_fits-front contents_in (many held) front bytes fits = Fits-front contents_in held front bytes fits
 
--- at each distance that is held contents stand
 pub holds-stands : (contents_in : FindContents) (holding : Holding) (bytes : List ℕ) (distance : ℕ) → HoldingFits contents_in holding bytes → Holds holding distance
     → (contents : List ℕ) × (key_at contents_in bytes distance ≡ Some contents)
 holds-stands contents_in (few distances) bytes distance fits x = let f = fits x.0 x.1 in (f.0, rw (← x.2) f.1)
 holds-stands contents_in (many held) bytes distance fits x = Has-stands contents_in held bytes distance fits x
 
--- where nothing is held, it fits
 pub nothing-fits : (contents_in : FindContents) (holding : Holding) (bytes : List ℕ) → HoldsNothing holding → HoldingFits contents_in holding bytes
 nothing-fits contents_in (few distances) bytes nothing = λ i below. absurd (nothing (get_or distances i 0) (i, below, refl))
 nothing-fits contents_in (many held) bytes nothing = Fits-empty contents_in held bytes nothing
 
--- one distance more among the first
 pub one_more : (distances : List ℕ) (distance : ℕ) → HoldsMore (few distances) distance (few (distances ++ distance ∷ []))
 one_more distances distance other = (
   λ x. elim (cases_lt x.0 (length distances)) [
@@ -49,13 +45,11 @@ one_more-fits contents_in distances bytes contents distance fits front stands i 
       | inr le ↦ (contents, grind (arith, common_steps, le, below, stands))
     ]
 
--- one distance more in the cache
 pub cache_more-fits : (contents_in : FindContents) (old new : Held) (bucket : Bucket) (bytes contents : List ℕ) (distance : ℕ) → HoldingFits contents_in (many old) bytes
     → IsBucketOf old contents bucket → FitsWhereItsKeyStands contents_in old bucket distance new → FitsInFront contents_in bytes contents distance (many new)
 cache_more-fits contents_in old new bucket bytes contents distance fits its more front stands =
     more contents its (front ++ bytes) (Fits-front contents_in old front bytes fits) stands
 
--- a cache has the first distances, so many of them
 abbrev pub HasFirst : Held → List ℕ → ℕ → Type 0
 HasFirst held distances n = (distance : ℕ) → Has held distance ↔ ((i : ℕ) × (i < n) × (slice_index distances i ≡ distance))
 
@@ -74,7 +68,6 @@ has-next old new distances n has adds distance = (
   ],
 )
 
--- a cache that has all of the first distances, and one more
 pub spilled : (contents_in : FindContents) (distances bytes contents : List ℕ) (old new : Held) (bucket : Bucket) (distance : ℕ) → Fits contents_in old bytes
     → HasFirst old distances (length distances) → IsBucketOf old contents bucket → Adds old distance new → FitsWhereItsKeyStands contents_in old bucket distance new
     → KeepsIf true contents_in bytes contents distance (few distances) (many new)
@@ -86,19 +79,16 @@ spilled contents_in distances bytes contents old new bucket distance fits has it
   cache_more-fits contents_in old new bucket bytes contents distance fits its more,
 )
 
--- the same at the end of a call
 pub spilled_if : (r : Result (Unit {0}) AllocError) (contents_in : FindContents) (distances bytes contents : List ℕ) (old new : Held) (bucket : Bucket) (distance : ℕ) → Fits contents_in old bytes
     → HasFirst old distances (length distances) → IsBucketOf old contents bucket → OnOk r (Adds old distance new) → OnOk r (FitsWhereItsKeyStands contents_in old bucket distance new)
     → OnOk r (KeepsIf true contents_in bytes contents distance (few distances) (many new))
 spilled_if (Ok done) contents_in distances bytes contents old new bucket distance fits has its adds more = spilled contents_in distances bytes contents old new bucket distance fits has its adds more
 spilled_if (Err error) contents_in distances bytes contents old new bucket distance fits has its adds more = tt
 
--- what is held is the cache, or the first distances
 module _ (contents_in : FindContents) (bytes contents : List ℕ) (distance : ℕ) (held : Held) (distances : List ℕ) where
   abbrev pub held_if : Bool → Holding
   held_if is_many = cond is_many (many held) (few distances)
 
-  -- who looks into the cache adds to it
   pub kept_in_cache : (is_many : Bool) (bucket : Bucket) (new : Held) (r : Result (Unit {0}) AllocError) → LooksIn (held_if is_many) contents (Some bucket)
       → HoldingFits contents_in (held_if is_many) bytes → OnOk r (Adds held distance new) → OnOk r (FitsWhereItsKeyStands contents_in held bucket distance new)
       → OnOk r (KeepsIf true contents_in bytes contents distance (held_if is_many) (cond is_many (many new) (few distances)))
@@ -106,7 +96,6 @@ module _ (contents_in : FindContents) (bytes contents : List ℕ) (distance : �
   kept_in_cache true bucket new (Err error) looks fits adds more = tt
   kept_in_cache false bucket new r looks fits adds more = absurd (cc looks)
 
-  -- who doesn't adds to the first
   pub kept_first : (is_many : Bool) (new : List ℕ) → LooksIn (held_if is_many) contents None → HoldingFits contents_in (held_if is_many) bytes → new ≡ distances ++ distance ∷ []
       → KeepsIf true contents_in bytes contents distance (held_if is_many) (cond is_many (many held) (few new))
   kept_first true new looks fits same = absurd looks

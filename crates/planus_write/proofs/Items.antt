@@ -1,4 +1,4 @@
--- The items of a list, written one after another.
+-- The items of a vector, written one after another.
 use Rattle.std.proofs.Common.{◌≡◌, ℕ, suc, ◌+◌, ◌-◌, ◌*◌, ◌<◌, List, [], ◌∷◌, ◌++◌, length, map}
 use Rattle.std.proofs.Common.{take, drop, sym, ap, ◌∙◌, arith, append_assoc}
 use Rattle.std.proofs.Common.{length-append, append-nil, drop-drop}
@@ -7,7 +7,6 @@ use Rattle.std.proofs.Math.Seq.{take-append_seam, drop-append_seam}
 use Rattle.planus_write.specs.Parts.{items_bytes}
 use Rattle.planus_write.specs.Items.{Item}
 
--- an item more
 pub items_more : (size place : ℕ) (items : List Item) (item : Item)
     → items_bytes size place (items ++ item ∷ []) ≡ items_bytes size place items ++ item (place - length items * size)
 items_more size place [] item = append-nil (item place) ∙ ap item (let e : place ≡ place - 0 * size = omega arith in e)

@@ -1,5 +1,4 @@
--- An entry whose part is put into the room made for it is written, and one whose contents are found
--- is as well.
+-- Entries whose part is put, or whose contents are found.
 use Rattle.std.proofs.Common.{◌≡◌, ℕ, ◌+◌, ◌-◌, ◌*◌, ◌≤◌, List, [], ◌∷◌, ◌++◌, length, drop, Bool, true, false}
 use Rattle.std.proofs.Common.{replicate, refl, sym, ap, ◌∙◌, subst, arith, append_assoc}
 use Rattle.std.proofs.Common.{length-append, Option, Some, None, Ok, Err}
@@ -36,12 +35,10 @@ use Rattle.std.proofs.lemmas.Bool.Decides.{leb_tells}
 use Rattle.planus_write.proofs.PlannedRoom.{makes_room}
 use Rattle.planus_write.proofs.SharedContents.{none_is_not_some, finds_still, finds_added, other_finds, finds_nothing}
 
--- the entry's part has this size and alignment, whatever was written before
 pub record IsSized (entry : Entry) (got : List ℕ) (old : State) (size alignment : ℕ) : Type 0 where
   pub size_is : (past : Past) → IsPast old past → (part_after entry got past).size ≡ size
   pub alignment_is : (past : Past) → IsPast old past → (part_after entry got past).alignment ≡ alignment
 
--- bytes that are put into the room made for them
 module _ (size alignment place : ℕ) (old mid new : Backed) (bytes : List ℕ)
     (room : MakesRoom size alignment old place mid) (length_is : length bytes ≡ size) (put : PutsBytes bytes mid new) where
   pub new_bytes : new.bytes ≡ (bytes ++ replicate room.padding 0) ++ old.bytes
@@ -116,7 +113,6 @@ module _ (entry : Entry) (got : List ℕ) (size alignment place : ℕ) (b mid n 
     switches = refl;
   }
 
--- why an entry that isn't found is refused
 refused_large : (entry : Entry) (got : List ℕ) (size alignment : ℕ) (b : Backed) (switches : Switches) (holdings : Holdings) → IsSized entry got (state_from b switches holdings) size alignment
     → ((past : Past) → IsPast (state_from b switches holdings) past → found_before switches entry past ≡ None)
     → LacksRoom size alignment b TooLarge → RefusedFor entry got (state_from b switches holdings) TooLarge
@@ -142,7 +138,6 @@ refused_memory entry got size alignment b switches holdings sized is_new unshare
           (rw (sized.size_is past h, sized.alignment_is past h) short);
     }
 
--- an entry that is never shared
 module _ (part_from : List ℕ → List Promise → Part) (got : List ℕ) (size alignment : ℕ) (b : Backed) (switches : Switches) (holdings : Holdings)
     (sized : IsSized (record { contents = None; part = part_from }) got (state_from b switches holdings) size alignment) where
   abbrev alone : Entry
@@ -166,7 +161,6 @@ module _ (part_from : List ℕ → List Promise → Part) (got : List ℕ) (size
     cause = refused_memory alone got size alignment b switches holdings sized (λ past h. refl) refl lacks;
   }
 
--- what is held, with this of one kind
 abbrev pub holding : Kind → Holdings → Holding → Holdings
 holding texts holdings x = record holdings { held_texts = x }
 holding byte_lists holdings x = record holdings { held_byte_lists = x }
@@ -195,11 +189,9 @@ held_again kind other holdings x same = by_case (same_kind kind other) refl
     by_case false e = holding_others kind other holdings x e
     by_case true e = subst (λ k. holding_of (holding kind holdings x) k ≡ holding_of holdings k) (same_of kind other e) (holding_it kind holdings x ∙ same)
 
--- a key lies wholly in the bytes
 stands_within : (key_in : List ℕ → Option (List ℕ)) (bytes : List ℕ) (distance : ℕ) (key : List ℕ) → key_at key_in bytes distance ≡ Some key → distance ≤ length bytes
 stands_within key_in bytes distance key h = grind (arith, leb_tells, h)
 
--- what stands at the front stands at the distance of all bytes
 pub at_its_place : (key_in : List ℕ → Option (List ℕ)) (bytes : List ℕ) (place : ℕ) (key : List ℕ) → length bytes ≡ place → key_in bytes ≡ Some key → key_at key_in bytes place ≡ Some key
 at_its_place key_in bytes place key long h =
     let whole : length bytes - place ≡ 0 = omega (arith, long) in
@@ -207,7 +199,6 @@ at_its_place key_in bytes place key long h =
     let all : drop (length bytes - place) bytes ≡ bytes = ap (λ n. drop n bytes) whole in
     grind (arith, leb_tells, within, all, h)
 
--- an entry that is shared, if its kind is
 abbrev pub shared_entry : Kind → List ℕ → Part → Entry
 shared_entry kind contents part = record { contents = Some (record { kind = kind; bytes = contents }); part = λ got promises. part }
 
@@ -227,7 +218,6 @@ module _ (kind : Kind) (contents : List ℕ) (part : Part) (got : List ℕ) (b :
   shared_if : (on : Bool) → is_on switches kind ≡ on → shared_as switches (Some known) ≡ (if on then Some known else None)
   shared_if on e = ap (λ b. if b then Some known else None) e
 
-  -- what the cache doesn't find wasn't seen
   not_seen : (past : Past) → IsPast before past → FindsIf true (contents_in kind) (holding_of holdings kind) b.bytes contents None → distance_seen past.seen known ≡ None
   not_seen past h none = by_case (distance_seen past.seen known) refl
     where
@@ -243,7 +233,6 @@ module _ (kind : Kind) (contents : List ℕ) (part : Part) (got : List ℕ) (b :
           ap (earlier_distance past.seen) (shared_if true e) ∙ not_seen past h (subst (λ on. FindsIf on (contents_in kind) (holding_of holdings kind) b.bytes contents None) e none)
       by_case false e = ap (earlier_distance past.seen) (shared_if false e)
 
-  -- contents that are found were seen
   pub shared_found : (distance : ℕ) → FindsIf (is_on switches kind) (contents_in kind) (holding_of holdings kind) b.bytes contents (Some distance)
       → length b.bytes ≤ greatest_place → PutsDown the_entry got before distance before
   shared_found distance finds small = by_case (is_on switches kind) refl
@@ -340,7 +329,6 @@ module _ (kind : Kind) (contents : List ℕ) (part : Part) (got : List ℕ) (b :
             cause = refused_memory the_entry got part.size part.alignment b switches holdings sized (is_new none) (shared_if false e) lack.1;
           }
 
--- a part that isn't shared
 pub part_sized : (part : Part) (old : State) → IsSized (unshared_entry part) [] old part.size part.alignment
 part_sized part old = record { size_is = λ past h. refl; alignment_is = λ past h. refl }
 
@@ -360,13 +348,11 @@ module _ (part : Part) (place : ℕ) (b mid n : Backed) (switches : Switches) (h
   pub part_put_last : PutsDown (unshared_entry part) [] (state_from b switches holdings) (length n.bytes) (state_from n switches holdings)
   part_put_last = subst (λ m. PutsDown (unshared_entry part) [] (state_from b switches holdings) m (state_from n switches holdings)) (sym part_ends) part_put
 
--- what is put in two pieces is put
 pub both_put : (front back : List ℕ) (mid between new : Backed) → PutsBytes back mid between → PutsBytes front between new → PutsBytes (front ++ back) mid new
 both_put front back mid between new first second =
     second ∙ rw (first, append_assoc front back mid.bytes, length-append front back)
     (ap (λ n. record mid { bytes = front ++ (back ++ mid.bytes); room = n }) (omega arith))
 
--- words in front of all that was written, put into the room made for them
 module _ (size : ℕ) (words : ℕ → List ℕ) (alignment : ℕ) (b : Backed) (switches : Switches) (holdings : Holdings)
     (greatest : (promises : List Promise) → DescribedBy b promises → greatest_alignment 4 promises ≡ alignment) where
   pub front_sized : IsSized (front_entry size words) [] (state_from b switches holdings) size alignment
@@ -398,13 +384,11 @@ module _ (size : ℕ) (words : ℕ → List ℕ) (alignment : ℕ) (b : Backed) 
       kept = none_to_come;
     }
 
--- the words of a finish
 module _ (root : ℕ) (identifier : Option (List ℕ)) (alignment : ℕ) (b : Backed) (switches : Switches) (holdings : Holdings)
     (greatest : (promises : List Promise) → DescribedBy b promises → greatest_alignment 4 promises ≡ alignment)
     (word : List ℕ) (place : ℕ) (mid n : Backed)
     (all : (promises : List Promise) → DescribedBy b promises → greatest_alignment 1 promises ≤ alignment)
     (some : (promises : List Promise) × DescribedBy b promises) where
-  -- the root word and the identifier, put in two pieces
   pub finishes : (a : Backed) → MakesRoom (length (identifier_bytes identifier) + 4) alignment b place mid
       → PutsBytes (identifier_bytes identifier) mid a → PutsBytes word a n → word ≡ to_le_bytes w32 (place - root)
       → Finishes root identifier (state_from b switches holdings) place (state_from n switches holdings)
@@ -413,7 +397,6 @@ module _ (root : ℕ) (identifier : Option (List ℕ)) (alignment : ℕ) (b : Ba
       (word ++ identifier_bytes identifier) place mid n room (both_put word (identifier_bytes identifier) mid a n name_put word_put)
       (rw word_is refl) (rw word_is (simp length-append (omega arith))) all some
 
-  -- the size word, the root word and the identifier
   pub sized_finishes : (size : List ℕ) → MakesRoom (length (identifier_bytes identifier) + 8) alignment b place mid
       → PutsBytes (size ++ word ++ identifier_bytes identifier) mid n
       → size ≡ to_le_bytes w32 (place - 4) → word ≡ to_le_bytes w32 (place - 4 - root)
@@ -424,20 +407,17 @@ module _ (root : ℕ) (identifier : Option (List ℕ)) (alignment : ℕ) (b : Ba
       (rw (size_is, word_is) refl)
       (rw (size_is, word_is, length-append (to_le_bytes w32 (place - 4 - root)) (identifier_bytes identifier)) (omega arith)) all some
 
--- what is shared of a kind
 abbrev pub shares_of : Kind → Inside → Shares
 shares_of texts a = a.texts
 shares_of byte_lists a = a.byte_lists
 shares_of vtables a = a.vtables
 
--- a builder with other bytes, and other shares of one kind
 abbrev pub with_shares : Kind → Inside → Backed → Shares → Inside
 with_shares texts a n s = record a { backing = n; texts = s }
 with_shares byte_lists a n s = record a { backing = n; byte_lists = s }
 with_shares vtables a n s = record a { backing = n; vtables = s }
 
 module _ (contents : List ℕ) (part : Part) (a : Inside) (mid : Backed) (s : Shares) where
-  -- a part whose contents are kept is put into the room that was made for it
   in_room : (kind : Kind) (place : ℕ) (padded n : Backed) (bytes : List ℕ)
       → Finds (contents_in kind) (shares_of kind a) a.backing.bytes contents None → MakesRoom part.size part.alignment a.backing place padded
       → Keeps (contents_in kind) a.backing.bytes contents place (shares_of kind a) s
@@ -460,7 +440,6 @@ module _ (contents : List ℕ) (part : Part) (a : Inside) (mid : Backed) (s : Sh
       (at_its_place vtable_in n.bytes place contents (new_length part.size part.alignment place a.backing padded n bytes room length_is put) stands)
       are_kept)
 
-  -- a part that was planned is written
   pub begun : (kind : Kind) (plan : Plan) (padded n : Backed) (bytes : List ℕ)
       → FindsOrPlans (contents_in kind) contents part.size part.alignment a.backing (shares_of kind a) (Ok (Planned plan)) mid s → Pads plan mid padded
       → part.bytes_at plan.place ≡ bytes → length bytes ≡ part.size → PutsBytes bytes padded n → contents_in kind n.bytes ≡ Some contents
@@ -469,7 +448,6 @@ module _ (contents : List ℕ) (part : Part) (a : Inside) (mid : Backed) (s : Sh
   begun kind plan padded n bytes h pads bytes_are length_is put stands are_kept =
       in_room kind plan.place padded n bytes h.0 (makes_room part.size part.alignment a.backing mid padded plan h.1.0 h.1.1 pads) h.1.2 bytes_are length_is put stands are_kept
 
-  -- one whose contents are found is written
   pub found_again : (kind : Kind) (distance : ℕ) → FindsOrPlans (contents_in kind) contents part.size part.alignment a.backing (shares_of kind a) (Ok (Found distance)) mid s
       → PutsDown (shared_entry kind contents part) [] (state_of a) distance (state_of (with_shares kind a mid s))
   found_again texts distance h =
@@ -479,7 +457,6 @@ module _ (contents : List ℕ) (part : Part) (a : Inside) (mid : Backed) (s : Sh
   found_again vtables distance h =
       rw (h.1, h.2) (shared_found vtables contents part [] a.backing (state_of a).switches (state_of a).holdings distance h.0 h.3)
 
-  -- one that isn't begun is refused
   pub not_begun : (kind : Kind) (error : BuildError) → FindsOrPlans (contents_in kind) contents part.size part.alignment a.backing (shares_of kind a) (Err error) mid s
       → Refuses (shared_entry kind contents part) [] (state_of a) error (state_of (with_shares kind a mid s))
   not_begun texts error h =
@@ -489,7 +466,6 @@ module _ (contents : List ℕ) (part : Part) (a : Inside) (mid : Backed) (s : Sh
   not_begun vtables error h =
       rw h.1.1 (shared_refused vtables contents part [] a.backing (state_of a).switches (state_of a).holdings error mid h.0 h.1.0)
 
--- a builder that written an entry, or refused one, still has a past
 pub still_sound : (entry : Entry) (got : List ℕ) (old new : State) (distance : ℕ) → (past : Past) × IsPast old past → PutsDown entry got old distance new → (past : Past) × IsPast new past
 still_sound entry got old new distance sound put = let after = put.puts sound.0 sound.1 in (after.0, after.2)
 
@@ -497,7 +473,6 @@ pub left_sound : (entry : Entry) (got : List ℕ) (old new : State) (error : Bui
 left_sound entry got old new error sound refused =
     let after = (left_grows error (shared_as old.switches entry.contents) old new refused.unchanged).past sound.0 sound.1 in (after.0, after.1)
 
--- a builder without bytes, promises and contents that are held has an empty past
 pub nothing_written : (b : Backed) (switches : Switches) (holdings : Holdings) → b.bytes ≡ [] → DescribedBy b []
     → HoldsNothing holdings.held_texts → HoldsNothing holdings.held_byte_lists → HoldsNothing holdings.held_vtables → IsPast (state_from b switches holdings) no_past
 nothing_written b switches holdings bytes described none_of_texts none_of_lists none_of_vtables = record { bytes = sym bytes; described = described; seen = of_kind; kept = tt }

@@ -1,4 +1,4 @@
--- Room that was planned and padded, and why there is none.
+-- Room for parts.
 use Rattle.std.proofs.Common.{◌≡◌, ℕ, ◌+◌, ◌-◌, ◌<◌, Bool, true, false, List, ◌∷◌, ◌++◌, replicate, ap, subst, sym, ◌∙◌, arith}
 use Rattle.planus_back.specs.Descriptions.{Describes}
 use Rattle.planus_back.specs.Padding.{promise_of}
@@ -9,7 +9,6 @@ use Rattle.planus_write.specs.declared.backing.Plan.{Plan}
 use Rattle.planus_write.specs.declared.errors.BuildError.{BuildError}
 use Rattle.planus_write.specs.declared.errors.BuildError.TheVariants.{OutOfMemory, TooLarge}
 
--- room that is planned and padded is made
 pub makes_room : (size alignment : ℕ) (old mid new : Backed) (plan : Plan) → Plans size alignment old plan → Enlarges (plan.padding + size) old mid → Pads plan mid new
     → MakesRoom size alignment old plan.place new
 makes_room size alignment old mid new plan plans larger pads =
@@ -27,17 +26,14 @@ makes_room size alignment old mid new plan plans larger pads =
       described = subst (λ (b : Backed). (promises : List Promise) → DescribedBy old promises → Describes plan.place b.delayed b.mask (promise_of plan.place alignment ∷ promises)) (sym pads) plans.described;
     }
 
--- a part that is planned and doesn't fit the room lacks memory
 pub lacks_memory : (error : BuildError) (size alignment : ℕ) (old : Backed) (plan : Plan) → error ≡ OutOfMemory → Plans size alignment old plan → old.room < plan.padding + size
     → LacksRoom size alignment old error
 lacks_memory error size alignment old plan is plans far =
     subst (λ (e : BuildError). LacksRoom size alignment old e) (sym is) (λ promises described. (plan.padding, plans.least promises described, (rw plans.is_place at plans.fits, far)))
 
--- a part that can't be planned is too large
 pub is_too_large : (error : BuildError) (size alignment : ℕ) (old : Backed) → error ≡ TooLarge → LacksRoom size alignment old TooLarge → LacksRoom size alignment old error
 is_too_large error size alignment old is lacks = subst (λ (e : BuildError). LacksRoom size alignment old e) (sym is) lacks
 
--- a shared part lacks room where any part does
 pub lacks_shared : (error : BuildError) (on : Bool) (size alignment : ℕ) (old new : Backed) → new ≡ old → LacksRoom size alignment old error
     → LacksSharedRoom error on size alignment old new
 lacks_shared TooLarge on size alignment old new same lacks = (same, lacks)

@@ -10,7 +10,6 @@ use Rattle.planus_write.specs.lemmas.Laws.{reached_still}
 use Rattle.planus_write.specs.declared.errors.BuildError.{BuildError}
 
 module _ {X A : Type 0} (prepare : X → Outcome A) where
-  -- an item more
   pub prepares_more : (xs : List X) (old : State) (all : List A) (mid : State) (x : X) (a : A) (new : State)
       → PreparesAll prepare xs old (Ok all) mid → prepare x mid (Ok a) new
       → PreparesAll prepare (xs ++ x ∷ []) old (Ok (all ++ a ∷ [])) new
@@ -27,7 +26,6 @@ module _ {X A : Type 0} (prepare : X → Outcome A) where
       let same : all ≡ h.0 ∷ others = cc in
       (h.0, h.1, h.2, (others ++ a ∷ [], new, rest, (ap (λ (items : List A). Ok (items ++ a ∷ [])) same, refl)))
 
-  -- the item behind those that are prepared is refused
   pub prepares_stops : (xs : List X) (old : State) (all : List A) (mid : State) (x : X) (others : List X) (error : BuildError) (new : State)
       → PreparesAll prepare xs old (Ok all) mid → prepare x mid (Err error) new
       → PreparesAll prepare (xs ++ x ∷ others) old (Err error) new
@@ -36,13 +34,11 @@ module _ {X A : Type 0} (prepare : X → Outcome A) where
       let rest = prepares_stops xs h.1 h.3.0 mid x others error new (subst (λ (s : State). PreparesAll prepare xs h.1 (Ok h.3.0) s) (sym h.3.3.1) h.3.2) refused in
       inr (h.0, h.1, h.2, inl rest)
 
--- what holds of each holds of the item at an index
 pub may_at : {X : Type 0} (P : X → Type 0) (xs : List X) (i : ℕ) (x : X) → AllByRecursion P xs → slice_get xs i ≡ Some x → P x
 may_at P [] i x h e = (cc)
 may_at P (first ∷ xs) zero x h e = let same : first ≡ x = cc in subst P same h.0
 may_at P (first ∷ xs) (suc i) x h e = may_at P xs i x h.1 e
 
--- what each of several distances reaches, it still does
 pub reached_further : {A : Type 0} (reach : A → ℕ) (all : List A) (old new : State) → Grows old new
     → AllByRecursion (λ a. reach a ≤ length old.bytes) all → AllByRecursion (λ a. reach a ≤ length new.bytes) all
 reached_further reach [] old new grows h = tt

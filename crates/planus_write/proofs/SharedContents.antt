@@ -1,4 +1,4 @@
--- Contents that were seen are found after a write, and so are those that it added.
+-- What was seen is found after a write.
 use Rattle.std.proofs.Common.{◌≡◌, ℕ, List, [], ◌∷◌, ◌++◌, Bool, true, false}
 use Rattle.std.proofs.Common.{◌↔◌, ◌&&◌, refl, sym, ap, ◌∙◌, subst, Option, Some, None, inl, inr}
 use Rattle.std.specs.Prelude.{if◌then◌else◌}
@@ -25,12 +25,10 @@ same_both vtables b = refl
 some_same : {A : Type 0} (x y : A) → Some x ≡ Some y → x ≡ y
 some_same x y e = cc
 
--- what is seen is found still, with bytes in front
 module _ (old new : State) (front : List ℕ) (bytes_are : new.bytes ≡ front ++ old.bytes) (seen : List Seen) (kind : Kind) (was : FindsSeen old seen kind) where
   moved_on : (distance : ℕ) (bytes : List ℕ) → key_at (contents_in kind) old.bytes distance ≡ Some bytes → key_at (contents_in kind) new.bytes distance ≡ Some bytes
   moved_on distance bytes h = rw bytes_are (key_at-front (contents_in kind) front old.bytes distance bytes h)
 
-  -- what stands at a distance that is held stood there before
   stood : (distance : ℕ) (bytes : List ℕ) → Holds (holding_of old.holdings kind) distance → key_at (contents_in kind) new.bytes distance ≡ Some bytes → key_at (contents_in kind) old.bytes distance ≡ Some bytes
   stood distance bytes has h =
       let stands = holds-stands (contents_in kind) (holding_of old.holdings kind) old.bytes distance was.fits has in
@@ -45,7 +43,6 @@ module _ (old new : State) (front : List ℕ) (bytes_are : new.bytes ≡ front +
     );
   }
 
--- contents that were not seen are found once they are added
 module _ (old new : State) (front : List ℕ) (bytes_are : new.bytes ≡ front ++ old.bytes) (seen : List Seen) (kind : Kind) (contents : List ℕ) (place : ℕ)
     (adds : HoldsMore (holding_of old.holdings kind) place (holding_of new.holdings kind))
     (fits : FitsInFront (contents_in kind) old.bytes contents place (holding_of new.holdings kind))
@@ -102,7 +99,6 @@ module _ (old new : State) (front : List ℕ) (bytes_are : new.bytes ≡ front +
     finds = finds_bytes;
   }
 
--- contents of one kind that are added don't change what is seen of another one
 other_seen : (kind other : Kind) (contents bytes : List ℕ) (place : ℕ) (seen : List Seen) → same_kind kind other ≡ false
     → distance_seen (record { contents = record { kind = kind; bytes = contents }; distance = place } ∷ seen) (record { kind = other; bytes = bytes }) ≡ distance_seen seen (record { kind = other; bytes = bytes })
 other_seen kind other contents bytes place seen apart =
@@ -116,7 +112,6 @@ other_finds state kind other contents place seen apart was = record {
       (λ h. (was.finds bytes distance).0 (sym e ∙ h), λ x. e ∙ (was.finds bytes distance).1 x);
 }
 
--- where nothing was written nothing is seen, and empty caches find nothing
 pub finds_nothing : (state : State) (kind : Kind) → HoldsNothing (holding_of state.holdings kind) → FindsSeen state [] kind
 finds_nothing state kind empty = record {
   fits = nothing-fits (contents_in kind) (holding_of state.holdings kind) state.bytes empty;

@@ -16,7 +16,6 @@ use Rattle.planus_read.specs.Bytes.{BytesStand}
 use Rattle.planus_write.specs.Tables.{Declared, total_size, greatest_of, slots_used, offset_in, offsets_bytes, vtable_of}
 use Rattle.planus_write.specs.TableWriting.{Writer, WasTold, slot_position}
 
--- two bytes over those at a position
 abbrev pub with_pair : ℕ → List ℕ → List ℕ → List ℕ
 with_pair at pair B = take at B ++ (pair ++ drop (at + 2) B)
 
@@ -29,13 +28,11 @@ module _ (B pair : List ℕ) (at : ℕ) (two : length pair ≡ 2) (inside : at +
       length-append (take at B) (pair ++ drop (at + 2) B)
       ∙ let f = front_length in let p = length-append pair (drop (at + 2) B) in let d = length-drop (at + 2) B in omega (arith, f, p, d, two, inside)
 
-  -- they stand there
   pub pair_there : BytesStand (with_pair at pair B) at pair
   pair_there =
       ap (λ n. take (length pair) (drop n (with_pair at pair B))) (sym front_length)
       ∙ ap (take (length pair)) (drop-append_seam (take at B) (pair ++ drop (at + 2) B)) ∙ take-append_seam pair (drop (at + 2) B)
 
-  -- and what stands before or behind them still does
   before : (p n : ℕ) (more : List ℕ) → p + n ≤ at → take n (drop p (take at B ++ more)) ≡ take n (drop p (take at B))
   before p n more le =
       let f = front_length in
@@ -60,7 +57,6 @@ module _ (B pair : List ℕ) (at : ℕ) (two : length pair ≡ 2) (inside : at +
       ∙ ap (λ whole. take (length bytes) (drop p whole)) (take-append-drop at B) ∙ there
   pair_elsewhere p bytes (inr le) there = behind p (length bytes) le ∙ there
 
--- one entry more
 greatest_more : (declared : List Declared) (one : Declared) → greatest_of (declared ++ one ∷ []) ≡ max (greatest_of declared) one.alignment
 greatest_more [] one = omega arith
 greatest_more (first ∷ declared) one = let e = greatest_more declared one in omega (arith, e)
@@ -73,7 +69,6 @@ used_more : (declared : List Declared) (one : Declared) → slots_used (declared
 used_more [] one = omega arith
 used_more (first ∷ declared) one = let e = used_more declared one in omega (arith, e)
 
--- the offset of a slot that isn't declared yet, and of the other ones
 offset_new : (from : ℕ) (declared : List Declared) (one : Declared) → 0 < from → offset_in from declared one.slot ≡ 0 → offset_in from (declared ++ one ∷ []) one.slot ≡ from + total_size declared
 offset_new from [] one positive none = rw (same_number one.slot) (omega arith)
   where
@@ -91,7 +86,6 @@ offset_other : (from : ℕ) (declared : List Declared) (one : Declared) (slot : 
 offset_other from [] one slot other = rw other refl
 offset_other from (first ∷ declared) one slot other = ap (λ (rest : ℕ). if first.slot == slot then from else rest) (offset_other (from + first.size) declared one slot other)
 
--- no offset is beyond the fields
 offset_small : (from : ℕ) (declared : List Declared) (slot : ℕ) → offset_in from declared slot ≤ from + total_size declared
 offset_small from [] slot = omega arith
 offset_small from (first ∷ declared) slot = by_test (offset_small (from + first.size) declared slot) (first.slot == slot)
@@ -100,7 +94,6 @@ offset_small from (first ∷ declared) slot = by_test (offset_small (from + firs
     by_test later true = omega arith
     by_test later false = omega (arith, later)
 
--- two zero bytes are those of 0
 zero_of : (n : ℕ) → n < 2 ^ 16 → to_le_bytes w16 n ≡ 0 ∷ 0 ∷ [] → n ≡ 0
 zero_of n small e = sym (from_le_bytes-to_le_bytes_2 n small) ∙ ap (from_le_bytes w16) e
 
@@ -148,7 +141,6 @@ module _ (old : Writer) (one : Declared) (new : Writer) (inside : slot_position 
       inside = let i = told.inside in let l = ap length vtable_is ∙ pair_length old.vtable (to_le_bytes w16 old.object_size) (slot_position one.slot) refl inside in omega (arith, i, l, size_is, inside);
     }
 
--- nothing is declared of zeros
 zeros_stand : (n p : ℕ) → p + 2 ≤ n → BytesStand (replicate n 0) p (0 ∷ 0 ∷ [])
 zeros_stand n p le =
     let left : n - p ≡ suc (suc (n - p - 2)) = omega (arith, le) in
@@ -164,7 +156,6 @@ told_nothing N enough = record {
   inside = (let l = length-replicate {A = ℕ} N 0 in omega (arith, enough, l));
 }
 
--- the slots of a vtable, from one on
 slots_taken : (writer : Writer) (declared : List Declared) → WasTold writer declared → (n slot : ℕ) → 4 + 2 * (slot + n) ≤ length writer.vtable
     → take (2 * n) (drop (4 + 2 * slot) writer.vtable) ≡ offsets_bytes declared slot n
 slots_taken writer declared told zero slot within = refl
@@ -178,7 +169,6 @@ slots_taken writer declared told (suc n) slot within =
     ap (λ m. take m L) (let e : 2 * suc n ≡ 2 + 2 * n = omega arith in e) ∙ take-add 2 (2 * n) L ∙ ap (λ xs. xs ++ take (2 * n) (drop 2 L)) first
     ∙ ap (λ xs. to_le_bytes w16 (offset_in 4 declared slot) ++ xs) rest
 
--- the vtable, once both sizes are put in front
 pub written_vtable : (writer : Writer) (declared : List Declared) → WasTold writer declared
     → take writer.vtable_size (with_pair 2 (to_le_bytes w16 writer.object_size) (with_pair 0 (to_le_bytes w16 writer.vtable_size) writer.vtable)) ≡ vtable_of (slots_used declared) declared
 written_vtable writer declared told =
@@ -192,7 +182,6 @@ written_vtable writer declared told =
     ∙ ap (λ xs. sizes ++ xs) (ap (take (2 * n)) (drop-drop 2 2 writer.vtable) ∙ slots_taken writer declared told n 0 (omega (arith, i, v)))
     ∙ ap (λ (p : ℕ × ℕ). (to_le_bytes w16 p.0 ++ to_le_bytes w16 p.1) ++ offsets_bytes declared 0 n) (let e : (writer.vtable_size, writer.object_size) ≡ (4 + 2 * n, 4 + total_size declared) = rw (v, told.object_size) refl in e)
 
--- the greater of two powers of two is one
 pub greater_power : (a b : ℕ) → IsPowerOfTwo a → IsPowerOfTwo b → IsPowerOfTwo (max a b)
 greater_power a b first second = elim (cases_lt a b) as (λ _. IsPowerOfTwo (max a b)) [
   | inl less ↦ (let e : b ≡ max a b = omega (arith, less) in subst IsPowerOfTwo e second)

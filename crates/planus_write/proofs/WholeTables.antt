@@ -1,4 +1,4 @@
--- The three parts of a table, planned one behind the other and put at once.
+-- The parts of a table, put at once.
 use Rattle.std.proofs.Common.{◌≡◌, ℕ, ◌+◌, ◌-◌, ◌≤◌, List, [], ◌++◌, Bool, true, false, length, replicate, refl, sym, ap, subst, ◌∙◌, arith}
 use Rattle.std.proofs.Common.{length-append, append_assoc, Some, None, pos, ◌-ℤ◌}
 use Rattle.std.proofs.lemmas.List.{length-replicate}
@@ -21,7 +21,6 @@ use Rattle.planus_write.proofs.ContentsInFront.{vtable_in_front}
 use Rattle.planus_write.proofs.PlacedParts.{shared_down, part_put, part_ends, new_bytes, new_length, at_its_place, still_sound}
 use Rattle.planus_write.proofs.PlannedRoom.{makes_room}
 
--- the padding behind a part that is planned
 abbrev padded : Plan → Backed → Backed
 padded plan old = record {
   bytes = replicate plan.padding 0 ++ old.bytes;
@@ -30,7 +29,6 @@ padded plan old = record {
   room = old.room - plan.padding;
 }
 
--- and the part
 abbrev with_part : Part → Plan → Backed → Backed
 with_part part plan old = record (padded plan old) {
   bytes = part.bytes_at plan.place ++ (replicate plan.padding 0 ++ old.bytes);
@@ -38,7 +36,6 @@ with_part part plan old = record (padded plan old) {
 }
 
 module _ (part : Part) (old : Backed) (plan : Plan) (plans : Plans part.size part.alignment old plan) (count : length (part.bytes_at plan.place) ≡ part.size) where
-  -- it ends with the place that was planned
   planned_length : length (with_part part plan old).bytes ≡ plan.place
   planned_length = simp (length-append, length-replicate) (let h = count in let g = plans.is_place in omega arith)
 
@@ -50,7 +47,6 @@ module _ (part : Part) (old : Backed) (plan : Plan) (plans : Plans part.size par
     put = refl;
   }
 
--- what is planned behind bytes of that number, for which this was promised
 abbrev pub PlansBehind : Plan → (size alignment : ℕ) → Plan → Type 0
 PlansBehind before size alignment plan =
     (backed : Backed) → length backed.bytes ≡ before.place → backed.delayed ≡ before.promises.delayed → backed.mask ≡ before.promises.mask → Plans size alignment backed plan
@@ -106,7 +102,6 @@ module _ (vtable : List ℕ) (body : Part) (old new : Backed) (first second thir
     word_put = rw (← same) (planned_put (word_part first.place) two third third_plans refl (omega (arith, within, count, none)));
   }
 
--- where equal vtables aren't written once, parts that are put are the entries of a table, written
 module _ (vtable : List ℕ) (body : Part) (a : Inside) (off : a.vtables.on ≡ false) (is_vtable : vtable_in vtable ≡ Some vtable) where
   vtable_down : (place : ℕ) (new : Backed) → PutsPart (vtable_part vtable) a.backing place new → PutsDown (vtable_entry vtable) [] (state_of a) place (state_of (record a { backing = new }))
   vtable_down place new h =
@@ -139,7 +134,6 @@ module _ (vtable : List ℕ) (body : Part) (a : Inside) (off : a.vtables.on ≡ 
   puts_table_if true new h = puts_table new h
   puts_table_if false new h = ap (λ backing. state_of (record a { backing = backing })) h
 
--- a builder that written a table, or did nothing, still has a past
 pub table_sound : (put : Bool) (vtable : List ℕ) (body : Part) (old new : State) → (past : Past) × IsPast old past → PutsTableIf put vtable body old new → (past : Past) × IsPast new past
 table_sound true vtable body old new sound h =
     let first = still_sound (vtable_entry vtable) [] old h.first h.vtable_at sound h.vtable_put in
@@ -147,7 +141,6 @@ table_sound true vtable body old new sound h =
     still_sound (unshared_entry (word_part h.vtable_at)) [] h.second new h.table_at second h.word_put
 table_sound false vtable body old new sound h = subst (λ (state : State). (past : Past) × IsPast state past) (sym h) sound
 
--- which of the two it was
 pub table_put : (put : Bool) (vtable : List ℕ) (body : Part) (old new : State) → put ≡ true → PutsTableIf put vtable body old new → PutsTable vtable body old new
 table_put put vtable body old new is h = subst (λ b. PutsTableIf b vtable body old new) is h
 

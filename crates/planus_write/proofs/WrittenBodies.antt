@@ -1,9 +1,8 @@
--- A body that is written piece by piece.
+-- A body that is written slice by slice.
 use Rattle.std.proofs.Common.{◌≡◌, ℕ, ◌+◌, ◌-◌, ◌++◌, arith, refl, append_assoc}
 use Rattle.planus_write.specs.Items.{Item}
 use Rattle.planus_write.specs.ObjectWriting.{ObjectBody, wrote}
 
--- one piece and then another are both of them
 pub wrote_both : (m n : ℕ) (first second both : Item) (body : ObjectBody) → both body.place ≡ first body.place ++ second (body.place - m)
     → wrote n second (wrote m first body) ≡ wrote (m + n) both body
 wrote_both m n first second both body are =

@@ -1,4 +1,4 @@
--- A list is written: its items, as one part, and its count.
+-- A vector is written.
 use Rattle.std.proofs.Common.{◌≡◌, ℕ, suc, zero, ◌+◌, ◌*◌, ◌^◌, ◌<◌, ◌≤◌, max, List, [], ◌∷◌, length, map}
 use Rattle.std.proofs.Common.{refl, sym, ap, ◌∙◌, subst, arith, inl, inr}
 use Rattle.std.specs.Prelude.{Result, Ok, Err}
@@ -24,7 +24,6 @@ use Rattle.planus_write.specs.declared.errors.BuildError.TheVariants.{OutOfMemor
 use Rattle.planus_write.specs.declared.offset.Offset.{Offset}
 use Rattle.planus_write.proofs.PreparedItems.{may_at}
 
--- the alignment of a list's items is a power of two
 greatest_power : (k : ℕ) → IsPowerOfTwo (max (2 ^ k) 4)
 greatest_power zero = (2, refl)
 greatest_power (suc zero) = (2, refl)
@@ -40,7 +39,6 @@ module _ {A : Type 0} (leaves : A → Item) (reach : A → ℕ) (values : List A
   abbrev items : List Item
   items = map leaves values
 
-  -- the part that is filled is that of the items
   pub part_is : (n aligned : ℕ) → n ≡ length values * stride → aligned ≡ max alignment 4
       → filled_part n aligned (λ place n. items_bytes stride place items) ≡ items_part size alignment items
   part_is n aligned n_is aligned_is =
@@ -48,7 +46,6 @@ module _ {A : Type 0} (leaves : A → Item) (reach : A → ℕ) (values : List A
       ∙ ap (λ m. filled_part m (max alignment 4) (λ place n. items_bytes stride place items)) (n_is ∙ ap (λ s. length values * s) same ∙ ap (λ m. m * size) (sym (length-map values leaves)))
       ∙ ap (λ s. filled_part (length items * size) (max alignment 4) (λ place n. items_bytes s place items)) same
 
-  -- the items may stand where their part is
   pub may_stand : (before n place : ℕ) → n ≡ length values * stride → AllByRecursion (λ value. reach value ≤ before) values → before + n ≤ place → MayStand reach stride place values
   may_stand before n place n_is reached le = record {
     inside = omega (arith, n_is, le);
@@ -58,13 +55,11 @@ module _ {A : Type 0} (leaves : A → Item) (reach : A → ℕ) (values : List A
         omega (arith, n_is, le, behind, within);
   }
 
--- so many items as fill no more bytes than a place are no more than that
 pub count_fits : (count stride size place : ℕ) → stride ≡ size → 0 < size → count * stride ≤ place → count ≤ place
 count_fits count stride size place same positive le =
     let one : count * 1 ≤ count * stride = mul-le-mul_left count (omega (arith, same, positive)) in
     omega (arith, one, le)
 
--- a part of more bytes than any place is too large, whatever was written before
 pub refused_by_size : (part : Part) (got : List ℕ) (old : State) → IsPowerOfTwo part.alignment → greatest_place < part.size → Refuses (unshared_entry part) got old TooLarge old
 refused_by_size part got old power far = record {
   unchanged = refl;
@@ -80,7 +75,6 @@ refused_by_size part got old power far = record {
       };
 }
 
--- what a part is written behind doesn't matter to it
 pub put_behind : (part : Part) (before got : List ℕ) (old : State) (distance : ℕ) (new : State) → WritesEntry (unshared_entry part) before old (Ok distance) new → WritesEntry (unshared_entry part) got old (Ok distance) new
 put_behind part before got old distance new h = record { grows = h.grows; reached = h.reached; fits = h.fits; puts = h.puts; room = h.room; switches = h.switches }
 
@@ -88,7 +82,6 @@ pub refused_behind : (part : Part) (before got : List ℕ) (old : State) (error 
 refused_behind part before got old TooLarge new h = record { unchanged = h.unchanged; cause = λ past is_past. (let c = h.cause past is_past in record { is_new = c.is_new; too_large = c.too_large }) }
 refused_behind part before got old OutOfMemory new h = record { unchanged = h.unchanged; cause = λ past is_past. (let c = h.cause past is_past in record { is_new = c.is_new; lacks = c.lacks }) }
 
--- a part, and the count in front of it
 module _ (part : Part) (count : ℕ) (old : State) where
   abbrev counted : List Entry
   counted = unshared_entry part ∷ unshared_entry (count_part count) ∷ []
@@ -107,7 +100,6 @@ module _ (part : Part) (count : ℕ) (old : State) where
     counted_written offset new put_count =
         (first ∷ offset.distance ∷ [], new, (first, between, put, (offset.distance, new, put_behind (count_part count) [] (first ∷ []) between offset.distance new put_count, (refl, refl))), (refl, refl))
 
--- a list is its items, prepared, and then these, written
 module _ {X A T : Type 0} (prepares : List X → Outcome (List A)) (leaves : A → Item) (size alignment : ℕ) (xs : List X) (values : List A) (old mid : State)
     (prepared : prepares xs old (Ok values) mid) where
   pub list_is : (answer : Result (Offset T) BuildError) (new : State) → WritesPrepared size alignment (map leaves values) mid answer new

@@ -1,4 +1,4 @@
--- A table is written: its vtable, its body, and its word.
+-- A table is written.
 use Rattle.std.proofs.Common.{◌≡◌, ℕ, ◌+◌, ◌-◌, List, [], ◌∷◌, length, refl, ap, ◌∙◌, subst, arith, inl, inr}
 use Rattle.std.specs.Prelude.{Ok, Err}
 use Rattle.planus_back.specs.Parts.{Part}
@@ -13,7 +13,6 @@ use Rattle.planus_write.specs.declared.errors.BuildError.{BuildError}
 use Rattle.planus_write.specs.declared.errors.BuildError.TheVariants.{OutOfMemory, TooLarge}
 use Rattle.planus_write.proofs.WrittenLists.{put_behind, refused_behind}
 
--- the word of a vtable's distance is the word behind that
 word_put : (vtable body : ℕ) (old : State) (distance : ℕ) (new : State) → PutsDown (unshared_entry (word_part vtable)) [] old distance new → PutsDown word_entry (vtable ∷ body ∷ []) old distance new
 word_put vtable body old distance new h = record { grows = h.grows; reached = h.reached; fits = h.fits; puts = h.puts; room = h.room; switches = h.switches }
 
@@ -21,7 +20,6 @@ word_not_put : (vtable body : ℕ) (old : State) (error : BuildError) (new : Sta
 word_not_put vtable body old TooLarge new h = record { unchanged = h.unchanged; cause = λ past is_past. (let c = h.cause past is_past in record { is_new = c.is_new; too_large = c.too_large }) }
 word_not_put vtable body old OutOfMemory new h = record { unchanged = h.unchanged; cause = λ past is_past. (let c = h.cause past is_past in record { is_new = c.is_new; lacks = c.lacks }) }
 
--- the part that is filled is that of the body
 body_is : (writer : Writer) (declared : List Declared) (body : Item) → WasTold writer declared → filled_part (writer.object_size - 4) (writer.mask + 1) (λ place n. body place) ≡ object_part declared body
 body_is writer declared body told =
     let size : writer.object_size - 4 ≡ total_size declared = (let o = told.object_size in omega (arith, o)) in

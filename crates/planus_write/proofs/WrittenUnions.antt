@@ -1,4 +1,4 @@
--- A union vector is written: its references and their count, its tags and their count.
+-- A union vector is written.
 use Rattle.std.proofs.Common.{◌≡◌, ℕ, List, [], ◌∷◌, ◌++◌, length, map, refl, ap, ◌∙◌, subst, inl, inr}
 use Rattle.std.specs.Prelude.{Ok, Err}
 use Rattle.planus_write.specs.Past.{Entry, unshared_entry}
@@ -16,7 +16,6 @@ use Rattle.planus_write.specs.declared.union_offset.UnionOffset.{UnionOffset}
 use Rattle.planus_write.specs.declared.union_vector_offset.UnionVectorOffset.{UnionVectorOffset}
 use Rattle.planus_write.proofs.WrittenLists.{put_behind, refused_behind}
 
--- entries that are refused are so with others behind them
 entries_stop : (entries others : List Entry) (got : List ℕ) (old : State) (error : BuildError) (new : State)
     → WritesEntries entries got old (Err error) new → WritesEntries (entries ++ others) got old (Err error) new
 entries_stop [] others got old error new h = (cc)
@@ -24,7 +23,6 @@ entries_stop (entry ∷ entries) others got old error new (inl h) = inl h
 entries_stop (entry ∷ entries) others got old error new (inr h) =
     inr (h.0, h.1, h.2, entries_stop entries others (got ++ h.0 ∷ []) h.1 error new h.3)
 
--- The references of prepared unions are those of their offsets, and the tags are theirs.
 pub references_are : {T : Type 0} (unions : List (UnionOffset T))
     → map (λ (offset : Offset (Unit {0})). reference_item offset.distance) (map (λ (union : UnionOffset T). union.offset) unions)
     ≡ map reference_item (distances_in (map item_of unions))
@@ -36,7 +34,6 @@ pub tags_are : {T : Type 0} (unions : List (UnionOffset T))
 tags_are [] = refl
 tags_are (union ∷ unions) = ap (λ (tags : List ℕ). union.tag ∷ tags) (tags_are unions)
 
--- tags that are refused are so behind whatever got these distances
 tags_refused_behind : (tags got : List ℕ) (old : State) (error : BuildError) (new : State)
     → WritesEntries (tags_entries tags) [] old (Err error) new → WritesEntries (tags_entries tags) got old (Err error) new
 tags_refused_behind tags got old error new (inl h) = inl (refused_behind (tags_part tags) [] got old error new h)
@@ -58,7 +55,6 @@ module _ {X T : Type 0} (prepare : X → Outcome (UnionOffset T)) (xs : List X) 
   references_refused error new (inr h) = (cc)
 
   module _ (values : Offset (list.List (Offset (Unit {0})))) (between : State) (put : WritesPrepared 4 4 references mid (Ok values) between) where
-    -- the state behind the references, as their entries leave it
     same : between ≡ put.2.3.1
     same = put.3.1 ∙ put.2.3.3.1
 

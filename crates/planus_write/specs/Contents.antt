@@ -1,4 +1,4 @@
--- What a value holds as a field of a table, as its caller would say it.
+-- What a field holds, as its caller would say it.
 use Rattle.std.specs.Prelude.{◌≡◌, ℕ, List, [], ◌∷◌, Option}
 use Rattle.std.specs.Prelude.{Some, None, Ok, ⊤}
 use Rattle.planus_read.specs.Values.{Value, Field, Plain, plain, reference, tags}
@@ -13,10 +13,8 @@ use Rattle.planus_write.specs.declared.union_offset.UnionOffset.{UnionOffset}
 use Rattle.planus_write.specs.declared.union_vector_offset.UnionVectorOffset.{UnionVectorOffset}
 
 mutual
-  -- What a field holds: a number or a bool; a reference to a value; a reference to a vector of
-  -- references to values; or a reference to a value written before, at this distance. A union
-  -- vector has two fields, references to its tags and to its values: those of a vector of these
-  -- unions, or of one written before.
+  -- A number or a bool, or a reference: to a value, to a vector of references, or to a value
+  -- written before at this distance. A union vector has two fields, its tags' and its values'.
   pub data Content : Type 0 where
     item : Plain → Content
     value : Value → Content
@@ -27,21 +25,18 @@ mutual
     written_tags : ℕ → Content
     written_values : ℕ → Content
 
-  -- The unions of a vector: each one's tag, and what its reference holds.
+  -- Each union's tag, and what its reference holds.
   pub data Unions : Type 0 where
     no_unions : Unions
     union_and : ℕ → Content → Unions → Unions
 
--- tags, each with what its reference holds, as such unions
 abbrev pub as_unions : List (ℕ × Content) → Unions
 as_unions [] = no_unions
 as_unions (one ∷ others) = union_and one.0 one.1 (as_unions others)
 
--- named by one distance
 abbrev pub named_at : ℕ → Named
 named_at distance = record { distance = distance; tags = None }
 
--- the values are stored at these distances, one by one
 abbrev pub AllKept : Past → List Value → List ℕ → Type 0
 AllKept past [] [] = ⊤
 AllKept past (one ∷ others) (distance ∷ distances) =
@@ -49,13 +44,12 @@ AllKept past (one ∷ others) (distance ∷ distances) =
 AllKept past [] (distance ∷ distances) = ⊥
 AllKept past (one ∷ others) [] = ⊥
 
--- the same for a union vector
 abbrev pub named_at_both : (tags_at values_at : ℕ) → Named
 named_at_both tags_at values_at = record { distance = values_at; tags = Some tags_at }
 
 abbrev mutual
-  -- The field holds this, and the value it refers to is stored. What was written before is for the
-  -- caller to know.
+  -- The field holds this, and the value it refers to is stored. What is at an earlier distance is
+  -- for the caller to know.
   pub FieldIs : Past → Content → Field → Type 0
   FieldIs past (item content) field = field ≡ plain content
   FieldIs past (value content) field =
@@ -78,7 +72,6 @@ abbrev mutual
   FieldIs past (written_tags distance) field = field ≡ tags distance
   FieldIs past (written_values distance) field = field ≡ values_field distance
 
-  -- Unions, each a tag and a distance, have these tags, and their references hold these.
   pub UnionsAre : Past → Unions → List (ℕ × ℕ) → Type 0
   UnionsAre past no_unions [] = ⊤
   UnionsAre past (union_and tag content others) (union ∷ unions) =
@@ -86,7 +79,6 @@ abbrev mutual
   UnionsAre past no_unions (union ∷ unions) = ⊥
   UnionsAre past (union_and tag content others) [] = ⊥
 
--- from one history to another in which this holds
 abbrev pub Comes : Past → State → (Past → Type 0) → Type 0
 Comes past new Holds = (after : Past) × IsPast new after × Extends past after × Holds after
 
@@ -98,7 +90,7 @@ pub record PreparesContent {X A : Type 0} (may : X → State → Type 0) (outcom
       → outcome x old (Ok prepared) new → IsPast old past
       → Comes past new (λ after. FieldIs after (content x) (field prepared))
 
--- A union written before has this tag, and its reference holds this; or it is left out.
+-- A written union holds this, or both are absent.
 abbrev pub UnionHolds : {T : Type 0} → Past → Option (ℕ × Content) → Option (UnionOffset T) → Type 0
 UnionHolds past None None = ⊤
 UnionHolds past (Some content) (Some union) =
@@ -114,7 +106,7 @@ pub record PreparesUnionItem {X T : Type 0} (may : X → State → Type 0)
       → outcome x old (Ok prepared) new → IsPast old past
       → Comes past new (λ after. UnionHolds after (Some (content x)) (Some prepared))
 
--- The two fields of a union vector hold these; or it is left out.
+-- A written union vector's two fields hold these, or both are absent.
 abbrev pub UnionVectorHolds : {T : Type 0} → Past → Option (Content × Content)
     → Option (UnionVectorOffset T) → Type 0
 UnionVectorHolds past None None = ⊤
@@ -124,10 +116,8 @@ UnionVectorHolds past (Some contents) (Some vector) =
 UnionVectorHolds past None (Some vector) = ⊥
 UnionVectorHolds past (Some contents) None = ⊥
 
--- what its two fields hold
 abbrev pub unions_hold : List (ℕ × Content) → Content × Content
 unions_hold contents = (union_tags (as_unions contents), union_values (as_unions contents))
 
--- a union written before: its tag, and what its reference holds
 abbrev pub written_union : {T : Type 0} → UnionOffset T → ℕ × Content
 written_union union = (union.tag, written (union_reach union))

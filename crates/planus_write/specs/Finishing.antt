@@ -10,19 +10,17 @@ use Rattle.planus_write.specs.declared.errors.BuildError.{BuildError}
 use Rattle.planus_write.specs.declared.offset.Offset.{Offset}
 use Rattle.planus_write.specs.contracts.builder.Builder.{the_row}
 
--- The entry's bytes were prepended to all that was written, at a length that keeps every alignment
--- constraint without padding.
+-- The entry's bytes were prepended, at a length that keeps every alignment constraint without
+-- padding.
 pub record PutsInFront (entry : Entry) (old : State) (distance : ℕ) (new : State) : Type 0 where
   pub puts : PutsDown entry [] old distance new
   pub whole : distance ≡ length new.bytes
   pub kept : new.delayed ≡ 0
 
--- such bytes were prepended, or the call failed
 abbrev pub WritesFront : Entry → Outcome ℕ
 WritesFront entry old (Ok distance) new = PutsInFront entry old distance new
 WritesFront entry old (Err error) new = Refuses entry [] old error new
 
--- the finish of a prepared root was written
 abbrev pub Finishes : ℕ → Option (List ℕ) → State → ℕ → State → Type 0
 Finishes root identifier old distance new =
     PutsInFront (finish_entry root identifier) old distance new
@@ -39,18 +37,16 @@ WritesSizedRoot root identifier = WritesFront (sized_finish_entry root identifie
 abbrev pub FinishDoes : {T : Type 0} → Outcome (Offset T) → Option (List ℕ) → Outcome ℕ
 FinishDoes {T} prepare identifier = then_does prepare (λ root. WritesRoot root.distance identifier)
 
--- The root is prepared, and then the size-prefixed finish is written.
+-- the same, size-prefixed
 abbrev pub SizedFinishDoes : {T : Type 0} → Outcome (Offset T) → Option (List ℕ) → Outcome ℕ
 SizedFinishDoes {T} prepare identifier =
     then_does prepare (λ root. WritesSizedRoot root.distance identifier)
 
--- The builder after a call that prepends bytes, by its result: the slice lent is all of the
--- builder's bytes.
+-- The builder after a call that prepends bytes and lends all of them.
 abbrev pub LendsAll : Outcome ℕ → State → Result (Bor (List ℕ)) BuildError → State → Type 0
 LendsAll does old (Ok bytes) new = does old (Ok (length new.bytes)) new × (bytes.now ≡ new.bytes)
 LendsAll does old (Err error) new = does old (Err error) new
 
--- the slice lent: all of the builder's bytes after the call
 abbrev pub GivesAll : Outcome ℕ → State → List ℕ → Type 0
 GivesAll does old bytes =
     (new : State) × does old (Ok (length new.bytes)) new × (bytes ≡ new.bytes)
@@ -64,7 +60,7 @@ abbrev pub FinishGives : {T : Type 0} → Outcome (Offset T) → Option (List �
     → Type 0
 FinishGives {T} prepare identifier = GivesAll (FinishDoes prepare identifier)
 
--- the same for a size-prefixed finish
+-- the same, size-prefixed
 abbrev pub SizedFinishLeaves : {T : Type 0} → Outcome (Offset T) → Option (List ℕ) → State
     → Result (Bor (List ℕ)) BuildError → State → Type 0
 SizedFinishLeaves {T} prepare identifier = LendsAll (SizedFinishDoes prepare identifier)

@@ -15,28 +15,25 @@ pub data Holding : Type 0 where
 abbrev pub FindContents : Type 0
 FindContents = List ℕ → Option (List ℕ)
 
--- the distance is held
 abbrev pub Holds : Holding → ℕ → Type 0
 Holds (few distances) distance =
     (i : ℕ) × (i < length distances) × (slice_index distances i ≡ distance)
 Holds (many held) distance = Has held distance
 
--- no distance is held
 abbrev pub HoldsNothing : Holding → Type 0
 HoldsNothing holding = (distance : ℕ) → ¬ Holds holding distance
 
--- the distances of before, and this one
 abbrev pub HoldsMore : Holding → ℕ → Holding → Type 0
 HoldsMore old distance new = (other : ℕ) → Holds new other ↔ (Holds old other ⊎ (other ≡ distance))
 
--- it fits the bytes: contents are encoded at each of its distances
+-- contents are encoded at each of its distances
 abbrev pub HoldingFits : FindContents → Holding → List ℕ → Type 0
 HoldingFits contents_in (few distances) bytes =
     (i : ℕ) → i < length distances
     → (contents : List ℕ) × (key_at contents_in bytes (slice_index distances i) ≡ Some contents)
 HoldingFits contents_in (many held) bytes = Fits contents_in held bytes
 
--- it fits the bytes whatever is prepended, if the contents are then at the distance
+-- it fits the bytes after a write that puts the contents at the distance
 abbrev pub FitsInFront : FindContents → List ℕ → List ℕ → ℕ → Holding → Type 0
 FitsInFront contents_in bytes contents distance holding =
     (front : List ℕ) → key_at contents_in (front ++ bytes) distance ≡ Some contents

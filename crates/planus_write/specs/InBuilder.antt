@@ -1,15 +1,14 @@
--- What is in a builder: what was written since the last clear.
 use Rattle.std.specs.Prelude.{◌≤◌, List, length}
 use Rattle.std.specs.List.{AllByRecursion}
 use Rattle.planus_write.specs.State.{State, Grows}
 use Rattle.planus_write.specs.declared.offset.Offset.{Offset}
 use Rattle.planus_write.specs.declared.union_offset.UnionOffset.{UnionOffset}
 
--- the offset is in the builder's bytes, and so may be referred to
+-- it may be referred to: its distance is at most the builder's length
 abbrev pub IsIn : {T : Type 0} → State → Offset T → Type 0
 IsIn builder offset = offset.distance ≤ length builder.bytes
 
--- so do all of these
+-- so are all of these
 abbrev pub AllIn : {T : Type 0} → State → List (Offset T) → Type 0
 AllIn builder offsets = AllByRecursion (λ offset. IsIn builder offset) offsets
 

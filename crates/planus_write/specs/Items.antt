@@ -1,4 +1,3 @@
--- What is encoded in vectors and tables.
 use Rattle.std.specs.Prelude.{ℕ, ◌-◌, List}
 use Rattle.std.specs.Int.{w32, to_le_bytes}
 
@@ -10,7 +9,7 @@ Item = ℕ → List ℕ
 abbrev pub plain_item : List ℕ → Item
 plain_item bytes = λ place. bytes
 
--- A reference to a distance: its place less the distance. The format: a reference is a number of 4
--- bytes, the distance forward from itself.
+-- Its place less the distance. The format: a reference is a number of 4 bytes, the distance forward
+-- from itself.
 abbrev pub reference_item : ℕ → Item
 reference_item distance = λ place. to_le_bytes w32 (place - distance)

@@ -1,4 +1,3 @@
--- What it means that a value is stored: it is encoded at its distances, and aligned.
 use Rattle.std.specs.Prelude.{ℕ, ◌-◌, ◌≤◌, List, ◌++◌, length, Option, Some, None, ⊤}
 use Rattle.std.specs.List.{AllByRecursion}
 use Rattle.std.specs.Int.{◌∣◌}
@@ -12,13 +11,12 @@ use Rattle.planus_write.specs.Shared.{Kind, texts, byte_lists, vtables, Seen}
 use Rattle.planus_write.specs.Past.{Past}
 use Rattle.planus_write.specs.Parts.{Named, position_in}
 
--- the distance of a union vector's tags, if any, is at most n
 abbrev pub TagsReached : ℕ → Option ℕ → Type 0
 TagsReached length None = ⊤
 TagsReached length (Some tags) = tags ≤ length
 
--- The value is encoded in what was written, at its distances, and is aligned in all bytes that end
--- in this and whose length keeps the constraints.
+-- The value is encoded at its distances, and aligned in all bytes that end in this and whose length
+-- keeps the constraints.
 pub record IsKept (past : Past) (value : Value) (named : Named) : Type 0 where
   pub reached : named.distance ≤ length past.written.bytes
   pub tags_reached : TagsReached (length past.written.bytes) named.tags
@@ -27,8 +25,7 @@ pub record IsKept (past : Past) (value : Value) (named : Named) : Type 0 where
       → AlignedAt (front ++ past.written.bytes)
       (moved (length front) (position_in past.written.bytes named)) value
 
--- Cached contents: a string or a byte vector of these bytes is stored at the distance; a vtable's
--- bytes are there, at a multiple of 2.
+-- Cached contents are stored at the distance; a vtable's at a multiple of 2.
 abbrev pub KindIsKept : Past → Kind → List ℕ → ℕ → Type 0
 KindIsKept past texts bytes distance =
     IsKept past (text bytes) (record { distance = distance; tags = None })

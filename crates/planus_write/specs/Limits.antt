@@ -1,19 +1,15 @@
--- Whether a part can be placed after n bytes: within the greatest place, and within the room.
 use Rattle.std.specs.Prelude.{ℕ, ◌+◌, ◌<◌, ◌≤◌, List}
 use Rattle.planus_back.specs.Padding.{IsLeastPadding, greatest_place}
 use Rattle.planus_back.specs.Promises.{Promise}
 
--- With the least padding this holds.
 abbrev pub WithPadding : ℕ → ℕ → ℕ → List Promise → (ℕ → Type 0) → Type 0
 WithPadding len size alignment promises Holds =
     (padding : ℕ) × IsLeastPadding len promises size alignment padding × Holds padding
 
--- With the least padding a part of this size and alignment isn't too large.
 abbrev pub IsWithinLimit : ℕ → ℕ → ℕ → List Promise → Type 0
 IsWithinLimit len size alignment promises =
     WithPadding len size alignment promises (λ padding. len + padding + size ≤ greatest_place)
 
--- It is too large.
 abbrev pub ExceedsLimit : ℕ → ℕ → ℕ → List Promise → Type 0
 ExceedsLimit len size alignment promises =
     WithPadding len size alignment promises (λ padding. greatest_place < len + padding + size)

@@ -1,4 +1,3 @@
--- What vectors hold once they are written.
 use Rattle.std.specs.Prelude.{ℕ, List, [], map, Ok}
 use Rattle.planus_read.specs.Values.{reference}
 use Rattle.planus_write.specs.Items.{Item}
@@ -10,14 +9,14 @@ use Rattle.planus_write.specs.Preparing.{WritesEntries}
 use Rattle.planus_write.specs.State.{State, IsPast}
 use Rattle.planus_write.specs.Contents.{Content, FieldIs, Comes}
 
--- a vector was written, or the call failed: its items are prepared, and then its entries written
+-- the items are prepared, and then the vector's entries written, or the call failed
 abbrev pub WritesItems : {Y A : Type 0} → (List Y → Outcome (List A)) → (A → Item)
     → (size alignment : ℕ) → List Y → Outcome ℕ
 WritesItems prepares leaves size alignment ys =
     then_does (prepares ys)
     (λ items. AnswersLast (WritesEntries (list_entries size alignment (map leaves items)) []))
 
--- The law of items of a vector: once the vector is written, a reference to it holds this.
+-- Once the vector is written, a reference to it holds this.
 pub record ListHasContent {Y A : Type 0} (all_may : List Y → State → Type 0)
     (prepares : List Y → Outcome (List A)) (leaves : A → Item) (size alignment : ℕ)
     (list : List Y → Content) : Type 0 where

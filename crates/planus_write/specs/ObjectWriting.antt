@@ -1,11 +1,10 @@
--- What a writer of an object's fields has written, and what is left.
 use Rattle.std.specs.Prelude.{ℕ, ◌-◌, List, ◌++◌, length, take}
 use Rattle.planus_write.specs.Items.{Item}
 use Rattle.planus_write.specs.declared.object_writer.ObjectWriter.{ObjectWriter}
 use base.Fml.{GName}
 
--- The body of a table while it is written: the bytes so far, how many are left, and the next one's
--- place. All are after this reference.
+-- The body of a table while it is written: the bytes so far, how many remain, and the next one's
+-- place.
 pub record ObjectBody : Type 0 where
   pub written : List ℕ
   pub remaining : ℕ

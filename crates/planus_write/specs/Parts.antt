@@ -16,8 +16,8 @@ use Rattle.planus_write.specs.Past.{Entry, unshared_entry}
 use Rattle.planus_write.specs.Items.{Item, plain_item, reference_item}
 use Rattle.planus_write.specs.Tables.{IsTable, table_entries}
 
--- A string is one part, aligned to 4: its count, its bytes and a zero byte. The format: a string is
--- a vector of bytes followed by a zero byte that the count excludes.
+-- A string's count, bytes and a zero byte, aligned to 4. The format: a string is a vector of bytes
+-- followed by a zero byte that the count excludes.
 abbrev pub text_part : List ℕ → Part
 text_part bytes =
     record {
@@ -27,7 +27,7 @@ text_part bytes =
           (length bytes) ++ bytes ++ 0 ∷ [];
     }
 
--- equal texts may be written once
+-- equal strings may be written once
 abbrev pub text_entry : List ℕ → Entry
 text_entry bytes =
     record {
@@ -36,7 +36,7 @@ text_entry bytes =
       part = λ got promises. text_part bytes;
     }
 
--- A byte vector is one part, aligned to 4: its count and its bytes.
+-- A byte vector's count and its bytes, aligned to 4.
 abbrev pub byte_list_part : List ℕ → Part
 byte_list_part bytes = record {
   size = length bytes + 4;
@@ -51,8 +51,7 @@ byte_list_entry bytes = record {
   part = λ got promises. byte_list_part bytes;
 }
 
--- The bytes of items, one after another: the first at the place, each next one nearer to the end by
--- the size.
+-- The bytes of items of this size, one after another, the first at the place.
 abbrev pub items_bytes : ℕ → ℕ → List Item → List ℕ
 items_bytes size place [] = []
 items_bytes size place (item ∷ items) = item place ++ items_bytes size (place - size) items
@@ -65,46 +64,40 @@ items_part size alignment items = record {
   bytes_at = λ place. items_bytes size place items;
 }
 
--- the count of a list
 abbrev pub count_part : ℕ → Part
 count_part count =
     record { size = 4; alignment = 1; bytes_at = λ place. to_le_bytes w32 count }
 
--- A vector: its items, and then its count before them. The format: a vector is a count of 4 bytes,
--- followed by its items.
+-- The items, and then the count before them. The format: a vector is a count of 4 bytes, followed
+-- by its items.
 abbrev pub list_entries : (size alignment : ℕ) → List Item → List Entry
 list_entries size alignment items =
     unshared_entry (items_part size alignment items) ∷ unshared_entry (count_part (length items))
     ∷ []
 
--- the tags of a union vector as one part, aligned to 4
 abbrev pub tags_part : List ℕ → Part
 tags_part tags = record { size = length tags; alignment = 4; bytes_at = λ place. tags }
 
--- the tags, and then their count before them
 abbrev pub tags_entries : List ℕ → List Entry
 tags_entries tags = unshared_entry (tags_part tags) ∷ unshared_entry (count_part (length tags)) ∷ []
 
--- the tags of unions, and the distances to which they refer
 abbrev pub tags_in : List (ℕ × ℕ) → List ℕ
 tags_in items = map (λ item. item.0) items
 
 abbrev pub distances_in : List (ℕ × ℕ) → List ℕ
 distances_in items = map (λ item. item.1) items
 
--- A union vector: its vector of references, and before it its vector of tags. The format: a union
--- vector is two vectors of equal count: tags of one byte, and references.
+-- References, and before them tags. The format: a union vector is two vectors of equal count: tags
+-- of one byte, and references.
 abbrev pub union_entries : List (ℕ × ℕ) → List Entry
 union_entries items =
     list_entries 4 4 (map reference_item (distances_in items)) ++ tags_entries (tags_in items)
 
--- the bytes of a file identifier, if any
 abbrev pub identifier_bytes : Option (List ℕ) → List ℕ
 identifier_bytes None = []
 identifier_bytes (Some bytes) = bytes
 
--- Bytes before all that was written, as one part. Its alignment is the greatest of 4 and every
--- alignment constraint.
+-- prepended bytes as one part, aligned to the greatest of 4 and every constraint
 abbrev pub front_part : ℕ → (ℕ → List ℕ) → List Promise → Part
 front_part size words promises =
     record { size = size; alignment = greatest_alignment 4 promises; bytes_at = words }
@@ -113,13 +106,12 @@ abbrev pub front_entry : ℕ → (ℕ → List ℕ) → Entry
 front_entry size words =
     record { contents = None; part = λ got promises. front_part size words promises }
 
--- the root word, its place less the root's distance, followed by the file identifier, if any
 abbrev pub root_words : ℕ → Option (List ℕ) → ℕ → List ℕ
 root_words root identifier place =
     to_le_bytes w32 (place - root) ++ identifier_bytes identifier
 
--- A finish is one part: the root word and the file identifier, if any. The format: a buffer begins
--- with a reference to its root; four bytes that identify the file may follow.
+-- The format: a buffer begins with a reference to its root; four bytes that identify the file may
+-- follow.
 abbrev pub finish_part : ℕ → Option (List ℕ) → List Promise → Part
 finish_part root identifier promises =
     front_part (length (identifier_bytes identifier) + 4) (root_words root identifier) promises
@@ -128,15 +120,13 @@ abbrev pub finish_entry : ℕ → Option (List ℕ) → Entry
 finish_entry root identifier =
     front_entry (length (identifier_bytes identifier) + 4) (root_words root identifier)
 
--- the size word, its place less its own 4 bytes, followed by the words of a finish, nearer to the
--- end by 4
+-- the size word, which excludes its own 4 bytes, and then the words of a finish
 abbrev pub sized_words : ℕ → Option (List ℕ) → ℕ → List ℕ
 sized_words root identifier place =
     to_le_bytes w32 (place - 4) ++ root_words root identifier (place - 4)
 
--- A size-prefixed finish is one part too: the size word, then the words of a finish. The format: a
--- size-prefixed buffer begins with an unsigned number of 4 bytes, the number of bytes that follow;
--- the buffer is aligned from that number on.
+-- The format: a size-prefixed buffer begins with an unsigned number of 4 bytes, the number of bytes
+-- that follow; the buffer is aligned from that number on.
 abbrev pub sized_finish_part : ℕ → Option (List ℕ) → List Promise → Part
 sized_finish_part root identifier promises =
     front_part (length (identifier_bytes identifier) + 8) (sized_words root identifier) promises
@@ -150,16 +140,14 @@ abbrev pub filled_part : ℕ → ℕ → (ℕ → ℕ → List ℕ) → Part
 filled_part size alignment leaves =
     record { size = size; alignment = alignment; bytes_at = λ place. leaves place size }
 
--- Items of a plain vector: each of this size, a positive multiple of the alignment, which is a
--- power of two.
+-- Items of this size, a positive multiple of the alignment, which is a power of two.
 pub record IsPlainList (size alignment : ℕ) (items : List (List ℕ)) : Type 0 where
   pub sizes : AllByRecursion (λ item. length item ≡ size) items
   pub positive : 0 < size
   pub multiple : alignment ∣ size
   pub power : (k : ℕ) × (alignment ≡ 2 ^ k)
 
--- The values that can be written before n bytes: their references lead into these bytes, and the
--- items of a plain vector, and the fields of a table, are as the format asks.
+-- values that can be written after n bytes: references lead into these
 abbrev pub IsWritten : ℕ → Value → Type 0
 IsWritten before (text bytes) = ⊤
 IsWritten before (byte_list bytes) = ⊤
@@ -169,7 +157,6 @@ IsWritten before (reference_list distances) =
 IsWritten before (union_vector items) = AllByRecursion (λ item. item.1 ≤ before) items
 IsWritten before (table entries) = IsTable before entries
 
--- The entries of a value, in the order written.
 abbrev pub entries_of : Value → List Entry
 entries_of (text bytes) = text_entry bytes ∷ []
 entries_of (byte_list bytes) = byte_list_entry bytes ∷ []
@@ -179,30 +166,25 @@ entries_of (reference_list distances) = list_entries 4 4 (map reference_item dis
 entries_of (union_vector items) = union_entries items
 entries_of (table entries) = table_entries entries
 
--- The distances of a value: its own; for a union vector that of its references and that of its
--- tags.
+-- For a union vector, the distance of its references and that of its tags.
 pub record Named : Type 0 where
   pub distance : ℕ
   pub tags : Option ℕ
 
--- the last of some distances
 abbrev pub last_of : List ℕ → ℕ
 last_of [] = 0
 last_of (distance ∷ []) = distance
 last_of (first ∷ second ∷ rest) = last_of (second ∷ rest)
 
--- the second of some distances
 abbrev pub second_of : List ℕ → ℕ
 second_of (first ∷ second ∷ rest) = second
 second_of _ = 0
 
--- The distances of a value whose entries got these: the last of them; for a union vector the
--- second, of the count of its references, and the last, of the count of its tags.
+-- the last; for a union vector the second (references) and the last (tags)
 abbrev pub named_by : Value → List ℕ → Named
 named_by (union_vector items) got = record { distance = second_of got; tags = Some (last_of got) }
 named_by value got = record { distance = last_of got; tags = None }
 
--- the positions for one distance, or for two
 abbrev pub position_with : List ℕ → ℕ → Option ℕ → Position
 position_with B distance None = at (position_of B distance)
 position_with B distance (Some tags) = at_both (position_of B tags) (position_of B distance)

@@ -5,8 +5,7 @@ use Rattle.planus_back.specs.Parts.{Part, Written, Placed, IsTooLarge}
 use Rattle.planus_write.specs.Shared.{Contents, Switches, Seen, shared_as, earlier_distance}
 use Rattle.planus_write.specs.Shared.{and_seen}
 
--- The bytes and their alignment constraints; the contents that were cached, and where; and the
--- parts and their places, in order.
+-- The bytes, their constraints, the cached contents, and the parts with their places in order.
 pub record Past : Type 0 where
   pub written : Written
   pub seen : List Seen
@@ -23,13 +22,13 @@ no_past = record {
       [];
 }
 
--- One entry of a write: the contents by which it may be shared, if any, and its part, which may
--- depend on the distances of the write's earlier entries and on the constraints so far.
+-- One entry of a write: the contents by which it may be shared, and its part, which may depend on
+-- the distances of earlier entries and on the constraints so far.
 pub record Entry : Type 0 where
   pub contents : Option Contents
   pub part : List ℕ → List Promise → Part
 
--- an entry that isn't shared, and whose part depends on nothing
+-- an entry that isn't shared, with a part that depends on nothing
 abbrev pub unshared_entry : Part → Entry
 unshared_entry part = record { contents = None; part = λ got promises. part }
 
@@ -45,13 +44,11 @@ pub record Adds (part : Part) (shared : Option Contents) (before : Past) (distan
   pub parts : after.parts ≡ before.parts ++ part ∷ []
   pub places : after.places ≡ before.places ++ distance ∷ []
 
--- The distance is that of equal contents found, and nothing is written; otherwise the part is
--- added.
+-- Equal contents were found, and nothing is written; otherwise the part is added.
 abbrev pub PutsAfter : Option ℕ → Part → Option Contents → Past → ℕ → Past → Type 0
 PutsAfter (Some earlier) part shared before distance after = (distance ≡ earlier) × (after ≡ before)
 PutsAfter None part shared before distance after = Adds part shared before distance after
 
--- where the entry's contents were cached, if they were and it is shared
 abbrev pub found_before : Switches → Entry → Past → Option ℕ
 found_before switches entry past = earlier_distance past.seen (shared_as switches entry.contents)
 
@@ -62,7 +59,7 @@ Puts switches entry got before distance after =
     (shared_as switches entry.contents)
     before distance after
 
--- The entries are written one after another, and get these distances.
+-- one after another, with these distances
 abbrev pub PutsAll : Switches → List Entry → List ℕ → Past → List ℕ → Past → Type 0
 PutsAll switches [] got before all after = (all ≡ got) × (after ≡ before)
 PutsAll switches (entry ∷ entries) got before all after =
@@ -75,7 +72,6 @@ pub record PutsTooLarge (switches : Switches) (entry : Entry) (got : List ℕ)
   pub is_new : found_before switches entry before ≡ None
   pub too_large : IsTooLarge (part_after entry got before) before.written
 
--- Writing the entries comes to one whose part is too large.
 abbrev pub ComesToTooLarge : Switches → List Entry → List ℕ → Past → Type 0
 ComesToTooLarge switches [] got before = ⊥
 ComesToTooLarge switches (entry ∷ entries) got before =

@@ -15,8 +15,7 @@ use Rattle.planus_write.specs.declared.errors.BuildError.TheVariants.{OutOfMemor
 abbrev pub Outcome : Type 0 → Type 1
 Outcome A = State → Result A BuildError → State → Type 0
 
--- One call, and then another that takes its result. An error of the first is that of both; if the
--- second fails, the first is done.
+-- One call, and then another that takes its result. If the second fails, the first remains.
 abbrev pub then_does : {A B : Type 0} → Outcome A → (A → Outcome B) → Outcome B
 then_does {A} {B} first second old (Ok b) new = (a : A) × (between : State)
     × first old (Ok a) between × second a between (Ok b) new
@@ -25,7 +24,7 @@ then_does {A} {B} first second old (Err error) new =
     ⊎ ((a : A) × (between : State) × first old (Ok a) between
     × second a between (Err error) new)
 
--- The entry was written, for any history, and got this distance. Where padding and part fit the
+-- The entry was written, in any history, and got this distance. Where padding and part fit the
 -- room, the room falls by their bytes.
 pub record PutsDown (entry : Entry) (got : List ℕ) (old : State) (distance : ℕ)
     (new : State) : Type 0 where
@@ -38,29 +37,26 @@ pub record PutsDown (entry : Entry) (got : List ℕ) (old : State) (distance : �
       → length new.bytes + new.room ≡ length old.bytes + old.room
   pub switches : new.switches ≡ old.switches
 
--- Memory may have been refused for padding and part, which aren't too large; for a shared part,
--- also to the cache.
+-- Padding and part exceed the room. A shared part need only be within the limit, since its cache
+-- may lack memory.
 abbrev pub MayLackMemory : Option Contents → Part → State → List Promise → Type 0
 MayLackMemory None part old promises =
     ExceedsRoom (length old.bytes) old.room part.size part.alignment promises
 MayLackMemory (Some contents) part old promises =
     IsWithinLimit (length old.bytes) part.size part.alignment promises
 
--- an entry that isn't found lacks memory
 pub record RefusedMemory (entry : Entry) (got : List ℕ) (old : State) (past : Past) : Type 0 where
   pub is_new : found_before old.switches entry past ≡ None
   pub lacks : MayLackMemory (shared_as old.switches entry.contents)
       (part_after entry got past) old past.written.promises
 
--- why the entry was refused
 abbrev pub RefusedFor : Entry → List ℕ → State → BuildError → Type 0
 RefusedFor entry got old TooLarge = (past : Past) → IsPast old past
     → PutsTooLarge old.switches entry got past
 RefusedFor entry got old OutOfMemory = (past : Past) → IsPast old past
     → RefusedMemory entry got old past
 
--- The builder after a failed entry, by the contents by which it is shared: as it was; a shared one
--- may have got room for its part before its cache was refused memory.
+-- Unchanged, except that a shared part may have got room before its cache failed.
 abbrev pub LeftAsItWas : BuildError → Option Contents → State → State → Type 0
 LeftAsItWas OutOfMemory (Some contents) old new =
     (old.room ≤ new.room) × (new ≡ record old { room = new.room })
@@ -78,7 +74,7 @@ abbrev pub WritesEntry : Entry → List ℕ → Outcome ℕ
 WritesEntry entry got old (Ok distance) new = PutsDown entry got old distance new
 WritesEntry entry got old (Err error) new = Refuses entry got old error new
 
--- The same where the result doesn't name the distance: it is the length afterwards.
+-- The same where the distance isn't returned.
 abbrev pub WritesPart : Entry → Outcome (Unit {0})
 WritesPart entry old (Ok done) new = WritesEntry entry [] old (Ok (length new.bytes)) new
 WritesPart entry old (Err error) new = WritesEntry entry [] old (Err error) new

@@ -1,4 +1,3 @@
--- What preparing a value may do.
 use Rattle.std.specs.Prelude.{◌≡◌, ℕ, ◌+◌, ◌*◌, ◌≤◌, List, [], ◌∷◌, ◌++◌, length, map}
 use Rattle.std.specs.Prelude.{slice_get, Some, Result, Ok, Err, Vec}
 use Rattle.std.specs.declared.alloc.Global.{Global}
@@ -16,13 +15,10 @@ use Rattle.planus_write.specs.declared.offset.Offset.{Offset}
 -- distance to which the result refers.
 pub record IsLawful {X A : Type 0} (may : X → State → Type 0) (outcome : X → Outcome A)
     (reach : A → ℕ) : Type 0 where
-  -- the old bytes are the end of the new ones, and every constraint is kept
   pub grows : (x : X) (old : State) (answer : Result A BuildError) (new : State) → may x old
       → outcome x old answer new → Grows old new
-  -- the result refers into the bytes
   pub reaches : (x : X) (old : State) (answer : A) (new : State) → may x old
       → outcome x old (Ok answer) new → reach answer ≤ length new.bytes
-  -- what may be prepared may also be prepared later
   pub stays : (x : X) (old new : State) → Grows old new → may x old → may x new
 
 -- this is returned, and nothing is done
@@ -38,7 +34,7 @@ AsOffset {T} writes old (Err error) new = writes old (Err error) new
 abbrev pub IsPrepared : {T : Type 0} → Offset T → Outcome (Offset T)
 IsPrepared offset = Answers offset
 
--- a text was written, or refused
+-- a string was written, or the call failed
 abbrev pub WritesText : {T : Type 0} → List ℕ → Outcome (Offset T)
 WritesText text old answer new = AsOffset (WritesEntry (text_entry text) []) old answer new
 
@@ -47,7 +43,7 @@ abbrev pub WritesByteList : {T : Type 0} → List ℕ → Outcome (Offset T)
 WritesByteList bytes old answer new =
     AsOffset (WritesEntry (byte_list_entry bytes) []) old answer new
 
--- Memory was reserved or refused; the builder is as it was.
+-- Memory was reserved, or the allocation failed. The builder is as it was.
 abbrev pub TakesMemory : Outcome (Unit {0})
 TakesMemory old (Ok done) new = new ≡ old
 TakesMemory old (Err error) new = (error ≡ OutOfMemory) × (new ≡ old)
@@ -59,8 +55,8 @@ PreparesAll {X} {A} prepare (x ∷ xs) =
     then_does (prepare x)
     (λ first. then_does (PreparesAll prepare xs) (λ others. Answers (first ∷ others)))
 
--- The entries were written, one after another, after those that got these distances; all distances
--- are returned.
+-- The entries were written in order, after those that got these distances; all distances are
+-- returned.
 abbrev pub WritesEntries : List Entry → List ℕ → Outcome (List ℕ)
 WritesEntries [] got = Answers got
 WritesEntries (entry ∷ entries) got =
@@ -71,36 +67,28 @@ WritesEntries (entry ∷ entries) got =
 abbrev pub AnswersLast : Outcome (List ℕ) → Outcome ℕ
 AnswersLast writes = then_does writes (λ got. Answers (last_of got))
 
--- Memory for prepared items, and then the items, prepared one after another.
+-- memory is reserved, and then the items are prepared in order
 abbrev pub PreparesItems : {X A : Type 0} → (X → Outcome A) → List X → Outcome (List A)
 PreparesItems {X} {A} prepare xs = then_does TakesMemory (λ had. PreparesAll prepare xs)
 
--- each of the values may be prepared
 abbrev pub AllMay : {X : Type 0} → (X → State → Type 0) → List X → State → Type 0
 AllMay {X} may xs state = AllByRecursion (λ x. may x state) xs
 
--- The laws of items of vectors: their precondition, their outcome, and the greatest distance to
--- which each prepared one refers.
+-- The laws of items of vectors; see `IsLawful`.
 pub record AreLawful {X A : Type 0} (may : X → State → Type 0) (outcome : X → Outcome A)
     (all_may : List X → State → Type 0) (prepares : List X → Outcome (List A))
     (reach : A → ℕ) : Type 0 where
-  -- the items of a vector may be prepared where each of them may
   pub each_may : (xs : List X) (old : State) → all_may xs old → AllMay may xs old
-  -- the old bytes are the end of the new ones, and every constraint is kept
   pub grow : (xs : List X) (old : State) (answer : Result (List A) BuildError) (new : State)
       → all_may xs old → prepares xs old answer new → Grows old new
-  -- the results refer into the bytes
   pub reach_all : (xs : List X) (old : State) (values : List A) (new : State) → all_may xs old
       → prepares xs old (Ok values) new
       → AllByRecursion (λ value. reach value ≤ length new.bytes) values
-  -- what may be prepared may also be prepared later
   pub stay : (xs : List X) (old new : State) → Grows old new → all_may xs old → all_may xs new
-  -- items prepared one after another are prepared
   pub one_by_one : (xs : List X) (old : State) (values : List A) (new : State) → all_may xs old
       → PreparesAll outcome xs old (Ok values) new → prepares xs old (Ok values) new
 
--- A vector was written, or the call failed: its items are prepared, and then its entries written,
--- whose items have these bytes.
+-- A vector was written, or the call failed: its items are prepared, and then its entries written.
 abbrev pub WritesList : {X A T : Type 0} → (List X → Outcome (List A)) → (A → Item)
     → (size alignment : ℕ) → List X → Outcome (Offset T)
 WritesList {X} {A} {T} prepares leaves size alignment xs old answer new =
@@ -109,19 +97,16 @@ WritesList {X} {A} {T} prepares leaves size alignment xs old answer new =
     (λ items. AnswersLast (WritesEntries (list_entries size alignment (map leaves items)) [])))
     old answer new
 
--- A vector of prepared items was written, or the call failed.
 abbrev pub WritesPrepared : {T : Type 0} → (size alignment : ℕ) → List Item → Outcome (Offset T)
 WritesPrepared {T} size alignment items old answer new =
     AsOffset (AnswersLast (WritesEntries (list_entries size alignment items) [])) old answer new
 
--- prepared items, without their location in memory
 abbrev pub prepared_list : {A : Type 0} → Result (Vec A Global) BuildError
     → Result (List A) BuildError
 prepared_list {A} (Ok items) = Ok items.items
 prepared_list {A} (Err error) = Err error
 
--- Items of this size may be encoded one after another from the place on: each refers to a value
--- after itself.
+-- Items of this size may be encoded from the place on: each refers to a value after itself.
 pub record MayStand {A : Type 0} (reach : A → ℕ) (size place : ℕ) (items : List A) : Type 0 where
   pub inside : length items * size ≤ place
   pub reached : (i : ℕ) (item : A) → slice_get items i ≡ Some item → reach item + i * size ≤ place

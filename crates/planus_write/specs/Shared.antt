@@ -3,7 +3,6 @@ use Rattle.std.specs.Prelude.{ℕ, Bool, true, false, ◌&&◌, List, [], ◌∷
 use Rattle.std.specs.Prelude.{if◌then◌else◌}
 use Rattle.std.specs.Str.{bytes_eq}
 
--- The kinds of which equal contents may be written once.
 pub data Kind : Type 0 where
   texts : Kind
   byte_lists : Kind
@@ -15,7 +14,6 @@ same_kind byte_lists byte_lists = true
 same_kind vtables vtables = true
 same_kind _ _ = false
 
--- contents, under their kind
 pub record Contents : Type 0 where
   pub kind : Kind
   pub bytes : List ℕ
@@ -23,7 +21,7 @@ pub record Contents : Type 0 where
 abbrev pub same_contents : Contents → Contents → Bool
 same_contents a b = same_kind a.kind b.kind && bytes_eq a.bytes b.bytes
 
--- the cache settings: for each kind, whether equal contents are written once
+-- for each kind, whether equal contents are written once
 pub record Switches : Type 0 where
   pub texts_on : Bool
   pub byte_lists_on : Bool
@@ -38,7 +36,6 @@ is_on switches texts = switches.texts_on
 is_on switches byte_lists = switches.byte_lists_on
 is_on switches vtables = switches.vtables_on
 
--- the contents by which a part is shared: its own, if its kind's cache is on
 abbrev pub shared_as : Switches → Option Contents → Option Contents
 shared_as switches None = None
 shared_as switches (Some contents) = if is_on switches contents.kind then Some contents else None
@@ -54,12 +51,10 @@ distance_seen [] contents = None
 distance_seen (one ∷ seen) contents =
     if same_contents one.contents contents then Some one.distance else distance_seen seen contents
 
--- the same for a part that may not be shared at all
 abbrev pub earlier_distance : List Seen → Option Contents → Option ℕ
 earlier_distance seen None = None
 earlier_distance seen (Some contents) = distance_seen seen contents
 
--- the cached contents, with these added if a part is shared by them
 abbrev pub and_seen : Option Contents → ℕ → List Seen → List Seen
 and_seen None distance seen = seen
 and_seen (Some contents) distance seen = record { contents = contents; distance = distance } ∷ seen

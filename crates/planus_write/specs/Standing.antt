@@ -19,9 +19,8 @@ abbrev pub KeptStays : Type 0
 KeptStays = (before after : Past) (value : Value) (named : Named) → Extends before after
     → IsKept before value named → IsKept after value named
 
--- Once the entries of a value are written, and all that was cached is stored, the value is stored
--- at its distances, and all that was cached still is. Its references lead into what was written
--- before.
+-- Once a value's entries are written, it and all that was cached are stored, if that was stored
+-- before and its references lead into earlier bytes.
 abbrev pub ValuesAreKept : Type 0
 ValuesAreKept =
     (switches : Switches) (value : Value) (before : Past) (got : List ℕ) (after : Past)
@@ -43,23 +42,22 @@ EntriesAreTooLarge =
     → WritesEntries entries got old (Err TooLarge) new → IsPast old past
     → ComesToTooLarge old.switches entries got past
 
--- The reference of a finish that was placed leads to the root, if that is in what was written
--- before.
+-- The reference of a placed finish leads to the root, if that is in earlier bytes.
 abbrev pub FinishesLead : Type 0
 FinishesLead =
     (root : ℕ) (identifier : Option (List ℕ)) (before after : Written) → root ≤ length before.bytes
     → Placed (finish_part root identifier before.promises) before after
     → ReferenceStands after.bytes 0 root
 
--- Its identifier stands behind that.
+-- The identifier follows the reference.
 abbrev pub FinishesAreIdentified : Type 0
 FinishesAreIdentified =
     (root : ℕ) (identifier : Option (List ℕ)) (before after : Written)
     → Placed (finish_part root identifier before.promises) before after
     → BytesStand after.bytes 4 (identifier_bytes identifier)
 
--- After a size-prefixed finish the size is the number of bytes that follow it; the reference after
--- it leads to the root, if that is in what was written before; and the identifier follows that.
+-- After a size-prefixed finish the size is the number of following bytes, the reference leads to
+-- the root, if that is in earlier bytes, and the identifier follows.
 pub record SizedFinishStands (root : ℕ) (identifier : Option (List ℕ)) (before after : Written)
     : Type 0 where
   pub size : IsPrefixed after.bytes

@@ -26,8 +26,8 @@ contents_in texts = bytes_in
 contents_in byte_lists = bytes_in
 contents_in vtables = vtable_in
 
--- Its bytes; the remainder and the mask that describe its alignment constraints; how many bytes fit
--- without memory; its cache settings; and what is remembered of contents.
+-- The bytes, the remainder and mask of the constraints, how many bytes fit without memory, the
+-- cache settings, and what is remembered of contents.
 pub record State : Type 0 where
   pub bytes : List ℕ
   pub delayed : ℕ
@@ -52,13 +52,12 @@ pub record IsPast (state : State) (past : Past) : Type 0 where
   pub seen : (kind : Kind) → FindsSeen state past.seen kind
   pub kept : AllSeenKept past
 
--- All that was written is still there, and all constraints.
 pub record Extends (before after : Past) : Type 0 where
   pub bytes : (front : List ℕ) × (after.written.bytes ≡ front ++ before.written.bytes)
   pub promises : (more : List Promise) × (after.written.promises ≡ more ++ before.written.promises)
   pub seen : (more : List Seen) × (after.seen ≡ more ++ before.seen)
 
--- The old bytes are the end of the new ones, and all of any history is still there. The cache
+-- The old bytes are the end of the new ones, all of any history is still there, and the cache
 -- settings are as they were.
 pub record Grows (old new : State) : Type 0 where
   pub bytes : (front : List ℕ) × (new.bytes ≡ front ++ old.bytes)

@@ -1,4 +1,3 @@
--- What a writer of a table has been told, and what it writes.
 use Rattle.std.specs.Prelude.{◌≡◌, ℕ, ◌+◌, ◌-◌, ◌*◌, ◌≤◌, List, [], ◌++◌, length, take, drop}
 use Rattle.std.specs.Prelude.{replicate, max, Ok, Err}
 use Rattle.std.specs.Int.{w16, to_le_bytes}
@@ -11,24 +10,23 @@ use Rattle.planus_write.specs.Placing.{Outcome}
 use Rattle.planus_write.specs.Preparing.{WritesEntries}
 use Rattle.planus_write.specs.declared.offset.Offset.{Offset}
 
--- A writer: the bytes of its vtable, the two sizes last; how many of them are used; the object's
--- size; and one less than the body's alignment.
+-- The vtable's bytes with the two sizes last, how many are used, the object's size, and one less
+-- than the body's alignment.
 pub record Writer : Type 0 where
   pub vtable : List ℕ
   pub vtable_size : ℕ
   pub object_size : ℕ
   pub mask : ℕ
 
--- The position of a slot's two bytes in a vtable. The format: the slots follow the vtable's size
--- and the object's, two bytes each.
+-- The format: the slots follow the vtable's size and the object's, two bytes each.
 abbrev pub slot_position : ℕ → ℕ
 slot_position slot = 2 * (slot + 2)
 
--- nothing is declared yet, in a vtable of this many bytes
+-- nothing is declared yet, in a vtable of n bytes
 abbrev pub blank : ℕ → Writer
 blank n = record { vtable = replicate n 0; vtable_size = 4; object_size = 4; mask = 3 }
 
--- One entry more: the slot's two bytes give its field's position, after the others.
+-- The slot's two bytes give its field's position, after the others.
 abbrev pub with_entry : Declared → Writer → Writer
 with_entry one writer = record {
   vtable =
@@ -48,8 +46,7 @@ pub record WasTold (writer : Writer) (declared : List Declared) : Type 0 where
   pub alignment : writer.mask + 1 ≡ greatest_of declared
   pub inside : writer.vtable_size ≤ length writer.vtable
 
--- The table of these entries was written with this body, and begins at the front of the bytes; or
--- the call failed.
+-- The table was written with this body, and begins at the front of the bytes; or the call failed.
 abbrev pub WritesTable : List Declared → Item → Outcome (Unit {0})
 WritesTable declared body old (Ok done) new = (got : List ℕ)
     × WritesEntries (object_entries (slots_used declared) declared body) [] old (Ok got) new
@@ -57,7 +54,7 @@ WritesTable declared body old (Ok done) new = (got : List ℕ)
 WritesTable declared body old (Err error) new =
     WritesEntries (object_entries (slots_used declared) declared body) [] old (Err error) new
 
--- The same, with the distance of the table returned as an offset.
+-- The same, with the table's distance returned as an offset.
 abbrev pub AnswersTable : {T : Type 0} → List Declared → Item → Outcome (Offset T)
 AnswersTable {T} declared body old (Ok offset) new =
     WritesTable declared body old (Ok tt) new × (offset.distance ≡ length new.bytes)

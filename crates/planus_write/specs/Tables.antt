@@ -11,22 +11,19 @@ use Rattle.planus_write.specs.Shared.{vtables}
 use Rattle.planus_write.specs.Past.{Entry, unshared_entry}
 use Rattle.planus_write.specs.Items.{Item, plain_item, reference_item}
 
--- the bytes of a field, by its place
 abbrev pub field_item : Field → Item
 field_item (plain item) = plain_item item.bytes
 field_item (reference distance) = reference_item distance
 field_item (tags distance) = reference_item distance
 field_item (values distance) = reference_item distance
 
--- the size of a field: a plain item's own, 4 for a reference
 abbrev pub field_size : Field → ℕ
 field_size (plain item) = length item.bytes
 field_size (reference distance) = 4
 field_size (tags distance) = 4
 field_size (values distance) = 4
 
--- An entry of a table: a field of this size and alignment in bytes is declared for the slot. The
--- fields follow one another in the body, as declared.
+-- A field of this size and alignment in bytes, declared for the slot.
 pub record Declared : Type 0 where
   pub slot : ℕ
   pub size : ℕ
@@ -37,7 +34,6 @@ abbrev pub total_size : List Declared → ℕ
 total_size [] = 0
 total_size (one ∷ declared) = one.size + total_size declared
 
--- its alignment: the greatest of 4 and of the fields'
 abbrev pub greatest_of : List Declared → ℕ
 greatest_of [] = 4
 greatest_of (one ∷ declared) = max one.alignment (greatest_of declared)
@@ -47,8 +43,7 @@ abbrev pub slots_used : List Declared → ℕ
 slots_used [] = 0
 slots_used (one ∷ declared) = max (one.slot + 1) (slots_used declared)
 
--- the offset of a slot's field from the object's start, if the first field is at this one; 0 for an
--- absent field
+-- a slot's field's offset from the object's start, 0 for an absent one
 abbrev pub offset_in : ℕ → List Declared → ℕ → ℕ
 offset_in from [] slot = 0
 offset_in from (one ∷ declared) slot =
@@ -112,7 +107,6 @@ vtable_entry bytes = record {
   part = λ got promises. vtable_part bytes;
 }
 
--- the body, whose bytes these are
 abbrev pub object_part : List Declared → Item → Part
 object_part declared body = record {
   size = total_size declared;
@@ -124,7 +118,7 @@ abbrev pub body_part : List (ℕ × Field) → Part
 body_part entries = object_part (declared_of entries) (λ place. body_bytes place entries)
 
 -- The format: a table begins with a signed number of 4 bytes, its own position less that of its
--- vtable: the vtable's distance from the end less its own.
+-- vtable.
 abbrev pub word_part : ℕ → Part
 word_part vtable = record {
   size = 4;
@@ -132,16 +126,13 @@ word_part vtable = record {
   bytes_at = λ place. to_le_bytes w32 (cast_unsigned w32 (pos vtable -ℤ pos place));
 }
 
--- the first of some distances
 abbrev pub first_of : List ℕ → ℕ
 first_of [] = 0
 first_of (distance ∷ distances) = distance
 
--- the word is that of the vtable, which was written first
 abbrev pub word_entry : Entry
 word_entry = record { contents = None; part = λ got promises. word_part (first_of got) }
 
--- A table of this many slots: its vtable, its body, and its word.
 abbrev pub object_entries : (slots : ℕ) → List Declared → Item → List Entry
 object_entries slots declared body =
     vtable_entry (vtable_of slots declared) ∷ unshared_entry (object_part declared body)
@@ -151,8 +142,8 @@ abbrev pub table_entries : List (ℕ × Field) → List Entry
 table_entries entries =
     object_entries (slot_count entries) (declared_of entries) (λ place. body_bytes place entries)
 
--- A field of a table written before n bytes: a plain item is some bytes, whose alignment is a power
--- of two and divides their number; a reference leads into these bytes.
+-- Bytes whose number is a multiple of their alignment, a power of two; or a reference into the n
+-- earlier bytes.
 abbrev pub IsField : ℕ → Field → Type 0
 IsField before (plain item) = (0 < length item.bytes) × (item.alignment ∣ length item.bytes)
     × ((k : ℕ) × (item.alignment ≡ 2 ^ k))
@@ -172,7 +163,6 @@ abbrev pub SlotsOnce : List (ℕ × Field) → Type 0
 SlotsOnce [] = ⊤
 SlotsOnce (entry ∷ entries) = (field_at entries entry.0 ≡ None) × SlotsOnce entries
 
--- A table that can be written before n bytes.
 pub record IsTable (before : ℕ) (entries : List (ℕ × Field)) : Type 0 where
   pub fields : AllByRecursion (λ entry. IsField before entry.1) entries
   pub falling : Falling entries

@@ -1,4 +1,3 @@
--- The effect of writing unions and vectors of them.
 use Rattle.std.specs.Prelude.{◌≡◌, ℕ, max, List, [], map, Result, Ok, Err}
 use Rattle.planus_write.specs.Parts.{tags_entries, union_entries, second_of, last_of}
 use Rattle.planus_write.specs.State.{State}
@@ -14,7 +13,7 @@ use Rattle.planus_write.specs.declared.union_vector_offset.UnionVectorOffset.{Un
 abbrev pub union_reach : {T : Type 0} → UnionOffset T → ℕ
 union_reach union = union.offset.distance
 
--- the greatest distance of a union vector, of its tags and its references
+-- the greatest distance of a union vector's tags and references
 abbrev pub union_vector_reach : {T : Type 0} → UnionVectorOffset T → ℕ
 union_vector_reach vector = max vector.tags.distance vector.values.distance
 
@@ -22,14 +21,13 @@ union_vector_reach vector = max vector.tags.distance vector.values.distance
 abbrev pub item_of : {T : Type 0} → UnionOffset T → ℕ × ℕ
 item_of union = (union.tag, union.offset.distance)
 
--- of the distances of a union vector's entries, those of its references and of its tags are
--- returned as offsets
+-- the distances of the references and of the tags are returned as offsets
 abbrev pub AsUnionVector : {T : Type 0} → Outcome (List ℕ) → Outcome (UnionVectorOffset T)
 AsUnionVector {T} writes old (Ok vector) new = (got : List ℕ) × writes old (Ok got) new
     × (vector.values.distance ≡ second_of got) × (vector.tags.distance ≡ last_of got)
 AsUnionVector {T} writes old (Err error) new = writes old (Err error) new
 
--- Unions were prepared, one after another, with these tags and references; or one failed.
+-- Unions were prepared in order, with these tags and references, or one failed.
 abbrev pub PreparesUnions : {X T : Type 0} → (X → Outcome (UnionOffset T)) → List X → State
     → Result PreparedUnions BuildError → State → Type 0
 PreparesUnions {X} {T} prepare xs old (Ok unions) new = (all : List (UnionOffset T))

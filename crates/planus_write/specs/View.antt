@@ -1,4 +1,3 @@
--- A builder's fields, as its callers see them.
 use Rattle.std.specs.Prelude.{ℕ, ◌+◌, ◌≤◌, ◌^◌, List, length}
 use Rattle.planus_back.specs.Padding.{greatest_place}
 use Rattle.planus_write.specs.Shared.{Switches}
@@ -13,7 +12,7 @@ use Rattle.planus_write.specs.Tables.{Declared}
 use Rattle.planus_write.specs.TableWriting.{Writer, WasTold}
 use Rattle.planus_back.specs.Promises.{IsPowerOfTwo}
 
--- the switches that caches are
+-- the cache settings
 abbrev pub switches_of : Caches → Switches
 switches_of caches = record {
   texts_on = caches.texts;
@@ -21,7 +20,6 @@ switches_of caches = record {
   vtables_on = caches.vtables;
 }
 
--- the bytes and constraints of a backing
 abbrev pub backed_of : backing.Inside → Backed
 backed_of a = record {
   bytes = a.inner.bytes;
@@ -34,7 +32,6 @@ backed_of a = record {
 abbrev pub IsSmall : backing.Inside → Type 0
 IsSmall a = length a.inner.bytes ≤ greatest_place
 
--- the state of a backing, with the cache settings and what is remembered
 abbrev pub state_from : Backed → Switches → Holdings → State
 state_from backed switches holdings = record {
   bytes = backed.bytes;
@@ -59,11 +56,11 @@ state_of a =
       held_vtables = a.vtables.holding;
     })
 
--- A builder always has some past.
+-- A builder always has some history.
 abbrev pub IsSound : builder.Inside → Type 0
 IsSound a = (past : Past) × IsPast (state_of a) past
 
--- a writer of a table, by its fields
+-- a writer, by its fields
 abbrev pub writer_of : {N : ℕ} → table_writer.Inside N → Writer
 writer_of a = record {
   vtable = a.vtable;
@@ -72,8 +69,7 @@ writer_of a = record {
   mask = a.mask;
 }
 
--- Its sizes are those of a vtable and an object, and its alignment is that of a part. Where there
--- is room for both sizes, it has been told some entries.
+-- Its sizes and alignment are possible. If both sizes have room, it was told some entries.
 pub record IsWriter {N : ℕ} (a : table_writer.Inside N) : Type 0 where
   pub small : a.object_size ≤ 65535
   pub vtable_small : a.vtable_size ≤ 65534

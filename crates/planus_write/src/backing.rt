@@ -14,7 +14,6 @@ use std::marker::Model;
 /// One less than the alignment of a count or a reference.
 pub(crate) const WORD_MASK: usize = 3;
 
-/// The place of a part and its padding, and the constraints once it is there.
 #[derive(Drop)]
 pub(crate) struct Plan {
     pub(crate) promises: Promises,
@@ -22,8 +21,7 @@ pub(crate) struct Plan {
     pub(crate) place: u32,
 }
 
-/// Bytes that grow at their front, and their alignment constraints. A part's constraint is added
-/// before its bytes.
+/// A part's constraint is added before its bytes.
 #[derive(Debug, Drop)]
 pub(crate) struct Backing {
     inner: BackVec,
@@ -49,7 +47,6 @@ impl Backing {
     ghost use Rattle.planus_write.specs.inner.Backed.{PlansRoom};
     ghost use Rattle.planus_write.specs.inner.WholeTables.{PutsPartsIf};
 
-    // No bytes, and room for this many.
     pub(crate) fn with_capacity(alloc: Global, capacity: usize) -> Result<Backing, AllocError>
         ensures bytes { IfOk result (λ backing. backing.bytes ≡ []) }
         ensures room { IfOk result (λ backing. capacity ≤ backing.room) }
@@ -62,7 +59,6 @@ impl Backing {
         })
     }
 
-    // The number of bytes.
     #[inline]
     pub(crate) fn len(&self) -> usize
         ensures number { result ≡ length self.now.bytes }
@@ -71,7 +67,6 @@ impl Backing {
         self.inner.len()
     }
 
-    // The bytes.
     #[inline]
     pub(crate) fn as_slice(&self) -> &[u8]
         ensures bytes { result.now ≡ self.now.bytes }
@@ -80,7 +75,6 @@ impl Backing {
         self.inner.as_slice()
     }
 
-    // How many more bytes fit without memory.
     #[inline]
     pub(crate) fn room(&self) -> usize
         ensures { result ≡ self.now.room }
@@ -88,7 +82,6 @@ impl Backing {
         self.inner.room()
     }
 
-    // Takes all bytes and promises away.
     pub(crate) fn clear(&mut self)
         ensures bytes { self.new.bytes ≡ [] }
         ensures room { self.new.room ≡ length self.old.bytes + self.old.room }
@@ -98,7 +91,7 @@ impl Backing {
         self.promises = Promises::new();
     }
 
-    // The place and padding of a part of `size` bytes, if it isn't too large. Takes no memory.
+    // Takes no memory.
     #[inline]
     pub(crate) fn plan_part(&self, size: usize, mask: usize) -> Result<Plan, BuildError>
         requires power { IsPowerOfTwo (mask + 1) }
@@ -108,7 +101,6 @@ impl Backing {
         plan_after(self.promises, self.inner.len(), size, mask)
     }
 
-    // Makes room for `n` more bytes, and changes nothing else.
     #[inline]
     pub(crate) fn reserve(&mut self, n: usize) -> Result<(), BuildError>
         ensures { Reserves n self.old result self.new }
@@ -117,7 +109,6 @@ impl Backing {
         Ok(())
     }
 
-    // Writes the padding of a planned part, and adds its constraint.
     #[inline]
     pub(crate) fn pad(&mut self, plan: &Plan)
         requires room { plan.now.padding ≤ self.old.room }
@@ -128,7 +119,6 @@ impl Backing {
         self.promises = plan.promises;
     }
 
-    // Plans a part of `size` bytes, and makes room for it and its padding.
     #[inline]
     pub(crate) fn plan_room(&mut self, size: usize, mask: usize) -> Result<Plan, BuildError>
         requires power { IsPowerOfTwo (mask + 1) }
@@ -140,7 +130,6 @@ impl Backing {
         Ok(plan)
     }
 
-    // Makes room for a part of `size` bytes, and writes its padding. Returns the part's place.
     #[inline]
     pub(crate) fn make_room(&mut self, size: usize, mask: usize) -> Result<u32, BuildError>
         requires power { IsPowerOfTwo (mask + 1) }
@@ -152,7 +141,6 @@ impl Backing {
         Ok(plan.place)
     }
 
-    // Writes the filler's bytes as a planned part, and its padding, into room that is there.
     #[inline]
     pub(crate) fn put_planned<F: Fill>(&mut self, plan: &Plan, size: usize, filler: &F)
         requires room { plan.now.padding + size ≤ self.old.room }
@@ -167,7 +155,6 @@ impl Backing {
         self.promises = plan.promises;
     }
 
-    // Bytes for which there is room.
     #[inline]
     pub(crate) fn put(&mut self, bytes: &[u8])
         requires room { length bytes.now ≤ self.old.room }
@@ -177,7 +164,7 @@ impl Backing {
         self.inner.put_slice(bytes);
     }
 
-    // The same for bytes that are often none: nothing is copied then.
+    // Often there are no bytes: nothing is copied then.
     #[inline]
     pub(crate) fn put_if_any(&mut self, bytes: &[u8])
         requires room { length bytes.now ≤ self.old.room }
@@ -189,7 +176,6 @@ impl Backing {
         }
     }
 
-    // Prepends the bytes of three slices, into room that is there.
     #[inline]
     pub(crate) fn put_three(&mut self, first: &[u8], second: &[u8], third: &[u8])
         requires room { length (first.now ++ second.now ++ third.now) ≤ self.old.room }
@@ -200,7 +186,6 @@ impl Backing {
         self.inner.put_three_padded(0, first, second, third);
     }
 
-    // Writes the writer's bytes as a planned part, and its padding, into room that is there.
     #[inline(always)]
     pub(crate) fn put_planned_over<W: Overwrite>(&mut self, plan: &Plan, size: usize, writer: &W)
         requires room { plan.now.padding + size ≤ self.old.room }
@@ -215,7 +200,6 @@ impl Backing {
             .put_overwritten_padded(plan.padding, plan.place, size, writer);
     }
 
-    // Prepends the writer's bytes, into room that is there.
     #[inline(always)]
     pub(crate) fn put_overwritten<W: Overwrite>(&mut self, place: u32, size: usize, writer: &W)
         requires room { size ≤ self.old.room }
@@ -227,8 +211,7 @@ impl Backing {
         self.inner.put_overwritten(place, size, writer);
     }
 
-    // Writes a vtable, the body of a table and its word at once, into room that is there. Returns
-    // whether it did: nothing is changed where one is too large or the room doesn't suffice.
+    // Changes nothing, and returns `false`, where a part is too large or the room doesn't suffice.
     #[inline(always)]
     pub(crate) fn put_table<W: Overwrite>(
         &mut self,
@@ -269,7 +252,6 @@ impl Backing {
         true
     }
 
-    // The allocator of the bytes.
     pub(crate) fn alloc(&self) -> Global {
         self.inner.alloc()
     }
@@ -287,8 +269,6 @@ impl Backing {
     }
 }
 
-// The place and padding of a part of `size` bytes, before `len` bytes with these constraints, if it
-// isn't too large.
 #[inline(always)]
 fn plan_after(promises: Promises, len: usize, size: usize, mask: usize) -> Result<Plan, BuildError>
     requires power { IsPowerOfTwo (mask + 1) }
@@ -308,7 +288,6 @@ fn plan_after(promises: Promises, len: usize, size: usize, mask: usize) -> Resul
     })
 }
 
-// The word of a table at one distance from the end, whose vtable is at another.
 #[inline]
 pub(crate) fn word_between(vtable: u32, table: u32) -> [u8; 4]
     requires vtable { vtable ≤ greatest_place }

@@ -30,8 +30,8 @@ use std::marker::Model;
 /// let bytes = builder.finish(text, None).map_err(refused)?;
 /// ```
 ///
-/// Equal strings, byte vectors and vtables are written once if their [`Caches`] setting is on:
-/// later ones, until a clear, get the distance of the first, and take no bytes and no memory.
+/// With their [`Caches`] setting on, equal strings, byte vectors and vtables are written once:
+/// until a clear, later ones get the distance of the first, and take no memory.
 #[derive(Debug, Drop)]
 pub struct Builder {
     backing: Backing,
@@ -69,8 +69,7 @@ impl Builder {
     ghost use Rattle.planus_write.specs.Finishing.{WritesSizedRoot};
     ghost use Rattle.planus_read.specs.SizePrefixed.{IsPrefixed};
 
-    /// Creates an empty builder that writes equal strings, byte vectors and vtables once.
-    /// [`BuildError::OutOfMemory`] if an allocation fails.
+    /// Creates an empty builder with all caches on, or fails with [`BuildError::OutOfMemory`].
     pub fn new(alloc: Global) -> Result<Builder, BuildError>
         ensures past { IfOk result (λ builder. IsPast builder no_past) }
         ensures switches { IfOk result (λ builder. builder.switches ≡ all_on) }
@@ -89,8 +88,8 @@ impl Builder {
         Builder::with_caches(alloc, capacity, Caches::all())
     }
 
-    /// Creates an empty builder with room for `capacity` bytes and these cache settings.
-    /// [`BuildError::OutOfMemory`] if an allocation fails.
+    /// Creates an empty builder with room for `capacity` bytes and these cache settings, or fails
+    /// with [`BuildError::OutOfMemory`].
     pub fn with_caches(
         alloc: Global,
         capacity: usize,
@@ -149,8 +148,7 @@ impl Builder {
         Offset::at(self.backing.len() as u32)
     }
 
-    /// Returns whether an offset is in the bytes, as those returned since the last clear are: it
-    /// may be referred to.
+    /// Returns whether an offset is in the bytes, and so may be referred to.
     #[inline]
     pub fn has<T>(&self, offset: &Offset<T>) -> bool
         ensures { IsTrue result ↔ IsIn self.now offset.now }
@@ -158,8 +156,7 @@ impl Builder {
         offset.distance() as usize <= self.len()
     }
 
-    /// States that the builder has some history, of which clauses about every history can then
-    /// speak, when a caller was passed the builder. Does nothing.
+    /// States that the builder has some history, for clauses about every history. Does nothing.
     #[inline]
     pub fn has_a_past(&self)
         ensures { (past : Past) × IsPast self.now past }
@@ -167,8 +164,7 @@ impl Builder {
         let _backing = &self.backing;
     }
 
-    /// Removes all bytes and constraints, and forgets the contents written. Keeps the memory as
-    /// room.
+    /// Removes all bytes and constraints, and forgets the contents written. Keeps the memory.
     pub fn clear(&mut self)
         ensures past { IsPast self.new no_past }
         ensures room { self.new.room ≡ length self.old.bytes + self.old.room }
@@ -180,8 +176,7 @@ impl Builder {
         self.vtables.clear();
     }
 
-    // A string as one part. The two functions share one body, so that the code without a cache has
-    // nothing of the lookup.
+    // Both functions share one body, so that the code without a cache has nothing of the lookup.
     #[inline]
     pub(crate) fn write_text(&mut self, text: &str) -> Result<Offset<Text>, BuildError>
         ensures { WritesText text.now self.old result self.new }
@@ -209,7 +204,6 @@ impl Builder {
         Written::from(self.write_text_if(false, text))
     }
 
-    // A string as one part, unless it is shared and an equal one is found.
     #[inline(always)]
     fn write_text_if(&mut self, shared: bool, text: &str) -> Result<u32, BuildError>
         requires { self.old.switches.texts_on ≡ shared }
@@ -234,7 +228,6 @@ impl Builder {
         }
     }
 
-    // A byte vector as one part, in the same way.
     #[inline]
     pub(crate) fn write_byte_list<T, L: ByteItems>(
         &mut self,
@@ -267,7 +260,6 @@ impl Builder {
         Written::from(self.write_list_if(false, list))
     }
 
-    // A byte vector as one part, unless it is shared and an equal one is found.
     #[inline(always)]
     fn write_list_if<L: ByteItems>(&mut self, shared: bool, list: &L) -> Result<u32, BuildError>
         requires { self.old.switches.byte_lists_on ≡ shared }
@@ -291,7 +283,6 @@ impl Builder {
         }
     }
 
-    // The count of a vector, directly before its items.
     #[inline]
     pub(crate) fn write_count(&mut self, count: u32) -> Result<u32, BuildError>
         ensures { WritesEntry (unshared_entry (count_part count)) [] self.old result self.new }
@@ -301,7 +292,6 @@ impl Builder {
         Ok(place)
     }
 
-    // A vtable as one part. Its own size comes first.
     #[inline]
     pub(crate) fn write_vtable(&mut self, bytes: &[u8]) -> Result<u32, BuildError>
         requires { vtable_in bytes.now ≡ Some bytes.now }
@@ -318,7 +308,6 @@ impl Builder {
         Written::from(self.write_vtable_once(bytes))
     }
 
-    // A vtable as one part, unless vtables are shared and an equal one is found.
     #[inline(always)]
     fn write_vtable_once(&mut self, bytes: &[u8]) -> Result<u32, BuildError>
         requires { vtable_in bytes.now ≡ Some bytes.now }
@@ -342,7 +331,6 @@ impl Builder {
         }
     }
 
-    // The word of a table, directly before its body, leading to the vtable at this distance.
     #[inline]
     pub(crate) fn write_word(&mut self, vtable: u32) -> Result<u32, BuildError>
         requires { vtable ≤ greatest_place }
@@ -354,8 +342,8 @@ impl Builder {
         Ok(place)
     }
 
-    // Writes the three parts of a table at once, if vtables aren't shared and there is room.
-    // Returns whether it did; otherwise nothing is changed.
+    // Writes only if vtables aren't shared and there is room. Returns whether it did; otherwise
+    // nothing is changed.
     #[inline(always)]
     pub(crate) fn put_table<W: Overwrite>(
         &mut self,
@@ -375,22 +363,18 @@ impl Builder {
         !self.vtables.is_on() && self.backing.put_table(vtable, size, mask, writer)
     }
 
-    // The allocator of the bytes.
     pub(crate) fn alloc(&self) -> Global {
         self.backing.alloc()
     }
 
-    /// Writes a part of `size` bytes, aligned to `alignment_mask + 1`. The filler writes its bytes
-    /// over zeros, and gets its place: the distance in bytes from the end of the buffer to its
-    /// first byte.
+    /// Writes a part of `size` bytes, aligned to `alignment_mask + 1`, a power of two up to 2^30.
+    /// The filler writes its bytes over zeros, and gets its place: the distance in bytes from the
+    /// end of the buffer to its first byte. It must accept every place from `len() + size` to
+    /// `len() + size + alignment_mask` that is at most 2147483647.
     ///
-    /// Requires the filler to accept `size` bytes at every place from `len() + size` to `len() +
-    /// size + alignment_mask` that is at most 2147483647, and `alignment_mask + 1` to be a power of
-    /// two up to 2^30.
-    ///
-    /// [`BuildError::TooLarge`], before memory is requested, if the part would begin more than
-    /// 2147483647 bytes from the end; [`BuildError::OutOfMemory`] if padding and part exceed
-    /// [`Builder::room`] and an allocation fails. Nothing is changed then.
+    /// Fails with [`BuildError::TooLarge`], before memory is requested, if the part would begin
+    /// more than 2147483647 bytes from the end, and with [`BuildError::OutOfMemory`] if padding and
+    /// part exceed [`Builder::room`] and an allocation fails. Nothing is changed then.
     pub fn write_with<F: Fill>(
         &mut self,
         size: usize,
@@ -410,8 +394,8 @@ impl Builder {
         Ok(())
     }
 
-    /// Writes a part like [`Builder::write_with`], with the same requirements and errors, but
-    /// without zeroing: the writer writes all `size` bytes.
+    /// Writes a part like [`Builder::write_with`], but without zeroing: the writer writes all
+    /// `size` bytes.
     #[inline(always)]
     pub fn write_over<W: Overwrite>(
         &mut self,
@@ -434,13 +418,11 @@ impl Builder {
     }
 
     /// Writes a string as one part: a count of 4 bytes, its bytes and a zero byte, aligned to 4
-    /// bytes. Returns its offset. Nothing is written for an offset, which this builder must have
-    /// returned since the last clear, nor where an equal cached string is found.
+    /// bytes. Returns its offset. Writes nothing for an offset, which must be this builder's since
+    /// the last clear, or if an equal cached string is found.
     ///
-    /// [`BuildError::TooLarge`] if the part's place would be above 2147483647 bytes from the end;
-    /// [`BuildError::OutOfMemory`] if it exceeds [`Builder::room`] and an allocation fails, or the
-    /// cache's does. Then no byte and no constraint is changed, and the same strings are found as
-    /// before.
+    /// Fails like [`Builder::write_with`], also if the cache's allocation fails. What was written
+    /// is unchanged then.
     pub fn create_string<X: WriteAsOffset<Text> + Drop>(
         &mut self,
         value: X,
@@ -451,16 +433,14 @@ impl Builder {
         value.prepare(self)
     }
 
-    /// Writes a vector: the items are prepared in order and written as one part, with their
-    /// alignment but at least 4 bytes, and then the count of 4 bytes before them; or a byte vector,
-    /// as one part of count and bytes, unless an equal cached one is found. Returns its offset.
-    /// Nothing is written for an offset; this builder must have returned each offset among the
-    /// arguments since the last clear.
+    /// Writes a vector: the items are prepared in order and written as one part, aligned to at
+    /// least 4 bytes, and then the count of 4 bytes before them. A byte vector is one part, unless
+    /// an equal cached one is found. Returns the offset. Offsets among the arguments must be this
+    /// builder's since the last clear.
     ///
-    /// [`BuildError::TooLarge`] if a part's place would be above 2147483647 bytes from the end;
-    /// [`BuildError::OutOfMemory`] if an allocation fails: for prepared items (numbers, bools and
-    /// offsets need none), for a part that exceeds [`Builder::room`], or for the cache. What was
-    /// written before the failed write stays, and nothing after it is begun.
+    /// Fails like [`Builder::write_with`], also if an allocation for prepared items (numbers, bools
+    /// and offsets need none) or for the cache fails. What was written before the failed write
+    /// stays, and nothing after it is begun.
     pub fn create_vector<P: Primitive, X: WriteAsOffset<List<P>> + Drop>(
         &mut self,
         list: X,
@@ -473,10 +453,8 @@ impl Builder {
 
     /// Writes a union vector: the unions are prepared in order, then their references are written
     /// as one part, aligned to 4 bytes, with a count of 4 bytes before it, then their tags
-    /// likewise. Returns the offsets of both vectors. Nothing is written for such offsets; this
-    /// builder must have returned each offset among them since the last clear.
-    ///
-    /// A refusal is that of [`Builder::create_vector`].
+    /// likewise. Returns the offsets of both vectors. Offsets among the unions must be this
+    /// builder's since the last clear. Fails like [`Builder::create_vector`].
     pub fn create_union_vector<T, X: WriteAsUnionVector<T> + Drop>(
         &mut self,
         vector: X,
@@ -488,14 +466,11 @@ impl Builder {
     }
 
     /// Prepares the root, and prepends its reference and the file identifier, if any, with padding
-    /// that aligns every part since the last clear. Returns all bytes. This builder must have
-    /// returned an offset as the root since the last clear.
+    /// that aligns every part since the last clear. Returns all bytes. An offset must be this
+    /// builder's since the last clear. Writing may continue afterwards, up to another finish.
     ///
-    /// Writing may continue afterwards, up to another finish.
-    ///
-    /// [`BuildError::TooLarge`] and [`BuildError::OutOfMemory`] as in preparing the root
-    /// ([`WriteAsOffset::prepare`]), then as in [`Builder::write_with`]. A root written for this
-    /// call stays then; the reference and the identifier leave nothing.
+    /// Fails like [`WriteAsOffset::prepare`], then like [`Builder::write_with`]. A root written for
+    /// this call stays then.
     pub fn finish<T, X: WriteAsOffset<T> + Drop>(
         &mut self,
         root: X,
@@ -513,13 +488,9 @@ impl Builder {
     }
 
     /// Prepares the root, and prepends the number of following bytes (4 bytes), the root's
-    /// reference and the file identifier, if any. Every part since the last clear is aligned from
-    /// that number on. Returns all bytes, which can precede others in a stream. This builder must
-    /// have returned an offset as the root since the last clear.
-    ///
-    /// Writing may continue afterwards, up to another finish.
-    ///
-    /// A refusal is that of [`Builder::finish`].
+    /// reference and the file identifier, if any. Every part is aligned from that number on.
+    /// Returns all bytes, which can precede others in a stream. Requirements and errors are those
+    /// of [`Builder::finish`].
     pub fn finish_size_prefixed<T, X: WriteAsOffset<T> + Drop>(
         &mut self,
         root: X,
@@ -537,7 +508,6 @@ impl Builder {
         Ok(self.as_slice())
     }
 
-    // The root word and the identifier as one part with the greatest alignment so far.
     #[inline]
     fn write_root(&mut self, root: u32, identifier: Option<[u8; 4]>) -> Result<u32, BuildError>
         requires { root ≤ length self.old.bytes }
@@ -551,8 +521,6 @@ impl Builder {
         Ok(place)
     }
 
-    // The size word, the root word and the identifier as one part with the greatest alignment so
-    // far.
     #[inline]
     fn write_sized_root(
         &mut self,
@@ -573,7 +541,6 @@ impl Builder {
     }
 }
 
-// The bytes of a file identifier, or none.
 fn identifier_slice(identifier: &Option<[u8; 4]>) -> &[u8]
     ensures bytes { result.now ≡ identifier_bytes identifier.now }
     ensures short { length result.now ≤ 4 }

@@ -21,7 +21,6 @@ impl<'a, T> Clone for ByRef<'a, T> {
 
 impl<'a, T> Copy for ByRef<'a, T> {}
 
-/// Prints the value.
 impl<'a, T: fmt::Debug> fmt::Debug for ByRef<'a, T> {
     ghost debug_output = { λ by_ref. T.debug_output by_ref.0.now };
 

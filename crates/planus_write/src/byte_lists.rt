@@ -1,4 +1,3 @@
-//! Byte vectors, whose items need no preparing.
 ghost use Rattle.std.specs.Prelude.{◌≡◌, ◌<◌, ◌≤◌, ◌^◌, ℕ, List, length, map};
 ghost use Rattle.std.specs.Int.{w8, cast_unsigned};
 ghost use Rattle.planus_back.specs.Padding.{greatest_place};
@@ -35,7 +34,6 @@ impl<'a> From<&'a [i8]> for SignedList<'a> {
     }
 }
 
-/// Prints the bytes as those of a slice.
 impl<'a> fmt::Debug for ByteList<'a> {
     ghost use Rattle.std.specs.Prelude.{Some};
     ghost use Rattle.std.specs.Fmt.{debug_list, decimal};
@@ -47,7 +45,6 @@ impl<'a> fmt::Debug for ByteList<'a> {
     }
 }
 
-/// Prints the numbers as those of a slice.
 impl<'a> fmt::Debug for SignedList<'a> {
     ghost use Rattle.std.specs.Prelude.{Some};
     ghost use Rattle.std.specs.Fmt.{debug_list, signed_decimal};
@@ -59,27 +56,22 @@ impl<'a> fmt::Debug for SignedList<'a> {
     }
 }
 
-/// The items of a byte vector.
 pub(crate) trait ByteItems {
-    /// Their bytes.
     ghost bytes_of: { Self → List ℕ };
 
-    /// Returns how many they are.
     fn count(&self) -> usize
         ensures number { result ≡ length (bytes_of self.now) }
         ensures small { result < 2 ^ 63 };
 
-    /// Copies them over as many other bytes.
     fn copy_to(&self, bytes: &mut [u8])
         requires size { length bytes.old ≡ length (bytes_of self.now) }
         requires small { length bytes.old ≤ greatest_place }
         ensures { bytes.new ≡ bytes_of self.now };
 
-    /// Returns the bucket of a cache for them.
     fn bucket_in<C: GetCacheKey>(&self, cache: &Cache<C>) -> Bucket
         ensures { IsBucketOf cache.now (bytes_of self.now) result };
 
-    /// Looks them up in that bucket. The cache must fit the bytes.
+    /// The cache must fit the bytes.
     fn find_in<C: GetCacheKey>(
         &self,
         bucket: Bucket,
@@ -90,7 +82,6 @@ pub(crate) trait ByteItems {
         requires bucket { IsBucketOf cache.now (bytes_of self.now) bucket }
         ensures { IsFound C.key_in cache.now serialized.now (bytes_of self.now) result };
 
-    /// Looks for them at some distances.
     fn find_among<C: GetCacheKey>(&self, distances: &[u32], serialized: &[u8]) -> Option<u32>
         ensures { FoundAmong C.key_in distances.now serialized.now (bytes_of self.now) result };
 }
@@ -163,7 +154,6 @@ impl<'a> ByteItems for SignedList<'a> {
     }
 }
 
-/// The items of a byte vector, as encoded in its part.
 #[derive(Drop)]
 pub(crate) struct Copied<'a, L: ByteItems> {
     pub(crate) items: &'a L,

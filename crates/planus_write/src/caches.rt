@@ -1,15 +1,15 @@
 //! Which contents a builder writes once.
 ghost use Rattle.std.specs.Prelude.{◌≡◌, ◌-◌, ◌^◌, true};
 
-/// Which contents a builder writes once: equal ones are found by the hash of their bytes.
+/// Which contents a builder writes once, found by the hash of their bytes.
 ///
-/// The hash has no secret: who chooses the contents can make them collide, and each is then
-/// compared with all that collided before. Turn the cache off for untrusted contents.
+/// The hash has no secret: untrusted contents can be made to collide, which makes lookups slow.
+/// Turn the cache off for them.
 #[derive(Clone, Copy, Debug, PartialEq, Eq)]
 pub struct Caches {
     /// Equal vtables.
     pub vtables: bool,
-    /// Equal texts.
+    /// Equal strings.
     pub texts: bool,
     /// Equal byte vectors, of `u8` or of `i8`.
     pub bytes: bool,
@@ -34,7 +34,6 @@ impl Caches {
     }
 }
 
-/// All of them, as [`Caches::all`].
 impl Default for Caches {
     ghost is_default = { λ caches. caches
         ≡ record { vtables = true; texts = true; bytes = true; hash_mask = 2 ^ 64 - 1 } };

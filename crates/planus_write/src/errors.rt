@@ -1,15 +1,12 @@
-//! Why a write is refused.
-
 use planus_back::TooLarge;
 use std::alloc::AllocError;
 use std::error::Error;
 use std::{fmt, io};
 
-/// Why a write fails. A failed placement leaves bytes, constraints and what the caches find
-/// unchanged; what was written before it stays.
+/// Why a write fails. What was written before it stays.
 #[derive(Clone, Copy, Debug, PartialEq, Eq)]
 pub enum BuildError {
-    /// Memory was refused.
+    /// An allocation failed.
     OutOfMemory,
     /// The part would begin more than 2147483647 bytes from the end. No memory was requested.
     TooLarge,
@@ -54,8 +51,8 @@ impl From<TooLarge> for BuildError {
     }
 }
 
-/// An error of the kind [`io::ErrorKind::OutOfMemory`], or of the kind
-/// [`io::ErrorKind::FileTooLarge`] with this one's message.
+/// The kind is [`io::ErrorKind::OutOfMemory`], or [`io::ErrorKind::FileTooLarge`] with this error's
+/// message.
 impl From<BuildError> for io::Error {
     ghost use Rattle.std.specs.Prelude.{◌≡◌};
     ghost use Rattle.std.specs.IoError.{error_kind};

@@ -6,7 +6,6 @@ use std::marker::Model;
 /// Up to this many contents, comparing each is faster than hashing.
 const GREATEST_COUNT: usize = 16;
 
-/// The distances of contents, few enough to compare with each.
 #[derive(Drop)]
 pub(crate) struct FirstDistances {
     distances: [u32; 16],
@@ -22,7 +21,6 @@ impl Model for FirstDistances {
 }
 
 impl FirstDistances {
-    // None yet.
     pub(crate) fn new() -> FirstDistances
         ensures { result ≡ [] }
     {
@@ -32,7 +30,6 @@ impl FirstDistances {
         }
     }
 
-    // The distances.
     #[inline]
     pub(crate) fn as_slice(&self) -> &[u32]
         ensures { result.now ≡ self.now }
@@ -40,7 +37,6 @@ impl FirstDistances {
         &self.distances[..self.count]
     }
 
-    // Appends a distance if there is room for it. Returns whether there was.
     #[inline]
     pub(crate) fn push(&mut self, distance: u32) -> bool
         ensures pushed { result ≡ true → self.new ≡ self.old ++ distance ∷ [] }
@@ -54,7 +50,6 @@ impl FirstDistances {
         true
     }
 
-    // Takes all distances out.
     #[inline]
     pub(crate) fn clear(&mut self)
         ensures { self.new ≡ [] }

@@ -1,4 +1,4 @@
-//! The builder of flatbuffers, and what it writes.
+//! The builder of flatbuffers. Start at [`Builder`].
 #![tactic(auto)]
 
 mod backing;

@@ -1,4 +1,4 @@
-//! The part of a byte list.
+//! The part of a byte vector.
 ghost use Rattle.std.specs.Prelude.{◌≡◌, ◌+◌, ◌≤◌, ◌++◌, length};
 ghost use Rattle.std.specs.Int.{w32, to_le_bytes};
 ghost use Rattle.planus_back.specs.Padding.{greatest_place};
@@ -6,7 +6,6 @@ ghost use Rattle.planus_back.specs.Padding.{greatest_place};
 use crate::byte_lists::ByteItems;
 use planus_back::Overwrite;
 
-/// The items of a byte vector, which follow their count in its part.
 #[derive(Drop)]
 pub(crate) struct ListPart<'a, L: ByteItems> {
     pub(crate) items: &'a L,

@@ -14,8 +14,6 @@ use crate::traits::{Primitive, VectorWrite, WriteAsPrimitive};
 use planus_back::Overwrite;
 use std::marker::PhantomData;
 
-/// Writes the values one after another over all of `bytes`. `place` is the distance in bytes from
-/// the end of the buffer to the first.
 #[inline]
 pub(crate) fn write_each<P: Primitive, V: WriteAsPrimitive<P>>(
     values: &[V],
@@ -35,7 +33,6 @@ pub(crate) fn write_each<P: Primitive, V: WriteAsPrimitive<P>>(
     }
 }
 
-/// The prepared items of a vector, as encoded in its part.
 #[derive(Drop)]
 struct Items<'a, P: Primitive, T: VectorWrite<P>> {
     values: &'a [T::Value],
@@ -55,7 +52,6 @@ impl<'a, P: Primitive, T: VectorWrite<P>> Overwrite for Items<'a, P, T> {
     }
 }
 
-/// The items, prepared in order.
 fn prepare_items<P: Primitive, T: VectorWrite<P>>(
     builder: &mut Builder,
     items: &[T],
@@ -79,7 +75,6 @@ fn prepare_items<P: Primitive, T: VectorWrite<P>>(
     Ok(values)
 }
 
-/// One less than the alignment of the items of a vector: their own, but at least that of its count.
 #[inline]
 fn items_mask<P: Primitive>() -> usize
     ensures greatest { result + 1 ≡ max P.ALIGNMENT 4 }
@@ -89,7 +84,6 @@ fn items_mask<P: Primitive>() -> usize
     P::ALIGNMENT.max(WORD_MASK + 1) - 1
 }
 
-/// Writes prepared items as one part, and the count before them.
 pub(crate) fn write_prepared<P: Primitive, T: VectorWrite<P>>(
     builder: &mut Builder,
     values: &[T::Value],
@@ -110,7 +104,6 @@ pub(crate) fn write_prepared<P: Primitive, T: VectorWrite<P>>(
     Ok(Offset::at(place))
 }
 
-/// Prepares the items in order, unless they need none, and writes the vector.
 pub(crate) fn write_list<P: Primitive, T: VectorWrite<P>>(
     builder: &mut Builder,
     items: &[T],

@@ -4,8 +4,7 @@ ghost use Rattle.planus_write.specs.Items.{Item};
 
 use crate::traits::{Primitive, WriteAsPrimitive};
 
-/// The fields of a table's object, written one after another. In contracts it is the body at which
-/// it is: the bytes so far, how many remain, and the next one's place.
+/// Writes the fields of a table's object one after another.
 #[derive(Drop)]
 pub struct ObjectWriter<'a> {
     bytes: &'a mut [u8],
@@ -18,8 +17,6 @@ pub struct ObjectWriter<'a> {
 impl<'a> ObjectWriter<'a> {
     ghost use Rattle.planus_write.specs.ObjectWriting.{body_of, wrote};
 
-    // Creates a writer over all of `bytes`, the first of which has this distance in bytes from the
-    // end.
     pub(crate) fn new(bytes: &'a mut [u8], place: u32) -> ObjectWriter<'a>
         requires { length bytes.old ≤ place }
         ensures { body_of result ≡ record {
@@ -63,8 +60,8 @@ impl<'a> ObjectWriter<'a> {
 
 /// The fields of a table, in the order declared.
 ///
-/// The ghost member `size` is the number of their bytes, and `leaves` names these by the place of
-/// the first. `reach` is the greatest distance from the end to which they refer, in bytes.
+/// `size` is the number of their bytes, `leaves` names these by the place of the first, and `reach`
+/// is the greatest distance in bytes from the end to which they refer.
 pub trait ObjectFill {
     ghost use Rattle.planus_write.specs.ObjectWriting.{body_of, wrote};
 

@@ -15,19 +15,14 @@ use std::alloc::{AllocError, Global};
 use std::fmt;
 use std::marker::Model;
 
-/// The result of looking for equal contents.
 pub(crate) enum Lookup {
-    /// Equal contents are at this distance from the end, and nothing is to be written.
     Found(u32),
-    /// There is room for the part, which is planned.
     Planned(Plan),
 }
 
-/// Contents of one kind, remembered if equal ones are to be written once.
 #[derive(Drop)]
 pub(crate) struct Sharing<C> {
     on: bool,
-    // The distances of contents while they are few.
     first: FirstDistances,
     // Whether the cache has all contents. It is empty before.
     is_many: bool,
@@ -51,7 +46,6 @@ impl<C> Model for Sharing<C> {
 }
 
 impl<C: GetCacheKey> Sharing<C> {
-    // Creates an empty one. Nothing is remembered unless `on`.
     pub(crate) fn new(alloc: Global, on: bool, hash_mask: u64) -> Result<Sharing<C>, AllocError>
         ensures on { IfOk result (λ sharing. sharing.on ≡ on) }
         ensures empty { IfOk result (λ sharing. HoldsNothing sharing.holding) }
@@ -64,7 +58,6 @@ impl<C: GetCacheKey> Sharing<C> {
         })
     }
 
-    // Whether equal contents are written once.
     #[inline]
     pub(crate) fn is_on(&self) -> bool
         ensures { result ≡ self.now.on }
@@ -72,7 +65,6 @@ impl<C: GetCacheKey> Sharing<C> {
         self.on
     }
 
-    // The cache's bucket of the contents, if they are looked up there.
     #[inline(always)]
     fn bucket_of<L: ByteItems>(&self, contents: &L) -> Option<Bucket>
         ensures { LooksIn self.now.holding (L.bytes_of contents.now) result }
@@ -83,7 +75,6 @@ impl<C: GetCacheKey> Sharing<C> {
         None
     }
 
-    // The distance of equal contents in the bytes.
     #[inline(always)]
     fn find_in<L: ByteItems>(
         &self,
@@ -102,7 +93,7 @@ impl<C: GetCacheKey> Sharing<C> {
         }
     }
 
-    // Remembers contents that are, or are about to be, at the distance. Changes nothing on failure.
+    // Changes nothing on failure.
     #[inline(always)]
     fn keep_in<L: ByteItems>(
         &mut self,
@@ -136,7 +127,6 @@ impl<C: GetCacheKey> Sharing<C> {
         Ok(())
     }
 
-    // Nothing is found any more.
     #[inline]
     pub(crate) fn clear(&mut self)
         ensures on { self.new.on ≡ self.old.on }
@@ -148,8 +138,7 @@ impl<C: GetCacheKey> Sharing<C> {
     }
 }
 
-// Fills an empty cache with the first distances of contents in the bytes, and that of others, about
-// to be there. It stays empty on failure.
+// The cache stays empty on failure.
 #[cold]
 #[inline(never)]
 fn spill<C: GetCacheKey, L: ByteItems>(
@@ -172,7 +161,7 @@ fn spill<C: GetCacheKey, L: ByteItems>(
     filled
 }
 
-// The same, but some of the distances stay on failure.
+// Some of the distances stay on failure.
 fn fill<C: GetCacheKey, L: ByteItems>(
     cache: &mut Cache<C>,
     first: &[u32],
@@ -193,8 +182,7 @@ fn fill<C: GetCacheKey, L: ByteItems>(
     cache.insert_in(contents.bucket_in(cache), distance)
 }
 
-// Makes room for a part of `size` bytes whose contents aren't found. Fails in this order: too
-// large, memory for padding and part, memory for the cache.
+// Fails in this order: too large, memory for padding and part, memory for the cache.
 #[inline(always)]
 pub(crate) fn plan_shared<C: GetCacheKey, L: ByteItems>(
     backing: &mut Backing,
@@ -217,7 +205,6 @@ pub(crate) fn plan_shared<C: GetCacheKey, L: ByteItems>(
     Ok(plan)
 }
 
-// Finds equal contents, if shared, or makes room for a part of `size` bytes as `plan_shared` does.
 #[inline(always)]
 pub(crate) fn find_or_plan<C: GetCacheKey, L: ByteItems>(
     shared: bool,
@@ -245,7 +232,6 @@ pub(crate) fn find_or_plan<C: GetCacheKey, L: ByteItems>(
     Ok(Lookup::Planned(plan))
 }
 
-/// Prints whether equal contents are written once.
 impl<C> fmt::Debug for Sharing<C> {
     ghost use Rattle.std.specs.Prelude.{Some, if◌then◌else◌};
     ghost use lib.Chars.{codes};

@@ -49,7 +49,6 @@ impl<const N: usize> Default for TableWriter<N> {
     }
 }
 
-/// Overwrites two bytes at a position by a number.
 #[inline]
 fn put_pair(bytes: &mut [u8], at: usize, number: u16)
     requires { at + 2 ≤ length bytes.old }
@@ -60,7 +59,6 @@ fn put_pair(bytes: &mut [u8], at: usize, number: u16)
     pair.copy_from_slice(&number.to_le_bytes());
 }
 
-/// The body of a table, as its filler writes it.
 #[derive(Drop)]
 struct Body<'a, F: ObjectFill> {
     filler: &'a F,
@@ -81,8 +79,8 @@ impl<'a, F: ObjectFill> Overwrite for Body<'a, F> {
 }
 
 impl<const N: usize> TableWriter<N> {
-    /// States that the writer was told some list of entries, of which clauses about every such list
-    /// can then speak, when a caller was passed the writer and `N` is at least 4. Does nothing.
+    /// States that the writer was told some entries, for clauses about every such list. Does
+    /// nothing.
     #[inline]
     pub fn was_told(&self)
         ensures { 4 ≤ N → (declared : List Declared) × WasTold self.now declared }
@@ -90,12 +88,9 @@ impl<const N: usize> TableWriter<N> {
         let _mask = self.mask;
     }
 
-    /// Declares a field for a slot.
-    ///
-    /// Declares a field for a slot. Requires the slot's two bytes to be in the first `N` bytes of
-    /// the vtable and in 65534, nothing to be declared for it yet, the object to have at most 65535
-    /// bytes with the field, and, for the fields to be aligned, no field's alignment to exceed that
-    /// of the one before.
+    /// Declares a field for a slot. Requires its two bytes to be in the first `N` bytes of the
+    /// vtable and in 65534, nothing to be declared for it yet, the object to have at most 65535
+    /// bytes with it, and no alignment to exceed that of the field before.
     #[inline]
     pub fn write_entry<P: Primitive>(&mut self, slot: usize)
         requires inside { slot_position slot + 2 ≤ N }
@@ -121,17 +116,12 @@ impl<const N: usize> TableWriter<N> {
         self.mask = self.mask.max(P::ALIGNMENT - 1);
     }
 
-    /// Writes the table: its vtable, unless an equal one is found, the fields that the filler
-    /// writes, and the word before them that leads to the vtable. The table is then at
-    /// [`Builder::current_offset`].
+    /// Writes the table: its vtable, unless an equal one is found, the fields, and the word before
+    /// them that leads to the vtable. The table is then at [`Builder::current_offset`]. `N` must be
+    /// at least 4, and the filler must write as many bytes as declared, with references into the
+    /// builder's bytes.
     ///
-    /// Requires `N` to be at least 4, and the filler to write as many bytes as declared, with
-    /// references into the builder's bytes.
-    ///
-    /// [`BuildError::TooLarge`] if a part's place would be above 2147483647 bytes from the end;
-    /// [`BuildError::OutOfMemory`] if a part exceeds [`Builder::room`] and an allocation fails, or
-    /// the cache's does. What was written before the failed write stays, and nothing after it is
-    /// begun.
+    /// Fails like [`Builder::create_vector`].
     #[inline(always)]
     pub fn finish<F: ObjectFill>(self, builder: &mut Builder, filler: &F) -> Result<(), BuildError>
         requires enough { 4 ≤ N }

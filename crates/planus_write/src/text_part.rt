@@ -1,11 +1,9 @@
-//! The part of a text.
 ghost use Rattle.std.specs.Prelude.{◌≡◌, ◌+◌, ◌≤◌, ◌++◌, [], ◌∷◌, length};
 ghost use Rattle.std.specs.Int.{w32, to_le_bytes};
 ghost use Rattle.planus_back.specs.Padding.{greatest_place};
 
 use planus_back::Overwrite;
 
-/// The bytes of a string, which are in its part between their count and a zero byte.
 #[derive(Drop)]
 pub(crate) struct TextPart<'a>(pub(crate) &'a [u8]);
 
@@ -21,7 +19,7 @@ impl<'a> Overwrite for TextPart<'a> {
         let (middle, zero) = behind.split_at_mut(text.len());
         count.copy_from_slice(&(text.len() as u32).to_le_bytes());
         zero.copy_from_slice(&[0]);
-        // Last, so that nothing is kept across a copy that may be long.
+        // Last, so that nothing is held across a copy that may be long.
         middle.copy_from_slice(text);
     }
 }

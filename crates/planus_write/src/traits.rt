@@ -30,11 +30,10 @@ pub trait Primitive: Sized {
 
     ghost SIZE: { ℕ };
 
-    /// Its first byte is at a multiple of this number of bytes from the start of a buffer.
+    /// Its alignment in bytes from the start of a buffer.
     const ALIGNMENT: usize;
 
-    /// A name for one less than [`Primitive::ALIGNMENT`], and nothing more: no contract mentions
-    /// it, and nothing here reads it.
+    /// One less than [`Primitive::ALIGNMENT`]. Nothing here reads it.
     const ALIGNMENT_MASK: usize = Self::ALIGNMENT - 1;
 
     /// Its size in bytes.
@@ -43,20 +42,18 @@ pub trait Primitive: Sized {
     /// The alignment is a power of two up to 2^30, and the size a positive multiple of it.
     ghost is_layout: { IsLayout SIZE ALIGNMENT };
 
-    /// The alignment is small.
     ghost is_small: { ALIGNMENT ≤ 1073741824 };
 }
 
 /// A value that is written in place as a `P`.
 ///
-/// The ghost member `reach` is the distance from the end to which it refers, in bytes: 0 for a
-/// number or a bool. `leaves` names the bytes written, by their place.
+/// `reach` is the distance in bytes from the end to which it refers, 0 for a number or a bool.
+/// `leaves` names the bytes written, by their place.
 pub trait WriteAsPrimitive<P: Primitive> {
     ghost reach: { Self → ℕ };
 
     ghost leaves: { Self → Item };
 
-    /// The value as a field of a table.
     ghost field: { Self → Field };
 
     /// Writes all `P::SIZE` bytes of `bytes`. `place` is the distance in bytes from the end of the
@@ -66,16 +63,14 @@ pub trait WriteAsPrimitive<P: Primitive> {
         requires reach { reach self.now ≤ place }
         ensures { bytes.new ≡ leaves self.now place };
 
-    /// The field has the size and alignment of a `P`, and the bytes written.
     ghost is_item: { (value : Self)
         → IsItem P.SIZE P.ALIGNMENT (leaves value) (reach value) (field value) };
 }
 
 /// A value that a builder can write as one of kind `T`.
 ///
-/// The ghost member `may` is the precondition: every offset in the value has a distance of at most
-/// the builder's length. `outcome` is what preparing it does: the builder before, the result, and
-/// the builder after.
+/// `may` is the precondition: every offset in the value is in the builder's bytes. `outcome` is
+/// what preparing it does.
 pub trait WriteAsOffset<T> {
     ghost may: { Self → State → Type 0 };
 
@@ -83,28 +78,23 @@ pub trait WriteAsOffset<T> {
 
     /// Writes the value, unless it is an offset already, and returns its offset.
     ///
-    /// [`BuildError::TooLarge`] if a part's place would be above 2147483647 bytes from the end;
-    /// [`BuildError::OutOfMemory`] if an allocation fails: for the prepared items of a vector,
-    /// unless they need no preparing, for a part that exceeds the builder's room, or for a cache.
-    /// What was written before the failed write stays, and nothing of it.
+    /// Fails with [`BuildError::TooLarge`] if a part's place would be above 2147483647 bytes from
+    /// the end, and with [`BuildError::OutOfMemory`] if an allocation fails. What was written
+    /// before the failed write stays.
     fn prepare(&self, builder: &mut Builder) -> std::result::Result<Offset<T>, BuildError>
         requires { may self.now builder.old }
         ensures { outcome self.now builder.old result builder.new };
 
-    /// The old bytes are the end of the new ones, every constraint is kept, and so are the cache
-    /// settings; the returned distance is at most the builder's length.
     ghost is_lawful: { IsLawful may outcome (λ offset. offset.distance) };
 }
 
-/// A value that a builder can write as a union of kind `T`.
-///
-/// The ghost members `may` and `outcome` are as those of [`WriteAsOffset`].
+/// A value that a builder can write as a union of kind `T`. `may` and `outcome` are as in
+/// [`WriteAsOffset`].
 pub trait WriteAsUnion<T> {
     ghost may: { Self → State → Type 0 };
 
     ghost outcome: { Self → State → Result (UnionOffset T) BuildError → State → Type 0 };
 
-    /// The tag, and what the reference to the value holds.
     ghost content: { Self → ℕ × Content };
 
     /// Writes the variant's value, unless it is written already, and returns its tag and offset.
@@ -113,23 +103,20 @@ pub trait WriteAsUnion<T> {
         requires { may self.now builder.old }
         ensures { outcome self.now builder.old result builder.new };
 
-    /// As [`WriteAsOffset`]'s.
     ghost is_lawful: { IsLawful may outcome union_reach };
 
-    /// Once prepared, the union has this tag and holds this.
     ghost has_content: { PreparesUnionItem may outcome content };
 }
 
-/// A value that a builder can write as a union vector of kind `T`.
-///
-/// The ghost members `may` and `outcome` are as those of [`WriteAsOffset`].
+/// A value that a builder can write as a union vector of kind `T`. `may` and `outcome` are as in
+/// [`WriteAsOffset`].
 pub trait WriteAsUnionVector<T> {
     ghost may: { Self → State → Type 0 };
 
     ghost outcome: { Self → State → Result (UnionVectorOffset T) BuildError → State → Type 0 };
 
-    /// Writes the vector of references and before it that of the tags, unless they are written
-    /// already, and returns their offsets. Fails like [`Builder::create_union_vector`].
+    /// Writes the references and before them the tags, unless they are written already, and returns
+    /// both offsets. Fails like [`Builder::create_union_vector`].
     fn prepare(
         &self,
         builder: &mut Builder,
@@ -137,15 +124,11 @@ pub trait WriteAsUnionVector<T> {
         requires { may self.now builder.old }
         ensures { outcome self.now builder.old result builder.new };
 
-    /// As [`WriteAsOffset`]'s, of both offsets.
     ghost is_lawful: { IsLawful may outcome union_vector_reach };
 }
 
-/// A value that a builder can write as an item of a vector of `P`.
-///
-/// The ghost members `may` and `outcome` are as those of [`WriteAsOffset`]; `all_may` and
-/// `prepares` are those of all items of a vector: usually each may be prepared, and memory is taken
-/// for the prepared ones, which are then prepared in order.
+/// A value that a builder can write as an item of a vector of `P`. `may` and `outcome` are as in
+/// [`WriteAsOffset`], and `all_may` and `prepares` are of all items.
 pub trait VectorWrite<P: Primitive>: Sized {
     /// The prepared item, as encoded in the vector.
     type Value: WriteAsPrimitive<P> + Drop;
@@ -160,7 +143,6 @@ pub trait VectorWrite<P: Primitive>: Sized {
 
     ghost prepares: { List Self → Outcome (List Self.Value) };
 
-    /// What a field holds that refers to a vector of these items.
     ghost list: { List Self → Content };
 
     /// Returns the number of bytes from one item to the next.
@@ -174,8 +156,7 @@ pub trait VectorWrite<P: Primitive>: Sized {
         ensures { outcome self.now builder.old result builder.new };
 
     /// Returns the items themselves if they need no preparing, like numbers, bools and offsets: a
-    /// vector then takes no memory for prepared ones. `None` if they are to be prepared one after
-    /// another.
+    /// vector then takes no memory for prepared ones.
     fn as_prepared(items: &[Self]) -> Option<&[Self::Value]>
         ensures { MatchOption result
             ((old new : State) (answer : Result (List Self.Value) BuildError)
@@ -190,15 +171,11 @@ pub trait VectorWrite<P: Primitive>: Sized {
         requires may { MayStand Self.Value.reach STRIDE place values.now }
         ensures { bytes.new ≡ items_bytes STRIDE place (map Self.Value.leaves values.now) };
 
-    /// Items follow one another without a gap.
     ghost is_size: { STRIDE ≡ P.SIZE };
 
-    /// As [`WriteAsOffset`]'s, with the reach of the prepared item as the distance.
     ghost is_lawful: { IsLawful may outcome Self.Value.reach };
 
-    /// The same for the items of a vector.
     ghost are_lawful: { AreLawful may outcome all_may prepares Self.Value.reach };
 
-    /// Once the vector is written, the field holds this.
     ghost has_list: { ListHasContent all_may prepares Self.Value.leaves P.SIZE P.ALIGNMENT list };
 }

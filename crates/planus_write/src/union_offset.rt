@@ -5,7 +5,7 @@ use std::alloc::AllocError;
 use std::marker::PhantomData;
 
 /// A written union of kind `T`: the tag of its variant, and the offset of its value. As a field it
-/// takes two slots, the tag's and the reference's.
+/// takes two slots, the tag's first.
 pub struct UnionOffset<T> {
     tag: u8,
     offset: Offset<()>,

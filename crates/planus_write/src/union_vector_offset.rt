@@ -4,8 +4,8 @@ use crate::offset::{List, Offset};
 use std::alloc::AllocError;
 use std::marker::PhantomData;
 
-/// A written union vector of kind `T`: the offset of its vector of tags, and that of its vector of
-/// references. As a field it takes two slots, the tags' first.
+/// A written union vector of kind `T`: the offsets of its vectors of tags and of references. As a
+/// field it takes two slots, the tags' first.
 pub struct UnionVectorOffset<T> {
     tags: Offset<List<u8>>,
     values: Offset<List<Offset<()>>>,

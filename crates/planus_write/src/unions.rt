@@ -1,4 +1,4 @@
-//! Union vectors: their references and their tags, each a vector with its count.
+//! Union vectors: references and tags, each a vector with its count.
 ghost use Rattle.std.specs.Prelude.{◌≡◌, ◌≤◌, length, IfOk};
 ghost use Rattle.std.specs.List.{AllByRecursion};
 ghost use Rattle.planus_write.specs.Preparing.{AllMay};
@@ -13,14 +13,12 @@ use crate::offset::{List, Offset};
 use crate::traits::WriteAsUnion;
 use crate::union_vector_offset::UnionVectorOffset;
 
-/// Prepared unions: the tag of each, and its reference.
 #[derive(Drop)]
 struct PreparedUnions {
     tags: Vec<u8>,
     values: Vec<Offset<()>>,
 }
 
-/// The unions, prepared in order.
 fn prepare_unions<T, U: WriteAsUnion<T>>(
     builder: &mut Builder,
     items: &[U],
@@ -44,7 +42,6 @@ fn prepare_unions<T, U: WriteAsUnion<T>>(
     Ok(PreparedUnions { tags, values })
 }
 
-/// The tags of a union vector as one part, and the count before them.
 fn write_tags(builder: &mut Builder, tags: &[u8]) -> Result<Offset<List<u8>>, BuildError>
     ensures { WritesTags tags.now builder.old result builder.new }
 {
@@ -59,7 +56,6 @@ fn write_tags(builder: &mut Builder, tags: &[u8]) -> Result<Offset<List<u8>>, Bu
     Ok(Offset::at(place))
 }
 
-/// Prepares the unions in order, and writes their references, and before these their tags.
 pub(crate) fn write_union_vector<T, U: WriteAsUnion<T>>(
     builder: &mut Builder,
     items: &[U],

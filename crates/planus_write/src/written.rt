@@ -5,8 +5,7 @@ ghost use Rattle.planus_write.specs.inner.Written.{place_of};
 use crate::errors::BuildError;
 use crate::offset::Offset;
 
-/// The distance of a written part from the end, or the error. Unlike a [`Result`] of both, it is
-/// returned in registers.
+/// Unlike a [`Result`] of both, it is returned in registers.
 pub(crate) enum Written {
     At(u32),
     LacksMemory,
@@ -27,7 +26,6 @@ impl From<Result<u32, BuildError>> for Written {
 }
 
 impl Written {
-    // The distance, or the error.
     #[inline(always)]
     pub(crate) fn place(self) -> Result<u32, BuildError>
         ensures { result ≡ place_of self }
@@ -39,7 +37,6 @@ impl Written {
         }
     }
 
-    // The same as an offset.
     #[inline(always)]
     pub(crate) fn offset<T>(self) -> Result<Offset<T>, BuildError>
         ensures ok { IfOk result (λ offset. place_of self ≡ Ok offset.distance) }

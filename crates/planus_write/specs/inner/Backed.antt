@@ -1,4 +1,3 @@
--- Bytes that grow at their front with their constraints, and how room is made for a part.
 use Rattle.std.specs.Prelude.{◌≡◌, ℕ, ◌+◌, ◌-◌, ◌<◌, ◌≤◌, List, ◌∷◌, ◌++◌, length, replicate}
 use Rattle.std.specs.Prelude.{Result, Ok, Err}
 use Rattle.planus_back.specs.Descriptions.{Describes}
@@ -9,25 +8,20 @@ use Rattle.planus_write.specs.declared.errors.BuildError.{BuildError}
 use Rattle.planus_write.specs.declared.errors.BuildError.TheVariants.{OutOfMemory, TooLarge}
 use Rattle.planus_write.specs.declared.backing.Plan.{Plan}
 
--- The bytes; the remainder and the mask that describe the constraints; and how many bytes fit
--- without memory.
+-- The bytes, the remainder and mask of the constraints, and how many bytes fit without memory.
 pub record Backed : Type 0 where
   pub bytes : List ℕ
   pub delayed : ℕ
   pub mask : ℕ
   pub room : ℕ
 
--- the constraints are described at the length of the bytes
 abbrev pub DescribedBy : Backed → List Promise → Type 0
 DescribedBy backed promises = Describes (length backed.bytes) backed.delayed backed.mask promises
 
--- The bytes were prepended, into room that was there, and nothing else changed.
 abbrev pub PutsBytes : List ℕ → Backed → Backed → Type 0
 PutsBytes bytes old new =
     new ≡ record old { bytes = bytes ++ old.bytes; room = old.room - length bytes }
 
--- A part of that size is planned: its padding is the least, and the plan describes the constraints
--- with the part's.
 pub record Plans (size alignment : ℕ) (backed : Backed) (plan : Plan) : Type 0 where
   pub is_place : plan.place ≡ length backed.bytes + plan.padding + size
   pub fits : plan.place ≤ greatest_place
@@ -41,14 +35,12 @@ pub record Plans (size alignment : ℕ) (backed : Backed) (plan : Plan) : Type 0
       → Describes plan.place plan.promises.delayed plan.promises.mask
       (promise_of plan.place alignment ∷ promises)
 
--- There is room for n bytes, and nothing else changed.
 pub record Enlarges (n : ℕ) (old new : Backed) : Type 0 where
   pub unchanged : new ≡ record old { room = new.room }
   pub more : old.room ≤ new.room
   pub enough : n ≤ new.room
   pub as_was : n ≤ old.room → new.room ≡ old.room
 
--- The padding was written, and the constraint added.
 abbrev pub Pads : Plan → Backed → Backed → Type 0
 Pads plan old new =
     new ≡ record {
@@ -58,7 +50,6 @@ Pads plan old new =
       room = old.room - plan.padding;
     }
 
--- Padding was written, and there is room for a part of that size at the returned place.
 pub record MakesRoom (size alignment : ℕ) (old : Backed) (place : ℕ) (new : Backed) : Type 0 where
   pub padding : ℕ
   pub is_place : place ≡ length old.bytes + padding + size
@@ -75,36 +66,29 @@ pub record MakesRoom (size alignment : ℕ) (old : Backed) (place : ℕ) (new : 
   pub described : (promises : List Promise) → DescribedBy old promises
       → Describes place new.delayed new.mask (promise_of place alignment ∷ promises)
 
--- a part of that size and alignment isn't too large
 abbrev pub HasPlace : ℕ → ℕ → Backed → Type 0
 HasPlace size alignment old = (promises : List Promise) → DescribedBy old promises
     → IsWithinLimit (length old.bytes) size alignment promises
 
--- why there is no room for a part of that size and alignment
 abbrev pub LacksRoom : ℕ → ℕ → Backed → BuildError → Type 0
 LacksRoom size alignment old TooLarge = (promises : List Promise) → DescribedBy old promises
     → ExceedsLimit (length old.bytes) size alignment promises
 LacksRoom size alignment old OutOfMemory = (promises : List Promise) → DescribedBy old promises
     → ExceedsRoom (length old.bytes) old.room size alignment promises
 
--- A part of that size and alignment was planned, or it is too large.
 abbrev pub PlansPart : ℕ → ℕ → Backed → Result Plan BuildError → Type 0
 PlansPart size alignment backed (Ok plan) = Plans size alignment backed plan
 PlansPart size alignment backed (Err error) =
     (error ≡ TooLarge) × LacksRoom size alignment backed TooLarge
 
--- Room for n bytes was made, or memory was refused.
 abbrev pub Reserves : ℕ → Backed → Result (Unit {0}) BuildError → Backed → Type 0
 Reserves n old (Ok done) new = Enlarges n old new
 Reserves n old (Err error) new = (error ≡ OutOfMemory) × (new ≡ old) × (old.room < n)
 
--- Room was made for a part of that size and alignment, at the returned place, or the call failed.
 abbrev pub Begins : ℕ → ℕ → Backed → Result ℕ BuildError → Backed → Type 0
 Begins size alignment old (Ok place) new = MakesRoom size alignment old place new
 Begins size alignment old (Err error) new = (new ≡ old) × LacksRoom size alignment old error
 
--- A part of that size and alignment was planned, and room made for it and its padding, or the call
--- failed.
 abbrev pub PlansRoom : ℕ → ℕ → Backed → Result Plan BuildError → Backed → Type 0
 PlansRoom size alignment old (Ok plan) new =
     Plans size alignment old plan × Enlarges (plan.padding + size) old new

@@ -1,4 +1,3 @@
--- How the three parts of a table are written at once.
 use Rattle.std.specs.Prelude.{◌≡◌, ℕ, List, [], Bool, true, false, length}
 use Rattle.planus_back.specs.Parts.{Part}
 use Rattle.planus_write.specs.inner.Backed.{Backed, MakesRoom, PutsBytes}
@@ -7,14 +6,12 @@ use Rattle.planus_write.specs.Placing.{PutsDown}
 use Rattle.planus_write.specs.State.{State}
 use Rattle.planus_write.specs.Tables.{vtable_part, vtable_entry, word_part}
 
--- A part was written, with its padding, into the room made for it.
 pub record PutsPart (part : Part) (old : Backed) (place : ℕ) (new : Backed) : Type 0 where
   pub between : Backed
   pub room : MakesRoom part.size part.alignment old place between
   pub count : length (part.bytes_at place) ≡ part.size
   pub put : PutsBytes (part.bytes_at place) between new
 
--- A vtable, a body and the word before it were written, one after another.
 pub record PutsParts (vtable : List ℕ) (body : Part) (old new : Backed) : Type 0 where
   pub vtable_at : ℕ
   pub first : Backed
@@ -25,12 +22,10 @@ pub record PutsParts (vtable : List ℕ) (body : Part) (old new : Backed) : Type
   pub table_at : ℕ
   pub word_put : PutsPart (word_part vtable_at) second table_at new
 
--- They were written, or nothing was done.
 abbrev pub PutsPartsIf : Bool → List ℕ → Part → Backed → Backed → Type 0
 PutsPartsIf true vtable body old new = PutsParts vtable body old new
 PutsPartsIf false vtable body old new = new ≡ old
 
--- The entries of a table were written, one after another, and it begins at the front of the bytes.
 pub record PutsTable (vtable : List ℕ) (body : Part) (old new : State) : Type 0 where
   pub vtable_at : ℕ
   pub first : State
@@ -42,7 +37,6 @@ pub record PutsTable (vtable : List ℕ) (body : Part) (old new : State) : Type 
   pub word_put : PutsDown (unshared_entry (word_part vtable_at)) [] second table_at new
   pub last : table_at ≡ length new.bytes
 
--- They were written, or nothing was done.
 abbrev pub PutsTableIf : Bool → List ℕ → Part → State → State → Type 0
 PutsTableIf true vtable body old new = PutsTable vtable body old new
 PutsTableIf false vtable body old new = new ≡ old

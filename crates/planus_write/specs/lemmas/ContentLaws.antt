@@ -18,7 +18,6 @@ use Rattle.planus_write.specs.Contents.{union_values, written_tags, written_valu
 use Rattle.planus_write.specs.Contents.{named_at_both, AllKept, Unions, no_unions, union_and}
 use Rattle.planus_write.specs.Contents.{UnionsAre, FieldIs, Comes, PreparesContent}
 
--- values that are kept still are later
 pub all_stay : (before after : Past) (contents : List Value) (distances : List ℕ)
     → Extends before after → AllKept before contents distances → AllKept after contents distances
 all_stay before after [] [] extends kept = tt
@@ -30,7 +29,6 @@ all_stay before after [] (distance ∷ distances) extends kept = kept
 all_stay before after (content ∷ contents) [] extends kept = kept
 
 mutual
-  -- what a field holds it still holds later
   pub field_stays : (before after : Past) (content : Content) (field : Field) → Extends before after
       → FieldIs before content field → FieldIs after content field
   field_stays before after (item content) field extends is = is
@@ -69,7 +67,6 @@ mutual
   field_stays before after (written_tags distance) field extends is = is
   field_stays before after (written_values distance) field extends is = is
 
-  -- and so do unions
   pub unions_stay : (before after : Past) (contents : Unions) (unions : List (ℕ × ℕ))
       → Extends before after → UnionsAre before contents unions → UnionsAre after contents unions
   unions_stay before after no_unions [] extends are = tt
@@ -81,13 +78,11 @@ mutual
   unions_stay before after no_unions (union ∷ unions) extends are = are
   unions_stay before after (union_and tag content others) [] extends are = are
 
--- nothing is done, so that what holds of every past holds
 pub stays_there : (past : Past) (old new : State) (Holds : Past → Type 0) → new ≡ old
     → IsPast old past → Holds past → Comes past new Holds
 stays_there past old new Holds same is_past holds =
     (past, subst (λ state. IsPast state past) (sym same) is_past, extends_itself past, holds)
 
--- what is prepared already
 pub ready_prepared : {A : Type 0} {may : A → State → Type 0} (content : A → Content)
     (field : A → Field) → ((a : A) (past : Past) → FieldIs past (content a) (field a))
     → PreparesContent may Answers content field
@@ -98,7 +93,6 @@ ready_prepared {A} {may} content field is = record {
       (subst (λ (b : A). FieldIs past (content a) (field b)) same (is a past)));
 }
 
--- the same for a value that is always there
 pub content_prepared_as : {X Y A : Type 0} {may : X → State → Type 0} {outcome : X → Outcome A}
     {content : X → Content} {field : A → Field} (of : Y → X)
     → PreparesContent may outcome content field
@@ -106,7 +100,6 @@ pub content_prepared_as : {X Y A : Type 0} {may : X → State → Type 0} {outco
     (λ y. content (of y)) field
 content_prepared_as of lawful = record { comes = λ y. lawful.comes (of y) }
 
--- a value whose entries are written
 pub value_added : (content : Value) (old : State) (got : List ℕ) (new : State) (past : Past)
     → WritesEntries (entries_of content) [] old (Ok got) new → IsPast old past
     → IsWritten (length past.written.bytes) content
@@ -123,7 +116,6 @@ value_added content old got new past writes is_past is_written named =
           kept.0,
     )
 
--- a text
 pub text_prepared : {T X : Type 0} {may : X → State → Type 0} (bytes : X → List ℕ)
     → PreparesContent {A = Offset T} may (λ x old answer new. WritesText (bytes x) old answer new)
     (λ x. value (text (bytes x))) (λ offset. reference offset.distance)
@@ -134,7 +126,6 @@ text_prepared bytes = record {
       (added.0, added.1, added.2, (offset.distance, refl, added.3)));
 }
 
--- a byte vector
 pub byte_list_prepared : {T X : Type 0} {may : X → State → Type 0} (bytes : X → List ℕ)
     → PreparesContent {A = Offset T} may
     (λ x old answer new. WritesByteList (bytes x) old answer new)

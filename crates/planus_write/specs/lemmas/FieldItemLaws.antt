@@ -9,7 +9,6 @@ use Rattle.planus_write.specs.Items.{plain_item, reference_item}
 use Rattle.planus_read.specs.Plain.{IsLayout}
 use Rattle.planus_write.specs.FieldItems.{IsItem}
 
--- bytes that are as many as the size
 pub plain_is_item : (size alignment : ℕ) (bytes : List ℕ) → length bytes ≡ size
     → IsLayout size alignment
     → IsItem size alignment (plain_item bytes) 0
@@ -25,14 +24,12 @@ plain_is_item size alignment bytes sized layout = record {
   );
 }
 
--- zeros in the place of a field that is always left out
 pub zeros_are_item : (size alignment : ℕ) → IsLayout size alignment
     → IsItem size alignment (plain_item (replicate size 0)) 0
     (plain (record { bytes = replicate size 0; alignment = alignment }))
 zeros_are_item size alignment layout =
     plain_is_item size alignment (replicate size 0) (length-replicate size 0) layout
 
--- a reference
 pub reference_is_item : (distance : ℕ)
     → IsItem 4 4 (reference_item distance) distance (reference distance)
 reference_is_item distance = record {
@@ -42,7 +39,6 @@ reference_is_item distance = record {
   stands = λ before reached. reached;
 }
 
--- the references of a union vector
 pub tags_are_item : (distance : ℕ)
     → IsItem 4 4 (reference_item distance) distance (tags_field distance)
 tags_are_item distance = record {

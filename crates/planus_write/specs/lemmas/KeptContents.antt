@@ -1,4 +1,4 @@
--- Texts and byte vectors are kept once their entries are written.
+-- Stored strings and byte vectors.
 use Rattle.std.proofs.Common.{◌≡◌, ℕ, ◌+◌, ◌-◌, ◌<◌, ◌≤◌, ◌^◌, List, [], ◌∷◌, ◌++◌, length, take}
 use Rattle.std.proofs.Common.{replicate, refl, sym, ap, ◌∙◌, subst, arith, Option, Some, None}
 use Rattle.std.proofs.Common.{append_assoc, length-append, Bool, true, false, inl, inr, bytes_eq}
@@ -26,7 +26,6 @@ use Rattle.planus_write.specs.lemmas.PartBytes.{front_number, kept_at_front}
 use Rattle.planus_write.specs.lemmas.Staying.{seen_stays}
 use Rattle.planus_read.specs.Values as value
 
--- a text stands at the front of what its part makes
 text_at_front : (content pad B : List ℕ) → length content < 2 ^ 32
     → Stands (((to_le_bytes w32 (length content) ++ content ++ 0 ∷ []) ++ pad) ++ B) (at 0)
     (value.text content)
@@ -38,7 +37,6 @@ text_at_front content pad B small =
           ∙ take-append_seam (content ++ 0 ∷ []) (pad ++ B),
     )
 
--- so does a byte vector
 byte_list_at_front : (content pad B : List ℕ) → length content < 2 ^ 32
     → Stands (((to_le_bytes w32 (length content) ++ content) ++ pad) ++ B) (at 0)
     (value.byte_list content)
@@ -47,7 +45,6 @@ byte_list_at_front content pad B small = (
   ap (take (length content)) (append_assoc content pad B) ∙ take-append_seam content (pad ++ B),
 )
 
--- a value at the front of its one part, aligned as that is, is kept where the part was added
 new_value : (part : Part) (value : Value) (shared : Option Contents) (before : Past) (distance : ℕ)
     (after : Past) (adds : Adds part shared before distance after)
     → length (part.bytes_at adds.placed.place) ≡ part.size
@@ -68,13 +65,11 @@ new_value part value shared before distance after adds sized there aligns =
     aligns (front ++ after.written.bytes) (length front)
     (subst (λ k. part.alignment ∣ k) e kept.aligns))
 
--- Contents of a kind are kept where this part is added.
 abbrev pub AreKept : Kind → List ℕ → Part → Type 0
 AreKept kind content part =
     (shared : Option Contents) (before : Past) (distance : ℕ) (after : Past)
     → Adds part shared before distance after → KindIsKept after kind content distance
 
--- All contents of a kind are kept where their part is added.
 abbrev pub NewAreKept : Kind → (List ℕ → Part) → Type 0
 NewAreKept kind part = (content : List ℕ) → AreKept kind content (part content)
 
@@ -104,7 +99,6 @@ new_byte_lists content shared before distance after adds =
     (omega (arith, fits, is_place))))
     (λ B k h. h)
 
--- contents that were found were seen under their kind
 pub same_of : (a b : Kind) → same_kind a b ≡ true → a ≡ b
 same_of texts texts e = refl
 same_of byte_lists byte_lists e = refl
@@ -156,7 +150,6 @@ shared_or_not switches contents = by_test (is_on switches contents.kind)
     by_test true = inr refl
     by_test false = inl refl
 
--- all that was seen is kept still where a part was added, and so are its contents if they are shared
 pub added_kept : (kind : Kind) (content : List ℕ) (part : Part) (shared : Option Contents)
     → (shared ≡ None) ⊎ (shared ≡ Some (record { kind = kind; bytes = content }))
     → (before : Past) (distance : ℕ) (after : Past) → AllSeenKept before
@@ -177,14 +170,12 @@ added_kept kind content part shared is_shared before distance after all kept add
           (and_seen s distance before.seen)) (sym some) (kept, old)
     ])
 
--- the same for a part that isn't shared
 pub alone_kept : (part : Part) (before : Past) (distance : ℕ) (after : Past) → AllSeenKept before
     → Adds part None before distance after → AllSeenKept after
 alone_kept part before distance after all adds =
     subst (AllByRecursion (SeenIsKept after)) (sym adds.seen)
     (seen_stays before after (added_extends part None before distance after adds) before.seen all)
 
--- what one entry comes to, whose contents are of a kind: they are kept, and all that was seen still is
 abbrev pub ContentsKept : Kind → List ℕ → Past → ℕ → Past → Type 0
 ContentsKept kind content before distance after = KindIsKept after kind content distance
     × AllSeenKept after × Extends before after
@@ -226,7 +217,6 @@ module _ (kind : Kind) (part : List ℕ → Part) (new_kept : NewAreKept kind pa
             before,
       )
 
--- once an entry of contents is written, they are kept
 pub put_kept : (kind : Kind) (part : List ℕ → Part) → NewAreKept kind part
     → (switches : Switches) (content got : List ℕ) (before : Past) (distance : ℕ) (after : Past)
     → AllSeenKept before
@@ -244,7 +234,6 @@ put_kept kind part new_kept switches content got before distance after all put =
     (shared_or_not switches (record { kind = kind; bytes = content }))
     (earlier_distance before.seen shared) refl put
 
--- the same for a value that is this one entry
 pub contents_kept : (kind : Kind) (part : List ℕ → Part) → NewAreKept kind part
     → (switches : Switches) (content : List ℕ) (before : Past) (got : List ℕ) (after : Past)
     → AllSeenKept before

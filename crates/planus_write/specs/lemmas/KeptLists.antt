@@ -1,4 +1,4 @@
--- Lists are kept once their items and their count are written.
+-- Stored vectors.
 use Rattle.std.proofs.Common.{◌≡◌, ℕ, ◌+◌, ◌-◌, ◌*◌, ◌<◌, ◌≤◌, ◌^◌, max, List, [], ◌∷◌, ◌++◌}
 use Rattle.std.proofs.Common.{length, map, take, drop, replicate, refl, sym, ap, ◌∙◌, subst, arith}
 use Rattle.std.proofs.Common.{Some, None, append_assoc, length-append, inl, inr, true, lit<}
@@ -32,7 +32,6 @@ use Rattle.planus_write.specs.Kept.{IsKept, SeenIsKept, AllSeenKept}
 use Rattle.planus_write.specs.lemmas.PartBytes.{length_after, front_number, kept_at_front, unpadded}
 use Rattle.planus_write.specs.lemmas.Staying.{seen_stays}
 
--- an alignment and 4 both divide the greater of them
 divide_greater : (a : ℕ) → IsPowerOfTwo a → (a ∣ max a 4) × (4 ∣ max a 4)
 divide_greater a power =
     elim (cases_lt a 4) as (λ _. (a ∣ max a 4) × (4 ∣ max a 4)) [
@@ -46,17 +45,14 @@ divide_greater a power =
           (dvd_refl a, power_divides 4 a (2, refl) power large))
     ]
 
--- the items of a list whose first stands aligned all do
 items_aligned : {X : Type 0} (size alignment k : ℕ) (xs : List X) → alignment ∣ size → alignment ∣ k
     → ItemsStand (λ position item. alignment ∣ position) k size xs
 items_aligned size alignment k [] divides h = tt
 items_aligned size alignment k (x ∷ xs) divides h =
     (h, items_aligned size alignment (k + size) xs divides (dvd-add alignment h divides))
 
--- items of one size, each good
 module _ {X : Type 0} (item_of : X → Item) (size : ℕ) (IsGood : X → Type 0)
     (sized : (x : X) → IsGood x → (place : ℕ) → length (item_of x place) ≡ size) where
-  -- their bytes are as many as they say
   items_length : (xs : List X) → AllByRecursion IsGood xs → (place : ℕ)
       → length (items_bytes size place (map item_of xs)) ≡ length xs * size
   items_length [] good place = let e : 0 ≡ 0 * size = omega arith in e
@@ -67,7 +63,6 @@ module _ {X : Type 0} (item_of : X → Item) (size : ℕ) (IsGood : X → Type 0
       length-append (item_of x place) (items_bytes size (place - size) (map item_of xs))
       ∙ omega (arith, first, rest)
 
-  -- where their bytes stand, and one stands where its bytes do, all stand
   module _ (B : List ℕ) (before : ℕ) (StandsAt : ℕ → X → Type 0)
       (stands : (x : X) → IsGood x → (k place : ℕ) → before + size ≤ place → place ≤ 2147483647
       → k + place ≡ length B → BytesStand B k (item_of x place) → StandsAt k x) where
@@ -87,8 +82,6 @@ module _ {X : Type 0} (item_of : X → Item) (size : ℕ) (IsGood : X → Type 0
               (omega (arith, fits)) (omega (arith, within, ends)) behind,
         )
 
--- What a list of these items is as a value, that are written behind so many bytes: where its count
--- and their bytes stand, it stands, and it is aligned where its count and they are.
 pub record IsListOf {X : Type 0} (item_of : X → Item) (size alignment before : ℕ) (xs : List X)
     (value : Value) : Type 0 where
   pub sized : (place : ℕ) → length (items_bytes size place (map item_of xs)) ≡ length xs * size
@@ -100,7 +93,6 @@ pub record IsListOf {X : Type 0} (item_of : X → Item) (size alignment before :
       → BytesStand B 4 (items_bytes size place (map item_of xs)) → Stands B (at 0) value
   pub aligned : (B : List ℕ) (k : ℕ) → ListAligned k size alignment xs → AlignedAt B (at k) value
 
--- a list of plain items
 pub plain_items : (size alignment before : ℕ) (items : List (List ℕ))
     → IsPlainList size alignment items
     → IsListOf plain_item size alignment before items (value.plain_list size alignment items)
@@ -120,14 +112,12 @@ plain_items size alignment before items written = record {
   aligned = λ B k h. h;
 }
 
--- a number stands where its bytes do
 pub number_there : (B : List ℕ) (k n : ℕ) → n < 2 ^ 32 → k + 4 ≤ length B
     → BytesStand B k (to_le_bytes w32 n) → Num B k w32 ≡ Some n
 number_there B k n small inside there =
     let within : nat_le (k + 4) (length B) ≡ true = grind (arith, nat_tests, inside) in
     rw within (ap Some (ap (from_le_bytes w32) there ∙ from_le_bytes-to_le_bytes_4 n small))
 
--- a list of references
 pub reference_items : (before : ℕ) (distances : List ℕ)
     → AllByRecursion (λ distance. distance ≤ before) distances
     → IsListOf reference_item 4 4 before distances (value.reference_list distances)
@@ -151,7 +141,6 @@ reference_items before distances behind = record {
   aligned = λ B k h. h;
 }
 
--- items that were added, and behind them their count
 module _ {X : Type 0} (item_of : X → Item) (size alignment : ℕ) (xs : List X)
     (before between after : Past) (first second : ℕ)
     (items : Adds (items_part size alignment (map item_of xs)) None before first between)
@@ -262,7 +251,6 @@ module _ {X : Type 0} (item_of : X → Item) (size alignment : ℕ) (xs : List X
         (λ front keep. list.aligned (front ++ after.written.bytes) (length front)
         (list_aligned (list.sized place) list.power list.divides front keep))
 
--- once the entries of a list are written, it is kept, and all that was seen still is
 pub list_kept : {X : Type 0} (item_of : X → Item) (size alignment : ℕ) (xs : List X) (value : Value)
     (switches : Switches) (before : Past) (got : List ℕ) (after : Past)
     → IsListOf item_of size alignment (length before.written.bytes) xs value → AllSeenKept before

@@ -1,4 +1,4 @@
--- Tables are kept once their vtable, their body and their word are written.
+-- Stored tables.
 use Rattle.std.proofs.Common.{◌≡◌, ℕ, ◌+◌, ◌-◌, ◌*◌, ◌<◌, ◌≤◌, ◌^◌, List, [], ◌∷◌, ◌++◌, length}
 use Rattle.std.proofs.Common.{take, drop, replicate, refl, sym, ap, ◌∙◌, subst, arith, Some, None}
 use Rattle.std.proofs.Common.{append_assoc, length-append}
@@ -37,7 +37,6 @@ use Rattle.planus_write.specs.lemmas.TableBytes.{fields_stand, fields_aligned, b
 use Rattle.planus_write.specs.lemmas.TableBytes.{size_there, offset_there, slot_stands}
 use Rattle.planus_write.specs.lemmas.TableBytes.{slot_aligned}
 
--- a vtable is kept where it is added
 pub new_vtables : NewAreKept vtables vtable_part
 new_vtables content shared before distance after adds =
     let at_end : length after.written.bytes ≡ adds.placed.place =
@@ -57,7 +56,6 @@ new_vtables content shared before distance after adds =
           subst (λ d. 2 ∣ (L - d)) (sym at) kept.aligns,
     )
 
--- the number at the front leads to a vtable that lies behind
 word_there : (v p : ℕ) (rest : List ℕ) → v ≤ p → p ≤ 2147483647
     → Int (to_le_bytes w32 (cast_unsigned w32 (pos v -ℤ pos p)) ++ rest) 0
     ≡ Some (pos 0 -ℤ pos (p - v))
@@ -71,7 +69,6 @@ word_there v p rest le small =
 word_further : (n t : ℕ) → pos 0 -ℤ pos t ≡ pos n -ℤ pos (n + t)
 word_further n t = omega (arith, ints)
 
--- the vtable is kept, and the body and the word were added
 module _ (entries : List (ℕ × Field)) (before first second after : Past) (v b x : ℕ)
     (vtable : ContentsKept vtables (vtable_bytes entries) before v first)
     (body : Adds (body_part entries) None first b second)
@@ -143,7 +140,6 @@ module _ (entries : List (ℕ × Field)) (before first second after : Past) (v b
       kind_stays second after extends_word vtables (vtable_bytes entries) v
       (kind_stays first second extends_body vtables (vtable_bytes entries) v vtable.0)
 
-  -- the vtable's position
   abbrev t : ℕ
   t = length B - v
 
@@ -256,7 +252,6 @@ module _ (entries : List (ℕ × Field)) (before first second after : Past) (v b
   added_kept : IsKept after (value.table entries) (record { distance = x; tags = None })
   added_kept = kept_at_front after (value.table entries) x after_ends table_stands table_aligned
 
--- once the entries of a table are written, it is kept, and all that was seen still is
 pub table_kept : (entries : List (ℕ × Field)) (switches : Switches) (before : Past) (got : List ℕ)
     (after : Past)
     → IsTable (length before.written.bytes) entries → AllSeenKept before

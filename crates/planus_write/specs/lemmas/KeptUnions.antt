@@ -1,4 +1,4 @@
--- Vectors of unions are kept once their references and their tags are written.
+-- Stored union vectors.
 use Rattle.std.proofs.Common.{◌≡◌, ℕ, ◌+◌, ◌-◌, ◌*◌, ◌≤◌, List, [], ◌∷◌, length, map, refl, sym, ap}
 use Rattle.std.proofs.Common.{◌∙◌, subst, arith, Some, None, lit<}
 use mathlib.Core.Path.{fun_ext}
@@ -21,16 +21,13 @@ use Rattle.planus_write.specs.Kept.{IsKept, AllSeenKept}
 use Rattle.planus_write.specs.lemmas.KeptLists.{IsListOf, reference_items, list_kept}
 use Rattle.planus_write.specs.lemmas.Staying.{kept_stays}
 
--- a tag as an item of one byte
 abbrev tag_item : ℕ → Item
 tag_item tag = plain_item (tag ∷ [])
 
--- the bytes of tags as items are the tags
 tags_bytes : (place : ℕ) (tags : List ℕ) → items_bytes 1 place (map tag_item tags) ≡ tags
 tags_bytes place [] = refl
 tags_bytes place (tag ∷ tags) = ap (λ (rest : List ℕ). tag ∷ rest) (tags_bytes (place - 1) tags)
 
--- and so is their part
 tags_part_is : (tags : List ℕ) → tags_part tags ≡ items_part 1 1 (map tag_item tags)
 tags_part_is tags =
     let size : length tags ≡ length (map tag_item tags) * 1 =
@@ -40,7 +37,6 @@ tags_part_is tags =
     { size = length (map tag_item tags) * 1; alignment = 4; bytes_at = bytes_at })
     (fun_ext (λ place. sym (tags_bytes place tags)))
 
--- tags are a byte vector
 tags_are : (before : ℕ) (tags : List ℕ) → IsListOf tag_item 1 1 before tags (value.byte_list tags)
 tags_are before tags = record {
   sized = λ place. (let e = ap length (tags_bytes place tags) in omega (arith, e));
@@ -52,21 +48,18 @@ tags_are before tags = record {
   aligned = λ B k h. h.0;
 }
 
--- all the distances of unions are such
 distances_reached : (before : ℕ) (items : List (ℕ × ℕ))
     → AllByRecursion (λ item. item.1 ≤ before) items
     → AllByRecursion (λ distance. distance ≤ before) (distances_in items)
 distances_reached before [] h = tt
 distances_reached before (item ∷ items) h = (h.0, distances_reached before items h.1)
 
--- unions are aligned where their references are
 unions_aligned : (k : ℕ) (items : List (ℕ × ℕ))
     → ItemsStand (λ position item. 4 ∣ position) k 4 (distances_in items)
     → ItemsStand (λ position item. 4 ∣ position) k 4 items
 unions_aligned k [] h = tt
 unions_aligned k (item ∷ items) h = (h.0, unions_aligned (k + 4) items h.1)
 
--- Where the references of unions are kept, and so are the tags, the union vector is.
 both_kept : (past : Past) (items : List (ℕ × ℕ)) (references tags : ℕ)
     → IsKept past (value.reference_list (distances_in items))
     (record { distance = references; tags = None })
@@ -81,7 +74,6 @@ both_kept past items references tags first second = record {
       (second.aligned front keep, (list.0, unions_aligned _ items list.1));
 }
 
--- once the entries of a union vector are written, it is kept, and all that was seen still is
 pub union_vector_kept
     : (switches : Switches) (items : List (ℕ × ℕ)) (before : Past) (got : List ℕ) (after : Past)
     → AllByRecursion (λ item. item.1 ≤ length before.written.bytes) items → AllSeenKept before

@@ -15,7 +15,6 @@ use Rattle.planus_write.specs.declared.errors.BuildError.{BuildError}
 use Rattle.planus_write.specs.declared.errors.BuildError.TheVariants.{OutOfMemory, TooLarge}
 use Rattle.planus_write.specs.declared.offset.Offset.{Offset}
 
--- what extends twice extends
 pub extends_on : (before between after : Past) → Extends before between → Extends between after
     → Extends before after
 extends_on before between after first second = record {
@@ -36,11 +35,9 @@ extends_on before between after first second = record {
   );
 }
 
--- what was written extends itself
 pub extends_itself : (past : Past) → Extends past past
 extends_itself past = record { bytes = ([], refl); promises = ([], refl); seen = ([], refl) }
 
--- a builder that is left as it was grows by nothing
 pub unchanged_grows : (old new : State) → new ≡ old → Grows old new
 unchanged_grows old new same = record {
   bytes = ([], ap (λ state. state.bytes) same);
@@ -53,7 +50,6 @@ unchanged_grows old new same = record {
   switches = ap (λ state. state.switches) same;
 }
 
--- more room alone changes nothing of what was written
 pub roomier_past : (old new : State) (past : Past) → new ≡ record old { room = new.room }
     → IsPast old past → IsPast new past
 roomier_past old new past same is_past =
@@ -79,7 +75,6 @@ roomier_grows old new same = record {
   switches = ap (λ state. state.switches) same;
 }
 
--- a builder that refused an entry grows by nothing
 pub left_grows : (error : BuildError) (shared : Option Contents) (old new : State)
     → LeftAsItWas error shared old new → Grows old new
 left_grows OutOfMemory (Some contents) old new left = roomier_grows old new left.1
@@ -110,7 +105,6 @@ put_after_extends (Some d) part shared before distance after put =
 put_after_extends None part shared before distance after put =
     added_extends part shared before distance after put
 
--- an entry that is written extends what was written
 pub put_extends : (switches : Switches) (entry : Entry) (got : List ℕ) (before : Past)
     (distance : ℕ) (after : Past)
     → Puts switches entry got before distance after → Extends before after
@@ -119,7 +113,6 @@ put_extends switches entry got before distance after put =
     (shared_as switches entry.contents)
     before distance after put
 
--- one entry written grows the builder by it
 pub entry_grows : (entry : Entry) (got : List ℕ) (old : State) (distance : ℕ) (new : State)
     → PutsDown entry got old distance new → Grows old new
 entry_grows entry got old distance new put = record {
@@ -130,7 +123,6 @@ entry_grows entry got old distance new put = record {
   switches = put.switches;
 }
 
--- what grows twice grows
 pub grows_on : (old mid new : State) → Grows old mid → Grows mid new → Grows old new
 grows_on old mid new first second = record {
   bytes = (
@@ -145,7 +137,6 @@ grows_on old mid new first second = record {
   switches = second.switches ∙ first.switches;
 }
 
--- what an old state reaches, a grown one does
 pub reached_still : (distance : ℕ) (old new : State) → Grows old new → distance ≤ length old.bytes
     → distance ≤ length new.bytes
 reached_still distance old new grows reached =
@@ -153,7 +144,6 @@ reached_still distance old new grows reached =
     = ap length grows.bytes.1 ∙ length-append grows.bytes.0 old.bytes in
     omega (arith, e, reached)
 
--- an entry that is written, or refused, grows the builder
 pub writes_entry_grows : (entry : Entry) (got : List ℕ) (old : State) (answer : Result ℕ BuildError)
     (new : State) → WritesEntry entry got old answer new → Grows old new
 writes_entry_grows entry got old (Ok distance) new done =
@@ -161,7 +151,6 @@ writes_entry_grows entry got old (Ok distance) new done =
 writes_entry_grows entry got old (Err error) new done =
     left_grows error (shared_as old.switches entry.contents) old new done.unchanged
 
--- so it is with the distance as an offset
 pub as_offset_grows : {T : Type 0} (writes : Outcome ℕ) (old : State)
     → ((answer : Result ℕ BuildError) (new : State) → writes old answer new → Grows old new)
     → (answer : Result (Offset T) BuildError) (new : State) → AsOffset writes old answer new
@@ -169,7 +158,6 @@ pub as_offset_grows : {T : Type 0} (writes : Outcome ℕ) (old : State)
 as_offset_grows writes old each (Ok offset) new done = each (Ok offset.distance) new done
 as_offset_grows writes old each (Err error) new done = each (Err error) new done
 
--- what is written already is lawful where what it refers to lies in the bytes
 pub written_is_lawful : {A : Type 0} (reach : A → ℕ)
     → IsLawful {X = A} (λ a old. reach a ≤ length old.bytes) Answers reach
 written_is_lawful {A} reach = record {
@@ -181,13 +169,11 @@ written_is_lawful {A} reach = record {
   stays = λ a old new grows may. reached_still (reach a) old new grows may;
 }
 
--- an offset is lawful
 pub offset_is_lawful : {T : Type 0}
     → IsLawful {X = Offset T} (λ offset old. offset.distance ≤ length old.bytes) IsPrepared
     (λ offset. offset.distance)
 offset_is_lawful {T} = written_is_lawful (λ (offset : Offset T). offset.distance)
 
--- what writes one entry is lawful, if it may always be prepared
 pub entry_is_lawful : {X T : Type 0} (entry : X → Entry)
     → IsLawful {X = X} {A = Offset T} (λ x old. ⊤)
     (λ x old answer new. AsOffset (WritesEntry (entry x) []) old answer new)
@@ -200,7 +186,6 @@ entry_is_lawful entry = record {
   stays = λ x old new grows may. tt;
 }
 
--- what is answered as it is, and refers to nothing, is lawful
 pub ready_is_lawful : {A : Type 0} → IsLawful {X = A} (λ x old. ⊤) Answers (λ answer. 0)
 ready_is_lawful {A} = record {
   grows = λ x old answer new may done. unchanged_grows old new done.1;
@@ -208,13 +193,11 @@ ready_is_lawful {A} = record {
   stays = λ x old new grows may. tt;
 }
 
--- an alignment is a power of two up to 2^30
 pub alignment_is_small : (size alignment : ℕ) → IsLayout size alignment → alignment ≤ 1073741824
 alignment_is_small size alignment layout =
     subst (λ n. n ≤ 1073741824) (sym layout.power.2)
     (pow-le-pow_right {n = 2} (lit< tt) layout.power.1)
 
--- what is prepared as something else is lawful where that is
 pub lawful_of : {X Y A : Type 0} {may : X → State → Type 0} {outcome : X → Outcome A}
     {reach : A → ℕ}
     (of : Y → X) → IsLawful may outcome reach

@@ -1,4 +1,4 @@
--- The laws of what lists hold.
+-- The laws of what vectors hold.
 use Rattle.std.specs.Prelude.{◌≡◌, ℕ, ◌≤◌, List, [], ◌∷◌, length, map, Ok}
 use Rattle.std.specs.List.{AllByRecursion}
 use Rattle.std.proofs.Common.{refl, subst, sym, ap}
@@ -23,7 +23,6 @@ use Rattle.planus_write.specs.Contents.{PreparesContent}
 use Rattle.planus_write.specs.lemmas.ContentLaws.{all_stay, value_added}
 use Rattle.planus_write.specs.ListContents.{WritesItems, ListHasContent}
 
--- so a field holds it that is such a list
 pub list_prepared : {X Y A T : Type 0} {all_may : List Y → State → Type 0}
     {prepares : List Y → Outcome (List A)} {leaves : A → Item} {size alignment : ℕ}
     {list : List Y → Content} (items : X → List Y)
@@ -36,7 +35,6 @@ list_prepared items lawful = record {
       lawful.comes (items x) old offset.distance new past mays done is_past;
 }
 
--- what a list's entries are written over
 record IsPut {Y A : Type 0} (prepares : List Y → Outcome (List A)) (leaves : A → Item)
     (size alignment : ℕ) (ys : List Y) (old : State) (distance : ℕ) (new : State) : Type 0 where
   items : List A
@@ -62,7 +60,6 @@ is_put prepares leaves size alignment ys old distance new done = record {
   at = cc;
 }
 
--- the same where the items need no preparing
 ready_put : {Y : Type 0} (leaves : Y → Item) (size alignment : ℕ) (ys : List Y) (old : State)
     (distance : ℕ) (new : State)
     → WritesItems Answers leaves size alignment ys old (Ok distance) new
@@ -85,13 +82,11 @@ ready_put {Y} leaves size alignment ys old distance new done =
       put.at,
     )
 
--- each item has the size
 all_sized : {X : Type 0} (bytes : X → List ℕ) (size : ℕ) → ((x : X) → length (bytes x) ≡ size)
     → (xs : List X) → AllByRecursion (λ item. length item ≡ size) (map bytes xs)
 all_sized bytes size sized [] = tt
 all_sized bytes size sized (x ∷ xs) = (sized x, all_sized bytes size sized xs)
 
--- a list of numbers or of bools
 pub plain_list_has_content : {Y : Type 0} {all_may : List Y → State → Type 0} (bytes : Y → List ℕ)
     (size alignment : ℕ) → IsLayout size alignment → ((y : Y) → length (bytes y) ≡ size)
     → ListHasContent all_may Answers (λ y. plain_item (bytes y)) size alignment
@@ -114,7 +109,6 @@ plain_list_has_content bytes size alignment layout sized = record {
       (added.0, added.1, added.2, (last_of put.0, ap (λ d. reference d) put.2, added.3)));
 }
 
--- offsets that may be prepared lie in what was written
 offsets_lie : {T : Type 0} (offsets : List (Offset T)) (old : State) (past : Past) → IsPast old past
     → AllIn old offsets
     → AllByRecursion (λ distance. distance ≤ length past.written.bytes)
@@ -136,7 +130,6 @@ references_are : {T : Type 0} (offsets : List (Offset T))
 references_are {T} offsets =
     ap (list_entries 4 4) (reference_items_are (λ (offset : Offset T). offset.distance) offsets)
 
--- a list of offsets
 pub offset_list_has_content : {T : Type 0}
     → ListHasContent {Y = Offset T} (λ offsets old. AllIn old offsets) Answers
     (λ offset. reference_item offset.distance) 4 4
@@ -152,7 +145,6 @@ offset_list_has_content {T} = record {
       (added.0, added.1, added.2, (last_of put.0, ap (λ d. reference d) put.2, added.3)));
 }
 
--- values that are kept lie in what was written
 kept_lie : (past : Past) (contents : List Value) (distances : List ℕ)
     → AllKept past contents distances
     → AllByRecursion (λ distance. distance ≤ length past.written.bytes) distances
@@ -166,7 +158,6 @@ module _ {X S : Type 0} {may : X → State → Type 0} {outcome : X → Outcome 
     (lawful : IsLawful may outcome (λ offset. offset.distance)) (content : X → Value)
     (prepares : PreparesContent may outcome (λ x. value (content x))
     (λ offset. reference offset.distance)) where
-  -- one value of several is prepared
   one_prepared : (x : X) (old : State) (offset : Offset S) (new : State) (past : Past) → may x old
       → outcome x old (Ok offset) new → IsPast old past
       → Comes past new (λ after. IsKept after (content x) (named_at offset.distance))
@@ -179,7 +170,6 @@ module _ {X S : Type 0} {may : X → State → Type 0} {outcome : X → Outcome 
         subst (λ (d : ℕ). IsKept near.0 (content x) (named_at d)) at near.3.2,
       )
 
-  -- all of them, one after another
   all_prepared : (xs : List X) (old : State) (offsets : List (Offset S)) (new : State) (past : Past)
       → AllMay may xs old → PreparesAll outcome xs old (Ok offsets) new → IsPast old past
       → Comes past new (λ after. AllKept after (map content xs) (distances_of offsets))
@@ -206,7 +196,6 @@ module _ {X S : Type 0} {may : X → State → Type 0} {outcome : X → Outcome 
             AllKept far.0 (map content (x ∷ xs)) (distances_of offsets)) same (first, far.3),
       )
 
-  -- a list of such values
   pub values_have_content :
       {all_may : List X → State → Type 0}
       → ((xs : List X) (old : State) → all_may xs old → AllMay may xs old)
@@ -241,7 +230,6 @@ module _ {X S : Type 0} {may : X → State → Type 0} {outcome : X → Outcome 
         ));
   }
 
--- items that are prepared as others
 all_as : {X Y A : Type 0} (outcome : X → Outcome A) (of : Y → X) (ys : List Y) (old : State)
     (items : List A) (new : State)
     → PreparesAll (λ y old answer new. outcome (of y) old answer new) ys old (Ok items) new
@@ -254,7 +242,6 @@ all_as outcome of (y ∷ ys) old items new done = (
   (done.3.0, done.3.1, all_as outcome of ys done.1 done.3.0 done.3.1 done.3.2, done.3.3),
 )
 
--- lists of them hold what lists of the others hold
 pub list_prepared_as : {X Y A : Type 0} {may : X → State → Type 0} {outcome : X → Outcome A}
     {all_may : List X → State → Type 0} {prepares : List X → Outcome (List A)} {reach : A → ℕ}
     {leaves : A → Item} {size alignment : ℕ} {list : List X → Content} (of : Y → X)

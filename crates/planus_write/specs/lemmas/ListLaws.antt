@@ -1,4 +1,4 @@
--- The laws of lists.
+-- The laws of vectors.
 use Rattle.std.specs.Prelude.{◌≡◌, ℕ, ◌≤◌, List, [], ◌∷◌, ◌++◌, length, map, Result, Ok, Err, ⊤}
 use Rattle.std.specs.List.{AllByRecursion}
 use Rattle.std.proofs.Common.{refl, subst, sym, ap, ◌∙◌, inl, inr, arith}
@@ -16,12 +16,10 @@ use Rattle.planus_write.specs.lemmas.Laws.{offset_is_lawful}
 use Rattle.planus_write.specs.declared.errors.BuildError.{BuildError}
 use Rattle.planus_write.specs.declared.offset.Offset.{Offset}
 
--- from this state on an outcome grows the builder
 abbrev pub GrowsFrom : {A : Type 0} → State → Outcome A → Type 0
 GrowsFrom {A} old does =
     (answer : Result A BuildError) (new : State) → does old answer new → Grows old new
 
--- one outcome after another
 pub then_grows : {A B : Type 0} (old : State) (first : Outcome A) (second : A → Outcome B)
     → GrowsFrom old first
     → ((a : A) (between : State) → first old (Ok a) between → GrowsFrom between (second a))
@@ -51,7 +49,6 @@ entries_grow (entry ∷ entries) got old answer new h =
 
 module _ {X A : Type 0} (may : X → State → Type 0) (outcome : X → Outcome A) (reach : A → ℕ)
     (lawful : IsLawful may outcome reach) where
-  -- what may be prepared of several may be prepared later
   pub may_still : (xs : List X) (old new : State) → Grows old new → AllMay may xs old
       → AllMay may xs new
   may_still [] old new grows h = tt
@@ -78,7 +75,6 @@ module _ {X A : Type 0} (may : X → State → Type 0) (outcome : X → Outcome 
       then_grows old TakesMemory (λ had. PreparesAll outcome xs) (memory_grows old)
       (λ had between done. all_grow xs between (subst (AllMay may xs) (sym done) h))
 
-  -- what is answered for items that are prepared lies in the bytes
   pub all_reach : (xs : List X) (old : State) (all : List A) (new : State) → AllMay may xs old
       → PreparesAll outcome xs old (Ok all) new
       → AllByRecursion (λ a. reach a ≤ length new.bytes) all
@@ -100,7 +96,6 @@ module _ {X A : Type 0} (may : X → State → Type 0) (outcome : X → Outcome 
       (sym done.3.3.1)
       (first, all_reach xs done.1 others done.3.1 still done.3.2))
 
--- items that need no preparing stay as they are
 pub ready_items : {A : Type 0} (xs : List A) (old : State) (items : List A) (new : State)
     → PreparesAll Answers xs old (Ok items) new → (items ≡ xs) × (new ≡ old)
 ready_items [] old items new h = (let same : items ≡ [] = cc in same, h.1)
@@ -112,7 +107,6 @@ ready_items {A} (x ∷ xs) old items new h =
       h.3.3.1 ∙ rest.1 ∙ h.2.1,
     )
 
--- and none is refused
 pub ready_is_given : {A : Type 0} (xs : List A) (old : State) (error : BuildError) (new : State)
     → PreparesAll Answers xs old (Err error) new → ⊥
 ready_is_given [] old error new h = (cc)
@@ -121,24 +115,20 @@ ready_is_given (x ∷ xs) old error new (inr (a, between, first, inl h)) =
     ready_is_given xs between error new h
 ready_is_given (x ∷ xs) old error new (inr (a, between, first, inr h)) = (cc)
 
--- what may always be prepared may be each of several
 pub all_free : {X : Type 0} (xs : List X) (old : State) → AllMay (λ x state. ⊤) xs old
 all_free [] old = tt
 all_free (x ∷ xs) old = (tt, all_free xs old)
 
--- what refers to nothing refers to nothing past the end
 all_reach_nothing : {X : Type 0} (xs : List X) (old : State)
     → AllByRecursion (λ x. 0 ≤ length old.bytes) xs
 all_reach_nothing [] old = tt
 all_reach_nothing (x ∷ xs) old = (omega arith, all_reach_nothing xs old)
 
--- items that are prepared as others may be, where these may
 all_may_of : {X Y : Type 0} (may : X → State → Type 0) (of : Y → X) (ys : List Y) (old : State)
     → AllMay may (map of ys) old → AllMay (λ y state. may (of y) state) ys old
 all_may_of may of [] old mays = tt
 all_may_of may of (y ∷ ys) old mays = (mays.0, all_may_of may of ys old mays.1)
 
--- items that are prepared one after another, behind memory for them, are lawful
 pub items_are_lawful : {X A : Type 0} {may : X → State → Type 0} {outcome : X → Outcome A}
     {reach : A → ℕ} → IsLawful may outcome reach
     → AreLawful may outcome (λ xs old. AllMay may xs old) (λ xs. PreparesItems outcome xs) reach
@@ -152,7 +142,6 @@ items_are_lawful {may = may} {outcome = outcome} {reach = reach} lawful = record
   one_by_one = λ xs old values new h done. (tt, old, refl, done);
 }
 
--- the same where they may always be prepared
 pub free_items_are_lawful : {X A : Type 0} {outcome : X → Outcome A} {reach : A → ℕ}
     → IsLawful (λ x old. ⊤) outcome reach
     → AreLawful (λ x old. ⊤) outcome (λ xs old. ⊤) (λ xs. PreparesItems outcome xs) reach
@@ -168,7 +157,6 @@ free_items_are_lawful {X} {A} {outcome} {reach} lawful = record {
         (λ xs. PreparesItems outcome xs) reach
     items = items_are_lawful lawful
 
--- items that are prepared as others are lawful where these are
 pub items_are_lawful_as : {X Y A : Type 0} {may : X → State → Type 0} {outcome : X → Outcome A}
     {all_may : List X → State → Type 0} {prepares : List X → Outcome (List A)} {reach : A → ℕ}
     (of : Y → X) → IsLawful may outcome reach → AreLawful may outcome all_may prepares reach
@@ -193,7 +181,6 @@ items_are_lawful_as {X} {Y} {A} {may} {outcome} {all_may} {prepares} {reach} of 
         (λ ys. PreparesItems (λ y old answer new. outcome (of y) old answer new) ys) reach
     items = items_are_lawful (lawful_of of lawful)
 
--- items that need no preparing are lawful
 pub ready_are_lawful : {A : Type 0} {may : A → State → Type 0} (all_may : List A → State → Type 0)
     {reach : A → ℕ}
     → ((xs : List A) (old : State) → all_may xs old → AllMay may xs old)
@@ -216,13 +203,11 @@ ready_are_lawful {A} all_may {reach} each reached still = record {
       (ap (λ (items : List A). Ok items) ready.0, ready.1);
 }
 
--- such are numbers, which refer to nothing
 pub numbers_are_lawful : {A : Type 0}
     → AreLawful {X = A} (λ x old. ⊤) Answers (λ xs old. ⊤) Answers (λ x. 0)
 numbers_are_lawful {A} = ready_are_lawful (λ xs old. ⊤) (λ xs old h. all_free xs old)
     (λ xs old h. all_reach_nothing xs old) (λ xs old new grows h. tt)
 
--- and offsets, which may be prepared where they lie in the bytes
 pub offsets_are_lawful : {T : Type 0}
     → AreLawful {X = Offset T} (λ offset old. offset.distance ≤ length old.bytes) Answers
     (λ offsets old. AllIn old offsets) Answers (λ offset. offset.distance)
@@ -252,7 +237,6 @@ module _ {X A : Type 0} (all_may : List X → State → Type 0) (prepares : List
       (entries_grow (written items) [] between)
       (λ got after put. answers_grow (last_of got) after)))
 
-  -- the count that was written last lies in the bytes
   pub list_reaches : (items : List A) (old : State) (got : List ℕ) (new : State)
       → WritesEntries (written items) [] old (Ok got) new → last_of got ≤ length new.bytes
   list_reaches items old got new h =
@@ -260,7 +244,6 @@ module _ {X A : Type 0} (all_may : List X → State → Type 0) (prepares : List
       subst (λ all. last_of all ≤ length new.bytes) (sym same)
       (subst (λ (state : State). h.3.0 ≤ length state.bytes) (sym h.3.3.1) h.3.2.reached)
 
--- a list is lawful where its items are
 pub list_is_lawful : {X A Y T : Type 0} {may : X → State → Type 0} {outcome : X → Outcome A}
     {all_may : List X → State → Type 0} {prepares : List X → Outcome (List A)} {reach : A → ℕ}
     {leaves : A → Item} (size alignment : ℕ) (items_of : Y → List X)
@@ -285,7 +268,6 @@ list_is_lawful {all_may = all_may} {prepares = prepares} {leaves = leaves} size 
       stays = λ y old new grows h. lawful.stay (items_of y) old new grows h;
     }
 
--- A list of items that need no preparing is written by its entries alone.
 pub ready_list_is_put : {A T : Type 0} (leaves : A → Item) (size alignment : ℕ) (xs : List A)
     (old : State) (offset : Offset T) (new : State)
     → WritesList Answers leaves size alignment xs old (Ok offset) new
@@ -312,7 +294,6 @@ ready_list_is_put {A} {T} leaves size alignment xs old offset new h =
       counted,
     )
 
--- It is refused where its entries are.
 pub ready_list_is_refused
     : {A : Type 0} (T : Type 0) (leaves : A → Item) (size alignment : ℕ) (xs : List A)
     (old : State) (error : BuildError) (new : State)
@@ -333,14 +314,12 @@ ready_list_is_refused {A} T leaves size alignment xs old error new
 ready_list_is_refused T leaves size alignment xs old error new (inr (items, mid, h, inr refused)) =
     (cc)
 
--- numbers are plain items by their bytes
 pub plain_items_are : {A : Type 0} (bytes_of : A → List ℕ) (xs : List A)
     → map (λ (x : A). plain_item (bytes_of x)) xs ≡ map plain_item (map bytes_of xs)
 plain_items_are bytes_of [] = refl
 plain_items_are bytes_of (x ∷ xs) =
     ap (λ (items : List Item). plain_item (bytes_of x) ∷ items) (plain_items_are bytes_of xs)
 
--- offsets are references by their distances
 pub reference_items_are : {A : Type 0} (distance_of : A → ℕ) (xs : List A)
     → map (λ (x : A). reference_item (distance_of x)) xs ≡ map reference_item (map distance_of xs)
 reference_items_are distance_of [] = refl

@@ -19,7 +19,6 @@ use Rattle.planus_write.specs.Parts.{text_part, byte_list_part, finish_part, ide
 use Rattle.planus_write.specs.Parts.{sized_finish_part}
 use Rattle.planus_write.specs.Kept.{IsKept}
 
--- the place of a part whose bytes are as many as its size is the length with it
 pub length_after : (part : Part) (before after : Written) (placed : Placed part before after)
     → length (part.bytes_at placed.place) ≡ part.size → length after.bytes ≡ placed.place
 length_after part before after placed sized =
@@ -52,7 +51,6 @@ sized_finish_size root identifier before place =
 four_fit : (m : ℕ) → nat_le 4 (suc (suc (suc (suc m)))) ≡ true
 four_fit m = grind (arith, nat_tests)
 
--- the number at the front of the bytes
 pub front_number : (n : ℕ) (rest : List ℕ) → n < 2 ^ 32
     → Num (to_le_bytes w32 n ++ rest) 0 w32 ≡ Some n
 front_number n rest small =
@@ -61,13 +59,11 @@ front_number n rest small =
 eight_fit : (m : ℕ) → nat_le 8 (suc (suc (suc (suc (suc (suc (suc (suc m)))))))) ≡ true
 eight_fit m = grind (arith, nat_tests)
 
--- the one behind it
 pub second_number : (m n : ℕ) (rest : List ℕ) → n < 2 ^ 32
     → Num (to_le_bytes w32 m ++ (to_le_bytes w32 n ++ rest)) 4 w32 ≡ Some n
 second_number m n rest small =
     rw (eight_fit (length rest)) (ap Some (from_le_bytes-to_le_bytes_4 n small))
 
--- what stands at the front of what was written is kept at its length
 pub kept_at_front : (past : Past) (value : Value) (distance : ℕ)
     → length past.written.bytes ≡ distance
     → Stands past.written.bytes (at 0) value
@@ -85,7 +81,6 @@ kept_at_front past value distance at_end there aligned = record {
       subst (λ k. AlignedAt (front ++ past.written.bytes) (at k) value) e (aligned front keep);
 }
 
--- a part of alignment 1 is placed without padding
 pub unpadded : (size : ℕ) (bytes_at : ℕ → List ℕ) (before after : Written)
     (placed : Placed (record { size = size; alignment = 1; bytes_at = bytes_at }) before after)
     → placed.padding ≡ 0

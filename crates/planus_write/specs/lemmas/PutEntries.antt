@@ -1,4 +1,4 @@
--- Entries that a builder puts down, in a past of it.
+-- Entries that a builder writes, in a history of it.
 use Rattle.std.proofs.Common.{◌≡◌, [], ◌∷◌, ◌++◌, sym, subst, refl, inl, inr}
 use Rattle.planus_write.specs.Past.{PutsAll, ComesToTooLarge}
 use Rattle.planus_write.specs.State.{IsPast}

@@ -1,4 +1,4 @@
--- Values whose entries were written are kept, and finishes that were placed lead to their roots.
+-- Stored values, and finishes.
 use Rattle.std.proofs.Common.{◌≡◌, ℕ, List, ◌+◌, ◌-◌, ◌≤◌, ◌++◌, length, take, drop, replicate, sym}
 use Rattle.std.proofs.Common.{ap, ◌∙◌, subst, arith, Some, append_assoc}
 use Rattle.std.specs.Int.{w32, to_le_bytes}

@@ -1,4 +1,4 @@
--- What is kept stays so, whatever is written in front of it.
+-- What is stored stays so, whatever is prepended.
 use Rattle.std.proofs.Common.{◌≡◌, ℕ, ◌+◌, ◌-◌, ◌≤◌, List, [], ◌∷◌, ◌++◌, length, take, sym, ap}
 use Rattle.std.proofs.Common.{◌∙◌, subst, arith, Option, Some, None, append_assoc, length-append}
 use Rattle.std.specs.List.{AllByRecursion}
@@ -17,7 +17,6 @@ use Rattle.planus_write.specs.Kept.{TagsReached, IsKept, KindIsKept, SeenIsKept}
 use Rattle.planus_write.specs.Standing.{KeptStays}
 use Rattle.planus_read.specs.Values as value
 
--- what is named by distances moves by as much as is put in front
 position_moves : (front B : List ℕ) (distance : ℕ) (tags : Option ℕ) → distance ≤ length B
     → TagsReached (length B) tags
     → position_with (front ++ B) distance tags ≡ moved (length front)

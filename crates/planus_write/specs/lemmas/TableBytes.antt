@@ -1,4 +1,4 @@
--- Where the bytes of a table stand, its vtable's numbers and its fields do.
+-- The numbers and fields in a table's bytes.
 use Rattle.std.proofs.Common.{◌≡◌, ℕ, zero, suc, ◌+◌, ◌-◌, ◌*◌, ◌<◌, ◌≤◌, ◌^◌, max, List, [], ◌∷◌}
 use Rattle.std.proofs.Common.{◌++◌, length, drop, refl, ap, ◌∙◌, subst, arith, Option, Some, None}
 use Rattle.std.proofs.Common.{length-append, inl, inr, true, false, Bool, ◌==◌, if◌then◌else◌}
@@ -24,14 +24,12 @@ use Rattle.planus_write.specs.Tables.{object_size, field_offset, slots_bytes, vt
 use Rattle.planus_write.specs.Tables.{Falling}
 use Rattle.planus_write.specs.lemmas.KeptLists.{number_there}
 
--- a number of two bytes stands where they do
 short_there : (B : List ℕ) (k n : ℕ) → n < 2 ^ 16 → k + 2 ≤ length B
     → BytesStand B k (to_le_bytes w16 n) → Num B k w16 ≡ Some n
 short_there B k n small inside there =
     let within : nat_le (k + 2) (length B) ≡ true = grind (arith, nat_tests, inside) in
     rw within (ap Some (ap (from_le_bytes w16) there ∙ from_le_bytes-to_le_bytes_2 n small))
 
--- bytes that stand at a position of B lie in it
 pub stand_inside : (B bytes : List ℕ) (k : ℕ) → k ≤ length B → BytesStand B k bytes
     → k + length bytes ≤ length B
 stand_inside B bytes k le there =
@@ -40,7 +38,6 @@ stand_inside B bytes k le there =
     let g = length-drop k B in
     omega (arith, e, f, g, le)
 
--- a field's bytes are as many as its size
 item_length : (field : Field) (place : ℕ) → length (field_item field place) ≡ field_size field
 item_length (plain item) place = refl
 item_length (reference distance) place = refl
@@ -65,7 +62,6 @@ pub vtable_length : (entries : List (ℕ × Field))
     → length (vtable_bytes entries) ≡ vtable_size entries
 vtable_length entries = let e = slots_length entries 0 (slot_count entries) in omega (arith, e)
 
--- the two bytes of each slot stand
 slot_there : (B : List ℕ) (entries : List (ℕ × Field)) (n slot s i : ℕ) → i < n
     → BytesStand B s (slots_bytes entries slot n)
     → BytesStand B (s + 2 * i) (to_le_bytes w16 (field_offset 4 entries (slot + i)))
@@ -86,7 +82,6 @@ slot_there B entries (suc n) slot s (suc i) below there =
     (subst (λ j. BytesStand B (s + 2 + 2 * i) (to_le_bytes w16 (field_offset 4 entries j))) of
     (slot_there B entries n (slot + 1) (s + 2) i (omega (arith, below)) both.1))
 
--- a reference stands where its bytes do
 reference_there : (B : List ℕ) (before distance k place : ℕ) → distance ≤ before
     → before + 4 ≤ place → place ≤ 2147483647 → k + place ≡ length B
     → BytesStand B k (to_le_bytes w32 (place - distance)) → ReferenceStands B k distance
@@ -96,7 +91,6 @@ reference_there B before distance k place good inside small goes bytes = (
   omega (arith, good, inside, goes),
 )
 
--- one field stands where its bytes do
 field_there : (B : List ℕ) (before : ℕ) (field : Field) (k place : ℕ) → IsField before field
     → before + field_size field ≤ place → place ≤ 2147483647 → k + place ≡ length B
     → BytesStand B k (field_item field place) → FieldStands B k field
@@ -108,14 +102,12 @@ field_there B before (tags distance) k place good inside small goes bytes =
 field_there B before (values distance) k place good inside small goes bytes =
     reference_there B before distance k place good inside small goes bytes
 
--- what holds of both, holds of the one that a test takes
 tested : (P : ℕ → Option Field → Type 0) (same : Bool) (q r : ℕ) (f g : Option Field)
     → P q f → P r g
     → P (if same then q else r) (if same then f else g)
 tested P true q r f g here further = here
 tested P false q r f g here further = further
 
--- no field is further off than the body's end
 offset_inside : (entries : List (ℕ × Field)) (from slot : ℕ)
     → field_offset from entries slot ≤ from + body_size entries
 offset_inside [] from slot = omega arith
@@ -126,12 +118,10 @@ offset_inside (entry ∷ entries) from slot =
     tested (λ q field. q ≤ from + (field_size entry.1 + body_size entries)) (entry.0 == slot) from
     (field_offset next entries slot) None None (omega arith) (omega (arith, rest))
 
--- What a slot's number says of the table at k: 0 of an absent field, else where it stands.
 abbrev FieldFound : List ℕ → ℕ → ℕ → Option Field → Type 0
 FieldFound B k q None = q ≡ 0
 FieldFound B k q (Some field) = (4 ≤ q) × FieldStands B (k + q) field
 
--- where the body's bytes stand, each field stands where its slot says
 module _ (B : List ℕ) (before k : ℕ) where
   pub fields_stand : (entries : List (ℕ × Field)) (from place slot : ℕ)
       → AllByRecursion (λ entry. IsField before entry.1) entries
@@ -159,7 +149,6 @@ module _ (B : List ℕ) (before k : ℕ) where
       tested (FieldFound B k) (entry.0 == slot) from (field_offset (from + size) entries slot)
       (Some entry.1) (field_at entries slot) (behind, here) further
 
--- the alignment of a field is a power of two, and divides its size
 field_power : (before : ℕ) (field : Field) → IsField before field
     → IsPowerOfTwo (field_alignment field) × (field_alignment field ∣ field_size field)
 field_power before (plain item) good = (good.2, good.1)
@@ -167,7 +156,6 @@ field_power before (reference distance) good = ((2, refl), dvd_refl 4)
 field_power before (tags distance) good = ((2, refl), dvd_refl 4)
 field_power before (values distance) good = ((2, refl), dvd_refl 4)
 
--- the first field's alignment, if there is one, is at most this
 abbrev Headed : ℕ → List (ℕ × Field) → Type 0
 Headed a [] = ⊤
 Headed a (entry ∷ entries) = field_alignment entry.1 ≤ a
@@ -177,12 +165,10 @@ falling_rest : (entry : ℕ × Field) (entries : List (ℕ × Field)) → Fallin
 falling_rest entry [] falling = (tt, tt)
 falling_rest entry (second ∷ entries) falling = falling
 
--- that a field stands aligned where its slot says
 abbrev FieldAligned : ℕ → ℕ → Option Field → Type 0
 FieldAligned k q None = ⊤
 FieldAligned k q (Some field) = field_alignment field ∣ (k + q)
 
--- where the first field stands aligned, each does
 module _ (before k : ℕ) where
   pub fields_aligned : (entries : List (ℕ × Field)) (from slot a : ℕ)
       → AllByRecursion (λ entry. IsField before entry.1) entries → Falling entries
@@ -201,7 +187,6 @@ module _ (before k : ℕ) where
       tested (FieldAligned k) (entry.0 == slot) from (field_offset (from + size) entries slot)
       (Some entry.1) (field_at entries slot) here further
 
--- the greater of two powers of two is one
 greater_power : (a b : ℕ) → IsPowerOfTwo a → IsPowerOfTwo b → IsPowerOfTwo (max a b)
 greater_power a b first second =
     elim (cases_lt a b) as (λ _. IsPowerOfTwo (max a b)) [
@@ -209,7 +194,6 @@ greater_power a b first second =
       | inr le ↦ (let e : a ≡ max a b = omega (arith, le) in subst (λ n. IsPowerOfTwo n) e first)
     ]
 
--- the body's alignment is a power of two, and at least 4 and the first field's
 pub body_power : (before : ℕ) (entries : List (ℕ × Field))
     → AllByRecursion (λ entry. IsField before entry.1) entries
     → IsPowerOfTwo (body_alignment entries) × (4 ≤ body_alignment entries)
@@ -224,7 +208,6 @@ body_power before (entry ∷ entries) good =
       omega arith,
     )
 
--- the numbers of a vtable that stands
 module _ (B : List ℕ) (t : ℕ) (entries : List (ℕ × Field))
     (there : BytesStand B t (vtable_bytes entries))
     (inside : t + vtable_size entries ≤ length B) where

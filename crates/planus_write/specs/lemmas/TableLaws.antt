@@ -1,4 +1,3 @@
--- What is known of a table that is written, for the proofs of callers.
 use Rattle.std.specs.Prelude.{List, [], Ok, Err}
 use Rattle.planus_write.specs.Items.{Item}
 use Rattle.planus_write.specs.lemmas.ListLaws.{GrowsFrom, entries_grow}
@@ -6,7 +5,6 @@ use Rattle.planus_write.specs.State.{State}
 use Rattle.planus_write.specs.Tables.{Declared, object_entries, slots_used}
 use Rattle.planus_write.specs.TableWriting.{WritesTable}
 
--- it grows the builder
 pub table_grows :
     (declared : List Declared) (body : Item) (old : State)
     → GrowsFrom old (WritesTable declared body)

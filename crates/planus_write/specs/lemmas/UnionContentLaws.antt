@@ -1,4 +1,4 @@
--- The laws of what unions and union vectors hold once they are prepared.
+-- The contents of unions and union vectors.
 use Rattle.std.specs.Prelude.{◌≡◌, ℕ, ◌≤◌, List, [], ◌∷◌, length, map, Some, Ok}
 use Rattle.std.specs.List.{AllByRecursion}
 use Rattle.std.proofs.Common.{refl, subst, sym}
@@ -21,7 +21,6 @@ use Rattle.planus_write.specs.Contents.{UnionsAre, as_unions, written_union, Pre
 use Rattle.planus_write.specs.Contents.{UnionVectorHolds}
 use Rattle.planus_write.specs.lemmas.ContentLaws.{field_stays, stays_there, unions_stay}
 
--- Unions are prepared, one after another: they are these, and what they refer to lies in the bytes.
 module _ {X T : Type 0} {may : X → State → Type 0} {outcome : X → Outcome (UnionOffset T)}
     (lawful : IsLawful may outcome union_reach) (content : X → ℕ × Content)
     (prepares : PreparesUnionItem may outcome content) where
@@ -57,7 +56,6 @@ module _ {X T : Type 0} {may : X → State → Type 0} {outcome : X → Outcome 
             (sym done.3.3.1) ((near.3.0, first, far.3.0), (reached, far.3.1))),
       )
 
-  -- a vector of them is written
   pub vector_comes
       : (xs : List X) (old : State) (vector : UnionVectorOffset T) (new : State) (past : Past)
       → AllMay may xs old → WritesUnionVector outcome xs old (Ok vector) new → IsPast old past
@@ -91,7 +89,6 @@ module _ {X T : Type 0} {may : X → State → Type 0} {outcome : X → Outcome 
         ),
       )
 
--- a union that is written already
 pub written_union_prepared : {T : Type 0} {may : UnionOffset T → State → Type 0}
     → PreparesUnionItem may Answers written_union
 written_union_prepared {T} {may} = record {
@@ -104,7 +101,6 @@ written_union_prepared {T} {may} = record {
       (refl, refl)));
 }
 
--- one that is prepared as something else
 pub union_item_prepared_as : {X Y T : Type 0} {may : X → State → Type 0}
     {outcome : X → Outcome (UnionOffset T)} {content : X → ℕ × Content} (of : Y → X)
     → PreparesUnionItem may outcome content

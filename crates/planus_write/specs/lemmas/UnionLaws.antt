@@ -1,4 +1,4 @@
--- The laws of unions and of lists of them.
+-- The laws of unions and of vectors of them.
 use Rattle.std.specs.Prelude.{◌≡◌, ℕ, ◌≤◌, List, [], ◌∷◌, length, map, Ok, Err, ◌⊎◌}
 use Rattle.std.proofs.Common.{subst, sym, arith, ◌∙◌, inl, inr}
 use Rattle.planus_write.specs.Parts.{union_entries, second_of, last_of}
@@ -14,13 +14,11 @@ use Rattle.planus_write.specs.declared.errors.BuildError.TheVariants.{OutOfMemor
 use Rattle.planus_write.specs.declared.union_offset.UnionOffset.{UnionOffset}
 use Rattle.planus_write.specs.declared.union_vector_offset.UnionVectorOffset.{UnionVectorOffset}
 
--- a union that is written already is lawful
 pub union_offset_is_lawful : {T : Type 0}
     → IsLawful {X = UnionOffset T} (λ union old. union_reach union ≤ length old.bytes) Answers
     union_reach
 union_offset_is_lawful {T} = written_is_lawful (λ (union : UnionOffset T). union_reach union)
 
--- so is a union vector
 pub union_vector_offset_is_lawful : {T : Type 0}
     → IsLawful {X = UnionVectorOffset T}
     (λ vector old. union_vector_reach vector ≤ length old.bytes)
@@ -46,7 +44,6 @@ module _ {X T : Type 0} (may : X → State → Type 0) (outcome : X → Outcome 
   vector_grows xs old h (Ok vector) new done = does_grow xs old h (Ok done.0) new done.1
   vector_grows xs old h (Err error) new done = does_grow xs old h (Err error) new done
 
-  -- what its references and its tags got lies in the bytes
   entries_reach : (unions : List (UnionOffset T)) (old : State) (got : List ℕ) (new : State)
       → WritesEntries (union_entries (map item_of unions)) [] old (Ok got) new
       → (second_of got ≤ length new.bytes) × (last_of got ≤ length new.bytes)
@@ -66,7 +63,6 @@ module _ {X T : Type 0} (may : X → State → Type 0) (outcome : X → Outcome 
       (sym fourth.3.1)
       (still, fourth.2.reached))
 
-  -- a union vector is lawful
   pub union_vector_is_lawful : {Y : Type 0} (items_of : Y → List X)
       → IsLawful {X = Y} {A = UnionVectorOffset T} (λ y old. AllMay may (items_of y) old)
       (λ y old answer new. WritesUnionVector outcome (items_of y) old answer new) union_vector_reach
@@ -83,7 +79,6 @@ module _ {X T : Type 0} (may : X → State → Type 0) (outcome : X → Outcome 
         h;
   }
 
--- A union vector that are written already is written by its entries alone.
 pub ready_union_vector_is_put : {T : Type 0} (unions : List (UnionOffset T)) (old : State)
     (vector : UnionVectorOffset T) (new : State)
     → WritesUnionVector Answers unions old (Ok vector) new
@@ -105,7 +100,6 @@ ready_union_vector_is_put {T} unions old vector new h =
       h.3,
     )
 
--- It is refused since memory is refused, or where its entries are.
 pub ready_union_vector_is_refused : (T : Type 0) (unions : List (UnionOffset T)) (old : State)
     (error : BuildError) (new : State)
     → WritesUnionVector {T = T} Answers unions old (Err error) new

@@ -1,4 +1,4 @@
-//! Vectors of items in an array, written as those of a slice.
+//! Vectors of items in an array.
 ghost use Rattle.planus_write.specs.Preparing.{AllMay, WritesList};
 ghost use Rattle.planus_write.specs.lemmas.ListLaws.{list_is_lawful};
 ghost use Rattle.planus_write.specs.lemmas.UnionLaws.{union_vector_is_lawful};

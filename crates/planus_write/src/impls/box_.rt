@@ -1,4 +1,4 @@
-//! Boxed values, written as what is in the box.
+//! Boxed values.
 ghost use Rattle.planus_write.specs.lemmas.Laws.{lawful_of};
 ghost use Rattle.planus_write.specs.lemmas.UnionContentLaws.{union_item_prepared_as};
 

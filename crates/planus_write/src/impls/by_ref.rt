@@ -1,4 +1,4 @@
-//! References, written as what they refer to.
+//! References.
 ghost use Rattle.std.specs.Prelude.{◌≡◌, map};
 ghost use Rattle.planus_write.specs.Preparing.{PreparesItems};
 ghost use Rattle.planus_write.specs.lemmas.Laws.{lawful_of};

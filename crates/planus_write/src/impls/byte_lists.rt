@@ -1,4 +1,4 @@
-//! Lists of bytes.
+//! Byte vectors.
 ghost use Rattle.std.specs.Prelude.{map, ⊤};
 ghost use Rattle.std.specs.Int.{w8, cast_unsigned};
 ghost use Rattle.planus_write.specs.Parts.{byte_list_entry};

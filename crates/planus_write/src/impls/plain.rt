@@ -1,4 +1,4 @@
-//! Values of a fixed layout, in place and as items of vectors: one implementation for all.
+//! Values of a fixed layout: one implementation for all.
 ghost use Rattle.std.specs.Prelude.{map, refl, ⊤};
 ghost use Rattle.planus_read.specs.Values.{plain, plain_list};
 ghost use Rattle.planus_write.specs.Contents.{value};

@@ -1,4 +1,4 @@
-//! Texts that lie in a slice.
+//! Strings in a slice.
 ghost use Rattle.std.specs.Prelude.{◌≡◌, ◌*◌, length, map, ⊤, refl};
 ghost use Rattle.planus_write.specs.Parts.{text_entry, items_bytes};
 ghost use Rattle.planus_write.specs.Items.{reference_item};

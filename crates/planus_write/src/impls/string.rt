@@ -1,4 +1,4 @@
-//! Owned texts.
+//! Owned strings.
 ghost use Rattle.std.specs.Prelude.{map, ⊤, refl};
 ghost use Rattle.std.specs.String.{string_bytes};
 ghost use Rattle.planus_write.specs.Parts.{text_entry};

@@ -1,4 +1,4 @@
-//! Lists of owned items.
+//! Vectors of owned items.
 ghost use Rattle.planus_write.specs.Preparing.{AllMay, WritesList};
 ghost use Rattle.planus_write.specs.lemmas.ListLaws.{list_is_lawful};
 ghost use Rattle.planus_write.specs.lemmas.UnionLaws.{union_vector_is_lawful};

@@ -11,7 +11,6 @@ use Rattle.planus_write.proofs.WrittenLists.{items_power, part_is, may_stand, re
 use Rattle.planus_write.specs.declared.offset.List as list
 use Rattle.planus_write.proofs.lists.write_prepared.Goals as goal
 
--- what isn't below 2^64 is above every place
 beyond : (n : ℕ) → (n < 18446744073709551616 → ⊥) → greatest_place < n
 beyond n far = omega (arith, far)
 

@@ -7,7 +7,6 @@ use Rattle.planus_write.specs.Parts.{items_bytes}
 use Rattle.planus_write.specs.Items.{plain_item}
 use Rattle.planus_write.proofs.byte_lists.SignedListByteItems.copy_to.Goals as goal
 
--- numbers of one byte, one after another
 signed_bytes : (place : ℕ) (numbers : List ℤ)
     → items_bytes 1 place (map (λ (number : ℤ). plain_item (cast_unsigned w8 number ∷ [])) numbers) ≡ map (λ (number : ℤ). cast_unsigned w8 number) numbers
 signed_bytes place [] = refl

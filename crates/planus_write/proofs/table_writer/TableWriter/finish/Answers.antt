@@ -8,7 +8,6 @@ use Rattle.planus_write.proofs.WholeTables.{table_put, nothing_done}
 use Rattle.planus_write.proofs.WrittenTables.{vtable_refused, body_refused, word_refused, table_written}
 use Rattle.planus_write.proofs.table_writer.TableWriter.finish.Goals as goal
 
--- what the sizes make of the vtable
 made : (writer : Writer) (declared : List Declared) → WasTold writer declared → (once twice : List ℕ) → once ≡ with_pair 0 (to_le_bytes w16 writer.vtable_size) writer.vtable
     → twice ≡ with_pair 2 (to_le_bytes w16 writer.object_size) once → take writer.vtable_size twice ≡ vtable_of (slots_used declared) declared
 made writer declared told once twice first second =
