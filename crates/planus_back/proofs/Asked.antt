@@ -1,4 +1,4 @@
--- What a request computes with masks, as a rest and whole turns.
+-- Requests as remainders and whole turns.
 use Rattle.std.proofs.Common.{◌≡◌, ℕ, ◌+◌, ◌-◌, ◌*◌, ◌/◌, ◌%◌, ◌^◌, ◌<◌, ◌≤◌, max, arith, ap, sym, subst, refl, ◌∙◌, List, ◌∷◌, bit_and}
 use Rattle.std.specs.Int.{◌∣◌}
 use Rattle.std.proofs.lemmas.Nat.{pow_pos, div-add-mod', and_mask}
@@ -12,18 +12,15 @@ use Rattle.planus_back.proofs.Lengths.{Combined, combined, least_of_request, tho
 use Rattle.planus_back.proofs.Lists.{power_divides, least_padding_of, described_after}
 use Rattle.planus_back.proofs.PaddingLaws.{computed}
 
--- how far ahead of an unpadded part the next described length is
 abbrev pub ahead : Delay → ℕ → ℕ
 ahead delay size = bit_and ((delay.delayed + (18446744073709551616 - size)) % 18446744073709551616) delay.mask
 
--- the padding that the code computes, and the value after it
 abbrev pub padding_for : Delay → ℕ → ℕ → ℕ
 padding_for delay size asked = bit_and (ahead delay size) asked
 
 abbrev pub next_for : Delay → ℕ → ℕ → Delay
 next_for delay size asked = record { delayed = ahead delay size - padding_for delay size asked; mask = max delay.mask asked }
 
--- a mask takes the rest by one more than itself
 pub and_below : (n mask : ℕ) → IsPowerOfTwo (mask + 1) → bit_and n mask ≡ n % (mask + 1)
 and_below n mask (k, u) =
     let e : mask ≡ 2 ^ k - 1 = omega (arith, u, pow_pos k) in
@@ -50,7 +47,6 @@ combined_for delay len size asked sound fits power =
     (combined len delay.delayed size delay.mask asked (ahead delay size) (ahead delay size % (asked + 1))
     (computed delay.delayed m size (asked + 1) (ahead delay size) (whole / m) (w / m) small (omega arith) below f) sound.power power)
 
--- the facts of a request, whether it is granted or not
 pub record Asked (delay : Delay) (len size asked : ℕ) : Type 0 where
   pub least : IsLeast (LeavesSome delay len size (asked + 1)) (padding_for delay size asked)
   pub those : DescribesThose delay len (next_for delay size asked) (len + padding_for delay size asked + size) (asked + 1)

@@ -1,4 +1,4 @@
--- How writing to a block's places changes the bytes that it holds.
+-- Writes to a block's places.
 use Rattle.std.proofs.Common.{◌≡◌, ℕ, ◌+◌, ◌-◌, ◌≤◌, min, Bool, true, false, List, ◌++◌, length, take, drop, replicate, slice_index_or, refl, sym, ap, ◌∙◌, inl, inr, arith}
 use Rattle.std.proofs.lemmas.Bool.{cases_lt}
 use Rattle.std.proofs.lemmas.List.{append_assoc, length-append, length-take, length-drop, length-replicate, replicate-append-replicate, drop-drop, drop_at, take_at}
@@ -9,7 +9,6 @@ use Rattle.planus_back.specs.inner.Cells.{slots_with_run}
 use Rattle.planus_back.specs.inner.Blocks.{HoldsFrom, Puts, Readies, bytes_from, capacity_of}
 use Rattle.planus_back.specs.declared.block.Block.{Block}
 
--- some zeros more behind others
 pub zeros_more : (xs ys src : List ℕ) (at i n : ℕ) → at + i ≤ length xs → ys ≡ take at xs ++ (replicate i 0 ++ drop (at + i) xs) → src ≡ replicate n 0
     → (take (at + i) ys ++ src) ++ drop (at + i + length src) ys ≡ take at xs ++ (replicate (i + n) 0 ++ drop (at + (i + n)) xs)
 zeros_more xs ys src at i n within is zeros =
@@ -24,7 +23,6 @@ zeros_more xs ys src at i n within is zeros =
     ∙ append_assoc (take at xs) (replicate i 0) (replicate n 0 ++ drop (at + (i + n)) xs)
     ∙ ap (λ l. take at xs ++ l) (sym (append_assoc (replicate i 0) (replicate n 0) (drop (at + (i + n)) xs)) ∙ (λ k. replicate-append-replicate i n 0 k ++ drop (at + (i + n)) xs))
 
--- the next places hold bytes too
 pub more_filled : (fs gs : List Bool) (from to next : ℕ) → Filled fs from to → Filled gs to next → SameOutside false fs gs to next → Filled gs from next
 more_filled fs gs from to next before more same k low high = elim (cases_lt k to) as (λ _. slice_index_or gs k false ≡ true) [
   | inl near ↦ same k (inl near) ∙ before k low near
@@ -37,7 +35,6 @@ others_same fs gs hs from to next le on before more k out = elim out as (λ _. s
   | inr high ↦ more k (inr high) ∙ before k (inr (omega (arith, high, on)))
 ]
 
--- a block that holds bytes from a place on does so from each place behind it
 pub holds_behind : (b : Block) (start at : ℕ) → HoldsFrom b start → start ≤ at → at ≤ capacity_of b → HoldsFrom b at
 holds_behind b start at h le within = record {
   block = h.block;
@@ -45,7 +42,6 @@ holds_behind b start at h le within = record {
   filled = λ k low. h.filled k (omega (arith, low, le));
 }
 
--- and from the lesser of the start and `initialized` on
 pub holds_from_lesser : (b : Block) (start to : ℕ) → HoldsFrom b start → to ≡ min b.initialized start → HoldsFrom b to
 holds_from_lesser b start to h least = record {
   block = h.block;
@@ -56,7 +52,6 @@ holds_from_lesser b start to h least = record {
   ];
 }
 
--- zeros that begin further in front are those zeros too
 pub fewer_zeros : (b b' : Block) (from at m n : ℕ) → Puts b from (replicate m 0) b' → from + m ≡ at + n → n ≤ m → at ≤ capacity_of b → Puts b at (replicate n 0) b'
 fewer_zeros b b' from at m n h same le within =
     let gap = m - n in let parts : gap + n ≡ m = omega (arith, le) in let far : from + gap ≡ at = omega (arith, same, le) in
@@ -70,7 +65,6 @@ fewer_zeros b b' from at m n h same le within =
           ∙ drop_at (replicate gap 0) (replicate n 0 ++ rest) gap (length-replicate {A = ℕ} gap 0);
     }
 
--- zeros up to a place leave what is behind it
 pub zeros_leave : (b b' : Block) (from n k : ℕ) → Puts b from (replicate n 0) b' → from + n ≤ k → bytes_from b' k ≡ bytes_from b k
 zeros_leave b b' from n k h far =
     let zeros : List ℕ = replicate n 0 in let seam : from + length zeros ≡ from + n = omega (arith, length-replicate {A = ℕ} n 0) in
@@ -80,7 +74,6 @@ zeros_leave b b' from n k h far =
     ap (λ j. bytes_from b' j) (sym on) ∙ sym (drop-drop m (from + length zeros) b'.places.items) ∙ ap (drop m) there
     ∙ drop-drop m (from + length zeros) b.places.items ∙ ap (λ j. bytes_from b j) on
 
--- zeros from a place in front of `at` on make the places from there on ready
 pub made_ready : (b b' : Block) (from n at start : ℕ) → Puts b from (replicate n 0) b' → from ≤ at → at ≤ start → from + n ≤ start → start ≤ capacity_of b
     → Readies b at start (record b' { initialized = from })
 made_ready b b' from n at start h le on end within = record {
@@ -98,7 +91,6 @@ made_ready b b' from n at start h le on end within = record {
   bytes = λ k far. zeros_leave b b' from n k h (omega (arith, end, far));
 }
 
--- the values of the places after a run of them was lent
 lent_items : (a : Slots ℕ) (at n : ℕ) (ws : List ℕ) → at + n ≤ slots_len a → length ws ≡ n
     → slots_items (slots_with_run a at n ws) ≡ take at (slots_items a) ++ (ws ++ drop (at + n) (slots_items a))
 lent_items a at n ws inside count =
@@ -106,7 +98,6 @@ lent_items a at n ws inside count =
     let long : length whole ≡ slots_len a = omega (arith, length-append (take at xs) (ws ++ drop (at + n) xs), length-append ws (drop (at + n) xs), length-take at xs, length-drop (at + n) xs, a.ok.0) in
     take_at whole (drop (length whole) xs) (slots_len a) long
 
--- a run that holds bytes is lent, and comes back with others
 pub put_lent : (b : Block) (at n : ℕ) (ws : List ℕ) → HoldsFrom b at → at + n ≤ capacity_of b → length ws ≡ n
     → Puts b at ws (record b { places = slots_with_run b.places at n ws })
 put_lent b at n ws h inside count =
@@ -127,7 +118,6 @@ put_lent b at n ws h inside count =
       bytes = ap (drop at) (lent_items b.places at n ws inside count) ∙ drop_at (take at xs) (ws ++ drop (at + n) xs) at front ∙ ap (λ k. ws ++ drop (at + k) xs) (sym count);
     }
 
--- a part is put where the places were made ready first
 pub put_ready : (b b' b'' : Block) (at start : ℕ) (ws : List ℕ) → Readies b at start b' → Puts b' at ws b'' → start ≤ at + length ws → Puts b at ws b''
 put_ready b b' b'' at start ws ready h behind =
     record {
@@ -136,7 +126,6 @@ put_ready b b' b'' at start ws ready h behind =
       bytes = h.bytes ∙ ap (λ l. ws ++ l) (ready.bytes (at + length ws) behind);
     }
 
--- a part is put over another
 pub put_over : (b b' b'' : Block) (at : ℕ) (part ws : List ℕ) → Puts b at part b' → Puts b' at ws b'' → length ws ≡ length part → Puts b at ws b''
 put_over b b' b'' at part ws first then same =
     let seam : at + length ws ≡ at + length part = omega (arith, same) in let old : List ℕ = bytes_from b (at + length part) in

@@ -1,4 +1,4 @@
--- Maps from the numbers of buckets to distances, as lists.
+-- Buckets as lists of distances.
 use Rattle.std.proofs.Common.{◌≡◌, ℕ, ◌+◌, ◌-◌, ◌++◌, List, [], ◌∷◌, Option, Some, None, subst, nat_eq, Bool, true, false, cond, refl, ap, sym, ◌∙◌, Result, Ok, Err, Vec, length, get_or, inl, inr, arith}
 use Rattle.std.proofs.lemmas.Grind.{common_steps}
 use Rattle.std.proofs.lemmas.Bool.{cases_lt}
@@ -11,7 +11,6 @@ use Rattle.std.proofs.lemmas.Map.Made.{lookup-map_values}
 use Rattle.std.proofs.lemmas.Map.Steps.{set_value_same}
 use Rattle.planus_back.specs.Buckets.{lists_of, listed_at, distances_at, AddsAt, FoundAmong}
 
--- a list of distances, without how it lies in memory
 abbrev pub items_of : Vec ℕ Global → List ℕ
 items_of distances = distances.items
 
@@ -26,7 +25,6 @@ listed-set test (e ∷ es) w =
       | false ↦ ap (λ fs. (e.0, items_of e.1) ∷ fs) (listed-set test es w)
     ]
 
--- the same distances, written back, change nothing
 pub listed_same : (test : ℕ → Bool) (es fs : List (ℕ × Vec ℕ Global)) (v w : Vec ℕ Global) → fs ≡ set_value test es w → lookup test es ≡ Some v → items_of w ≡ items_of v
     → lists_of fs ≡ lists_of es
 listed_same test es fs v w e found same =
@@ -39,7 +37,6 @@ chosen : (b : Bool) (w : Vec ℕ Global) (o : Option (Vec ℕ Global)) → unwra
 chosen true w o = refl
 chosen false w o = refl
 
--- a list that is put at h, with d behind what was there
 pub adds_aside : (h d : ℕ) (es fs : List (ℕ × Vec ℕ Global)) (o : Option (Vec ℕ Global)) (w : Vec ℕ Global)
     → ((q : ℕ) → lookup (nat_eq q) fs ≡ cond (nat_eq h q) (Some w) (lookup (nat_eq q) es)) → lookup (nat_eq h) es ≡ o
     → items_of w ≡ unwrap_or (option_map items_of o) [] ++ d ∷ [] → AddsAt (listed_at (lists_of es)) h d (listed_at (lists_of fs))
@@ -51,14 +48,12 @@ module _ (h d : ℕ) (ls ms : List (ℕ × ℕ)) (puts : (q : ℕ) → lookup (n
   none_behind : (xs : List ℕ) → xs ++ d ∷ [] ≡ (xs ++ []) ++ d ∷ []
   none_behind xs = grind (arith, common_steps)
 
-  -- a distance where there was none
   pub adds_first : (es : List (ℕ × List ℕ)) → lookup (nat_eq h) ls ≡ None → AddsAt (distances_at ls es) h d (distances_at ms es)
   adds_first es none q = elim (eqb_tells h q) [
     | inl w ↦ rw (puts q, w.0, none, ← w.1) (none_behind (listed_at es h))
     | inr w ↦ rw (puts q, w.0) refl
   ]
 
-  -- a distance in the place of one that is put aside
   pub adds_behind : (es fs : List (ℕ × List ℕ)) (b : ℕ) → lookup (nat_eq h) ls ≡ Some b → AddsAt (listed_at es) h b (listed_at fs) → AddsAt (distances_at ls es) h d (distances_at ms fs)
   adds_behind es fs b some adds q = elim (eqb_tells h q) [
     | inl w ↦ rw (adds q, puts q, w.0, some) refl
@@ -77,17 +72,14 @@ pub on_refusal : {T E P : Type 0} (r : Result T E) → P → OnErr r P
 on_refusal (Ok x) p = tt
 on_refusal (Err e) p = p
 
--- what holds of an option that is there
 pub if_some : {X : Type 0} (o : Option X) (x : X) (P : Type 0) (Q : X → Type 0) → o ≡ Some x → MatchOption o P Q → Q x
 if_some None x P Q is h = (cc)
 if_some (Some y) x P Q is h = let same : y ≡ x = cc in subst Q same h
 
 module _ (key_in : List ℕ → Option (List ℕ)) (bytes key xs ys : List ℕ) where
-  -- what is found among the last distances is found among all
   pub found_last : (d : ℕ) → FoundAmong key_in ys bytes key (Some d) → FoundAmong key_in (xs ++ ys) bytes key (Some d)
   found_last d found = ((length xs + found.0.0, grind (arith, common_steps, found.0.1), grind (arith, common_steps, found.0.1, found.0.2)), found.1)
 
-  -- where nothing is found among the last, what is found among those before is what is found
   pub found_before : (r : Option ℕ) → FoundAmong key_in ys bytes key None → FoundAmong key_in xs bytes key r → FoundAmong key_in (xs ++ ys) bytes key r
   found_before None none found = λ i below stands.
       elim (cases_lt i (length xs)) [

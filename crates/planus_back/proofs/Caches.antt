@@ -1,4 +1,4 @@
--- What the definitions of caches say of each other.
+-- How the definitions of caches relate.
 use Rattle.std.proofs.Common.{◌≡◌, ℕ, ◌+◌, ◌-◌, ◌<◌, List, [], ◌∷◌, ◌++◌, ◌⊎◌, length, get_or, drop, Option, Some, None, inl, inr, arith, refl, sym, ap, subst, ◌∙◌, length-append, nat_eq, Result, Ok, Err}
 use Rattle.std.proofs.lemmas.Grind.{common_steps}
 use Rattle.std.proofs.lemmas.Bool.Decides.{leb_tells, eqb_tells}
@@ -23,7 +23,6 @@ IsEmpty-nil s no_last no_earlier d h =
     let nil : bucket s h.0 ≡ [] = ap (λ last. distances_at last s.earlier h.0) no_last ∙ ap (λ earlier. distances_at [] earlier h.0) no_earlier in
     omega (arith, ap length nil, h.2)
 
--- of any lists of distances, by the numbers of their buckets: a distance is in one of them
 abbrev HasIn : (ℕ → List ℕ) → ℕ → Type 0
 HasIn lists d = (number i : ℕ) × (i < length (lists number)) × (get_or (lists number) i 0 ≡ d)
 
@@ -103,7 +102,6 @@ pub Fits-empty : (key_in : List ℕ → Option (List ℕ)) (s : Held) (bytes : L
 unfolding Fits Has
 Fits-empty key_in s bytes empty h k below = absurd (empty (get_or (bucket s h) k 0) (h, k, below, refl))
 
--- what the scan of the key's bucket answers is the answer for the set
 pub found_in_bucket : (key_in : List ℕ → Option (List ℕ)) (s : Held) (bytes key : List ℕ) (r : Option ℕ) → Fits key_in s bytes
     → FoundAmong key_in (bucket s (number_of s.choice key)) bytes key r → IsFound key_in s bytes key r
 unfolding Fits Has
@@ -115,7 +113,6 @@ found_in_bucket key_in s bytes key None fits none = λ d x stands.
     none x.1 (rw (← h) x.2) (rw (← h) at)
 found_in_bucket key_in s bytes key (Some d) fits found = ((number_of s.choice key, found.0.0, found.0.1, found.0.2), found.1)
 
--- the same at the end of a call, where the cache was opened as s
 pub insert_adds : (s t old : Held) (h d : ℕ) (r : Result (Unit {0}) AllocError) → s ≡ old → OnOk r (AddsAt (bucket s) h d (bucket t)) → OnOk r (Adds old d t)
 insert_adds s t old h d (Ok x) e adds = rw (← e) (Adds-from s t h d adds)
 insert_adds s t old h d (Err x) e adds = tt
@@ -130,21 +127,18 @@ module _ (key_in : List ℕ → Option (List ℕ)) (old : Held) (b : Bucket) (by
   abbrev the_last : List ℕ
   the_last = option_to_list (lookup (nat_eq b.number) old.last)
 
-  -- what is found at the last distance of the key's bucket
   pub found_in_last : (o : Option ℕ) (d : ℕ) → o ≡ Some d → FoundAmong key_in the_last bytes key o → IsFound key_in old bytes key (Some d)
   unfolding IsBucketOf
   found_in_last o d is found =
       let there : FoundAmong key_in the_last bytes key (Some d) = subst (λ x. FoundAmong key_in the_last bytes key x) is found in
       found_in_bucket key_in old bytes key (Some d) fits (rw (← its) (found_last key_in bytes key (listed_at old.earlier b.number) the_last d there))
 
-  -- what is found before it, where nothing is there
   pub found_in_earlier : (o r : Option ℕ) → o ≡ None → FoundAmong key_in the_last bytes key o → FoundAmong key_in (listed_at old.earlier b.number) bytes key r → IsFound key_in old bytes key r
   unfolding IsBucketOf
   found_in_earlier o r is none found =
       let nothing : FoundAmong key_in the_last bytes key None = subst (λ x. FoundAmong key_in the_last bytes key x) is none in
       found_in_bucket key_in old bytes key r fits (rw (← its) (found_before key_in bytes key (listed_at old.earlier b.number) the_last r nothing found))
 
--- at each distance of the cache a key stands
 pub Has-stands : (key_in : List ℕ → Option (List ℕ)) (s : Held) (bytes : List ℕ) (d : ℕ) → Fits key_in s bytes → Has s d → (key : List ℕ) × (key_at key_in bytes d ≡ Some key)
 unfolding Fits Has
 Has-stands key_in s bytes d fits x = let f = fits x.0 x.1 x.2 in (f.0, rw (← x.3) f.1)

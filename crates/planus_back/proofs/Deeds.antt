@@ -1,4 +1,4 @@
--- What a `Deed` owns is taken apart and made.
+-- What a `Deed` owns.
 use mathlib.Core.Path.{◌≡◌, refl, subst}
 use Prim.Native.Nat.{ℕ}
 use mathlib.Core.List.{List, [], ◌∷◌, ◌++◌}
@@ -17,7 +17,6 @@ use Rattle.std_alloc.proofs.VecSteps.El.{El, R, P, Hd}
 use Rattle.std_alloc.proofs.vec.Blocks.{el}
 use Rattle.planus_back.specs.contracts.cells.Deed as deed
 
--- a value of the one field, which takes no bytes
 abbrev pub deed_val : Val
 deed_val = vstruct (vcons (vstruct vnil) vnil)
 

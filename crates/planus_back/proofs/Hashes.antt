@@ -5,7 +5,6 @@ use Rattle.std.proofs.lemmas.List.{take-append-drop, drop_more, drop-map, length
 use Rattle.std.specs.Int.{w64, from_le_bytes}
 use Rattle.planus_back.specs.Hashes.{number_with, number_on, fold_of, word, first_number, Splits, hash_on}
 
--- a pair of words more
 pub pair_more : (one two last first second : ℕ) (bytes behind : List ℕ) → Splits bytes first second behind
     → hash_on (length behind / 16) two (fold_of (bit_xor one first) (bit_xor 4983270260364809079 second)) last behind ≡ hash_on (length bytes / 16) one two last bytes
 pair_more one two last first second bytes behind split =
@@ -17,7 +16,6 @@ take_map byte zero xs = refl
 take_map byte (suc n) [] = refl
 take_map byte (suc n) (x ∷ xs) = ap (λ ys. byte x ∷ ys) (take_map byte n xs)
 
--- a pair of words and what is behind it, of items that are bytes in another form
 pub splits_map : {A : Type 0} (byte : A → ℕ) (items one rest two behind : List A) (first second : ℕ)
     → (one ≡ take 8 items) × (rest ≡ drop 8 items) × (length rest + 8 ≡ length items) → (two ≡ take 8 rest) × (behind ≡ drop 8 rest) × (length behind + 8 ≡ length rest)
     → first ≡ from_le_bytes w64 (map byte one) → second ≡ from_le_bytes w64 (map byte two) → Splits (map byte items) first second (map byte behind)
@@ -29,22 +27,18 @@ splits_map byte items one rest two behind first second whole half is_one is_two 
       enough = (let a = length-map behind byte in let b = length-map items byte in omega (arith, a, b, whole.2, half.2));
     }
 
--- the rest, which is less than a pair of words
 pub rest_more : (one two last : ℕ) (rest : List ℕ) → length rest < 16 → hash_on (length rest / 16) one two last rest ≡ fold_of (bit_xor one (first_number rest)) (bit_xor two last)
 rest_more one two last rest few = let pairs : length rest / 16 ≡ 0 = omega (arith, few) in rw pairs refl
 
--- the next byte of a number
 pub byte_taken : (number i : ℕ) (bytes : List ℕ) → i < length bytes → number_on number (drop i bytes) ≡ number_on (number_with number (get_or bytes i 0)) (drop (i + 1) bytes)
 byte_taken number i bytes within = ap (number_on number) (drop_more bytes i 0 within)
 
--- all of them taken
 pub none_left : {A : Type 0} (i : ℕ) (xs : List A) → length xs ≤ i → drop i xs ≡ []
 none_left zero [] h = refl
 none_left zero (x ∷ xs) h = absurd (omega (arith, h))
 none_left (suc i) [] h = refl
 none_left (suc i) (x ∷ xs) h = none_left i xs (omega (arith, h))
 
--- a list and its first eight
 pub cut_at : {A : Type 0} (all word behind : List A) → word ≡ take 8 all → behind ≡ drop 8 all → all ≡ word ++ behind
 cut_at all word behind front back = sym (rw (front, back) (take-append-drop 8 all))
 
@@ -55,7 +49,6 @@ pub number_taken : (byte : ℤ → ℕ) (number i : ℕ) (d : ℤ) (numbers : Li
     → number_on number (map byte (drop i numbers)) ≡ number_on (number_with number (byte (get_or numbers i d))) (map byte (drop (i + 1) numbers))
 number_taken byte number i d numbers within = ap (λ xs. number_on number (map byte xs)) (drop_more numbers i d within)
 
--- the number of eight
 pub word_of_eight : {A : Type 0} (byte : A → ℕ) (numbers : List A) (d : A) → length numbers ≡ 8
     → map byte numbers ≡ byte (get_or numbers 0 d) ∷ byte (get_or numbers 1 d) ∷ byte (get_or numbers 2 d) ∷ byte (get_or numbers 3 d) ∷ byte (get_or numbers 4 d) ∷ byte (get_or numbers 5 d) ∷ byte (get_or numbers 6 d) ∷ byte (get_or numbers 7 d) ∷ []
 word_of_eight byte (a ∷ b ∷ c ∷ d ∷ e ∷ f ∷ g ∷ h ∷ []) z eight = refl

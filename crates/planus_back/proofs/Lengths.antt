@@ -1,4 +1,4 @@
--- Arithmetic of described lengths: one part in front of that many bytes.
+-- Arithmetic of described lengths.
 use Rattle.std.proofs.Common.{◌≡◌, ℕ, ◌+◌, ◌-◌, ◌*◌, ◌/◌, ◌^◌, ◌<◌, ◌≤◌, max, inl, inr, arith, ap, sym, subst, refl, ◌∙◌}
 use Rattle.std.proofs.lemmas.Bool.{cases_lt}
 use Rattle.std.proofs.Math.Nat.{mul_assoc}
@@ -8,7 +8,6 @@ use Rattle.planus_back.specs.Requests.{Delay, LeavesSome, DescribesThose}
 use Rattle.std.proofs.lemmas.Nat.{pow_pos}
 use Rattle.planus_back.proofs.Multiples.{rest_is_least, multiples_in_order, times_le, smaller_power_divides, multiple_of_divides, divides_multiple}
 
--- What the code computes: e is (delayed - size) modulo m, and p is the rest of e by a. One of m and a divides the other.
 pub record Computed (delayed m size a e p : ℕ) : Type 0 where
   pub below : e < m
   pub turns : ℕ
@@ -17,14 +16,12 @@ pub record Computed (delayed m size a e p : ℕ) : Type 0 where
   pub divided : e ≡ quotient * a + p
   pub small : p < a
 
--- Modulo m, less than m stays after whole turns are taken away.
 pub turns_of : (d m s e q c : ℕ) → d < m → e + s + q * m ≡ d + c * m → e + s ≡ d + (c - q) * m
 turns_of d m s e q c small h =
     let le : q ≤ c = multiples_in_order q c m d small (omega (arith, h)) in
     let f : (c - q) * m + q * m ≡ c * m = let g : (c - q) + q ≡ c = omega (arith, le) in (let t : (c - q) * m + q * m ≡ ((c - q) + q) * m = omega arith in t ∙ ap (λ x. x * m) g) in
     omega (arith, h, f)
 
--- where a divides m, no less padding leaves a described length
 pub least_low : (d m s a e p c : ℕ) → Computed d m s a e p → m ≡ c * a → (k j r : ℕ) → d + k * m ≡ r + s + j * a → p ≤ r
 least_low d m s a e p c h f k j r g =
     let n1 : k * m ≡ k * c * a = ap (λ x. k * x) f ∙ sym (mul_assoc k c a) in
@@ -34,7 +31,6 @@ least_low d m s a e p c h f k j r g =
     let t : p + (h.quotient + k * c) * a ≡ r + (j + h.turns * c) * a = omega (arith, n1, n2, e1, e2, g) in
     rest_is_least a p r (h.quotient + k * c) (j + h.turns * c) h.small t
 
--- where m divides a, likewise
 pub least_high : (d m s a e p c : ℕ) → Computed d m s a e p → a ≡ c * m → (k j r : ℕ) → d + k * m ≡ r + s + j * a → p ≤ r
 least_high d m s a e p c h f k j r g =
     let n1 : j * a ≡ j * c * m = ap (λ x. j * x) f ∙ sym (mul_assoc j c m) in
@@ -44,14 +40,12 @@ least_high d m s a e p c h f k j r g =
     let le : e ≤ r = rest_is_least m e r k (j * c + h.turns) h.below t in
     omega (arith, le, e2)
 
--- How the lengths that are described go together with those that align the part, from its place on.
 pub record Combined (len d m s a e p n : ℕ) : Type 0 where
   pub least : (k j r : ℕ) → d + k * m ≡ r + s + j * a → p ≤ r
   pub after : (k j l : ℕ) → l ≡ len + d + k * m → l ≡ (len + p + s) + j * a → (i : ℕ) × (l ≡ (len + p + s) + (e - p) + i * n)
   pub before : (i l : ℕ) → l ≡ (len + p + s) + (e - p) + i * n → (k : ℕ) × (l ≡ len + d + k * m)
   pub aligned : (i l : ℕ) → l ≡ (len + p + s) + (e - p) + i * n → (j : ℕ) × (l ≡ (len + p + s) + j * a)
 
--- where a divides m
 after_low : (len d m s a e p : ℕ) → Computed d m s a e p → (k j l : ℕ) → l ≡ len + d + k * m → l ≡ (len + p + s) + j * a
     → (i : ℕ) × (l ≡ (len + p + s) + (e - p) + i * m)
 after_low len d m s a e p h k j l f g =
@@ -84,7 +78,6 @@ combined_low len d m s a e p c h f = record {
   aligned = aligned_low len d m s a e p c h f;
 }
 
--- where m divides a, the padding is the whole rest
 whole_high : (d m s a e p c : ℕ) → Computed d m s a e p → a ≡ c * m → e ≡ p
 whole_high d m s a e p c h f =
     let e2 : e ≡ h.quotient * a + p = h.divided in
@@ -105,7 +98,6 @@ combined_high len d m s a e p c h f =
       aligned = λ i l u. (i, omega (arith, whole, u));
     }
 
--- both cases, with the greater of the two masks
 pub combined : (len d s mask asked e p : ℕ) → Computed d (mask + 1) s (asked + 1) e p → IsPowerOfTwo (mask + 1) → IsPowerOfTwo (asked + 1)
     → Combined len d (mask + 1) s (asked + 1) e p (max mask asked + 1)
 combined len d s mask asked e p h (i, u) (j, v) =
@@ -124,7 +116,6 @@ combined len d s mask asked e p h (i, u) (j, v) =
           subst (λ n. Combined len d (mask + 1) s (asked + 1) e p n) w (combined_low len d (mask + 1) s (asked + 1) e p (2 ^ (i - j)) h g)
     ]
 
--- what is aligned is some multiples from its place
 pub multiples_to : (place alignment finished : ℕ) → Keeps finished (promise_of place alignment) → finished ≡ place + (finished - place) / alignment * alignment
 multiples_to place alignment finished h =
     let t : finished - place ≡ (finished - place) / alignment * alignment = multiple_of_divides alignment (finished - place) h.aligns in
@@ -137,7 +128,6 @@ kept_by_multiples place alignment j finished e = record {
   aligns = divides_multiple alignment j (finished - place) (omega (arith, e));
 }
 
--- the least padding of a request, for the described lengths
 pub least_of_request : (delay : Delay) (len s asked e p : ℕ) → Combined len delay.delayed (delay.mask + 1) s (asked + 1) e p (max delay.mask asked + 1)
     → IsLeast (LeavesSome delay len s (asked + 1)) p
 least_of_request delay len s asked e p h = record {
@@ -154,7 +144,6 @@ least_of_request delay len s asked e p h = record {
       h.least k.0 ((f.0 - (len + r + s)) / (asked + 1)) r (omega (arith, t, q));
 }
 
--- and the lengths that are described afterwards
 pub those_of_request : (delay : Delay) (len s asked e p : ℕ) → Combined len delay.delayed (delay.mask + 1) s (asked + 1) e p (max delay.mask asked + 1)
     → DescribesThose delay len (record { delayed = e - p; mask = max delay.mask asked }) (len + p + s) (asked + 1)
 those_of_request delay len s asked e p h = λ finished. (

@@ -1,4 +1,4 @@
--- Promises of a list: what their lengths have in common.
+-- What the lengths that keep constraints have in common.
 use Rattle.std.proofs.Common.{◌≡◌, ℕ, ◌+◌, ◌-◌, ◌*◌, ◌^◌, ◌<◌, ◌≤◌, max, inl, inr, arith, ap, sym, subst, refl, ◌∙◌, List, [], ◌∷◌}
 use Rattle.std.specs.Int.{◌∣◌}
 use Rattle.std.specs.List.{AllByRecursion}
@@ -18,12 +18,10 @@ AllPowers promises = AllByRecursion (λ (p : Promise). IsPowerOfTwo p.alignment)
 abbrev pub AllReached : ℕ → List Promise → Type 0
 AllReached length promises = AllByRecursion (λ (p : Promise). p.distance ≤ length) promises
 
--- what is reached stays reached
 pub reached_later : (n m : ℕ) (promises : List Promise) → n ≤ m → AllReached n promises → AllReached m promises
 reached_later n m [] le h = tt
 reached_later n m (p ∷ promises) le h = (omega (arith, h.0, le), reached_later n m promises le h.1)
 
--- a request that is granted leads from described promises to described promises
 pub described_after : (delay after : Delay) (len x alignment : ℕ) (promises : List Promise) → len ≤ x → IsPowerOfTwo alignment
     → DescribesThose delay len after x alignment → DescribesAll delay len promises → DescribesAll after x (promise_of x alignment ∷ promises)
 described_after delay after len x alignment promises le power those old = record {
@@ -35,7 +33,6 @@ described_after delay after len x alignment promises le power those old = record
   );
 }
 
--- the least padding for the described lengths is the least for the promises
 pub least_padding_of : (delay : Delay) (len size alignment padding : ℕ) (promises : List Promise) → DescribesAll delay len promises
     → IsLeast (LeavesSome delay len size alignment) padding → IsLeastPadding len promises size alignment padding
 least_padding_of delay len size alignment padding promises old h = record {
@@ -43,7 +40,6 @@ least_padding_of delay len size alignment padding promises old h = record {
   least = λ r f. (let k = f.1.0 in let at : len + r + size ≤ f.0 = k.reaches in h.least r (f.0, (old.kept f.0 (omega (arith, at))).0 f.1.1, f.1.0));
 }
 
--- all the alignments that a list promises divide the difference of two lengths that keep it
 pub greatest_divides : (promises : List Promise) (l m : ℕ) → l ≤ m → Keep promises l → Keep promises m → greatest_alignment 1 promises ∣ (m - l)
 greatest_divides [] l m le h k = one-dvd (m - l)
 greatest_divides (p ∷ promises) l m le h k =
@@ -60,7 +56,6 @@ greatest_divides (p ∷ promises) l m le h k =
       | inr le2 ↦ (let f : p.alignment ≡ max p.alignment g = omega (arith, le2) in subst (λ x. x ∣ (m - l)) f here)
     ]
 
--- the greatest alignment is a power of two
 pub greatest_is_power : (promises : List Promise) → AllPowers promises → IsPowerOfTwo (greatest_alignment 1 promises)
 greatest_is_power [] h = (0, refl)
 greatest_is_power (p ∷ promises) h =
@@ -71,7 +66,6 @@ greatest_is_power (p ∷ promises) h =
       | inr le ↦ (let f : p.alignment ≡ max p.alignment g = omega (arith, le) in subst (λ x. IsPowerOfTwo x) f h.0)
     ]
 
--- of two powers of two the one that is not greater divides the other
 pub power_divides : (a b : ℕ) → IsPowerOfTwo a → IsPowerOfTwo b → a ≤ b → a ∣ b
 power_divides a b (i, u) (j, v) le =
     elim (cases_lt j i) as (λ _. a ∣ b) [
@@ -80,7 +74,6 @@ power_divides a b (i, u) (j, v) le =
           divides_multiple a (2 ^ (j - i)) b (v ∙ f ∙ ap (λ x. 2 ^ (j - i) * x) (sym u)))
     ]
 
--- a length that keeps the promises keeps them where a common multiple of their alignments is added or taken away
 pub kept_beyond : (promises : List Promise) (g n : ℕ) → IsPowerOfTwo g → greatest_alignment 1 promises ≤ g → AllPowers promises → g ∣ n
     → (l : ℕ) → Keep promises l → Keep promises (l + n)
 kept_beyond [] g n power le h d l k = tt
@@ -105,7 +98,6 @@ kept_before (p ∷ promises) g n power le h d l r k =
       kept_before promises g n power (omega (arith, le)) h.1 d l r.1 k.1,
     )
 
--- the mask and one is the greatest alignment
 pub mask_is_greatest : (len delayed mask : ℕ) (promises : List Promise) → Describes len delayed mask promises → greatest_alignment 1 promises ≡ mask + 1
 mask_is_greatest len delayed mask promises h =
     let g : ℕ = greatest_alignment 1 promises in
@@ -124,7 +116,6 @@ mask_is_greatest len delayed mask promises h =
     let ge : 1 * (mask + 1) ≤ k.0 * (mask + 1) = times_le 1 k.0 (mask + 1) some in
     omega (arith, le, ge, e)
 
--- less is delayed than the greatest alignment
 pub delayed_is_below : (len delayed mask : ℕ) (promises : List Promise) → Describes len delayed mask promises → delayed < mask + 1
 delayed_is_below len delayed mask promises h =
     elim (cases_lt delayed (mask + 1)) as (λ _. delayed < mask + 1) [
@@ -143,7 +134,6 @@ delayed_is_below len delayed mask promises h =
           absurd (omega (arith, f, ge))
     ]
 
--- the greatest alignment from another least number
 pub greatest_from : (least : ℕ) (promises : List Promise) → 1 ≤ least → greatest_alignment least promises ≡ max (greatest_alignment 1 promises) least
 greatest_from least [] h = omega (arith, h)
 greatest_from least (p ∷ promises) h = omega (arith, greatest_from least promises h)

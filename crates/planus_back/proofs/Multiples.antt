@@ -5,15 +5,12 @@ use Rattle.std.proofs.lemmas.Nat.{pow-add}
 use Rattle.std.proofs.lemmas.Bool.{cases_lt}
 use Rattle.std.proofs.Math.Nat.{add-mul-mod_self_right, mod-le, mod-eq_of_lt, div-mul_cancel, dvd-mul_left, mul-le-mul_right}
 
--- what is a multiple is divided
 pub divides_multiple : (a k n : ℕ) → n ≡ k * a → a ∣ n
 divides_multiple a k n e = subst (λ x. a ∣ x) (sym e) (dvd-mul_left a k)
 
--- what is divided is a multiple
 pub multiple_of_divides : (a n : ℕ) → a ∣ n → n ≡ n / a * a
 multiple_of_divides a n h = sym (div-mul_cancel a h)
 
--- the rest by a is the least number that is equal to it up to multiples of a
 pub rest_is_least : (a p r x y : ℕ) → p < a → p + x * a ≡ r + y * a → p ≤ r
 rest_is_least a p r x y small e =
     let h1 : p % a ≡ p = mod-eq_of_lt small in
@@ -23,11 +20,9 @@ rest_is_least a p r x y small e =
     let h5 : r % a ≤ r = mod-le r a in
     omega (arith, h1, h2, h3, h4, h5)
 
--- fewer multiples of a number are no more
 pub times_le : (x y m : ℕ) → x ≤ y → x * m ≤ y * m
 times_le x y m h = mul-le-mul_right m h
 
--- where multiples differ by less than one, they are in order
 pub multiples_in_order : (x y m r : ℕ) → r < m → x * m ≤ y * m + r → x ≤ y
 multiples_in_order x y m r small h =
     elim (cases_lt y x) as (λ _. x ≤ y) [
@@ -38,7 +33,6 @@ multiples_in_order x y m r small h =
       | inr le ↦ le
     ]
 
--- of two powers of two one is a multiple of the other
 pub smaller_power_divides : (i j : ℕ) → i ≤ j → 2 ^ j ≡ 2 ^ (j - i) * 2 ^ i
 smaller_power_divides i j h =
     let e : j ≡ (j - i) + i = omega (arith, h) in

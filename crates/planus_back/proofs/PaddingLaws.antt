@@ -37,7 +37,6 @@ pub is_unique : (length : ℕ) (promises : List Promise) (size alignment a b : �
     → IsLeastPadding length promises size alignment b → a ≡ b
 is_unique length promises size alignment a b h k = omega (arith, h.least b k.holds, k.least a h.holds)
 
--- what is computed is as it should be, from an equation up to whole turns
 pub computed : (d m s a e q c : ℕ) → d < m → 0 < a → e < m → e + s + q * m ≡ d + c * m → Computed d m s a e (e % a)
 computed d m s a e q c small positive below f = record {
   below = below;
@@ -48,7 +47,6 @@ computed d m s a e q c small positive below f = record {
   small = mod-lt e positive;
 }
 
--- in front of described promises there is a least padding, and with the part's promise they stay described
 pub exists_described : (length delayed mask : ℕ) (promises : List Promise) (size alignment : ℕ) → Describes length delayed mask promises
     → IsPowerOfTwo alignment → (padding : ℕ) × IsLeastPadding length promises size alignment padding
     × ((later : Delay) × DescribesAll later (length + padding + size) (promise_of (length + padding + size) alignment ∷ promises))
@@ -83,7 +81,6 @@ exists length delayed mask promises size alignment h power =
     let found = exists_described length delayed mask promises size alignment h power in
     (found.0, found.1)
 
--- with a part behind the least padding described promises stay described
 pub stay_described : (delay : Delay) (length : ℕ) (promises : List Promise) (size alignment padding : ℕ) → DescribesAll delay length promises
     → IsPowerOfTwo alignment → IsLeastPadding length promises size alignment padding
     → (later : Delay) × DescribesAll later (length + padding + size) (promise_of (length + padding + size) alignment ∷ promises)

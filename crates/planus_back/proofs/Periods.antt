@@ -1,4 +1,4 @@
--- Lengths that keep promises come again after the product of the alignments.
+-- Lengths recur after the product of the alignments.
 use Rattle.std.proofs.Common.{◌≡◌, ℕ, ◌+◌, ◌-◌, ◌*◌, ◌/◌, ◌%◌, ◌<◌, ◌≤◌, arith, subst, List, [], ◌∷◌}
 use Rattle.std.specs.Int.{◌∣◌}
 use Rattle.std.proofs.lemmas.Nat.{div-add-mod'}
@@ -8,12 +8,10 @@ use Rattle.planus_back.specs.Promises.{Promise, Keep, CanBeKept}
 use Rattle.planus_back.specs.Padding.{promise_of, CanPad}
 use Rattle.planus_back.specs.Pairs.{promises_of, period, AlignmentsAboveZero, DistancesWithin}
 
--- the period is above 0
 pub period_positive : (pairs : List (ℕ × ℕ)) → AlignmentsAboveZero pairs → 0 < period pairs
 period_positive [] h = omega arith
 period_positive (pair ∷ pairs) h = mul-pos h.0 (period_positive pairs h.1)
 
--- a length that keeps the promises keeps them where whole periods are taken away, down to the greatest distance
 pub kept_back : (pairs : List (ℕ × ℕ)) (n l : ℕ) → DistancesWithin l pairs → period pairs ∣ n → Keep (promises_of pairs) (l + n) → Keep (promises_of pairs) l
 kept_back [] n l r d k = tt
 kept_back (pair ∷ pairs) n l r d k =
@@ -24,12 +22,10 @@ kept_back (pair ∷ pairs) n l r d k =
       kept_back pairs n l r.1 (dvd_trans (period pairs) (dvd-mul_left (period pairs) pair.1) d) k.1,
     )
 
--- no distance is above a greater length
 pub within_later : (n m : ℕ) (pairs : List (ℕ × ℕ)) → n ≤ m → DistancesWithin n pairs → DistancesWithin m pairs
 within_later n m [] le h = tt
 within_later n m (pair ∷ pairs) le h = (omega (arith, h.0, le), within_later n m pairs le h.1)
 
--- if some length keeps the promises and that of the part, then so does one of the first period
 pub kept_soon : (place alignment : ℕ) (pairs : List (ℕ × ℕ)) → 0 < alignment → AlignmentsAboveZero pairs → DistancesWithin place pairs
     → CanBeKept (promise_of place alignment ∷ promises_of pairs)
     → (l : ℕ) × (place ≤ l) × (l < place + alignment * period pairs) × Keep (promise_of place alignment ∷ promises_of pairs) l
@@ -46,7 +42,6 @@ kept_soon place alignment pairs positive above within (l, k) =
     let all = kept_back ((place, alignment) ∷ pairs) rest first (omega arith, within_later place first pairs (omega arith) within) d (subst (λ x. Keep (promise_of place alignment ∷ promises_of pairs) x) e k) in
     (first, omega arith, omega (arith, small), all)
 
--- a padding that will do will do without whole alignments
 pub pads_below : (len : ℕ) (promises : List Promise) (size alignment padding : ℕ) → 0 < alignment → CanPad len promises size alignment padding
     → CanPad len promises size alignment (padding % alignment)
 pads_below len promises size alignment padding positive (l, k) =

@@ -1,7 +1,7 @@
--- Least padding gives the least places.
--- Two placings of one list of parts are compared from the end on. A pair of places of one part, with the part's
--- alignment, is held as long as no later part has asked for more. The places of a held pair are kept apart from the
--- newest ones by no more in the least placing than in the other one.
+-- The least padding gives the least places.
+--
+-- Two placings of the same parts are compared from the end. A pair of places of one part is held
+-- until a later alignment is greater; the least placing keeps it no further from the newest place.
 use Rattle.std.proofs.Common.{◌≡◌, ℕ, ◌+◌, ◌-◌, ◌*◌, ◌<◌, ◌≤◌, max, ◌⊎◌, inl, inr, arith, sym, subst, refl, List, [], ◌∷◌}
 use Rattle.std.specs.Int.{◌∣◌}
 use Rattle.std.specs.List.{AllByRecursion}
@@ -16,8 +16,6 @@ use Rattle.planus_back.specs.Placings.{LieInOrder, promises_at, PlacedInTurn, No
 use Rattle.planus_back.proofs.Multiples.{times_le}
 use Rattle.planus_back.proofs.Lists.{AllPowers, AllReached, reached_later, kept_beyond, kept_before, greatest_is_power, power_divides}
 
--- What holds of a held pair x, y with alignment a, where the newest places are u and w, the promises of the least placing
--- are these, and the other placing's finished length is f.
 pub record Good (u w : ℕ) (promises : List Promise) (f x y a : ℕ) : Type 0 where
   pub power : IsPowerOfTwo a
   pub below_u : x ≤ u
@@ -27,11 +25,9 @@ pub record Good (u w : ℕ) (promises : List Promise) (f x y a : ℕ) : Type 0 w
   pub kept : (l : ℕ) → Keep promises l → u ≤ l → a ∣ (l - x)
   pub finished : a ∣ (f - y)
 
--- a power of two is above 0
 pub power_positive : (a : ℕ) → IsPowerOfTwo a → 0 < a
 power_positive a (k, e) = omega (arith, e, pow_pos k)
 
--- The other place of the next part, as far away from the held pair, is one that the least placing could have taken.
 module _ (u w : ℕ) (promises : List Promise) (f size a padding x y p q b : ℕ) where
   could_stand : (m : ℕ) → Good u w promises f p q b → AllPowers promises → AllReached u promises → IsPowerOfTwo a
       → IsLeastPadding u promises size a padding → w + size ≤ y → Keeps f (promise_of y a)
@@ -89,11 +85,9 @@ module _ (u w : ℕ) (promises : List Promise) (f size a padding x y p q b : ℕ
       let t : padding ≤ r = least.least r (subst (λ v. CanBeKept (promise_of v a ∷ promises)) e can) in
       omega (arith, t, e, placed, ahead, even, order)
 
--- the pairs that are held after the next part: its own, and those whose alignment is no less
 abbrev HeldAfter : (ℕ → ℕ → ℕ → Type 0) → ℕ → ℕ → ℕ → ℕ → ℕ → ℕ → Type 0
 HeldAfter Held x y a p q b = ((p ≡ x) × (q ≡ y) × (b ≡ a)) ⊎ (Held p q b × (a ≤ b))
 
--- What the next part leads to: its place is no greater, and the pairs that are held afterwards are good.
 record Next (u w : ℕ) (promises : List Promise) (f x y a : ℕ) (Held : ℕ → ℕ → ℕ → Type 0) : Type 0 where
   le : x ≤ y
   good : (p q b : ℕ) → HeldAfter Held x y a p q b → Good x y (promise_of x a ∷ promises) f p q b
@@ -190,7 +184,6 @@ none_greater (part ∷ parts) (x ∷ places) (y ∷ others) u w promises f Held 
           (all.0, powers) (omega arith, reached_later u x promises (omega (arith, at)) reached) all.1 placed.1 order.1 kept.1,
     )
 
--- at the end of the buffer nothing is placed, which any placing keeps
 pub least_places : (parts : List Part) (places others : List ℕ) (f : ℕ) → AllByRecursion (λ (part : Part). IsPowerOfTwo part.alignment) parts
     → PlacedInTurn 0 [] parts places → LieInOrder 0 parts others → Keep (promises_at parts others) f → NoneIsGreater places others
 least_places parts places others f all placed order kept =

@@ -1,4 +1,4 @@
--- A run of the places of a block: what a `&` to the places shows of it.
+-- A run of a block's places.
 use mathlib.Core.Path.{◌≡◌, refl, sym, subst, ◌∙◌}
 use mathlib.Core.Bool.{Bool, true, false}
 use Prim.Native.Nat.{ℕ, zero, suc, ◌+◌, ◌*◌, ◌<◌, ◌≤◌}
@@ -22,7 +22,6 @@ use Rattle.core.proofs.slots.Places.{sz}
 use Rattle.core.specs.Mem.Slots.Ownership.{slot, slots, slot_lent, slots_lent}
 
 module _ (E : El) {M : Type 1} {𝓤 : Ura M} (𝓛 : Logic 𝓤) (κ : Lft) (b : ℕ) where
-  -- the places of a block from the offset o on, as a `&` shows them
   abbrev Shown : ℕ → List (el_x E) → List Bool → SProp 𝓤
   Shown o xs fs = sem 𝓛 (slots_lent (R E) (block_ptr b o) xs fs κ)
 
@@ -58,7 +57,6 @@ module _ (E : El) {M : Type 1} {𝓤 : Ura M} (𝓛 : Logic 𝓤) (κ : Lft) (b 
       by ! (in_front n (drop i xs) (drop i fs) at (omega (arith, length-drop i xs)) (omega (arith, length-drop i fs))
       (λ k lt. get_or-drop i fs k false ∙ full (i + k) (omega arith) (omega arith)))
 
--- A run of places that hold their values is a row of values, and back.
 module _ (E : El) {M : Type 1} {𝓤 : Ura M} (𝓛 : Logic 𝓤) (b : ℕ) where
   pub to_cells : (xs : List (el_x E)) (fs : List Bool) (o : ℕ) → length fs ≡ length xs → ((k : ℕ) → k < length xs → get_or fs k false ≡ true)
       → ent 𝓤 (sem 𝓛 (slots (R E) (block_ptr b o) xs fs)) (sem 𝓛 (cells (mem (R E)) xs b o))

@@ -17,15 +17,12 @@ bytes_in_front bytes behind are i = elim (cases_lt i (length bytes)) [
   | inr le ↦ grind (arith, common_steps, le)
 ]
 
--- words with one number are the same
 same_words : (word other : List ℕ) (n m : ℕ) → length word ≡ 8 → length other ≡ 8 → AreBytes word → AreBytes other
     → n ≡ from_le_bytes w64 word → m ≡ from_le_bytes w64 other → n ≡ m → word ≡ other
 same_words word other n m eight eight_too are are_too number number_too same =
     sym (le_bytes_8 word n eight are number) ∙ ap (to_le_bytes w64) same ∙ le_bytes_8 other m eight_too are_too number_too
 
--- the front of both was compared, and is the same
 module _ (whole other_whole front left right : List ℕ) (is : whole ≡ front ++ left) (is_too : other_whole ≡ front ++ right) (long : length whole ≡ length other_whole) where
-  -- fewer than 8 are left, and the last 8 are the same
   pub rest_same : length left < 8 → 8 ≤ length whole → drop (length whole - 8) whole ≡ drop (length other_whole - 8) other_whole → whole ≡ other_whole
   rest_same few eight last =
       let at = length whole - 8 in
@@ -36,7 +33,6 @@ module _ (whole other_whole front left right : List ℕ) (is : whole ≡ front +
       let its : drop (length other_whole - 8) other_whole ≡ drop at front ++ right = ap (λ n. drop n other_whole) at_too ∙ ap (drop at) is_too ∙ drop-append-le at front right within in
       is ∙ ap (λ xs. front ++ xs) (append_cancel_left (drop at front) left right (sym mine ∙ last ∙ its)) ∙ sym is_too
 
-  -- the next 8 of each
   module _ (word behind other rest : List ℕ) (n m : ℕ) (word_is : word ≡ take 8 left) (behind_is : behind ≡ drop 8 left) (behind_long : length behind + 8 ≡ length left)
       (other_is : other ≡ take 8 right) (rest_is : rest ≡ drop 8 right) (rest_long : length rest + 8 ≡ length right)
       (number : n ≡ from_le_bytes w64 word) (number_too : m ≡ from_le_bytes w64 other) where
@@ -57,7 +53,6 @@ module _ (whole other_whole front left right : List ℕ) (is : whole ≡ front +
           is_too ∙ ap (λ xs. front ++ xs) cut_too ∙ sym (append_assoc front other rest) ∙ ap (λ xs. (front ++ xs) ++ rest) (sym one),
         )
 
--- the last 8 of each
 module _ (whole other_whole last end : List ℕ) (n m : ℕ) (last_is : last ≡ drop (length whole - 8) whole) (end_is : end ≡ drop (length other_whole - 8) other_whole)
     (number : n ≡ from_le_bytes w64 last) (number_too : m ≡ from_le_bytes w64 end) where
   pub last_differ : (n ≡ m → ⊥) → whole ≡ other_whole → ⊥

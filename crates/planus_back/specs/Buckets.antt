@@ -6,20 +6,17 @@ use Rattle.std.specs.declared.alloc.Global.{Global}
 use mathlib.Core.Logic.{◌≢◌}
 use Rattle.planus_back.specs.CacheKeys.{key_at}
 
--- a map, without the location of its vectors in memory
 abbrev pub lists_of : List (ℕ × Vec ℕ Global) → List (ℕ × List ℕ)
 lists_of entries = map (λ entry. (entry.0, entry.1.items)) entries
 
--- the list at this number, empty if absent
 abbrev pub listed_at : List (ℕ × List ℕ) → ℕ → List ℕ
 listed_at lists number = unwrap_or (lookup (nat_eq number) lists) []
 
--- the distances at this number: those before the last, and the last
 abbrev pub distances_at : List (ℕ × ℕ) → List (ℕ × List ℕ) → ℕ → List ℕ
 distances_at last earlier number =
     listed_at earlier number ++ option_to_list (lookup (nat_eq number) last)
 
--- the distance is appended to those at this number, and nothing else changes
+-- the distance is appended there
 abbrev pub AddsAt : (ℕ → List ℕ) → ℕ → ℕ → (ℕ → List ℕ) → Type 0
 AddsAt old number distance new =
     (other : ℕ) → new other ≡ cond (nat_eq number other) (old number ++ distance ∷ []) (old other)

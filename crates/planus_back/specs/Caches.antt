@@ -1,4 +1,4 @@
--- A cache as a set of distances that fits some bytes, and the effect of its calls.
+-- Caches as sets of distances.
 use Rattle.std.specs.Prelude.{◌≡◌, ℕ, ◌<◌, List, length, slice_index, Option, Some}
 use Rattle.std.specs.Prelude.{◌↔◌, ◌⊎◌, MatchOption}
 use mathlib.Core.Logic.{◌≢◌}
@@ -7,9 +7,8 @@ use Rattle.planus_back.specs.Buckets.{distances_at}
 use Rattle.planus_back.specs.Numbers.{number_of}
 use Rattle.planus_back.specs.declared.bucket.Bucket.{Bucket}
 
--- The contents of a cache: the last distance in each bucket and those before it, by the buckets'
--- numbers, and the function from keys to buckets. It is read through `Has`, `Fits` and `IsBucketOf`
--- alone.
+-- The last distance in each bucket and those before it, and the function from keys to buckets. Must
+-- be read through `Has`, `Fits` and `IsBucketOf` alone.
 pub record Held : Type 0 where
   pub choice : ℕ
   pub last : List (ℕ × ℕ)
@@ -19,17 +18,15 @@ pub record Held : Type 0 where
 unfoldable pub IsBucketOf : Held → List ℕ → Bucket → Type 0
 IsBucketOf held key bucket = bucket.number ≡ number_of held.choice key
 
--- the distances in the bucket of this number
 abbrev pub bucket : Held → ℕ → List ℕ
 bucket held number = distances_at held.last held.earlier number
 
--- the cache has the distance
 unfoldable pub Has : Held → ℕ → Type 0
 Has held distance = (number i : ℕ) × (i < length (bucket held number))
     × (slice_index (bucket held number) i ≡ distance)
 
--- The cache fits the bytes by some function from keys to buckets: at each of its distances is a key
--- that belongs in the bucket of the distance.
+-- At each distance is a key that belongs in the distance's bucket, by some function from keys to
+-- buckets.
 abbrev pub FitsBy : (List ℕ → ℕ) → (List ℕ → Option (List ℕ)) → Held → List ℕ → Type 0
 FitsBy number_of_key key_in held bytes =
     (number i : ℕ) → i < length (bucket held number)
@@ -40,7 +37,7 @@ FitsBy number_of_key key_in held bytes =
 unfoldable pub Fits : (List ℕ → Option (List ℕ)) → Held → List ℕ → Type 0
 Fits key_in held bytes = FitsBy (number_of held.choice) key_in held bytes
 
--- no distance is held
+-- it has no distance
 abbrev pub IsEmpty : Held → Type 0
 IsEmpty held = (distance : ℕ) → ¬ Has held distance
 
@@ -54,12 +51,12 @@ FitsWhereKeyStands key_in old key distance new =
     (bytes : List ℕ) → Fits key_in old bytes → key_at key_in bytes distance ≡ Some key
     → Fits key_in new bytes
 
--- the same where the key there has this bucket in the cache before
+-- the same where the key there had this bucket
 abbrev pub FitsWhereItsKeyStands : (List ℕ → Option (List ℕ)) → Held → Bucket → ℕ → Held → Type 0
 FitsWhereItsKeyStands key_in old bucket distance new =
     (key : List ℕ) → IsBucketOf old key bucket → FitsWhereKeyStands key_in old key distance new
 
--- the result for a key: a distance of the set where it is, or none if there is none
+-- a distance of the set where the key is, or none if there is none
 abbrev pub IsFound : (List ℕ → Option (List ℕ)) → Held → List ℕ → List ℕ → Option ℕ → Type 0
 IsFound key_in held bytes key answer =
     MatchOption answer

@@ -1,11 +1,10 @@
--- How a remainder and a mask describe a list of alignment constraints.
+-- Remainders and masks that describe constraints.
 use Rattle.std.specs.Prelude.{◌≡◌, ℕ, ◌+◌, ◌*◌, ◌≤◌, List, ◌↔◌}
 use Rattle.std.specs.List.{AllByRecursion}
 use Rattle.planus_back.specs.Promises.{Promise, IsPowerOfTwo, Keep}
 
--- At this length, the lengths from here on that keep every constraint are exactly `length + delayed
--- + k * (mask + 1)`, for k from 0. The alignments are powers of two, and every constraint is of a
--- written part.
+-- The lengths from here on that keep every constraint are exactly `length + delayed + k * (mask +
+-- 1)`, for k from 0.
 pub record Describes (length delayed mask : ℕ) (promises : List Promise) : Type 0 where
   pub powers : AllByRecursion (λ (p : Promise). IsPowerOfTwo p.alignment) promises
   pub reached : AllByRecursion (λ (p : Promise). p.distance ≤ length) promises

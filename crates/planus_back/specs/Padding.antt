@@ -1,17 +1,17 @@
--- The least padding between what is written and the next part before it. A place is the distance
--- from the end to a part's first byte; the last byte has distance 1.
+-- The least padding before what is written. A place is the distance from the end to a part's first
+-- byte; the last byte has distance 1.
 use Rattle.std.specs.Prelude.{ℕ, ◌+◌, ◌≤◌, List, ◌∷◌}
 use Rattle.planus_back.specs.Promises.{Promise, CanBeKept}
 
--- The greatest place: the greatest signed number of 4 bytes.
+-- the greatest signed number of 4 bytes
 abbrev pub greatest_place : ℕ
 greatest_place = 2147483647
 
--- the constraint that a part is aligned at its place
+-- the part is aligned at its place
 abbrev pub promise_of : ℕ → ℕ → Promise
 promise_of place alignment = record { distance = place; alignment = alignment }
 
--- Before n bytes, with this much padding, some length keeps the constraints so far and the part's.
+-- With this padding after n bytes, some length keeps the constraints so far and the part's.
 abbrev pub CanPad : ℕ → List Promise → ℕ → ℕ → ℕ → Type 0
 CanPad length promises size alignment padding =
     CanBeKept (promise_of (length + padding + size) alignment ∷ promises)
@@ -21,7 +21,7 @@ pub record IsLeast (Holds : ℕ → Type 0) (n : ℕ) : Type 0 where
   pub holds : Holds n
   pub least : (m : ℕ) → Holds m → n ≤ m
 
--- With this padding and no smaller one, some length keeps the constraints so far and the part's.
+-- with this padding and no smaller one
 abbrev pub IsLeastPadding : ℕ → List Promise → ℕ → ℕ → ℕ → Type 0
 IsLeastPadding length promises size alignment padding =
     IsLeast (CanPad length promises size alignment) padding

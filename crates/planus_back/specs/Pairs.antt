@@ -1,4 +1,3 @@
--- Alignment constraints as pairs of a distance and an alignment.
 use Rattle.std.specs.Prelude.{ℕ, ◌*◌, ◌<◌, ◌≤◌, List, [], ◌∷◌}
 use Rattle.planus_back.specs.Promises.{Promise}
 use Rattle.planus_back.specs.Padding.{promise_of}
@@ -8,8 +7,7 @@ abbrev pub promises_of : List (ℕ × ℕ) → List Promise
 promises_of [] = []
 promises_of (pair ∷ pairs) = promise_of pair.0 pair.1 ∷ promises_of pairs
 
--- A common multiple of the alignments: a length keeps the constraints if and only if it does with
--- this many bytes more.
+-- a common multiple of the alignments
 abbrev pub period : List (ℕ × ℕ) → ℕ
 period [] = 1
 period (pair ∷ pairs) = pair.1 * period pairs

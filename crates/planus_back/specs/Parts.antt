@@ -1,21 +1,19 @@
--- Parts, and how the next one is placed before what is written.
+-- How the next part is placed before what is written.
 use Rattle.std.specs.Prelude.{◌≡◌, ℕ, ◌+◌, ◌<◌, ◌≤◌, List, ◌∷◌, ◌++◌, length, replicate}
 use Rattle.planus_back.specs.Promises.{Promise}
 use Rattle.planus_back.specs.Padding.{greatest_place, promise_of, IsLeastPadding}
 
--- A part has a size, an alignment, and bytes that may depend on its place.
+-- Its bytes may depend on its place.
 pub record Part : Type 0 where
   pub size : ℕ
   pub alignment : ℕ
   pub bytes_at : ℕ → List ℕ
 
--- what is written so far, and its constraints
 pub record Written : Type 0 where
   pub bytes : List ℕ
   pub promises : List Promise
 
--- The part is placed: least padding, then the part before it, and its constraint besides the
--- earlier ones.
+-- least padding, then the part before it, and its constraint
 pub record Placed (part : Part) (before after : Written) : Type 0 where
   pub padding : ℕ
   pub place : ℕ

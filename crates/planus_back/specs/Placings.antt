@@ -1,10 +1,10 @@
--- Placings: every way to give the parts of a list places, in their order from the end.
+-- Every way to give parts places, in their order from the end.
 use Rattle.std.specs.Prelude.{◌≡◌, ℕ, ◌+◌, ◌≤◌, List, [], ◌∷◌, ⊤}
 use Rattle.planus_back.specs.Promises.{Promise, CanBeKept}
 use Rattle.planus_back.specs.Padding.{promise_of, IsLeastPadding}
 use Rattle.planus_back.specs.Parts.{Part}
 
--- Each part is before the previous one, and the first before n bytes.
+-- each part before the previous one, and the first before n bytes
 abbrev pub LieInOrder : ℕ → List Part → List ℕ → Type 0
 LieInOrder length [] [] = ⊤
 LieInOrder length (part ∷ parts) (place ∷ places) = (length + part.size ≤ place)
@@ -12,20 +12,18 @@ LieInOrder length (part ∷ parts) (place ∷ places) = (length + part.size ≤ 
 LieInOrder length [] (place ∷ places) = ⊥
 LieInOrder length (part ∷ parts) [] = ⊥
 
--- what places promise of their parts
 abbrev pub promises_at : List Part → List ℕ → List Promise
 promises_at [] places = []
 promises_at (part ∷ parts) [] = []
 promises_at (part ∷ parts) (place ∷ places) =
     promise_of place part.alignment ∷ promises_at parts places
 
--- Places of the parts: in order, and some length keeps all constraints.
+-- places in order, for which some length keeps all constraints
 pub record IsPlacing (parts : List Part) (places : List ℕ) : Type 0 where
   pub in_order : LieInOrder 0 parts places
   pub kept : CanBeKept (promises_at parts places)
 
--- The places that the parts get one by one, each by the least padding, from n bytes and these
--- constraints on.
+-- the places that the parts get one by one, each by the least padding
 abbrev pub PlacedInTurn : ℕ → List Promise → List Part → List ℕ → Type 0
 PlacedInTurn length promises [] [] = ⊤
 PlacedInTurn length promises (part ∷ parts) (place ∷ places) =
@@ -35,7 +33,7 @@ PlacedInTurn length promises (part ∷ parts) (place ∷ places) =
 PlacedInTurn length promises [] (place ∷ places) = ⊥
 PlacedInTurn length promises (part ∷ parts) [] = ⊥
 
--- each place is at most the other list's place of the same part
+-- each place is at most the other list's
 abbrev pub NoneIsGreater : List ℕ → List ℕ → Type 0
 NoneIsGreater [] [] = ⊤
 NoneIsGreater (x ∷ xs) (y ∷ ys) = (x ≤ y) × NoneIsGreater xs ys

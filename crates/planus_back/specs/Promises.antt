@@ -1,6 +1,5 @@
--- Alignment constraints, here called promises, and the finished lengths that keep them. The format:
--- a number is at a multiple of its size from the buffer's start. A writer from the back doesn't
--- know the start until the end, so each part it places constrains the finished length.
+-- Alignment constraints, here called promises. The format: a number is at a multiple of its size
+-- from the buffer's start. A writer from the back doesn't know the start until the end.
 use Rattle.std.specs.Prelude.{◌≡◌, ℕ, ◌-◌, ◌^◌, ◌≤◌, max, List, [], ◌∷◌}
 use Rattle.std.specs.Int.{◌∣◌}
 use Rattle.std.specs.List.{AllByRecursion}
@@ -10,12 +9,11 @@ pub record Promise : Type 0 where
   pub distance : ℕ
   pub alignment : ℕ
 
--- a power of two, as each alignment is
+-- as each alignment must be
 abbrev pub IsPowerOfTwo : ℕ → Type 0
 IsPowerOfTwo a = (k : ℕ) × (a ≡ 2 ^ k)
 
--- A length keeps a constraint if it reaches the distance, and the alignment divides the number of
--- bytes before it.
+-- The length reaches the distance, and the alignment divides the number of bytes before it.
 pub record Keeps (length : ℕ) (promise : Promise) : Type 0 where
   pub reaches : promise.distance ≤ length
   pub aligns : promise.alignment ∣ (length - promise.distance)
@@ -24,7 +22,6 @@ pub record Keeps (length : ℕ) (promise : Promise) : Type 0 where
 abbrev pub Keep : List Promise → ℕ → Type 0
 Keep promises length = AllByRecursion (Keeps length) promises
 
--- some length keeps every constraint
 abbrev pub CanBeKept : List Promise → Type 0
 CanBeKept promises = (length : ℕ) × Keep promises length
 

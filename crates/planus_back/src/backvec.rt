@@ -1,4 +1,4 @@
-//! A byte vector that grows at its front.
+//! Bytes at the end of a growing block.
 ghost use Rattle.std.specs.Prelude.{◌≡◌, ℕ, ◌+◌, ◌≤◌, List, [], ◌++◌, length};
 ghost use Rattle.std.specs.Prelude.{replicate, IfOk, OnOk, OnErr, IsOk};
 
@@ -11,7 +11,7 @@ use std::{fmt, mem};
 /// The least number of bytes of an allocation.
 const LEAST_CAPACITY: usize = 16;
 
-/// A byte vector that grows at its front.
+/// A byte vector that grows at its front. The `put_` methods require room that is there.
 pub struct BackVec {
     // The vector's bytes are the end of the block.
     block: Block,
@@ -38,8 +38,8 @@ impl Drop for BackVec {
 }
 
 impl BackVec {
-    /// Creates an empty vector with room for `n` bytes and at least 16. Requests that much memory,
-    /// and fails only if the allocation does.
+    /// Creates an empty vector with room for `n` bytes and at least 16. Fails only if the
+    /// allocation does.
     pub fn with_capacity(alloc: Global, n: usize) -> Result<BackVec, AllocError>
         ensures bytes { IfOk result (λ v. v.bytes ≡ []) }
         ensures room { IfOk result (λ v. n ≤ v.room) }
@@ -90,8 +90,8 @@ impl BackVec {
         self.start = self.block.capacity();
     }
 
-    /// Makes room for `n` more bytes, without memory if there is room already. Changes nothing on
-    /// failure; a size above `usize::MAX` fails.
+    /// Makes room for `n` more bytes. Changes nothing if an allocation fails or the size is above
+    /// `usize::MAX`.
     #[inline]
     pub fn reserve(&mut self, n: usize) -> Result<(), AllocError>
         ensures ok { OnOk result (n ≤ self.new.room) }
@@ -106,8 +106,7 @@ impl BackVec {
         self.grow(n)
     }
 
-    // Moves the bytes to the end of a block that is at least twice as large and has room for n
-    // more.
+    // At least twice as large.
     #[cold]
     #[inline(never)]
     fn grow(&mut self, n: usize) -> Result<(), AllocError>
@@ -129,7 +128,7 @@ impl BackVec {
         Ok(())
     }
 
-    /// Prepends the bytes of the slice, into room that is there.
+    /// Prepends the bytes of the slice.
     #[inline]
     pub fn put_slice(&mut self, bytes: &[u8])
         requires { length bytes.now ≤ self.old.room }
@@ -141,8 +140,7 @@ impl BackVec {
         self.start = start;
     }
 
-    /// Prepends `padding` zeros, and before them the bytes of three slices in order, into room that
-    /// is there.
+    /// Prepends `padding` zeros, and before them three slices in order.
     #[inline]
     pub fn put_three_padded(&mut self, padding: usize, first: &[u8], second: &[u8], third: &[u8])
         requires { padding + length (first.now ++ second.now ++ third.now) ≤ self.old.room }
@@ -162,7 +160,7 @@ impl BackVec {
         self.start = start;
     }
 
-    /// Prepends `n` zeros, into room that is there.
+    /// Prepends `n` zeros.
     #[inline]
     pub fn put_zeros(&mut self, n: usize)
         requires { n ≤ self.old.room }
@@ -174,8 +172,7 @@ impl BackVec {
         self.start = start;
     }
 
-    /// Prepends `n` bytes that the filler writes over zeros, into room that is there. It gets
-    /// `place`, as in [`BackVec::extend_write`].
+    /// Prepends `n` bytes that the filler writes over zeros, as in [`BackVec::extend_write`].
     #[inline]
     pub fn put_filled<F: Fill>(&mut self, place: u32, n: usize, filler: &F)
         requires room { n ≤ self.old.room }
@@ -189,8 +186,7 @@ impl BackVec {
         self.start = start;
     }
 
-    /// Prepends `padding` zeros, and before them `n` bytes that the filler writes over zeros, into
-    /// room that is there. It gets `place`, as in [`BackVec::extend_write`].
+    /// Prepends `padding` zeros, and then as [`BackVec::put_filled`].
     #[inline]
     pub fn put_filled_padded<F: Fill>(&mut self, padding: usize, place: u32, n: usize, filler: &F)
         requires room { padding + n ≤ self.old.room }
@@ -207,8 +203,8 @@ impl BackVec {
         self.start = start;
     }
 
-    /// Prepends `n` bytes, all written by the writer without zeroing, into room that is there. It
-    /// gets `place`: the distance in bytes from the end of the buffer to the first of them.
+    /// Prepends `n` bytes, all written by the writer without zeroing. `place` is the distance in
+    /// bytes from the end of the buffer to the first of them.
     #[inline(always)]
     pub fn put_overwritten<W: Overwrite>(&mut self, place: u32, n: usize, writer: &W)
         requires room { n ≤ self.old.room }
@@ -222,8 +218,7 @@ impl BackVec {
         self.start = start;
     }
 
-    /// Prepends `padding` zeros, and before them `n` bytes, all written by the writer without
-    /// zeroing, into room that is there. It gets `place`, as in [`BackVec::put_overwritten`].
+    /// Prepends `padding` zeros, and then as [`BackVec::put_overwritten`].
     #[inline(always)]
     pub fn put_overwritten_padded<W: Overwrite>(
         &mut self,
@@ -246,10 +241,8 @@ impl BackVec {
         self.block.put_overwritten(start, place, n, writer);
     }
 
-    /// Prepends two parts and a slice at once, into room that is there. The first part is the bytes
-    /// of a slice, followed by `first_padding` zeros. Before it is the second: `n` bytes, all
-    /// written by the writer without zeroing, followed by `padding` zeros. The bytes of `front`
-    /// come first. The writer gets `place`, as in [`BackVec::put_overwritten`].
+    /// Prepends `first_padding` zeros, before them `first`, then as
+    /// [`BackVec::put_overwritten_padded`], and last `front`.
     #[inline(always)]
     pub fn put_two_parts<W: Overwrite>(
         &mut self,
@@ -285,7 +278,7 @@ impl BackVec {
         self.start = start;
     }
 
-    /// Puts the bytes of the slice in front. A refusal of memory changes nothing.
+    /// Prepends the bytes of the slice. Changes nothing if an allocation fails.
     #[inline]
     pub fn extend_from_slice(&mut self, bytes: &[u8]) -> Result<(), AllocError>
         ensures ok { OnOk result (self.new.bytes ≡ bytes.now ++ self.old.bytes) }
@@ -299,7 +292,7 @@ impl BackVec {
         Ok(())
     }
 
-    /// Puts `n` zeros in front. A refusal of memory changes nothing.
+    /// Prepends `n` zeros. Changes nothing if an allocation fails.
     #[inline]
     pub fn extend_with_zeros(&mut self, n: usize) -> Result<(), AllocError>
         ensures ok { OnOk result (self.new.bytes ≡ replicate n 0 ++ self.old.bytes) }
@@ -312,10 +305,8 @@ impl BackVec {
         Ok(())
     }
 
-    /// Puts `n` bytes in front, which the filler writes over zeros. It gets `place`: the
-    /// distance in bytes from the end of the buffer to the first of them. The filler must be such
-    /// that it may be called with `n` bytes at that place. A refusal of memory changes nothing, and
-    /// the filler isn't called.
+    /// Prepends `n` bytes that the filler writes over zeros. `place` is as in
+    /// [`BackVec::put_overwritten`]. Changes nothing if an allocation fails.
     #[inline]
     pub fn extend_write<F: Fill>(
         &mut self,
@@ -336,7 +327,6 @@ impl BackVec {
     }
 }
 
-/// Prints the bytes as those of a slice.
 impl fmt::Debug for BackVec {
     ghost use Rattle.std.specs.Prelude.{Some};
     ghost use Rattle.std.specs.Fmt.{debug_list, decimal};

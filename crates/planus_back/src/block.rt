@@ -12,24 +12,21 @@ use core::slots::Slots;
 use std::alloc::{AllocError, Global};
 use std_alloc::room::may_hold;
 
-/// How many places before a part are initialized with it, if it is the first to be written there.
+/// The number of places before a part that are initialized with it.
 const AHEAD: usize = 256;
 
-/// What zeros are copied from.
 const ZEROS: [u8; 4096] = [0; 4096];
 
-/// A block of places. Its writer knows from which place on each holds a byte.
+/// A block of places, initialized from one on.
 pub struct Block {
     base: *mut u8,
     places: Slots<u8>,
-    // Each place from here on holds a byte. Not updated at each write: what is written before it
-    // counts from the next call of `keep_initialized` on.
+    // Each place from here on holds a byte. Not updated at each write.
     initialized: usize,
     deed: Deed<u8, Global>,
     alloc: Global,
 }
 
-// Zeroes `n` places from `at` on.
 fn zero(places: &mut Slots<u8>, at: usize, n: usize)
     requires { at + n ≤ slots_len places.old }
     ensures items { slots_items places.new
@@ -48,7 +45,6 @@ fn zero(places: &mut Slots<u8>, at: usize, n: usize)
 }
 
 impl Block {
-    /// Allocates a block of `capacity` uninitialized places.
     pub(crate) fn new(alloc: Global, capacity: usize) -> Result<Block, AllocError>
         ensures { IfOk result (λ b. HoldsFrom b capacity × (capacity_of b ≡ capacity)) }
     {
@@ -65,7 +61,6 @@ impl Block {
         })
     }
 
-    /// Gives the block back.
     pub(crate) fn free(self)
         requires { IsBlock self }
     {
@@ -79,12 +74,10 @@ impl Block {
         deallocate(&alloc, places, deed);
     }
 
-    /// The block's allocator.
     pub(crate) fn alloc(&self) -> Global {
         self.alloc
     }
 
-    /// The number of places.
     #[inline]
     pub(crate) fn capacity(&self) -> usize
         ensures { result ≡ capacity_of self.now }
@@ -92,7 +85,6 @@ impl Block {
         self.places.len()
     }
 
-    /// The bytes from the place `from` on, all of which are initialized.
     #[inline]
     pub(crate) fn as_slice(&self, from: usize) -> &[u8]
         requires { HoldsFrom self.now from }
@@ -101,7 +93,6 @@ impl Block {
         lend(&self.places, self.base, from, self.places.len() - from)
     }
 
-    /// Writes the bytes of the slice from the place `at` on, up to initialized places.
     #[inline]
     pub(crate) fn put_slice(&mut self, at: usize, bytes: &[u8])
         requires { HoldsFrom self.old (at + length bytes.now) }
@@ -110,8 +101,7 @@ impl Block {
         self.places.copy_in(at, bytes);
     }
 
-    /// Writes `n` zeros from the place `at` on, up to initialized places. Padding is mostly below 8
-    /// bytes, and then one store of 8 if there is room for it.
+    /// Padding is mostly below 8 bytes, and then one store of 8.
     #[inline]
     pub(crate) fn put_zeros(&mut self, at: usize, n: usize)
         requires { HoldsFrom self.old (at + n) }
@@ -136,8 +126,6 @@ impl Block {
         zero(&mut self.places, at, n);
     }
 
-    /// Lets the filler write `n` bytes from the place `at` on, over zeros, up to initialized
-    /// places.
     #[inline]
     pub(crate) fn put_filled<F: Fill>(&mut self, at: usize, place: u32, n: usize, filler: &F)
         requires holds { HoldsFrom self.old (at + n) }
@@ -149,8 +137,6 @@ impl Block {
         filler.fill(place, lend_mut(&mut self.places, self.base, at, n));
     }
 
-    /// Lets the writer write `n` bytes from the place `at` on, without zeroing, up to initialized
-    /// places.
     #[inline(always)]
     pub(crate) fn put_overwritten<W: Overwrite>(
         &mut self,
@@ -168,8 +154,7 @@ impl Block {
         writer.overwrite(place, lend_mut(&mut self.places, self.base, at, n));
     }
 
-    // Initializes each place from `at` to the start of what is held, since an uninitialized place
-    // can't be lent.
+    // An uninitialized place can't be lent.
     #[inline]
     fn make_ready(&mut self, at: usize, start: usize)
         requires holds { HoldsFrom self.old start }
@@ -181,7 +166,6 @@ impl Block {
         }
     }
 
-    // Zeroes those of the places that may never have been written, from a little before `at` on.
     #[cold]
     #[inline(never)]
     fn fill_fresh(&mut self, at: usize, start: usize)
@@ -196,7 +180,7 @@ impl Block {
         self.initialized = from;
     }
 
-    /// Remembers that each place from `start` on was written, whatever is written there later.
+    /// Remembers that each place from `start` on was written.
     pub(crate) fn keep_initialized(&mut self, start: usize)
         requires { HoldsFrom self.old start }
         ensures holds { HoldsFrom self.new (capacity_of self.old) }

@@ -1,4 +1,4 @@
-//! A cache of contents of bytes that grow at their front.
+//! Contents of growing bytes, by their hash.
 ghost use Rattle.std.specs.Prelude.{◌≡◌, map, OnOk, OnErr, IfOk, nat_eq, option_to_list};
 ghost use Rattle.std.specs.Map.{lookup};
 ghost use Rattle.std.specs.Int.{w8, cast_unsigned};
@@ -15,15 +15,13 @@ use std::collections::HashMap;
 use std::collections::hash_map::Entry;
 use std::marker::{Model, PhantomData};
 
-/// The distances of keys of one kind in some bytes, by which an equal key is found.
-///
-/// To its callers it is a set of distances that fits some bytes: a key is at each of them.
-/// Prepended bytes keep the fit. No result depends on the hash or on its bits used.
+/// The distances of keys in some bytes. The cache fits bytes that have a key at each of them, also
+/// if others are prepended. No result depends on the hash.
 #[derive(Drop)]
 pub struct Cache<C> {
     // The last distance of a key, by the key's masked hash.
     last: HashMap<u64, u32, Handed>,
-    // The distances before it. Mostly there are none, and then they take no memory.
+    // Mostly there are none before the last, and then they take no memory.
     earlier: HashMap<u64, Vec<u32>, Handed>,
     hash_mask: u64,
     alloc: Global,
@@ -43,7 +41,6 @@ impl<C> Model for Cache<C> {
     } };
 }
 
-/// The first of these distances where the key is.
 #[inline]
 fn find_among<C: GetCacheKey, K: Key>(distances: &[u32], serialized: &[u8], key: &K) -> Option<u32>
     ensures { FoundAmong C.key_in distances.now serialized.now (K.bytes_of key.now) result }
@@ -66,7 +63,7 @@ pub fn find_key<C: GetCacheKey>(distances: &[u32], serialized: &[u8], key: &[u8]
     find_among::<C, Bytes<'_>>(distances, serialized, &Bytes(key))
 }
 
-/// [`find_key`] of a key of signed numbers, each one byte.
+/// [`find_key`] of a key of signed bytes.
 pub fn find_signed_key<C: GetCacheKey>(
     distances: &[u32],
     serialized: &[u8],
@@ -78,7 +75,6 @@ pub fn find_signed_key<C: GetCacheKey>(
     find_among::<C, Signed<'_>>(distances, serialized, &Signed(key))
 }
 
-/// Adds a distance to those that are not the last at a hash. Changes nothing on failure.
 fn put_aside(
     earlier: &mut HashMap<u64, Vec<u32>, Handed>,
     alloc: Global,
@@ -101,7 +97,6 @@ fn put_aside(
     Ok(())
 }
 
-/// Replaces the last distance at a hash, which is put aside. Changes nothing on failure.
 #[cold]
 #[inline(never)]
 fn replace_last(
@@ -123,7 +118,7 @@ fn replace_last(
     Ok(())
 }
 
-/// Adds a distance to those at a hash. Changes nothing on failure.
+/// Changes nothing on failure.
 #[inline]
 fn add(
     last: &mut HashMap<u64, u32, Handed>,
@@ -152,8 +147,7 @@ fn add(
 }
 
 impl<C: GetCacheKey> Cache<C> {
-    /// Creates an empty cache that uses the bits of a hash set in `hash_mask`; with 0 all hashes
-    /// are equal.
+    /// Creates an empty cache that uses the bits of a hash set in `hash_mask`.
     pub fn new(alloc: Global, hash_mask: u64) -> Result<Cache<C>, AllocError>
         ensures { IfOk result IsEmpty }
     {
@@ -166,7 +160,7 @@ impl<C: GetCacheKey> Cache<C> {
         })
     }
 
-    /// Takes all distances out.
+    /// Removes all distances.
     #[inline]
     pub fn clear(&mut self)
         ensures { IsEmpty self.new }
@@ -191,7 +185,6 @@ impl<C: GetCacheKey> Cache<C> {
         }
     }
 
-    // The bucket of a key in either form.
     #[tactic(auto, unfolding(crate::specs::Caches::IsBucketOf, crate::specs::Numbers::number_of))]
     fn bucket_by<K: Key>(&self, key: &K) -> Bucket
         ensures { IsBucketOf self.now (K.bytes_of key.now) result }
@@ -201,7 +194,6 @@ impl<C: GetCacheKey> Cache<C> {
         }
     }
 
-    // The last distance in a bucket, if the key is there.
     #[inline(always)]
     fn last_in<K: Key>(&self, bucket: Bucket, serialized: &[u8], key: &K) -> Option<u32>
         ensures { FoundAmong C.key_in
@@ -214,7 +206,6 @@ impl<C: GetCacheKey> Cache<C> {
         }
     }
 
-    // The first of the earlier distances where the key is.
     #[cold]
     #[inline(never)]
     fn earlier_in<K: Key>(&self, bucket: Bucket, serialized: &[u8], key: &K) -> Option<u32>
@@ -227,7 +218,6 @@ impl<C: GetCacheKey> Cache<C> {
         }
     }
 
-    // `get_in` for a key in either form.
     #[inline(never)]
     fn get_by<K: Key>(&self, bucket: Bucket, serialized: &[u8], key: &K) -> Option<u32>
         requires fits { Fits C.key_in self.now serialized.now }
@@ -240,8 +230,7 @@ impl<C: GetCacheKey> Cache<C> {
         }
     }
 
-    /// Returns a distance of the set where the key is in the bytes, or `None`. The cache must fit
-    /// the bytes.
+    /// Returns a distance where the key is in the bytes, which the cache must fit, or `None`.
     pub fn get(&self, serialized: &[u8], key: &[u8]) -> Option<u32>
         requires { Fits C.key_in self.now serialized.now }
         ensures { IsFound C.key_in self.now serialized.now key.now result }
@@ -249,8 +238,7 @@ impl<C: GetCacheKey> Cache<C> {
         self.get_in(self.bucket_of(key), serialized, key)
     }
 
-    /// Adds the distance where the key is, or is about to be: the cache fits all bytes that it
-    /// fitted before and that have the key there. Unchanged on failure.
+    /// Adds the distance where the key is, or is about to be. Unchanged on failure.
     pub fn insert(&mut self, key: &[u8], distance: u32) -> Result<(), AllocError>
         ensures ok { OnOk result (Adds self.old distance self.new) }
         ensures fits { OnOk result
@@ -261,15 +249,15 @@ impl<C: GetCacheKey> Cache<C> {
         self.insert_in(bucket, distance)
     }
 
-    /// Returns the bucket of a key. A lookup followed by an insertion calls this once, since it
-    /// reads each byte of the key.
+    /// Returns the bucket of a key, which reads each byte of the key: once for a lookup and an
+    /// insertion.
     pub fn bucket_of(&self, key: &[u8]) -> Bucket
         ensures { IsBucketOf self.now key.now result }
     {
         self.bucket_by(&Bytes(key))
     }
 
-    /// [`Cache::bucket_of`] of a key of signed numbers, each one byte.
+    /// [`Cache::bucket_of`] of a key of signed bytes.
     pub fn bucket_of_signed(&self, key: &[i8]) -> Bucket
         ensures { IsBucketOf self.now (map (λ number. cast_unsigned w8 number) key.now) result }
     {
@@ -285,7 +273,7 @@ impl<C: GetCacheKey> Cache<C> {
         self.get_by(bucket, serialized, &Bytes(key))
     }
 
-    /// [`Cache::get_in`] of a key of signed numbers, each one byte.
+    /// [`Cache::get_in`] of a key of signed bytes.
     pub fn get_signed_in(&self, bucket: Bucket, serialized: &[u8], key: &[i8]) -> Option<u32>
         requires fits { Fits C.key_in self.now serialized.now }
         requires bucket { IsBucketOf self.now (map (λ number. cast_unsigned w8 number) key.now)

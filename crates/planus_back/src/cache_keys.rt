@@ -4,14 +4,12 @@ ghost use Rattle.std.specs.Prelude.{if◌then◌else◌};
 ghost use Rattle.std.specs.Option.{option_copied};
 ghost use Rattle.planus_back.specs.CacheKeys.{key_at, vtable_in, bytes_in};
 
-/// A kind of contents of a buffer, by what makes two equal.
-///
-/// The ghost member `key_in` is the key of the contents at the front of some bytes, if it is whole.
+/// A kind of contents, by what makes two equal. `key_in` is the key at the front of some bytes.
 pub trait GetCacheKey {
     ghost key_in: { List ℕ → Option (List ℕ) };
 
-    /// Returns the key of the contents at a distance in bytes from the end, or `None` if the key,
-    /// or the size or count before it, isn't wholly in `serialized`.
+    /// Returns the key of the contents at a distance in bytes from the end, or `None` if it isn't
+    /// wholly in `serialized`.
     fn key_at(serialized: &[u8], distance: u32) -> Option<&[u8]>
         ensures { option_copied result ≡ key_at key_in serialized.now distance };
 }
@@ -22,7 +20,6 @@ pub struct VTable;
 /// The kind of strings and byte vectors: a key is the bytes after the count.
 pub struct ByteVec;
 
-/// The last bytes, as many as the distance.
 fn last_bytes(serialized: &[u8], distance: u32) -> Option<&[u8]>
     ensures { option_copied result ≡ (if nat_le distance (length serialized.now)
         then Some (drop (length serialized.now - distance) serialized.now) else None) }

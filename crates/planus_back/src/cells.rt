@@ -1,6 +1,4 @@
-//! The memory behind a vector: a block of places, its address, and the right to free it.
-//!
-//! All code that touches a pointer is here.
+//! The memory of a vector. All code that touches a pointer is here.
 ghost use Rattle.std.specs.Prelude.{◌≡◌, ◌+◌, ◌≤◌, ℕ, IfOk, take, drop};
 ghost use Rattle.std.specs.Borrow.{sem};
 ghost use Rattle.std.specs.Vec.Ownership.{FitsInBlock};
@@ -30,7 +28,6 @@ impl<T, A: Allocator> Model for Deed<T, A> {
     ghost also_shares = { λ _ _ _. ftrue };
 }
 
-/// The `len` values from the place `from` on of the block that begins at `base`.
 #[inline]
 pub(crate) fn lend<'a, T>(slots: &'a Slots<T>, base: *mut T, from: usize, len: usize) -> &'a [T]
     requires { InBlock base × (base ≡ slots_ptr slots.now) × (from + len ≤ slots_len slots.now) ×
@@ -40,7 +37,6 @@ pub(crate) fn lend<'a, T>(slots: &'a Slots<T>, base: *mut T, from: usize, len: u
     unsafe { slice::from_raw_parts(base.add(from), len) }
 }
 
-/// The same to be written.
 #[inline]
 pub(crate) fn lend_mut<'a, T>(
     slots: &'a mut Slots<T>,
@@ -56,8 +52,6 @@ pub(crate) fn lend_mut<'a, T>(
     unsafe { slice::from_raw_parts_mut(base.add(from), len) }
 }
 
-/// Allocates a block of `len` uninitialized places: its address, its places, and the right to free
-/// it.
 pub(crate) fn allocate<T, A: Allocator>(
     alloc: &A,
     len: usize,
@@ -76,7 +70,6 @@ pub(crate) fn allocate<T, A: Allocator>(
     }
 }
 
-/// Frees a block. The contents of its places are forgotten.
 pub(crate) fn deallocate<T, A: Allocator>(alloc: &A, slots: Slots<T>, deed: Deed<T, A>)
     requires { (deed.at ≡ slots_ptr slots) × (deed.len ≡ slots_len slots) × (deed.alloc ≡ alloc.now) }
 {

@@ -2,14 +2,12 @@
 
 use std::hash::{BuildHasher, Hasher};
 
-/// Returns the last number of 8 bytes that it is fed.
 #[derive(Clone, Copy)]
 pub struct Handed {
     number: u64,
 }
 
 impl Handed {
-    /// With no number yet.
     pub(crate) fn new() -> Handed {
         Handed { number: 0 }
     }

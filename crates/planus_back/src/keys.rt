@@ -5,39 +5,32 @@ ghost use Rattle.planus_back.specs.Bytes.{AreBytes};
 ghost use Rattle.planus_back.specs.Hashes.{fold_of, number_with, last_number, first_number, Splits};
 ghost use Rattle.planus_back.specs.Hashes.{hash_of};
 
-/// The first hash of a key starts from this. This and the next two are digits of pi: odd, and none
-/// near a multiple of another.
+/// This and the next two are digits of pi: odd, and none near a multiple of another.
 const FIRST: u64 = 2611923443488327891;
 
-/// The second hash starts from this.
 const SECOND: u64 = 589684135938649225;
 
-/// The second word of a pair is mixed with this.
 const MIXED: u64 = 4983270260364809079;
 
-/// Bytes, in either form, that can be hashed and compared.
 pub(crate) trait Key {
     ghost bytes_of: { Self → List ℕ };
 
-    // The hash of the bytes: 16 at a time by two hashes in turn, so that neither waits for the
-    // other, and then the last 8, some of which may have been among these.
+    // Two hashes in turn, so that neither waits for the other, then the last 8 bytes, some of which
+    // may be hashed already.
     fn hash(&self) -> u64
         ensures { result ≡ hash_of (bytes_of self.now) };
 
-    // Whether these are the bytes.
     fn is(&self, bytes: &[u8]) -> bool
         ensures { IsTrue result ↔ (bytes.now ≡ bytes_of self.now) };
 }
 
-/// A key of bytes.
 #[derive(Drop)]
 pub(crate) struct Bytes<'a>(pub(crate) &'a [u8]);
 
-/// A key of signed numbers of one byte.
 #[derive(Drop)]
 pub(crate) struct Signed<'a>(pub(crate) &'a [i8]);
 
-// The two halves of a product, as one number: each bit of it depends on all bits of both factors.
+// Each bit of the result depends on all bits of both factors.
 #[inline(always)]
 fn fold(left: u64, right: u64) -> u64
     ensures { result ≡ fold_of left right }
@@ -46,7 +39,6 @@ fn fold(left: u64, right: u64) -> u64
     low ^ high
 }
 
-// One byte more of a number.
 #[inline]
 fn join(number: u64, byte: u8) -> u64
     ensures { result ≡ number_with number byte }
@@ -54,7 +46,6 @@ fn join(number: u64, byte: u8) -> u64
     number.wrapping_mul(256).wrapping_add(byte as u64)
 }
 
-// The last 8 bytes as a number, or all of them if fewer.
 #[inline]
 fn last_of(bytes: &[u8]) -> u64
     ensures { result ≡ last_number bytes.now }
@@ -69,7 +60,6 @@ fn last_of(bytes: &[u8]) -> u64
     number
 }
 
-// The first 8 bytes as a number, 0 if there are fewer.
 #[inline(always)]
 fn first_of(bytes: &[u8]) -> u64
     ensures { result ≡ first_number bytes.now }
@@ -80,7 +70,6 @@ fn first_of(bytes: &[u8]) -> u64
     }
 }
 
-// The first two words and the rest, if there are 16 bytes.
 #[inline(always)]
 fn split_words(bytes: &[u8]) -> Option<(u64, u64, &[u8])>
     ensures { MatchOption result (length bytes.now < 16)
@@ -92,7 +81,6 @@ fn split_words(bytes: &[u8]) -> Option<(u64, u64, &[u8])>
     Some((first, second, behind))
 }
 
-// The byte of a signed number.
 #[inline]
 fn byte_of(number: i8) -> u8
     ensures { result ≡ cast_unsigned w8 number }
@@ -100,7 +88,6 @@ fn byte_of(number: i8) -> u8
     number.cast_unsigned()
 }
 
-// The number of 8 bytes given as signed numbers.
 #[inline]
 fn word_of(numbers: &[i8; 8]) -> u64
     ensures { result ≡ from_le_bytes w64 (map (λ number. cast_unsigned w8 number) numbers.now) }
@@ -117,7 +104,6 @@ fn word_of(numbers: &[i8; 8]) -> u64
     ])
 }
 
-// The number of the last 8 bytes given as signed numbers, or of all of them.
 #[inline]
 fn last_of_signed(numbers: &[i8]) -> u64
     ensures { result ≡ last_number (map (λ number. cast_unsigned w8 number) numbers.now) }
@@ -132,7 +118,6 @@ fn last_of_signed(numbers: &[i8]) -> u64
     joined
 }
 
-// The number of the first 8 bytes given as signed numbers, 0 if there are fewer.
 #[inline(always)]
 fn first_of_signed(numbers: &[i8]) -> u64
     ensures { result ≡ first_number (map (λ number. cast_unsigned w8 number) numbers.now) }
@@ -143,7 +128,6 @@ fn first_of_signed(numbers: &[i8]) -> u64
     }
 }
 
-// The first two words of bytes given as signed numbers, and the rest, if there are 16.
 #[inline(always)]
 fn split_signed_words(numbers: &[i8]) -> Option<(u64, u64, &[i8])>
     ensures { MatchOption result (length numbers.now < 16)
@@ -155,7 +139,6 @@ fn split_signed_words(numbers: &[i8]) -> Option<(u64, u64, &[i8])>
     Some((word_of(first), word_of(second), behind))
 }
 
-// Whether these are the same bytes.
 #[inline]
 fn same(left: &[u8], right: &[u8]) -> bool
     ensures { IsTrue result ↔ (left.now ≡ right.now) }
@@ -163,8 +146,7 @@ fn same(left: &[u8], right: &[u8]) -> bool
     left.len() == right.len() && same_words(left, right)
 }
 
-// The same for equal lengths. The last 8 are compared first, then 8 at a time, since most keys are
-// short.
+// The last 8 bytes are compared first, then 8 at a time, since most keys are short.
 #[inline]
 fn same_words(left: &[u8], right: &[u8]) -> bool
     requires left { AreBytes left.now }

@@ -1,5 +1,4 @@
-//! Laws of alignment constraints, padding and places. Each function states a law by its contract,
-//! and does nothing.
+//! Laws of alignment constraints, padding and places, each stated by a contract.
 ghost use Rattle.std.specs.Prelude.{◌≡◌, ℕ, ◌+◌, ◌<◌, ◌≤◌, List, [], ◌∷◌, ◌++◌};
 ghost use Rattle.std.specs.List.{AllByRecursion};
 ghost use Rattle.planus_back.specs.Caches.{Held, Fits, EmptyFits};
@@ -43,8 +42,8 @@ pub fn least_padding_is_unique()
         → IsLeastPadding length promises size alignment b → a ≡ b }
 {}
 
-/// A part with the greatest alignment of all, such as the first word of a finished buffer, ends at
-/// a length that keeps every constraint of what is written.
+/// A part with the greatest alignment of all, such as a finish, ends at a length that keeps every
+/// constraint.
 pub fn greatest_alignment_keeps_every_promise()
     ensures { (length : ℕ) (promises : List Promise) (size alignment padding : ℕ)
         → AllByRecursion (λ (p : Promise). IsPowerOfTwo p.alignment) promises
@@ -55,8 +54,7 @@ pub fn greatest_alignment_keeps_every_promise()
         (length + padding + size) }
 {}
 
-/// The least padding before each part in turn gives every part the least place that it has in any
-/// placing of the same parts in the same order. So the finished length is the least in this order.
+/// The least padding gives every part the least place of any placing in the same order.
 pub fn least_padding_gives_the_least_places()
     ensures { (parts : List Part) (places others : List ℕ)
         → AllByRecursion (λ (part : Part). IsPowerOfTwo part.alignment) parts

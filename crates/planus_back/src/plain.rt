@@ -5,7 +5,6 @@ ghost use Rattle.planus_back.specs.Padding.{promise_of, CanPad, IsLeastPadding};
 ghost use Rattle.planus_back.specs.Pairs.{promises_of, period, AlignmentsAboveZero};
 ghost use Rattle.planus_back.specs.Pairs.{DistancesWithin};
 
-// Returns whether a finished length keeps one constraint.
 fn keeps_one(length: usize, distance: usize, alignment: usize) -> bool
     requires { 0 < alignment }
     ensures { IsTrue result ↔ Keeps length (promise_of distance alignment) }
@@ -16,7 +15,6 @@ fn keeps_one(length: usize, distance: usize, alignment: usize) -> bool
     (length - distance) % alignment == 0
 }
 
-// Returns whether a finished length keeps every constraint.
 fn keeps(length: usize, promises: &[(usize, usize)]) -> bool
     requires { AlignmentsAboveZero promises.now }
     ensures { IsTrue result ↔ Keep (promises_of promises.now) length }
@@ -30,7 +28,6 @@ fn keeps(length: usize, promises: &[(usize, usize)]) -> bool
     }
 }
 
-// The number of bytes after which lengths keep the constraints again as before.
 fn period(promises: &[(usize, usize)]) -> usize
     requires positive { AlignmentsAboveZero promises.now }
     requires small { period promises.now < 2 ^ 32 }
@@ -42,7 +39,6 @@ fn period(promises: &[(usize, usize)]) -> usize
     }
 }
 
-// Returns whether some finished length keeps the constraints and that of a part at this place.
 fn can_stand(place: usize, alignment: usize, promises: &[(usize, usize)], tries: usize) -> bool
     requires above_zero { 0 < alignment }
     requires positive { AlignmentsAboveZero promises.now }
@@ -59,13 +55,12 @@ fn can_stand(place: usize, alignment: usize, promises: &[(usize, usize)], tries:
     false
 }
 
-/// Returns the least padding for a part of `size` bytes with this alignment, before `len` bytes
-/// with these constraints, each a pair of a distance from the end and an alignment, in bytes; or
-/// `None` if no padding will do.
+/// Returns the least padding in bytes for a part of `size` bytes with this alignment, before `len`
+/// bytes with these constraints, each a distance from the end and an alignment; or `None` if there
+/// is none.
 ///
-/// Tries paddings from 0 on, and for each of them finished lengths. The alignments need not be
-/// powers of two, but are above 0; no distance is above `len`; and all numbers are small, since
-/// every length up to the product of the alignments is tried.
+/// The alignments need not be powers of two. All numbers must be small, since every length up to
+/// the product of the alignments is tried.
 pub fn least_padding(
     len: usize,
     promises: &[(usize, usize)],

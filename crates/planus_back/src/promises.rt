@@ -10,10 +10,10 @@ use std::error::Error;
 use std::fmt;
 use std::marker::Model;
 
-/// The greatest distance of a part from the end, in bytes: the greatest signed number of 4 bytes.
+/// The greatest signed number of 4 bytes.
 const GREATEST_PLACE: usize = 2147483647;
 
-/// A part would be too far from the end of the buffer: its place would be above 2147483647.
+/// A part's place would be above 2147483647.
 #[derive(Clone, Copy, Debug, PartialEq, Eq)]
 pub struct TooLarge;
 
@@ -30,12 +30,8 @@ impl fmt::Display for TooLarge {
 
 impl Error for TooLarge {}
 
-/// The finished lengths that align every part placed so far.
-///
-/// In a flatbuffer each number is at a multiple of its size from the buffer's start. A writer from
-/// the back doesn't know the start yet, so each part that it places constrains the finished length.
-/// All constraints are kept by exactly the lengths `len + delayed() + k * (mask() + 1)`, where
-/// `len` is the number of bytes so far.
+/// The finished lengths that align every part placed so far: `len + delayed() + k * (mask() + 1)`
+/// for every k, where `len` is the number of bytes so far.
 #[derive(Clone, Copy, Debug, PartialEq, Eq)]
 pub struct Promises {
     delayed: usize,
@@ -56,7 +52,7 @@ impl Model for Promises {
 }
 
 impl Promises {
-    /// Creates the value without constraints, before no bytes: every length keeps them.
+    /// Creates the value without constraints.
     pub const fn new() -> Promises
         ensures delayed { result.delayed ≡ 0 }
         ensures mask { result.mask ≡ 0 }
@@ -68,8 +64,7 @@ impl Promises {
         }
     }
 
-    /// Returns the least number of bytes to be added to those so far for a length that keeps every
-    /// constraint.
+    /// Returns the least number of bytes to be added to keep every constraint.
     #[inline]
     pub fn delayed(&self) -> usize
         ensures { result ≡ self.now.delayed }
@@ -92,15 +87,13 @@ impl Promises {
         self.mask
     }
 
-    /// Returns the least padding, in bytes, for a part of `size` bytes before the `len` bytes so
-    /// far, such that every constraint and the part's own alignment `mask + 1` can be kept; and the
-    /// constraints with the part's.
+    /// Returns the least padding in bytes for a part of `size` bytes before the `len` bytes so far,
+    /// such that every constraint and the part's own alignment `mask + 1`, a power of two up to
+    /// 2^30, can be kept; and the constraints with the part's.
     ///
-    /// Requires `mask + 1` to be a power of two up to 2^30, and `len` to be at most 2147483647.
-    /// [`TooLarge`] if `len`, the padding and `size` together are above 2147483647.
-    ///
-    /// If no alignment so far is greater than the part's, the length with the part keeps every
-    /// constraint.
+    /// Fails with [`TooLarge`] if `len`, the padding and `size` together are above 2147483647.
+    /// `len` itself must not be. If no alignment so far is greater than the part's, the length with
+    /// the part keeps every constraint.
     #[inline]
     pub fn request(
         self,
@@ -138,8 +131,7 @@ impl Promises {
             return Err(TooLarge);
         }
         let next = Promises {
-            // The part of `ahead` above the padding, by a mask, so that it doesn't wait for the
-            // padding.
+            // By a mask, so that it doesn't wait for the padding.
             delayed: ahead & !mask,
             // The greater one, since each is one less than a power of two.
             mask: self.mask | mask,
@@ -148,7 +140,6 @@ impl Promises {
     }
 }
 
-/// No promise yet, as [`Promises::new`].
 impl Default for Promises {
     ghost is_default = { λ promises. (promises.delayed ≡ 0) × (promises.mask ≡ 0)
         × DescribesAll promises 0 [] };

@@ -1,20 +1,17 @@
--- How a block of memory holds the bytes of a back vector: its places from one on hold bytes.
+-- How a block holds a back vector's bytes.
 use Rattle.std.specs.Prelude.{◌≡◌, ℕ, ◌+◌, ◌≤◌, List, ◌++◌, length, drop}
 use Rattle.core.specs.Mem.Slots.{slots_items, slots_filled, slots_ptr, slots_len}
 use Rattle.core.specs.Mem.Slots.Ownership.{Filled}
 use denote.RawPtr.{InBlock}
 use Rattle.planus_back.specs.declared.block.Block.{Block}
 
--- the number of places
 abbrev pub capacity_of : Block → ℕ
 capacity_of b = slots_len b.places
 
--- the bytes in the places from the k-th on
 abbrev pub bytes_from : Block → ℕ → List ℕ
 bytes_from b k = drop k (slots_items b.places)
 
--- the pointer and the right to free the block are those of the places, and each place from
--- `initialized` on holds a byte
+-- each place from `initialized` on holds a byte, and the deed is that of these places
 pub record IsBlock (b : Block) : Type 0 where
   pub inside : InBlock b.base
   pub base : b.base ≡ slots_ptr b.places
@@ -28,14 +25,12 @@ pub record HoldsFrom (b : Block) (start : ℕ) : Type 0 where
   pub within : start ≤ capacity_of b
   pub filled : Filled (slots_filled b.places) start (capacity_of b)
 
--- the block holds the bytes from the place on, followed by what it held
 pub record Puts (b : Block) (at : ℕ) (part : List ℕ) (b' : Block) : Type 0 where
   pub holds : HoldsFrom b' at
   pub capacity : capacity_of b' ≡ capacity_of b
   pub bytes : bytes_from b' at ≡ part ++ bytes_from b (at + length part)
 
--- what was in the first block from `start` on is in the second, whose places from `at` on each hold
--- a byte
+-- each place from `at` on holds a byte, and from `start` on the same one
 pub record Readies (b : Block) (at start : ℕ) (b' : Block) : Type 0 where
   pub holds : HoldsFrom b' at
   pub capacity : capacity_of b' ≡ capacity_of b

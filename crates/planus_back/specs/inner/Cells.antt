@@ -1,4 +1,4 @@
--- The places of a block after a run of them was lent to be written.
+-- The places of a block after a lend.
 use Rattle.core.specs.Prelude.{ℕ, ◌+◌, List, ◌++◌, take, drop}
 use Rattle.core.specs.List.{refill, length_refill}
 use Rattle.core.specs.declared.slots.Slots.{Slots}
@@ -6,12 +6,10 @@ use Rattle.core.specs.contracts.slots.Slots.{the_row}
 use Rattle.std.specs.Borrow.{Fml, RattleType, MutBor, Array, Lends}
 
 module _ {X : Type 0} where
-  -- the values, with those of the run in place of the `len` from the place `from` on
   abbrev pub items_with_run : Slots X → ℕ → ℕ → List X → List X
   items_with_run a from len run =
       refill a.len a.items (take from a.items ++ (run ++ drop (from + len) a.items))
 
-  -- the same places with these values
   abbrev pub slots_with_run : Slots X → ℕ → ℕ → List X → Slots X
   slots_with_run a from len run = record {
     ptr = a.ptr;
@@ -26,7 +24,7 @@ module _ {X : Type 0} where
     small = a.small;
   }
 
--- r is the run of the places of a: when the borrow ends, they hold what was written through it
+-- when the borrow ends, the run of places holds what was written through it
 abbrev pub lends_run : (R : RattleType) → MutBor (Slots R.Denot) → ℕ → ℕ → MutBor (List R.Denot)
     → Fml
 lends_run R a from len r = Lends (the_row R) (Array R 0) a r (slots_with_run a.now from len)

@@ -1,9 +1,7 @@
--- What the identity hasher keeps.
 use Rattle.std.specs.Prelude.{ℕ, List, length, take, nat_le, if◌then◌else◌}
 use Rattle.std.specs.Int.{w64, from_le_bytes}
 use Rattle.planus_back.specs.declared.handed.Handed.{Handed}
 
--- the hasher after the bytes: of 8 or more, the number of the first 8
 abbrev pub handed : Handed → List ℕ → Handed
 handed state bytes =
     if nat_le 8 (length bytes) then record { number = from_le_bytes w64 (take 8 bytes) } else state

@@ -1,4 +1,4 @@
--- `allocate` cuts a new block into places that hold nothing, and keeps the right to give it back.
+-- `allocate` makes empty places, and the right to free them.
 use mathlib.Core.Path.{◌≡◌, refl, sym, subst, ap, ◌∙◌}
 use mathlib.Core.Bool.{Bool, true, false}
 use Prim.Native.Nat.{ℕ, ◌*◌, ◌<◌, ◌^◌}

@@ -1,4 +1,4 @@
--- `deallocate` makes room of the places, and hands it back with the deed.
+-- `deallocate` frees the places with the deed.
 use mathlib.Core.Path.{◌≡◌, refl, sym, subst, ap, ◌∙◌}
 use Prim.Native.Nat.{ℕ, ◌*◌, ◌<◌, ◌^◌}
 use native.Mathlib.Omega.{arith}

@@ -1,4 +1,4 @@
--- `lend_mut` lends a run of places that hold their values, to be written.
+-- `lend_mut` lends such a run to be written.
 use mathlib.Core.Path.{◌≡◌, refl, sym, ap, subst, ◌∙◌}
 use Prim.Native.Nat.{ℕ, ◌+◌, ◌*◌, ◌<◌, ◌≤◌, ◌^◌}
 use native.Mathlib.Omega.{arith}
@@ -62,7 +62,6 @@ run_full : (fs : List Bool) (i n : ℕ) → Filled fs i (i + n) → (k : ℕ) �
 run_full fs i n full k lt = in_run fs i n k false lt ∙ full (i + k) (omega arith) (omega arith)
 
 module _ (E : El) {M : Type 1} {𝓤 : Ura M} (𝓛 : Logic 𝓤) (rb ro b o : ℕ) (h : el_d E) (i n : ℕ) where
-  -- all but the run
   abbrev Rest : Fml
   Rest = fsep (Around E 𝓛 b o h.items h.filled i n) (cell_at full_share (Sr E).mir (row_val b o h.len ∷ []) rb ro)
 

@@ -1,7 +1,6 @@
 use Rattle.std.proofs.Common.{◌≡◌, ℕ, ◌++◌, List, length}
 use Rattle.planus_back.proofs.keys.same_words.Given as goal
 
--- what was compared so far is the front of both
 abbrev pub invariant-loop-word : goal.invariant-loop-word
 invariant-loop-word l =
     (front : List ℕ) × (l.fn.left ≡ front ++ l.left) × (l.fn.right ≡ front ++ l.right)

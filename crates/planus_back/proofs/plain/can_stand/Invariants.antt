@@ -4,6 +4,5 @@ use Rattle.planus_back.specs.Padding.{promise_of}
 use Rattle.planus_back.specs.Pairs.{promises_of}
 use Rattle.planus_back.proofs.plain.can_stand.Given as goal
 
--- no length so far keeps them
 abbrev pub invariant-loop-length : goal.invariant-loop-length
 invariant-loop-length l = (k : ℕ) → l.place ≤ k → k < l.length → Keep (promise_of l.place l.alignment ∷ promises_of l.promises) k → ⊥

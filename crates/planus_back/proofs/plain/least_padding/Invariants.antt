@@ -3,6 +3,5 @@ use Rattle.planus_back.specs.Padding.{CanPad}
 use Rattle.planus_back.specs.Pairs.{promises_of}
 use Rattle.planus_back.proofs.plain.least_padding.Given as goal
 
--- no padding so far will do
 abbrev pub invariant-loop-padding : goal.invariant-loop-padding
 invariant-loop-padding l = (k : ℕ) → k < l.padding → CanPad l.len (promises_of l.promises) l.size l.alignment k → ⊥

@@ -1,7 +1,6 @@
 use Rattle.std.proofs.Common.{arith}
 use Rattle.planus_back.proofs.promises.Promises.new.Goals as goal
 
--- with no promise every length is kept
 pub returns-clause-described : goal.returns-clause-described
 returns-clause-described c = record {
   powers = tt;

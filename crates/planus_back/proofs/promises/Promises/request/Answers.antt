@@ -9,7 +9,6 @@ use Rattle.planus_back.specs.Promises.{IsPowerOfTwo}
 use Rattle.planus_back.specs.Requests.{Delay}
 use Rattle.planus_back.proofs.promises.Promises.request.Goals as goal
 
--- of two numbers that are one less than powers of two, the bits of the lesser are among the greater's
 or_is_max : (a b : ℕ) → IsPowerOfTwo (a + 1) → IsPowerOfTwo (b + 1) → bit_or a b ≡ max a b
 or_is_max a b p q = elim (cases_lt a b) as (λ _. bit_or a b ≡ max a b) [
   | inl lt ↦ (let e : bit_and a b ≡ a = and_below a b q ∙ mod-eq_of_lt (omega (arith, lt)) in omega (arith, or_add_and a b, e, lt))
@@ -28,7 +27,6 @@ granted c = asked_for (record { delayed = c.self.inside.delayed; mask = c.self.i
 one_mask : (c : goal.After-struct_known-3-1) → bit_or c.self.inside.mask c.args.mask ≡ max c.self.inside.mask c.args.mask
 one_mask c = or_is_max c.self.inside.mask c.args.mask c.self.invariant.power c.requires.power
 
--- the bits outside of a mask are what those in it leave
 outside_of : (n mask : ℕ) → n < 2 ^ 64 → mask < 2 ^ 64 → bit_and n (18446744073709551615 - mask) ≡ n - bit_and n mask
 outside_of n mask small within =
     let sum : bit_and (18446744073709551615 - mask) n + bit_and mask n ≡ n = and-not 64 mask n within small in
