@@ -1,4 +1,4 @@
--- A dump by a schema that has the shape of weapons and monsters.
+-- A dump by the worked schema.
 use Rattle.std.proofs.Common.{ℕ, List, Bool, Option, Some, None}
 use Rattle.std.specs.Prelude.{Result, Ok, Err, IfOk, IfSome}
 use Rattle.planus_dump.specs.declared.schemas.Schema.{Schema}

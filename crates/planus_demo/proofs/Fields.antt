@@ -1,8 +1,7 @@
--- Fields that are added behind others.
+-- Fields added after others.
 use Rattle.std.proofs.Common.{◌≡◌, List, ◌++◌, ap, ◌∙◌}
 use Rattle.std.proofs.lemmas.List.{append_assoc}
 
--- what stands behind some that stand behind others
 pub behind :
     {A : Type 0} (before first some more : List A) → some ≡ before ++ first
     → some ++ more ≡ before ++ (first ++ more)

@@ -16,7 +16,6 @@ use Rattle.planus_dump.specs.declared.schemas.TableSchema.{TableSchema}
 use Rattle.planus_dump.specs.declared.schemas.Kind.TheVariants.{One}
 use Rattle.planus_dump.specs.declared.schemas.Item.TheVariants.{Text, I16}
 
--- the table with an index, by its shape
 record TableIs (schema : Schema) (index : ℕ) (shape : TableShape) : Type 0 where
   table : TableSchema
   there : slice_get schema.tables.items index ≡ Some table
@@ -28,7 +27,6 @@ table_is schema tables unions root index shape has e =
     let made = made_of table_shape (slice_get schema.tables.items index) shape (sym (slice_get-map table_shape schema.tables.items index) ∙ ap (λ (all : List TableShape). slice_get all index) has.tables_are ∙ e) in
     record { table = made.0; there = made.1; fields = ap (λ (one : TableShape). one.fields) made.2 }
 
--- the only union, by its variants
 union_is : (schema : Schema) (root : ℕ) → HasShape schema worked_tables worked_unions root
     → (variants : Vec (ℕ × ℕ) Global) × (slice_get schema.unions.items 0 ≡ Some variants) × (variants.items ≡ (1, 0) ∷ [])
 union_is schema root has =
@@ -39,7 +37,6 @@ all_mapped : {X Y : Type 0} (P : Y → Type 0) (f : X → Y) (xs : List X) → A
 all_mapped P f [] h = tt
 all_mapped P f (x ∷ xs) h = (h.0, all_mapped P f xs h.1)
 
--- that a table describes fields, by its shape
 module _ (schema : Schema) (steps : List Step) (IsTable : ℕ → ℕ → Type 0) (index : ℕ) (shape : TableShape) (is : TableIs schema index shape) (fields : List (ℕ × FieldStep)) where
   abbrev Fields : Type 0
   Fields = AllByRecursion (λ (one : FieldShape). HasKind steps IsTable schema fields one.slot one.kind) shape.fields
@@ -82,7 +79,6 @@ monster_fits schema root left has =
     (by_shape schema worked_steps D 1 monster_shape (table_is schema worked_tables worked_unions root 1 monster_shape has refl) _
     (refl, (tt, (tt, ((refl, (axe, tt)), ((refl, tagged), ((refl, (tagged, tt)), tt)))))))
 
--- what a weapon's fields say of a step's table
 weapon_fields : (schema : Schema) (steps : List Step) (n : ℕ) (fields : List (ℕ × FieldStep)) → HasShape schema worked_tables worked_unions 0 → Fits schema steps n → slice_get steps n ≡ Some (table fields)
     → HasKind steps (Describes schema steps 63) schema fields 0 (One Text) × HasKind steps (Describes schema steps 63) schema fields 1 (One I16) × Unit {0}
 weapon_fields schema steps n fields has fits e =

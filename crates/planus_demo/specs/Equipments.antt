@@ -1,4 +1,3 @@
--- What is read and written as a monster's equipment.
 use Rattle.std.specs.Prelude.{◌≡◌, ◌≢◌, ℕ, List, Result, Ok, Err, ◌⊎◌}
 use Rattle.planus_read.specs.declared.errors.ErrorKind.{ErrorKind}
 use Rattle.planus_read.specs.declared.errors.ErrorKind.TheVariants.{UnknownUnionTag}
@@ -13,7 +12,7 @@ use Rattle.planus_demo.specs.declared.equipment_ref.EquipmentRef.TheVariants.{We
 abbrev pub ReadsWeapon : List ℕ → ℕ → ℕ → Result WeaponRef ErrorKind → Type 0
 ReadsWeapon S start f answer = Answer (shown (ShowsWeapon S start) (table_reading S f)) answer
 
--- The results of reading equipment: a weapon for tag 1, no other tag.
+-- a weapon for tag 1, no other tag
 abbrev pub ReadsEquipment : List ℕ → ℕ → ℕ → ℕ → Result EquipmentRef ErrorKind → Type 0
 ReadsEquipment S start tag f (Ok (Weapon weapon)) = (tag ≡ 1) × ReadsWeapon S start f (Ok weapon)
 ReadsEquipment S start tag f (Err error) =

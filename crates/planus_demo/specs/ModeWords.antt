@@ -1,4 +1,3 @@
--- The modes of the program's arguments.
 use Rattle.std.specs.Prelude.{◌≡◌, ◌≢◌, ℕ, List, [], ◌∷◌, codes, Option, Some, None}
 use Rattle.planus_demo.specs.declared.modes.Mode.{Mode}
 use Rattle.planus_demo.specs.declared.modes.Mode.TheVariants.{Script, Weapon, Monster}

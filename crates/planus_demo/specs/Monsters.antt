@@ -1,4 +1,3 @@
--- What is written for a monster.
 use Rattle.std.specs.Prelude.{ℕ, List, [], ◌∷◌, Option, Some}
 use Rattle.planus_read.specs.Values.{Field}
 use Rattle.planus_fields.specs.Fields.{AlwaysWritten}
@@ -13,7 +12,7 @@ use Rattle.planus.specs.Preparing.{WritesFields}
 use Rattle.planus.specs.TableFields.{field_in, list_tags_in, list_values_in, union_tag_in}
 use Rattle.planus.specs.TableFields.{union_value_in}
 
--- a monster was written, its fields being prepared by slot, or there is an error
+-- a monster was written, its fields being prepared by slot, or the call failed
 abbrev pub WritesMonster : {H N I W K T : Type 0} → Outcome (Option H) → (H → Field) → Outcome N
     → (N → Field) → Outcome (Option I) → (I → Field) → Outcome (Option W) → (W → Field)
     → Outcome (Option (UnionOffset K)) → Outcome (Option (UnionVectorOffset K))
@@ -31,7 +30,7 @@ WritesMonster {H} {N} {I} {W} {K} {T} prepare_hp hp_field prepare_name name_fiel
     ∷ list_values_in 7 loot ∷ field_in 0 hp_field hp ∷ union_tag_in 4 equipped ∷ []))))))))
     WritesFields
 
--- The contents of a monster's slots.
+-- a monster's fields by slot
 abbrev pub monster_contents : (hp : Option Content) (name : Content)
     (inventory weapons : Option Content) (equipped : Option (ℕ × Content))
     (loot : Option (Content × Content)) → List (ℕ × Option Content)

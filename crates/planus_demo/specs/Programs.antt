@@ -1,4 +1,4 @@
--- What the program prints for its input and arguments, and on standard error.
+-- What the program prints.
 use Rattle.std.specs.Prelude.{◌≡◌, ℕ, List, [], ◌++◌, Bool, false, Option, Some, None, IfSome}
 use Rattle.std.specs.Prelude.{Result, Ok, Err, codes}
 use Rattle.std.specs.Io.KnownBytes.{Appends}
@@ -13,17 +13,17 @@ use Rattle.planus_script.specs.DumpRuns.{WritesDump}
 use Rattle.planus_demo.specs.declared.modes.Mode.{Mode}
 use Rattle.planus_demo.specs.declared.modes.Mode.TheVariants.{Script, Weapon, Monster}
 
--- The dump of an input was written by the schema of weapons and monsters with this root.
+-- the dump of an input was written by the schema with this root
 abbrev pub DumpsRoot : ℕ → List ℕ → Bool → Option (List ℕ) → Option (List ℕ) → Type 0
 DumpsRoot root input clean before after = (schema : Schema)
     × HasShape schema worked_tables worked_unions root × WritesDump schema input clean before after
 
--- Only the message of an unknown mode was written.
+-- only the message of an unknown mode was written
 abbrev pub SaysUnknown : Bool → Option (List ℕ) → Option (List ℕ) → Type 0
 SaysUnknown clean before after =
     (clean ≡ false) × Appends before after (line_of (codes "unknown argument"))
 
--- the output of a script or of a dump was written, or without a mode the message
+-- the output of a script or of a dump, or without a mode the message
 abbrev pub DoesMode :
     Option Mode → Option (List ℕ) → Bool → Option (List ℕ) → Option (List ℕ) → Type 0
 DoesMode (Some Script) input clean before after =
@@ -34,14 +34,13 @@ DoesMode (Some Monster) input clean before after =
     IfSome input (λ bytes. DumpsRoot 1 bytes clean before after)
 DoesMode None input clean before after = SaysUnknown clean before after
 
--- the usage
 abbrev pub usage_text : List ℕ
 usage_text =
     line_of (codes "usage: planus_demo < SCRIPT")
     ++ line_of (codes "       planus_demo weapon < BYTES")
     ++ line_of (codes "       planus_demo monster < BYTES")
 
--- What is printed on standard error: the error of the program, or without a mode its usage.
+-- on standard error: the program's error, or without a mode its usage
 abbrev pub told_text : Result Bool RunError → Option Mode → List ℕ
 told_text (Err OutOfMemory) mode = line_of (codes "out of memory")
 told_text (Err Read) mode = line_of (codes "can't read standard input")

@@ -1,10 +1,9 @@
--- The variants of a union, as they are written.
 use Rattle.std.specs.Prelude.{◌≡◌, ℕ, Ok, Err}
 use Rattle.planus_write.specs.Placing.{Outcome}
 use Rattle.planus_write.specs.declared.offset.Offset.{Offset}
 use Rattle.planus_write.specs.declared.union_offset.UnionOffset.{UnionOffset}
 
--- The value of a variant was written, and is returned with the variant's tag; or there is an error.
+-- the value was written, with the variant's tag, or the call failed
 abbrev pub WritesVariant : {T K : Type 0} → ℕ → Outcome (Offset T) → Outcome (UnionOffset K)
 WritesVariant {T} {K} tag writes old (Ok union) new = (offset : Offset T)
     × writes old (Ok offset) new × (union.tag ≡ tag)

@@ -1,4 +1,3 @@
--- What is written for a weapon.
 use Rattle.std.specs.Prelude.{[], ◌∷◌, Option}
 use Rattle.planus_read.specs.Values.{Field}
 use Rattle.planus_write.specs.Placing.{Outcome, then_does}
@@ -7,7 +6,7 @@ use Rattle.planus_write.specs.declared.offset.Offset.{Offset}
 use Rattle.planus.specs.Preparing.{WritesFields}
 use Rattle.planus.specs.TableFields.{field_in}
 
--- a weapon was written, its name being prepared before its damage, or there is an error
+-- a weapon was written, its name being prepared before its damage, or the call failed
 abbrev pub WritesWeapon : {A B T : Type 0} → Outcome (Option A) → (A → Field) → Outcome (Option B)
     → (B → Field) → Outcome (Offset T)
 WritesWeapon {A} {B} {T} prepare_name name_field prepare_damage damage_field =

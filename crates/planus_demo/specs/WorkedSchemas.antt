@@ -1,4 +1,4 @@
--- The schema of weapons and monsters, and steps that it fits or doesn't.
+-- Schemas, and steps that they fit or don't.
 use Rattle.std.specs.Prelude.{ℕ, List, [], ◌∷◌, codes, None}
 use Rattle.planus.specs.Steps.{Step, text, bytes, refs, unions, table, finish, root_first}
 use Rattle.planus.specs.Steps.{number_field, ref_field, tags_field, values_field}
@@ -9,7 +9,7 @@ use Rattle.planus_dump.specs.declared.schemas.Kind.TheVariants.{One, List as Lis
 use Rattle.planus_dump.specs.declared.schemas.Kind.TheVariants.{UnionVector, Bytes}
 use Rattle.planus_dump.specs.declared.schemas.Item.TheVariants.{I16, Text, Table}
 
--- weapons and monsters; what a monster has equipped, and its loot, are weapons, with tag 1
+-- equipment and loot are weapons, with tag 1
 abbrev pub weapon_shape : TableShape
 weapon_shape =
     record {
@@ -33,8 +33,7 @@ worked_tables = weapon_shape ∷ monster_shape ∷ []
 abbrev pub worked_unions : List (List (ℕ × ℕ))
 worked_unions = ((1, 0) ∷ []) ∷ []
 
--- The steps of a monster with an axe in hand, in its list of weapons and in its loot. Step 1 is the
--- axe, and step 6 the monster.
+-- Step 1 is the axe, step 6 the monster, which has it as weapon, equipment and loot.
 abbrev pub worked_steps : List Step
 worked_steps =
     text (codes "Axe") ∷ table ((0, ref_field 0) ∷ (1, number_field 2 24) ∷ [])
@@ -44,7 +43,7 @@ worked_steps =
     ∷ (4, number_field 1 1) ∷ [])
     ∷ finish root_first 6 None ∷ []
 
--- a weapon whose damage has four bytes, and one whose name is a list of bytes
+-- a weapon whose damage has four bytes, and one whose name is a byte vector
 abbrev pub wide_steps : List Step
 wide_steps =
     text (codes "Axe") ∷ table ((0, ref_field 0) ∷ (1, number_field 4 24) ∷ []) ∷ []
@@ -53,8 +52,7 @@ abbrev pub unnamed_steps : List Step
 unnamed_steps =
     bytes (codes "Axe") ∷ table ((0, ref_field 0) ∷ (1, number_field 2 24) ∷ []) ∷ []
 
--- The schema of weapons fits the axe, and that of monsters the monster. That of weapons fits neither
--- of the other two, nor the monster.
+-- the schema of weapons fits the axe alone, and that of monsters the monster
 pub record WorkedRowsFit (schema : Schema) : Type 0 where
   pub weapon : HasShape schema worked_tables worked_unions 0 → Fits schema worked_steps 1
   pub monster : HasShape schema worked_tables worked_unions 1 → Fits schema worked_steps 6

@@ -1,5 +1,3 @@
-//! How the program ends.
-
 use planus_script::run::RunError;
 
 /// How the program ended.
@@ -7,6 +5,6 @@ use planus_script::run::RunError;
 pub struct Ending {
     /// Whether all went well, or the error of reading, writing or an allocation.
     pub answer: Result<bool, RunError>,
-    /// Whether the message for standard error, if any, was written.
+    /// Whether the message for standard error was written.
     pub told: bool,
 }

@@ -1,4 +1,4 @@
-//! A union of one variant, written as in code that is generated from a schema:
+//! A union of one variant, as in generated code:
 //!
 //! ```text
 //! union Equipment { Weapon }
@@ -16,9 +16,7 @@ pub struct Equipment;
 
 impl Equipment {
     /// Writes a weapon, unless it is written already. Returns it as equipment, with tag 1.
-    ///
-    /// Requires that an offset among the arguments was returned by this builder since the last
-    /// clear. The errors are those of [`WriteAsOffset::prepare`].
+    /// Requirements and errors are those of [`WriteAsOffset::prepare`].
     pub fn create_weapon<W: WriteAsOffset<Weapon> + Drop>(
         builder: &mut Builder,
         weapon: W,

@@ -1,5 +1,3 @@
-//! Equipment in a buffer.
-
 ghost use Rattle.std.specs.Prelude.{◌≡◌, codes};
 
 use crate::weapon::WeaponRef;

@@ -1,5 +1,4 @@
-//! Reads a script from standard input, and prints each finished buffer as a line of hexadecimal
-//! bytes; with the argument `weapon` or `monster`, reads such a line and prints a dump.
+//! Runs a script from standard input, or with `weapon` or `monster` prints a dump.
 #![tactic(auto)]
 
 mod ending;

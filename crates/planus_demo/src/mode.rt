@@ -1,4 +1,3 @@
-//! The modes of the program's arguments.
 ghost use Rattle.std.specs.Prelude.{◌≡◌, ◌++◌, [], ◌∷◌, map, IfOk, OnOk};
 ghost use Rattle.std.specs.String.{string_bytes};
 ghost use Rattle.planus_dump.specs.Shapes.{field_shape, field_of, table_shape, HasShape};
@@ -90,8 +89,7 @@ fn monster(alloc: Global) -> Result<TableSchema, AllocError>
     Ok(TableSchema { name, fields })
 }
 
-/// Returns the schema of weapons and monsters, with this root: 0 is a weapon, and 1 a monster. The
-/// union has one variant, a weapon with tag 1.
+/// Returns the schema of weapons and monsters with the root 0, a weapon, or 1, a monster.
 pub fn schema(alloc: Global, root: usize) -> Result<Schema, AllocError>
     ensures { IfOk result (λ schema. HasShape schema worked_tables worked_unions root) }
 {

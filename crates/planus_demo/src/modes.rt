@@ -1,5 +1,3 @@
-//! What the program can do.
-
 /// What the program does.
 #[derive(Clone, Copy, Debug, PartialEq, Eq)]
 pub enum Mode {

@@ -1,4 +1,4 @@
-//! A table with a field of each kind, written and read as in code that is generated from a schema:
+//! A table with a field of each kind, as in generated code:
 //!
 //! ```text
 //! table Monster {
@@ -40,14 +40,8 @@ use planus::{
 pub struct Monster;
 
 impl Monster {
-    /// Writes a monster, and returns its offset. Its fields are prepared in the order of the
-    /// arguments; hit points of 100 are left out.
-    ///
-    /// Requires that an offset among the arguments was returned by this builder since the last
-    /// clear.
-    ///
-    /// [`BuildError::TooLarge`] and [`BuildError::OutOfMemory`] as in [`Builder::create_vector`].
-    /// What was written before the write that failed stays, and nothing after it is begun.
+    /// Writes a monster, and returns its offset. Its fields are prepared in order; hit points of
+    /// 100 are left out. Requirements and errors are those of [`Builder::create_vector`].
     pub fn create<H, N, I, W, E, L>(
         builder: &mut Builder,
         hp: H,
@@ -116,7 +110,7 @@ pub struct MonsterRef<'a> {
 }
 
 impl<'a> MonsterRef<'a> {
-    /// Returns the hit points, 100 where they are absent. The errors are those of a field `i16`.
+    /// Returns the hit points, 100 if absent. Fails like a field `i16`.
     pub fn hp(&self) -> Result<i16>
         ensures { Located (OrElse (pos 100) (FieldAnswer
             (λ S start f r. Answer (signed_reading S f w16) r) (monster_table self.now) 0))
@@ -125,8 +119,8 @@ impl<'a> MonsterRef<'a> {
         Ok(self.table.access::<i16>(0, "Monster", "hp")?.unwrap_or(100))
     }
 
-    /// Returns the name. [`ErrorKind::MissingRequired`] where it is absent, and the errors of a
-    /// field `&str`.
+    /// Returns the name. Fails with [`ErrorKind::MissingRequired`] if it is absent, or like a field
+    /// `&str`.
     pub fn name(&self) -> Result<&'a str>
         ensures { Located (IsThere (FieldAnswer
             (λ S start f r. Answer (shown ShowsBytes (text_reading S f)) r)
@@ -136,8 +130,7 @@ impl<'a> MonsterRef<'a> {
         self.table.access_required::<&str>(1, "Monster", "name")
     }
 
-    /// Returns the inventory, or `None` where it is absent. The errors are those of a field
-    /// `&[u8]`.
+    /// Returns the inventory, or `None` if absent. Fails like a field `&[u8]`.
     pub fn inventory(&self) -> Result<Option<&'a [u8]>>
         ensures { Located (FieldAnswer
             (λ S start f r. Answer (shown ShowsBytes (byte_list_reading S f)) r)
@@ -147,8 +140,7 @@ impl<'a> MonsterRef<'a> {
         self.table.access::<&[u8]>(2, "Monster", "inventory")
     }
 
-    /// Returns the weapons, or `None` where they are absent. The errors are those of a field
-    /// [`Vector`].
+    /// Returns the weapons, or `None` if absent. Fails like a field [`Vector`].
     pub fn weapons(&self) -> Result<Option<Vector<'a, Result<WeaponRef<'a>>>>>
         ensures { Located (FieldAnswer
             (λ S start f r. Answer (shown (ShowsVector S start) (vector_reading S f 4)) r)
@@ -159,8 +151,8 @@ impl<'a> MonsterRef<'a> {
             .access::<Vector<'a, Result<WeaponRef<'a>>>>(3, "Monster", "weapons")
     }
 
-    /// Returns the equipment, or `None` where it is absent. The errors are those of a union field,
-    /// of a field [`WeaponRef`], and [`ErrorKind::UnknownUnionTag`] for a tag other than 1.
+    /// Returns the equipment, or `None` if absent. Fails like a field [`WeaponRef`] of a union, and
+    /// with [`ErrorKind::UnknownUnionTag`] for a tag other than 1.
     pub fn equipped(&self) -> Result<Option<EquipmentRef<'a>>>
         ensures { Located (UnionAnswer ReadsEquipment (monster_table self.now) 4)
             (codes "Monster") (codes "equipped") (table_start (monster_table self.now)) result }
@@ -169,8 +161,7 @@ impl<'a> MonsterRef<'a> {
             .access_union::<EquipmentRef<'a>>(4, "Monster", "equipped")
     }
 
-    /// Returns the loot, or `None` where it is absent. The errors are those of a field
-    /// [`UnionVector`].
+    /// Returns the loot, or `None` if absent. Fails like a field [`UnionVector`].
     pub fn loot(&self) -> Result<Option<UnionVector<'a, EquipmentRef<'a>>>>
         ensures { Located (UnionVectorAnswer
             (λ S start f g r. Answer (shown (ShowsUnionVector S start) (union_vector_reading S f g))

@@ -1,4 +1,4 @@
-//! From the program's arguments and a reader to two writers.
+//! From arguments and a reader to two writers.
 ghost use Rattle.std.specs.Prelude.{◌≡◌, Option, None, IfOk, IfErr, IfSome, IsTrue};
 ghost use Rattle.std.specs.Io.KnownBytes.{Appends};
 ghost use Rattle.planus_script.specs.Runner.{LeavesUnwritten};
@@ -17,7 +17,6 @@ use std::io::{ErrorKind, Read, Write};
 const USAGE: &str = "usage: planus_demo < SCRIPT\n       \
     planus_demo weapon < BYTES\n       planus_demo monster < BYTES\n";
 
-/// Returns the program's arguments, or `None` where one of them isn't UTF-8.
 fn words_of<E: Env + AllocGlobal>(env: &E) -> Result<Option<Vec<String>>, RunError> {
     let mut words = Vec::new(env.alloc());
     let mut arguments = match env::args(env) {
@@ -34,7 +33,6 @@ fn words_of<E: Env + AllocGlobal>(env: &E) -> Result<Option<Vec<String>>, RunErr
     Ok(Some(words))
 }
 
-/// Dumps a line of bytes by the schema of weapons and monsters with this root.
 fn dump_root<R: Read, W: Write>(
     alloc: Global,
     root: usize,
@@ -50,7 +48,6 @@ fn dump_root<R: Read, W: Write>(
     run_dump(alloc, &schema, reader, writer)
 }
 
-/// Prints the message of an unknown mode.
 fn refuse<W: Write>(writer: &mut W) -> Result<bool, RunError>
     ensures printed { IfOk result (λ clean.
         SaysUnknown clean (W.contents writer.old) (W.contents writer.new)) }
@@ -62,9 +59,6 @@ fn refuse<W: Write>(writer: &mut W) -> Result<bool, RunError>
 
 /// Runs in this mode, or without one prints a message and reads nothing. Returns whether all went
 /// well.
-///
-/// [`RunError::OutOfMemory`] and [`RunError::Read`] where nothing was written, [`RunError::Write`]
-/// where writing failed.
 pub fn run_mode<R: Read, W: Write>(
     alloc: Global,
     mode: Option<Mode>,
@@ -86,8 +80,6 @@ pub fn run_mode<R: Read, W: Write>(
     }
 }
 
-/// Returns the mode of the program's arguments, or `None` for unknown ones.
-/// [`RunError::OutOfMemory`] where an allocation fails.
 fn chosen<E: Env + AllocGlobal>(env: &E) -> Result<Option<Mode>, RunError> {
     match words_of(env)? {
         Some(words) => Ok(mode(words.as_slice())),
@@ -95,7 +87,6 @@ fn chosen<E: Env + AllocGlobal>(env: &E) -> Result<Option<Mode>, RunError> {
     }
 }
 
-/// Returns the message for standard error: the error of the program, or without a mode its usage.
 fn words_for(answer: Result<bool, RunError>, mode: Option<Mode>) -> &'static str
     ensures { result.now ≡ told_text answer mode }
 {
@@ -110,7 +101,6 @@ fn words_for(answer: Result<bool, RunError>, mode: Option<Mode>) -> &'static str
     }
 }
 
-/// Writes a message, if there is one. Returns whether that worked.
 fn tell<W: Write>(errors: &mut W, words: &str) -> bool
     ensures { IsTrue result
         → Appends (W.contents errors.old) (W.contents errors.new) words.now }
@@ -118,8 +108,8 @@ fn tell<W: Write>(errors: &mut W, words: &str) -> bool
     words.is_empty() || write_out(errors, words.as_bytes()).is_ok()
 }
 
-/// Runs in the mode of the program's arguments, as [`run_mode`], and prints an error, or the usage
-/// for unknown arguments, to `errors`. Without memory for the arguments nothing is read.
+/// Runs in the mode of the program's arguments, as [`run_mode`], and prints an error or the usage
+/// to `errors`.
 pub fn run_program<E: Env + AllocGlobal, R: Read, W: Write, X: Write>(
     env: &E,
     reader: &mut R,

@@ -1,5 +1,3 @@
-//! Scripts as a user runs them, and tables that are written and read.
-
 mod dumper;
 mod dumps;
 mod errors;
@@ -26,9 +24,9 @@ use std::fmt::Display;
 use std::io::{Read, Write};
 use std::process::Abort;
 
-// A function that owns a builder or a vector is proved slowly, so most tests lend these to others.
+// A function that owns a builder or a vector is slow to prove, so most tests lend these.
 
-// Fails a test with this message. An assertion is slow to prove, so this is the one of most tests.
+// An assertion is slow to prove, so most tests use this.
 fn check(rt: &impl Abort, holds: bool, what: &str) {
     assert!(rt; holds, "{what}");
 }
@@ -45,14 +43,12 @@ fn answers<R: Read, W: Write>(
     }
 }
 
-// Returns the result, and the number of bytes of the script that are left unread.
 fn ran(alloc: Global, script: &[u8], printed: &mut Vec<u8>) -> (Result<bool, RunError>, usize) {
     let mut reader = script;
     let answer = run(alloc, &mut reader, printed);
     (answer, reader.len())
 }
 
-// Tests the exit status, too.
 fn prints(alloc: Global, script: &[u8], unread: usize, printed: &[u8], clean: bool) -> bool {
     let mut writer = Vec::new(alloc);
     let (answer, left) = ran(alloc, script, &mut writer);
@@ -105,7 +101,6 @@ fn fails_printing<T: Drop>(alloc: Global, answer: planus::Result<T>, text: &str)
     }
 }
 
-// Whether a finish has the string `Axe` of the only step as its root, 8 bytes before the end.
 fn is_a_text(finished: &Finished) -> bool {
     let whole = SliceWithStartOffset::new(finished.bytes.as_slice(), 0);
     let text: Result<&str, ErrorKind> = TableRead::from_buffer(whole, 0);

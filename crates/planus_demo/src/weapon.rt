@@ -1,4 +1,4 @@
-//! A table of two fields, written and read as in code that is generated from a schema:
+//! A table of two fields, as in generated code:
 //!
 //! ```text
 //! table Weapon { name: string; damage: int16 = 0; }
@@ -28,13 +28,8 @@ use planus::{
 pub struct Weapon;
 
 impl Weapon {
-    /// Writes a weapon, and returns its offset; a damage of 0 is left out.
-    ///
-    /// Requires that an offset among the arguments was returned by this builder since the last
-    /// clear.
-    ///
-    /// [`BuildError::TooLarge`] and [`BuildError::OutOfMemory`] as in [`Builder::create_vector`].
-    /// What was written before the write that failed stays, and nothing after it is begun.
+    /// Writes a weapon, and returns its offset; a damage of 0 is left out. Requirements and errors
+    /// are those of [`Builder::create_vector`].
     pub fn create<N, D>(
         builder: &mut Builder,
         name: N,
@@ -81,7 +76,7 @@ pub struct WeaponRef<'a> {
 }
 
 impl<'a> WeaponRef<'a> {
-    /// Returns the name, or `None` where it is absent. The errors are those of a field `&str`.
+    /// Returns the name, or `None` if absent. Fails like a field `&str`.
     pub fn name(&self) -> Result<Option<&'a str>>
         ensures { Located (FieldAnswer
             (λ S start f r. Answer (shown ShowsBytes (text_reading S f)) r)
@@ -91,7 +86,7 @@ impl<'a> WeaponRef<'a> {
         self.table.access::<&str>(0, "Weapon", "name")
     }
 
-    /// Returns the damage, 0 where it is absent. The errors are those of a field `i16`.
+    /// Returns the damage, 0 if absent. Fails like a field `i16`.
     pub fn damage(&self) -> Result<i16>
         ensures { Located (OrElse (pos 0) (FieldAnswer
             (λ S start f r. Answer (signed_reading S f w16) r) (weapon_table self.now) 1))

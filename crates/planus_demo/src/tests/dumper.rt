@@ -1,5 +1,3 @@
-//! Schemas from their parts, and the lines of their dumps.
-
 mod buffers;
 mod damage;
 mod deep;
@@ -9,15 +7,13 @@ mod steps;
 use planus_dump::{DumpError, FieldSchema, Item, Kind, Schema, TableSchema, dump};
 use std::alloc::{AllocError, Global};
 
-// A field: its slot, its name and its kind; and a table: its name and its fields.
 pub type FieldParts<'a> = (usize, &'a str, Kind);
 
 pub type TableParts<'a> = (&'a str, &'a [FieldParts<'a>]);
 
-// A schema: its tables, of which the last is the root's, and its unions.
+// The last table is the root's.
 pub type SchemaParts<'a> = (&'a [TableParts<'a>], &'a [&'a [(u8, usize)]]);
 
-// The weapons and monsters of the worked buffers.
 pub const WEAPON: &[FieldParts<'static>] = &[
     (0, "name", Kind::One(Item::Text)),
     (1, "damage", Kind::One(Item::I16)),

@@ -1,5 +1,3 @@
-//! Dumps of lines of bytes.
-
 use super::answers;
 use super::long_scripts::{end_line, push_bytes, push_references, push_text, push_word};
 use super::no_memory::gives_without_memory;
@@ -30,7 +28,6 @@ fn dumps(alloc: Global, root: usize, input: &[u8], printed: &[u8], clean: bool) 
     answer == Ok(clean) && writer.as_slice() == printed
 }
 
-// The root of a schema, an input, what is printed, and whether it is a dump.
 const INPUTS: &[(usize, &str, &str, bool)] = &[
     (
         0,
@@ -90,7 +87,7 @@ fn nodes(alloc: Global) -> Result<Schema, AllocError> {
     })
 }
 
-// A chain of n tables of 8 bytes, followed by the vtable, to which the last refers as its next one.
+// n tables of 8 bytes, then the vtable, which the last has as its next one
 fn push_chain(input: &mut Vec<u8>, tables: u32) -> Result<(), AllocError> {
     push_word(input, 4)?;
     for i in 0..tables {
@@ -150,7 +147,6 @@ fn begins(alloc: Global, schema: &Schema, input: &[u8], clean: bool, want: (usiz
     answer == Ok(clean) && is_begun(printed.as_slice(), want)
 }
 
-// An input, whether it is dumped, the number of bytes printed, and the first of them.
 type Limit = (Input, bool, (usize, &'static [u8]));
 
 const FIRST: &[u8] = b"root: table Node\nroot.names: list 9998\nroot.names[0] = \"abc\"\n";
@@ -169,7 +165,7 @@ fn is_limited(alloc: Global, (parts, clean, printed): Limit) -> Result<bool, All
     Ok(begins(alloc, &schema, input.as_slice(), clean, printed))
 }
 
-// The table below 64 others is too deep. There may be 10000 lines, and 1048576 bytes of input.
+// 64 tables deep, 10000 lines and 1048576 bytes of input are the limits.
 #[test]
 fn limits(rt: HostRuntime) {
     for limit in LIMITS {
@@ -181,7 +177,7 @@ fn limits(rt: HostRuntime) {
     }
 }
 
-// Nothing is read without memory; where the lines don't fit in 4 MiB, `out of memory` is printed.
+// Where the lines don't fit in 4 MiB, `out of memory` is printed.
 fn is_refused(alloc: Global, schema: &Schema, input: &[u8]) -> Result<Option<bool>, AllocError> {
     for (spare, want, text) in [
         (0, (Err(RunError::OutOfMemory), 2), ""),
@@ -196,7 +192,6 @@ fn is_refused(alloc: Global, schema: &Schema, input: &[u8]) -> Result<Option<boo
     Ok(Some(begins(alloc, schema, input, true, printed)))
 }
 
-// The same for a table with 9000 names of 1003 letters.
 fn names_are_refused(alloc: Global, schema: &Schema) -> Result<Option<bool>, AllocError> {
     let input = input_of(alloc, Input::Names(9000, 1003))?;
     is_refused(alloc, schema, input.as_slice())

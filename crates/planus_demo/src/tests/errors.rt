@@ -1,5 +1,3 @@
-//! The messages of errors.
-
 use super::{check, prints_as};
 use planus::{BuildError, CopyError, ReplayError, Why};
 use planus_dump::DumpError;

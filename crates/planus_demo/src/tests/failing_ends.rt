@@ -1,5 +1,3 @@
-//! Readers and writers of which one call fails, is interrupted, or gives nothing.
-
 use super::{answers, ran};
 use crate::mode::schema;
 use crate::tests::check;
@@ -10,7 +8,6 @@ use std::io;
 use std::io::{Error, ErrorKind, Read, Write};
 use std::test::Fail;
 
-// A weapon's script, what it prints, and the dump of that.
 pub const SCRIPT: &[u8] = b"text Axe\ntable 0=ref:0 1=u16:24\nfinish 1\n";
 
 pub const PRINTED: &[u8] = b"04 00 00 00 f4 ff ff ff 10 00 00 00 18 00 00 00 \
@@ -18,7 +15,6 @@ pub const PRINTED: &[u8] = b"04 00 00 00 f4 ff ff ff 10 00 00 00 18 00 00 00 \
 
 pub const DUMPED: &[u8] = b"root: table Weapon\nroot.name = \"Axe\"\nroot.damage = 24\n";
 
-/// What a call does instead of its work.
 #[derive(Clone, Copy)]
 enum Odd {
     Fails,
@@ -36,7 +32,7 @@ impl Odd {
     }
 }
 
-/// A reader that gives one byte at a time; `left` counts down to one odd call.
+/// `left` counts down to one odd call.
 #[derive(Drop)]
 pub struct OddReader<'a> {
     bytes: &'a [u8],
@@ -143,7 +139,7 @@ fn reads_of_a_long_script(rt: HostRuntime) -> Result<(), Fail> {
     Ok(())
 }
 
-// Each of the script's 41 bytes is read by a call of its own, and one more call finds the end.
+// 41 reads of a byte, and one that finds the end.
 #[test]
 fn each_read_in_turn(rt: HostRuntime) {
     for k in 1..43 {
@@ -157,7 +153,6 @@ fn each_read_in_turn(rt: HostRuntime) {
     );
 }
 
-/// A writer that takes one byte at a time, with one odd call; flushing may fail.
 #[derive(Drop)]
 struct OddWriter {
     taken: Vec<u8>,
@@ -241,7 +236,6 @@ fn handing_on_fails(alloc: Global, script: &[u8], count: usize) -> bool {
     answer == Err(RunError::Write) && writer.taken.len() == count
 }
 
-// Each of the line's 96 bytes is written by a call of its own.
 #[test]
 fn each_write_in_turn(rt: HostRuntime) {
     for k in 1..97 {
@@ -262,7 +256,7 @@ fn reading_a_dump_fails(alloc: Global, k: usize) -> bool {
     }
 }
 
-// Whether the k-th write's error is returned, and the bytes before are written; all are for k of 0.
+// The bytes before the k-th write are written; all are for k of 0.
 fn dump_is_written(alloc: Global, k: usize) -> bool {
     let (want, count) = if k > 0 {
         (Err(RunError::Write), k - 1)
@@ -275,8 +269,7 @@ fn dump_is_written(alloc: Global, k: usize) -> bool {
     }
 }
 
-// Each of a dump's 96 bytes is read by a call of its own, and one more call finds the end. Each of
-// the 54 bytes of its lines is written by a call of its own.
+// 96 reads, one more at the end, and 54 writes.
 #[test]
 fn each_end_of_a_dump(rt: HostRuntime) {
     for k in 1..98 {

@@ -1,4 +1,4 @@
-//! Long scripts, strings and vectors, and a table of all its slots.
+//! Long scripts and their values.
 
 use super::prints;
 use crate::tests::check;
@@ -42,7 +42,6 @@ pub fn push_word(printed: &mut Vec<u8>, word: usize) -> Result<(), AllocError> {
     push_bytes(printed, &(word as u64).to_le_bytes()[..4])
 }
 
-// Adds the references to what was written before the finishes, each of which wrote one.
 pub fn push_references(printed: &mut Vec<u8>, count: usize) -> Result<(), AllocError> {
     for behind in 0..count {
         push_word(printed, count.wrapping_sub(behind).wrapping_mul(4))?;
@@ -89,7 +88,6 @@ fn push_full_table(alloc: Global, script: &mut Vec<u8>) -> Result<(), AllocError
     script.extend_from_slice(b"\nfinish 0\n")
 }
 
-// Adds the bytes of this finish up to the vtable's end.
 fn push_its_bytes(printed: &mut Vec<u8>) -> Result<(), AllocError> {
     push_bytes(printed, b"\x04\0\0\0\xfc\xfe\xff\xff")?;
     push_bytes(printed, &[1; 256])?;
@@ -145,7 +143,7 @@ fn longest_script(rt: HostRuntime) {
     }
 }
 
-// A string of 43 letters, different for each number below 26 * 26 * 26.
+// Different for each number below 26 * 26 * 26.
 fn text(number: usize) -> [u8; 43] {
     let mut text = *b"abc is a text of forty-three letters in all";
     text[0] = letter(number);
@@ -160,7 +158,6 @@ enum Item {
     Number,
     Reference,
     Union,
-    // A field of a table after the first four.
     Field,
 }
 
@@ -227,7 +224,6 @@ fn push_stretches(alloc: Global, script: &mut Vec<u8>) -> Result<(), AllocError>
 
 const TABLE: &str = "\ntable 0=ref:20000 1=ref:19999 2=tags:20001 3=values:20001";
 
-// The values of the last stretch: a word, and the number of items after it.
 const ITEMS: &[(&str, Item, usize)] = &[
     ("", Item::Text, 4999),
     ("u16", Item::Number, 5003),
@@ -236,8 +232,6 @@ const ITEMS: &[(&str, Item, usize)] = &[
     (TABLE, Item::Field, 252),
 ];
 
-// A stretch of 5003 values, the last of them a table that refers to vectors of numbers, of
-// references and of unions, and seven finishes.
 fn push_last_stretch(alloc: Global, script: &mut Vec<u8>) -> Result<(), AllocError> {
     for (before, item, count) in ITEMS {
         script.extend_from_slice(before.as_bytes())?;
@@ -251,11 +245,9 @@ fn push_last_stretch(alloc: Global, script: &mut Vec<u8>) -> Result<(), AllocErr
 
 #[derive(Clone, Copy)]
 enum Part {
-    // The strings, the last one first.
     Text { last: usize },
     Number,
-    // References to strings: each is four bytes nearer to the end than the one before, and its
-    // string 48 bytes further.
+    // Each is four bytes nearer to the end than the one before, and its string 48 bytes further.
     Reference { first: usize },
     Tag,
     Offset,
@@ -284,15 +276,15 @@ fn push_parts(printed: &mut Vec<u8>, part: Part, count: usize) -> Result<(), All
     Ok(())
 }
 
-// The word of the table, which is 272 bytes before its vtable, and its four references.
+// The table's word, 272 bytes before its vtable, and its four references.
 const REFERENCES: &[u8] = b"\xf0\xfe\xff\xff\x38\x2a\0\0\x84\x49\0\0\x08\x03\0\0\xdc\x0a\0\0";
 
-// The sizes of the vtable and of the table, and the offsets of its references.
+// Sizes of the vtable and of the table, and offsets.
 const OFFSETS: &[u8] = b"\x04\x02\x10\x01\x04\0\x08\0\x0c\0\x10\0";
 
-// What follows the table. The strings end 239952 bytes before the end, the numbers and their
-// padding of two bytes at 249960, the references at 257976, those of the unions at 265992 and the
-// tags, with a padding of one byte, at 268000; each vector begins with a count.
+// After the table, strings end 239952 bytes before the end, numbers with two bytes of padding at
+// 249960, references at 257976, those of unions at 265992 and the tags, with one of padding, at
+// 268000; each vector begins with a count.
 const PARTS: &[(&[u8], Part, usize)] = &[
     (OFFSETS, Part::Offset, 252),
     (b"\xd3\x07\0\0", Part::Tag, 2003),

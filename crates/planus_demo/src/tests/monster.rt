@@ -1,5 +1,3 @@
-//! A monster, written and read back.
-
 ghost use Rattle.std.specs.Prelude.{◌≤◌, length, IsTrue};
 
 use super::settings::setting;
@@ -16,7 +14,7 @@ use planus::{
 };
 use std::alloc::Global;
 
-// An orc with 80 hit points and an axe with a damage of 24, which it has equipped.
+// 80 hit points, and an axe with a damage of 24 in hand.
 const ORC: [u8; 84] = [
     0x04, 0x00, 0x00, 0x00, 0xec, 0xff, 0xff, 0xff, 0x28, 0x00, 0x00, 0x00, 0x1c, 0x00, 0x00, 0x00,
     0x28, 0x00, 0x00, 0x00, 0x50, 0x00, 0x01, 0x00, 0x10, 0x00, 0x13, 0x00, 0x10, 0x00, 0x04, 0x00,
@@ -26,7 +24,7 @@ const ORC: [u8; 84] = [
     0x41, 0x78, 0x65, 0x00,
 ];
 
-// A goblin with 100 hit points, which are left out.
+// Its 100 hit points are left out.
 const GOBLIN: &[u8] = b"\x04\0\0\0\xf8\xff\xff\xff\x0c\0\0\0\x08\0\x08\0\0\0\x04\0\x03\0\0\0Gob\0";
 
 pub fn has(builder: &Builder, distance: u32) -> bool
@@ -62,7 +60,6 @@ fn elf(builder: &mut Builder) -> Result<Offset<Monster>, BuildError> {
     Monster::create(builder, 7i16, "Elf", inventory, (), (), [first, second])
 }
 
-// Writes a goblin whose loot is an axe of an unknown tag.
 fn hoarder(builder: &mut Builder) -> Result<Offset<Monster>, BuildError> {
     let axe = weapon(builder, "Axe", 24)?;
     let unknown: UnionOffset<Equipment> = UnionOffset::new(2, axe.downcast());
@@ -179,7 +176,6 @@ fn elf_is_read_twice(builder: &mut Builder) -> Result<bool, BuildError> {
     Ok(first && elf_is_read(builder)?)
 }
 
-// The weapons of the loot have equal vtables.
 #[test]
 fn inventory_and_loot(rt: HostRuntime) {
     for number in 0..8 {
@@ -248,7 +244,6 @@ fn is_at(error: &Error, type_: &str, method: &str, byte_offset: usize) -> bool {
     at.type_ == type_ && at.method == method && at.byte_offset == byte_offset
 }
 
-// A monster without fields, at 4.
 const NAMELESS: &[u8] = b"\x04\0\0\0\xfc\xff\xff\xff\x04\0\x04\0";
 
 fn name_is_missing() -> bool {
@@ -292,7 +287,7 @@ fn a_damaged_weapon(rt: HostRuntime) {
     check(&rt, first_weapon_is_damaged(&bytes), "a damaged weapon");
 }
 
-// The references of the loot start 40 bytes before the end of 92, at 0x34.
+// The references start 40 bytes before the end of 92, at 0x34.
 fn first_loot_is_unknown(alloc: Global, bytes: &[u8]) -> bool {
     let Ok(goblin) = MonsterRef::read_as_root(bytes) else {
         return false;

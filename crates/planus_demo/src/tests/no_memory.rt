@@ -1,5 +1,3 @@
-//! Runs without memory.
-
 use super::failing_ends::{PRINTED, SCRIPT};
 use super::long_scripts::{push_references, push_text, push_text_step};
 use super::weapon::{is_weapon, weapon};
@@ -115,9 +113,8 @@ enum Call {
 enum Turn {
     // Memory was left where none should have been.
     NotApplied,
-    // The call works.
     Made,
-    // The call fails, leaves this number of bytes, and then works.
+    // Fails, leaves this number of bytes, and then works.
     Refused(usize),
     Wrong,
 }
@@ -143,7 +140,6 @@ fn axe_is_written(builder: &mut Builder) -> Result<bool, BuildError> {
     }
 }
 
-// An axe that fails leaves some bytes.
 fn axe_in(alloc: Global, builder: &mut Builder, spare: usize) -> Result<Turn, BuildError> {
     let refused = axe_is_refused(alloc, builder, spare)?;
     let len = builder.len();
@@ -173,7 +169,6 @@ fn ran_with(
     Ok((exhausted, answer))
 }
 
-// A run that fails prints nothing, or `out of memory`.
 fn run_with(alloc: Global, spare: usize) -> Result<Turn, BuildError> {
     let mut printed: Vec<u8> = Vec::with_capacity(alloc, 128)?;
     let (exhausted, answer) = ran_with(alloc, spare, &mut printed)?;
@@ -200,7 +195,6 @@ fn note(met: &mut [bool; 3], all: &[usize], left: usize) -> bool {
     false
 }
 
-// The number of different states that a failing call leaves, with more memory at each turn.
 fn states_met(
     alloc: Global,
     call: Call,
@@ -224,8 +218,7 @@ fn states_met(
     Ok(Some(0))
 }
 
-// An axe fails where there is nothing yet, after its name, or after its vtable too; a run fails
-// before the steps are there, or later.
+// An axe fails at its name, vtable or table; a run before the steps, or later.
 #[test]
 fn one_refusal_after_the_other(rt: HostRuntime) -> Result<(), Fail> {
     for (name, call, more, all, least) in [

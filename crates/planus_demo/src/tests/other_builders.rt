@@ -1,5 +1,5 @@
-//! Buffers of other builders: flatc 2.0.8 from JSON, generated C++, and Python's
-//! `flatbuffers.Builder`. Their vtables are before their tables.
+//! Buffers of flatc 2.0.8 from JSON, generated C++, and Python's `flatbuffers.Builder`. Their
+//! vtables are before their tables.
 
 use super::gives;
 use super::monster::{is_held, is_loot};
@@ -29,7 +29,6 @@ const WEAPONS: &[(&[u8], WeaponRow)] = &[
     (&CLUB, (Some("mu\\\tvvA"), 0)),
 ];
 
-// A monster. It has equipped a weapon.
 #[derive(Clone, Copy)]
 pub struct MonsterRow {
     pub hp: i16,

@@ -1,5 +1,3 @@
-//! The program with its command line.
-
 use super::failing_ends::{DUMPED, OddReader, PRINTED, SCRIPT};
 use crate::ending::Ending;
 use crate::program::run_program;
@@ -10,7 +8,6 @@ use std::alloc::{AllocError, Global};
 use std::env::{Env, FillError};
 use std::test::Fail;
 
-/// An environment with these arguments, after the program's name, and no variables.
 #[derive(Drop)]
 struct Words<'a> {
     words: &'a [&'a [u8]],
@@ -49,7 +46,6 @@ fn ran(
     (ending, reader.len())
 }
 
-// Arguments, an input, both outputs, the exit status, and the number of bytes that are left unread.
 #[derive(Clone, Copy)]
 struct Row {
     words: &'static [&'static [u8]],
@@ -193,7 +189,6 @@ fn standard_error_that_fails(rt: HostRuntime) {
     check(&rt, cant_be_told(rt.alloc()), "a full standard error");
 }
 
-// Without memory for the arguments nothing is read or printed.
 fn is_refused(alloc: Global, words: &[&[u8]], told: &mut Vec<u8>) -> bool {
     let mut printed = Vec::new(alloc);
     let (ending, unread) = ran(alloc, words, SCRIPT, &mut printed, told);

@@ -1,11 +1,9 @@
-//! Scripts and what they print.
-
 use super::prints;
 use crate::tests::check;
 use std::alloc::Global;
 
-// Scripts without an error, each with what it prints, and scripts with one: `script|printed;`. They
-// are in a string, since a constant array is written out in the proof of the function that has it.
+// `script|printed;`, in a string, since a constant array is written out in the proof of the
+// function that has it.
 const CLEAN: &str = "\
     |;\
     text Axe\nfinish 0\n|04 00 00 00 03 00 00 00 41 78 65 00\n;\

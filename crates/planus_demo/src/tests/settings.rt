@@ -1,5 +1,3 @@
-//! Monsters under all cache settings.
-
 use super::monster::has;
 use super::other_builders::{MonsterRow, monster_is_read};
 use super::weapon::weapon;
@@ -41,7 +39,7 @@ fn armed(
     )
 }
 
-// Three of them: the first and the last are equal, the second has a weapon's name.
+// The first and the last are equal, the second has a weapon's name.
 fn three(builder: &mut Builder) -> Result<&[u8], BuildError> {
     armed(builder, "Orc", &[1, 2, 3])?;
     armed(builder, "Axe", &[7])?;
@@ -58,9 +56,8 @@ const LAST: MonsterRow = MonsterRow {
     loot: Some(&[(Some("Bow"), 12), (Some("Axe"), 24)]),
 };
 
-// The length of the three under each setting. A vtable that is found saves 8 bytes for each of six
-// weapons, and 20 for a monster; a string that is found saves 8, and so does the last's byte
-// vector.
+// A vtable that is found saves 8 bytes for each of six weapons, and 20 for a monster; a string or a
+// byte vector 8.
 const LENGTHS: [usize; 8] = [472, 392, 424, 344, 464, 384, 416, 336];
 
 fn keep(builder: &mut Builder, bytes: &mut Vec<u8>) -> Result<bool, BuildError> {

@@ -1,4 +1,3 @@
-//! A weapon, written and read back.
 ghost use Rattle.std.specs.Prelude.{List};
 ghost use Rattle.planus_write.specs.Tables.{Declared};
 ghost use Rattle.planus_write.specs.TableWriting.{WasTold};
@@ -15,14 +14,13 @@ use planus::{
 use std::alloc::Global;
 use std::fmt::Debug;
 
-// A weapon: its name and its damage.
 pub type WeaponRow = (Option<&'static str>, i16);
 
 // The weapon Axe with a damage of 24, finished.
 const AXE: &[u8] =
     b"\x04\0\0\0\xf4\xff\xff\xff\x10\0\0\0\x18\0\0\0\x08\0\x0a\0\x04\0\x08\0\x03\0\0\0Axe\0";
 
-// The same with a last byte of 1, without the last byte, and without the last two.
+// With a last byte of 1, without the last byte, and without the last two.
 const DAMAGED: [&[u8]; 3] = [
     b"\x04\0\0\0\xf4\xff\xff\xff\x10\0\0\0\x18\0\0\0\x08\0\x0a\0\x04\0\x08\0\x03\0\0\0Axe\x01",
     b"\x04\0\0\0\xf4\xff\xff\xff\x10\0\0\0\x18\0\0\0\x08\0\x0a\0\x04\0\x08\0\x03\0\0\0Axe",
@@ -168,7 +166,6 @@ fn read_behind_a_size() -> bool {
     }
 }
 
-// Whether the error of a missing root has its offset from the size's start.
 fn missing_behind_a_size(alloc: Global) -> bool {
     let text = "In <[WeaponRef]@4>::read_as_root(): Invalid offset";
     match sized_weapon(NO_ROOT) {
@@ -241,7 +238,6 @@ fn a_list_of_weapons(rt: HostRuntime) {
     );
 }
 
-// A writer was told some list of entries.
 fn was_told(writer: &TableWriter<8>)
     ensures { (declared : List Declared) × WasTold writer.now declared }
 {

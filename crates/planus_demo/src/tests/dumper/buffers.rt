@@ -1,25 +1,22 @@
-//! The worked buffers, and one with each kind of field.
-
 use super::{FieldParts, MONSTER, SchemaParts, WEAPON, dumps_lines, is_refused};
 use crate::tests::check;
 use planus_dump::{DumpError, Item, Kind};
 
-// The weapon Axe with a damage of 24; and the same with a last byte of 1.
+// The weapon Axe with a damage of 24; and with a last byte of 1.
 const AXE: &[u8] =
     b"\x04\0\0\0\xf4\xff\xff\xff\x10\0\0\0\x18\0\0\0\x08\0\x0a\0\x04\0\x08\0\x03\0\0\0Axe\0";
 
 const UNENDED: &[u8] =
     b"\x04\0\0\0\xf4\xff\xff\xff\x10\0\0\0\x18\0\0\0\x08\0\x0a\0\x04\0\x08\0\x03\0\0\0Axe\x01";
 
-// The monster Orc with hp 80, a vector of that weapon, and that weapon equipped.
+// An orc with hp 80, a vector of that weapon, and that weapon equipped.
 const ORC: &[u8] = b"\x04\0\0\0\xec\xff\xff\xff(\0\0\0\x1c\0\0\0(\0\0\0\
       P\0\x01\0\x10\0\x13\0\x10\0\x04\0\0\0\x08\0\x12\0\x0c\0\
       \x01\0\0\0\x0c\0\0\0\x03\0\0\0Orc\0\xf4\xff\xff\xff\
       \x10\0\0\0\x18\0\0\0\x08\0\x0a\0\x04\0\x08\0\x03\0\0\0\
       Axe\0";
 
-// A field of each kind, and its lines: numbers of each width, strings with escapes, vectors, and a
-// union vector whose second tag is unknown.
+// The second tag of the union vector is unknown.
 const KINDS: &[FieldParts<'static>] = &[
     (0, "u8", Kind::U8),
     (1, "i8", Kind::I8),

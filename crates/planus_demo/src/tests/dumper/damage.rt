@@ -1,12 +1,12 @@
-//! A buffer with each kind of damage: the walk goes on after each.
+//! The walk goes on after each kind of damage.
 
 use super::{FieldParts, SchemaParts, dumps_lines};
 use crate::tests::check;
 use planus_dump::{Item, Kind};
 
-// In slot order: a number past the end; a string that isn't UTF-8; one without a zero byte; a byte
-// vector past the end; a union with an unknown tag; a vector of two tags and one reference; and a
-// union whose vtable, of size 22, has the first slot alone.
+// In slot order: a number past the end; a string that isn't UTF-8; one without a zero byte; bytes
+// past the end; an unknown tag; two tags and one reference; a union whose vtable, of size 22, has
+// the first slot alone.
 const FIELDS: &[FieldParts<'static>] = &[
     (0, "number", Kind::One(Item::U32)),
     (1, "text", Kind::One(Item::Text)),

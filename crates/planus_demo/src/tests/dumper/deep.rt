@@ -1,12 +1,9 @@
-//! Deep chains, and tables that are referred to often.
-
 use super::{FieldParts, SchemaParts, dumps_lines, is_refused, schema_of};
 use crate::tests::check;
 use planus_dump::{DumpError, Item, Kind, dump};
 use std::alloc::{AllocError, Global};
 use std::test::Fail;
 
-// A table with the next one in slot 0; and one that has the next one twice.
 const NODE: &[FieldParts<'static>] = &[(0, "next", Kind::One(Item::Table(0)))];
 
 const TWIN: &[FieldParts<'static>] = &[
@@ -18,11 +15,10 @@ const NODES: SchemaParts<'static> = (&[("Node", NODE)], &[]);
 
 const TWINS: SchemaParts<'static> = (&[("Twin", TWIN)], &[]);
 
-// A vtable of 8 bytes for tables of 12 with fields at 4 and at 8, and one without slots for the
-// last.
+// Fields at 4 and at 8; the last table has none.
 const VTABLES: &[u8] = b"\x08\0\x0c\0\x04\0\x08\0\x04\0\x04\0";
 
-// A buffer of n + 1 tables: in each but the last, both fields lead to the next one.
+// Both fields of each table lead to the next one.
 fn chain(alloc: Global, tables: u32) -> Result<Vec<u8>, AllocError> {
     let mut bytes = Vec::new(alloc);
     push_chain(&mut bytes, tables)?;

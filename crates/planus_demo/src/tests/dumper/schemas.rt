@@ -1,5 +1,3 @@
-//! A schema with each error.
-
 use super::{SchemaParts, TableParts, is_refused};
 use crate::tests::check;
 use planus_dump::{DumpError, Item, Kind};
@@ -33,7 +31,6 @@ const MANY: &[TableParts<'static>] = &[("A", &[(0, "a", Kind::UnionVector(1))])]
 
 const GOOD: &[TableParts<'static>] = &[("A_1z", &[(0, "_", Kind::Union(0))])];
 
-// The tables of a schema, its union, and whether it is bad.
 const UNIONS: &[(&[TableParts<'static>], &[(u8, usize)], bool)] = &[
     (ONE, &[(1, 0)], true),
     (MANY, &[(1, 0)], true),

@@ -1,5 +1,3 @@
-//! The dump of what steps finish.
-
 use super::{WEAPON, are_lines, schema_of};
 use crate::tests::check;
 use planus::{Caches, Field, FieldValue, ReplayError, Step, Why};
