@@ -18,13 +18,11 @@ answers_as (Ok step) expected P Q asks h = h
 answers_as (Err (Fault fault)) expected P Q asks h = h
 answers_as (Err OutOfMemory) expected P Q asks h = asks h
 
--- a line that is UTF-8 is answered by its words
 pub answers_line : (result : Result code.Step LineError) (line : List ℕ) → IsUtf8 line → AnswersLine result (command_of_words line (words_of line)) (AsksForWords (words_of line))
     → AnswersLine result (command_of line) (AsksForLine line)
 answers_line result line valid h =
     subst (λ expected. AnswersLine result expected (AsksForLine line)) (sym (utf8 line valid))
     (answers_as result (command_of_words line (words_of line)) (AsksForWords (words_of line)) (AsksForLine line) (λ asks. (is_utf8-from_IsUtf8 line valid, asks)) h)
 
--- lines of which the first is a step ask
 pub asks_step : (line : List ℕ) (lines : List (List ℕ)) (command : Step) → is_skipped line ≡ false → command_of line ≡ Ok command → AsksForLines (line ∷ lines)
 asks_step line lines command kept e = rw kept (inl (rw e refl))

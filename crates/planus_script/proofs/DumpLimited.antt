@@ -1,4 +1,4 @@
--- An input that is read up to a limit is dumped as the whole.
+-- A dump of the bytes up to the limit.
 use Rattle.std.proofs.Common.{◌≡◌, ℕ, ◌≤◌, List, length, take, Bool, true, false, refl, sym, subst, arith, Option, Some, None}
 use Rattle.std.specs.Prelude.{nat_lt, IfSome, codes}
 use Rattle.std.specs.Bool.{MatchBool}
@@ -8,7 +8,6 @@ use Rattle.std.proofs.lemmas.Bool.Decides.{nat_tests}
 use Rattle.planus_dump.specs.declared.schemas.Schema.{Schema}
 use Rattle.planus_script.specs.DumpRuns.{PrintsDump, PrintsBytes, IsFault, WritesDump, input_bytes}
 
--- the bytes up to the limit tell whether the input is too long
 dumped_whole : (schema : Schema) (bytes : List ℕ) (clean : Bool) (printed : List ℕ) (long : Bool) → nat_lt 1048576 (length bytes) ≡ long → PrintsDump schema (take 1048577 bytes) clean printed → PrintsDump schema bytes clean printed
 dumped_whole schema bytes clean printed true e h =
     let above : 1048577 ≤ length bytes = grind (arith, nat_tests, e) in

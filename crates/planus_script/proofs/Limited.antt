@@ -1,4 +1,4 @@
--- A script that is read up to a limit is printed as the whole.
+-- What is printed of bytes up to the limit.
 use Rattle.std.proofs.Common.{◌≡◌, ℕ, ◌≤◌, List, length, take, Bool, true, false, refl, sym, subst, arith, Option, Some, None, inl, inr}
 use Rattle.std.specs.Prelude.{nat_lt, IfSome, codes}
 use Rattle.std.specs.Bool.{MatchBool}
@@ -9,7 +9,6 @@ use Rattle.planus_script.specs.Script.{script_of}
 use Rattle.planus_script.specs.Printed.{Printed, PrintedOrOutOfMemory, IsScript, PrintsRead, line_of}
 use Rattle.planus_script.specs.Runner.{WritesPrinted}
 
--- the bytes up to the limit tell whether the script is too long
 printed_whole : (bytes : List ℕ) (clean : Bool) (printed : List ℕ) (long : Bool) → nat_lt 1048576 (length bytes) ≡ long → Printed (take 1048577 bytes) clean printed → Printed bytes clean printed
 printed_whole bytes clean printed true e h =
     let above : 1048577 ≤ length bytes = grind (arith, nat_tests, e) in

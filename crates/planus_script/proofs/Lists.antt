@@ -1,4 +1,4 @@
--- Items and bytes that were read, in front of those that are left.
+-- Items and bytes that were read, before those that are left.
 use Rattle.std.proofs.Common.{◌≡◌, ℕ, ◌-◌, ◌≤◌, length, take, drop, get_or, arith, List, [], ◌∷◌, ◌++◌, refl, sym, ap, ◌∙◌, append_assoc, Result, Ok, Err, Option, Some, None}
 use Rattle.std.specs.Option.{option_map}
 use Rattle.std.proofs.Math.Seq.{take-length}
@@ -16,7 +16,6 @@ pub byte_read : (items : List ℕ) (byte : ℕ) (more : Option (List ℕ)) → b
 byte_read items byte None = refl
 byte_read items byte (Some more) = ap (λ (all : List ℕ). Some all) (sym (append_assoc items (byte ∷ []) more))
 
--- two digits more are a byte more
 pub pair_read : (rest items all_digits : List ℕ) (byte : ℕ) → 2 ≤ length rest → byte_of (get_or rest 0 0) (get_or rest 1 0) ≡ Some byte
     → bytes_before items (hex_bytes rest) ≡ hex_bytes all_digits → bytes_before (items ++ byte ∷ []) (hex_bytes (take (length rest - 2) (drop 2 rest))) ≡ hex_bytes all_digits
 pair_read [] items all_digits byte some is so_far = absurd (omega (arith, some))

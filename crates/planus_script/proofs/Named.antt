@@ -17,7 +17,6 @@ use Rattle.planus.specs.declared.finishes.Finished.{Finished}
 use Rattle.planus.specs.declared.faults.ReplayError.{ReplayError}
 use Rattle.planus.specs.declared.faults.ReplayError.TheVariants.{OutOfMemory, TooLarge, BadStep}
 
--- as many numbers as steps
 abbrev pub AsMany : Result Read (ℕ × ReadFault) → Type 0
 AsMany (Ok read) = length read.numbers ≡ length read.commands
 AsMany (Err fault) = Unit {0}
@@ -44,7 +43,6 @@ abbrev number_of_bad : Option (ℕ × Why) → ℕ
 number_of_bad None = 0
 number_of_bad (Some bad) = bad.0
 
--- a bad step is one of the steps
 pub bad_within : (earlier steps : List Step) (n : ℕ) (why : Why) → first_bad_after earlier steps ≡ Some (n, why) → n < length earlier + length steps
 bad_within earlier [] n why h = (cc)
 bad_within earlier (step ∷ steps) n why h = at_check (broken_check earlier step) h (bad_within (earlier ++ step ∷ []) steps n why)

@@ -12,7 +12,6 @@ use Rattle.std.proofs.lemmas.Str.Parse.{IsNumeralModel, numerals_by_value, parse
 pub own : IsNumeralModel (λ ds. list_all is_ascii_digit ds ≡ true) (digits_value 10)
 own = numerals_by_value _ (search rules)
 
--- what the tests of a number come to, where the length and the digits are right
 pub not_a_number : (word : List ℕ) → length word ≤ 20 → list_all is_ascii_digit word ≡ true → ¬ ((0 < length word) × (digits_value 10 word < 2 ^ 64)) → is_number word ≡ false
 not_a_number word short digits above =
     by_tests (nat_le 1 (length word)) (nat_lt (digits_value 10 word) (2 ^ 64)) refl refl
@@ -22,7 +21,6 @@ not_a_number word short digits above =
     by_tests true false h k = rw (h, digits, k) (elim (nat_le (length word) 20) as (λ b. (b && false) ≡ false) [ true ↦ refl | false ↦ refl ])
     by_tests true true h k = absurd (above (grind (arith, nat_tests, h), grind (arith, nat_tests, k)))
 
--- what `parse` refuses of twenty digits at most is no number
 pub refused : {E : Type 0} (word : List ℕ) (e : E) → ParsesUnsigned {E = E} 64 10 word (Err e) → length word ≤ 20 → list_all is_ascii_digit word ≡ true → Err BadNumber ≡ number_of word
 refused {E} word e h short digits =
     let above : ¬ ((0 < length word) × (digits_value 10 word < 2 ^ 64)) = parse_digits own 64 word (Err e) h digits in

@@ -1,4 +1,4 @@
--- Of each input one text is printed.
+-- Each input has one output.
 use Rattle.std.proofs.Common.{◌≡◌, ℕ, List, sym, ap, ◌∙◌, subst, Option, Some, Result, Ok, Err, Bool, true, false, inl, inr}
 use Rattle.std.specs.Prelude.{slice_get, nat_lt, length, codes}
 use Rattle.std.specs.Bool.{MatchBool}
@@ -24,7 +24,6 @@ of_answer numbers (Err (BadStep step why)) a b x y p q =
 of_answer numbers (Err TooLarge) a b x y p q = (p.0 ∙ sym q.0, p.1 ∙ sym q.1)
 of_answer numbers (Err OutOfMemory) a b x y p q = absurd p
 
--- what was refused for memory isn't printed
 not_memory : (numbers : List ℕ) (answer : Result (List Finish) ReplayError) (a : Bool) (x : List ℕ) → IsOutOfMemory answer → PrintsAnswer numbers answer a x → ⊥
 not_memory numbers (Ok finished) a x wants p = wants
 not_memory numbers (Err (BadStep step why)) a x wants p = wants

@@ -17,13 +17,11 @@ at_zero : (bytes before so_far spaced after : List ℕ) → 0 < length bytes →
 at_zero [] before so_far spaced after h e s a = absurd (omega arith)
 at_zero (b ∷ bytes) before so_far spaced after h e s a = a ∙ ap (λ xs. xs ++ hex_of b) (s ∙ e ∙ append-nil before)
 
--- the first byte, with no space in front of it
 pub first_byte : (bytes : List ℕ) (i : ℕ) (before so_far spaced after : List ℕ) → i ≤ 0 → i < length bytes → so_far ≡ before ++ join_with_byte 32 (map hex_of (take i bytes))
     → spaced ≡ so_far → after ≡ spaced ++ hex_of (get_or bytes i 0) → after ≡ before ++ join_with_byte 32 (map hex_of (take (i + 1) bytes))
 first_byte bytes zero before so_far spaced after none inside e s h = at_zero bytes before so_far spaced after inside e s h
 first_byte bytes (suc i) before so_far spaced after none inside e s h = absurd (omega arith)
 
--- a further byte, with a space in front of it
 pub further_byte : (bytes : List ℕ) (i : ℕ) (before so_far spaced after : List ℕ) → 0 < i → i < length bytes → so_far ≡ before ++ join_with_byte 32 (map hex_of (take i bytes))
     → spaced ≡ so_far ++ 32 ∷ [] → after ≡ spaced ++ hex_of (get_or bytes i 0) → after ≡ before ++ join_with_byte 32 (map hex_of (take (i + 1) bytes))
 further_byte bytes i before so_far spaced after some inside e s h =

@@ -1,11 +1,10 @@
--- Reading a script line by line: the steps so far, and the lines that are left.
+-- The steps so far, and the lines that are left.
 use Rattle.std.proofs.Common.{◌≡◌, ℕ, ◌+◌, List, [], ◌∷◌, ◌++◌, length, true, false, refl, ap, append_assoc, append-nil, Result, Ok, Err, Option, Some, None}
 use Rattle.std.specs.Borrow.{Bor}
 use Rattle.planus.specs.Steps.{Step}
 use Rattle.planus_script.specs.Script.{Read, read_lines, lines_of, command_of, is_skipped, onto_read}
 use Rattle.planus_script.specs.declared.script.ReadFault.{ReadFault}
 
--- the lines of what is left, and how many bytes may follow
 abbrev pub lines_left : Option (Bor (List ℕ)) → List (List ℕ)
 lines_left None = []
 lines_left (Some text) = lines_of text.now
@@ -14,7 +13,6 @@ abbrev pub size_left : Option (Bor (List ℕ)) → ℕ
 size_left None = 0
 size_left (Some text) = length text.now + 1
 
--- steps in front of what is read
 abbrev pub onto_front : Read → Result Read (ℕ × ReadFault) → Result Read (ℕ × ReadFault)
 onto_front front (Ok more) = Ok (record { numbers = front.numbers ++ more.numbers; commands = front.commands ++ more.commands })
 onto_front front (Err fault) = Err fault

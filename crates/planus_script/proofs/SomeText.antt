@@ -1,4 +1,4 @@
--- Of each input a text is printed.
+-- Each input has an output.
 use Rattle.std.proofs.Common.{◌≡◌, ℕ, zero, suc, ◌+◌, ◌<◌, List, [], ◌∷◌, length, refl, arith, Some, Result, Ok, Err, Bool, true, false}
 use Rattle.std.specs.Prelude.{slice_get, nat_lt, codes}
 use Rattle.std.specs.Bool.{MatchBool}

@@ -1,4 +1,4 @@
--- Reading bytes with spaces between them: those so far, and those that are left.
+-- Bytes with spaces between them: those so far, and those left.
 use Rattle.std.proofs.Common.{◌≡◌, ℕ, ◌-◌, ◌≤◌, length, take, drop, get_or, arith, List, [], ◌∷◌, ◌++◌, refl, sym, ap, ◌∙◌, Option, Some, true}
 use Rattle.std.specs.Prelude.{◌==◌}
 use Rattle.std.proofs.Math.Seq.{take-length}
@@ -7,7 +7,6 @@ use Rattle.planus_script.specs.Script.{byte_of, onto_bytes}
 use Rattle.planus_script.specs.DumpRuns.{spaced_bytes}
 use Rattle.planus_script.proofs.Lists.{bytes_before, byte_read}
 
--- two digits and a space more are a byte more
 pub spaced_read : (rest items : List ℕ) (whole : Option (List ℕ)) (byte : ℕ) → 3 ≤ length rest → get_or rest 2 0 ≡ 32 → byte_of (get_or rest 0 0) (get_or rest 1 0) ≡ Some byte
     → bytes_before items (spaced_bytes rest) ≡ whole → bytes_before (items ++ byte ∷ []) (spaced_bytes (take (length rest - 3) (drop 3 rest))) ≡ whole
 spaced_read [] items whole byte some space is so_far = absurd (omega (arith, some))

@@ -7,7 +7,6 @@ use Rattle.std.proofs.lemmas.List.Splits.{slice_split_first, slice_split_none}
 use Rattle.std.proofs.lemmas.List.Sums.{fails_before_first}
 use Rattle.std.proofs.lemmas.Bool.Decides.{nat_tests}
 
--- what a position tells of the parts
 abbrev pub PartsAt : (ℕ → Bool) → List ℕ → Option ℕ → Type 0
 PartsAt p xs r = MatchOption r (slice_split p xs ≡ xs ∷ []) (λ i. (i < length xs) × (slice_split p xs ≡ take i xs ∷ slice_split p (drop (i + 1) xs)))
 

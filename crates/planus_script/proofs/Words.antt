@@ -11,7 +11,6 @@ use Rattle.planus.specs.Steps.{Front}
 use Rattle.planus_script.specs.Script.{bytes_of, finish_of, command_of, command_of_words, clear_of}
 use Rattle.planus_script.specs.declared.script.ReadFault.TheVariants.{NotUtf8, UnknownCommand, BadHex}
 
--- what the words of a line come to
 pub not_utf8 : (line : List ℕ) → ¬ (IsUtf8 line) → command_of line ≡ Err NotUtf8
 not_utf8 line h = by_test (is_utf8 line) refl
   where
@@ -22,14 +21,12 @@ not_utf8 line h = by_test (is_utf8 line) refl
 pub utf8 : (line : List ℕ) → IsUtf8 line → command_of line ≡ command_of_words line (words_of line)
 utf8 line h = rw (is_utf8-from_IsUtf8 line h) refl
 
--- where `split_once` cuts
 pub uncut : (line : List ℕ) → position_or_len (λ b. b == 32) line ≡ length line → words_of line ≡ line ∷ []
 uncut line h = slice_split_none (λ b. b == 32) line (λ k d high. fails_before_first (λ b. b == 32) line k d (omega arith))
 
 pub cut : (line : List ℕ) → position_or_len (λ b. b == 32) line < length line → words_of line ≡ before_first (λ b. b == 32) line ∷ words_of (after_first (λ b. b == 32) line)
 cut line h = slice_split_first (λ b. b == 32) line 0 h
 
--- some words are no clear, and a third word is no finish
 some_words : (rest : List ℕ) → 1 ≤ length (words_of rest)
 some_words rest = omega (arith, length-slice_split (λ b. b == 32) rest)
 

@@ -11,18 +11,17 @@ use Rattle.planus_script.specs.declared.script.Command.{Command}
 use Rattle.planus_script.specs.declared.script.Command.TheVariants as named
 use Rattle.planus_script.specs.declared.script.ReadFault.{ReadFault}
 
--- the words of a vector, if the first one is an item
+-- if the first word is an item
 abbrev pub AsksForItems :
     {A : Type 0} → (List ℕ → Result A ReadFault) → List (List ℕ) → Type 0
 AsksForItems read [] = ⊥
 AsksForItems read (word ∷ words) = IsOk (read word)
 
--- the words of bytes, if there is one, with the digits of a byte
+-- if there is one word, with the digits of a byte
 abbrev pub AsksForBytes : List (List ℕ) → Type 0
 AsksForBytes (word ∷ []) = 2 ≤ length word
 AsksForBytes _ = ⊥
 
--- the words after a command
 abbrev pub AsksForStep : Command → List (List ℕ) → Type 0
 AsksForStep named.Text words = ⊤
 AsksForStep named.Bytes words = AsksForBytes words
@@ -33,21 +32,19 @@ AsksForStep named.Table words = AsksForItems field_of words
 AsksForStep (named.Finish sized) words = ⊥
 AsksForStep named.Clear words = ⊥
 
--- the same, where the command may be unknown
 abbrev pub AsksIfKnown : Option Command → List (List ℕ) → Type 0
 AsksIfKnown None words = ⊥
 AsksIfKnown (Some command) words = AsksForStep command words
 
--- the words of a line
 abbrev pub AsksForWords : List (List ℕ) → Type 0
 AsksForWords [] = ⊥
 AsksForWords (word ∷ words) = AsksIfKnown (command_named word) words
 
--- The line takes memory: it is UTF-8, and its words take some.
+-- it is UTF-8, and its words take memory
 abbrev pub AsksForLine : List ℕ → Type 0
 AsksForLine line = IsTrue (is_utf8 line) × AsksForWords (words_of line)
 
--- The lines take memory: the first that isn't skipped is a step, or takes some.
+-- the first that isn't skipped is a step, or takes memory
 abbrev pub AsksForLines : List (List ℕ) → Type 0
 AsksForLines [] = ⊥
 AsksForLines (line ∷ lines) =

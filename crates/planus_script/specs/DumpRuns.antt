@@ -16,11 +16,11 @@ use Rattle.planus_dump.specs.declared.dumps.DumpError.TheVariants.{TooDeep, TooM
 use Rattle.planus_script.specs.Printed.{greatest_script, line_of}
 use Rattle.planus_script.specs.Script.{byte_of, onto_bytes}
 
--- the greatest number of lines of a dump
+-- the greatest number of lines
 abbrev pub budget : ℕ
 budget = 10000
 
--- the bytes of two hexadecimal digits each, with one space between them
+-- two hexadecimal digits for each byte, with one space between
 abbrev pub spaced_bytes : List ℕ → Option (List ℕ)
 spaced_bytes [] = None
 spaced_bytes (digit ∷ []) = None
@@ -33,16 +33,14 @@ abbrev pub line_bytes : List ℕ → Option (List ℕ)
 line_bytes [] = Some []
 line_bytes (digit ∷ digits) = spaced_bytes (digit ∷ digits)
 
--- the line of an input, without a line feed at its end
+-- without a line feed at its end
 abbrev pub without_line_feed : List ℕ → List ℕ
 without_line_feed input =
     if slice_index input (length input - 1) == 10 then take (length input - 1) input else input
 
--- the bytes of an input
 abbrev pub input_bytes : List ℕ → Option (List ℕ)
 input_bytes input = line_bytes (without_line_feed input)
 
--- the bytes of an optional vector
 abbrev pub vec_bytes : Option (Vec ℕ Global) → Option (List ℕ)
 vec_bytes None = None
 vec_bytes (Some bytes) = Some bytes.items
@@ -61,21 +59,19 @@ PrintsAnswer (Err BadSchema) clean printed = IsFault (codes "bad schema") clean 
 PrintsAnswer (Err TooDeep) clean printed = IsFault (codes "too deep") clean printed
 PrintsAnswer (Err TooManyLines) clean printed = IsFault (codes "too many lines") clean printed
 
--- what is printed for the bytes of an input, if it has any
 abbrev pub PrintsBytes : Schema → Option (List ℕ) → Bool → List ℕ → Type 0
 PrintsBytes schema None clean printed = IsFault (codes "bad hex") clean printed
 PrintsBytes schema (Some bytes) clean printed =
     (answer : Result (Vec (String Global) Global) DumpError) × Dumped schema bytes budget answer
     × PrintsAnswer answer clean printed
 
--- what is printed for an input
 abbrev pub PrintsDump : Schema → List ℕ → Bool → List ℕ → Type 0
 PrintsDump schema input clean printed =
     MatchBool (nat_lt greatest_script (length input))
     (IsFault (codes "script too long") clean printed)
     (PrintsBytes schema (input_bytes input) clean printed)
 
--- What is printed for the input was written, and nothing else.
+-- what is printed for the input was written, and nothing else
 abbrev pub WritesDump : Schema → List ℕ → Bool → Option (List ℕ) → Option (List ℕ) → Type 0
 WritesDump schema input clean before after =
     (printed : List ℕ) × PrintsDump schema input clean printed × Appends before after printed

@@ -11,7 +11,7 @@ use Rattle.planus_script.specs.declared.fields.FieldKind.TheVariants.{Number, Re
 use Rattle.planus_script.specs.declared.script.ReadFault.{ReadFault}
 use Rattle.planus_script.specs.declared.script.ReadFault.TheVariants.{BadField}
 
--- the kind of this name: numbers of 1, 2, 4 or 8 bytes, references, a union vector's two parts
+-- numbers of 1, 2, 4 or 8 bytes, references, a union vector's two parts
 abbrev pub kind_of : List ℕ → Option FieldKind
 kind_of word =
     if bytes_eq word (codes "u8") then Some (Number 1)
@@ -22,18 +22,17 @@ kind_of word =
     else if bytes_eq word (codes "tags") then Some Tags
     else if bytes_eq word (codes "values") then Some Values else None
 
--- the slot of this number; above 65535 it is 65535, which is too big as well
+-- above 65535 it is 65535, which is too big as well
 abbrev pub slot_of : ℕ → ℕ
 slot_of number = min number 65535
 
--- what a field of this kind holds
 abbrev pub value_of : FieldKind → ℕ → FieldValue
 value_of (Number width) number = held.Number width number
 value_of Ref number = held.Ref number
 value_of Tags number = held.Tags number
 value_of Values number = held.Values number
 
--- a field of this kind by its two numbers, or the first error, the slot's before the other
+-- the slot's error comes before the other
 abbrev pub field_with : FieldKind → Result ℕ ReadFault → Result ℕ ReadFault
     → Result Field ReadFault
 field_with kind (Err fault) number = Err fault
@@ -41,22 +40,20 @@ field_with kind (Ok slot) (Err fault) = Err fault
 field_with kind (Ok slot) (Ok number) =
     Ok (record { slot = slot_of slot; value = value_of kind number })
 
--- a field by the words of its slot and its number, if its kind is known
 abbrev pub field_if : Option FieldKind → List ℕ → List ℕ → Result Field ReadFault
 field_if None slot number = Err BadField
 field_if (Some kind) slot number = field_with kind (number_of slot) (number_of number)
 
--- a field by the word of its slot, and what is before and after its `:`
 abbrev pub field_behind : List ℕ → Option (List ℕ × List ℕ) → Result Field ReadFault
 field_behind slot None = Err BadField
 field_behind slot (Some parts) = field_if (kind_of parts.0) slot parts.1
 
--- a field by what is before and after its `=`
+-- by what is before and after its `=`
 abbrev pub field_cut : Option (List ℕ × List ℕ) → Result Field ReadFault
 field_cut None = Err BadField
 field_cut (Some parts) = field_behind parts.0 (cut_at 58 parts.1)
 
--- the field of a word such as `3=u16:24` or `0=ref:1`, or the first error of its parts
+-- the field of a word such as `3=u16:24` or `0=ref:1`, or the first error
 abbrev pub field_of : List ℕ → Result Field ReadFault
 field_of word = field_cut (cut_at 61 word)
 

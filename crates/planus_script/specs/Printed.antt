@@ -15,11 +15,11 @@ use Rattle.planus_script.specs.declared.script.ReadFault.{ReadFault}
 use Rattle.planus.specs.declared.faults.ReplayError.{ReplayError}
 use Rattle.planus.specs.declared.faults.ReplayError.TheVariants.{OutOfMemory, TooLarge, BadStep}
 
--- the greatest length of a script in bytes
+-- in bytes
 abbrev pub greatest_script : ℕ
 greatest_script = 1048576
 
--- a line of bytes, with one space between them
+-- with one space between the bytes
 abbrev pub hex_line : List ℕ → List ℕ
 hex_line bytes = join_with_byte 32 (map hex_of bytes) ++ 10 ∷ []
 
@@ -31,7 +31,7 @@ line_of words = words ++ 10 ∷ []
 abbrev pub fault_line : ℕ → List ℕ → List ℕ
 fault_line number fault = codes "line " ++ (decimal number ++ (codes ": " ++ line_of fault))
 
--- what is printed for a replay's result, by the numbers of the steps' lines
+-- for a replay's result, by the numbers of the steps' lines
 abbrev pub PrintsAnswer : List ℕ → Result (List Finish) ReplayError → Bool → List ℕ → Type 0
 PrintsAnswer numbers (Ok finished) clean printed = (clean ≡ true)
     × (printed ≡ flat_map (λ finish. hex_line finish.bytes) finished)
@@ -42,7 +42,7 @@ PrintsAnswer numbers (Err TooLarge) clean printed = (clean ≡ false)
     × (printed ≡ line_of (codes "too large"))
 PrintsAnswer numbers (Err OutOfMemory) clean printed = ⊥
 
--- what is printed for a script that was read; equal contents of every kind are written once
+-- for a script that was read; equal contents of every kind are written once
 abbrev pub PrintsRead : Result Read (ℕ × ReadFault) → Bool → List ℕ → Type 0
 PrintsRead (Err fault) clean printed = (clean ≡ false)
     × (printed ≡ fault_line fault.0 (read_fault_text fault.1))
@@ -56,16 +56,15 @@ Printed input clean printed =
     × (printed ≡ line_of (codes "script too long")))
     (PrintsRead (script_of input) clean printed)
 
--- The input is a script: it isn't too long, and each of its lines can be read.
+-- It isn't too long, and each of its lines can be read.
 pub record IsScript (input : List ℕ) : Type 0 where
   pub fits : length input ≤ greatest_script
   pub read : (read : Read) × (script_of input ≡ Ok read)
 
--- what is printed where a replay runs out of memory
 abbrev pub PrintsOutOfMemory : Bool → List ℕ → Type 0
 PrintsOutOfMemory clean printed = (clean ≡ false) × (printed ≡ line_of (codes "out of memory"))
 
--- this is printed for the input, or it is a script whose replay ran out of memory
+-- this is printed, or the replay ran out of memory
 abbrev pub PrintedOrOutOfMemory : List ℕ → Bool → List ℕ → Type 0
 PrintedOrOutOfMemory input clean printed = Printed input clean printed
     ⊎ (IsScript input × PrintsOutOfMemory clean printed)

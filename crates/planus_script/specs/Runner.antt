@@ -6,12 +6,12 @@ use Rattle.planus_script.specs.Printed.{greatest_script, PrintedOrOutOfMemory}
 use Rattle.planus_script.specs.declared.run.RunError.{RunError}
 use Rattle.planus_script.specs.declared.run.RunError.TheVariants.{OutOfMemory, Read, Write}
 
--- What is printed for the input was written, and nothing else.
+-- what is printed for the input was written, and nothing else
 abbrev pub WritesPrinted : List ℕ → Bool → Option (List ℕ) → Option (List ℕ) → Type 0
 WritesPrinted input clean before after = (printed : List ℕ)
     × PrintedOrOutOfMemory input clean printed × Appends before after printed
 
--- Nothing was written, unless writing failed.
+-- nothing was written, unless writing failed
 abbrev pub LeavesUnwritten : RunError → Option (List ℕ) → Option (List ℕ) → Type 0
 LeavesUnwritten Write before after = ⊤
 LeavesUnwritten Read before after = Keeps before after
@@ -23,7 +23,7 @@ FailsAt Read count = count ≤ greatest_script
 FailsAt OutOfMemory count = (0 < count) × (count ≤ greatest_script + 1)
 FailsAt Write count = ⊥
 
--- The reader is left after the bytes read before this error.
+-- the reader is left after the bytes read before this error
 abbrev pub StopsReading : RunError → Option (List ℕ) → Option (List ℕ) → Type 0
 StopsReading error before after =
     (taken : List ℕ) × Consumes before after taken × FailsAt error (length taken)

@@ -1,4 +1,4 @@
--- The script: the steps of an input, line by line.
+-- The steps of an input, line by line.
 use Rattle.std.specs.Prelude.{ℕ, ◌+◌, ◌*◌, ◌==◌, ◌&&◌, Bool, true, false, List, [], ◌∷◌, map}
 use Rattle.std.specs.Prelude.{length, Option, Some, None, Result, Ok, Err, if◌then◌else◌, codes}
 use Rattle.std.specs.List.{slice_split, after_first, list_all}
@@ -18,7 +18,7 @@ use Rattle.planus_script.specs.declared.script.ReadFault.{ReadFault}
 use Rattle.planus_script.specs.declared.script.ReadFault.TheVariants.{NotUtf8, UnknownCommand}
 use Rattle.planus_script.specs.declared.script.ReadFault.TheVariants.{BadHex, BadIdentifier}
 
--- the lines of an input, which line feeds separate
+-- line feeds separate them
 abbrev pub lines_of : List ℕ → List (List ℕ)
 lines_of input = slice_split (λ b. b == 10) input
 
@@ -27,25 +27,21 @@ abbrev pub is_skipped : List ℕ → Bool
 is_skipped [] = true
 is_skipped (b ∷ bs) = b == 35
 
--- an identifier is four bytes from `21` to `7e` hexadecimal
+-- four bytes from `21` to `7e` hexadecimal
 abbrev pub is_identifier : List ℕ → Bool
 is_identifier word = length word == 4 && list_all (is_in_range 33 126) word
 
--- the identifier of a word, or an error
 abbrev pub identifier_of : List ℕ → Result (List ℕ) ReadFault
 identifier_of word = if is_identifier word then Ok word else Err BadIdentifier
 
--- a finish without an identifier, or the number's error
 abbrev pub finish_at : Front → Result ℕ ReadFault → Result Step ReadFault
 finish_at front (Ok root) = Ok (finish front root None)
 finish_at front (Err fault) = Err fault
 
--- a finish of this number with an identifier, or the identifier's error
 abbrev pub finish_with : Front → ℕ → Result (List ℕ) ReadFault → Result Step ReadFault
 finish_with front root (Ok identifier) = Ok (finish front root (Some identifier))
 finish_with front root (Err fault) = Err fault
 
--- the same, the number's error first
 abbrev pub identified_at : Front → Result ℕ ReadFault → Result (List ℕ) ReadFault
     → Result Step ReadFault
 identified_at front (Ok root) identifier = finish_with front root identifier
@@ -64,29 +60,26 @@ abbrev pub clear_of : List (List ℕ) → Result Step ReadFault
 clear_of [] = Ok clear
 clear_of (word ∷ words) = Err UnknownCommand
 
--- the byte of two hexadecimal digits, of either case
+-- two hexadecimal digits of either case
 abbrev pub byte_of : ℕ → ℕ → Option ℕ
 byte_of high low =
     if is_digit high 16 && is_digit low 16 then Some (digit_value high * 16 + digit_value low)
     else None
 
--- both in one list, if there is a byte
 abbrev pub onto_bytes : Option ℕ → Option (List ℕ) → Option (List ℕ)
 onto_bytes None more = None
 onto_bytes (Some byte) more = option_map (λ bytes. byte ∷ bytes) more
 
--- the bytes of an even number of hexadecimal digits
+-- an even number of hexadecimal digits
 abbrev pub hex_bytes : List ℕ → Option (List ℕ)
 hex_bytes [] = Some []
 hex_bytes (digit ∷ []) = None
 hex_bytes (high ∷ low ∷ digits) = onto_bytes (byte_of high low) (hex_bytes digits)
 
--- the step of these bytes, or an error
 abbrev pub bytes_step : Option (List ℕ) → Result Step ReadFault
 bytes_step None = Err BadHex
 bytes_step (Some content) = Ok (bytes content)
 
--- the bytes of a word with digits
 abbrev pub bytes_in : List ℕ → Option (List ℕ)
 bytes_in [] = None
 bytes_in (digit ∷ digits) = hex_bytes (digit ∷ digits)
@@ -97,17 +90,14 @@ bytes_of [] = Ok (bytes [])
 bytes_of (word ∷ []) = bytes_step (bytes_in word)
 bytes_of (word ∷ more ∷ words) = Err BadHex
 
--- the step of a vector of items
 abbrev pub list_step : {A : Type 0} → (List A → Step) → Result (List A) ReadFault
     → Result Step ReadFault
 list_step step (Ok items) = Ok (step items)
 list_step step (Err fault) = Err fault
 
--- the step of a table of these fields
 abbrev pub table_step : List Field → Step
 table_step fields = table (map bare_field fields)
 
--- the command of this name, of those that write contents
 abbrev pub contents_named : List ℕ → Option Command
 contents_named word =
     if bytes_eq word (codes "text") then Some named.Text
@@ -116,7 +106,6 @@ contents_named word =
     else if bytes_eq word (codes "u32") then Some (named.Numbers 4)
     else if bytes_eq word (codes "u64") then Some (named.Numbers 8) else None
 
--- the command of this name, of the others
 abbrev pub steps_named : List ℕ → Option Command
 steps_named word =
     if bytes_eq word (codes "refs") then Some named.Refs
@@ -126,11 +115,9 @@ steps_named word =
     else if bytes_eq word (codes "sized") then Some (named.Finish true)
     else if bytes_eq word (codes "clear") then Some named.Clear else None
 
--- the command of this name
 abbrev pub command_named : List ℕ → Option Command
 command_named word = option_or (contents_named word) (steps_named word)
 
--- the step of a command, by the bytes after it and their words
 abbrev pub step_by : Command → List ℕ → List (List ℕ) → Result Step ReadFault
 step_by named.Text behind words = Ok (text behind)
 step_by named.Bytes behind words = bytes_of words
@@ -141,12 +128,10 @@ step_by named.Table behind words = list_step table_step (fields_of words)
 step_by (named.Finish sized) behind words = finish_of (front_of sized) words
 step_by named.Clear behind words = clear_of words
 
--- the same, if the command is known
 abbrev pub step_if : Option Command → List ℕ → List (List ℕ) → Result Step ReadFault
 step_if None behind words = Err UnknownCommand
 step_if (Some command) behind words = step_by command behind words
 
--- the step of a line's words, and of the bytes after its first space
 abbrev pub command_of_words : List ℕ → List (List ℕ) → Result Step ReadFault
 command_of_words line [] = Err UnknownCommand
 command_of_words line (word ∷ words) =
@@ -161,13 +146,11 @@ pub record Read : Type 0 where
   pub numbers : List ℕ
   pub commands : List Step
 
--- one more step before the others
 abbrev pub onto_read : ℕ → Step → Result Read (ℕ × ReadFault) → Result Read (ℕ × ReadFault)
 onto_read number command (Ok read) =
     Ok (record { numbers = number ∷ read.numbers; commands = command ∷ read.commands })
 onto_read number command (Err fault) = Err fault
 
--- the step or the error of a line, before what follows it
 abbrev pub then_read : ℕ → Result Step ReadFault → Result Read (ℕ × ReadFault)
     → Result Read (ℕ × ReadFault)
 then_read number (Ok command) more = onto_read number command more
@@ -180,6 +163,6 @@ read_lines number (line ∷ lines) =
     if is_skipped line then read_lines (number + 1) lines else then_read number (command_of line)
     (read_lines (number + 1) lines)
 
--- The steps of a script. Lines count from 1, skipped ones included.
+-- Lines count from 1, skipped ones included.
 abbrev pub script_of : List ℕ → Result Read (ℕ × ReadFault)
 script_of input = read_lines 1 (lines_of input)

@@ -4,26 +4,23 @@ use Rattle.planus_script.specs.Words.{cut_at, number_of, items_of}
 use Rattle.planus_script.specs.declared.script.ReadFault.{ReadFault}
 use Rattle.planus_script.specs.declared.script.ReadFault.TheVariants.{BadField}
 
--- a union with this tag, or the error of its step's number
 abbrev pub union_with : ℕ → Result ℕ ReadFault → Result (ℕ × ℕ) ReadFault
 union_with tag (Err fault) = Err fault
 union_with tag (Ok step) = Ok (tag, step)
 
--- a union by its tag, which is at most 255, and the word of its step
+-- the tag is at most 255
 abbrev pub union_tagged : Result ℕ ReadFault → List ℕ → Result (ℕ × ℕ) ReadFault
 union_tagged (Err fault) step = Err fault
 union_tagged (Ok tag) step =
     if nat_lt 255 tag then Err BadField else union_with tag (number_of step)
 
--- a union by what is before and after its `:`
 abbrev pub union_cut : Option (List ℕ × List ℕ) → Result (ℕ × ℕ) ReadFault
 union_cut None = Err BadField
 union_cut (Some parts) = union_tagged (number_of parts.0) parts.1
 
--- the union of a word such as `1:0`, its tag and its value's step, or the first error
+-- a word such as `1:0`, its tag and its value's step, or the first error
 abbrev pub union_of : List ℕ → Result (ℕ × ℕ) ReadFault
 union_of word = union_cut (cut_at 58 word)
 
--- the unions of these words, or the first error
 abbrev pub unions_of : List (List ℕ) → Result (List (ℕ × ℕ)) ReadFault
 unions_of words = items_of union_of words

@@ -1,4 +1,4 @@
-//! From a line of bytes on a reader to its dump on a writer.
+//! From a line of bytes to its dump.
 ghost use Rattle.std.specs.Prelude.{◌≡◌, ◌++◌, map, IfOk, IfErr, IfSome, OnOk};
 ghost use Rattle.std.specs.List.{flat_map};
 ghost use Rattle.std.specs.String.{string_bytes};
@@ -15,10 +15,9 @@ use planus_dump::{DumpError, Schema, dump};
 use std::alloc::{AllocError, Global};
 use std::io::{Read, Write};
 
-/// The greatest number of lines of a dump.
 const BUDGET: usize = 10000;
 
-/// Returns the bytes of a line that isn't empty, or `None` where it is no line of bytes.
+/// `None` where it is no line of bytes. The line isn't empty.
 fn spaced(alloc: Global, line: &[u8]) -> Result<Option<Vec<u8>>, AllocError>
     ensures { IfOk result (λ bytes. vec_bytes bytes ≡ spaced_bytes line.now) }
 {
@@ -117,8 +116,8 @@ fn output_of_dump(alloc: Global, schema: &Schema, input: &[u8]) -> Result<Output
     }
 }
 
-/// Reads a line of bytes, as [`crate::run::run`] prints it, and prints the lines of its dump, or an
-/// error. Returns whether there is a dump.
+/// Reads a line of bytes, as [`crate::run::run`] prints it, and prints its dump, or an error.
+/// Returns whether there is a dump.
 pub fn run_dump<R: Read, W: Write>(
     alloc: Global,
     schema: &Schema,

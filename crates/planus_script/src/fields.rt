@@ -1,4 +1,4 @@
-//! The fields of a table in a script.
+//! Fields of tables.
 ghost use Rattle.std.specs.Prelude.{◌≡◌};
 ghost use Rattle.std.specs.Option.{option_copied};
 ghost use Rattle.planus_script.specs.Words.{words_behind};
@@ -45,7 +45,7 @@ fn kind(word: &str) -> Option<FieldKind>
     }
 }
 
-/// Returns the slot of this number. Above 65535 it is 65535, which is too big as well.
+/// Above 65535 it is 65535, which is too big as well.
 fn slot(number: u64) -> u16
     ensures { result ≡ slot_of number }
 {
@@ -69,7 +69,7 @@ fn value(kind: FieldKind, number: u64) -> FieldValue
 impl FromWord for Field {
     ghost said = { field_of };
 
-    /// Returns the field of a word such as `3=u16:24` or `0=ref:1`.
+    /// A word such as `3=u16:24` or `0=ref:1`.
     fn from_word(word: &str) -> Result<Field, ReadFault> {
         let Some((slot_word, rest)) = cut(word, '=') else {
             return Err(ReadFault::BadField);
@@ -86,7 +86,6 @@ impl FromWord for Field {
     }
 }
 
-/// Returns a table by the words after the first.
 pub(crate) fn table(alloc: Global, words: Option<&str>) -> Result<Step, LineError>
     ensures { let words = words_behind (option_copied words.entry) in
         AnswersLine result (list_step table_step (fields_of words))

@@ -1,4 +1,4 @@
-//! Laws over what is printed. Each function states a law by its contract, and does nothing.
+//! Laws over what is printed, each stated by a contract.
 
 ghost use Rattle.planus_script.specs.Printed.{ATextIsPrinted, PrintedIsOne};
 
@@ -7,7 +7,7 @@ pub fn printed_is_one()
     ensures { PrintedIsOne }
 {}
 
-/// For each input something is printed, and so only one thing, out of memory aside.
+/// For each input something is printed, out of memory aside.
 pub fn a_text_is_printed()
     ensures { ATextIsPrinted }
 {}

@@ -20,7 +20,6 @@ use std::io::{ErrorKind, Read, Write};
 /// The greatest length of a script in bytes.
 pub const GREATEST_SCRIPT: usize = 1048576;
 
-/// The greatest number of bytes read at once.
 const MOST_READ: usize = 8192;
 
 /// Why a run failed.
@@ -63,8 +62,7 @@ impl From<AllocError> for RunError {
     }
 }
 
-/// Reads some bytes, and returns their number: 0 at the end. An interrupted read is repeated, up to
-/// 2^64 - 1 times.
+/// Returns 0 at the end. An interrupted read is repeated, up to 2^64 - 1 times.
 fn read_some<R: Read>(reader: &mut R, bytes: &mut [u8]) -> std::result::Result<usize, RunError>
     ensures bound { ReadsAtMost result bytes.new }
     ensures bytes { IfOk result (λ count. Consumes (R.remaining reader.old)
@@ -84,8 +82,7 @@ fn read_some<R: Read>(reader: &mut R, bytes: &mut [u8]) -> std::result::Result<u
     Err(RunError::Read)
 }
 
-/// Returns the bytes of a script, or the first bytes of one that is too long: it reads at most one
-/// byte more than the longest script.
+/// Returns the bytes of a script. Reads at most one byte more than the longest script.
 pub fn read_script<R: Read>(alloc: Global, reader: &mut R) -> std::result::Result<Vec<u8>, RunError>
     ensures bytes { IfOk result (λ input. IfSome (R.remaining reader.old)
         (λ bytes. input.items ≡ take (greatest_script + 1) bytes)) }
@@ -147,8 +144,8 @@ pub fn write_out<W: Write>(writer: &mut W, bytes: &[u8]) -> std::result::Result<
     }
 }
 
-/// Reads a script, and prints a line of bytes for each of its finishes, or its first error alone.
-/// Returns whether it was clean.
+/// Reads a script, and prints a line of bytes for each finish, or the first error alone. Returns
+/// whether it was clean.
 pub fn run<R: Read, W: Write>(
     alloc: Global,
     reader: &mut R,
@@ -165,8 +162,7 @@ pub fn run<R: Read, W: Write>(
     Ok(output.clean)
 }
 
-/// Returns the exit status: 0 for a clean script, 1 after a printed error, 2 where reading or
-/// writing failed, or memory for the script ran out.
+/// Returns the exit status: 0 for a clean script, 1 after a printed error, 2 where the run failed.
 pub fn status(answer: &std::result::Result<bool, RunError>) -> u8
     ensures { result ≡ status_of answer.now }
 {

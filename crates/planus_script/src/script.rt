@@ -126,7 +126,6 @@ pub struct Script {
     pub steps: Vec<Step>,
 }
 
-/// Why a line could not be read.
 #[derive(Clone, Copy, Debug, PartialEq, Eq)]
 pub(crate) enum LineError {
     OutOfMemory,
@@ -172,7 +171,6 @@ fn line_end(text: &[u8]) -> Option<usize>
     text.iter().position(|byte| *byte == b'\n')
 }
 
-/// Returns the bytes before the first line feed, and those after it, if there is one.
 fn first_line(text: &[u8]) -> (&[u8], Option<&[u8]>)
     ensures shorter { IfSome result.1 (λ more. length more.now < length text.now) }
     ensures lines { MatchOption result.1 (slice_split (λ b. b == 10) text.now ≡ result.0.now ∷ [])
@@ -203,7 +201,6 @@ pub(crate) fn number(word: &str) -> std::result::Result<u64, ReadFault>
     }
 }
 
-/// Returns the first word of a line, and what is after the next space, if there is one.
 pub(crate) fn first_word(line: &str) -> (&str, Option<&str>)
     ensures shorter { IfSome (option_copied result.1) (λ more. length more < length line.now) }
     ensures words { words_of line.now ≡ result.0.now ∷ words_behind (option_copied result.1) }
@@ -215,7 +212,6 @@ pub(crate) fn first_word(line: &str) -> (&str, Option<&str>)
     }
 }
 
-/// Returns what is before and after the first of this character, if there is one.
 pub(crate) fn cut(word: &str, character: char) -> Option<(&str, &str)>
     requires { character < 128 }
     ensures { option_map (λ parts. (parts.0.now, parts.1.now)) result
@@ -230,7 +226,6 @@ fn is_graphic(word: &str) -> bool
     word.bytes().all(|byte| (33..=126).contains(&byte))
 }
 
-/// Returns a file identifier of four bytes.
 fn identifier(word: &str) -> std::result::Result<[u8; 4], ReadFault>
     ensures { result ≡ identifier_of word.now }
 {
@@ -243,8 +238,6 @@ fn identifier(word: &str) -> std::result::Result<[u8; 4], ReadFault>
     }
 }
 
-/// Returns the step of `finish I` or `finish I ABCD`, or, size-prefixed, `sized I` or `sized I
-/// ABCD`, by the words after the first.
 fn finish(words: Option<&str>, sized: bool) -> std::result::Result<Step, ReadFault>
     ensures { AnswersCommand result
         (finish_of (front_of sized) (words_behind (option_copied words.entry))) }
@@ -279,7 +272,6 @@ fn finish_named(root: &str, name: &str, sized: bool) -> std::result::Result<Step
     Ok(finish_step(root, id, sized))
 }
 
-/// Returns the step of a finish, size-prefixed if that is asked for.
 fn finish_step(root: usize, id: Option<[u8; 4]>, sized: bool) -> Step
     ensures { bare_step result ≡ step.finish (front_of sized) root id }
 {
@@ -341,7 +333,6 @@ fn bytes_in(alloc: Global, digits: &str) -> std::result::Result<Step, LineError>
     Ok(Step::Bytes(hex_bytes(alloc, digits.as_bytes())?))
 }
 
-/// What can be read from a single word.
 pub(crate) trait FromWord: Sized + Drop {
     ghost use Rattle.planus_script.specs.declared.script.ReadFault.{ReadFault};
 
@@ -359,7 +350,6 @@ impl FromWord for u64 {
     }
 }
 
-/// Returns the items of the words after the first.
 pub(crate) fn items<T: FromWord>(
     alloc: Global,
     words: Option<&str>,
@@ -388,7 +378,6 @@ fn indexes(alloc: Global, numbers: &[u64]) -> std::result::Result<Vec<usize>, Al
     Ok(indexes)
 }
 
-/// Returns numbers of `width` bytes each, by the words after the first.
 fn list(alloc: Global, width: u8, words: Option<&str>) -> std::result::Result<Step, LineError>
     ensures { let words = words_behind (option_copied words.entry) in
         AnswersLine result (list_step (step.numbers width) (numbers_of words))
@@ -398,7 +387,6 @@ fn list(alloc: Global, width: u8, words: Option<&str>) -> std::result::Result<St
     Ok(Step::Numbers { width, items })
 }
 
-/// Returns references to steps, by the words after the first.
 fn refs(alloc: Global, words: Option<&str>) -> std::result::Result<Step, LineError>
     ensures { let words = words_behind (option_copied words.entry) in
         AnswersLine result (list_step step.refs (numbers_of words))
@@ -426,28 +414,18 @@ fn is_skipped(line: &[u8]) -> bool
     }
 }
 
-/// A command, the first word of a line.
 #[derive(Clone, Copy)]
 enum Command {
-    /// A string.
     Text,
-    /// Bytes.
     Bytes,
-    /// Numbers of `width` bytes.
     Numbers { width: u8 },
-    /// References to steps.
     Refs,
-    /// A union vector.
     Unions,
-    /// A table.
     Table,
-    /// A finish, size-prefixed if that is asked for.
     Finish { sized: bool },
-    /// A clear.
     Clear,
 }
 
-/// Returns the command of this name, of those that write contents.
 fn of_contents(word: &str) -> Option<Command>
     ensures { result ≡ contents_named word.now }
 {
@@ -466,7 +444,6 @@ fn of_contents(word: &str) -> Option<Command>
     }
 }
 
-/// Returns the command of this name, of the others.
 fn of_steps(word: &str) -> Option<Command>
     ensures { result ≡ steps_named word.now }
 {

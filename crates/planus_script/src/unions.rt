@@ -15,7 +15,7 @@ use std::alloc::Global;
 impl FromWord for (u8, usize) {
     ghost said = { union_of };
 
-    /// Returns the union of a word such as `1:0`: its tag, and the number of its value's step.
+    /// A word such as `1:0`: its tag, and the number of its value's step.
     fn from_word(word: &str) -> Result<(u8, usize), ReadFault> {
         let Some((tag_word, step_word)) = cut(word, ':') else {
             return Err(ReadFault::BadField);

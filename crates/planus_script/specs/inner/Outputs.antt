@@ -9,11 +9,9 @@ use Rattle.planus.specs.declared.finishes.Finished.{Finished}
 use Rattle.planus.specs.declared.faults.ReplayError.{ReplayError}
 use Rattle.planus.specs.declared.faults.ReplayError.TheVariants.{OutOfMemory, TooLarge, BadStep}
 
--- whether the script had no error, and all of it was done
 abbrev pub is_clean : Output → Bool
 is_clean output = output.clean
 
--- the bytes that are printed
 abbrev pub printed_text : Output → List ℕ
 printed_text output = string_bytes output.text
 
@@ -24,7 +22,6 @@ NamesStep count (Err TooLarge) = ⊤
 NamesStep count (Err OutOfMemory) = ⊤
 NamesStep count (Ok finished) = ⊤
 
--- what is printed for a replay's result, out of memory included
 abbrev pub PrintsAnswerOr : List ℕ → Result (List Finish) ReplayError → Bool → List ℕ → Type 0
 PrintsAnswerOr numbers (Ok finished) clean printed =
     PrintsAnswer numbers (Ok finished) clean printed

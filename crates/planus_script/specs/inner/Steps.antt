@@ -1,4 +1,4 @@
--- The program's steps, in the terms of the definitions, and the results of its readers of lines.
+-- The program's steps, in the terms of the definitions.
 use Rattle.std.specs.Prelude.{◌≡◌, ℕ, List, map, Vec, Option, Some, None, Result, Ok, Err}
 use Rattle.std.specs.declared.alloc.Global.{Global}
 use Rattle.planus_script.specs.declared.script.ReadFault.TheVariants.{BadHex}
@@ -12,7 +12,6 @@ use Rattle.planus_script.specs.declared.script.ParseError.{ParseError}
 use Rattle.planus_script.specs.declared.script.ParseError.TheVariants as parse
 use Rattle.planus_script.specs.declared.script.Script.{Script}
 
--- a script, without its location in memory
 abbrev pub read_of : Script → Read
 read_of script =
     record { numbers = script.numbers.items; commands = map bare_step script.steps.items }
@@ -28,19 +27,18 @@ AnswersLine (Ok step) expected asks = expected ≡ Ok (bare_step step)
 AnswersLine (Err (line.Fault fault)) expected asks = expected ≡ Err fault
 AnswersLine (Err line.OutOfMemory) expected asks = asks
 
--- the result is these items or this error, or out of memory where that is taken
+-- these items or this error, or out of memory where that is taken
 abbrev pub AnswersList :
     {A : Type 0} → Result (Vec A Global) LineError → Result (List A) ReadFault → Type 0 → Type 0
 AnswersList (Ok items) expected asks = expected ≡ Ok items.items
 AnswersList (Err (line.Fault fault)) expected asks = expected ≡ Err fault
 AnswersList (Err line.OutOfMemory) expected asks = asks
 
--- bytes, or the error of digits
 abbrev pub bytes_or_fault : Option (List ℕ) → Result (List ℕ) ReadFault
 bytes_or_fault None = Err BadHex
 bytes_or_fault (Some bytes) = Ok bytes
 
--- the result is this script or this line's error, or out of memory where that is taken
+-- this script or this line's error, or out of memory where that is taken
 abbrev pub AnswersScript :
     Result Script ParseError → Result Read (ℕ × ReadFault) → Type 0 → Type 0
 AnswersScript (Ok script) expected asks = expected ≡ Ok (read_of script)

@@ -4,6 +4,5 @@ use Rattle.std.specs.String.{string_bytes}
 use Rattle.planus_script.specs.Printed.{line_of}
 use Rattle.planus_script.proofs.dump_run.lines_text.Given as goal
 
--- the lines so far
 abbrev pub invariant-loop-line : goal.invariant-loop-line
 invariant-loop-line l = string_bytes l.text ≡ flat_map line_of (map string_bytes (take l.line-index l.lines))

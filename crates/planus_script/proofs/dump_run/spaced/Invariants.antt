@@ -3,7 +3,6 @@ use Rattle.planus_script.specs.DumpRuns.{spaced_bytes}
 use Rattle.planus_script.proofs.Lists.{bytes_before}
 use Rattle.planus_script.proofs.dump_run.spaced.Given as goal
 
--- the bytes so far and those that are left are those of the line
 abbrev pub invariant-loop-rest : goal.invariant-loop-rest
 invariant-loop-rest l = bytes_before l.bytes.items (spaced_bytes l.rest) ≡ spaced_bytes l.line
 

@@ -5,6 +5,5 @@ use Rattle.planus_script.specs.Printed.{hex_line}
 use Rattle.planus.specs.Replays.{finish_given}
 use Rattle.planus_script.proofs.print.finished_text.Given as goal
 
--- a line for each finish so far
 abbrev pub invariant-loop-finish : goal.invariant-loop-finish
 invariant-loop-finish l = string_bytes l.text ≡ flat_map (λ finish. hex_line finish.bytes) (map finish_given (take l.finish-index l.finished))

@@ -3,7 +3,6 @@ use Rattle.planus_script.specs.Script.{hex_bytes}
 use Rattle.planus_script.proofs.Lists.{bytes_before}
 use Rattle.planus_script.proofs.script.hex_bytes.Given as goal
 
--- the bytes so far and those of the digits that are left are those of all digits
 abbrev pub invariant-loop-rest : goal.invariant-loop-rest
 invariant-loop-rest l = record {
   read : bytes_before l.bytes.items (hex_bytes l.rest) ≡ hex_bytes l.digits;

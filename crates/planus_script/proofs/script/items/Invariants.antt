@@ -6,8 +6,6 @@ use Rattle.planus_script.proofs.Lists.{items_before}
 use Rattle.planus_script.proofs.ReadOn.{size_left}
 use Rattle.planus_script.proofs.script.items.Given as goal
 
--- The items so far and those of the words that are left are those of all words; and what these ask
--- for, all ask for.
 abbrev pub invariant-loop-rest : goal.invariant-loop-rest
 invariant-loop-rest g l = record {
   read : items_before l.items.items (items_of g.T.FromWord.said (words_behind (option_copied l.rest))) ≡ items_of g.T.FromWord.said (words_behind (option_copied l.words));

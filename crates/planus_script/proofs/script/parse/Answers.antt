@@ -18,7 +18,6 @@ loop-rest-init c = record {
   bound = omega arith;
 }
 
--- the first line of what is left, and the lines behind it
 cut : (text line : List ℕ) (more : Option (Bor (List ℕ))) → MatchOption more (lines_of text ≡ line ∷ []) (λ rest. lines_of text ≡ line ∷ lines_of rest.now) → lines_of text ≡ line ∷ lines_left more
 cut text line None h = h
 cut text line (Some rest) h = h

@@ -5,8 +5,6 @@ use Rattle.planus_script.specs.inner.Steps.{read_of}
 use Rattle.planus_script.proofs.ReadOn.{onto_front, lines_left, size_left}
 use Rattle.planus_script.proofs.script.parse.Given as goal
 
--- The steps so far and those of the lines that are left are those of the whole input; and what these
--- ask for, the whole asks for.
 abbrev pub invariant-loop-rest : goal.invariant-loop-rest
 invariant-loop-rest l = record {
   read : onto_front (read_of l.script) (read_lines (l.number + 1) (lines_left l.rest)) ≡ script_of l.input;
