@@ -30,13 +30,13 @@ use planus::{BuildError, Builder, Caches};
 use std::alloc::Global;
 use std::process::Abort;
 
-// Fails a test with this message. An assertion is slow to prove, so this is the one of many tests.
+// An assertion is slow to prove, so many tests use this.
 fn check(rt: &impl Abort, holds: bool, what: &str) {
     assert!(rt; holds, "{what}");
 }
 
-// A builder in a box: the type of an owned value is written out at each step of a proof, and that
-// of a builder, with three caches, is long.
+// In a box, since the type of an owned value is written out at each step of a proof, and that of a
+// builder is long.
 fn boxed(alloc: Global, builder: Builder) -> Result<Box<Builder>, BuildError> {
     match Box::new(alloc, builder) {
         Ok(builder) => Ok(builder),

@@ -1,5 +1,3 @@
-//! The readers' results beside the plain reader's, kind by kind.
-
 use super::found::Found;
 use super::kinds::{Held, Pair, Row, position};
 use super::plain_reader::{
@@ -13,7 +11,7 @@ use planus::{
 use planus_read::errors::ErrorKind;
 use planus_view::{Items, ReadView, VectorOf};
 
-// A position in a slice that begins at another one, of bytes at some offset in their buffer.
+// A position in a slice of a buffer, and the slice's offset.
 #[derive(Clone, Copy)]
 pub struct Spot<'a> {
     pub bytes: &'a [u8],
@@ -235,7 +233,7 @@ impl<'a> Item for Result<Held<'a>, Error> {
     }
 }
 
-// A vector as the plain reader finds it in the slice of a spot. The tags of unions are elsewhere.
+// The tags of unions are elsewhere.
 #[derive(Clone, Copy)]
 struct PlainItems<'a> {
     tags: i128,
@@ -259,8 +257,7 @@ impl<'a> PlainItems<'a> {
     }
 }
 
-// Whether the item by position, from the front and from the back is that of the plain vector. An
-// item from the front is read in the slice that begins with it.
+// An item from the front is read in the slice that begins with it.
 fn three_agree<V: ReadView>(
     vector: VectorOf<V>,
     front: &mut Items<VectorOf<V>>,

@@ -1,4 +1,3 @@
-//! Alignments of parts.
 ghost use Rattle.std.specs.Prelude.{◌+◌, ◌^◌, ◌≤◌};
 ghost use Rattle.planus_back.specs.Promises.{IsPowerOfTwo};
 

@@ -1,4 +1,4 @@
-//! Equal contents, which a builder writes once, and its caches without memory.
+//! Equal contents, which a builder writes once, also without memory.
 
 use super::runs::{add, add_field, add_finish};
 use super::settings::Switches;
@@ -117,7 +117,6 @@ fn is_refused(at: Result<u32, BuildError>) -> bool {
     at == Err(BuildError::OutOfMemory)
 }
 
-// Contents that would need memory for a cache fail, and earlier ones are found.
 fn only_equal_contents_are_found(builder: &mut Builder, before: &[u8]) -> bool {
     let room = builder.room();
     is_refused(text_at(builder, "Hi"))
@@ -140,8 +139,7 @@ fn found_without_memory(
     Ok(if exhausted { Some(found) } else { None })
 }
 
-// What is prepended, the last of it first. The second of the three tables, written without memory,
-// has the vtable of the first.
+// In reverse order. The second of the three tables has the vtable of the first.
 const IN_FRONT: &[u8] = b"\xf8\xff\xff\xff\x07\0\0\0\x08\0\x08\0\0\0\x04\0\
     \x02\0\0\0Hi\0\0\x02\0\0\0Hi\0\0\
     \x68\xfe\xff\xff\x07\0\0\0";

@@ -1,5 +1,4 @@
-//! Every prefix and every one-byte change of a few buffers, read by every accessor without memory,
-//! beside the plain reader.
+//! Every prefix and one-byte change of a few buffers, read by every accessor.
 
 use super::agreement::same_number;
 use super::found::{lists_agree, tables_agree};
@@ -32,8 +31,7 @@ const LOOT: [u8; 58] = [
     b'A', 0,
 ];
 
-// By flatc 2.0.8 and the builders for C++ and Python, with the vtable before the table: a weapon
-// with no name and a damage of -162.
+// By flatc 2.0.8 and the builders for C++ and Python: a weapon.
 const OF_OTHERS: [u8; 20] = [
     12, 0, 0, 0, 8, 0, 8, 0, 0, 0, 6, 0, 8, 0, 0, 0, 0, 0, 0x5e, 0xff,
 ];
@@ -53,7 +51,7 @@ const FEW_SLOTS: [usize; 3] = [0, 1, 2];
 
 const ALL_SLOTS: [usize; 9] = [0, 1, 2, 3, 4, 5, 6, 7, 8];
 
-// Slots that no vtable has: doubled, with a little more, they overflow 16 or 64 bits.
+// Doubled, with a little more, they overflow 16 or 64 bits.
 const FAR_SLOTS: [usize; 7] = [
     32767,
     32768,
@@ -123,7 +121,6 @@ fn all_agree(bytes: &[u8], f: usize, start: u32, slots: &[usize]) -> bool {
         && tables_agree(piece, f, slots)
 }
 
-// The first prefix and offset at which readers disagree.
 fn prefixes_agree(bytes: &[u8], slots: &[usize]) -> Result<(), (usize, usize)> {
     let far = [usize::MAX / 2, usize::MAX - 8, usize::MAX - 1, usize::MAX];
     for len in 0..=bytes.len() {

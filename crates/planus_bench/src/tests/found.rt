@@ -1,5 +1,3 @@
-//! The accessors of a table beside the plain reader, slot by slot.
-
 use super::agreement::{Field, Spot, Union, UnionField, same_kind};
 use super::kinds::{Held, Pair, Row};
 use super::plain_reader::{Answer, PlainTable, table};

@@ -1,5 +1,3 @@
-//! A builder with as many bytes as it can have.
-
 use super::caches::text_at;
 use super::parts::{Repeated, finish_last};
 use crate::tests::check;
@@ -24,7 +22,6 @@ fn is_full(builder: &Builder) -> bool {
         && builder.room() == 0
 }
 
-// Whether one more byte, an empty string and a finish are too large, and change nothing.
 fn no_more_is_written(builder: &mut Builder) -> bool {
     let root = builder.current_offset::<()>();
     builder.write_with(1, 0, &Repeated { byte: 8 }) == Err(BuildError::TooLarge)

@@ -1,4 +1,4 @@
-//! Each iterator over a vector and a union vector beside a plain program, which lists ranges.
+//! Each iterator beside a plain program, which lists ranges.
 
 ghost use Rattle.std.specs.Prelude.{◌<◌};
 
@@ -9,16 +9,15 @@ use planus_view::{
 };
 use std::process::Abort;
 
-// A vector of the numbers 1 to 6 of two bytes each, after a reference to it.
+// The numbers 1 to 6 of two bytes each, after a reference.
 const NUMBERS: [u8; 20] = [4, 0, 0, 0, 6, 0, 0, 0, 1, 0, 2, 0, 3, 0, 4, 0, 5, 0, 6, 0];
 
-// Unions of the tags 1 to 6 with the same numbers for references, after references to both.
+// Tags 1 to 6 and the same numbers for references, after references to both.
 const UNIONS: [u8; 48] = [
     8, 0, 0, 0, 16, 0, 0, 0, 6, 0, 0, 0, 1, 2, 3, 4, 5, 6, 0, 0, 6, 0, 0, 0, 1, 0, 0, 0, 2, 0, 0,
     0, 3, 0, 0, 0, 4, 0, 0, 0, 5, 0, 0, 0, 6, 0, 0, 0,
 ];
 
-// A view whose items return their position in the whole, counted from 1.
 trait Numbered: ReadView {
     fn number(item: Option<Self::Item>) -> Option<i128>;
 }
@@ -53,7 +52,6 @@ enum Way {
 
 type Positions = (i128, i128);
 
-// Range i of n positions for the size c.
 fn range(way: Way, n: i128, c: i128, i: i128) -> Option<Positions> {
     let before = i.wrapping_mul(c);
     let after = before.wrapping_add(c);
@@ -72,7 +70,6 @@ fn range(way: Way, n: i128, c: i128, i: i128) -> Option<Positions> {
     if is_there { Some((lo, hi)) } else { None }
 }
 
-// The ranges of n positions for a size that are left, from `front` up to `back`.
 #[derive(Clone, Copy)]
 struct Left {
     way: Way,
@@ -112,8 +109,7 @@ impl Left {
         left
     }
 
-    // The range that a step takes, and what it leaves. Steps of odd kind are at the back; those of
-    // kind 2 and 3 drop one range first.
+    // Steps of odd kind are at the back; those of kind 2 and 3 drop one range first.
     fn step(&self, kind: u16) -> (Option<Positions>, Left) {
         let dropped = (kind >> 1) as i128;
         if kind & 1 == 0 {
@@ -262,7 +258,6 @@ fn all_cuts_agree<V: Numbered>(view: V, size: usize) -> bool
         && remainders_agree(view, size)
 }
 
-// The first length of 0 to 6 and size of 1 to 7 at which they differ.
 fn differs<V: Numbered>(six: V) -> Option<(usize, usize)> {
     for len in 0..=6usize {
         if len > six.len() {

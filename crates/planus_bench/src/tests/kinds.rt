@@ -1,4 +1,4 @@
-//! Readers of the tests' own, which return where they read, or read by a tag.
+//! Readers that return where they read, or read by a tag.
 
 ghost use Rattle.std.specs.Prelude.{◌≡◌, ⊤, codes};
 
@@ -9,7 +9,7 @@ use planus::{
 };
 use planus_read::errors::ErrorKind;
 
-// Reads nothing, and returns where it was to read, counted from the buffer's start.
+// Returns where it was to read, counted from the buffer's start.
 #[derive(Clone, Copy)]
 struct Spotted(usize);
 
@@ -87,7 +87,6 @@ impl<'buf> VectorReadInner<'buf> for Row<'buf> {
     }
 }
 
-// A union of a table, by tag 1, and a string, by tag 2.
 #[derive(Clone, Copy)]
 pub enum Held<'buf> {
     Table(Table<'buf>),

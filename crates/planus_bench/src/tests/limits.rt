@@ -22,7 +22,6 @@ use std::alloc::Global;
 use std::marker::PhantomData;
 use std::test::Fail;
 
-// The largest only field of an object.
 struct Largest;
 
 impl Primitive for Largest {

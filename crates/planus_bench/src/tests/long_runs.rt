@@ -1,5 +1,3 @@
-//! Runs of far more steps, values, items and slots than all others.
-
 use super::plain_run::plain_run;
 use super::runs::{
     Named, add, add_field, add_finish, are_same, bytes, counts, list, refs, table, text,
@@ -11,7 +9,6 @@ use planus::{Caches, Field, FieldValue, Finished, ReplayError, Step, Why, replay
 use std::alloc::{AllocError, Global};
 use std::test::Fail;
 
-// A value whose kind changes from step to step; most strings and byte vectors are new.
 fn value(alloc: Global, number: usize) -> Result<Step, AllocError> {
     match number % 4 {
         0 => Ok(Step::Text(format!(in alloc; "{number}")?)),
@@ -61,8 +58,6 @@ fn full_table(alloc: Global, named: Named) -> Result<Step, AllocError> {
     Ok(Step::Table(fields))
 }
 
-// Adds a vector of numbers, `count` references to it, `count` unions of it, and a table that refers
-// to all of them.
 fn push_lists(
     alloc: Global,
     steps: &mut Vec<Step>,
@@ -88,7 +83,6 @@ fn push_finishes(steps: &mut Vec<Step>, count: usize, id: [u8; 4]) -> Result<(),
     Ok(())
 }
 
-// Adds runs of 48 values, each with a finish and a clear.
 fn push_short_runs(alloc: Global, steps: &mut Vec<Step>) -> Result<(), AllocError> {
     for _ in 0..300usize {
         push_values(alloc, steps, 48)?;
@@ -99,7 +93,6 @@ fn push_short_runs(alloc: Global, steps: &mut Vec<Step>) -> Result<(), AllocErro
     Ok(())
 }
 
-// Adds these, and a run of 5003 values with seven finishes.
 fn push_long_steps(alloc: Global, steps: &mut Vec<Step>) -> Result<(), AllocError> {
     push_short_runs(alloc, steps)?;
     push_values(alloc, steps, 4999)?;
@@ -164,7 +157,6 @@ fn a_run_of_20010_steps(rt: HostRuntime) -> Result<(), Fail> {
     Ok(())
 }
 
-// Adds a string, a byte vector and vectors of more than 100000 bytes or items, and a finish.
 fn push_long_values(alloc: Global, steps: &mut Vec<Step>) -> Result<(), AllocError> {
     add(steps, text(alloc, 100003))?;
     add(steps, bytes(alloc, 100003))?;

@@ -1,4 +1,4 @@
-//! Thousands of different contents of each cached kind, each written twice.
+//! Thousands of different contents of each kind, each written twice.
 
 use super::caches::text_at;
 use super::new_builder;
@@ -8,7 +8,6 @@ use planus::{Builder, Caches, Field, FieldValue, Step, StepPlace, replay};
 use std::alloc::{AllocError, Global};
 use std::process::Abort;
 
-// Seven letters, different for each number.
 fn letters(alloc: Global, number: usize) -> Result<String, AllocError> {
     let number = number.saturating_add(1000000);
     Ok(format!(in alloc; "{number}")?)
@@ -22,7 +21,7 @@ fn add_byte(fields: &mut Vec<Field>, slot: u16) -> Result<(), AllocError> {
     add_field(fields, slot, FieldValue::Number { width: 1, value: 7 })
 }
 
-// A table of three bytes, whose vtable is different for each number below 71 * 71.
+// Three bytes, with a different vtable for each number below 71 * 71.
 fn table(alloc: Global, number: usize) -> Result<Step, AllocError> {
     let first = (number / 71 % 71) as u16;
     let second = (number % 71) as u16 + 71;
@@ -127,7 +126,7 @@ fn are_found_again(
     }
 }
 
-// With all bits of a hash, and with none, so that all contents are compared.
+// With none of a hash's bits all contents are compared.
 fn each_mask_finds(rt: &impl Abort, alloc: Global, kind: Kind, want: [Stands; 2]) {
     for mask in [u64::MAX, 0] {
         let found = are_found_again(alloc, kind, mask, 5003, want);
@@ -179,7 +178,6 @@ fn texts_are_found(alloc: Global, builder: &mut Builder, count: usize) -> bool {
     texts_stand(alloc, builder, count) && texts_stand(alloc, builder, count)
 }
 
-// The first number of strings that aren't found, of many and then of few, after a clear each.
 fn first_count_that_fails(alloc: Global, builder: &mut Builder) -> Option<usize> {
     for count in [5003, 3, 5, 5003, 3] {
         if !texts_are_found(alloc, builder, count) {

@@ -1,5 +1,3 @@
-//! A builder, a replay and a cache without memory.
-
 use super::caches::text_at;
 use super::parts::{FOUR_WRITES, last_is, puts_four};
 use super::runs::{add, add_finish, word};
@@ -11,7 +9,7 @@ use planus_testing::{exhaust, holds_or_says};
 use std::alloc::{AllocError, Global};
 use std::test::Fail;
 
-// The room that four writes leave of 64 bytes is too small for this string.
+// Too long for the room that four writes leave of 64 bytes.
 const TEXT: &str = "sixty-three bytes, which are more than are left of a room of 64";
 
 fn new_is_refused(alloc: Global) -> bool {
@@ -29,8 +27,7 @@ fn writes_in_its_room(builder: &mut Builder) -> bool {
     puts_four(builder) && last_is(builder, FOUR_WRITES) && builder.room() == 37
 }
 
-// A string that doesn't fit the room fails, and so does a vector that fits, whose prepared items
-// need memory.
+// A vector that fits the room fails too, since its prepared items need memory.
 fn goes_on_in_its_room(alloc: Global, builder: &mut Builder) -> bool {
     let all = b"\x04\0\0\0\x03\0\0\0Axe\0\x05\0\0\0\x000123456ABCDEFGHIJKLMNO".as_slice();
     new_is_refused(alloc)

@@ -1,4 +1,4 @@
-//! The padding of `Promises` beside a plain program's, which finds it by trying.
+//! `Promises` beside a plain program, which finds padding by trying.
 ghost use Rattle.std.specs.Prelude.{◌≡◌, ◌+◌, ◌≤◌, IfSome};
 ghost use Rattle.planus_back.specs.Padding.{greatest_place};
 ghost use Rattle.planus_back.specs.Pairs.{period, AlignmentsAboveZero, DistancesWithin};
@@ -86,7 +86,6 @@ fn pads(alloc: Global, parts: &[(usize, usize)], want: &[usize]) -> Result<bool,
     }
 }
 
-// Parts, each a size and an alignment, and their paddings.
 const ROWS: [(&[(usize, usize)], &[usize]); 7] = [
     // Four writes.
     (&[(3, 1), (4, 2), (8, 4), (7, 1), (4, 4)], &[0, 0, 0, 0, 1]),
@@ -145,7 +144,6 @@ fn part(number: usize) -> (usize, usize) {
     (number / 4, 1 << (number % 4))
 }
 
-// Every list of up to three parts.
 #[test]
 fn short_lists_as_the_plain_program_has_them(rt: HostRuntime) -> Result<(), Fail> {
     for a in 0..24 {

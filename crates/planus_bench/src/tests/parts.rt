@@ -12,7 +12,6 @@ use std::test::Fail;
 
 pub const FOUR_WRITES: &[u8] = b"\x05\0\0\0\x000123456ABCDEFGHIJKLMNO";
 
-// Writes these bytes, at any place.
 #[derive(Drop)]
 struct Same<'a> {
     bytes: &'a [u8],
@@ -28,7 +27,6 @@ impl<'a> Fill for Same<'a> {
     }
 }
 
-// Writes one byte over and over.
 #[derive(Drop)]
 pub struct Repeated {
     pub byte: u8,
@@ -44,7 +42,6 @@ impl Fill for Repeated {
     }
 }
 
-// Writes the place at which it is called.
 #[derive(Drop)]
 struct OwnPlace;
 
@@ -58,7 +55,6 @@ impl Fill for OwnPlace {
     }
 }
 
-// Writes the place at which it is called, in four bytes, and then zeros.
 #[derive(Drop)]
 struct PlaceFirst;
 
@@ -205,7 +201,6 @@ impl Numbers {
     }
 }
 
-// A part of equal bytes, and its distance from the end.
 #[derive(Clone, Copy)]
 struct Written {
     byte: u8,
@@ -257,7 +252,6 @@ fn write_parts(
     Ok(())
 }
 
-// A random size of at least four. Returns whether the filler was called at the length with it.
 fn a_filler_knows_its_place(builder: &mut Builder, numbers: &mut Numbers) -> bool {
     let size = (numbers.draw() % 128) as usize + 4;
     let mask = mask_of(1 << (numbers.draw() % 5));
@@ -332,7 +326,6 @@ fn random_parts_stand(
     Ok(random_root_stands(alloc, builder, numbers, parts.as_slice())?)
 }
 
-// A round of random parts, whose fillers then return where they were called.
 fn a_round(alloc: Global, builder: &mut Builder, numbers: &mut Numbers) -> Result<bool, Fail> {
     let mut again = Numbers { last: numbers.last };
     let stand = random_parts_stand(alloc, builder, numbers)?;

@@ -1,9 +1,8 @@
-//! The places that `Promises` gives beside all others that a few paddings give.
+//! The places of `Promises` beside all others of small paddings.
 
 use super::alignments::mask_of;
 use planus_back::Promises;
 
-// A part's size, and one less than its alignment.
 #[derive(Clone, Copy)]
 struct Part {
     size: usize,
@@ -29,7 +28,7 @@ fn places(parts: &[Part; 3], paddings: [usize; 3]) -> Places {
     places
 }
 
-// Whether some length aligns all parts: one of eight in a row, since no alignment is greater.
+// One of eight lengths in a row, since no alignment is greater.
 fn is_kept(parts: &[Part; 3], places: Places) -> bool {
     for more in 0..8usize {
         let len = places[2].wrapping_add(more);
@@ -61,8 +60,7 @@ fn promised(parts: &[Part; 3]) -> Option<Places> {
     Some(places)
 }
 
-// Whether no placing by paddings of 0 to 7 has a smaller place for any part, and one has these
-// places.
+// Paddings are 0 to 7.
 fn are_least(parts: &[Part; 3], least: Places) -> bool {
     let mut found = false;
     for number in 0..512usize {
@@ -77,7 +75,7 @@ fn are_least(parts: &[Part; 3], least: Places) -> bool {
     found
 }
 
-// A list of fewer parts is one of three whose others have no bytes and alignment 1.
+// Lists of fewer parts have parts of no bytes and alignment 1.
 fn no_smaller_place(parts: &[Part; 3]) -> bool {
     match promised(parts) {
         Some(least) => are_least(parts, least),

@@ -1,5 +1,4 @@
-//! A plain, slow reader, which computes values and errors from the rules of the format and the
-//! order in which they are tested, over positions of 128 bits.
+//! A plain, slow reader over positions of 128 bits.
 
 use planus_read::errors::ErrorKind;
 
@@ -19,8 +18,7 @@ fn part(bytes: &[u8], at: i128, count: i128) -> Option<&[u8]> {
     }
 }
 
-// The little-endian number at a position, if all bytes are there. Where a number, a reference or a
-// count isn't, the reader's error is an invalid offset.
+// Where a number, a reference or a count isn't whole, the error is an invalid offset.
 pub fn number(bytes: &[u8], at: i128, width: u8) -> Option<u64> {
     let mut value: u64 = 0;
     let mut worth: u64 = 1;
@@ -50,7 +48,7 @@ pub fn signed(bytes: &[u8], at: i128, width: u8) -> Option<i128> {
     Some(if value < all / 2 { value } else { value - all })
 }
 
-// The target of a reference, if that is in the bytes or at their end.
+// In the bytes or at their end.
 fn target(bytes: &[u8], f: i128) -> Option<i128> {
     let target = f.wrapping_add(number(bytes, f, 4)? as i128);
     if target <= bytes.len() as i128 {
@@ -92,7 +90,6 @@ pub fn byte_list(bytes: &[u8], f: i128) -> Answer<&[u8]> {
     }
 }
 
-// The letters of a string, if they and a zero after them are there.
 fn letters(bytes: &[u8], list: PlainList) -> Option<&[u8]> {
     let count = list.count as i128;
     match byte(bytes, list.items.wrapping_add(count)) {
@@ -143,7 +140,7 @@ pub struct PlainTable<'a> {
     size: u16,
 }
 
-// A table, no part of which may be before a position, if its words are there.
+// No part may be before `from`.
 fn words(bytes: &[u8], from: i128, f: i128) -> Option<PlainTable<'_>> {
     let object = target(bytes, f)?;
     let vtable = object.wrapping_sub(signed(bytes, object, 4)?);

@@ -1,5 +1,4 @@
-//! A plain, slow run of steps, which holds its bytes from the end on, finds each padding by trying,
-//! and equal contents by comparing with all that were written.
+//! A plain, slow run of steps, which finds padding by trying.
 
 use super::settings::{Kind, Switches};
 use planus::{Field, FieldValue, Finished, Step, StepPlace};
@@ -15,9 +14,9 @@ struct Shared {
 
 #[derive(Drop)]
 struct Written {
-    // The bytes, the last one first.
+    // The last byte first.
     reversed: Vec<u8>,
-    // The distance of each part from the end, and its alignment: 2, 4 or 8.
+    // Distance from the end, and alignment: 2, 4 or 8.
     parts: Vec<(usize, usize)>,
     values: Vec<StepPlace>,
     shared: Vec<Shared>,
@@ -48,7 +47,7 @@ fn alignment_of(fields: &[Field]) -> usize {
     alignment
 }
 
-// The number of slots of a vtable: up to the greatest of these fields.
+// Up to the greatest of these fields.
 fn slots_of(fields: &[Field]) -> usize {
     let mut slots: usize = 0;
     for field in fields {
@@ -57,7 +56,7 @@ fn slots_of(fields: &[Field]) -> usize {
     slots
 }
 
-// The offset of a slot's field after the object's word, 0 if absent.
+// After the object's word, 0 if absent.
 fn place_of(fields: &[Field], slot: usize) -> usize {
     let mut place: usize = 4;
     for field in fields {
@@ -104,7 +103,6 @@ impl Written {
         true
     }
 
-    // Whether all parts and one more at this distance can be aligned at once.
     fn can_stand(&self, distance: usize, alignment: usize) -> bool {
         for length in 0..8usize {
             if length.wrapping_sub(distance).checked_rem(alignment) == Some(0)
@@ -116,8 +114,6 @@ impl Written {
         false
     }
 
-    // Prepends the fewest zeros with which a part of this size can come before them. Returns the
-    // part's distance.
     fn pad(&mut self, size: usize, alignment: usize) -> Result<usize, AllocError> {
         for _ in 0..7 {
             if self.can_stand(self.reversed.len().wrapping_add(size), alignment) {
@@ -174,7 +170,6 @@ impl Written {
         None
     }
 
-    // Contents of this kind begin at the first byte.
     fn share(&mut self, kind: Kind, contents: &[u8]) -> Result<(), AllocError> {
         if self.switches.is_on(kind) {
             self.shared.push(Shared {
@@ -186,8 +181,6 @@ impl Written {
         Ok(())
     }
 
-    // Contents of this kind, with their count before and these bytes after them. Returns the
-    // distance.
     fn counted(&mut self, kind: Kind, contents: &[u8], behind: &[u8]) -> Result<usize, AllocError> {
         if let Some(distance) = self.shared_at(kind, contents) {
             return Ok(distance);

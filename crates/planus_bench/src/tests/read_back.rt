@@ -9,7 +9,6 @@ use planus::{
 use std::alloc::Global;
 use std::test::Fail;
 
-// A value to be read: its step, and where a reference to it is.
 #[derive(Clone, Copy)]
 struct Value<'a> {
     step: usize,
@@ -148,8 +147,7 @@ impl<'a> Reading<'a> {
         }
     }
 
-    // Whether all values still to be read are there. `read` has the distance of each step's value,
-    // once it is read.
+    // `read` has the distance of each step's value, once it is read.
     fn all_are_read(&mut self, read: &mut [Option<usize>]) -> Result<bool, Fail> {
         for _ in 0..100000 {
             let Some(Value { step, place }) = self.later.pop() else {
@@ -170,8 +168,7 @@ impl<'a> Reading<'a> {
     }
 }
 
-// Whether the value of the root's step reads back with all that it refers to, and all references to
-// one value lead to one place.
+// All references to one value must lead to one place.
 pub fn reads_back(
     alloc: Global,
     steps: &[Step],

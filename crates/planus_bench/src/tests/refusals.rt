@@ -1,5 +1,4 @@
-//! Calls in which one allocation after another fails: they are made with little memory, and at each
-//! turn with a few bytes more; and once for a script that makes each allocation fail in turn.
+//! Calls in which one allocation after another fails.
 
 use super::refused_calls::{Call, Outcome, make, make_again, outcome_of, prepare};
 use super::refused_copies::{
@@ -13,12 +12,12 @@ use planus_testing::{exhaust_all_but, holds_or_says};
 use std::alloc::{AllocError, Global};
 use std::test::Fail;
 
-// The additional bytes at each turn, and the greatest number of turns.
+// Bytes more at each turn, and the most turns.
 const STEP: usize = 32;
 
 const TURNS: usize = 64;
 
-// Returns whether the call failed; `None` where memory was left.
+// `None` where memory was left.
 fn is_refused(
     alloc: Global,
     builder: &mut Builder,
@@ -63,8 +62,7 @@ fn note(met: &mut [bool; 3], all: &[Lengths], lengths: Lengths) -> bool {
     false
 }
 
-// The number of different lengths at which a call fails, with more memory at each turn until it
-// works; `None` where memory was left.
+// `None` where memory was left.
 fn states_met(alloc: Global, call: Call, all: &[Lengths]) -> Result<Option<usize>, BuildError> {
     let mut met = [false; 3];
     for turn in 0..TURNS {
@@ -78,10 +76,9 @@ fn states_met(alloc: Global, call: Call, all: &[Lengths]) -> Result<Option<usize
     Ok(Some(0))
 }
 
-// Calls, the lengths at which they may fail, and the least number of them. Two strings need no
-// allocation between them in a new builder. After another string there is room for the first alone:
-// the second may fail at its 6 bytes, and then the vector's count. A weapon allocates its bytes
-// alone.
+// Lengths at which calls may fail, and the least number of them. Two strings in a new builder need
+// no allocation between them. After another string the second may fail at its 6 bytes, and then the
+// count.
 const CALLS: &[(&str, Call, &[Lengths], usize)] = &[
     ("a list", Call::List, &[(0, 26), (6, 26), (14, 26)], 2),
     (
@@ -104,7 +101,6 @@ fn calls_on_a_builder(rt: HostRuntime) -> Result<(), Fail> {
     Ok(())
 }
 
-// A call without a builder.
 #[derive(Clone, Copy)]
 enum Other {
     Numbers,
@@ -141,7 +137,6 @@ fn other_with(
     other_beside(alloc, &mut held, other, steps, spare)
 }
 
-// The number of turns at which such a call fails before it works.
 fn refusals_of(
     alloc: Global,
     other: Other,
@@ -164,8 +159,8 @@ fn refusals_of(
     Ok(Some(0))
 }
 
-// Calls, the additional bytes at each turn, and the least number of failing turns: numbers take 10
-// bytes, five strings 120, so more than four turns fail at the strings.
+// Additional bytes at each turn, and the least number of failing turns: numbers take 10 bytes, five
+// strings 120.
 const OTHERS: &[(&str, Other, usize, usize)] = &[
     ("numbers", Other::Numbers, STEP, 1),
     ("texts", Other::Texts, STEP, 5),

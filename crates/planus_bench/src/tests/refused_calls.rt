@@ -11,35 +11,26 @@ use planus::{
 };
 use std::alloc::Global;
 
-/// A call that allocates several times.
 #[derive(Clone, Copy)]
 pub enum Call {
-    /// A vector of the strings `A` and `B`, in a new builder.
     List,
-    /// The same after the string `Axe` and two bytes, which leave room for one of the two.
     ListBehind,
-    /// A vector of two unions, with the tags 1 and 2 and the strings `A` and `B`, written before.
     Unions,
-    /// A table with the string `Axe` and the number 24, in a new builder.
     Weapon,
 }
 
 #[derive(Clone, Copy)]
 pub enum Outcome {
-    /// An allocation before the call failed.
     NotBegun,
-    /// No allocation failed.
     Made {
         len: usize,
     },
-    /// An allocation failed, and none when the call was made again.
+    /// None failed when the call was made again.
     MadeAgain {
-        /// The length in bytes after the error.
+        /// The length after the error.
         refused: usize,
-        /// The length in bytes in the end.
         len: usize,
     },
-    /// What was written before isn't there, or what is written doesn't read back.
     Wrong,
 }
 
@@ -57,17 +48,15 @@ impl TableKind for Weapon {
     }
 }
 
-/// The distances of a value, and of a union vector's tags.
 #[derive(Clone, Copy)]
 pub struct Written {
     value: Offset<()>,
     tags: Option<Offset<()>>,
 }
 
-/// The strings that are there before a union vector is written.
 const TEXTS: &[u8] = b"\x01\0\0\0B\0\0\0\x01\0\0\0A\0";
 
-/// What is there before a vector, 10 bytes of it, and before that the strings of the vector.
+/// 10 bytes of a vector, and before that its strings.
 const BEHIND: &[u8] = b"\x01\0\0\0B\0\0\0\x01\0\0\0A\0xy\x03\0\0\0Axe\0";
 
 fn has(builder: &Builder, distance: u32) -> bool
@@ -221,12 +210,10 @@ fn texts_stand(builder: &mut Builder, call: Call) -> bool {
     }
 }
 
-/// Whether these bytes are the end of those with a vector, or end with all of them.
 fn is_behind(bytes: &[u8]) -> bool {
     bytes.ends_with(BEHIND) || BEHIND.ends_with(bytes) && bytes.len() >= 10
 }
 
-/// Whether what was there before the call is still the end of the bytes.
 fn keeps_what_was_there(builder: &Builder, call: Call) -> bool {
     match call {
         Call::Unions => builder.as_slice().ends_with(TEXTS),

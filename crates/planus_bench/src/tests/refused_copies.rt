@@ -1,5 +1,3 @@
-//! Copies and a replay, which allocate several times.
-
 use super::refused_calls::weapon_is_read;
 use super::runs::weapon;
 use planus::{
@@ -10,11 +8,8 @@ use std::alloc::Global;
 
 #[derive(Clone, Copy)]
 pub enum Copied {
-    /// An allocation before the call failed.
     NotBegun,
-    /// No allocation failed.
     Made,
-    /// An allocation failed, and none when the call was made again.
     MadeAgain,
     Wrong,
 }

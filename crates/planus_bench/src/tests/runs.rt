@@ -10,7 +10,7 @@ use std::alloc::{AllocError, Global};
 use std::process::Abort;
 use std::test::Fail;
 
-// Pseudo-random numbers, the same each time.
+// The same each time.
 #[derive(Drop)]
 struct Numbers {
     last: u32,
@@ -68,7 +68,6 @@ pub fn unions(alloc: Global, root: usize, count: usize) -> Result<Step, AllocErr
     Ok(Step::Unions(items))
 }
 
-// What a table may refer to: a value, and an optional union vector.
 #[derive(Clone, Copy)]
 pub struct Named {
     pub root: usize,
@@ -82,8 +81,8 @@ pub fn two_references(named: Named) -> [FieldValue; 2] {
     }
 }
 
-// A table of at most six numbers and references. The slots are `apart` from each other, and the
-// fields are declared from the greatest slot on.
+// At most six numbers and references, `apart` slots from each other, declared from the greatest
+// slot on.
 pub fn table(alloc: Global, named: Named, count: usize, apart: u16) -> Result<Step, AllocError> {
     let mut fields = Vec::new(alloc);
     let [first, second] = two_references(named);
@@ -132,7 +131,7 @@ struct Mixed {
     alloc: Global,
     numbers: Numbers,
     steps: Vec<Step>,
-    // The steps since the last clear that wrote a value other than a union vector.
+    // Other than union vectors, since the last clear.
     values: Vec<usize>,
     last_unions: Option<usize>,
 }
@@ -194,8 +193,6 @@ impl Mixed {
     }
 }
 
-// Strings, vectors, union vectors and tables of mixed lengths, finishes with and without an
-// identifier, and a clear now and then.
 fn mixed_steps(alloc: Global, count: usize) -> Result<Vec<Step>, AllocError> {
     let mut mixed = Mixed {
         alloc,
@@ -259,7 +256,6 @@ fn word_bytes(alloc: Global, letters: &str) -> Result<Step, AllocError> {
     Ok(Step::Bytes(Vec::from_slice(alloc, letters.as_bytes())?))
 }
 
-// A string and a byte vector of this word, a table that refers to step `first`, and a vector.
 fn push_values(
     alloc: Global,
     steps: &mut Vec<Step>,
@@ -280,7 +276,7 @@ fn refs_from(alloc: Global, first: usize, end: usize) -> Result<Step, AllocError
     Ok(Step::Refs(all))
 }
 
-// The same values twice, each with one between that differs, a finish, and a clear.
+// Each value twice, with a different one between.
 fn push_repeated(alloc: Global, steps: &mut Vec<Step>) -> Result<(), AllocError> {
     let first = steps.len();
     push_values(alloc, steps, first, "Hi")?;
@@ -325,7 +321,6 @@ pub fn are_same(got: &[Finished], want: &[Finished]) -> bool {
     got.len() == want.len()
 }
 
-// Whether each finish's root reads back.
 fn are_read_back(alloc: Global, steps: &[Step], finished: &[Finished]) -> Result<bool, Fail> {
     let mut count: usize = 0;
     for step in steps {

@@ -1,8 +1,5 @@
-//! Cache settings.
-
 use planus::Caches;
 
-// Kinds of contents that may be written once.
 #[derive(Clone, Copy, PartialEq, Eq)]
 pub enum Kind {
     Vtable,
@@ -10,7 +7,6 @@ pub enum Kind {
     Bytes,
 }
 
-// The kinds whose equal contents are written once.
 #[derive(Clone, Copy, Debug)]
 pub struct Switches {
     vtables: bool,
@@ -19,7 +15,6 @@ pub struct Switches {
 }
 
 impl Switches {
-    // Returns cache settings by a number from 0 to 7.
     pub fn of(number: u8) -> Switches {
         Switches {
             vtables: number & 1 != 0,

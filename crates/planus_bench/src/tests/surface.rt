@@ -1,5 +1,3 @@
-//! The version, re-exports, and a step that no script has.
-
 use super::new_builder;
 use super::runs::{add, add_field, add_finish, word};
 use crate::tests::check;

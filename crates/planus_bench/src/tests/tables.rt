@@ -1,4 +1,3 @@
-//! Tables with a field of each type, written and read back.
 ghost use Rattle.std.specs.Prelude.{◌≤◌, length};
 
 use super::kinds::slot_has;
@@ -60,7 +59,7 @@ fn others_are_free(table: Table<'_>) -> bool {
     slot_has::<u8>(table, 0, None) && slot_has::<u8>(table, 2, None)
 }
 
-// The field in slot 1 of the root, where slots 0 and 2 hold none.
+// Slots 0 and 2 hold none.
 fn read<'a, T: TableRead<'a>>(bytes: &'a [u8]) -> Option<T> {
     match Table::from_buffer(SliceWithStartOffset::new(bytes, 0), 0) {
         Ok(table) if others_are_free(table) => {
@@ -147,7 +146,6 @@ fn lists_read_back(builder: &mut Builder) -> bool {
     }
 }
 
-// Unsigned and signed numbers, strings and bytes, signed bytes, and vectors.
 fn fields_read_back(builder: &mut Builder) -> [bool; 5] {
     [
         unsigned_numbers_read_back(builder),
@@ -195,7 +193,6 @@ pub fn put_number(builder: &mut Builder, field: u16) -> Result<(), BuildError> {
     writer.finish(builder, &One { field, _marker })
 }
 
-// Whether two tables of one number each, the second as the root, are these bytes.
 fn two_tables_are(builder: &mut Builder, want: &[u8]) -> bool {
     if put_number(builder, 24).is_err() || put_number(builder, 7).is_err() {
         return false;

@@ -1,5 +1,3 @@
-//! Union vectors in a replay.
-
 use super::plain_run::plain_run;
 use super::runs::{add, add_field, add_finish, word};
 use super::settings::Switches;
@@ -8,8 +6,8 @@ use planus::{Caches, FieldValue, Finished, Step, StepPlace, replay};
 use std::alloc::{AllocError, Global};
 use std::test::Fail;
 
-// A table at 4 with its vtable at 16. Slots 0 and 1 hold a vector of two unions, of tags 1 and 2
-// and the strings `A` and `B`.
+// A table at 4 with its vtable at 16. Slots 0 and 1 hold two unions, of tags 1 and 2 and the
+// strings `A` and `B`.
 const TWO_TEXTS: [u8; 58] = [
     4, 0, 0, 0, 0xf4, 0xff, 0xff, 0xff, 16, 0, 0, 0, 20, 0, 0, 0, 8, 0, 12, 0, 4, 0, 8, 0, 2, 0, 0,
     0, 1, 2, 0, 0, 2, 0, 0, 0, 16, 0, 0, 0, 4, 0, 0, 0, 1, 0, 0, 0, b'B', 0, 0, 0, 1, 0, 0, 0,
@@ -76,7 +74,6 @@ fn both_run_to_two_texts(alloc: Global) -> Result<[bool; 2], Fail> {
     ])
 }
 
-// That the places agree too is tested under all cache settings.
 #[test]
 fn two_texts_as_unions(rt: HostRuntime) -> Result<(), Fail> {
     let [replayed, plain] = both_run_to_two_texts(rt.alloc())?;

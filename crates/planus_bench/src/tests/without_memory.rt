@@ -1,4 +1,4 @@
-//! The calls of builders and of written types that take no memory, each by its name.
+//! The calls that take no memory.
 
 ghost use Rattle.std.specs.Prelude.{◌≡◌, ◌≤◌, length, IsTrue};
 
@@ -35,8 +35,8 @@ fn a_builder_tells(builder: &Builder) -> bool {
         && last.downcast().distance() == 20
 }
 
-// Calls that find their value in a cache, or fit the builder's room. A table of two bytes whose
-// vtable is found takes 8 with its padding.
+// Found in a cache, or in the builder's room. A table of two bytes whose vtable is found takes 8
+// with padding.
 fn a_builder_writes(builder: &mut Builder) -> bool {
     text_at(builder, "Axe") == Ok(8)
         && put_number(builder, 7).is_ok()
@@ -148,7 +148,7 @@ fn a_cache_has_nothing(cache: &mut Cache<ByteVec>) -> bool {
     cache.get(b"\x02\0\0\0Hi", b"Hi").is_none()
 }
 
-// Calls on a back vector of 3 bytes with room for 61 more.
+// 3 bytes with room for 61 more.
 fn a_back_vector_tells(back: &BackVec) -> bool {
     back.len() == 3 && back.room() == 61 && back.as_slice() == b"Axe".as_slice()
 }
@@ -169,7 +169,6 @@ fn a_builder_is_cleared(builder: &mut Builder) -> bool {
     builder.room() == 64
 }
 
-// Some calls, and whether their results are right.
 type Row = (&'static str, bool);
 
 fn first_wrong(rows: &[Row]) -> Option<&'static str> {
