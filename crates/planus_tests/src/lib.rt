@@ -1,5 +1,4 @@
-//! Tests of each public call of the crates below `planus`, and of the examples of `uses_tables`:
-//! what they write is read back.
+//! Tests of each public call of the crates below `planus`, and of the examples of `uses_tables`.
 #![tactic(auto)]
 
 #[cfg(test)]

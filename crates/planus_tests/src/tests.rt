@@ -4,7 +4,7 @@ mod writing;
 
 use std::process::Abort;
 
-// Fails a test with this message. An assertion is slow to prove, so this is the one of most tests.
+// An assertion is slow to prove, so most tests use this.
 fn check(rt: &impl Abort, holds: bool, what: &str) {
     assert!(rt; holds, "{what}");
 }

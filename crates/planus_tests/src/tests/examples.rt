@@ -1,5 +1,3 @@
-//! What the examples write is read back.
-
 mod entries;
 mod names;
 mod numbers;

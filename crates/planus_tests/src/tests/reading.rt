@@ -17,9 +17,8 @@ const WEAPON: [u8; 32] = [
     0, b'A', b'x', b'e', 0,
 ];
 
-// A table at 4 with its vtable at 24. Slots 0 and 1 hold a union, tag 1 and `Hi`. Slots 2 and 3
-// hold a union vector, of tags 1 and 2 and the strings `A` and `B`: its tags are at 44, its values
-// at 52.
+// A table at 4 with its vtable at 24. Slots 0 and 1: a union of tag 1 and `Hi`. Slots 2 and 3: a
+// union vector of tags 1 and 2 and `A` and `B`, its tags at 44, its values at 52.
 const UNIONS: [u8; 78] = [
     4, 0, 0, 0, 0xec, 0xff, 0xff, 0xff, 28, 0, 0, 0, 32, 0, 0, 0, 36, 0, 0, 0, 1, 0, 0, 0, 12, 0,
     17, 0, 16, 0, 4, 0, 8, 0, 12, 0, 2, 0, 0, 0, b'H', b'i', 0, 0, 2, 0, 0, 0, 1, 2, 0, 0, 2, 0, 0,

@@ -17,8 +17,7 @@ use planus_back::{Fill, Overwrite};
 use planus_write::{BuildError, Builder, Caches, Offset, WriteAsOffset};
 use std::alloc::Global;
 
-// A function that owns a builder is proved slowly, so the tests pass functions to `in_builder` and
-// `calls_in_builder`, which lend them one.
+// A function that owns a builder is proved slowly: use `in_builder` and `calls_in_builder`.
 
 fn holds(found: Result<bool, BuildError>) -> bool {
     matches!(found, Ok(true))
@@ -52,7 +51,6 @@ fn prepared<T, X: WriteAsOffset<T>>(
     value.prepare(builder)
 }
 
-// Writes its place into its 4 bytes.
 struct PlaceWord;
 
 impl Fill for PlaceWord {
@@ -75,7 +73,6 @@ impl Overwrite for PlaceWord {
     }
 }
 
-// A builder without caches writes equal contents each time.
 const NO_CACHES: Caches = Caches {
     vtables: false,
     texts: false,

@@ -1,5 +1,3 @@
-//! Entries of a log are written and read back.
-
 ghost use Rattle.std.specs.Prelude.{IfOk};
 ghost use Rattle.planus.specs.write.InBuilder.{IsIn};
 ghost use Rattle.planus.specs.write.State.{Grows};

@@ -1,4 +1,4 @@
-//! The names of a vector of ships are read, or the error says which can't be.
+//! The error says which name can't be read.
 
 use super::in_builder;
 use planus::errors::ErrorKind;
@@ -30,7 +30,7 @@ fn is_refused(
     }
 }
 
-// All bytes; without the last one, the zero byte of the name that was written first; and one byte.
+// All bytes; without the zero byte of the name that was written first; and one byte.
 fn names_are_read(alloc: Global, builder: &mut Builder) -> Result<bool, BuildError> {
     let first = Ship::create(builder, "Argo", 100, None)?;
     let second = Ship::create(builder, "Beagle", 90, Some(&[7]))?;

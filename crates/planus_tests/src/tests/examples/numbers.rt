@@ -1,5 +1,3 @@
-//! A vector of numbers is written, with ample memory.
-
 use super::in_builder;
 use planus::{BuildError, Builder};
 use uses_tables::create_numbers;

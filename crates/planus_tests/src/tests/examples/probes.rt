@@ -1,5 +1,4 @@
-//! Structs with an alignment of their own, and enums of two signed bytes, are written and read
-//! back.
+//! Structs with an alignment of their own, and enums of two signed bytes.
 
 use super::in_builder;
 use planus::errors::ErrorKind;

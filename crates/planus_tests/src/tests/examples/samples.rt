@@ -5,8 +5,6 @@ use planus::{BuildError, Builder, ReadAsRoot, TableRef};
 use std::num::{f32_to_bits_with_nan, f64_to_bits_with_nan};
 use uses_tables::Sample;
 
-// A float of 8 bytes, its bits, whether it is written where 0.0 is the default, and the same for it
-// as one of 4 bytes.
 struct Row {
     exact: f64,
     bits: u64,

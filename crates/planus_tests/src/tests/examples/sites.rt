@@ -1,5 +1,3 @@
-//! Structs, enums and floats are written and read back.
-
 use super::in_builder;
 use planus::errors::ErrorKind;
 use planus::{
@@ -216,7 +214,6 @@ fn unknown_kinds_are_errors(rt: HostRuntime) {
     );
 }
 
-// Whether this is an error that a damaged field may have, with the accessor's name.
 fn is_named(error: Error, method: &str) -> bool {
     error.source_location.type_ == "Site"
         && error.source_location.method == method

@@ -1,4 +1,4 @@
-//! Strings that are written into one stream are read back one by one, also where it is cut.
+//! Strings in one stream are read back one by one, also where it is cut.
 
 use super::in_builder;
 use planus::errors::ErrorKind;
@@ -33,8 +33,8 @@ fn is_read(
     }
 }
 
-// Whole; within the last buffer, right after its size, and within that; right after the second
-// buffer; within the first one; and before all.
+// Whole; within the last buffer, right after its size, and within that; after the second; within
+// the first; and before all.
 fn cuts_are_read(alloc: Global, stream: &[u8]) -> bool {
     let rows = [
         (49, 3, None),

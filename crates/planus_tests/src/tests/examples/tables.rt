@@ -1,4 +1,3 @@
-//! Ships, ports and fleets that are written are read back.
 ghost use Rattle.std.specs.Prelude.{◌≤◌};
 
 use super::in_builder;

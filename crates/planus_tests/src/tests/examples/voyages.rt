@@ -1,4 +1,4 @@
-//! Voyages, tables of forty fields, are written and read back.
+//! Voyages are tables of forty fields.
 use super::in_builder;
 use planus::{
     BuildError, Builder, ReadAsRoot, Result, TableRead, TableRef, UnionOffset, plain_vector,

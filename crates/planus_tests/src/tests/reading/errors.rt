@@ -1,5 +1,3 @@
-//! The messages of errors.
-
 use super::traits::field;
 use super::{fails_printing, prints};
 use crate::tests::check;
@@ -75,7 +73,7 @@ fn faults_in_utf8_print_as_std_prints_them(rt: HostRuntime) {
     }
 }
 
-// A reference to four bytes, of which the third is the first that isn't UTF-8.
+// The third of the four bytes is the first that isn't UTF-8.
 const FAULTY: [u8; 13] = [4, 0, 0, 0, 4, 0, 0, 0, b'A', b'x', 0xff, 0xfe, 0];
 
 fn errors_print(alloc: Global) -> bool {

@@ -1,5 +1,3 @@
-//! Slices of a buffer, and arrays of these.
-
 use planus_read::errors::ErrorKind;
 use planus_read::{ArrayWithStartOffset, SliceWithStartOffset};
 

@@ -1,5 +1,3 @@
-//! Size-prefixed buffers, and identifiers.
-
 use planus_read::errors::ErrorKind;
 use planus_read::{has_identifier, read_size_prefixed};
 

@@ -22,7 +22,6 @@ const TAG_PAST_END: [u8; 16] = [
     4, 0, 0, 0, 0xfc, 0xff, 0xff, 0xff, 8, 0, 4, 0, 0xff, 0, 0, 0,
 ];
 
-// The items after the counts of the tags and of the values of a union vector, and these counts.
 #[derive(Clone, Copy)]
 pub struct Heads<'buf> {
     pub tags: (SliceWithStartOffset<'buf>, u32),

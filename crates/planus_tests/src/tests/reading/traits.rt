@@ -1,5 +1,3 @@
-//! Each trait at concrete types, through its bound.
-
 use super::tables::Heads;
 use super::{UNIONS, fails_printing, fails_with, same_kind};
 use crate::tests::check;
@@ -54,7 +52,7 @@ fn union_vector_field<'buf, T: TableReadUnionVector<'buf>>(
     T::from_buffer(SliceWithStartOffset::new(bytes, 0), tags, values)
 }
 
-// The union item at an offset of bytes that start at 1000.
+// At an offset of bytes that start at 1000.
 fn union_item<'buf, 'n, T: VectorReadUnion<'buf>>(
     bytes: &'buf [u8],
     tag: u8,
@@ -125,7 +123,6 @@ pub fn floats_are_items() -> bool {
 // A reference to the string `Hi` at 0, and one to damage at 4.
 const TEXTS: [u8; 16] = [8, 0, 0, 0, 99, 0, 0, 0, 2, 0, 0, 0, 72, 105, 0, 0];
 
-// A reference to a vector of one byte.
 const ONE_BYTE: [u8; 9] = [4, 0, 0, 0, 1, 0, 0, 0, 0xff];
 
 fn is_minus_one(list: SignedBytes<'_>) -> bool {
@@ -136,7 +133,6 @@ fn is_minus_one(list: SignedBytes<'_>) -> bool {
         && list.get(1).is_none()
 }
 
-// A reference to a vector of three bytes.
 const THREE_BYTES: [u8; 11] = [4, 0, 0, 0, 3, 0, 0, 0, 0xff, 2, 0x80];
 
 fn are_three(list: SignedBytes<'_>) -> bool {
@@ -180,7 +176,6 @@ pub fn texts_are_items() -> bool {
         && matches!(outside, Ok(Err(ErrorKind::InvalidOffset)))
 }
 
-// A union with one variant, a string of tag 1.
 #[derive(Clone, Copy)]
 struct OneText<'a>(&'a str);
 
@@ -246,7 +241,6 @@ pub fn unions_are_read() -> bool {
         && head_past_the_end_fails()
 }
 
-// A root table with one number.
 #[derive(Clone, Copy)]
 struct Root<'a>(Table<'a>);
 

@@ -1,5 +1,3 @@
-//! Vectors and union vectors, and the iterators over them.
-
 mod calls;
 mod no_memory;
 mod unions;

@@ -1,5 +1,3 @@
-//! The back vector, the greatest place, keys and caches.
-
 ghost use Rattle.std.specs.Prelude.{◌≡◌, ◌≤◌, ◌+◌, map, OnOk};
 ghost use Rattle.std.specs.Int.{w8, cast_unsigned};
 ghost use Rattle.planus_back.specs.CacheKeys.{bytes_in};
@@ -13,7 +11,7 @@ use planus_back::{BackVec, ByteVec, Cache, GetCacheKey, Promises, TooLarge, VTab
 use std::alloc::AllocError;
 use std::test::Fail;
 
-// Whether a part of this size is too large after 2147483640 bytes.
+// A part after 2147483640 bytes.
 fn is_too_large(size: usize) -> bool {
     matches!(Promises::new().request(2147483640, size, 0), Err(TooLarge))
 }
@@ -192,7 +190,7 @@ fn add(cache: &mut Cache<ByteVec>, bytes: &[u8], key: &[u8], distance: u32) -> R
     Ok(())
 }
 
-// The signed numbers of the key `H\xfe`.
+// The key `H\xfe`.
 const SIGNED: [i8; 2] = [72, -2];
 
 fn add_signed(cache: &mut Cache<ByteVec>, bytes: &[u8], distance: u32) -> Result<(), Fail>

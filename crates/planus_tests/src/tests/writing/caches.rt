@@ -1,5 +1,3 @@
-//! Equal contents, with and without a cache.
-
 use super::{calls_in_builder, holds, in_builder, prepared, stands_at};
 use crate::tests::check;
 use planus_write::{BuildError, Builder, ByteList, Caches, SignedList, Text};

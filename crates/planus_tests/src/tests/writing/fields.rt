@@ -1,5 +1,3 @@
-//! Fields of a table: always present, with a default, and optional.
-
 ghost use Rattle.std.specs.Prelude.{◌≤◌, length};
 ghost use Rattle.planus_write.specs.Unions.{union_reach};
 
@@ -15,7 +13,6 @@ use planus_write::{
 };
 use std::alloc::{AllocError, Global};
 
-// A kind of unions.
 pub struct Drinks;
 
 pub fn always<P: Primitive, T: WriteAs<P>>(

@@ -1,5 +1,3 @@
-//! Vectors of numbers, bools and strings.
-
 use super::{calls_in_builder, finishes, in_builder, prepared};
 use crate::tests::check;
 use planus_write::{

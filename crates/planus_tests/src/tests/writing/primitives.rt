@@ -1,11 +1,9 @@
-//! Values in place.
-
 ghost use Rattle.std.specs.Prelude.{◌≡◌, ◌≤◌, length};
 
 use crate::tests::check;
 use planus_write::{ByRef, Offset, Primitive, Text, WriteAsPrimitive};
 
-// Writes a value in place at distance 20, by its bound alone.
+// At distance 20, by its bound alone.
 fn in_place<P: Primitive, T: WriteAsPrimitive<P>>(value: &T, bytes: &mut [u8])
     requires size { length bytes.old ≡ P.SIZE }
     requires reach { T.reach value.now ≤ 20 }

@@ -1,5 +1,3 @@
-//! Size-prefixed finishes.
-
 use super::{calls_in_builder, finishes};
 use crate::tests::check;
 use planus_write::{BuildError, Builder, Caches, List, Offset};

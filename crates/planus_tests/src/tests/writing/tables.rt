@@ -1,5 +1,3 @@
-//! Tables by a table writer.
-
 ghost use Rattle.std.specs.Prelude.{◌-◌, ◌++◌, []};
 ghost use Rattle.std.specs.Int.{w8, w16, w32, w64, to_le_bytes, cast_unsigned};
 
@@ -11,7 +9,6 @@ use planus_write::{
 use std::alloc::{AllocError, Global};
 use std::test::Fail;
 
-// A number of eight bytes, and one of one byte.
 #[derive(Drop)]
 struct Wide {
     first: u64,
@@ -31,7 +28,6 @@ impl ObjectFill for Wide {
     }
 }
 
-// A reference and a number of two bytes.
 #[derive(Drop)]
 struct Named {
     name: Offset<Text>,
@@ -109,7 +105,7 @@ fn a_table_with_a_text(builder: &mut Builder) -> Result<bool, BuildError> {
     Ok(last_is(builder, want))
 }
 
-// Two numbers, of which one has the greatest slot of all.
+// One has the greatest slot of all.
 fn a_table_with_the_greatest_slot(builder: &mut Builder, want: &[u8]) -> Result<bool, BuildError> {
     let mut writer: TableWriter<65534> = TableWriter::default();
     writer.write_entry::<u64>(32764);
@@ -122,7 +118,7 @@ fn a_table_with_the_greatest_slot(builder: &mut Builder, want: &[u8]) -> Result<
     Ok(last_is(builder, want))
 }
 
-// The bytes of this table, whose vtable has 65534.
+// The vtable has 65534 bytes.
 fn its_bytes(alloc: Global) -> Result<Vec<u8>, AllocError> {
     let front = b"\x04\0\0\0\xf2\xff\xff\xff\x01\0\0\0\0\0\0\0\x02\0\
         \xfe\xff\x0d\0\0\0\0\0\x0c\0";

@@ -1,5 +1,3 @@
-//! Strings, with and without an identifier, and a long one.
-
 use super::{NO_CACHES, calls_in_builder, finishes, holds, prepared};
 use crate::tests::check;
 use planus_write::{BuildError, Builder, ByRef, Caches, Text};
@@ -39,7 +37,6 @@ fn texts(rt: HostRuntime) {
     );
 }
 
-// The letters up to `p`, over and over.
 fn letters(alloc: Global, times: usize) -> Result<String, AllocError> {
     let mut text = String::new(alloc);
     for _ in 0..times {
@@ -48,7 +45,7 @@ fn letters(alloc: Global, times: usize) -> Result<String, AllocError> {
     Ok(text)
 }
 
-// The finished bytes of a string of one mebibyte, after the string `Hi`.
+// After the string `Hi`.
 fn one_mebibyte(alloc: Global, text: &str) -> Result<Vec<u8>, AllocError> {
     let mut bytes: Vec<u8> = Vec::new(alloc);
     bytes.extend_from_slice(b"\x0c\0\0\0\x02\0\0\0Hi\0\0\0\0\x10\0")?;

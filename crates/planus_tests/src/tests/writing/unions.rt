@@ -1,5 +1,3 @@
-//! Unions and union vectors.
-
 ghost use Rattle.std.specs.Prelude.{◌≤◌, length, IsTrue, IfOk};
 ghost use Rattle.planus_write.specs.Preparing.{AllMay};
 ghost use Rattle.planus_write.specs.Unions.{union_reach};
@@ -34,7 +32,6 @@ fn list_stands<X: WriteAsUnionVector<()> + Drop>(
     }
 }
 
-// The builder still has what the unions refer to.
 fn are_written(builder: &Builder, first: UnionOffset<()>, second: UnionOffset<()>) -> bool
     ensures { IsTrue result → (union_reach first ≤ length builder.now.bytes)
         × (union_reach second ≤ length builder.now.bytes) }
@@ -55,7 +52,6 @@ fn two_unions(builder: &mut Builder) -> Result<[UnionOffset<()>; 2], BuildError>
     Ok([first, second])
 }
 
-// The bytes of a vector of these two.
 const TWO_UNIONS: &[u8] =
     b"\x02\0\0\0\x01\x02\0\0\x02\0\0\0\x10\0\0\0\x04\0\0\0\x01\0\0\0B\0\0\0\x01\0\0\0A\0";
 
@@ -82,7 +78,6 @@ fn an_owned_list_of_unions(alloc: Global, builder: &mut Builder) -> Result<bool,
     Ok(list_stands(builder, owned, (26, 34), TWO_UNIONS))
 }
 
-// A vector that is written already is its own prepared value.
 fn a_written_list_of_unions(builder: &mut Builder) -> Result<bool, BuildError> {
     let unions = two_unions(builder)?;
     let vector = builder.create_union_vector::<(), [UnionOffset<()>; 2]>(unions)?;

@@ -1,5 +1,3 @@
-//! What is prepared without memory: numbers, fields that are left out, and boxed values.
-
 ghost use Rattle.std.specs.Prelude.{◌≤◌, length, IsTrue};
 
 use super::fields::{
@@ -16,8 +14,6 @@ use std::alloc::{AllocError, Global};
 use std::slice;
 use std::test::Fail;
 
-// Owned values, and boxed ones: a number, none, a string, and an offset to that string and a union
-// of it.
 #[derive(Drop)]
 struct Values {
     axe: String,
@@ -57,7 +53,7 @@ fn boxed_numbers_are_prepared(builder: &mut Builder, values: &Values) -> bool {
         && builder.is_empty()
 }
 
-// Strings are written in the builder's room: the first takes 6 bytes, and each other one 8.
+// In the builder's room: the first takes 6 bytes, and each other one 8.
 fn boxed_texts_are_prepared(builder: &mut Builder, values: &Values) -> bool {
     written::<Text, Box<&str>>(builder, &values.text, 6)
         && is_there(optional::<Offset<Text>, Box<&str>>(builder, &values.text))

@@ -1,5 +1,3 @@
-//! Bytes of a filler or a writer, and a builder's lengths.
-
 ghost use Rattle.std.specs.Prelude.{replicate, ⊤};
 
 use super::{calls_in_builder, holds};
@@ -9,7 +7,6 @@ use planus_back::{Fill, Overwrite};
 use planus_write::{BuildError, Builder, Caches, Text};
 use std::alloc::Global;
 
-// Writes one byte over and over.
 #[derive(Drop)]
 struct Repeated {
     byte: u8,
@@ -55,7 +52,6 @@ fn shows_bytes(alloc: Global, builder: &Builder) -> bool {
     }
 }
 
-// Where other bytes were before.
 fn what_is_last(alloc: Global, builder: &mut Builder) -> Result<bool, BuildError> {
     builder.write_over(5, 0, &Repeated { byte: 7 })?;
     let last = builder.current_offset::<Text>();
@@ -76,7 +72,7 @@ fn begins_with_its_length(builder: &Builder) -> bool {
         .starts_with(&front.distance().to_le_bytes())
 }
 
-// A filler and a writer, after more bytes than two bytes count.
+// After more than 65535 bytes.
 fn places(builder: &mut Builder) -> Result<bool, BuildError> {
     builder.write_with(70001, 0, &Repeated { byte: 9 })?;
     builder.write_with(4, 0, &PlaceWord)?;

@@ -1,5 +1,3 @@
-//! Every call of a vector, over any view.
-
 use planus_view::{Cut, ReadView, SubViews, VectorOf, View};
 
 fn rest_of<A: Drop, V: View>(split: Option<(A, VectorOf<V>)>) -> Option<usize> {

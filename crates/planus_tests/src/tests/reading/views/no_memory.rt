@@ -1,4 +1,4 @@
-//! All calls of vectors that take no memory, without memory, and copies, which take some.
+//! All calls without memory, and copies, which take some.
 
 use super::unions::calls::union_calls_agree;
 use super::vectors::calls::vector_calls_agree;

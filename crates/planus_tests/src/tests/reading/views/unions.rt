@@ -1,5 +1,3 @@
-//! Union vectors of the test's own.
-
 pub mod calls;
 mod rows;
 

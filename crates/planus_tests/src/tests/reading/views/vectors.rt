@@ -6,7 +6,7 @@ use planus_read::errors::ErrorKind;
 use planus_read::{SliceWithStartOffset, TableRead};
 use planus_view::Vector;
 
-// A vector of the numbers 1 to 5 of two bytes each, after a reference to it.
+// The numbers 1 to 5 of two bytes each, after a reference.
 const FIVE: [u8; 18] = [4, 0, 0, 0, 5, 0, 0, 0, 1, 0, 2, 0, 3, 0, 4, 0, 5, 0];
 
 fn numbers(bytes: &[u8]) -> Result<Vector<'_, u16>, ErrorKind> {

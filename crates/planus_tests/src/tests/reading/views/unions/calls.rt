@@ -13,7 +13,7 @@ use planus_view::CopyError;
 use std::alloc::{AllocError, Global};
 use std::test::Fail;
 
-// A number of four bytes instead of a reference; its tag is 2.
+// Instead of a reference; its tag is 2.
 #[derive(Clone, Copy, PartialEq, Debug)]
 struct Number(u32);
 
@@ -42,12 +42,12 @@ impl<'buf> VectorReadUnion<'buf> for Number {
     }
 }
 
-// One item, the number 0 of tag 2.
+// The number 0 of tag 2.
 const ONE: [u8; 24] = [
     8, 0, 0, 0, 12, 0, 0, 0, 1, 0, 0, 0, 2, 0, 0, 0, 1, 0, 0, 0, 0, 0, 0, 0,
 ];
 
-// Five, the numbers 10 to 14.
+// The numbers 10 to 14.
 const FIVE: [u8; 44] = [
     8, 0, 0, 0, 16, 0, 0, 0, 5, 0, 0, 0, 2, 2, 2, 2, 2, 0, 0, 0, 5, 0, 0, 0, 10, 0, 0, 0, 11, 0, 0,
     0, 12, 0, 0, 0, 13, 0, 0, 0, 14, 0, 0, 0,

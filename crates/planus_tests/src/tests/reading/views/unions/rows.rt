@@ -1,5 +1,3 @@
-//! Worked buffers, read item by item.
-
 use super::{Choice, unions};
 use crate::tests::check;
 use planus_read::errors::ErrorKind;
@@ -73,7 +71,7 @@ fn a_field_of_a_table(rt: HostRuntime) -> Result<(), Fail> {
     Ok(())
 }
 
-// Two tags and two references, of which the second would pass the end.
+// The second of two references would pass the end.
 const LONGER: [u8; 24] = [
     8, 0, 0, 0, 12, 0, 0, 0, 2, 0, 0, 0, 1, 1, 0, 0, 2, 0, 0, 0, 4, 0, 0, 0,
 ];
@@ -83,8 +81,8 @@ const TAGS: [u8; 24] = [
     8, 0, 0, 0, 12, 0, 0, 0, 255, 0, 0, 0, 1, 1, 0, 0, 1, 0, 0, 0, 4, 0, 0, 0,
 ];
 
-// The lengths are tested before the counts are compared, and the head of the references before the
-// tags themselves.
+// Lengths are tested before the counts are compared, and the head of the references before the
+// tags.
 #[test]
 fn counts_and_lengths(rt: HostRuntime) {
     let mismatched = ErrorKind::UnionVectorLengthsMismatched {
@@ -115,7 +113,7 @@ fn prints(alloc: Global, item: Option<Result<Choice<'_>, Error>>, text: &str) ->
     }
 }
 
-// The error of an item has the start of the references of the vector that it was read from.
+// An item's error has the start of its vector's references.
 fn errors_have_starts<'a>(alloc: Global, choices: UnionVector<'a, Choice<'a>>) -> bool {
     let whole = "In <[Choice]@24>::get(): Unknown union (tag = 9)";
     let rest = "In <[Choice]@28>::get(): Unknown union (tag = 9)";

@@ -1,6 +1,3 @@
-//! Every call once on views of none, one and five items, of numbers, of strings and of a type of
-//! the test's own.
-
 ghost use Rattle.std.specs.Prelude.{⊤, ◌<◌, ◌^◌, length};
 
 use super::super::calls::{item_calls_agree, part_calls_agree};
@@ -8,7 +5,6 @@ use super::FIVE;
 use planus_read::{Error, SliceWithStartOffset, Stride, TableRead, VectorRead};
 use planus_view::Vector;
 
-// The second of two bytes.
 #[derive(Clone, Copy)]
 struct Second(u8);
 
@@ -25,7 +21,6 @@ impl<'buf> VectorRead<'buf> for Second {
     }
 }
 
-// One string and five, each of them empty.
 const ONE_TEXT: [u8; 17] = [4, 0, 0, 0, 1, 0, 0, 0, 4, 0, 0, 0, 0, 0, 0, 0, 0];
 
 const FIVE_TEXTS: [u8; 33] = [

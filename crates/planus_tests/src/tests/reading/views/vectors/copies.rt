@@ -1,5 +1,3 @@
-//! Copies of items.
-
 ghost use Rattle.std.specs.Prelude.{⊤};
 
 use super::super::calls::taken;
@@ -12,7 +10,6 @@ use planus_view::{CopyError, FromItem, Vector};
 use std::alloc::{AllocError, Global};
 use std::test::Fail;
 
-// A number that must be below 5.
 #[derive(Clone, Copy, PartialEq, Debug)]
 struct Small(u16);
 
@@ -116,7 +113,7 @@ fn many_are_copied(alloc: Global, many: Vector<'_, u16>) -> bool {
     copied && many.iter().clone().unwrap().count() == 5003 && taken(many.chunks(7)) == 5003
 }
 
-// A vector of a string of 5003 letters and one of one letter.
+// A string of 5003 letters and one of one letter.
 fn a_long_text(alloc: Global) -> Result<Vec<u8>, AllocError> {
     let front = b"\x04\0\0\0\x02\0\0\0\x08\0\0\0\x94\x13\0\0\x8b\x13\0\0";
     let mut bytes: Vec<u8> = Vec::from_slice(alloc, front)?;

@@ -1,5 +1,3 @@
-//! The worked rows, with expected values written out.
-
 ghost use Rattle.std.specs.Prelude.{◌<◌};
 
 use super::super::shows;
