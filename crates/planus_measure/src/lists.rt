@@ -11,12 +11,11 @@ use planus::{
 };
 use std::alloc::{AllocError, Global};
 
-/// Adds a number of 4 bytes.
 fn push_number(bytes: &mut Vec<u8>, number: u32) -> Result<(), AllocError> {
     bytes.extend_from_slice(&number.to_le_bytes())
 }
 
-/// Appends a vector of references to one weapon, whose table is 4 bytes into the weapon's bytes.
+/// The table is 4 bytes into the weapon's bytes.
 fn push_weapons(bytes: &mut Vec<u8>) -> Result<(), AllocError> {
     push_number(bytes, OPERATIONS as u32)?;
     let mut reference = 4 * OPERATIONS as u32 + 4;
@@ -27,7 +26,6 @@ fn push_weapons(bytes: &mut Vec<u8>) -> Result<(), AllocError> {
     bytes.extend_from_slice(&WEAPON)
 }
 
-/// Returns a reference to a vector of weapons, and the vector.
 pub fn finished_tables(alloc: Global) -> Result<Vec<u8>, AllocError> {
     let mut bytes = Vec::new(alloc);
     push_number(&mut bytes, 4)?;
@@ -35,7 +33,6 @@ pub fn finished_tables(alloc: Global) -> Result<Vec<u8>, AllocError> {
     Ok(bytes)
 }
 
-/// Returns references to a vector of tags and to one of weapons, and the vectors.
 pub fn finished_unions(alloc: Global) -> Result<Vec<u8>, AllocError> {
     let mut bytes = Vec::new(alloc);
     push_number(&mut bytes, 8)?;
@@ -48,7 +45,6 @@ pub fn finished_unions(alloc: Global) -> Result<Vec<u8>, AllocError> {
     Ok(bytes)
 }
 
-/// Reads the weapons of a vector and returns the sum.
 pub fn tables(buffer: &[u8]) -> Result<usize, Error> {
     let mut sum: usize = 0;
     for item in tables_in(buffer)? {
@@ -57,7 +53,6 @@ pub fn tables(buffer: &[u8]) -> Result<usize, Error> {
     Ok(sum)
 }
 
-/// The tables of a list.
 fn tables_in(buffer: &[u8]) -> Result<Vector<'_, Result<TableRef<'_, Weapon>, Error>>, Error> {
     let piece = SliceWithStartOffset::new(buffer, 0);
     <Vector<'_, Result<TableRef<'_, Weapon>, Error>> as TableRead<'_>>::from_buffer(
@@ -65,7 +60,6 @@ fn tables_in(buffer: &[u8]) -> Result<Vector<'_, Result<TableRef<'_, Weapon>, Er
     ).map_err(|kind| kind.with_error_location("Tables", "root", 0))
 }
 
-/// Reads the weapons of a union vector and returns the sum.
 pub fn unions(buffer: &[u8]) -> Result<usize, Error> {
     let mut sum: usize = 0;
     for item in unions_in(buffer)? {
@@ -74,7 +68,6 @@ pub fn unions(buffer: &[u8]) -> Result<usize, Error> {
     Ok(sum)
 }
 
-/// The unions of a vector.
 fn unions_in(buffer: &[u8]) -> Result<UnionVector<'_, TaggedPlace<'_>>, Error> {
     let piece = SliceWithStartOffset::new(buffer, 0);
     <UnionVector<'_, TaggedPlace<'_>> as TableReadUnionVector<'_>>::from_buffer(
@@ -82,7 +75,7 @@ fn unions_in(buffer: &[u8]) -> Result<UnionVector<'_, TaggedPlace<'_>>, Error> {
     ).map_err(|kind| kind.with_error_location("Unions", "root", 0))
 }
 
-/// Returns the sum of a union's weapon (tag 1), 0 for another tag.
+/// 0 for a tag other than 1.
 fn held(union: TaggedPlace<'_>) -> Result<usize, Error> {
     if union.tag() != 1 {
         return Ok(0);

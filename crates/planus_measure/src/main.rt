@@ -1,6 +1,5 @@
-//! Measures calls of the builder and the readers, and prints a table of nanoseconds per operation.
-//! The first argument is the number of rounds; without it each work runs once and no times are
-//! printed.
+//! Measures calls of builder and readers. The first argument is the number of rounds; without it
+//! each work runs once and no times are printed.
 #![tactic(auto)]
 
 mod lists;
@@ -14,7 +13,6 @@ use std::time::Instant;
 use std::{env, io};
 use works::{OPERATIONS, Work, Works};
 
-/// The works without caches, in the table's order.
 const PLAIN: &[(&str, Work)] = &[
     ("texts of 3 bytes", Work::Texts(3, 3)),
     ("texts of 100 bytes", Work::Texts(100, 100)),
@@ -64,7 +62,6 @@ const PLAIN: &[(&str, Work)] = &[
     ("read a union of a vector", Work::ReadUnions),
 ];
 
-/// The works with caches, in the table's order.
 const CACHED: &[(&str, Work)] = &[
     ("cached: different texts of 20 bytes", Work::NewTexts(20)),
     ("cached: different texts of 100 bytes", Work::NewTexts(100)),
@@ -92,7 +89,6 @@ const CACHED: &[(&str, Work)] = &[
     ("the same after 100000 texts", Work::AfterTexts(100000)),
 ];
 
-/// Returns the number of rounds of the first argument, or 0.
 fn rounds(rt: &HostRuntime) -> io::Result<u64> {
     let mut args = env::args(rt)?;
     let _program = args.next();
@@ -102,7 +98,6 @@ fn rounds(rt: &HostRuntime) -> io::Result<u64> {
     }
 }
 
-/// Prints the result of one round and, with rounds, the nanoseconds per operation.
 fn measure(
     rt: &HostRuntime,
     works: &mut Works,
@@ -129,7 +124,6 @@ fn measure(
     println!(rt; "{name:<42} {done:>8} {whole:>8}.{tenth}")
 }
 
-/// Measures all works.
 fn measure_all(rt: &HostRuntime, works: &mut Works, rounds: u64) -> io::Result<()> {
     println!(rt;
         "{:<42} {:>8} {:>10}",

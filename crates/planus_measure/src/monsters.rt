@@ -1,5 +1,3 @@
-//! Writes of monsters: a field of each kind, and the values they refer to.
-
 ghost use Rattle.std.specs.Prelude.{◌≡◌, ◌≤◌, length, codes, IfOk};
 ghost use Rattle.planus.specs.write.InBuilder.{IsIn, AllIn, AllUnionsIn};
 
@@ -10,10 +8,8 @@ use planus::{
     create_table, fields,
 };
 
-/// The kind of a monster.
 struct Monster;
 
-/// The kind of a monster's equipment.
 struct Equipment;
 
 impl TableKind for Monster {
@@ -28,7 +24,6 @@ impl TableKind for Monster {
     }
 }
 
-/// Writes a monster with these weapons, equipment and loot, a number, a string and a byte vector.
 fn write_fields(
     builder: &mut Builder,
     weapons: &[Offset<Weapon>],
@@ -51,7 +46,6 @@ fn write_fields(
     create_table::<Monster, _>(builder, fields)
 }
 
-/// Writes a weapon and a monster that refers to it as weapon, equipment and twice as loot.
 fn write_monster(builder: &mut Builder) -> Result<Offset<Monster>, BuildError>
     ensures { IfOk result (λ offset. offset.distance ≤ length builder.new.bytes) }
 {

@@ -4,20 +4,20 @@ use planus::errors::{Error, ErrorKind};
 use planus::table_reader::Table;
 use planus::{Place, SliceWithStartOffset, TableRead, TaggedPlace, Vector};
 
-/// A finished table: the string `Axe` in slot 0, 24 as `u16` in slot 1.
+/// The string `Axe` in slot 0, 24 as `u16` in slot 1.
 pub const WEAPON: [u8; 32] = [
     4, 0, 0, 0, 244, 255, 255, 255, 16, 0, 0, 0, 24, 0, 0, 0, 8, 0, 10, 0, 4, 0, 8, 0, 3, 0, 0, 0,
     65, 120, 101, 0,
 ];
 
-/// A finished table: 1 to 8 as `u16` in slots 0 to 7.
+/// 1 to 8 as `u16` in slots 0 to 7.
 pub const NUMBERS: [u8; 44] = [
     4, 0, 0, 0, 236, 255, 255, 255, 1, 0, 2, 0, 3, 0, 4, 0, 5, 0, 6, 0, 7, 0, 8, 0, 20, 0, 20, 0,
     4, 0, 6, 0, 8, 0, 10, 0, 12, 0, 14, 0, 16, 0, 18, 0,
 ];
 
-/// A finished table: 80 as `u16` in slot 0, the string `Orc` in slot 1, a vector of one table in
-/// slot 3, and that table as a union of tag 1 in slots 4 and 5.
+/// 80 as `u16` in slot 0, the string `Orc` in slot 1, a vector of one table in slot 3, and that
+/// table as a union of tag 1 in slots 4 and 5.
 pub const MONSTER: [u8; 84] = [
     4, 0, 0, 0, 236, 255, 255, 255, 40, 0, 0, 0, 28, 0, 0, 0, 40, 0, 0, 0, 80, 0, 1, 0, 16, 0, 19,
     0, 16, 0, 4, 0, 0, 0, 8, 0, 18, 0, 12, 0, 1, 0, 0, 0, 12, 0, 0, 0, 3, 0, 0, 0, 79, 114, 99, 0,
@@ -28,17 +28,14 @@ pub const MONSTER: [u8; 84] = [
 /// How the items of a vector are reached.
 #[derive(Clone, Copy)]
 pub enum Walk {
-    /// By an iterator over all.
     Each,
-    /// By their positions.
     Positions,
-    /// By pieces of 16.
+    /// Slices of 16.
     Chunks,
-    /// By windows of 4.
+    /// Windows of 4.
     Windows,
 }
 
-/// The root of a finished table.
 fn root(buffer: &[u8]) -> Result<Table<'_>, Error> {
     let piece = SliceWithStartOffset::new(buffer, 0);
     Table::from_buffer(piece, 0).map_err(|kind| kind.with_error_location("Table", "root", 0))
@@ -51,7 +48,6 @@ pub fn weapon(table: Table<'_>) -> Result<usize, Error> {
     Ok(usize::from(damage) + name.len())
 }
 
-/// Returns the sum of a table's first fields.
 fn numbers(table: Table<'_>, count: usize) -> Result<usize, Error> {
     let mut sum: usize = 0;
     for slot in 0..count {
@@ -61,7 +57,6 @@ fn numbers(table: Table<'_>, count: usize) -> Result<usize, Error> {
     Ok(sum)
 }
 
-/// Returns the sum of a monster's number, string length, weapon count and tag.
 fn monster(table: Table<'_>) -> Result<usize, Error> {
     let hp = table.access::<u16>(0, "Monster", "hp")?.unwrap_or(100);
     let name = table.access_required::<&str>(1, "Monster", "name")?;
@@ -74,7 +69,6 @@ fn monster(table: Table<'_>) -> Result<usize, Error> {
     )
 }
 
-/// Reads the weapons and returns the sum.
 pub fn weapons(buffers: &[u8]) -> Result<usize, Error> {
     let mut sum: usize = 0;
     for buffer in buffers.chunks_exact(WEAPON.len()) {
@@ -83,7 +77,6 @@ pub fn weapons(buffers: &[u8]) -> Result<usize, Error> {
     Ok(sum)
 }
 
-/// Reads that many fields of each table and returns the sum.
 pub fn fields(buffers: &[u8], count: usize) -> Result<usize, Error> {
     let mut sum: usize = 0;
     for buffer in buffers.chunks_exact(NUMBERS.len()) {
@@ -92,7 +85,6 @@ pub fn fields(buffers: &[u8], count: usize) -> Result<usize, Error> {
     Ok(sum)
 }
 
-/// Reads the monsters and returns the sum.
 pub fn monsters(buffers: &[u8]) -> Result<usize, Error> {
     let mut sum: usize = 0;
     for buffer in buffers.chunks_exact(MONSTER.len()) {
@@ -101,7 +93,6 @@ pub fn monsters(buffers: &[u8]) -> Result<usize, Error> {
     Ok(sum)
 }
 
-/// The sum of some numbers.
 fn sum_of(numbers: Vector<'_, u32>) -> usize {
     let mut sum: usize = 0;
     for number in numbers {
@@ -110,7 +101,6 @@ fn sum_of(numbers: Vector<'_, u32>) -> usize {
     sum
 }
 
-/// The sum by `get`.
 fn sum_by_positions(numbers: Vector<'_, u32>) -> usize {
     let mut sum: usize = 0;
     for at in 0..numbers.len() {
@@ -119,7 +109,6 @@ fn sum_by_positions(numbers: Vector<'_, u32>) -> usize {
     sum
 }
 
-/// The sum by chunks of 16.
 fn sum_by_chunks(numbers: Vector<'_, u32>) -> usize {
     let mut sum: usize = 0;
     for chunk in numbers.chunks(16) {
@@ -128,7 +117,6 @@ fn sum_by_chunks(numbers: Vector<'_, u32>) -> usize {
     sum
 }
 
-/// The sum of all windows of 4.
 fn sum_by_windows(numbers: Vector<'_, u32>) -> usize {
     let mut sum: usize = 0;
     for window in numbers.windows(4) {
@@ -137,7 +125,6 @@ fn sum_by_windows(numbers: Vector<'_, u32>) -> usize {
     sum
 }
 
-/// Reads a finished vector of numbers and returns the sum.
 pub fn walked(buffer: &[u8], walk: Walk) -> Result<usize, ErrorKind> {
     let piece = SliceWithStartOffset::new(buffer, 0);
     let list = <Vector<'_, u32> as TableRead<'_>>::from_buffer(piece, 0)?;
@@ -149,7 +136,6 @@ pub fn walked(buffer: &[u8], walk: Walk) -> Result<usize, ErrorKind> {
     })
 }
 
-/// Reads a finished vector of strings and returns the sum of their lengths.
 pub fn texts(buffer: &[u8]) -> Result<usize, Error> {
     let mut sum: usize = 0;
     for text in texts_in(buffer)? {
@@ -158,7 +144,6 @@ pub fn texts(buffer: &[u8]) -> Result<usize, Error> {
     Ok(sum)
 }
 
-/// The texts of a finished list.
 fn texts_in(buffer: &[u8]) -> Result<Vector<'_, Result<&str, Error>>, Error> {
     let piece = SliceWithStartOffset::new(buffer, 0);
     <Vector<'_, Result<&str, Error>> as TableRead<'_>>::from_buffer(piece, 0).map_err(

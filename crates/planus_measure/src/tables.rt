@@ -6,7 +6,6 @@ ghost use Rattle.std.specs.Int.{w16, w32, to_le_bytes};
 use crate::works::OPERATIONS;
 use planus::{BuildError, Builder, ObjectFill, ObjectWriter, Offset, TableKind, TableWriter, Text};
 
-/// Two fields of equal numbers.
 #[derive(Drop)]
 struct Two {
     number: u16,
@@ -25,7 +24,6 @@ impl ObjectFill for Two {
     }
 }
 
-/// Eight fields of equal numbers.
 #[derive(Drop)]
 struct Eight {
     number: u16,
@@ -54,7 +52,7 @@ impl ObjectFill for Eight {
     }
 }
 
-/// A text and a number.
+/// A string and a number.
 #[derive(Drop)]
 pub struct Weapon {
     name: Offset<Text>,
@@ -107,7 +105,6 @@ fn write_table_of_eight(builder: &mut Builder) -> Result<(), BuildError> {
     writer.finish(builder, &Eight { number: 7 })
 }
 
-/// Writes a weapon.
 pub fn write_weapon(builder: &mut Builder) -> Result<(), BuildError> {
     let name = builder.create_string("Axe")?;
     let mut writer: TableWriter<8> = TableWriter::default();

@@ -11,11 +11,9 @@ use std::alloc::{AllocError, Global};
 /// Operations per round.
 pub const OPERATIONS: usize = 1000;
 
-/// A hundred letters; strings are prefixes of it.
 const LETTERS: &str =
     "abcdefghijklmnopqrstuvwxyzabcdefghijklmnopqrstuvwxyzabcdefghijklmnopqrstuvwxyzabcdefghijklmnopqrstuv";
 
-/// Nothing is written once.
 const NO_CACHES: Caches = Caches {
     vtables: false,
     texts: false,
@@ -23,8 +21,8 @@ const NO_CACHES: Caches = Caches {
     hash_mask: 0,
 };
 
-/// One kind of operation. Sizes are in bytes. Unless noted, the builder has room for what is
-/// written; with caches, equal contents are found.
+/// One kind of operation. Sizes are in bytes. Unless noted, the builder has room; with caches,
+/// equal contents are found.
 #[derive(Clone, Copy)]
 pub enum Work {
     /// Strings whose sizes cycle from the first number to the second.
@@ -39,7 +37,7 @@ pub enum Work {
     AfterTexts(usize),
     /// Vectors of 64 strings, of 0 to 63 bytes.
     TextLists,
-    /// Equal byte lists of this size.
+    /// Equal byte vectors of this size.
     ByteLists(usize),
     /// Different byte vectors of this size, at least 7.
     NewByteLists(usize),
@@ -57,19 +55,19 @@ pub enum Work {
     Weapons,
     /// The same on a builder that once held this many strings.
     WeaponsAfterTexts(usize),
-    /// Tables with a field of each kind, and the values they refer to.
+    /// Tables with a field of each kind.
     Monsters,
     /// A clear, such a table and a finish.
     MonsterMessages,
     /// Requests for padding alone.
     Requests,
-    /// A table read from its buffer, a number and a string.
+    /// A table, a number and a string.
     ReadWeapons,
-    /// A table of eight numbers read from its buffer, and this many of them.
+    /// A table of eight numbers, and this many of them.
     ReadFields(usize),
-    /// A table of five fields read from its buffer, with a vector and a union, and all of them.
+    /// A table of five fields, with a vector and a union.
     ReadMonsters,
-    /// `u32`s of a vector, 16 per operation, reached this way.
+    /// `u32`s of a vector, 16 per operation.
     ReadNumbers(Walk),
     /// Strings of 20 bytes of a vector.
     ReadTexts,
@@ -79,7 +77,6 @@ pub enum Work {
     ReadUnions,
 }
 
-/// A filler of equal bytes.
 struct Sevens;
 
 impl Fill for Sevens {
@@ -95,25 +92,21 @@ impl Fill for Sevens {
     }
 }
 
-/// What the works need.
 #[derive(Drop)]
 pub struct Works {
     alloc: Global,
     builder: Box<Builder>,
     caching: Box<Builder>,
-    // The values written, or the buffers read one after another, by the current work.
     texts: Vec<String>,
     bytes: Vec<u8>,
     numbers: Vec<u32>,
 }
 
-/// Adds a text.
 fn push_text(alloc: Global, texts: &mut Vec<String>, text: &str) -> Result<(), AllocError> {
     texts.push(String::from_str(alloc, text)?)?;
     Ok(())
 }
 
-/// Appends strings whose sizes cycle from `least` to `most` bytes.
 fn push_texts(
     alloc: Global,
     texts: &mut Vec<String>,
@@ -129,13 +122,11 @@ fn push_texts(
     Ok(())
 }
 
-/// Returns a number of 7 digits followed by letters.
 fn different_text(alloc: Global, number: usize, letters: &str) -> Result<String, AllocError> {
     let number = number.saturating_add(1000000);
     Ok(format!(in alloc; "{number}{letters}")?)
 }
 
-/// Appends different strings of `len` bytes.
 fn push_different_texts(
     alloc: Global,
     texts: &mut Vec<String>,
@@ -149,7 +140,6 @@ fn push_different_texts(
     Ok(())
 }
 
-/// Appends strings of 20 bytes, a few of them frequent, in an order unrelated to frequency.
 fn push_often_texts(alloc: Global, texts: &mut Vec<String>) -> Result<(), AllocError> {
     let letters = LETTERS.get(..13).unwrap_or("");
     for at in 0..OPERATIONS {
@@ -159,7 +149,6 @@ fn push_often_texts(alloc: Global, texts: &mut Vec<String>) -> Result<(), AllocE
     Ok(())
 }
 
-/// Appends the strings that the work needs.
 fn push_texts_of(alloc: Global, texts: &mut Vec<String>, work: Work) -> Result<(), AllocError> {
     match work {
         Work::Texts(least, most) => push_texts(alloc, texts, OPERATIONS, least, most),
@@ -177,7 +166,6 @@ fn push_texts_of(alloc: Global, texts: &mut Vec<String>, work: Work) -> Result<(
     }
 }
 
-/// Returns the numbers that the work needs.
 fn numbers_of(alloc: Global, work: Work) -> Result<Vec<u32>, AllocError> {
     match work {
         Work::NumberLists(len) => equal_numbers(alloc, len),
@@ -186,12 +174,10 @@ fn numbers_of(alloc: Global, work: Work) -> Result<Vec<u32>, AllocError> {
     }
 }
 
-/// So many equal numbers.
 fn equal_numbers(alloc: Global, len: usize) -> Result<Vec<u32>, AllocError> {
     vec![in alloc; 7; len]
 }
 
-/// Returns the bytes that the work needs.
 fn bytes_of(alloc: Global, work: Work) -> Result<Vec<u8>, AllocError> {
     match work {
         Work::ByteLists(len) => vec![in alloc; 7; len],
@@ -204,7 +190,6 @@ fn bytes_of(alloc: Global, work: Work) -> Result<Vec<u8>, AllocError> {
     }
 }
 
-/// A thousand times the same bytes.
 fn repeated(alloc: Global, bytes: &[u8]) -> Result<Vec<u8>, AllocError> {
     let mut all = Vec::new(alloc);
     for _ in 0..OPERATIONS {
@@ -213,7 +198,6 @@ fn repeated(alloc: Global, bytes: &[u8]) -> Result<Vec<u8>, AllocError> {
     Ok(all)
 }
 
-/// A finished list of these numbers.
 fn finished_list(
     alloc: Global,
     builder: &mut Builder,
@@ -223,7 +207,6 @@ fn finished_list(
     Ok(Vec::from_slice(alloc, builder.finish(numbers, None)?)?)
 }
 
-/// A finished list of these texts.
 fn finished_texts(
     alloc: Global,
     builder: &mut Builder,
@@ -234,7 +217,6 @@ fn finished_texts(
     Ok(Vec::from_slice(alloc, builder.finish(list, None)?)?)
 }
 
-/// Writes each string and returns the final length.
 fn write_texts(builder: &mut Builder, texts: &[String]) -> Result<usize, BuildError> {
     builder.clear();
     for text in texts {
@@ -243,7 +225,6 @@ fn write_texts(builder: &mut Builder, texts: &[String]) -> Result<usize, BuildEr
     Ok(builder.len())
 }
 
-/// Clears, writes and finishes each string, and returns the sum of the lengths.
 fn write_messages(builder: &mut Builder) -> Result<usize, BuildError> {
     let mut sum: usize = 0;
     for _ in 0..OPERATIONS {
@@ -253,7 +234,6 @@ fn write_messages(builder: &mut Builder) -> Result<usize, BuildError> {
     Ok(sum)
 }
 
-/// Writes vectors of these strings and returns the final length.
 fn write_text_lists(builder: &mut Builder, texts: &[String]) -> Result<usize, BuildError> {
     builder.clear();
     for _ in 0..OPERATIONS {
@@ -262,7 +242,6 @@ fn write_text_lists(builder: &mut Builder, texts: &[String]) -> Result<usize, Bu
     Ok(builder.len())
 }
 
-/// Writes these bytes as vectors and returns the final length.
 fn write_byte_lists(builder: &mut Builder, bytes: &[u8]) -> Result<usize, BuildError> {
     builder.clear();
     for _ in 0..OPERATIONS {
@@ -271,7 +250,6 @@ fn write_byte_lists(builder: &mut Builder, bytes: &[u8]) -> Result<usize, BuildE
     Ok(builder.len())
 }
 
-/// Writes each string's bytes as a vector and returns the final length.
 fn write_texts_as_bytes(builder: &mut Builder, texts: &[String]) -> Result<usize, BuildError> {
     builder.clear();
     for text in texts {
@@ -280,7 +258,6 @@ fn write_texts_as_bytes(builder: &mut Builder, texts: &[String]) -> Result<usize
     Ok(builder.len())
 }
 
-/// Writes these numbers as vectors and returns the final length.
 fn write_number_lists(builder: &mut Builder, numbers: &[u32]) -> Result<usize, BuildError> {
     builder.clear();
     for _ in 0..OPERATIONS {
@@ -289,7 +266,6 @@ fn write_number_lists(builder: &mut Builder, numbers: &[u32]) -> Result<usize, B
     Ok(builder.len())
 }
 
-/// Writes parts of this many bytes and returns the final length.
 fn write_parts(builder: &mut Builder, size: usize) -> Result<usize, BuildError> {
     builder.clear();
     for _ in 0..OPERATIONS {
@@ -298,8 +274,7 @@ fn write_parts(builder: &mut Builder, size: usize) -> Result<usize, BuildError> 
     Ok(builder.len())
 }
 
-/// Requests padding for parts of 1 to 8 bytes aligned to 8, one in front of another, and returns
-/// the last place.
+/// Parts of 1 to 8 bytes aligned to 8. Returns the last place.
 fn request_padding() -> Option<usize> {
     let mut promises = Promises::new();
     let mut len: usize = 0;
@@ -312,7 +287,6 @@ fn request_padding() -> Option<usize> {
     Some(len)
 }
 
-/// One request.
 #[inline]
 fn next_padding(promises: Promises, len: usize, size: usize) -> Option<(Promises, usize)> {
     if len > 1 << 20 {
@@ -321,18 +295,15 @@ fn next_padding(promises: Promises, len: usize, size: usize) -> Option<(Promises
     promises.request(len, size, 7).ok()
 }
 
-/// Writes each string in a new builder without room and returns the final length.
 fn write_growing_texts(alloc: Global, texts: &[String]) -> Result<usize, BuildError> {
     write_texts(&mut Builder::with_caches(alloc, 0, NO_CACHES)?, texts)
 }
 
-/// Writes parts of this many bytes in a new builder without room and returns the final length.
 fn write_growing_parts(alloc: Global, size: usize) -> Result<usize, BuildError> {
     write_parts(&mut Builder::with_caches(alloc, 0, NO_CACHES)?, size)
 }
 
-/// Returns a builder with room for this many bytes, boxed: a struct of two unboxed builders has a
-/// long type, which slows its proofs.
+/// Boxed: a struct of two unboxed builders has a long type, which slows its proofs.
 fn builder_of(alloc: Global, room: usize, caches: Caches) -> Result<Box<Builder>, BuildError> {
     match Box::new(alloc, Builder::with_caches(alloc, room, caches)?) {
         Ok(builder) => Ok(builder),
@@ -353,7 +324,6 @@ impl Works {
         })
     }
 
-    /// Prepares what this work alone needs.
     fn prepare(&mut self, work: Work) -> Result<(), BuildError> {
         self.texts.clear();
         push_texts_of(self.alloc, &mut self.texts, work)?;
@@ -367,7 +337,6 @@ impl Works {
         }
     }
 
-    /// Replaces the cached builder by a new one that has held the strings.
     fn write_before(&mut self) -> Result<(), BuildError> {
         self.caching = builder_of(self.alloc, 0, Caches::all())?;
         write_texts(&mut self.builder, self.texts.as_slice())?;
@@ -375,13 +344,11 @@ impl Works {
         Ok(())
     }
 
-    /// Finishes a vector of the numbers, to be read.
     fn finish_numbers(&mut self) -> Result<(), BuildError> {
         self.bytes = finished_list(self.alloc, &mut self.builder, &self.numbers)?;
         Ok(())
     }
 
-    /// Finishes a vector of the strings, to be read.
     fn finish_texts(&mut self) -> Result<(), BuildError> {
         self.bytes = finished_texts(self.alloc, &mut self.builder, self.texts.as_slice())?;
         Ok(())
@@ -393,8 +360,8 @@ impl Works {
         self.round(work, with_caches)
     }
 
-    /// Runs one round with or without caches. Returns the bytes written or the sum read; `None` if
-    /// a call failed.
+    /// Runs one round with or without caches. Returns the bytes written or the sum read, or `None`
+    /// if a call failed.
     pub fn round(&mut self, work: Work, with_caches: bool) -> Option<usize> {
         let texts = self.texts.as_slice();
         let bytes = self.bytes.as_slice();
@@ -407,7 +374,6 @@ impl Works {
     }
 }
 
-/// Runs one round on this builder.
 fn round_by(
     builder: &mut Builder,
     alloc: Global,
