@@ -6,44 +6,43 @@ use Rattle.planus_read.specs.Values.{Field, plain, reference}
 abbrev pub text_axe_bytes : List ℕ
 text_axe_bytes = 4 ∷ 0 ∷ 0 ∷ 0 ∷ 3 ∷ 0 ∷ 0 ∷ 0 ∷ 65 ∷ 120 ∷ 101 ∷ 0 ∷ []
 
--- the string `Hi` and a vector of the number 1 of 8 bytes, finished
+-- the string `Hi` and a vector of the 8-byte number 1, finished
 abbrev pub u64_list_bytes : List ℕ
 u64_list_bytes =
     4 ∷ 0 ∷ 0 ∷ 0 ∷ 1 ∷ 0 ∷ 0 ∷ 0 ∷ 1 ∷ 0 ∷ 0 ∷ 0 ∷ 0 ∷ 0 ∷ 0 ∷ 0 ∷ 2 ∷ 0 ∷ 0 ∷ 0 ∷ 72 ∷ 105 ∷ 0
     ∷ []
 
--- the items of that vector
+-- its items
 abbrev pub one_u64 : List (List ℕ)
 one_u64 = (1 ∷ 0 ∷ 0 ∷ 0 ∷ 0 ∷ 0 ∷ 0 ∷ 0 ∷ []) ∷ []
 
--- a table with the string `Axe` in slot 0 and the number 24 of 2 bytes in slot 1, finished
+-- a table with the string `Axe` and the number 24 of 2 bytes, finished
 abbrev pub weapon_bytes : List ℕ
 weapon_bytes =
     4 ∷ 0 ∷ 0 ∷ 0 ∷ 244 ∷ 255 ∷ 255 ∷ 255 ∷ 16 ∷ 0 ∷ 0 ∷ 0 ∷ 24 ∷ 0 ∷ 0 ∷ 0 ∷ 8 ∷ 0 ∷ 10 ∷ 0 ∷ 4
     ∷ 0 ∷ 8 ∷ 0 ∷ 3 ∷ 0 ∷ 0 ∷ 0 ∷ 65 ∷ 120 ∷ 101 ∷ 0 ∷ []
 
--- the number 24 of 2 bytes
 abbrev pub twenty_four : Field
 twenty_four = plain (record { bytes = 24 ∷ 0 ∷ []; alignment = 2 })
 
--- the fields of that table by slot; the string is at distance 8
+-- its fields by slot; the string is at distance 8
 abbrev pub weapon_fields : List (ℕ × Field)
 weapon_fields = (0, reference 8) ∷ (1, twenty_four) ∷ []
 
--- the strings `A` and `B` and the union vector of both, with tags 1 and 2, not finished
+-- the strings `A` and `B` and their union vector, with tags 1 and 2
 abbrev pub union_vector_bytes : List ℕ
 union_vector_bytes =
     2 ∷ 0 ∷ 0 ∷ 0 ∷ 1 ∷ 2 ∷ 0 ∷ 0 ∷ 2 ∷ 0 ∷ 0 ∷ 0 ∷ 16 ∷ 0 ∷ 0 ∷ 0 ∷ 4 ∷ 0 ∷ 0 ∷ 0 ∷ 1 ∷ 0 ∷ 0 ∷ 0
     ∷ 66 ∷ 0 ∷ 0 ∷ 0 ∷ 1 ∷ 0 ∷ 0 ∷ 0 ∷ 65 ∷ 0 ∷ []
 
--- the items of that union vector: tags, and the distances of the strings
+-- its tags, and the distances of the strings
 abbrev pub two_texts : List (ℕ × ℕ)
 two_texts = (1, 6) ∷ (2, 14) ∷ []
 
--- a table with the number 24 of 2 bytes in slot 0, finished
+-- a table with the number 24 of 2 bytes, finished
 abbrev pub u16_table_bytes : List ℕ
 u16_table_bytes = 4 ∷ 0 ∷ 0 ∷ 0 ∷ 250 ∷ 255 ∷ 255 ∷ 255 ∷ 24 ∷ 0 ∷ 6 ∷ 0 ∷ 6 ∷ 0 ∷ 4 ∷ 0 ∷ []
 
--- the field of that table
+-- its field
 abbrev pub u16_table_fields : List (ℕ × Field)
 u16_table_fields = (0, twenty_four) ∷ []

@@ -1,5 +1,4 @@
-//! Helpers of tests: functions that take all memory, plain programs to compare with, and worked
-//! buffers.
+//! Helpers of tests: [`exhaust`], plain programs and worked buffers.
 #![tactic(auto)]
 
 mod memory;

@@ -1,4 +1,4 @@
-//! Plain, slow programs that compute the definitions, to compare readers and writers with.
+//! Plain, slow programs.
 
 ghost use Rattle.planus_read.specs.Bytes.{Num, BytesStand};
 ghost use Rattle.planus_read.specs.Stands.{Stands, at};
@@ -6,7 +6,7 @@ ghost use Rattle.planus_read.specs.Values.{text};
 ghost use Rattle.std.specs.Int.{w32};
 ghost use Rattle.std.specs.Prelude.{◌≡◌, ◌↔◌, IsTrue};
 
-/// Returns the number of 4 bytes at the position, in bytes from the front, if these bytes exist.
+/// Returns the number of 4 bytes at the position, in bytes from the front.
 pub fn number_at(bytes: &[u8], position: usize) -> Option<u32>
     ensures { result ≡ Num bytes.now position w32 }
 {
@@ -32,8 +32,7 @@ pub fn bytes_stand_at(bytes: &[u8], position: usize, part: &[u8]) -> bool
     &rest[..part.len()] == part
 }
 
-/// Returns whether the string of these bytes is at the position, in bytes from the front: its count
-/// in 4 bytes, its bytes, and a zero byte outside the count.
+/// Returns whether the string is at the position: count, bytes and a zero byte.
 pub fn text_stands_at(bytes: &[u8], position: usize, content: &[u8]) -> bool
     ensures { IsTrue result ↔ Stands bytes.now (at position) (text content.now) }
 {
