@@ -1,4 +1,4 @@
--- What the accessors return is what was given.
+-- Accessors return what was written.
 use Rattle.std.proofs.Common.{◌≡◌, ℕ, ◌+◌, List, [], ◌∷◌, map, drop, refl, sym, subst, ap, Option, Some, None, Result, Ok, Err}
 use Rattle.std.specs.Prelude.{IsOkAnd, IsSomeAnd, MatchOption, ⊤}
 use Rattle.std.specs.Borrow.{Bor}
@@ -29,7 +29,6 @@ use Rattle.planus.proofs.ReadItems.{text_items_read_back, table_items_read_back}
 use Rattle.planus.proofs.ReadVectors.{plain_vectors_read_back, reference_vectors_read_back}
 use Rattle.planus.proofs.ReadVectors.{value_vectors_read_back}
 
--- what was found, or not, is what was given, or not
 pub found_one : {G T : Type 0} (IsRead : G → T → Type 0) (given : G) (r : Result (Option T) Error)
     → IsOkAnd r (λ found. IsSomeAnd found (IsRead given))
     → IsOkAnd r (SameIf IsRead (Some given))
@@ -82,7 +81,6 @@ module _ {X G T : Type 0} (kind : FieldKind X G T)
         (table_start table) r h;
   }
 
--- what holds of a value that was found, of which more follows
 module _ {T : Type 0} (P Q : T → Type 0) (more : (x : T) → P x → Q x) where
   pub then_found : (r : Result (Option T) Error) → IsOkAnd r (λ found. IsSomeAnd found P)
       → IsOkAnd r (λ found. IsSomeAnd found Q)
@@ -94,7 +92,6 @@ module _ {T : Type 0} (P Q : T → Type 0) (more : (x : T) → P x → Q x) wher
   then_read (Ok x) h = more x h
   then_read (Err e) h = elim h [ ]
 
--- The same for what a content is made of, of which more follows.
 made_of : {X Y T : Type 0} (reads : Reads T) (May : List ℕ → X → Type 0) (content : X → Content)
     (IsRead : List ℕ → X → T → Type 0) (part : Y → X) (MayBe : List ℕ → Y → Type 0)
     (IsSo : List ℕ → Y → T → Type 0) → ((B : List ℕ) (y : Y) → MayBe B y → May B (part y))
@@ -113,7 +110,6 @@ made_of reads May content IsRead part MayBe IsSo may more law = record {
       (law.or_default B read slot (part y) default holds (may B y may_be) type_ method offset r h);
 }
 
--- the texts of what was lent
 texts_of : (texts : List (Bor (List ℕ)))
     → map (λ one. text one.now) texts ≡ map text (map (λ one. one.now) texts)
 texts_of [] = refl
@@ -149,7 +145,6 @@ module _ (T : Type 0) {R : Type 0} (kind : PlainGhosts R) where
       (map (λ offset. offset.distance) offsets) vector is)
       (reference_vectors_read_back T kind size)
 
--- A table is read where a reference leads to it, whatever holds the view.
 module _ {T : Type 0} (table_of : T → Table) where
   pub view_led : (B : List ℕ) (contents : List (ℕ × Option Content)) (distance : ℕ)
       → TableStands B contents distance → (start f : ℕ)
@@ -170,7 +165,6 @@ module _ {T : Type 0} (table_of : T → Table) where
       stands.stands start f leads in
       read.fields (Err e) h
 
-  -- It is read as the view of it.
   pub view_is : (B : List ℕ) (distance : ℕ) → TableIsThere B distance → (start f : ℕ)
       → Leads B (start + f) (position_of B distance) → (r : Result T ErrorKind)
       → reads_as table_of (drop start B) start f r → IsOkAnd r (IsViewOf table_of B distance)
@@ -191,7 +185,6 @@ module _ {T : Type 0} (table_of : T → Table) where
           (references_lead B (start + f) distance
           (subst (λ (field : Field). FieldStands B (start + f) field) holds stands)) r h
 
--- Where a table was read, its view is returned.
 abbrev pub the_table : Table → Table
 the_table table = table
 

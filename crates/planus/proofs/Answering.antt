@@ -1,4 +1,4 @@
--- There is an answer to every list of steps: a step that isn't bad leads on, or comes to a part that is too large.
+-- Every list of steps has a result.
 use Rattle.std.proofs.Common.{◌≡◌, ℕ, ◌+◌, List, [], ◌∷◌, ◌++◌, length, replicate, map, refl, sym}
 use Rattle.std.proofs.Common.{ap, ◌∙◌, subst, Option, Some, None, Ok, Err, Bool, true, false}
 use Rattle.std.proofs.Common.{inl, inr, append_assoc, append-nil}
@@ -37,7 +37,6 @@ use Rattle.planus.proofs.Placed.{IsPlacedInTurn, AreFit, put_in_turn, values_are
 use Rattle.planus.proofs.TableFields.{fields_are}
 use Rattle.planus.proofs.Walking.{still_clean, too_large, bad_step}
 
--- a part is placed, or it is too large
 placed_or_not : (part : Part) (past : Past) → IsPlacedInTurn past → IsPowerOfTwo part.alignment
     → IsTooLarge part past.written ⊎ ((after : Written) × Placed part past.written after)
 placed_or_not part past h power =
@@ -52,7 +51,6 @@ placed_or_not part past h power =
       )
     ]
 
--- so it is with an entry, which may be found
 abbrev IsPutOrNot : Option ℕ → Part → Option Contents → Past → Type 0
 IsPutOrNot earlier part shared past =
     ((earlier ≡ None) × IsTooLarge part past.written) ⊎ ((distance : ℕ) × (after : Past) × PutsAfter earlier part shared past distance after)
@@ -71,7 +69,6 @@ put_or_not None part shared past h power =
           )
     ]
 
--- and with the entries of a step
 all_or_not : (switches : Switches) (entries : List Entry) (got : List ℕ) (past : Past) → AreFit entries → IsPlacedInTurn past
     → ComesToTooLargeEntry switches entries got past ⊎ ((all : List ℕ) × (after : Past) × PutsAll switches entries got past all after)
 all_or_not switches [] got past fit h = inr (got, past, (refl, refl))
@@ -90,7 +87,6 @@ all_or_not switches (entry ∷ entries) got past fit h =
           ]
     ]
 
--- what may be named as one of a kind is one
 is_of_kind : (kind : Kind) (of : Option Kind) → naming_fault kind (Some of) ≡ None → of ≡ Some kind
 is_of_kind kind None e = (cc)
 is_of_kind a_value (Some a_value) e = refl
@@ -98,7 +94,6 @@ is_of_kind a_value (Some a_union_vector) e = (cc)
 is_of_kind a_union_vector (Some a_value) e = (cc)
 is_of_kind a_union_vector (Some a_union_vector) e = refl
 
--- numbers without a fault are a list
 numbers_there : (width : Option Width) (items : List ℕ) → numbers_fault width items ≡ None → (v : Value) × (numbers_value width items ≡ Some v)
 numbers_there None items e = (cc)
 numbers_there (Some width) items e = by_test (list_all (fits_width width) items) e
@@ -110,7 +105,6 @@ numbers_there (Some width) items e = by_test (list_all (fits_width width) items)
     by_test true e = (list, refl)
     by_test false e = (cc)
 
--- where none of several has a fault, all are there
 all_are : {X Y : Type 0} (there : X → Option Y) (fault : X → Option Why) → ((x : X) → fault x ≡ None → (y : Y) × (there x ≡ Some y))
     → (xs : List X) → first_fault fault xs ≡ None → (ys : List Y) × (all_of there xs ≡ Some ys)
 all_are is_there fault made [] e = ([], refl)
@@ -120,7 +114,6 @@ all_are is_there fault made (x ∷ xs) e =
     let rest = all_are is_there fault made xs both.1 in
     (here.0 ∷ rest.0, rw (here.1, rest.1) refl)
 
--- The steps cs lead to a state; then comes a step that isn't bad.
 module _ (switches : Switches) (cs : List Step) (state : State) (run : LeadsTo switches nothing_written cs state) where
   kept : Kept switches cs cs state
   kept = run_kept switches cs state run
@@ -147,7 +140,6 @@ module _ (switches : Switches) (cs : List Step) (state : State) (run : LeadsTo s
       by_test true e = (cc)
       by_test false e = let there = value_there item.1 e in ((item.0, there.0), ap (option_map (λ distance. (item.0, distance))) there.1)
 
-  -- it puts down entries, each of which can be placed
   abbrev PutsFit : Step → Type 0
   PutsFit step = (entries : List Entry) × (entries_put state.listed step ≡ Some entries) × AreFit entries
 
@@ -186,7 +178,6 @@ module _ (switches : Switches) (cs : List Step) (state : State) (run : LeadsTo s
       )
   puts clear kind e = (cc)
 
-  -- it writes, or comes to a part that is too large
   written_or_not : (step : Step) → PutsFit step → StepTooLarge switches state step ⊎ ((after : State) × Writes switches state step after)
   written_or_not step put = elim (all_or_not switches put.0 [] state.past put.2 kept.placed) as (λ _. StepTooLarge switches state step ⊎ ((after : State) × Writes switches state step after)) [
     | inl far ↦ inl (record { entries = put.0; are = put.1; too_large = far })
@@ -211,7 +202,6 @@ module _ (switches : Switches) (cs : List Step) (state : State) (run : LeadsTo s
   on_or_too_large (finish front root identifier) e = written_or_not (finish front root identifier) (puts (finish front root identifier) refl e)
   on_or_too_large clear e = inr (cleared state, refl)
 
--- the answer, from where the steps cs lead to
 module _ (switches : Switches) (all : List Step) where
   answer_from : (cs rest : List Step) → all ≡ cs ++ rest → (state : State) → LeadsTo switches nothing_written cs state → first_bad cs ≡ None → IsAnswered switches all
   answer_from cs [] whole state run clean =

@@ -35,23 +35,19 @@ use Rattle.planus.proofs.Found.{around}
 use Rattle.planus.proofs.TableFields.{fields_push}
 use Rattle.planus.proofs.WrittenTables.{HasSize, field_written, slot_free, tables_are_written}
 
--- the values that are listed lie in the bytes, if those of the steps do
 pub reached_from : (bytes n : ℕ) (since : List (Option Named)) → ((i : ℕ) (d : Named) → slice_get since i ≡ Some (Some d) → IsReached bytes d)
     → AllByRecursion (λ one. IsReached bytes one.named) (listed_from n since)
 reached_from bytes n [] reached = tt
 reached_from bytes n (None ∷ since) reached = reached_from bytes (n + 1) since (λ i d e. reached (suc i) d e)
 reached_from bytes n (Some name ∷ since) reached = (reached 0 name refl, reached_from bytes (n + 1) since (λ i d e. reached (suc i) d e))
 
--- so do those of a replay
 pub values_reached : (replay : ReplayState) → AreReached replay → AllByRecursion (λ one. IsReached (length replay.builder.bytes) one.named) (values_listed replay)
 values_reached replay reached = reached_from (length replay.builder.bytes) replay.first (names replay) reached
 
--- what fields declare, with one more
 declared_push : (all : List (ℕ × Field)) (x : ℕ × Field) → declared_of (all ++ x ∷ []) ≡ declared_of all ++ record { slot = x.0; size = field_size x.1; alignment = field_alignment x.1 } ∷ []
 declared_push [] x = refl
 declared_push (entry ∷ all) x = ap (λ (more : List Declared). record { slot = entry.0; size = field_size entry.1; alignment = field_alignment entry.1 } ∷ more) (declared_push all x)
 
--- a slot that is used once isn't used before
 last_other : (all : List (ℕ × Field)) (x : ℕ × Field) (slot : ℕ) → field_at (all ++ x ∷ []) slot ≡ None → (x.0 == slot) ≡ false
 last_other [] x slot e = by_test (x.0 == slot) e
   where
@@ -71,7 +67,6 @@ unused_before (entry ∷ all) x from once =
     let back : (entry.0 == x.0) ≡ false = grind (arith, nat_tests, other) in
     rw back (unused_before all x (from + field_size entry.1) once.1)
 
--- the slots of fields are looked at one by one
 any_slot : (fields : List code.Field) (slot : ℕ) → list_any (λ other. other == slot) (slots_of (map bare_field fields)) ≡ list_any (λ field. field.slot == slot) fields
 any_slot [] slot = refl
 any_slot (field ∷ fields) slot = ap (λ b. (field.slot == slot) || b) (any_slot fields slot)
@@ -91,7 +86,6 @@ module _ (fields : List code.Field) (slot : ℕ) (small : slot ≤ 255) where
   pub slot_is_free : false ≡ list_any (λ field. field.slot == slot) fields → slot_fault slots slot ≡ None
   slot_is_free free = not_big ∙ ap (λ b. if b then Some SlotTwice else None) (any_slot fields slot ∙ sym free)
 
--- A writer was told the fields so far, the last of which has this alignment.
 pub record Declares (replay : ReplayState) (fields : List (ℕ × FieldStep)) (writer : Writer) (before : ℕ) : Type 0 where
   pub all : List (ℕ × Field)
   pub are : fields_of (values_listed replay) [] greatest_field fields ≡ Some all
@@ -100,14 +94,12 @@ pub record Declares (replay : ReplayState) (fields : List (ℕ × FieldStep)) (w
   pub long : length writer.vtable ≡ 516
   pub last : before ≡ last_alignment greatest_field fields
 
--- what a replay prepares, by what its steps may name
 pub prepared_here : (replay : ReplayState) (earlier : NamedSteps) (content : FieldStep) (answer : Result PreparedField Why) → earlier.first ≡ replay.first → earlier.offsets.now ≡ replay.offsets.items
     → PreparesField earlier.first (map name_of earlier.offsets.now) content answer → PreparesField replay.first (names replay) content answer
 prepared_here replay earlier content answer first offsets h =
     subst (λ (os : List (Option Written)). PreparesField replay.first (map name_of os) content answer) offsets
     (subst (λ n. PreparesField n (map name_of earlier.offsets.now) content answer) first h)
 
--- the first fault of all fields is one of the field behind those so far
 module _ (replay : ReplayState) (all : List code.Field) (i : ℕ) (x : code.Field) (step : take (i + 1) all ≡ take i all ++ x ∷ []) (writer : Writer) (before : ℕ)
     (so_far : Declares replay (map bare_field (take i all)) writer before) where
   abbrev fields : List (ℕ × FieldStep)
@@ -127,7 +119,6 @@ module _ (replay : ReplayState) (all : List code.Field) (i : ℕ) (x : code.Fiel
       refused why (ap (λ o. option_or o (option_or (content_fault (name_fault replay) (content_of x.value)) (rising_fault (last_alignment greatest_field fields) (alignment_of (content_of x.value))))) good
       ∙ ap (λ o. option_or o (rising_fault (last_alignment greatest_field fields) (alignment_of (content_of x.value)))) bad)
 
--- one field more, nothing of which is wrong
 module _ (replay : ReplayState) (reached : AreReached replay) (fields : List (ℕ × FieldStep)) (writer : Writer) (before : ℕ) (so_far : Declares replay fields writer before)
     (x : ℕ × FieldStep) (field : Field) (slot_good : slot_fault (slots_of fields) x.0 ≡ None) (is : field_of (values_listed replay) x.1 ≡ Some field)
     (good : content_fault (name_fault replay) x.1 ≡ None) where
@@ -138,7 +129,6 @@ module _ (replay : ReplayState) (reached : AreReached replay) (fields : List (�
   pub alignment_is : field_alignment field ≡ alignment_of x.1
   alignment_is = size_known.1
 
-  -- it rises, or it doesn't
   pub rises : before < field_alignment field → field_fault (name_fault replay) (slots_of fields) (last_alignment greatest_field fields) x ≡ Some RisingAlignment
   rises lt =
       let above : before < alignment_of x.1 = subst (λ a. before < a) alignment_is lt in
@@ -199,7 +189,6 @@ module _ (replay : ReplayState) (reached : AreReached replay) (fields : List (�
         last_push n [] y = refl
         last_push n (z ∷ xs) y = last_push (alignment_of z.1) xs y
 
--- the same, of the fields up to one more
 pub declared_next : (replay : ReplayState) (all : List code.Field) (i : ℕ) (x : code.Field) → take (i + 1) all ≡ take i all ++ x ∷ [] → (writer : Writer) (before alignment : ℕ) → before ≡ alignment
     → Declares replay (map bare_field (take i all) ++ bare_field x ∷ []) writer alignment → Declares replay (map bare_field (take (i + 1) all)) writer before
 declared_next replay all i x step writer before alignment same so_far =

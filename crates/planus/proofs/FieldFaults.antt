@@ -1,4 +1,4 @@
--- The faults of a table's fields come one after another.
+-- The errors of a table's fields, one after another.
 use Rattle.std.proofs.Common.{◌≡◌, ℕ, List, [], ◌∷◌, ◌++◌, refl, ap, ◌∙◌, Option, Some, None}
 use Rattle.std.proofs.Common.{append_assoc, append-nil, sym}
 use Rattle.std.specs.Option.{option_or}
@@ -9,7 +9,6 @@ use Rattle.planus.specs.TableChecks.{content_fault, field_fault, fields_fault}
 use Rattle.planus.specs.inner.Declaring.{slots_of}
 use Rattle.planus.specs.declared.faults.Why.{Why}
 
--- the faults are the same by what is the same for each step that is named
 module _ (f g : Kind → ℕ → Option Why) (same : (kind : Kind) (n : ℕ) → f kind n ≡ g kind n) where
   same_content : (content : FieldStep) → content_fault f content ≡ content_fault g content
   same_content (number_field width n) = refl
@@ -23,18 +22,15 @@ module _ (f g : Kind → ℕ → Option Why) (same : (kind : Kind) (n : ℕ) →
       ap (λ o. option_or (option_or (slot_fault slots entry.0) (option_or o (rising_fault before (alignment_of entry.1)))) (fields_fault f (slots ++ entry.0 ∷ []) (alignment_of entry.1) fields)) (same_content entry.1)
       ∙ ap (option_or (field_fault g slots before entry)) (same_fields (slots ++ entry.0 ∷ []) (alignment_of entry.1) fields)
 
--- none of two has a fault, and so has neither
 pub none_of : (first rest : Option Why) → option_or first rest ≡ None → (first ≡ None) × (rest ≡ None)
 none_of None rest e = (refl, e)
 none_of (Some why) rest e = (cc)
 
--- the alignment of the last field, or this one
 abbrev pub last_alignment : ℕ → List (ℕ × FieldStep) → ℕ
 last_alignment before [] = before
 last_alignment before (entry ∷ fields) = last_alignment (alignment_of entry.1) fields
 
 module _ (fault : Kind → ℕ → Option Why) where
-  -- what is wrong behind fields without a fault
   pub faults_behind : (slots : List ℕ) (before : ℕ) (xs rest : List (ℕ × FieldStep)) → fields_fault fault slots before xs ≡ None
       → fields_fault fault slots before (xs ++ rest) ≡ fields_fault fault (slots ++ slots_of xs) (last_alignment before xs) rest
   faults_behind slots before [] rest none = ap (λ all. fields_fault fault all before rest) (sym (append-nil slots))
@@ -44,14 +40,12 @@ module _ (fault : Kind → ℕ → Option Why) where
       ∙ faults_behind (slots ++ entry.0 ∷ []) (alignment_of entry.1) xs rest both.1
       ∙ ap (λ all. fields_fault fault all (last_alignment (alignment_of entry.1) xs) rest) (append_assoc slots (entry.0 ∷ []) (slots_of xs))
 
-  -- the first fault is that behind those without one
   pub field_behind : (slots : List ℕ) (before : ℕ) (xs : List (ℕ × FieldStep)) (x : ℕ × FieldStep) (rest : List (ℕ × FieldStep)) (why : Why) → fields_fault fault slots before xs ≡ None
       → field_fault fault (slots ++ slots_of xs) (last_alignment before xs) x ≡ Some why → fields_fault fault slots before (xs ++ x ∷ rest) ≡ Some why
   field_behind slots before xs x rest why none e =
       faults_behind slots before xs (x ∷ rest) none
       ∙ ap (λ o. option_or o (fields_fault fault ((slots ++ slots_of xs) ++ x.0 ∷ []) (alignment_of x.1) rest)) e
 
-  -- and there is none still
   pub no_more : (slots : List ℕ) (before : ℕ) (xs : List (ℕ × FieldStep)) (x : ℕ × FieldStep) → fields_fault fault slots before xs ≡ None
       → field_fault fault (slots ++ slots_of xs) (last_alignment before xs) x ≡ None → fields_fault fault slots before (xs ++ x ∷ []) ≡ None
   no_more slots before xs x none e = faults_behind slots before xs (x ∷ []) none ∙ ap (λ o. option_or o None) e

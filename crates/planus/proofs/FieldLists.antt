@@ -19,7 +19,6 @@ use Rattle.planus.specs.lemmas.PreparingLaws.{entries_append}
 use Rattle.planus.specs.TableFields.{field_in, size_if, item_if, IsUnused}
 use Rattle.planus_write.specs.FieldItems.{IsItem}
 
--- their sizes
 pub total_append : (all others : List Declared)
     → total_size (all ++ others) ≡ total_size all + total_size others
 total_append [] others = omega arith
@@ -31,7 +30,6 @@ size_append fields others =
     ap total_size (entries_append fields others)
     ∙ total_append (declared_of fields) (declared_of others)
 
--- and their bytes
 bytes_append : (fields others : List (ℕ × Field)) (place : ℕ)
     → body_bytes place (fields ++ others)
     ≡ body_bytes place fields ++ body_bytes (place - body_size fields) others
@@ -47,7 +45,6 @@ bytes_append (field ∷ fields) others place =
     ∙ ap (λ n. (field_item field.1 place ++ body_bytes (place - field_size field.1) fields) ++ body_bytes n others)
     shift
 
--- a slot other than the one that is declared stays unused
 pub still_unused : (writer : Writer) (one : Declared) (other : ℕ) → (other ≡ one.slot → ⊥)
     → IsUnused writer one.slot → IsUnused writer other → IsUnused (with_entry one writer) other
 still_unused writer one other apart unused also =
@@ -75,13 +72,11 @@ zeros_stand n p le =
     let zero_byte : ℕ = 0 in
     ap (take 2) (drop-replicate p n zero_byte) ∙ ap (λ m. take 2 (replicate m zero_byte)) left
 
--- nothing is declared in a new writer
 pub blank_unused : (writer : Writer) (N slot : ℕ) → writer ≡ blank N → slot_position slot + 2 ≤ N
     → IsUnused writer slot
 blank_unused writer N slot is_blank inside =
     subst (λ writer. IsUnused writer slot) (sym is_blank) (zeros_stand N (slot_position slot) inside)
 
--- a writer that was told the entries of fields, and then that of an item
 pub told_item : {A : Type 0} (slot : ℕ) (field : A → Field) (size alignment reach : ℕ) (leaves : Item)
     (value : A) → IsItem size alignment leaves reach (field value)
     → (writer : Writer) (fields : List (ℕ × Field))
@@ -94,14 +89,12 @@ told_item slot field size alignment reach leaves value item writer fields told =
     (subst (λ (n : ℕ). WasTold writer (declared_of fields ++ record { slot = slot; size = size; alignment = n } ∷ []))
     (sym item.alignment_is) told))
 
--- the size of one that may be absent
 pub size_of_field : {A : Type 0} (slot : ℕ) (field : A → Field) (size : ℕ) (value : Option A)
     → ((a : A) → field_size (field a) ≡ size)
     → body_size (field_in slot field value) ≡ size_if size value
 size_of_field slot field size None sizes = refl
 size_of_field slot field size (Some a) sizes = let e = sizes a in omega (arith, e)
 
--- fields are written, and then others
 pub both_written : (fields others : List (ℕ × Field)) (old between new : ObjectBody)
     → between ≡ wrote (body_size fields) (λ place. body_bytes place fields) old
     → new ≡ wrote (body_size others) (λ place. body_bytes place others) between
@@ -113,7 +106,6 @@ both_written fields others old between new first rest =
     (bytes_append fields others old.place)
     ∙ ap (λ n. wrote n (λ place. body_bytes place (fields ++ others)) old) (sym (size_append fields others))
 
--- one field that may be absent is written
 pub one_written : {A : Type 0} (slot : ℕ) (field : A → Field) (leaves : A → Item) (reach : A → ℕ)
     (size alignment : ℕ)
     → ((a : A) → IsItem size alignment (leaves a) (reach a) (field a)) → (value : Option A)

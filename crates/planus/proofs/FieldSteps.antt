@@ -1,4 +1,4 @@
--- One field is prepared, and then the others are written behind it.
+-- One field is prepared, and then the others after it.
 use Rattle.std.proofs.Common.{◌≡◌, ℕ, List, [], ◌∷◌, ◌++◌, refl, sym, subst, ap, ◌∙◌, Option, Some, None, Result, Ok, Err, inl, inr, append_assoc}
 use Rattle.std.specs.Prelude.{IfOk}
 use Rattle.std.specs.Option.{option_map}
@@ -19,13 +19,11 @@ use Rattle.planus.specs.Preparing.{WritesFields}
 use Rattle.planus.specs.TableFields.{all_of, field_in}
 use Rattle.planus.proofs.RuledTables.{contents_both}
 
--- what holds of an answer's value, of which more follows
 pub if_ok : {T E : Type 0} {P Q : T → Type 0} (r : Result T E) → ((x : T) → P x → Q x) → IfOk r P
     → IfOk r Q
 if_ok (Ok x) more holds = more x holds
 if_ok (Err e) more holds = tt
 
--- what comes first was done, and then the rest
 pub goes_on : {A B C : Type 0} (first : Outcome A) (second : A → Outcome B) (last : B → Outcome C)
     (old between : State) (a : A) (answer : Result C BuildError) (new : State)
     → first old (Ok a) between → then_does (second a) last between answer new
@@ -37,7 +35,6 @@ goes_on first second last old between a (Err error) new done (inl refused) =
 goes_on first second last old between a (Err error) new done (inr rest) =
     inr (rest.0, rest.1, (a, between, done, rest.2), rest.3)
 
--- or what comes first was refused
 pub is_refused : {A B C : Type 0} (first : Outcome A) (second : A → Outcome B) (last : B → Outcome C)
     (old : State) (error : BuildError) (answer : Result C BuildError) (new : State)
     → answer ≡ Err error → first old (Err error) new
@@ -45,7 +42,6 @@ pub is_refused : {A B C : Type 0} (first : Outcome A) (second : A → Outcome B)
 is_refused first second last old error answer new same refused =
     subst (λ answer. then_does (then_does first second) last old answer new) (sym same) (inl (inl refused))
 
--- fields, one by one, and one more
 all_append : (ts ls : List (List (ℕ × Field))) → all_of (ts ++ ls) ≡ all_of ts ++ all_of ls
 all_append [] ls = refl
 all_append (t ∷ ts) ls =
@@ -62,7 +58,6 @@ pub all_in_order : (ts ls : List (List (ℕ × Field))) (there last : List (ℕ 
 all_in_order ts ls there last same same_last =
     all_append ts ls ∙ ap (λ fields. fields ++ all_of ls) same ∙ ap (λ fields. there ++ fields) same_last
 
--- a field that is made of what was prepared
 pub made_of : {A B : Type 0} (slot : ℕ) (of : A → B) (field : B → Field) (field_of : A → Field)
     → ((a : A) → field (of a) ≡ field_of a) → (from : Option A) (made : Option B)
     → made ≡ option_map of from → field_in slot field_of from ≡ field_in slot field made
@@ -73,8 +68,6 @@ made_of {A} {B} slot of field field_of is from made same =
     mapped None = refl
     mapped (Some a) = ap (λ (field : Field). (slot, field) ∷ []) (sym (is a))
 
--- Once one field is prepared, or several, and hold these contents, what the others come to behind
--- them is what all come to.
 pub more_kept : (there last fields lasts there_after last_after : List (ℕ × Field))
     (contents last_contents rest rest_last : List (ℕ × Option Content)) (old between new : State)
     (distance : ℕ) → there_after ≡ there ++ fields → last_after ≡ last ++ lasts
@@ -106,7 +99,6 @@ more_kept there last fields lasts there_after last_after contents last_contents 
       ),
     )
 
--- fields that are answered, and their table
 pub answered : {T : Type 0} (all : List (List (ℕ × Field))) (old : State) (answer : Result (Offset T) BuildError)
     (new : State) → WritesFields all old answer new
     → then_does (Answers all) WritesFields old answer new

@@ -25,7 +25,6 @@ use Rattle.planus.proofs.NamedKinds.{GoodAreNamed}
 use Rattle.planus.proofs.Lists.{named_value}
 use Rattle.planus.proofs.TableFields.{fields_made, fields_are}
 
--- Fields of a table, with one of them.
 pub record Apart (listed : List Listed) (slots : List ℕ) (before : ℕ) (xs : List (ℕ × FieldStep)) (x : ℕ × FieldStep) (all : List (ℕ × Field)) : Type 0 where
   pub front : List (ℕ × Field)
   pub field : Field
@@ -66,7 +65,6 @@ taken_apart listed slots before (entry ∷ xs) x rest all e =
       whole = sym made.5 ∙ ap (λ (more : List (ℕ × Field)). (entry.0, made.1) ∷ more) further.whole;
     }
 
--- the body of some fields, one more, and others
 pub size_around : (front : List (ℕ × Field)) (x : ℕ × Field) (back : List (ℕ × Field)) → body_size (front ++ x ∷ back) ≡ body_size front + (field_size x.1 + body_size back)
 size_around [] x back = omega arith
 size_around (first ∷ front) x back = let rest = size_around front x back in omega (arith, rest)
@@ -82,7 +80,6 @@ pub reach_inside : (front : List (ℕ × Field)) (x : ℕ × Field) (back : List
 reach_inside [] x back = omega arith
 reach_inside (first ∷ front) x back = let rest = reach_inside front x back in omega (arith, rest)
 
--- what may be named is listed
 named_good : (first : ℕ) (since : List (Option Named)) → GoodAreNamed (listed_from first since) (fault_since first since)
 named_good first since kind step none = by_case (written_at first since step) refl none
   where
@@ -106,7 +103,6 @@ named_good first since kind step none = by_case (written_at first since step) re
         finish_good a_union_vector e = (cc)
     by_case (Some (Some name)) is e = (name, named_value first since step name is, by_kind kind (kind_named name) e)
 
--- nothing is wrong with what one of the fields holds, where there is no fault
 content_apart : (fault : Kind → ℕ → Option Why) (slots : List ℕ) (before : ℕ) (xs : List (ℕ × FieldStep)) (x : ℕ × FieldStep) (rest : List (ℕ × FieldStep))
     → fields_fault fault slots before (xs ++ x ∷ rest) ≡ None → content_fault fault x.1 ≡ None
 content_apart fault slots before [] x rest e =
@@ -117,13 +113,11 @@ content_apart fault slots before (entry ∷ xs) x rest e =
     content_apart fault (slots ++ entry.0 ∷ []) (alignment_of entry.1) xs x rest
     (none_of (field_fault fault slots before entry) (fields_fault fault (slots ++ entry.0 ∷ []) (alignment_of entry.1) (xs ++ x ∷ rest)) e).1
 
--- The first fields of a table are written, and nothing behind them.
 pub record Filled (body : TableBody) (index : ℕ) (old new : ObjectBody) : Type 0 where
   pub front : List (ℕ × Field)
   pub are : fields_of (listed_since body) [] greatest_field (map bare_field (take index body.fields.now)) ≡ Some front
   pub written : new ≡ wrote (body_size front) (λ place. body_bytes place front) old
 
--- the fields of a table without a fault
 pub fields_are_in : (body : TableBody) → fields_of (listed_since body) [] greatest_field (map bare_field body.fields.now) ≡ Some (fields_in body)
 fields_are_in body =
     let made = fields_are (listed_since body) (fault_since body.earlier.first (map name_of body.earlier.offsets.now)) (named_good body.earlier.first (map name_of body.earlier.offsets.now)) [] greatest_field
@@ -140,7 +134,6 @@ module _ (body : TableBody) (i : ℕ) (x : code.Field) (step : take (i + 1) body
   parts : map bare_field (take i body.fields.now) ++ bare_field x ∷ behind ≡ map bare_field body.fields.now
   parts = sym (map-append bare_field (take i body.fields.now) (x ∷ drop (i + 1) body.fields.now)) ∙ ap (map bare_field) (around body.fields.now i x step)
 
-  -- nothing is wrong with the field
   content_good : content_fault (fault_since body.earlier.first (map name_of body.earlier.offsets.now)) (content_of x.value) ≡ None
   content_good =
       content_apart (fault_since body.earlier.first (map name_of body.earlier.offsets.now)) [] greatest_field (map bare_field (take i body.fields.now)) (bare_field x) behind
@@ -166,7 +159,6 @@ module _ (body : TableBody) (i : ℕ) (x : code.Field) (step : take (i + 1) body
     size_is : body_size (fields_in body) ≡ body_size filled.front + (field_size field + body_size apart.back)
     size_is = ap body_size whole ∙ size_around filled.front (x.slot, field) apart.back
 
-    -- there is room for it, and it may be written where it comes
     pub room : old.remaining ≡ body_size (fields_in body) → field_size field ≤ new.remaining
     room size =
         let left = ap (λ (b : ObjectBody). b.remaining) filled.written in
@@ -179,7 +171,6 @@ module _ (body : TableBody) (i : ℕ) (x : code.Field) (step : take (i + 1) body
         = subst (λ fields. field_reach field ≤ fields_reach fields) (sym whole) (reach_inside filled.front (x.slot, field) apart.back) in
         let place = ap (λ (b : ObjectBody). b.place) filled.written in let all = size_is in omega (arith, le, far, place, all)
 
-    -- and then one field more is written
     pub filled_on : (after : ObjectBody) → after ≡ wrote (field_size field) (field_item field) new → Filled body (i + 1) old after
     filled_on after one_more =
         let size : body_size filled.front + field_size field ≡ body_size (filled.front ++ (x.slot, field) ∷ []) = (let e = size_around filled.front (x.slot, field) [] in omega (arith, e)) in

@@ -9,7 +9,6 @@ use Rattle.planus.specs.Steps.{Step, Front, text, bytes, numbers as numbers_step
 use Rattle.planus.specs.Runs.{Finish, Listed, value_of}
 use Rattle.planus.specs.Headline.{FinishHolds, is_finish, finishes_from, IsFinishOf, AreFinishesOf}
 
--- a step that writes a value is no finish
 pub is_no_finish : (listed : List Listed) (step : Step) (v : Value) → value_of listed step ≡ Some v → is_finish step ≡ false
 is_no_finish listed (text content) v e = refl
 is_no_finish listed (bytes content) v e = refl
@@ -20,12 +19,10 @@ is_no_finish listed (table fields) v e = refl
 is_no_finish listed (finish front root identifier) v e = (cc)
 is_no_finish listed clear v e = refl
 
--- one step more that is no finish
 pub as_many : (n : ℕ) (done : List Step) (step : Step) → is_finish step ≡ false → finishes_from n (done ++ step ∷ []) ≡ finishes_from n done
 as_many n [] step e = ap (λ (last : Bool). if last then n ∷ [] else []) e
 as_many n (first ∷ done) step e = ap (λ rest. if is_finish first then n ∷ rest else rest) (as_many (n + 1) done step e)
 
--- and one that is one
 pub one_more : (n : ℕ) (done : List Step) (front : Front) (root : ℕ) (identifier : Option (List ℕ))
     → finishes_from n (done ++ finish front root identifier ∷ []) ≡ finishes_from n done ++ (n + length done) ∷ []
 one_more n [] front root identifier = ap (λ m. m ∷ []) (let e : n ≡ n + 0 = omega arith in e)

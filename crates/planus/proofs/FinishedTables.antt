@@ -1,5 +1,4 @@
--- A table that is kept stands in what a finish gives, and a reference leads to the one that is its
--- root.
+-- A stored table is encoded in a finish, also as its root.
 use Rattle.std.proofs.Common.{◌≡◌, ℕ, ◌+◌, ◌≤◌, List, [], ◌++◌, length, drop, replicate, true, Option}
 use Rattle.std.proofs.Common.{None, Ok, sym, subst, ap, ◌∙◌, refl, arith}
 use Rattle.std.proofs.lemmas.List.{drop-append-le}
@@ -32,7 +31,6 @@ tables_stay before after contents distance extends is = record {
   table_kept = kept_stays before after _ (named_at distance) extends is.table_kept;
 }
 
--- it stands behind whatever is put in front of what was written
 stands_behind : (past : Past) (front : List ℕ) (contents : List (ℕ × Option Content)) (distance : ℕ)
     → TableIsKept past contents distance → are_apart contents ≡ true
     → TableStands (front ++ past.written.bytes) contents distance
@@ -45,7 +43,6 @@ stands_behind past front contents distance kept apart =
     kept_tables_stand behind contents distance (tables_stay past behind contents distance extends kept)
     apart
 
--- Words of this size were put in front of what was written, and there a table was kept.
 module _ (size : ℕ) (words : ℕ → List ℕ) (old : State) (past : Past) (is_past : IsPast old past)
     (new : State) (puts : PutsInFront (front_entry size words) old (length new.bytes) new) where
   abbrev after : Past
@@ -79,12 +76,10 @@ module _ (size : ℕ) (words : ℕ → List ℕ) (old : State) (past : Past) (is
         (sym (ap (drop n) new_bytes ∙ drop-append-le n front past.written.bytes within))
         (stands_behind past (drop n front) contents distance kept apart)
 
--- the size word and the root word are longer than the size word
 four_inside : (root : ℕ) (identifier : Option (List ℕ)) (place : ℕ) (pad : List ℕ)
     → 4 ≤ length (sized_words root identifier place ++ pad)
 four_inside root identifier place pad = omega arith
 
--- Any root is prepared first, and that grows the builder.
 module _ {X T : Type 0} (may : X → State → Type 0) (outcome : X → Outcome (Offset T))
     (lawful : IsLawful may outcome (λ offset. offset.distance)) where
   pub finishes_keep_tables : FinishesKeepTables may outcome
@@ -114,7 +109,6 @@ module _ {X T : Type 0} (may : X → State → Type 0) (outcome : X → Outcome 
             still apart 4 (four_inside offset.distance identifier)),
       )
 
--- The root of a finish is an offset that lies in what was written.
 module _ {T : Type 0} (past : Past) (state : State) (offset : Offset T) (is_past : IsPast state past)
     (reached : offset.distance ≤ length state.bytes) (root : Offset T) (between : State)
     (prepared : IsPrepared offset state (Ok root) between) where

@@ -1,4 +1,4 @@
--- The items of a vector are those that it is of.
+-- The items of a vector that was written.
 use Rattle.std.proofs.Common.{◌≡◌, ℕ, ◌*◌, List, length, sym, subst, arith, Option, Some, None, Result, Ok, Err, slice_get}
 use Rattle.std.specs.Prelude.{IsOkAnd, IsSomeAnd}
 use Rattle.std.specs.Borrow.{Bor}
@@ -24,7 +24,6 @@ use Rattle.planus.specs.declared.tables.table_ref.TableRef.{TableRef}
 use Rattle.planus.proofs.Accessors.{the_table}
 
 module _ {T R : Type 0} {kind : PlainGhosts R} where
-  -- what the call of the vector returns, the error of an item as it is
   abbrev pub Gets : {A : Type 0} → Reads A → List ℕ → VectorOf (SliceView T R kind) → ℕ
       → Option (Result A Error) → Type 0
   Gets reads name = GetsItem (λ (v : VectorOf (SliceView T R kind)). count_of v)
@@ -51,7 +50,6 @@ module _ {T R : Type 0} {kind : PlainGhosts R} where
         (sym h.1.2) h.1.1,
   )
 
-  -- of a position that the vector has
   item_there : {A X : Type 0} (reads : Reads A) (name : List ℕ)
       (vector : VectorOf (SliceView T R kind)) (index : ℕ) (r : Option (Result A Error))
       (xs : List X) (x : X) (P : A → Type 0) → IsItem reads name vector index r
@@ -107,7 +105,6 @@ module _ {T R : Type 0} {kind : PlainGhosts R} where
             (λ read h. view_is_of K B distance vector index distances are at there name read h);
       }
 
--- Such an item is one of another view of the same table.
 module _ {T R V : Type 0} {kind : PlainGhosts R} (K : Type 0) (name : List ℕ) (table_of : V → Table)
     (vector : VectorOf (SliceView T R kind)) (index : ℕ) where
   abbrev IsOne : Option (Result (TableRef K) Error) → Type 0

@@ -1,4 +1,4 @@
--- What every run keeps, by the definitions alone.
+-- Invariants of every run.
 use Rattle.std.proofs.Common.{◌≡◌, ℕ, ◌+◌, ◌-◌, ◌≤◌, List, [], ◌∷◌, ◌++◌, length, take, drop}
 use Rattle.std.proofs.Common.{replicate}
 use Rattle.std.proofs.Common.{refl, sym, ap, ◌∙◌, subst, arith, Option, Some, None, append_assoc}
@@ -61,15 +61,13 @@ use Rattle.planus.proofs.Lists.{all_more, distance_more, union_more, named_more,
 use Rattle.planus.proofs.Naming.{named_push, named_last, named_back, named_inside, none_named}
 use Rattle.planus.proofs.Naming.{not_behind_clear}
 
--- every text of the steps is UTF-8
 abbrev pub AllUtf8 : List Step → Type 0
 AllUtf8 all = (i : ℕ) (content : List ℕ) → slice_get all i ≡ Some (text content) → IsUtf8 content
 
--- if a step is a text, that is UTF-8
 abbrev TextIsUtf8 : Step → Type 0
 TextIsUtf8 step = (content : List ℕ) → step ≡ text content → IsUtf8 content
 
--- A value is kept under what it is named by, and no clear is behind its step.
+-- No clear is after the step of a stored value.
 pub record ValueKept (all done : List Step) (past : Past) (listed : List Listed) (one : Listed) : Type 0 where
   pub step : Step
   pub value : Value
@@ -80,11 +78,9 @@ pub record ValueKept (all done : List Step) (past : Past) (listed : List Listed)
   pub well_formed : AllUtf8 all → WellFormed value
   pub kept : IsKept past value one.named
 
--- so it lies in the bytes
 pub value_reaches : (all done : List Step) (past : Past) (listed : List Listed) (one : Listed) → ValueKept all done past listed one → IsReached (length past.written.bytes) one.named
 value_reaches all done past listed one h = record { distance = h.kept.reached; tags = h.kept.tags_reached }
 
--- each step that may be named and writes a value is listed with one of its kind
 abbrev pub ListsAll : List Step → List Listed → Type 0
 ListsAll done listed = (n : ℕ) (step : Step) (kind : Kind) → named_step done n ≡ Some step → kind_of step ≡ Some kind
     → (named : Named) × (named_at listed n ≡ Some named) × (kind_named named ≡ kind)
@@ -103,11 +99,9 @@ pub leads_on : (switches : Switches) (before between after : State) (steps : Lis
 leads_on switches before between after [] step leads advances = (after, subst (λ s. Advances switches s step after) leads advances, refl)
 leads_on switches before between after (first ∷ steps) step leads advances = (leads.0, leads.1, leads_on switches leads.0 between after steps step leads.2 advances)
 
--- one step more
 counted : (done : List Step) (step : Step) (before after : ℕ) → after ≡ before + 1 → before ≡ length done → after ≡ length (done ++ step ∷ [])
 counted done step before after next h = omega (arith, next, h, length-append done (step ∷ []))
 
--- the value of a step stays so where more values are listed
 value_stays : (listed more : List Listed) (step : Step) (v : Value) → value_of listed step ≡ Some v → value_of (listed ++ more) step ≡ Some v
 value_stays listed more (text content) v e = e
 value_stays listed more (bytes content) v e = e
@@ -137,7 +131,6 @@ value_moves all done step before after listed more kind extends one v = record {
   kept = kept_stays before after v.value one.named extends v.kept;
 }
 
--- a value that a step puts down is kept
 module _ (switches : Switches) (all done : List Step) (step : Step) (v : Value) (before after : State) (kind : is_clear step ≡ false) (there : slice_get all (length done) ≡ Some step)
     (is_value : value_of before.listed step ≡ Some v) (written : IsWritten (length before.past.written.bytes) v) (well_formed : AllUtf8 all → WellFormed v) (got : List ℕ)
     (puts : PutsAll switches (entries_of v) [] before.past got after.past) (listed : after.listed ≡ before.listed ++ record { step = before.next; named = named_by v got } ∷ [])
@@ -167,7 +160,6 @@ module _ (switches : Switches) (all done : List Step) (step : Step) (v : Value) 
       (all_weaker (ValueKept all done before.past before.listed) (ValueKept all (done ++ step ∷ []) after.past (before.listed ++ added ∷ []))
       (value_moves all done step before.past after.past before.listed (added ∷ []) kind law.2) before.listed h.values) new_value
 
-  -- no other value has its number
   none_yet : named_at before.listed (length done) ≡ None
   none_yet = by_name (named_at before.listed (length done)) refl
     where
@@ -212,18 +204,15 @@ moved_nowhere : (p : Position) → moved 0 p ≡ p
 moved_nowhere (at k) = ap at (omega arith)
 moved_nowhere (at_both kt kv) = ap (λ k. at_both k (0 + kv)) (let e : 0 + kt ≡ kt = omega arith in e) ∙ ap (at_both kt) (omega arith)
 
--- the value of a root lies in what was written
 pub root_behind : (all done : List Step) (before : State) (root to : ℕ) → AllByRecursion (ValueKept all done before.past before.listed) before.listed → value_at before.listed root ≡ Some to
     → to ≤ length before.past.written.bytes
 root_behind all done before root to values found =
     value_behind (ValueKept all done before.past before.listed) (length before.past.written.bytes) (value_reaches all done before.past before.listed) before.listed values root to found
 
--- what the words in front of a finish say
 abbrev pub FrontHolds : Front → List Step → ℕ → ℕ → Option (List ℕ) → Finish → Type 0
 FrontHolds front all root to identifier given =
     ReferenceStands given.bytes (root_at front) to × BytesStand given.bytes (root_at front + 4) (identifier_bytes identifier) × HoldsBySize front all root identifier given
 
--- what is given with the size in front holds in the bytes behind the size
 module _ (all done : List Step) (root to : ℕ) (identifier : Option (List ℕ)) (before after : State) (found : value_at before.listed root ≡ Some to)
     (distance : ℕ) (adds : Adds (sized_finish_part to identifier before.past.written.promises) None before.past distance after.past)
     (values : AllByRecursion (ValueKept all done before.past before.listed) before.listed) where
@@ -272,7 +261,6 @@ module _ (all done : List Step) (root to : ℕ) (identifier : Option (List ℕ))
         },
       )
 
--- a finish that is placed holds
 module _ (switches : Switches) (all done : List Step) (front : Front) (root to : ℕ) (identifier : Option (List ℕ)) (before after : State) (found : value_at before.listed root ≡ Some to)
     (size : ℕ) (words : ℕ → List ℕ) (as_many : (place : ℕ) → length (words place) ≡ size)
     (distance : ℕ) (adds : Adds (front_part size words before.past.written.promises) None before.past distance after.past)
@@ -358,7 +346,6 @@ module _ (switches : Switches) (all done : List Step) (front : Front) (root to :
         fewest = few;
       }
 
-  -- and no value is listed more
   lists_still : ListsAll (done ++ finish front root identifier ∷ []) (before.listed ++ [])
   lists_still n c of named is_kind = elim (named_back done (finish front root identifier) c n named) as (λ _. (name : Named) × (named_at (before.listed ++ []) n ≡ Some name) × (kind_named name ≡ of)) [
     | inl earlier ↦
@@ -387,7 +374,6 @@ module _ (switches : Switches) (all done : List Step) (front : Front) (root to :
         (are_push switches all (finishes_of done) before.finished (0 + length done) (record { bytes = new.bytes; places = before.listed }) (h.finished utf8) (is_finish_of utf8)));
   }
 
--- a clear keeps what was given
 clear_kept : (switches : Switches) (all done : List Step) (before : State) → Kept switches all done before → Kept switches all (done ++ clear ∷ []) (cleared before)
 clear_kept switches all done before h = record {
   numbered = counted done clear before.next (before.next + 1) refl h.numbered;
@@ -399,7 +385,6 @@ clear_kept switches all done before h = record {
   finished = λ utf8. subst (λ numbers. AreFinishesOf switches all numbers before.finished) (sym (as_many 0 done clear refl)) (h.finished utf8);
 }
 
--- a value that a step writes can be written, and reads back
 pub values_are_written : (switches : Switches) (all done : List Step) (step : Step) (before : State) → Kept switches all done before
     → (v : Value) → value_of before.listed step ≡ Some v → IsWritten (length before.past.written.bytes) v × (TextIsUtf8 step → WellFormed v)
 values_are_written switches all done (text content) before h v e =
@@ -425,7 +410,6 @@ values_are_written switches all done (table fields) before h v e =
 values_are_written switches all done (finish front root identifier) before h v e = (cc)
 values_are_written switches all done clear before h v e = (cc)
 
--- a step that writes a value
 written_kept : (switches : Switches) (all done : List Step) (step : Step) (before after : State) → is_clear step ≡ false
     → ((s : State) (past : Past) → finishes_added step s past ≡ []) → (writes : Writes switches before step after) → Advances switches before step after
     → option_map entries_of (value_of before.listed step) ≡ Some writes.entries → slice_get all (length done) ≡ Some step
@@ -495,11 +479,9 @@ leads_kept switches all done (step ∷ rest) e before after leads h =
 pub nothing_kept : (switches : Switches) (all : List Step) → Kept switches all [] nothing_written
 nothing_kept switches all = record { numbered = refl; placed = nothing_in_turn; seen = tt; values = tt; lists = λ n c of named is_kind. absurd (none_named n c named); run = refl; finished = λ _. tt }
 
--- what every run keeps
 pub run_kept : (switches : Switches) (steps : List Step) (end : State) → LeadsTo switches nothing_written steps end → Kept switches steps steps end
 run_kept switches steps end leads = leads_kept switches steps [] steps refl nothing_written end leads (nothing_kept switches steps)
 
--- a value of a run may be named, and is kept
 pub run_value : (switches : Switches) (steps : List Step) (end : State) → LeadsTo switches nothing_written steps end → (n : ℕ) (named : Named) → named_at end.listed n ≡ Some named
     → ValueKept steps steps end.past end.listed (record { step = n; named = named })
 run_value switches steps end leads n named found =

@@ -14,7 +14,6 @@ pub all_weaker : {X : Type 0} (P Q : X → Type 0) → ((x : X) → P x → Q x)
 all_weaker P Q weaker [] h = h
 all_weaker P Q weaker (x ∷ xs) h = (weaker x h.0, all_weaker P Q weaker xs h.1)
 
--- what holds of the images holds of what they are of
 pub all_unmapped : {X Y : Type 0} (P : Y → Type 0) (f : X → Y) (xs : List X) → AllByRecursion P (map f xs) → AllByRecursion (λ x. P (f x)) xs
 all_unmapped P f [] h = tt
 all_unmapped P f (x ∷ xs) h = (h.0, all_unmapped P f xs h.1)
@@ -40,7 +39,6 @@ same_number n = grind (arith, nat_tests)
 later_number : (n i : ℕ) → (n == n + suc i) ≡ false
 later_number n i = grind (arith, nat_tests)
 
--- what a step wrote is found by the number of the step
 pub found_at : (n : ℕ) (ds : List (Option Named)) (i : ℕ) (d : Named) → slice_get ds i ≡ Some (Some d) → named_at (listed_from n ds) (n + i) ≡ Some d
 found_at n [] i d e = (cc)
 found_at n (None ∷ ds) zero d e = (cc)
@@ -51,7 +49,6 @@ found_at n (Some x ∷ ds) zero d e =
 found_at n (Some x ∷ ds) (suc i) d e =
     rw (later_number n i) (subst (λ m. named_at (listed_from (n + 1) ds) m ≡ Some d) (let same : n + 1 + i ≡ n + suc i = omega arith in same) (found_at (n + 1) ds i d e))
 
--- by the number of the step alone
 pub named_value : (first : ℕ) (since : List (Option Named)) (step : ℕ) (name : Named) → written_at first since step ≡ Some (Some name) → named_at (listed_from first since) step ≡ Some name
 named_value first since step name h = by_test (nat_lt step first) refl h
   where
@@ -62,7 +59,6 @@ named_value first since step name h = by_test (nat_lt step first) refl h
         subst (λ n. named_at (listed_from first since) n ≡ Some name) (let at : first + (step - first) ≡ step = omega (arith, from) in at)
         (found_at first since (step - first) name e)
 
--- what holds of all that are listed holds of what is found
 pub all_named : (P : Listed → Type 0) (xs : List Listed) (k : ℕ) (m : Named) → AllByRecursion P xs → named_at xs k ≡ Some m → P (record { step = k; named = m })
 all_named P [] k m h e = (cc)
 all_named P (one ∷ xs) k m h e = by_test (λ later. all_named P xs k m h.1 later) (one.step == k) refl e
@@ -75,31 +71,26 @@ all_named P (one ∷ xs) k m h e = by_test (λ later. all_named P xs k m h.1 lat
         subst (λ (n : Named). P (record { step = k; named = n })) same (subst (λ n. P (record { step = n; named = one.named })) number h.0)
     by_test further false is e = further e
 
--- what is made of an option that is there
 pub made_of : {X Y : Type 0} (f : X → Y) (o : Option X) (y : Y) → option_map f o ≡ Some y → (x : X) × (o ≡ Some x) × (f x ≡ y)
 made_of f None y e = (cc)
 made_of f (Some x) y e = (x, refl, (let same : f x ≡ y = cc in same))
 
--- what is there after what is there
 pub made_after : {X Y : Type 0} (f : X → Option Y) (o : Option X) (y : Y) → option_and_then f o ≡ Some y → (x : X) × (o ≡ Some x) × (f x ≡ Some y)
 made_after f None y e = (cc)
 made_after f (Some x) y e = (x, refl, e)
 
--- what all of several are made of
 pub all_made : {Y : Type 0} (one : Option Y) (others : Option (List Y)) (all : List Y) → with_one one others ≡ Some all
     → (y : Y) × (more : List Y) × (one ≡ Some y) × (others ≡ Some more) × (y ∷ more ≡ all)
 all_made None others all h = (cc)
 all_made (Some y) None all h = (cc)
 all_made (Some y) (Some more) all h = (y, more, refl, refl, (let same : y ∷ more ≡ all = cc in same))
 
--- what is there of all is there of all by more
 pub all_more : {X Y : Type 0} (f g : X → Option Y) → ((x : X) (y : Y) → f x ≡ Some y → g x ≡ Some y) → (xs : List X) (ys : List Y) → all_of f xs ≡ Some ys → all_of g xs ≡ Some ys
 all_more f g more [] ys h = h
 all_more f g more (x ∷ xs) ys h =
     let both = all_made (f x) (all_of f xs) ys h in
     rw (more x both.0 both.2, all_more f g more xs both.1 both.3) (ap Some both.4)
 
--- and of one more
 pub all_of_push : {X Y : Type 0} (f : X → Option Y) (xs : List X) (ys : List Y) (x : X) (y : Y) → all_of f xs ≡ Some ys → f x ≡ Some y → all_of f (xs ++ x ∷ []) ≡ Some (ys ++ y ∷ [])
 all_of_push {Y = Y} f [] ys x y h is =
     let none : [] ≡ ys = cc in
@@ -108,7 +99,6 @@ all_of_push {Y = Y} f (z ∷ xs) ys x y h is =
     let both = all_made (f z) (all_of f xs) ys h in
     rw (both.2, all_of_push f xs both.1 x y both.3 is) (ap (λ (all : List Y). Some (all ++ y ∷ [])) both.4)
 
--- what holds of each that is there holds of all
 pub all_there : {X Y : Type 0} (P : Y → Type 0) (f : X → Option Y) → ((x : X) (y : Y) → f x ≡ Some y → P y) → (xs : List X) (ys : List Y) → all_of f xs ≡ Some ys → AllByRecursion P ys
 all_there P f holds [] ys h =
     let none : [] ≡ ys = cc in subst (AllByRecursion P) none tt
@@ -116,7 +106,6 @@ all_there P f holds (x ∷ xs) ys h =
     let both = all_made (f x) (all_of f xs) ys h in
     subst (AllByRecursion P) both.4 (holds x both.0 both.2, all_there P f holds xs both.1 both.3)
 
--- what is listed stays so where more is
 pub named_more : (listed more : List Listed) (step : ℕ) (named : Named) → named_at listed step ≡ Some named → named_at (listed ++ more) step ≡ Some named
 named_more [] more step named h = (cc)
 named_more (one ∷ listed) more step named h = by_test (named_more listed more step named) (one.step == step) h
@@ -125,7 +114,6 @@ named_more (one ∷ listed) more step named h = by_test (named_more listed more 
     by_test further true h = h
     by_test further false h = further h
 
--- and what is listed last is found, where nothing was by its number
 pub named_new : (listed : List Listed) (one : Listed) (n : ℕ) → one.step ≡ n → named_at listed n ≡ None → named_at (listed ++ one ∷ []) n ≡ Some one.named
 named_new [] one n number none =
     let test : (one.step == n) ≡ true = grind (arith, nat_tests, number) in
@@ -137,13 +125,11 @@ named_new (first ∷ listed) one n number none = by_test (named_new listed one n
     by_test further true none = (cc)
     by_test further false none = further none
 
--- and so do its distances
 pub distance_more : (which : Named → Option ℕ) (listed more : List Listed) (step distance : ℕ) → distance_at which listed step ≡ Some distance → distance_at which (listed ++ more) step ≡ Some distance
 distance_more which listed more step distance h =
     let made = made_after which (named_at listed step) distance h in
     rw (named_more listed more step made.0 made.1) made.2
 
--- what a union of a list is made of: its tag isn't 0
 pub union_made : (listed : List Listed) (item union : ℕ × ℕ) → union_of listed item ≡ Some union
     → (distance : ℕ) × ((item.0 == 0) ≡ false) × (value_at listed item.1 ≡ Some distance) × ((item.0, distance) ≡ union)
 union_made listed item union h = by_test (item.0 == 0) refl h

@@ -19,7 +19,6 @@ use Rattle.planus.specs.Runs.{numbers_value, fields_of, value_of}
 use Rattle.planus.specs.declared.faults.Why.{Why}
 use Rattle.planus.proofs.Lists.{made_after, made_of}
 
--- what has a distance as a value is one
 value_kind : (named : Named) (distance : ℕ) → value_distance named ≡ Some distance → kind_named named ≡ a_value
 value_kind named distance e = by_tags named.tags e
   where
@@ -27,7 +26,6 @@ value_kind named distance e = by_tags named.tags e
     by_tags None e = refl
     by_tags (Some tags) e = (cc)
 
--- what has tags, or references, is a union vector
 tags_kind : (named : Named) (distance : ℕ) → tags_distance named ≡ Some distance → kind_named named ≡ a_union_vector
 tags_kind named distance e = by_tags named.tags e
   where
@@ -42,7 +40,6 @@ references_kind named distance e = by_tags named.tags e
     by_tags None e = (cc)
     by_tags (Some tags) e = refl
 
--- and the other way round
 kind_value : (named : Named) → kind_named named ≡ a_value → (distance : ℕ) × (value_distance named ≡ Some distance)
 kind_value named e = by_tags named.tags e
   where
@@ -64,7 +61,6 @@ kind_references named e = by_tags named.tags e
     by_tags None e = (cc)
     by_tags (Some tags) e = (named.distance, refl)
 
--- what is listed may be named as what it is
 abbrev pub NamedAreGood : List Listed → (Kind → ℕ → Option Why) → Type 0
 NamedAreGood listed fault = (step : ℕ) (named : Named) → named_at listed step ≡ Some named → fault (kind_named named) step ≡ None
 
@@ -84,7 +80,6 @@ module _ (listed : List Listed) (fault : Kind → ℕ → Option Why) (good : Na
   pub references_good : (step distance : ℕ) → distance_at references_distance listed step ≡ Some distance → fault a_union_vector step ≡ None
   references_good = good_as a_union_vector references_distance references_kind
 
--- what may be named as one of a kind is listed, and is one
 abbrev pub GoodAreNamed : List Listed → (Kind → ℕ → Option Why) → Type 0
 GoodAreNamed listed fault = (kind : Kind) (step : ℕ) → fault kind step ≡ None → (named : Named) × (named_at listed step ≡ Some named) × (kind_named named ≡ kind)
 
@@ -105,7 +100,6 @@ module _ (listed : List Listed) (fault : Kind → ℕ → Option Why) (good : Go
   pub good_references : (step : ℕ) → fault a_union_vector step ≡ None → (distance : ℕ) × (distance_at references_distance listed step ≡ Some distance)
   good_references = named_as a_union_vector references_distance kind_references
 
--- what is named lies in the bytes by each of its distances
 pub value_reached : (n : ℕ) (named : Named) (distance : ℕ) → IsReached n named → value_distance named ≡ Some distance → distance ≤ n
 value_reached n named distance reached e = by_tags named.tags e
   where
@@ -127,7 +121,6 @@ references_reached n named distance reached e = by_tags named.tags e
     by_tags None e = (cc)
     by_tags (Some tags) e = let same : named.distance ≡ distance = cc in subst (λ d. d ≤ n) same reached.distance
 
--- numbers are named as a value
 numbers_kind : (width : Option Width) (items : List ℕ) (v : Value) (got : List ℕ) → numbers_value width items ≡ Some v → kind_named (named_by v got) ≡ a_value
 numbers_kind None items v got e = (cc)
 numbers_kind (Some width) items v got e = by_test (list_all (fits_width width) items) e
@@ -138,7 +131,6 @@ numbers_kind (Some width) items v got e = by_test (list_all (fits_width width) i
         subst (λ w. kind_named (named_by w got) ≡ a_value) same refl
     by_test false e = (cc)
 
--- what a step wrote is named as what its kind says, whatever distances its entries got
 pub kind_written : (listed : List Listed) (step : Step) (v : Value) (got : List ℕ) → value_of listed step ≡ Some v → kind_of step ≡ Some (kind_named (named_by v got))
 kind_written listed (text content) v got e =
     let same : value.text content ≡ v = cc in

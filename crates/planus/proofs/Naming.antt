@@ -1,4 +1,4 @@
--- What a number names, and what a replay says of it.
+-- What a number names, and what a replay returns for it.
 use Rattle.std.proofs.Common.{◌≡◌, ℕ, zero, suc, ◌+◌, ◌-◌, ◌≤◌, ◌<◌, List, [], ◌∷◌, ◌++◌, length, map}
 use Rattle.std.proofs.Common.{drop, refl, sym, ap, ◌∙◌, subst, arith, Option, Some, None, Bool}
 use Rattle.std.proofs.Common.{true, false, inl, inr, length-append}
@@ -24,7 +24,6 @@ use Rattle.planus.specs.declared.written.Written.{Written}
 use Rattle.planus.proofs.FieldFaults.{same_fields}
 use Rattle.planus.proofs.Lists.{get_push, get_last, drop_push}
 
--- one step more, which is no clear, leaves what is named
 named_from : (steps : List Step) (step c : Step) (any : Bool) → is_clear step ≡ false → list_any is_clear steps ≡ any → (got : Option Step)
     → (if any then None else got) ≡ Some c → (if list_any is_clear (steps ++ step ∷ []) then None else got) ≡ Some c
 named_from steps step c true kind e got h = (cc)
@@ -51,7 +50,6 @@ pub named_last : (steps : List Step) (step : Step) → is_clear step ≡ false �
 named_last [] step kind = rw kind refl
 named_last (x ∷ steps) step kind = named_last steps step kind
 
--- what may be named is inside
 pub named_inside : (steps : List Step) (c : Step) (n : ℕ) → named_step steps n ≡ Some c → n < length steps
 named_inside [] c zero h = (cc)
 named_inside [] c (suc n) h = (cc)
@@ -62,12 +60,10 @@ none_there : (any : Bool) (c : Step) → (if any then None else None) ≡ Some c
 none_there true c h = (cc)
 none_there false c h = (cc)
 
--- of no steps none may be named
 pub none_named : (n : ℕ) (c : Step) → named_step [] n ≡ Some c → ⊥
 none_named zero c h = (cc)
 none_named (suc n) c h = (cc)
 
--- what may be named with one step more may be named before, or is that step
 pub named_back : (steps : List Step) (step c : Step) (n : ℕ) → named_step (steps ++ step ∷ []) n ≡ Some c → (named_step steps n ≡ Some c) ⊎ ((n ≡ length steps) × (step ≡ c))
 named_back [] step c zero h = by_kind (is_clear step) h
   where
@@ -97,7 +93,6 @@ named_back (x ∷ steps) step c (suc n) h = elim (named_back steps step c n h) a
   | inr last ↦ inr (ap suc last.0, last.1)
 ]
 
--- behind a clear nothing may be named
 pub not_behind_clear : (steps : List Step) (c : Step) (n : ℕ) → named_step (steps ++ clear ∷ []) n ≡ Some c → ⊥
 not_behind_clear [] c zero h = (cc)
 not_behind_clear [] c (suc n) h = none_there (list_any is_clear (drop n [])) c h
@@ -120,7 +115,6 @@ not_behind_clear (x ∷ steps) c zero h = (let e : (if is_clear x || list_any is
     by_kind false false e h = (cc)
 not_behind_clear (x ∷ steps) c (suc n) h = not_behind_clear steps c n h
 
--- nothing is named at or before a clear
 clear_from : (steps : List Step) (n k : ℕ) → slice_get steps (n + k) ≡ Some clear → list_any is_clear (drop n steps) ≡ true
 clear_from [] zero k h = (cc)
 clear_from [] (suc n) k h = (cc)
@@ -132,7 +126,6 @@ clear_from (x ∷ steps) zero (suc k) h = in_rest (is_clear x) (clear_from steps
     in_rest true further = refl
     in_rest false further = further
 
--- a step since the last clear is none
 none_clear : (steps : List Step) (ds : List (Option Named)) (k : ℕ) → AllWrote steps ds → list_any is_clear (drop k steps) ≡ false
 none_clear [] ds zero h = refl
 none_clear [] ds (suc k) h = refl
@@ -163,7 +156,6 @@ drop_dropped zero k steps = ap (λ m. drop m steps) (let e : k ≡ 0 + k = omega
 drop_dropped (suc n) k [] = drop_none k (suc n + k)
 drop_dropped (suc n) k (x ∷ steps) = drop_dropped n k steps ∙ ap (λ m. drop m (x ∷ steps)) (let e : suc (n + k) ≡ suc n + k = omega arith in e)
 
--- what is wrong with a number shows in what the replay has
 module _ (replay : ReplayState) (steps : List Step) (h : HasTaken replay steps) (kind : Kind) (root : ℕ) where
   before : root + 1 ≤ replay.first → None ≡ named_step steps root
   before le = elim h.behind_clear as (λ _. None ≡ named_step steps root) [
@@ -190,7 +182,6 @@ module _ (replay : ReplayState) (steps : List Step) (h : HasTaken replay steps) 
   named_fault : name_fault replay kind root ≡ fault_of kind (named_step steps root)
   named_fault = by_test (nat_lt root replay.first) refl
 
--- the first fault is the same by what is the same for each
 same_first : {X : Type 0} (f g : X → Option Why) → ((x : X) → f x ≡ g x) → (xs : List X) → first_fault f xs ≡ first_fault g xs
 same_first f g same [] = refl
 same_first f g same (x ∷ xs) = ap (λ o. option_or o (first_fault f xs)) (same x) ∙ ap (option_or (g x)) (same_first f g same xs)
@@ -208,7 +199,6 @@ same_check f g same (table fields) = same_fields f g same [] greatest_field fiel
 same_check f g same (finish front root identifier) = same a_value root
 same_check f g same clear = refl
 
--- what is wrong with a step shows in what the replay has
 pub checked : (replay : ReplayState) (steps : List Step) → HasTaken replay steps → (step : Step) → check_by (name_fault replay) step ≡ broken_check steps step
 checked replay steps h step = same_check (name_fault replay) (λ kind n. fault_of kind (named_step steps n)) (λ kind n. named_fault replay steps h kind n) step
 
@@ -222,7 +212,6 @@ pub one_more : (old new : ReplayState) (offset : Option Written) → new.first �
     → new.first + length new.offsets.items ≡ old.first + length old.offsets.items + 1
 one_more old new offset first pushed = let longer : length new.offsets.items ≡ length old.offsets.items + 1 = ap length pushed ∙ length-append old.offsets.items (offset ∷ []) in omega (arith, first, longer)
 
--- one step more, which is no clear
 pub took_one : (old new : ReplayState) (step : Step) (offset : Option Written) → Wrote step (name_of offset) → new.first ≡ old.first → new.offsets.items ≡ old.offsets.items ++ offset ∷ []
     → (steps : List Step) → HasTaken old steps → HasTaken new (steps ++ step ∷ [])
 took_one old new step offset wrote first pushed steps h =
@@ -241,7 +230,6 @@ took_one old new step offset wrote first pushed steps h =
           (wrote_push (drop old.first steps) (names old) step (name_of offset) wrote h.wrote));
     }
 
--- a clear
 pub took_clear : (old new : ReplayState) → new.first ≡ old.first + length old.offsets.items + 1 → new.offsets.items ≡ [] → (steps : List Step) → HasTaken old steps → HasTaken new (steps ++ clear ∷ [])
 took_clear old new first none steps h =
     let counted : old.first + length old.offsets.items ≡ length steps = h.counted in

@@ -48,7 +48,6 @@ one_contents a b e =
     ap (λ kind. record { kind = kind; bytes = a.bytes }) (one_kind a.kind b.kind both.0)
     ∙ ap (λ content. record { kind = b.kind; bytes = content }) ((bytes_eq-Decides a.bytes b.bytes).0 both.1)
 
--- what was seen is found there still
 abbrev Stays : List Seen → List Seen → Type 0
 Stays before after = (contents : Contents) (d : ℕ) → distance_seen before contents ≡ Some d → distance_seen after contents ≡ Some d
 
@@ -56,7 +55,6 @@ not_both : (o : Option ℕ) (d : ℕ) → o ≡ None → o ≡ Some d → ⊥
 not_both None d e f = (cc)
 not_both (Some n) d e f = (cc)
 
--- new contents hide none that were seen
 added_stays : (shared : Option Contents) (distance : ℕ) (seen : List Seen) → earlier_distance seen shared ≡ None → Stays seen (and_seen shared distance seen)
 added_stays None distance seen is_new contents d h = h
 added_stays (Some shared) distance seen is_new contents d h = by_test (same_contents shared contents) refl
@@ -77,7 +75,6 @@ all_stays switches (entry ∷ entries) got before ds after puts = λ contents d 
     all_stays switches entries (got ++ puts.0 ∷ []) puts.1 ds after puts.3 contents d
     (after_stays (found_before switches entry before) (part_after entry got before) (shared_as switches entry.contents) before puts.0 puts.1 refl puts.2 contents d h)
 
--- contents are found at the distance that they got
 after_found : (earlier : Option ℕ) (part : Part) (shared : Option Contents) (contents : Contents) (before : Past) (d : ℕ) (after : Past) → shared ≡ Some contents
     → earlier_distance before.seen shared ≡ earlier → PutsAfter earlier part shared before d after → distance_seen after.seen contents ≡ Some d
 after_found (Some n) part shared contents before d after same is puts =
@@ -106,7 +103,6 @@ distance_of named d e = by_tags named.tags e
     by_tags (Some tags) e = (cc)
 
 module _ (switches : Switches) (all : List Step) where
-  -- the contents of a step that is listed are found at its distance
   abbrev IsFound : List Seen → Listed → Type 0
   IsFound seen one =
       (contents : Contents) → contents_at all one.step ≡ Some contents → is_on switches contents.kind ≡ true → distance_seen seen contents ≡ Some one.named.distance
@@ -126,12 +122,10 @@ module _ (switches : Switches) (all : List Step) where
     found : AllByRecursion (IsFound state.past.seen) state.listed
     finished : AllByRecursion (λ (given : Finish). AreOnce switches all given.places) state.finished
 
-  -- one step that writes
   module _ (done : List Step) (step : Step) (before after : State) (there : slice_get all (length done) ≡ Some step) (writes : Writes switches before step after) (h : Once done before) where
     contents_there : contents_at all before.next ≡ contents_of step
     contents_there = ap (λ n. contents_at all n) h.numbered ∙ ap (λ o. option_and_then contents_of o) there
 
-    -- a step without contents
     none_found : contents_of step ≡ None → (v : Option Value) → AllByRecursion (IsFound after.past.seen) (values_added v before.next writes.got)
     none_found none None = tt
     none_found none (Some v) = (λ contents at on. absurd (no_contents contents (sym none ∙ sym contents_there ∙ at)), tt)
@@ -151,7 +145,6 @@ module _ (switches : Switches) (all : List Step) where
           (all_append (λ (given : Finish). AreOnce switches all given.places) before.finished (finishes_added step before after.past) h.finished given);
     }
 
-    -- a step of one entry, with contents
     one_found : (entry : Entry) (of_step : Contents) → contents_of step ≡ Some of_step → entry.contents ≡ Some of_step → entry ∷ [] ≡ writes.entries → (contents : Contents)
         → contents_at all before.next ≡ Some contents → is_on switches contents.kind ≡ true → distance_seen after.past.seen contents ≡ Some (last_of writes.got)
     one_found entry of_step is_of in_entry entries contents at on =
@@ -197,14 +190,12 @@ equal_contents_have_one_distance switches steps finished runs =
     subst (AllByRecursion (λ (given : Finish). AreOnce switches steps given.places)) (sym runs.2)
     (leads_once switches steps [] steps refl nothing_written runs.0 runs.1 (record { numbered = refl; found = tt; finished = tt }))
 
--- what was got before stays
 got_stays : (switches : Switches) (entries : List Entry) (got : List ℕ) (before : Past) (ds : List ℕ) (after : Past) → PutsAll switches entries got before ds after → (k d : ℕ)
     → slice_get got k ≡ Some d → slice_get ds k ≡ Some d
 got_stays switches [] got before ds after puts k d h = subst (λ xs. slice_get xs k ≡ Some d) (sym puts.0) h
 got_stays switches (entry ∷ entries) got before ds after puts k d h =
     got_stays switches entries (got ++ puts.0 ∷ []) puts.1 ds after puts.3 k d (get_push got puts.0 d k h)
 
--- the contents of each entry are found at the distance that it got
 got_found : (switches : Switches) (entries : List Entry) (got : List ℕ) (before : Past) (ds : List ℕ) (after : Past) → PutsAll switches entries got before ds after
     → (contents : Contents) → is_on switches contents.kind ≡ true → (n : ℕ) (entry : Entry) → slice_get entries n ≡ Some entry → entry.contents ≡ Some contents → (d : ℕ)
     → slice_get ds (length got + n) ≡ Some d → distance_seen after.seen contents ≡ Some d

@@ -1,4 +1,4 @@
--- There is one answer to a list of steps: each step leads to one state at most.
+-- Each step leads to one state at most.
 use Rattle.std.proofs.Common.{◌≡◌, ℕ, zero, suc, ◌+◌, ◌<◌, ◌≤◌, List, [], ◌∷◌, ◌++◌, length, take}
 use Rattle.std.proofs.Common.{replicate, refl, sym, ap, ◌∙◌, subst, arith, Option, Some, None, inl}
 use Rattle.std.proofs.Common.{inr, Result, Ok, Err, length-append}
@@ -29,7 +29,6 @@ past_of a b written seen parts places =
     ∙ ap (λ ps. record { written = b.written; seen = b.seen; parts = ps; places = a.places }) parts
     ∙ ap (λ ps. record { written = b.written; seen = b.seen; parts = b.parts; places = ps }) places
 
--- a part is placed in one way
 module _ (part : Part) (before a b : Written) (x : Placed part before a) (y : Placed part before b) where
   same_padding : x.padding ≡ y.padding
   same_padding =
@@ -47,7 +46,6 @@ module _ (part : Part) (before a b : Written) (x : Placed part before a) (y : Pl
       ∙ ap (λ padding. part.bytes_at y.place ++ replicate padding 0 ++ before.bytes) same_padding ∙ sym y.bytes)
       (x.promises ∙ ap (λ place. promise_of place part.alignment ∷ before.promises) same_place ∙ sym y.promises)
 
--- an entry is written in one way
 abbrev Same : ℕ → Past → ℕ → Past → Type 0
 Same d a e b = (d ≡ e) × (a ≡ b)
 
@@ -68,7 +66,6 @@ put_once : (switches : Switches) (entry : Entry) (got : List ℕ) (before : Past
 put_once switches entry got before d e a b x y =
     after_once (found_before switches entry before) (part_after entry got before) (shared_as switches entry.contents) before d e a b x y
 
--- so are entries
 all_once : (switches : Switches) (entries : List Entry) (got : List ℕ) (before : Past) (ds es : List ℕ) (a b : Past) → PutsAll switches entries got before ds a → PutsAll switches entries got before es b
     → (ds ≡ es) × (a ≡ b)
 all_once switches [] got before ds es a b x y = (x.0 ∙ sym y.0, x.1 ∙ sym y.1)
@@ -77,7 +74,6 @@ all_once switches (entry ∷ entries) got before ds es a b x y =
     all_once switches entries (got ++ x.0 ∷ []) x.1 ds es a b x.3
     (subst (λ n. PutsAll switches entries (got ++ n ∷ []) x.1 es b) (sym first.0) (subst (λ past. PutsAll switches entries (got ++ y.0 ∷ []) past es b) (sym first.1) y.3))
 
--- a part that is too large isn't placed
 not_both : (part : Part) (before after : Written) → IsTooLarge part before → Placed part before after → ⊥
 not_both part before after far placed =
     let le = far.is_least.least placed.padding placed.is_least.holds in
@@ -102,7 +98,6 @@ not_all switches (entry ∷ entries) got before ds after far puts = elim far as 
       (subst (λ n. ComesToTooLargeEntry switches entries (got ++ n ∷ []) puts.1) first.0 (subst (λ past. ComesToTooLargeEntry switches entries (got ++ later.0 ∷ []) past) first.1 later.3)) puts.3
 ]
 
--- a step leads to one state
 state_of : (a b : State) → a.past ≡ b.past → a.listed ≡ b.listed → a.next ≡ b.next → a.finished ≡ b.finished → a ≡ b
 state_of a b past listed next finished =
     ap (λ p. record { past = p; listed = a.listed; next = a.next; finished = a.finished }) past
@@ -138,7 +133,6 @@ module _ (switches : Switches) where
   led_once before (step ∷ steps) a b x y =
       led_once x.0 steps a b x.2 (subst (λ s. LeadsTo switches s steps b) (sym (advanced_once before step x.0 y.0 x.1 y.1)) y.2)
 
-  -- a step that comes to a part that is too large leads nowhere
   stuck : (before : State) (step : Step) (after : State) → StepTooLarge switches before step → Writes switches before step after → ⊥
   stuck before step after far writes =
       not_all switches writes.entries [] before.past writes.got after.past
@@ -154,7 +148,6 @@ module _ (switches : Switches) where
   leads_nowhere before (finish front root identifier) after far h = stuck before (finish front root identifier) after far h
   leads_nowhere before clear after far h = (let e : None ≡ Some far.entries = far.are in cc)
 
-  -- steps that lead on pass none of them
   passed : (start : State) (steps : List Step) (n m : ℕ) (step : Step) (before end : State) → n < m → slice_get steps n ≡ Some step → LeadsTo switches start (take n steps) before
       → StepTooLarge switches before step → LeadsTo switches start (take m steps) end → ⊥
   passed start [] n m step before end lt there leads far run = (cc)
@@ -182,7 +175,6 @@ get_inside (first ∷ steps) (suc n) step e = let h = get_inside steps n step e 
 first_of : (p q : ℕ × Why) → Some p ≡ Some q → p.0 ≡ q.0
 first_of p q e = (let same : p ≡ q = cc in ap (λ r. r.0) same)
 
--- the first bad step isn't before those that are looked at
 bad_from : (earlier steps : List Step) (m : ℕ) (why : Why) → first_bad_after earlier steps ≡ Some (m, why) → length earlier ≤ m
 bad_from earlier [] m why e = (cc)
 bad_from earlier (step ∷ steps) m why e = by_check (broken_check earlier step) (λ later. bad_from (earlier ++ step ∷ []) steps m why later) e
@@ -193,7 +185,6 @@ bad_from earlier (step ∷ steps) m why e = by_check (broken_check earlier step)
         let same : length earlier ≡ m = first_of (length earlier, found) (m, why) e in omega (arith, same)
     by_check None later e = let h = later e in omega (arith, h, length-append earlier (step ∷ []))
 
--- and is that of as many steps as have it
 bad_among : (earlier steps : List Step) (k m : ℕ) (why : Why) → first_bad_after earlier steps ≡ Some (m, why) → m < length earlier + k → first_bad_after earlier (take k steps) ≡ Some (m, why)
 bad_among earlier [] k m why e lt = (cc)
 bad_among earlier (step ∷ steps) zero m why e lt = let ge = bad_from earlier (step ∷ steps) m why e in absurd (omega (arith, lt, ge))
@@ -208,13 +199,11 @@ bad_among earlier (step ∷ steps) (suc k) m why e lt =
     by_check None later e = later e
 
 module _ (switches : Switches) (steps : List Step) where
-  -- a run of all steps comes to none that is too large
   ran : (finished : List Finish) → Replays switches steps (Ok finished) → Replays switches steps (Err TooLarge) → ⊥
   ran finished x y =
       passed switches nothing_written steps y.0 (length steps) y.2.step y.2.before x.1.0 (get_inside steps y.0 y.2.step y.2.there) y.2.there y.2.run y.2.too_large
       (subst (λ xs. LeadsTo switches nothing_written xs x.1.0) (sym (take_whole steps)) x.1.1)
 
-  -- nor does a run up to the first bad step
   ran_up_to : (step : ℕ) (why : Why) → Replays switches steps (Err (BadStep step why)) → Replays switches steps (Err TooLarge) → ⊥
   ran_up_to step why x y = by_order (Rattle.std.proofs.lemmas.Bool.cases_lt y.0 step)
     where

@@ -1,4 +1,4 @@
--- Parts that are placed in turn, and the entries that come to them.
+-- Parts that are placed in turn, and their entries.
 use Rattle.std.proofs.Common.{◌≡◌, ℕ, ◌+◌, ◌≤◌, List, [], ◌∷◌, ◌++◌, length}
 use Rattle.std.proofs.Common.{refl, sym, ap, ◌∙◌, subst, arith, Option, Some, None}
 use Rattle.std.proofs.Common.{max, inl, inr}
@@ -25,22 +25,18 @@ use Rattle.planus.specs.Runs.{nothing_written}
 use Rattle.planus.proofs.Turns.{InTurn, turn_taken}
 use Rattle.planus.proofs.Lists.{all_weaker}
 
--- What was written was placed part by part from nothing, with alignments that are powers of two.
 pub record IsPlacedInTurn (past : Past) : Type 0 where
   pub powers : AllByRecursion (λ (p : Promise). IsPowerOfTwo p.alignment) past.written.promises
   pub reached : AllByRecursion (λ (p : Promise). p.distance ≤ length past.written.bytes) past.written.promises
   pub described : (delay : Delay) × DescribesAll delay (length past.written.bytes) past.written.promises
   pub turns : InTurn past.written past.parts past.places
 
--- with no promise every length is kept
 nothing_described : Describes 0 0 0 []
 nothing_described = record { powers = tt; reached = tt; kept = λ finished from. (λ _. (finished, omega arith), λ _. tt) }
 
--- nothing that is written is in turn
 pub nothing_in_turn : IsPlacedInTurn (nothing_written.past)
 nothing_in_turn = record { powers = tt; reached = tt; described = (record { delayed = 0; mask = 0 }, nothing_described); turns = record { powers = tt; turns = tt; ended = refl; promised = refl } }
 
--- one part placed
 module _ (part : Part) (before after : Written) (placed : Placed part before after)
     (sized : length (part.bytes_at placed.place) ≡ part.size) where
   length_is : length after.bytes ≡ placed.place
@@ -70,7 +66,6 @@ module _ (part : Part) (before after : Written) (placed : Placed part before aft
       = subst (λ n. DescribesAll more.0 n (promise_of n part.alignment ∷ before.promises)) (sym placed.is_place) more.1 in
       (more.0, subst (λ n. DescribesAll more.0 n after.promises) (sym length_is) (subst (λ ps. DescribesAll more.0 placed.place ps) (sym placed.promises) there))
 
--- one part more of a run is placed in turn
 module _ (part : Part) (shared : Option Contents) (before : Past) (distance : ℕ) (after : Past)
     (adds : Adds part shared before distance after)
     (sized : length (part.bytes_at adds.placed.place) ≡ part.size) (power : IsPowerOfTwo part.alignment) (h : IsPlacedInTurn before) where
@@ -90,13 +85,11 @@ module _ (part : Part) (shared : Option Contents) (before : Past) (distance : �
     turns = turned;
   }
 
--- The part of the entry has as many bytes as its size, and an alignment that is a power of two.
 pub record IsFit (entry : Entry) (got : List ℕ) (past : Past) : Type 0 where
   pub sized : (place : ℕ)
       → length ((part_after entry got past).bytes_at place) ≡ (part_after entry got past).size
   pub power : IsPowerOfTwo (part_after entry got past).alignment
 
--- so it is of each entry, whatever was written in turn before
 abbrev pub AreFit : List Entry → Type 0
 AreFit entries = AllByRecursion (λ entry. (got : List ℕ) (past : Past) → IsPlacedInTurn past → IsFit entry got past) entries
 
@@ -107,7 +100,6 @@ pub put_in_turn : (earlier : Option ℕ) (part : Part) (shared : Option Contents
 put_in_turn (Some d) part shared before distance after put sized power h = subst IsPlacedInTurn (sym put.1) h
 put_in_turn None part shared before distance after put sized power h = added_in_turn part shared before distance after put (sized put.placed.place) power h
 
--- entries that are written are placed in turn
 pub all_in_turn : (switches : Switches) (entries : List Entry) (got : List ℕ) (before : Past)
     (all : List ℕ) (after : Past) → AreFit entries
     → PutsAll switches entries got before all after → IsPlacedInTurn before → IsPlacedInTurn after
@@ -118,7 +110,6 @@ all_in_turn switches (entry ∷ entries) got before all after fit puts h =
     = put_in_turn (found_before switches entry before) (part_after entry got before) (shared_as switches entry.contents) before puts.0 puts.1 puts.2 here.sized here.power h in
     all_in_turn switches entries (got ++ puts.0 ∷ []) puts.1 all after fit.1 puts.3 between
 
--- the greater of two powers of two is one
 greater_power : (a b : ℕ) → IsPowerOfTwo a → IsPowerOfTwo b → IsPowerOfTwo (max a b)
 greater_power a b h k =
     elim (cases_lt a b) as (λ _. IsPowerOfTwo (max a b)) [
@@ -126,7 +117,6 @@ greater_power a b h k =
       | inr le ↦ (let f : a ≡ max a b = omega (arith, le) in subst IsPowerOfTwo f h)
     ]
 
--- the entries of a list are fit
 list_fit : {X : Type 0} (item_of : X → Item) (size alignment before : ℕ) (xs : List X) (v : Value)
     → IsListOf item_of size alignment before xs v
     → AreFit (list_entries size alignment (map item_of xs))
@@ -135,13 +125,11 @@ list_fit item_of size alignment before xs v list = (
   ((λ got past h. record { sized = λ place. refl; power = (0, refl) }), tt),
 )
 
--- what unions refer to
 all_distances : (before : ℕ) (items : List (ℕ × ℕ)) → AllByRecursion (λ (item : ℕ × ℕ). item.1 ≤ before) items
     → AllByRecursion (λ distance. distance ≤ before) (distances_in items)
 all_distances before [] h = tt
 all_distances before (item ∷ items) h = (h.0, all_distances before items h.1)
 
--- the entries of a value are fit
 pub values_are_fit : (before : ℕ) (v : Value) → IsWritten before v → AreFit (entries_of v)
 values_are_fit before (value.text content) written = ((λ got past h. record { sized = λ place. text_size content place; power = (2, refl) }), tt)
 values_are_fit before (value.byte_list content) written = ((λ got past h. record { sized = λ place. byte_list_size content place; power = (2, refl) }), tt)

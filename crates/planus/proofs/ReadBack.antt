@@ -30,7 +30,6 @@ use Rattle.planus.specs.ReadBack.{ReferencesReadBack, ContentsReadBack, AbsentFi
 use Rattle.planus.specs.Views.{ShowsView}
 use Rattle.planus.specs.declared.tables.table_ref.TableRef.{TableRef}
 
--- What is kept stands in what was written.
 all_stand : (past : Past) (contents : List Value) (distances : List ℕ)
     → AllKept past contents distances → AllStand past.written.bytes contents distances
 all_stand past [] [] kept = tt
@@ -83,7 +82,6 @@ kept_tables_stand past contents distance is apart = record {
   stands = is.table_kept.stands;
 }
 
--- Each slot holds what is said of it.
 module _ (B : List ℕ) where
   absent_at : (slot : ℕ) (contents : List (ℕ × Option Content)) (fields : List (ℕ × Field))
       → is_other slot contents ≡ true → FieldsHold B (there_of contents) fields
@@ -136,7 +134,6 @@ module _ (B : List ℕ) where
       (either (s == slot) (Some content) (content_at contents slot) (Some field.1) (field_at fields slot)
       (λ same. hold.1) (λ differs. holds_at contents fields parts.1 hold.2 slot))
 
-  -- A table is read where a reference leads to it.
   pub table_led : {K : Type 0} (contents : List (ℕ × Option Content)) (distance : ℕ)
       → TableStands B contents distance → (start f : ℕ)
       → Leads B (start + f) (position_of B distance) → (r : Result (TableRef K) ErrorKind)
@@ -188,7 +185,6 @@ pub roots_read_back : {K : Type 0} (B : List ℕ) (contents : List (ℕ × Optio
 roots_read_back {K} B contents distance stands referred type_ method offset r h =
     items_read_back B 0 0 contents distance stands referred type_ method offset r h
 
--- A field that holds what its reader reads is read by each call.
 module _ {X T : Type 0} (reads : Reads T) (May : List ℕ → X → Type 0) (content : X → Content)
     (IsRead : List ℕ → X → T → Type 0)
     (answered : (B : List ℕ) (x : X) (field : Field) → May B x → FieldHolds B (content x) field
@@ -247,7 +243,6 @@ module _ {X T : Type 0} (reads : Reads T) (May : List ℕ → X → Type 0) (con
       or_default B read slot x default holds may type_ method offset (Err e) h =
           slot_read B read slot x holds may (Err e.error_kind) h.0
 
--- What must be there, and is only answered as none, is missing.
 pub missing : {T : Type 0} (answers : Result (Option T) ErrorKind → Type 0)
     → ((r : Result (Option T) ErrorKind) → answers r → r ≡ Ok None)
     → (type_ method : List ℕ) (offset : ℕ) (r : Result T Error)
@@ -258,7 +253,6 @@ missing answers none type_ method offset (Err e) (inl h, located) =
     let same = none (Err e.error_kind) h in (cc)
 missing answers none type_ method offset (Err e) (inr h, located) = (h.1, located)
 
--- A slot that holds nothing is read as none, as missing, or as the default.
 module _ {T : Type 0} (reads : Reads T) where
   none_read : (B : List ℕ) (k : ℕ) (field : Option Field) → FieldHoldsIf B None field
       → (r : Result (Option T) ErrorKind) → FieldRead reads B k field r → r ≡ Ok None

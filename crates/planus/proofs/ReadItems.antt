@@ -23,7 +23,6 @@ use Rattle.planus.specs.ReadVectors.{TableItemsReadBack}
 use Rattle.planus.specs.Views.{ShowsView}
 use Rattle.planus.proofs.ReadBack.{table_led}
 
--- texts that stand at some distances are as many
 as_many : (B : List ℕ) (texts : List (List ℕ)) (distances : List ℕ)
     → AllStand B (map text texts) distances → length distances ≡ length texts
 as_many B [] [] stand = refl
@@ -31,7 +30,6 @@ as_many B (one ∷ texts) (distance ∷ distances) stand = ap suc (as_many B tex
 as_many B [] (distance ∷ distances) stand = elim stand [ ]
 as_many B (one ∷ texts) [] stand = elim stand [ ]
 
--- and each of them stands at its own
 stands_there : (B : List ℕ) (texts : List (List ℕ)) (distances : List ℕ) (i : ℕ) (bytes : List ℕ)
     → AllStand B (map text texts) distances → slice_get texts i ≡ Some bytes
     → (distance : ℕ) × (slice_get distances i ≡ Some distance)
@@ -44,7 +42,6 @@ stands_there B (one ∷ texts) (distance ∷ distances) zero bytes stand there =
 stands_there B (one ∷ texts) (distance ∷ distances) (suc i) bytes stand there =
     stands_there B texts distances i bytes stand.1 there
 
--- The text to which a reference leads is read there.
 text_led : (B bytes : List ℕ) (start f distance : ℕ) → IsUtf8 bytes
     → Stands B (at (position_of B distance)) (text bytes)
     → Leads B (start + f) (position_of B distance) → (r : Result (Bor (List ℕ)) ErrorKind)
@@ -56,7 +53,6 @@ text_led B bytes start f distance utf8 stands leads r h =
     is_shown (text_reading (drop start B) f) ShowsBytes (lawful_text (drop start B) f) bytes read.there
     r h
 
--- what holds of an answer holds of it where its error has a location
 when_located : {A : Type 0} (answers : Result A ErrorKind → Type 0) (Holds : A → Type 0)
     → ((r : Result A ErrorKind) → answers r → IsOkAnd r Holds)
     → (type_ method : List ℕ) (offset : ℕ) (r : Result A Error)

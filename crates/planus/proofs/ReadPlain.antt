@@ -37,7 +37,6 @@ none_broken [] e broken hold = broken
 none_broken (one ∷ others) e (inl it) hold = it.0 hold.0
 none_broken (one ∷ others) e (inr it) hold = none_broken others e it.1 hold.1
 
--- the value of an answer that has one, the default in place of none
 abbrev pub default_of : {T E : Type 0} → T → Result (Option T) E → Result T E
 default_of default (Ok found) = Ok (unwrap_or found default)
 default_of default (Err e) = Err e
@@ -49,7 +48,6 @@ some_is (Ok None) x none = elim none [ ]
 some_is (Err e) x error = elim error [ ]
 
 module _ {T : Type 0} {size alignment : ℕ} (shape : Shape T size alignment) where
-  -- where the bytes of a value stand all clauses hold
   all_hold : (S : List ℕ) (f : ℕ) (x : T) → shape.fits x → BytesStand S f (shape.encoded x)
       → AllHold (plain_reading shape S f).clauses
   all_hold S f x fits here =
@@ -79,7 +77,6 @@ module _ {T : Type 0} {size alignment : ℕ} (shape : Shape T size alignment) wh
           (none_broken (plain_reading shape (drop start B) f).clauses e broken
           (all_hold (drop start B) f x fits here))
 
-  -- The answer of a field is what a slot that was written holds.
   pub field_read : (table : Table) (slot : ℕ) (type_ method : List ℕ) (r : Result (Option T) Error)
       → Located (FieldAnswer (reads_plain shape) table slot) type_ method (table_start table) r
       → IsPlainField shape table slot type_ method r
@@ -95,7 +92,6 @@ module _ {T : Type 0} {size alignment : ℕ} (shape : Shape T size alignment) wh
           some_is r x
           (plain_read_back.optional B table slot x holds fits type_ method (table_start table) r h)
 
-  -- So is that of one with a default.
   pub field_or_read : (default : T) (table : Table) (slot : ℕ) (type_ method : List ℕ)
       (r : Result (Option T) Error)
       → Located (FieldAnswer (reads_plain shape) table slot) type_ method (table_start table) r
@@ -129,7 +125,6 @@ module _ {T : Type 0} {size alignment : ℕ} (shape : Shape T size alignment) wh
       answered (Err e) h = h
 
 module _ {T : Type 0} {kind : PlainGhosts T} where
-  -- what stands at a position of the vector of some values
   item_stands : {I : Type 0} (B : List ℕ) (xs : List T) (x : T)
       (vector : VectorOf (SliceView I T kind)) (i : ℕ) → ArePlain B xs vector
       → slice_get xs i ≡ Some x
@@ -140,7 +135,6 @@ module _ {T : Type 0} {kind : PlainGhosts T} where
       subst (λ (view : View). BytesStand view.bytes (i * kind.SIZE) (kind.shape.encoded x))
       (sym are.1.view) reads.stands
 
-  -- and the vector has the position
   item_within : {I : Type 0} (B : List ℕ) (xs : List T) (x : T)
       (vector : VectorOf (SliceView I T kind)) (i : ℕ) → ArePlain B xs vector
       → slice_get xs i ≡ Some x → i < count_of vector
@@ -149,7 +143,6 @@ module _ {T : Type 0} {kind : PlainGhosts T} where
       ap (λ (view : View). view.count) are.1.view ∙ length-map xs kind.shape.encoded in
       let within : i < length xs = slice_get_within xs i x there in omega (arith, count, within)
 
-  -- An item of the vector of some values is the value at its position.
   pub item_read : (B : List ℕ) (xs : List T) (x : T) (vector : VectorOf (SliceView T T kind)) (i : ℕ)
       (r : Option T) → ArePlain B xs vector → slice_get xs i ≡ Some x → kind.shape.fits x
       → GetsItem (λ (v : VectorOf (SliceView T T kind)). count_of v)
@@ -162,7 +155,6 @@ module _ {T : Type 0} {kind : PlainGhosts T} where
   item_read B xs x vector i None are there fits past =
       absurd (let within = item_within B xs x vector i are there in omega (arith, within, past))
 
-  -- So is one whose read may fail.
   result_read : (B : List ℕ) (xs : List T) (x : T)
       (vector : VectorOf (SliceView (Result T Error) T kind)) (i : ℕ) (r : Option (Result T Error))
       → ArePlain B xs vector → slice_get xs i ≡ Some x → kind.shape.fits x

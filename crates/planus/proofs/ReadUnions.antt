@@ -1,4 +1,4 @@
--- What is read of the unions and of the union vectors of a table that was written.
+-- What is read of written unions and union vectors.
 use Rattle.std.proofs.Common.{◌≡◌, ℕ, ◌+◌, ◌*◌, ◌<◌, ◌≤◌, max, List, [], ◌∷◌, refl, sym, subst, ap, ◌∙◌, arith, Bool, true, false, Option, Some, None, Result, Ok, Err, inl, inr}
 use Rattle.std.specs.Prelude.{◌≢◌, ◌==◌, map, if◌then◌else◌, IsOkAnd, IsSomeAnd, ⊤}
 use Rattle.std.specs.Int.{w8, to_le_bytes}
@@ -32,7 +32,6 @@ use Rattle.planus.specs.ReadUnions.{UnionsStand, WrittenUnionVectorsReadBack}
 use Rattle.planus.specs.ReadUnions.{AbsentUnionVectorsReadBack, MissingUnionVectorsAreErrors}
 use Rattle.planus.proofs.ReadBack.{missing}
 
--- A table that was read has two neighbouring fields, which hold these in B.
 record HasBoth (B : List ℕ) (read : Table) (slot : ℕ) (first second : Content) : Type 0 where
   position : ℕ
   entries : List (ℕ × Field)
@@ -44,13 +43,11 @@ record HasBoth (B : List ℕ) (read : Table) (slot : ℕ) (first second : Conten
   next_at : field_at entries (slot + 1) ≡ Some next
   next_holds : FieldHolds B second next
 
--- a field that holds something is there
 there : (B : List ℕ) (content : Content) (field : Option Field) → FieldHoldsIf B (Some content) field
     → (one : Field) × (field ≡ Some one) × FieldHolds B content one
 there B content (Some field) holds = (field, refl, holds)
 there B content None holds = elim holds [ ]
 
--- one field more, which is read in its slot, is one that the table has
 either : (B : List ℕ) (k slot j : ℕ) (read : Table) (one : Field) (other : Option Field) (b : Bool)
     → (b ≡ true → slot ≡ j) → SlotReads B k (slot_of read slot) (Some one)
     → SlotReads B k (slot_of read j) other
@@ -94,19 +91,16 @@ both B read slot first second holds next_holds =
       next_holds = next.2;
     }
 
--- a field that holds nothing isn't there
 nothing : (B : List ℕ) (field : Option Field) → FieldHoldsIf B None field → field ≡ None
 nothing B None holds = refl
 nothing B (Some field) holds = elim holds [ ]
 
--- neither is one whose slot is 0
 not_there : (B : List ℕ) (k q : ℕ) (field : Option Field) → q ≡ 0 → SlotReads B k q field
     → field ≡ None
 not_there B k q None zero reads = refl
 not_there B k q (Some field) zero reads =
     absurd (let low : 4 ≤ q = reads.0 in omega (arith, low, zero))
 
--- of two neighbouring slots that hold nothing, the fields of one table aren't there
 neither : (B : List ℕ) (read : Table) (slot : ℕ) (holds : SlotHolds B read slot None)
     → SlotHolds B read (slot + 1) None
     → (field_at holds.entries slot ≡ None) × (field_at holds.entries (slot + 1) ≡ None)
@@ -120,7 +114,6 @@ neither B read slot holds next_holds =
           (holds.fields.slots (slot + 1)),
     )
 
--- a field that holds a reference is one
 is_reference : (B : List ℕ) (content : Content) (field : Field) → IsReference content
     → FieldHolds B content field → (distance : ℕ) × (field ≡ reference distance)
 is_reference B (value content) field is holds = (holds.0, holds.1)
@@ -133,7 +126,6 @@ is_reference B (written_tags _) field is holds = elim is [ ]
 is_reference B (written_values _) field is holds = elim is [ ]
 
 module _ {T : Type 0} (reads : ReadsBoth T) where
-  -- an answer to a union where its reference stands
   some_read : (B : List ℕ) (k tag distance : ℕ) (content : Content)
       → FieldHolds B content (reference distance) → (r : Result (Option T) ErrorKind)
       → UnionRead reads B k (Some (tag, distance)) r → SomeOf (ReadsUnion reads B tag content) r
@@ -210,7 +202,6 @@ module _ {T : Type 0} (reads : ReadsBoth T) where
       absent B read slot holds next_holds type_ method offset (Err e) h =
           let none = absent_read B read slot holds next_holds (Err e.error_kind) h.0 in (cc)
 
--- the tags of unions are those that are said of them
 abbrev said_tags : Unions → List ℕ
 said_tags no_unions = []
 said_tags (union_and tag content others) = tag ∷ said_tags others
@@ -224,13 +215,11 @@ tags_of_unions B (union_and tag content others) (union ∷ unions) hold =
 tags_of_unions B no_unions (union ∷ unions) hold = elim hold [ ]
 tags_of_unions B (union_and tag content others) [] hold = elim hold [ ]
 
--- where both fields refer to a union vector
 abbrev pub RefersToUnions : List ℕ → Field → Field → List (ℕ × ℕ) → Type 0
 RefersToUnions B one next items =
     (tags_at values_at : ℕ) × (one ≡ tags tags_at) × (next ≡ values_field values_at)
     × Stands B (at_both (position_of B tags_at) (position_of B values_at)) (union_vector items)
 
--- two fields that hold the tags and the values of the same unions do
 refer_to_unions : (B : List ℕ) (contents : Unions) (one next : Field)
     → FieldHolds B (union_tags contents) one → FieldHolds B (union_values contents) next
     → (items : List (ℕ × ℕ)) × RefersToUnions B one next items × UnionsHold B contents items
@@ -253,7 +242,6 @@ refer_to_unions B contents one next holds next_holds =
     )
 
 module _ (T E : Type 0) where
-  -- an answer to a union vector where both references stand
   some_unions : (B : List ℕ) (k tags_at values_at : ℕ) (items : List (ℕ × ℕ))
       → Stands B (at_both (position_of B tags_at) (position_of B values_at)) (union_vector items)
       → (r : Result (Option (VectorOf (UnionSliceView T E))) ErrorKind)
@@ -272,7 +260,6 @@ module _ (T E : Type 0) where
       (references_lead B (k + h.0) tags_at h.1) (references_lead B (k + h.2.0) values_at h.2.1)
       (Err e) h.2.2
 
-  -- what is read has what follows from it
   read_as : (P Q : VectorOf (UnionSliceView T E) → Type 0)
       → ((vector : VectorOf (UnionSliceView T E)) → P vector → Q vector)
       → (r : Result (Option (VectorOf (UnionSliceView T E))) ErrorKind)

@@ -1,4 +1,4 @@
--- What is read of the vectors of a table that was written.
+-- What is read of the vectors of a written table.
 use Rattle.std.proofs.Common.{ℕ, ◌+◌, List, drop, subst, Result, Ok, Err}
 use Rattle.std.specs.Prelude.{IsOkAnd, ⊤}
 use Rattle.planus_read.specs.declared.errors.ErrorKind.{ErrorKind}
@@ -17,7 +17,6 @@ use Rattle.planus.specs.ReadVectors.{PlainVectorsReadBack, ReferenceVectorsReadB
 use Rattle.planus.specs.ReadVectors.{ValueVectorsReadBack}
 use Rattle.planus.proofs.ReadBack.{contents_read_back}
 
--- what holds of an answer's value, of which more follows
 then_so : {T E : Type 0} {P Q : T → Type 0} (r : Result T E) → ((x : T) → P x → Q x)
     → IsOkAnd r P → IsOkAnd r Q
 then_so (Ok x) more holds = more x holds

@@ -1,10 +1,8 @@
--- Tables that can't be declared, each by one condition, beside one that can: a reference in slot 0,
--- one in slot 2 and a number of two bytes in slot 1.
+-- Tables that can't be declared, each by one condition, beside one that can.
 use Rattle.std.proofs.Common.{◌≡◌, ℕ, [], ◌∷◌, true, false, refl}
 use Rattle.planus_write.specs.Tables.{Declared}
 use Rattle.planus.specs.TableRules.{are_neighbours, can_hold}
 
--- a field of this slot, aligned to its own size
 abbrev entry : ℕ → ℕ → Declared
 entry slot size = record { slot = slot; size = size; alignment = size }
 
@@ -26,11 +24,9 @@ slot_used_twice = refl
 small_field_first : can_hold 10 (entry 1 2 ∷ entry 0 4 ∷ entry 2 4 ∷ []) ≡ false
 small_field_first = refl
 
--- a field of 65536 bytes
 object_too_large : can_hold 6 (record { slot = 0; size = 65536; alignment = 1 } ∷ []) ≡ false
 object_too_large = refl
 
--- a union in slots 0 and 1, and a union vector in slots 4 and 5
 unions_have_neighbours : are_neighbours ((0, 1) ∷ (4, 5) ∷ []) ≡ true
 unions_have_neighbours = refl
 

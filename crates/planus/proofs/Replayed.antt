@@ -24,11 +24,9 @@ use Rattle.planus.proofs.Lists.{found_at}
 use Rattle.planus.proofs.Naming.{checked}
 use Rattle.planus.proofs.Walking.{all_utf8, still_clean, too_large, bad_step}
 
--- the first i steps
 abbrev pub first_steps : List code.Step → ℕ → List Step
 first_steps steps i = map bare_step (take i steps)
 
--- the replay is where the first i steps lead, and none of them is bad
 pub record Reaches (switches : Switches) (steps : List code.Step) (i : ℕ) (progress : ReplayState) : Type 0 where
   pub run : (past : Past) × IsPast progress.builder past × LeadsTo switches nothing_written (first_steps steps i) (state_with progress past)
   pub switched : progress.builder.switches ≡ switches

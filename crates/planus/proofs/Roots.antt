@@ -1,4 +1,4 @@
--- The root of a finish is read with the contents with which it was written.
+-- The root of a finish reads back.
 use Rattle.std.proofs.Common.{ℕ, List, codes, Option, Result, Ok, Err, subst, sym}
 use Rattle.std.specs.Prelude.{IsOkAnd}
 use Rattle.planus_read.specs.declared.located.Error.{Error}
@@ -40,7 +40,6 @@ module _ {V : Type 0} (name : List ℕ) (table_of : V → Table) (bytes : List �
         stood contents offset.distance stands.0 stands.1 r h;
   }
 
-  -- So is the view of a table that was read as the root.
   pub root_viewed : {K : Type 0} (read : Result (TableRef K) Error) (r : Result V Error)
       → IsSameView table_of read r
       → Located (reads_view K bytes 0 0) name (codes "read_as_root") 0 read

@@ -1,4 +1,4 @@
--- Tables whose entries pass the test can be declared, and are tables of the format.
+-- Tables whose entries pass the test can be declared.
 use Rattle.std.proofs.Common.{◌≡◌, ℕ, ◌+◌, ◌*◌, ◌≤◌, max, List, [], ◌∷◌, ◌++◌, length, refl, sym, subst, ap, ◌∙◌, arith, Bool, true, false, Option, Some, None, Ok, inl, inr}
 use Rattle.std.specs.Prelude.{not, leb, ◌==◌, if◌then◌else◌, ⊤}
 use Rattle.std.specs.List.{AllByRecursion}
@@ -26,7 +26,6 @@ use Rattle.planus.specs.lemmas.ContentLaws.{fields_stay}
 use Rattle.planus.specs.lemmas.PreparingLaws.{among_both, stand_both, entries_append}
 use Rattle.planus.proofs.FieldLists.{blank_unused}
 
--- What the test says.
 pub record Holds (n : ℕ) (all : List Declared) : Type 0 where
   pub enough : 4 ≤ n
   pub small : n ≤ 65534
@@ -55,14 +54,12 @@ slots_parts n one all h =
     let second = and_parts (is_apart one.slot all) _ first.1 in
     (leb-true (slot_position one.slot + 2) n first.0, second.0, second.1)
 
--- the slots of the others are not that of the first
 apart_parts : (slot : ℕ) (one : Declared) (all : List Declared) → is_apart slot (one ∷ all) ≡ true
     → ((one.slot == slot) ≡ false) × (is_apart slot all ≡ true)
 apart_parts slot one all h =
     let parts = and_parts (not (one.slot == slot)) _ h in
     (not-true (one.slot == slot) parts.0, parts.1)
 
--- what is unused in slots of which none is declared stays so
 pub rest_unused : (before after : Writer) (slot : ℕ) (all : List Declared)
     → is_apart slot all ≡ true
     → ((other : ℕ) → (other ≡ slot → ⊥) → IsUnused before other → IsUnused after other)
@@ -75,7 +72,6 @@ rest_unused before after slot (one ∷ all) apart others unused =
       rest_unused before after slot all parts.1 others unused.1,
     )
 
--- the entries of two lists have their slots once each where those of both have
 pub apart_append : (slot : ℕ) (all others : List Declared) → is_apart slot (all ++ others) ≡ true
     → (is_apart slot all ≡ true) × AllByRecursion (λ one. (one.slot == slot) ≡ false) others
 apart_append slot [] [] apart = (refl, tt)
@@ -87,7 +83,6 @@ apart_append slot (one ∷ all) others apart =
     let rest = apart_append slot all others parts.1 in
     (and_from (not (one.slot == slot)) _ parts.0 rest.0, rest.1)
 
--- the slots of the others are apart from one entry more
 more_apart : (one : Declared) (all others : List Declared)
     → AllByRecursion (λ other. (other.slot == one.slot) ≡ false) others
     → AllByRecursion (λ other. is_apart other.slot all ≡ true) others
@@ -104,7 +99,6 @@ none_apart : (others : List Declared) → AllByRecursion (λ other. is_apart oth
 none_apart [] = tt
 none_apart (other ∷ others) = (refl, none_apart others)
 
--- What the test of slots says of two lists.
 pub record BothHaveSlots (n : ℕ) (all others : List Declared) : Type 0 where
   pub first : has_slots n all ≡ true
   pub second : has_slots n others ≡ true
@@ -125,7 +119,6 @@ slots_append n (one ∷ all) others slots =
       apart = more_apart one all others here.1 rest.apart;
     }
 
--- what is unused in the slots of two lists is so in those of each
 pub unused_parts : (writer : Writer) (all others : List Declared)
     → AllByRecursion (λ one. IsUnused writer one.slot) (all ++ others)
     → AllByRecursion (λ one. IsUnused writer one.slot) all × AllByRecursion (λ one. IsUnused writer one.slot) others
@@ -133,7 +126,6 @@ unused_parts writer [] others unused = (tt, unused)
 unused_parts writer (one ∷ all) others unused =
     let rest = unused_parts writer all others unused.1 in ((unused.0, rest.0), rest.1)
 
--- what is unused in the slots of others stays so
 pub others_unused : (before after : Writer) (all others : List Declared)
     → AllByRecursion (λ other. is_apart other.slot all ≡ true) others
     → ((other : ℕ) → is_apart other all ≡ true → IsUnused before other → IsUnused after other)
@@ -145,7 +137,6 @@ others_unused before after all (other ∷ others) apart stays unused = (
   others_unused before after all others apart.1 stays unused.1,
 )
 
--- and what they hold is what both hold
 pub contents_both : (past : Past) (contents tags : List (ℕ × Option Content)) (fields others : List (ℕ × Field))
     → FieldsAre past (there_of contents) fields → FieldsAre past (there_of tags) others
     → FieldsAre past (there_of (contents ++ tags)) (fields ++ others)
@@ -157,7 +148,6 @@ contents_both past ((slot, Some content) ∷ contents) tags [] others first seco
 contents_both past ((slot, Some content) ∷ contents) tags (field ∷ fields) others first second =
     (first.0, first.1, contents_both past contents tags fields others first.2 second)
 
--- all slots of a new writer are unused
 pub all_unused : (writer : Writer) (n : ℕ) (all : List Declared) → writer ≡ blank n
     → has_slots n all ≡ true → AllByRecursion (λ one. IsUnused writer one.slot) all
 all_unused writer n [] is_blank slots = tt
@@ -165,7 +155,6 @@ all_unused writer n (one ∷ all) is_blank slots =
     let parts = slots_parts n one all slots in
     (blank_unused writer n one.slot is_blank parts.0, all_unused writer n all is_blank parts.2)
 
--- some entries have at most the size of all
 some_size : (fields : List (ℕ × Field)) (all : List Declared) → Among (declared_of fields) all
     → total_size (declared_of fields) ≤ total_size all
 some_size [] all among = omega arith
@@ -177,7 +166,6 @@ some_size (entry ∷ fields) (one ∷ all) (inl among) =
 some_size (entry ∷ fields) (one ∷ all) (inr among) =
     let rest = some_size (entry ∷ fields) all among in omega (arith, rest)
 
--- and their slots lie in the vtable
 some_slots : (n : ℕ) (fields : List (ℕ × Field)) (all : List Declared) → 4 ≤ n
     → Among (declared_of fields) all → has_slots n all ≡ true → 4 + 2 * slot_count fields ≤ n
 some_slots n [] all enough among slots = omega (arith, enough)
@@ -191,7 +179,6 @@ some_slots n (entry ∷ fields) (one ∷ all) enough (inl among) slots =
 some_slots n (entry ∷ fields) (one ∷ all) enough (inr among) slots =
     some_slots n (entry ∷ fields) all enough among (slots_parts n one all slots).2
 
--- none of some entries has a slot that none of all has
 some_apart : (slot : ℕ) (fields : List (ℕ × Field)) (all : List Declared)
     → Among (declared_of fields) all → is_apart slot all ≡ true → field_at fields slot ≡ None
 some_apart slot [] all among apart = refl
@@ -206,7 +193,6 @@ some_apart slot (entry ∷ fields) (one ∷ all) (inl among) apart =
 some_apart slot (entry ∷ fields) (one ∷ all) (inr among) apart =
     some_apart slot (entry ∷ fields) all among (apart_parts slot one all apart).1
 
--- each of their slots is used once
 some_once : (n : ℕ) (fields : List (ℕ × Field)) (all : List Declared)
     → Among (declared_of fields) all → has_slots n all ≡ true → SlotsOnce fields
 some_once n [] all among slots = tt
@@ -221,7 +207,6 @@ some_once n (entry ∷ fields) (one ∷ all) (inl among) slots =
 some_once n (entry ∷ fields) (one ∷ all) (inr among) slots =
     some_once n (entry ∷ fields) all among (slots_parts n one all slots).2
 
--- their alignments fall from a bound
 abbrev FallingFrom : ℕ → List (ℕ × Field) → Type 0
 FallingFrom bound [] = ⊤
 FallingFrom bound (entry ∷ fields) =
@@ -255,7 +240,6 @@ falling bound (entry ∷ []) h = tt
 falling bound (first ∷ second ∷ fields) h =
     (h.1.0, falling (field_alignment first.1) (second ∷ fields) h.1)
 
--- such fields are a table of the format
 is_table : (n before : ℕ) (fields : List (ℕ × Field)) (all : List Declared) → Holds n all
     → Among (declared_of fields) all → AllByRecursion (λ entry. IsField before entry.1) fields
     → IsTable before fields
@@ -276,7 +260,6 @@ slots_counted : (fields : List (ℕ × Field)) → slots_used (declared_of field
 slots_counted [] = refl
 slots_counted (entry ∷ fields) = ap (max (entry.0 + 1)) (slots_counted fields)
 
--- A table whose fields are prepared is kept once it is written.
 pub contents_kept : {T : Type 0} (n : ℕ) (all : List Declared) (fields : List (ℕ × Field))
     (contents : List (ℕ × Option Content)) (between : State) → Holds n all
     → Among (declared_of fields) all
@@ -318,7 +301,6 @@ contents_kept n all fields contents between rules among stand unit offset new wr
       ),
     )
 
--- so is one whose fields are those of two lists
 pub fields_kept : {T : Type 0} (n : ℕ) (all others : List Declared) (fields last : List (ℕ × Field))
     (between : State) → Holds n (all ++ others)
     → Among (declared_of fields) all → Among (declared_of last) others

@@ -1,4 +1,4 @@
--- Two runs of the same steps have the same trees in their finishes.
+-- Two runs of the same steps have the same trees.
 use Rattle.std.proofs.Common.{◌≡◌, ℕ, ◌+◌, List, [], ◌∷◌, ◌++◌, length, map, refl, sym, ap, ◌∙◌, subst}
 use Rattle.std.proofs.Common.{Option, Some, None, Bool, true, false, append_assoc, append-nil, take}
 use Rattle.std.specs.Prelude.{slice_get, if◌then◌else◌}
@@ -30,11 +30,9 @@ use Rattle.planus.proofs.Kept.{Kept, ValueKept, root_behind, step_kept, nothing_
 use Rattle.planus.proofs.Lists.{made_of, all_made, union_made, get_last}
 use Rattle.planus.proofs.TableFields.{fields_made}
 
--- two results of one option are one
 one_result : {X : Type 0} (o : Option X) (x y : X) → o ≡ Some x → o ≡ Some y → x ≡ y
 one_result {X} o x y e f = (let g : Some x ≡ Some y = sym e ∙ f in cc)
 
--- what is found of all in two ways is found in pairs
 all_pairs : {X Y Z : Type 0} (f : X → Option Y) (g : X → Option Z) (R : Y → Z → Type 0) → ((x : X) (y : Y) (z : Z) → f x ≡ Some y → g x ≡ Some z → R y z)
     → (xs : List X) (ys : List Y) (zs : List Z) → all_of f xs ≡ Some ys → all_of g xs ≡ Some zs → AllPairs R ys zs
 all_pairs {Y = Y} {Z = Z} f g R related [] ys zs e h =
@@ -53,9 +51,7 @@ pairs_push R (a ∷ xs) (b ∷ ys) x y h new = (h.0, pairs_push R xs ys x y h.1 
 pairs_push R [] (b ∷ ys) x y h new = absurd h
 pairs_push R (a ∷ xs) [] x y h new = absurd h
 
--- the value of a step, by what is listed in one run and in another
 module _ (ones others : List Listed) where
-  -- distances of one step
   abbrev SameDistance : (Named → Option ℕ) → ℕ → ℕ → Type 0
   SameDistance which d e = LeadToOneStep which ones others d e
 
@@ -79,7 +75,6 @@ module _ (ones others : List Listed) where
       let two = union_made others item other f in
       subst (λ o. SameUnion ones others union o) two.3 (subst (λ u. SameUnion ones others u (item.0, two.0)) one.3 (refl, (item.1, one.2, two.2)))
 
-  -- a field that leads to what a step wrote
   leads_same : (leading : ℕ → Field) (which : Named → Option ℕ) → ((d e : ℕ) → SameDistance which d e → SameField ones others (leading d) (leading e))
       → (step : ℕ) (field other : Field) → option_map leading (distance_at which ones step) ≡ Some field → option_map leading (distance_at which others step) ≡ Some other
       → SameField ones others field other
@@ -148,7 +143,6 @@ module _ (ones others : List Listed) where
   value_same (finish front root identifier) v w e f = (cc)
   value_same clear v w e f = (cc)
 
--- the numbers of the steps that are listed
 abbrev steps_in : List Listed → List ℕ
 steps_in listed = map (λ one. one.step) listed
 
@@ -179,15 +173,13 @@ module _ (all done : List Step) (past other_past : Past) (ones others : List Lis
   places_same [] (y ∷ ys) same h k = (cc)
   places_same (x ∷ xs) [] same h k = (cc)
 
--- Two runs on their way are at the same step, list the same ones, and gave the same trees.
+-- Both runs are at the same step, list the same steps, and gave the same trees.
 record Alike (all : List Step) (one other : State) : Type 0 where
   pub next : one.next ≡ other.next
   pub listed : steps_in one.listed ≡ steps_in other.listed
   pub finished : AllPairs (SameTrees all) one.finished other.finished
 
--- one step more of both
 module _ (switches others : Switches) (all done : List Step) (a b : State) (h : Kept switches all done a) (k : Kept others all done b) (alike : Alike all a b) where
-  -- that writes a value
   value_alike : (step : Step) (c d : State) (x : Writes switches a step c) (y : Writes others b step d) → ((s : State) (past : Past) → finishes_added step s past ≡ [])
       → option_map entries_of (value_of a.listed step) ≡ Some x.entries → option_map entries_of (value_of b.listed step) ≡ Some y.entries → Alike all c d
   value_alike step c d x y none are also =
@@ -205,7 +197,6 @@ module _ (switches others : Switches) (all done : List Step) (a b : State) (h : 
         finished = subst (λ fs. AllPairs (SameTrees all) fs d.finished) (sym finished) (subst (λ fs. AllPairs (SameTrees all) a.finished fs) (sym finished_too) alike.finished);
       }
 
-  -- that finishes
   leads : (sw : Switches) (s after : State) (front : Front) (root : ℕ) (identifier : Option (List ℕ)) → Kept sw all done s → (x : Writes sw s (finish front root identifier) after)
       → (to : ℕ) × (value_at s.listed root ≡ Some to) × ReferenceStands after.past.written.bytes (root_at front) to
   leads sw s after root_first root identifier kept x =
@@ -262,7 +253,6 @@ module _ (switches others : Switches) (all done : List Step) (a b : State) (h : 
       subst (λ s. Alike all s d) (sym x) (subst (λ s. Alike all (cleared a) s) (sym y)
       (record { next = ap (λ n. n + 1) alike.next; listed = refl; finished = alike.finished }))
 
--- and the steps that are left
 stay_alike : (switches others : Switches) (all done rest : List Step) → all ≡ done ++ rest → (a b c d : State) → LeadsTo switches a rest c → LeadsTo others b rest d → Kept switches all done a → Kept others all done b
     → Alike all a b → Alike all c d
 stay_alike switches others all done [] whole a b c d x y h k alike = subst (λ s. Alike all s d) (sym x) (subst (λ s. Alike all a s) (sym y) alike)

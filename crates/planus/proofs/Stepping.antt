@@ -1,4 +1,4 @@
--- What a builder's calls are to the run.
+-- The builder's calls as steps of a run.
 use Rattle.std.proofs.Common.{◌≡◌, ℕ, ◌+◌, ◌≤◌, List, [], ◌∷◌, ◌++◌, length, map, refl, sym}
 use Rattle.std.proofs.Common.{ap, ◌∙◌, arith, subst, Result, Some, Ok, Err, inl, inr, Option, None}
 use Rattle.std.proofs.Common.{Bool, true, false, append-nil}
@@ -55,12 +55,10 @@ use Rattle.planus.proofs.Declaring.{values_reached}
 use Rattle.planus.proofs.WrittenValues.{value_behind, references_behind, unions_behind}
 use Rattle.planus.proofs.Naming.{took_one, took_clear, one_more}
 
--- what a finish of that value puts down
 finish_are : (old : ReplayState) (front : Front) (root distance : ℕ) (identifier : Option (List ℕ)) → value_at (values_listed old) root ≡ Some distance
     → entries_put (values_listed old) (finish front root identifier) ≡ Some (finish_of front identifier distance)
 finish_are old front root distance identifier h = ap (option_map (finish_of front identifier)) h
 
--- what may lack memory isn't too large
 within : (shared : Option Contents) (part : Part) (old : builder.State) (promises : List Promise) → MayLackMemory shared part old promises
     → IsWithinLimit (length old.bytes) part.size part.alignment promises
 within None part old promises h = (h.0, h.1, h.2.0)
@@ -75,7 +73,6 @@ asks entry got old past is_past refused =
           (within (shared_as old.switches entry.contents) part old past.written.promises refused.lacks);
     }
 
--- entries that were refused memory come to where it may be refused, and so do those that were written
 entries_refused : (entries : List Entry) (got : List ℕ) (old new : builder.State) (past : Past) → WritesEntries entries got old (Err OutOfMemory) new → IsPast old past
     → ComesToRefusedEntry old.switches entries got past
 entries_refused [] got old new past h is_past = tt
@@ -89,13 +86,11 @@ all_put : (switches : Switches) (entries : List Entry) (got : List ℕ) (past : 
 all_put switches [] got past all after h = tt
 all_put switches (entry ∷ entries) got past all after h = inr (h.0, h.1, h.2, all_put switches entries (got ++ h.0 ∷ []) h.1 all after h.3)
 
--- A value of a step, by an outcome that puts down its entries, or is refused where they are.
 module _ {A : Type 0} (name : A → Named) (outcome : Outcome A) (step : Step) (value : Value) (old : ReplayState)
     (is_value : value_of (values_listed old) step ≡ Some value)
     (are : entries_put (values_listed old) step ≡ Some (entries_of value))
     (writes : (answer : A) (after : builder.State) → outcome old.builder (Ok answer) after
     → (got : List ℕ) × WritesEntries (entries_of value) [] old.builder (Ok got) after × (named_by value got ≡ name answer)) where
-  -- it adds the value to the run
   written : (new : ReplayState) (noted : Noted name outcome old new) (past after : Past) → finishes_added step (state_with old past) after ≡ []
       → PutsAll old.builder.switches (entries_of value) [] past (writes noted.answer new.builder noted.done).0 after
       → Writes old.builder.switches (state_with old past) step (state_with new after)
@@ -143,22 +138,18 @@ module _ {A : Type 0} (name : A → Named) (outcome : Outcome A) (step : Step) (
       let put = puts_entries (entries_of value) [] old.builder did.0 h.1 past did.1 is_past in
       inr (record { entries = entries_of value; are = are; refused = all_put old.builder.switches (entries_of value) [] past did.0 put.0 put.1 })
 
--- what a builder refused is refused
 pub value_refused : {A : Type 0} (name : A → Named) (outcome : Outcome A) (old new : ReplayState) (error : BuildError) (after : builder.State) → outcome old.builder (Err error) after
     → WritesValue name outcome old (Err (replay_error error)) new
 value_refused name outcome old new OutOfMemory after h = inl (after, h)
 value_refused name outcome old new TooLarge after h = (after, h)
 
--- what is noted of a value is one
 noted_kind : {T : Type 0} (noted : Written) (offset : Offset T) → written_named noted ≡ offset_named offset → (false ≡ false) × (Some a_value ≡ Some (kind_named (written_named noted)))
 noted_kind noted offset same = (refl, ap (λ name. Some (kind_named name)) (sym same))
 
--- what is written by one entry is written by its entries
 by_entry : {T : Type 0} (entry : Entry) (before : builder.State) (offset : Offset T) (after : builder.State) → PutsDown entry [] before offset.distance after
     → (got : List ℕ) × WritesEntries (entry ∷ []) [] before (Ok got) after × (record { distance = last_of got; tags = None } ≡ offset_named offset)
 by_entry entry before offset after put = (offset.distance ∷ [], (offset.distance, after, put, (refl, refl)), refl)
 
--- a text advances the run, or stops it
 pub text_advanced : (content : List ℕ) (old : ReplayState) (answer : Result (Unit {0}) ReplayError) (new : ReplayState)
     → WritesValue {A = Offset Text} offset_named (WritesText content) old answer new → Advanced old (text content) answer new
 text_advanced content old (Ok done) new noted = record {
@@ -172,7 +163,6 @@ text_advanced content old (Err ReplayTooLarge) new h =
     stops {A = Offset Text} offset_named (WritesText content) (text content) (value.text content) old refl refl (λ offset after put. by_entry (text_entry content) old.builder offset after put) h.0 (inl h.1)
 text_advanced content old (Err (BadStep number why)) new h = absurd h
 
--- a byte vector
 pub bytes_advanced : (content : List ℕ) (old : ReplayState) (answer : Result (Unit {0}) ReplayError) (new : ReplayState)
     → WritesValue {A = Offset (ListOf ℕ)} offset_named (WritesByteList content) old answer new → Advanced old (bytes content) answer new
 bytes_advanced content old (Ok done) new noted = record {
@@ -186,7 +176,6 @@ bytes_advanced content old (Err ReplayTooLarge) new h =
     stops {A = Offset (ListOf ℕ)} offset_named (WritesByteList content) (bytes content) (value.byte_list content) old refl refl (λ offset after put. by_entry (byte_list_entry content) old.builder offset after put) h.0 (inl h.1)
 bytes_advanced content old (Err (BadStep number why)) new h = absurd h
 
--- a list of items that are written as they are
 module _ {A : Type 0} (leaves : A → Item) (size alignment : ℕ) (xs : List A) (value : Value) (old : ReplayState)
     (entries : list_entries size alignment (map leaves xs) ≡ entries_of value) (one : (got : List ℕ) → named_by value got ≡ record { distance = last_of got; tags = None }) where
   list_writes : {T : Type 0} (offset : Offset T) (after : builder.State) → WritesList Answers leaves size alignment xs old.builder (Ok offset) after
@@ -204,7 +193,6 @@ module _ {A : Type 0} (leaves : A → Item) (size alignment : ℕ) (xs : List A)
       subst (λ (es : List Entry). WritesEntries es [] old.builder (Err error) after) entries
       (ready_list_is_refused T leaves size alignment xs old.builder error after refused)
 
--- numbers that fit a known width
 module _ (width : ℕ) (w : Width) (items : List ℕ) (known : width_of width ≡ Some w) (fit : list_all (fits_width w) items ≡ true) (old : ReplayState) where
   abbrev number_list : Value
   number_list = value.plain_list (byte_len w) (byte_len w) (map (to_le_bytes w) items)
@@ -240,7 +228,6 @@ module _ (width : ℕ) (w : Width) (items : List ℕ) (known : width_of width �
       (list_refused leaves_number (byte_len w) (byte_len w) items number_list old numbers_entries (λ got. refl) T TooLarge h.0 h.1)
   numbers_advanced T (Err (BadStep number why)) new h = absurd h
 
--- references to values that were found
 module _ (steps : List ℕ) (offsets : List (Offset (Unit {0}))) (old : ReplayState)
     (found : all_of (value_at (values_listed old)) steps ≡ Some (map (λ (o : Offset (Unit {0})). o.distance) offsets)) where
   abbrev reference_list : Value
@@ -274,7 +261,6 @@ module _ (steps : List ℕ) (offsets : List (Offset (Unit {0}))) (old : ReplaySt
       (list_refused leaves_offset 4 4 offsets reference_list old refs_entries (λ got. refl) T TooLarge h.0 h.1)
   refs_advanced T (Err (BadStep number why)) new h = absurd h
 
--- what was found lies in the builder
 pub found_reached : (old : ReplayState) → AreReached old → (steps : List ℕ) (offsets : List (Offset (Unit {0})))
     → all_of (value_at (values_listed old)) steps ≡ Some (map (λ (o : Offset (Unit {0})). o.distance) offsets)
     → AllByRecursion (λ (o : Offset (Unit {0})). o.distance ≤ length old.builder.bytes) offsets
@@ -283,12 +269,10 @@ found_reached old reached steps offsets h =
     (references_behind (λ one. IsReached (length old.builder.bytes) one.named) (length old.builder.bytes) (λ one there. there) (values_listed old) (values_reached old reached) steps
     (map (λ (o : Offset (Unit {0})). o.distance) offsets) h)
 
--- so does the value of one step
 pub value_inside : (old : ReplayState) → AreReached old → (step distance : ℕ) → value_at (values_listed old) step ≡ Some distance → distance ≤ length old.builder.bytes
 value_inside old reached step distance h =
     value_behind (λ one. IsReached (length old.builder.bytes) one.named) (length old.builder.bytes) (λ one there. there) (values_listed old) (values_reached old reached) step distance h
 
--- unions whose values were found
 module _ (items : List (ℕ × ℕ)) (offsets : List (UnionOffset (Unit {0}))) (old : ReplayState)
     (found : all_of (union_of (values_listed old)) items ≡ Some (map item_of offsets)) where
   abbrev unions_value : Value
@@ -317,7 +301,6 @@ module _ (items : List (ℕ × ℕ)) (offsets : List (UnionOffset (Unit {0}))) (
         | inr put ↦ put
       ]
 
-  -- they advance the run, or stop it
   pub unions_advanced : (answer : Result (Unit {0}) ReplayError) (new : ReplayState)
       → WritesValue vector_named (WritesUnionVector {T = Unit {0}} Answers offsets) old answer new → Advanced old (unions items) answer new
   unions_advanced (Ok done) new noted = record {
@@ -330,7 +313,6 @@ module _ (items : List (ℕ × ℕ)) (offsets : List (UnionOffset (Unit {0}))) (
       stops vector_named (WritesUnionVector Answers offsets) (unions items) unions_value old unions_value_is unions_are unions_write h.0 (unions_refused h.0 h.1)
   unions_advanced (Err (BadStep number why)) new h = absurd h
 
--- what they refer to lies in the builder
 pub unions_reached : (old : ReplayState) → AreReached old → (items : List (ℕ × ℕ)) (offsets : List (UnionOffset (Unit {0})))
     → all_of (union_of (values_listed old)) items ≡ Some (map item_of offsets)
     → AllByRecursion (λ (u : UnionOffset (Unit {0})). union_reach u ≤ length old.builder.bytes) offsets
@@ -338,11 +320,9 @@ unions_reached old reached items offsets h =
     all_unmapped (λ (item : ℕ × ℕ). item.1 ≤ length old.builder.bytes) item_of offsets
     (unions_behind (λ one. IsReached (length old.builder.bytes) one.named) (length old.builder.bytes) (λ one there. there) (values_listed old) (values_reached old reached) items (map item_of offsets) h)
 
--- what a finish of an offset does, if this is its entry
 abbrev pub FrontLeaves : Offset (Unit {0}) → (ℕ → Entry) → builder.State → Result (Bor (List ℕ)) BuildError → builder.State → Type 0
 FrontLeaves offset entry = LendsAll (then_does (λ before prepared after. IsPrepared offset before prepared after) (λ root. WritesFront (entry root.distance)))
 
--- the finish of an offset
 pub offset_finished : (offset : Offset (Unit {0})) (entry : ℕ → Entry) (old new : builder.State) (answer : Result (Bor (List ℕ)) BuildError) (lent : Bor (List ℕ)) → answer ≡ Ok lent
     → FrontLeaves offset entry old answer new → PutsInFront (entry offset.distance) old (length new.bytes) new × (lent.now ≡ new.bytes)
 offset_finished offset entry old new answer lent ok leaves =
@@ -351,7 +331,6 @@ offset_finished offset entry old new answer lent ok leaves =
     (subst (λ before. PutsInFront (entry offset.distance) before (length new.bytes) new) h.0.2.1 (subst (λ (o : Offset (Unit {0})). PutsInFront (entry o.distance) h.0.1 (length new.bytes) new) same h.0.3), h.1)
 
 module _ (front : Front) (root : ℕ) (identifier : Option (List ℕ)) (entry : ℕ → Entry) (is_entry : (distance : ℕ) → finish_of front identifier distance ≡ entry distance ∷ []) where
-  -- a finish advances the run
   pub finish_advances : (distance : ℕ) (old new : ReplayState) (given : Finished) (place : ℕ) → value_at (values_listed old) root ≡ Some distance
       → PutsInFront (entry distance) old.builder place new.builder → new.first ≡ old.first → new.offsets.items ≡ old.offsets.items ++ None ∷ [] → new.finished.items ≡ old.finished.items ++ given ∷ []
       → given.bytes.items ≡ new.builder.bytes → map place_of given.places.items ≡ values_listed old → Advanced old (finish front root identifier) (Ok tt) new
@@ -378,7 +357,6 @@ module _ (front : Front) (root : ℕ) (identifier : Option (List ℕ)) (entry : 
     switches = finishes.puts.switches;
   }
 
-  -- a finish that was written, and refused memory to be given
   pub finish_not_given : (old : ReplayState) (offset : Offset (Unit {0})) → value_at (values_listed old) root ≡ Some offset.distance
       → (answer : Result (Bor (List ℕ)) BuildError) (lent : Bor (List ℕ)) (new : builder.State) → answer ≡ Ok lent
       → FrontLeaves offset entry old.builder answer new → Stopped old (finish front root identifier) ReplayOutOfMemory
@@ -393,7 +371,6 @@ module _ (front : Front) (root : ℕ) (identifier : Option (List ℕ)) (entry : 
       }
       )
 
-  -- a finish that was refused
   pub finish_stopped : (old : ReplayState) (offset : Offset (Unit {0})) → value_at (values_listed old) root ≡ Some offset.distance
       → (answer : Result (Bor (List ℕ)) BuildError) (error : BuildError) (new : builder.State) → answer ≡ Err error
       → FrontLeaves offset entry old.builder answer new → Stopped old (finish front root identifier) (replay_error error)
@@ -425,7 +402,6 @@ module _ (front : Front) (root : ℕ) (identifier : Option (List ℕ)) (entry : 
             record { entries = entry offset.distance ∷ []; are = finish_are old front root offset.distance identifier found ∙ ap Some (is_entry offset.distance); too_large = inl (refuses.cause past is_past) }
       ]
 
--- and a clear
 pub clear_advances : (old new : ReplayState) → IsPast new.builder no_past → new.builder.switches ≡ old.builder.switches → new.first ≡ old.first + length old.offsets.items + 1 → new.offsets.items ≡ []
     → new.finished ≡ old.finished → Advanced old clear (Ok tt) new
 clear_advances old new is_past switches first none same = record {

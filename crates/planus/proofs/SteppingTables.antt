@@ -1,4 +1,4 @@
--- What the writing of a table is to the run.
+-- The writing of a table as a step of a run.
 use Rattle.std.proofs.Common.{◌≡◌, ℕ, ◌+◌, max, List, [], ◌∷◌, length, refl, sym, ap, ◌∙◌, subst}
 use Rattle.std.proofs.Common.{Result, Ok, Err, Option, Some, None, inl}
 use Rattle.std.proofs.Common.{◌≤◌, map, arith}
@@ -36,12 +36,10 @@ use Rattle.planus.proofs.Stepping.{runs_on, switches_stay, stops, lacks}
 use Rattle.planus.proofs.Declaring.{values_reached}
 use Rattle.planus.proofs.WrittenTables.{tables_are_written}
 
--- The table of these fields was written, and lies at this offset; or it was refused.
 abbrev pub WritesTableAt : {T : Type 0} → List (ℕ × Field) → Outcome (Offset T)
 WritesTableAt all before (Ok offset) after = (got : List ℕ) × WritesEntries (table_entries all) [] before (Ok got) after × (last_of got ≡ offset.distance)
 WritesTableAt all before (Err error) after = WritesEntries (table_entries all) [] before (Err error) after
 
--- a table advances the run, or stops it
 module _ (fields : List (ℕ × FieldStep)) (all : List (ℕ × Field)) (old : ReplayState) (made : fields_of (values_listed old) [] greatest_field fields ≡ Some all) where
   table_value_is : value_of (values_listed old) (table fields) ≡ Some (value.table all)
   table_value_is = ap (option_map value.table) made
@@ -63,7 +61,6 @@ module _ (fields : List (ℕ × FieldStep)) (all : List (ℕ × Field)) (old : R
   table_advanced T (Err ReplayTooLarge) new h = stops {A = Offset T} offset_named (WritesTableAt all) (table fields) (value.table all) old table_value_is table_are table_writes h.0 h.1
   table_advanced T (Err (BadStep number why)) new h = absurd h
 
--- a table that a writer was told in full is the table of its fields
 slots_same : (all : List (ℕ × Field)) → slots_used (declared_of all) ≡ slot_count all
 slots_same [] = refl
 slots_same (entry ∷ all) = ap (max (entry.0 + 1)) (slots_same all)
@@ -80,13 +77,11 @@ pub table_refused : (T : Type 0) (all : List (ℕ × Field)) (before after : bui
     → WritesTableAt {T = T} all before (Err error) after
 table_refused T all before after error put = subst (λ n. WritesEntries (object_entries n (declared_of all) (λ place. body_bytes place all)) [] before (Err error) after) (slots_same all) put
 
--- A table is refused, as the replay has it.
 pub table_stopped : (fields : List (ℕ × FieldStep)) (all : List (ℕ × Field)) (old : ReplayState) → fields_of (values_listed old) [] greatest_field fields ≡ Some all
     → (error : BuildError) (new : ReplayState) → WritesTableAt {T = Unit {0}} all old.builder (Err error) new.builder → Advanced old (table fields) (Err (replay_error error)) new
 table_stopped fields all old made build.OutOfMemory new h = table_advanced fields all old made (Unit {0}) (Err ReplayOutOfMemory) new (inl (new.builder, h))
 table_stopped fields all old made build.TooLarge new h = table_advanced fields all old made (Unit {0}) (Err ReplayTooLarge) new (new.builder, h)
 
--- how far the fields of a table refer that can be written
 reach_within : (bytes : ℕ) (all : List (ℕ × Field)) → AllByRecursion (λ entry. IsField bytes entry.1) all → fields_reach all ≤ bytes
 reach_within bytes [] fields = omega arith
 reach_within bytes (entry ∷ all) fields =
@@ -98,7 +93,6 @@ reach_within bytes (entry ∷ all) fields =
     by_field (value.tags distance) is = is
     by_field (value.values distance) is = is
 
--- a table that was declared, and its fields by these offsets
 module _ (old : ReplayState) (offsets : List (Option Written)) (are : offsets ≡ old.offsets.items) (fields : List (ℕ × FieldStep)) (all : List (ℕ × Field))
     (made : fields_of (values_listed old) [] greatest_field fields ≡ Some all) where
   abbrev these : List (ℕ × Field)

@@ -1,4 +1,4 @@
--- Finishes with the size in front are read one by one.
+-- Size-prefixed finishes are read one by one.
 use Rattle.std.proofs.Common.{◌≡◌, List, [], ◌∷◌, subst}
 use Rattle.std.specs.List.{AllByRecursion}
 use Rattle.planus_read.specs.SizePrefixed.{IsPrefixed}

@@ -22,8 +22,6 @@ use Rattle.planus.proofs.NamedKinds.{NamedAreGood, value_good, tags_good, refere
 use Rattle.planus.proofs.NamedKinds.{GoodAreNamed, good_value, good_tags, good_references}
 use Rattle.planus.proofs.Lists.{made_of, distance_more}
 
--- what fields are made of: nothing is wrong with the place of the first, it is a field, and so are
--- the others
 pub fields_made : (slot : ℕ) (fault : Option Why) (field : Option Field) (rest : Option (List (ℕ × Field))) (all : List (ℕ × Field)) → with_field slot fault field rest ≡ Some all
     → (fault ≡ None) × (here : Field) × (field ≡ Some here) × (more : List (ℕ × Field)) × (rest ≡ Some more) × ((slot, here) ∷ more ≡ all)
 fields_made slot (Some why) field rest all e = (cc)
@@ -31,14 +29,12 @@ fields_made slot None None rest all e = (cc)
 fields_made slot None (Some field) rest all e =
     let made = made_of (λ (more : List (ℕ × Field)). (slot, field) ∷ more) rest all e in (refl, field, refl, made.0, made.1, made.2)
 
--- a field that leads to a distance stays so where more is listed
 leads_more : (leading : ℕ → Field) (which : Named → Option ℕ) (listed more : List Listed) (step : ℕ) (field : Field) → option_map leading (distance_at which listed step) ≡ Some field
     → option_map leading (distance_at which (listed ++ more) step) ≡ Some field
 leads_more leading which listed more step field e =
     let made = made_of leading (distance_at which listed step) field e in
     rw (distance_more which listed more step made.0 made.1) (ap Some made.2)
 
--- so does any
 field_more : (listed more : List Listed) (content : FieldStep) (field : Field) → field_of listed content ≡ Some field → field_of (listed ++ more) content ≡ Some field
 field_more listed more (number_field width n) field e = e
 field_more listed more (ref_field step) field e = leads_more value.reference value_distance listed more step field e
@@ -52,7 +48,6 @@ fields_more listed more slots before (entry ∷ fields) all e =
     let made = fields_made entry.0 (place_fault slots before entry) (field_of listed entry.1) (fields_of listed (slots ++ entry.0 ∷ []) (alignment_of entry.1) fields) all e in
     rw (made.0, field_more listed more entry.1 made.1 made.2, fields_more listed more (slots ++ entry.0 ∷ []) (alignment_of entry.1) fields made.3 made.4) (ap Some made.5)
 
--- a field more is behind those that are there
 pub fields_push : (listed : List Listed) (slots : List ℕ) (before : ℕ) (xs : List (ℕ × FieldStep)) (x : ℕ × FieldStep) (all : List (ℕ × Field)) (field : Field)
     → fields_of listed slots before xs ≡ Some all → place_fault (slots ++ slots_of xs) (last_alignment before xs) x ≡ None → field_of listed x.1 ≡ Some field
     → fields_of listed slots before (xs ++ x ∷ []) ≡ Some (all ++ (x.0, field) ∷ [])
@@ -68,7 +63,6 @@ fields_push listed slots before (entry ∷ xs) x all field e place is =
     let rest : fields_of listed next (alignment_of entry.1) (xs ++ x ∷ []) ≡ Some (made.3 ++ (x.0, field) ∷ []) = fields_push listed next (alignment_of entry.1) xs x made.3 field made.4 there is in
     rw (made.0, made.2, rest) (ap (λ (es : List (ℕ × Field)). Some (es ++ (x.0, field) ∷ [])) made.5)
 
--- a number that is a field has no fault
 number_good : (width : Option Width) (n : ℕ) (field : Field) → plain_field width n ≡ Some field → number_fault width n ≡ None
 number_good None n field e = (cc)
 number_good (Some width) n field e = by_test (fits_width width n) e
@@ -82,7 +76,6 @@ both_none : (first second : Option Why) → option_or first second ≡ None → 
 both_none first second e None none = e
 both_none first second e (Some why) none = (cc)
 
--- fields of a table have no fault, where what is listed may be named
 module _ (listed : List Listed) (fault : Kind → ℕ → Option Why) (good : NamedAreGood listed fault) where
   content_good : (content : FieldStep) (field : Field) → field_of listed content ≡ Some field → content_fault fault content ≡ None
   content_good (number_field width n) field e = number_good (field_width width) n field e
@@ -102,7 +95,6 @@ module _ (listed : List Listed) (fault : Kind → ℕ → Option Why) (good : Na
       = both_none (slot_fault slots entry.0) (rising_fault before (alignment_of entry.1)) made.0 (content_fault fault entry.1) (content_good entry.1 made.1 made.2) in
       rw here (fields_good (slots ++ entry.0 ∷ []) (alignment_of entry.1) fields made.3 made.4)
 
--- and where none has a fault, they are fields of a table
 module _ (listed : List Listed) (fault : Kind → ℕ → Option Why) (good : GoodAreNamed listed fault) where
   number_made : (width : Option Width) (n : ℕ) → number_fault width n ≡ None → (field : Field) × (plain_field width n ≡ Some field)
   number_made None n e = (cc)

@@ -1,4 +1,4 @@
--- The parts of a run are placed in turn, and so are the fewest bytes.
+-- Parts placed in turn take the fewest bytes.
 use Rattle.std.proofs.Common.{◌≡◌, ℕ, ◌+◌, List, [], ◌∷◌, ◌++◌, length, refl, sym, ap, ◌∙◌, subst}
 use Rattle.std.proofs.Common.{arith}
 use Rattle.std.specs.List.{AllByRecursion}
@@ -10,18 +10,15 @@ use Rattle.planus_back.proofs.Places.{least_places}
 use Rattle.planus.specs.Headline.{IsFewest}
 use Rattle.planus.proofs.Lists.{all_push}
 
--- the last of these places, or the length before them
 abbrev end_of : ℕ → List ℕ → ℕ
 end_of n [] = n
 end_of n (place ∷ places) = end_of place places
 
--- the promises after these parts
 abbrev promised_by : List Promise → List Part → List ℕ → List Promise
 promised_by promises [] places = promises
 promised_by promises (part ∷ parts) [] = promises
 promised_by promises (part ∷ parts) (place ∷ places) = promised_by (promise_of place part.alignment ∷ promises) parts places
 
--- What is written was placed part by part from nothing.
 pub record InTurn (written : Written) (parts : List Part) (places : List ℕ) : Type 0 where
   pub powers : AllByRecursion (λ (part : Part). IsPowerOfTwo part.alignment) parts
   pub turns : PlacedInTurn 0 [] parts places
@@ -47,7 +44,6 @@ turns_push n promises (x ∷ parts) (y ∷ places) part padding place is_place l
 turns_push n promises [] (y ∷ places) part padding place is_place least h = absurd h
 turns_push n promises (x ∷ parts) [] part padding place is_place least h = absurd h
 
--- one part more
 module _ (part : Part) (before after : Written) (placed : Placed part before after) (at_end : length after.bytes ≡ placed.place) (parts : List Part) (places : List ℕ) (h : InTurn before parts places) where
   here : PlacedInTurn 0 [] (parts ++ part ∷ []) (places ++ placed.place ∷ [])
   here = turns_push 0 [] parts places part placed.padding placed.place
@@ -63,7 +59,6 @@ module _ (part : Part) (before after : Written) (placed : Placed part before aft
     promised = promised_push 0 [] parts places part placed.place h.turns ∙ ap (λ ps. promise_of placed.place part.alignment ∷ ps) h.promised ∙ sym placed.promises;
   }
 
--- parts that are placed in turn lie in order
 in_order : (n : ℕ) (promises : List Promise) (parts : List Part) (places : List ℕ) → PlacedInTurn n promises parts places → LieInOrder n parts places
 in_order n promises [] [] h = tt
 in_order n promises (part ∷ parts) (place ∷ places) h =
@@ -71,7 +66,6 @@ in_order n promises (part ∷ parts) (place ∷ places) h =
 in_order n promises [] (place ∷ places) h = absurd h
 in_order n promises (part ∷ parts) [] h = absurd h
 
--- a length that keeps the promises after them keeps those of each
 keeps_each : (n : ℕ) (promises : List Promise) (parts : List Part) (places : List ℕ) (L : ℕ) → PlacedInTurn n promises parts places → Keep (promised_by promises parts places) L
     → Keep promises L × Keep (promises_at parts places) L
 keeps_each n promises [] [] L h keep = (keep, tt)
@@ -80,7 +74,6 @@ keeps_each n promises (part ∷ parts) (place ∷ places) L h keep =
 keeps_each n promises [] (place ∷ places) L h keep = absurd h
 keeps_each n promises (part ∷ parts) [] L h keep = absurd h
 
--- parts that were placed in turn are the fewest bytes
 pub fewest : (written : Written) (parts : List Part) (earlier : List ℕ) (place : ℕ) → place ≡ length written.bytes → Keep written.promises (length written.bytes)
     → InTurn written parts (earlier ++ place ∷ []) → IsFewest parts (earlier ++ place ∷ []) written.bytes
 fewest written parts earlier place at_end keep h = record {

@@ -1,4 +1,4 @@
--- What the accessors of unions return is what was given.
+-- Accessors of unions return what was written.
 use Rattle.std.proofs.Common.{◌≡◌, ℕ, ◌+◌, ◌*◌, List, [], ◌∷◌, length, drop, map, refl, sym, subst, ap, ◌∙◌, arith, Option, Some, None, Result, Ok, Err, slice_get, zero, suc}
 use Rattle.std.specs.Prelude.{IsOkAnd, IsSomeAnd, MatchOption, ⊤, slice_index}
 use Rattle.std.proofs.lemmas.Option.{slice_get_within}
@@ -113,7 +113,6 @@ module _ {U : Type 0} (reads : ReadsBoth U) (table : Table) (slot : ℕ) (type_ 
         (table_start table) r h;
   }
 
--- unions that were written before are held where they are
 items_hold : (B : List ℕ) (items : List (ℕ × ℕ))
     → UnionsHold B (as_unions (map written_item items)) items
 items_hold B [] = tt
@@ -170,7 +169,6 @@ module _ {T E : Type 0} (table : Table) (slot : ℕ) (type_ method : List ℕ) w
         type_ method (table_start table) r h);
   }
 
--- the union at a position of a list, as it stands
 at_position : (B : List ℕ) (unions : List (ℕ × Content)) (items : List (ℕ × ℕ)) (i tag : ℕ)
     (content : Content) → UnionsHold B (as_unions unions) items → slice_get unions i ≡ Some (tag, content)
     → (item : ℕ × ℕ) × (slice_get items i ≡ Some item) × (item.0 ≡ tag)
@@ -197,7 +195,6 @@ as_many B (union ∷ unions) [] hold = elim hold [ ]
 as_many B [] (item ∷ items) hold = elim hold [ ]
 as_many B (union ∷ unions) (item ∷ items) hold = ap (λ (n : ℕ). suc n) (as_many B unions items hold.2)
 
--- what a union at a position is answered with
 abbrev pub ReadsItem : {U : Type 0} → ReadsBoth U → UnionView → ℕ → Result U ErrorKind → Type 0
 ReadsItem reads view i = reads view.references view.start (slice_index view.tags i) (i * 4)
 

@@ -1,4 +1,4 @@
--- A union is read as the variant that its tag says.
+-- A union is read as the variant with its tag.
 use Rattle.std.proofs.Common.{◌≡◌, ℕ, ◌+◌, List, [], ◌∷◌, drop, sym, subst, ap, Option, Some, None, Result, Ok, Err, inl, inr}
 use Rattle.std.specs.Prelude.{IsOkAnd, IsSomeAnd}
 use Rattle.std.specs.Borrow.{Bor}
@@ -25,7 +25,6 @@ use Rattle.planus.specs.Unions.{IsKnown, IsUnknown, HasVariants, VariantStands, 
 use Rattle.planus.specs.Unions.{UnionStands, IsVariant, IsUnion}
 use Rattle.planus.proofs.Accessors.{view_led}
 
--- a text that stands is read by each reference that leads to it
 text_led : (B bytes : List ℕ) (distance : ℕ) → IsUtf8 bytes
     → Stands B (at (position_of B distance)) (text bytes) → (start f : ℕ)
     → Leads B (start + f) (position_of B distance) → (r : Result (Bor (List ℕ)) ErrorKind)
@@ -40,7 +39,6 @@ abbrev distance_of : Field → ℕ
 distance_of (reference distance) = distance
 distance_of _ = 0
 
--- the reference to a union's value leads to what its content says
 table_stands : (B : List ℕ) (content : Content) (contents : List (ℕ × Option Content)) (distance : ℕ)
     → IsTable B content contents → FieldHolds B content (reference distance)
     → TableStands B contents distance
@@ -73,7 +71,6 @@ text_stands B (written_values _) bytes distance is holds = elim is [ ]
 abbrev the_table : Table → Table
 the_table table = table
 
--- what holds of each value that was found
 when_some : {A : Type 0} {P Q : A → Type 0} (found : Option A) → ((x : A) → P x → Q x)
     → IsSomeAnd found P → IsSomeAnd found Q
 when_some (Some x) more h = more x h
@@ -123,7 +120,6 @@ known_or_not [] tag known unknown = known
 known_or_not (variant ∷ variants) tag (inl same) unknown = unknown.0 same
 known_or_not (variant ∷ variants) tag (inr known) unknown = known_or_not variants tag known unknown.1
 
--- where a value stands, its content is that of a reference
 table_refers : (B : List ℕ) (content : Content) (contents : List (ℕ × Option Content))
     → IsTable B content contents → IsReference content
 table_refers B (written d) contents is = tt
@@ -160,7 +156,6 @@ union_refers (variant ∷ variants) B tag content (inl same) each =
 union_refers (variant ∷ variants) B tag content (inr known) each =
     union_refers variants B tag content known each.1
 
--- A union whose reference leads to what its content says is read as the variant with its tag.
 pub variants_read : {U : Type 0} (reads : ReadsBoth U) (variants : List (UnionVariant U))
     → HasVariants reads variants → (B : List ℕ) (tag : ℕ) (content : Content)
     → UnionStands variants B tag content → (start f distance : ℕ)

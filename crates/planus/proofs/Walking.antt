@@ -1,4 +1,4 @@
--- The steps of a replay one by one.
+-- The steps of a replay, one by one.
 use Rattle.std.proofs.Common.{◌≡◌, ℕ, zero, suc, ◌+◌, List, [], ◌∷◌, ◌++◌, length, take, map, refl}
 use Rattle.std.proofs.Common.{sym, ap, ◌∙◌, subst, arith, Option, Some, None, append_assoc}
 use Rattle.std.proofs.Common.{append-nil, length-append, Err}
@@ -40,7 +40,6 @@ none_after : (n : ℕ) (check : Option Why) (later : Option (ℕ × Why)) → fi
 none_after n None later h = (refl, h)
 none_after n (Some why) later h = (cc)
 
--- the check of one more step decides, where none before is broken
 pub next_check : (earlier steps : List Step) (step : Step) (rest : List Step) → first_bad_after earlier steps ≡ None
     → first_bad_after earlier (steps ++ step ∷ rest) ≡ first_bad_or (length earlier + length steps) (broken_check (earlier ++ steps) step) (first_bad_after (earlier ++ (steps ++ step ∷ [])) rest)
 next_check earlier [] step rest h =
@@ -68,12 +67,10 @@ all_utf8 [] i content e = (cc)
 all_utf8 (step ∷ steps) zero content e = is_utf8 step content (let same : bare_step step ≡ text content = cc in same)
 all_utf8 (step ∷ steps) (suc i) content e = all_utf8 steps i content e
 
--- what is of a kind may be named so
 no_wrong_kind : (kind : Kind) → naming_fault kind (Some (Some kind)) ≡ None
 no_wrong_kind a_value = refl
 no_wrong_kind a_union_vector = refl
 
--- numbers that are a list have no fault
 numbers_good : (width : Option Width) (items : List ℕ) (v : Value) → numbers_value width items ≡ Some v → numbers_fault width items ≡ None
 numbers_good None items v h = (cc)
 numbers_good (Some width) items v h = by_test (list_all (fits_width width) items) h
@@ -82,7 +79,6 @@ numbers_good (Some width) items v h = by_test (list_all (fits_width width) items
     by_test true h = refl
     by_test false h = (cc)
 
--- The steps cs lead to a state, none of them bad; then comes the step c, and then the rest.
 module _ (switches : Switches) (all cs : List Step) (c : Step) (rest : List Step) (whole : all ≡ cs ++ c ∷ rest) (state : State)
     (run : LeadsTo switches nothing_written cs state) (clean : first_bad cs ≡ None) where
   there : slice_get all (length cs) ≡ Some c
@@ -91,7 +87,6 @@ module _ (switches : Switches) (all cs : List Step) (c : Step) (rest : List Step
   before_is : take (length cs) all ≡ cs
   before_is = ap (take (length cs)) whole ∙ take-append_seam cs (c ∷ rest)
 
-  -- a step that puts down entries isn't bad
   abbrev fault_here : Kind → ℕ → Option Why
   fault_here kind number = fault_of kind (named_step cs number)
 

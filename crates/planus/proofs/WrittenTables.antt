@@ -27,7 +27,6 @@ use Rattle.planus.proofs.TableFields.{fields_made}
 use Rattle.planus.proofs.WrittenValues.{width_power, width_positive, width_sized}
 use Rattle.planus.proofs.WrittenValues.{distance_behind, value_behind}
 
--- a width has as many bytes as it is named by
 chosen : (size k : ℕ) (v w : Width) (other : Option Width) → byte_len v ≡ k → (other ≡ Some w → byte_len w ≡ size) → (test : Bool) → (size == k) ≡ test
     → (if test then Some v else other) ≡ Some w → byte_len w ≡ size
 chosen size k v w other of further true is e =
@@ -43,7 +42,6 @@ width_known size w e =
     (chosen size 4 w32 w (if size == 8 then Some w64 else None) refl
     (chosen size 8 w64 w None refl (λ e. (cc)) (size == 8) refl) (size == 4) refl) (size == 2) refl) (size == 1) refl e
 
--- a field that can be written, with this size and alignment
 abbrev pub HasSize : ℕ → ℕ → Field → Type 0
 HasSize before size field = IsField before field × (field_alignment field ≡ size) × (field_size field ≡ size)
 
@@ -72,7 +70,6 @@ number_written before size (Some w) n field known e = by_test (fits_width w n) e
         subst (HasSize before size) same good
     by_test false e = (cc)
 
--- a slot without a fault is small, and none of those before
 pub slot_free : (slots : List ℕ) (slot : ℕ) → slot_fault slots slot ≡ None → (slot < 256) × (list_any (λ other. other == slot) slots ≡ false)
 slot_free slots slot e = by_size (nat_lt 255 slot) refl e
   where
@@ -93,7 +90,6 @@ not_rising before alignment e = by_test (nat_lt before alignment) refl e
     by_test true is e = (cc)
     by_test false is e = (let le : alignment ≤ before = grind (arith, nat_tests, is) in le)
 
--- what is among some is among more
 any_more : (xs : List ℕ) (slot x : ℕ) → list_any (λ other. other == slot) xs ≡ true → list_any (λ other. other == slot) (xs ++ x ∷ []) ≡ true
 any_more xs slot x e = list_any-append (λ other. other == slot) xs (x ∷ []) ∙ ap (λ b. b || list_any (λ other. other == slot) (x ∷ [])) e
 
@@ -105,20 +101,16 @@ any_last (x ∷ xs) slot = in_rest (x == slot) (any_last xs slot)
     in_rest true further = refl
     in_rest false further = further
 
--- the slots of fields
 abbrev slots_in : List (ℕ × Field) → List ℕ
 slots_in all = map (λ entry. entry.0) all
 
--- the slot is none of these
 abbrev IsNone : ℕ → List ℕ → Type 0
 IsNone slot slots = AllByRecursion (λ other. (slot == other) ≡ false) slots
 
--- the first field's alignment, if there is one, is at most this
 abbrev Headed : ℕ → List (ℕ × Field) → Type 0
 Headed before [] = ⊤
 Headed before (entry ∷ all) = field_alignment entry.1 ≤ before
 
--- Fields that can be written behind those of these slots, the last of which has this alignment.
 record AreBehind (bytes : ℕ) (slots : List ℕ) (before : ℕ) (all : List (ℕ × Field)) : Type 0 where
   pub fields : AllByRecursion (λ entry. IsField bytes entry.1) all
   pub headed : Headed before all
@@ -191,7 +183,6 @@ module _ (P : Listed → Type 0) (bytes : ℕ) (reached : (one : Listed) → P o
         sizes = omega (arith, sized, le, small, more);
       })
 
--- no field has a slot that none of theirs is
 none_there : (all : List (ℕ × Field)) (slot : ℕ) → IsNone slot (slots_in all) → field_at all slot ≡ None
 none_there [] slot none = refl
 none_there (entry ∷ all) slot none =
@@ -217,7 +208,6 @@ all_below (slot ∷ slots) below q e = by_test (all_below slots below.1 q) (q ==
         let n : q ≡ slot = grind (arith, nat_tests, is) in let first = below.0 in omega (arith, n, first)
     by_test further false is e = further e
 
--- the fields of a table can be written
 pub tables_are_written : (P : Listed → Type 0) (bytes : ℕ) → ((one : Listed) → P one → IsReached bytes one.named) → (listed : List Listed) → AllByRecursion P listed
     → (fields : List (ℕ × FieldStep)) (all : List (ℕ × Field)) → fields_of listed [] greatest_field fields ≡ Some all → IsTable bytes all
 tables_are_written P bytes reached listed kept fields all e =

@@ -1,4 +1,4 @@
--- The values of lists can be written.
+-- The values of vectors can be written.
 use Rattle.std.proofs.Common.{◌≡◌, ℕ, ◌≤◌, List, [], ◌∷◌, length}
 use Rattle.std.proofs.Common.{refl, subst, Option, Some, None}
 use Rattle.std.proofs.Common.{false}
@@ -19,7 +19,6 @@ use Rattle.planus.specs.Runs.{all_of, numbers_value, fits_width}
 use Rattle.planus.proofs.NamedKinds.{value_reached}
 use Rattle.planus.proofs.Lists.{all_named, all_there, made_after, union_made}
 
--- a width has a power of two of bytes
 pub width_power : (width : Width) → IsPowerOfTwo (byte_len width)
 width_power w8 = (0, refl)
 width_power w16 = (1, refl)
@@ -41,7 +40,6 @@ width_sized w32 n = refl
 width_sized w64 n = refl
 width_sized w128 n = refl
 
--- the numbers of a list are plain items of its width
 numbers_sized : (width : Width) (items : List ℕ)
     → AllByRecursion (λ item. length item ≡ byte_len width) (map (to_le_bytes width) items)
 numbers_sized width [] = tt
@@ -63,7 +61,6 @@ numbers_are_written before (Some width) items v e = by_test (list_all (fits_widt
         subst (λ v. IsWritten before v × WellFormed v) same (list, tt)
     by_test false e = (cc)
 
--- what is referred to was written
 module _ (P : Listed → Type 0) (before : ℕ) (reached : (one : Listed) → P one → IsReached before one.named) (listed : List Listed) (all : AllByRecursion P listed) where
   pub distance_behind : (which : Named → Option ℕ) → ((named : Named) (distance : ℕ) → IsReached before named → which named ≡ Some distance → distance ≤ before)
       → (step distance : ℕ) → distance_at which listed step ≡ Some distance → distance ≤ before

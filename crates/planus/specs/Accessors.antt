@@ -1,4 +1,4 @@
--- What accessors return, for any bytes and for slots that were written.
+-- Results of accessors, for any bytes and for written slots.
 use Rattle.std.specs.Prelude.{◌≡◌, ℕ, List, map, Option, Some, None, Result, Ok, IsOkAnd, IsSomeAnd}
 use Rattle.std.specs.Prelude.{MatchOption, ⊤}
 use Rattle.std.specs.Borrow.{Bor}
@@ -22,7 +22,7 @@ use Rattle.planus.specs.ReadPlain.{reads_plain, plain_content, ArePlain}
 use Rattle.planus.specs.ReadVectors.{reads_vector, ItemsAreTexts, ItemsAreTables}
 use Rattle.planus.specs.Views.{reads_as}
 
--- a kind of fields: how one is read, what it may hold, and what is read back
+-- how a kind of field is read, and what reads back
 pub record FieldKind (X G T : Type 0) : Type 1 where
   pub reads : Reads T
   pub May : List ℕ → X → Type 0
@@ -30,7 +30,7 @@ pub record FieldKind (X G T : Type 0) : Type 1 where
   pub part : G → X
   pub IsRead : List ℕ → X → T → Type 0
 
--- both are none, or what was found is this of what was given
+-- both none, or related values
 abbrev pub SameIf : {G T : Type 0} → (G → T → Type 0) → Option G → Option T → Type 0
 SameIf IsRead None found = found ≡ None
 SameIf IsRead (Some given) found = IsSomeAnd found (IsRead given)
@@ -38,7 +38,7 @@ SameIf IsRead (Some given) found = IsSomeAnd found (IsRead given)
 module _ {X G T : Type 0} (kind : FieldKind X G T) (table : Table) (slot : ℕ)
     (type_ method : List ℕ)
   where
-    -- What a call returns for a slot's optional field, under the names in an error's location.
+    -- the result for an optional field; the names are those of its errors
     pub record IsField (r : Result (Option T) Error) : Type 0 where
       pub answer : Located (FieldAnswer kind.reads table slot) type_ method (table_start table) r
       pub read_back :
@@ -51,7 +51,6 @@ module _ {X G T : Type 0} (kind : FieldKind X G T) (table : Table) (slot : ℕ)
           → MatchOption given ⊤ (λ g. kind.May B (kind.part g))
           → IsOkAnd r (SameIf (λ g. kind.IsRead B (kind.part g)) given)
 
-    -- the same for a required field
     pub record IsRequired (r : Result T Error) : Type 0 where
       pub answer :
           Located (Required (FieldAnswer kind.reads table slot)) type_ method (table_start table) r
@@ -61,7 +60,6 @@ module _ {X G T : Type 0} (kind : FieldKind X G T) (table : Table) (slot : ℕ)
       pub missing :
           (B : List ℕ) → SlotHolds B table slot None → IsMissing type_ method (table_start table) r
 
--- a value of a fixed layout
 abbrev pub plain_kind :
     {T : Type 0} {size alignment : ℕ} → Shape T size alignment → FieldKind T T T
 plain_kind shape = record {
@@ -77,7 +75,6 @@ abbrev pub IsPlainRequired :
     → Result T Error → Type 0
 IsPlainRequired shape = IsRequired (plain_kind shape)
 
--- a string, read where it is UTF-8
 abbrev pub text_kind : FieldKind (List ℕ) (Bor (List ℕ)) (Bor (List ℕ))
 text_kind = record {
   reads = reads_text;
@@ -93,7 +90,6 @@ IsTextField = IsField text_kind
 abbrev pub IsTextRequired : Table → ℕ → List ℕ → List ℕ → Result (Bor (List ℕ)) Error → Type 0
 IsTextRequired = IsRequired text_kind
 
--- a byte vector
 abbrev pub bytes_kind : FieldKind (List ℕ) ByteList (Bor (List ℕ))
 bytes_kind = record {
   reads = reads_bytes;
@@ -110,9 +106,8 @@ IsBytesField = IsField bytes_kind
 abbrev pub IsBytesRequired : Table → ℕ → List ℕ → List ℕ → Result (Bor (List ℕ)) Error → Type 0
 IsBytesRequired = IsRequired bytes_kind
 
--- T is the type of a vector's items, R what the vector holds for them.
+-- T is the type of items, R that of what the vector stores.
 module _ {T R : Type 0} {kind : PlainGhosts R} where
-  -- a vector of values of a fixed layout
   abbrev pub plains_kind : FieldKind (List R) (Bor (List R)) (VectorOf (SliceView T R kind))
   plains_kind = record {
     reads = reads_vector T kind;
@@ -130,7 +125,6 @@ module _ {T R : Type 0} {kind : PlainGhosts R} where
       Table → ℕ → List ℕ → List ℕ → Result (VectorOf (SliceView T R kind)) Error → Type 0
   IsPlainVectorRequired = IsRequired plains_kind
 
-  -- a vector of strings
   abbrev pub texts_kind :
       FieldKind (List (Bor (List ℕ))) (Bor (List (Bor (List ℕ)))) (VectorOf (SliceView T R kind))
   texts_kind = record {
@@ -149,7 +143,6 @@ module _ {T R : Type 0} {kind : PlainGhosts R} where
       Table → ℕ → List ℕ → List ℕ → Result (VectorOf (SliceView T R kind)) Error → Type 0
   IsTextVectorRequired = IsRequired texts_kind
 
-  -- a vector of tables of kind K that were written before
   abbrev pub tables_kind :
       (K : Type 0)
       → FieldKind (List (Offset K)) (Bor (List (Offset K))) (VectorOf (SliceView T R kind))
@@ -171,7 +164,6 @@ module _ {T R : Type 0} {kind : PlainGhosts R} where
       Type 0 → Table → ℕ → List ℕ → List ℕ → Result (VectorOf (SliceView T R kind)) Error → Type 0
   IsTableVectorRequired K = IsRequired (tables_kind K)
 
--- a table with some contents is at this distance in B
 abbrev pub TableIsThere : List ℕ → ℕ → Type 0
 TableIsThere B distance = (contents : List (ℕ × Option Content)) × TableStands B contents distance
 
@@ -181,7 +173,6 @@ IsViewOf table_of B distance view =
     (contents : List (ℕ × Option Content)) → TableStands B contents distance
     → TableHolds B contents (table_of view)
 
--- a table of kind K that was written before
 abbrev pub table_kind : {T : Type 0} → (K : Type 0) → (T → Table) → FieldKind ℕ (Offset K) T
 table_kind K table_of = record {
   reads = reads_as table_of;

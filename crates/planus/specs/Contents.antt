@@ -12,17 +12,15 @@ use Rattle.planus_write.specs.Contents.{Content, item}
 use Rattle.planus_write.specs.Contents.{named_at}
 use Rattle.planus_write.specs.Contents.{FieldIs, Comes}
 
--- what a slot holds, if anything
 abbrev pub content_in : ℕ → Option Content → List (ℕ × Content)
 content_in slot None = []
 content_in slot (Some content) = (slot, content) ∷ []
 
--- the contents of those slots that hold anything
+-- the slots that hold anything
 abbrev pub there_of : List (ℕ × Option Content) → List (ℕ × Content)
 there_of [] = []
 there_of (content ∷ contents) = content_in content.0 content.1 ++ there_of contents
 
--- the fields hold these, slot by slot
 abbrev pub FieldsAre : Past → List (ℕ × Content) → List (ℕ × Field) → Type 0
 FieldsAre past [] [] = ⊤
 FieldsAre past (content ∷ contents) (field ∷ fields) =
@@ -30,25 +28,24 @@ FieldsAre past (content ∷ contents) (field ∷ fields) =
 FieldsAre past [] (field ∷ fields) = ⊥
 FieldsAre past (content ∷ contents) [] = ⊥
 
--- a table with exactly these contents is stored at the distance, with the values it refers to
+-- a table with exactly these contents is stored at the distance, with what it refers to
 pub record TableIsKept (past : Past) (contents : List (ℕ × Option Content)) (distance : ℕ)
     : Type 0 where
   pub fields : List (ℕ × Field)
   pub are : FieldsAre past (there_of contents) fields
   pub table_kept : IsKept past (table fields) (named_at distance)
 
--- what was stored before is still stored
 abbrev pub StillKept : Past → Past → Type 0
 StillKept before after =
     (one : Value) (named : Named) → IsKept before one named → IsKept after one named
 
--- for any history, a table with these contents is stored at the distance, and nothing is lost
+-- a table with these contents is stored at the distance, and nothing is lost
 abbrev pub WritesContents : List (ℕ × Option Content) → State → ℕ → State → Type 0
 WritesContents contents old distance new =
     (past : Past) → IsPast old past
     → Comes past new (λ after. StillKept past after × TableIsKept after contents distance)
 
--- the contents of a union vector's two fields, tags and values
+-- the contents of a union vector's two fields
 abbrev pub tags_content : Option (Content × Content) → Option Content
 tags_content None = None
 tags_content (Some contents) = Some contents.0
@@ -57,7 +54,7 @@ abbrev pub values_content : Option (Content × Content) → Option Content
 values_content None = None
 values_content (Some contents) = Some contents.1
 
--- the contents of a union's value field, and of its tag field
+-- the contents of a union's two fields
 abbrev pub value_content : Option (ℕ × Content) → Option Content
 value_content None = None
 value_content (Some content) = Some content.1
@@ -67,7 +64,7 @@ tag_content None = None
 tag_content (Some content) =
     Some (item (record { bytes = to_le_bytes w8 content.0; alignment = 1 }))
 
--- The same after some fields are prepared: the table has the contents of these before the others.
+-- the same after prepared fields, whose contents come first
 abbrev pub WritesRest :
     (there last : List (ℕ × Field)) (contents last_contents : List (ℕ × Option Content)) → State → ℕ
     → State → Type 0

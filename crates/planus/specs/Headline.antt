@@ -17,7 +17,7 @@ use Rattle.planus_write.specs.Kept.{TagsReached}
 use Rattle.planus.specs.Steps.{Step, Front, root_first, size_first, finish}
 use Rattle.planus.specs.Runs.{Finish, Listed, State, nothing_written, LeadsTo, value_at, value_of}
 
--- The value of a step is at its distances in the bytes, aligned, and reads back.
+-- a step's value is encoded at its distances, aligned, and reads back
 pub record ValueHolds (steps : List Step) (given : Finish) (one : Listed) : Type 0 where
   pub step : Step
   pub value : Value
@@ -29,7 +29,7 @@ pub record ValueHolds (steps : List Step) (given : Finish) (one : Listed) : Type
   pub aligned : AlignedAt given.bytes (position_in given.bytes one.named) value
   pub reads_back : ReadsBack given.bytes (position_in given.bytes one.named) value
 
--- no other placing of the parts since the last clear has a smaller place for any of them
+-- no other placement of these parts has a smaller distance for any of them
 pub record IsFewest (parts : List Part) (places : List ℕ) (bytes : List ℕ) : Type 0 where
   pub placing : IsPlacing parts places
   pub whole : (earlier : List ℕ) × (places ≡ earlier ++ length bytes ∷ [])
@@ -40,7 +40,7 @@ abbrev pub root_at : Front → ℕ
 root_at root_first = 0
 root_at size_first = 4
 
--- The value of a step is in the bytes after the size, at its distances, and reads back.
+-- the same in the bytes after the size
 pub record ValueInPiece (steps : List Step) (places : List Listed) (piece : List ℕ) (one : Listed)
     : Type 0 where
   pub step : Step
@@ -50,9 +50,8 @@ pub record ValueInPiece (steps : List Step) (places : List Listed) (piece : List
   pub stands : Stands piece (position_in piece one.named) value
   pub reads_back : ReadsBack piece (position_in piece one.named) value
 
--- A size-prefixed finish: the size is the number of bytes that follow, which a reader returns as a
--- slice that starts at 4. Its reference leads to the root's value, the identifier follows, and each
--- value holds in it, except for its alignment.
+-- A size-prefixed finish: the size counts the bytes that follow, where all values hold, except for
+-- their alignment.
 pub record SizedHolds (steps : List Step) (root : ℕ) (identifier : Option (List ℕ)) (given : Finish)
     : Type 0 where
   pub size : IsPrefixed given.bytes
@@ -61,14 +60,13 @@ pub record SizedHolds (steps : List Step) (root : ℕ) (identifier : Option (Lis
   pub identified : BytesStand (drop 4 given.bytes) 4 (identifier_bytes identifier)
   pub values : AllByRecursion (ValueInPiece steps given.places (drop 4 given.bytes)) given.places
 
--- the same for both fronts
+-- the same by front: without a size nothing more is said
 abbrev pub HoldsBySize : Front → List Step → ℕ → Option (List ℕ) → Finish → Type 0
 HoldsBySize root_first steps root identifier given = ⊤
 HoldsBySize size_first steps root identifier given = SizedHolds steps root identifier given
 
--- What the finish of one step gives: each value since the last clear is listed and holds; the first
--- reference leads to the root's value, followed by the identifier; the length keeps every alignment
--- constraint since the last clear; and the bytes are the fewest.
+-- A finish: each value since the last clear holds, the first reference leads to the root, the
+-- identifier follows, every alignment is kept, and the bytes are the fewest.
 -- The format: a buffer begins with a reference to its root; four bytes that identify the file may
 -- follow.
 pub record FinishHolds (switches : Switches) (steps : List Step) (given : Finish) : Type 0 where
@@ -94,17 +92,16 @@ abbrev pub is_finish : Step → Bool
 is_finish (finish front root identifier) = true
 is_finish _ = false
 
--- the numbers of the finishes among these steps, in order, counting from this number
+-- the numbers of the finishes, counting from this number
 abbrev pub finishes_from : ℕ → List Step → List ℕ
 finishes_from n [] = []
 finishes_from n (step ∷ steps) =
     if is_finish step then n ∷ finishes_from (n + 1) steps else finishes_from (n + 1) steps
 
--- the numbers of the finishes among the steps of a script
+-- the numbers of the finishes of a script
 abbrev pub finishes_of : List Step → List ℕ
 finishes_of steps = finishes_from 0 steps
 
--- what the finish with this number gives
 pub record IsFinishOf (switches : Switches) (steps : List Step) (number : ℕ)
     (given : Finish) : Type 0 where
   pub holds : FinishHolds switches steps given

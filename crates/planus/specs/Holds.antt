@@ -1,4 +1,4 @@
--- What a field of each kind holds, for contracts of callers.
+-- What a field of each kind holds, for callers' contracts.
 use Rattle.std.specs.Prelude.{ℕ, List, [], ◌∷◌, map, Bool, Option, Some, ℤ}
 use Rattle.std.specs.Int.{Width, w8, w16, w32, w64, to_le_bytes, cast_unsigned, cast_signed}
 use Rattle.std.specs.Int.{from_bool}
@@ -28,7 +28,7 @@ holds_u32 number = Some (item (record { bytes = to_le_bytes w32 number; alignmen
 abbrev pub holds_u64 : ℕ → Option Content
 holds_u64 number = Some (item (record { bytes = to_le_bytes w64 number; alignment = 8 }))
 
--- a signed number as code of this width has it, in a form for numbers passed by value
+-- a signed number, in a form for numbers passed by value
 abbrev pub as_signed : Width → ℤ → ℤ
 as_signed w number = cast_signed w (cast_unsigned w number)
 
@@ -55,7 +55,6 @@ holds_i64 number =
     (item (record
     { bytes = to_le_bytes w64 (cast_unsigned w64 (as_signed w64 number)); alignment = 8 }))
 
--- a signed number equals another, such as its default
 abbrev pub equals_i8 : ℤ → ℤ → Bool
 equals_i8 number default = int_eq (as_signed w8 number) default
 
@@ -72,11 +71,11 @@ equals_i64 number default = int_eq (as_signed w64 number) default
 abbrev pub holds_bool : Bool → Option Content
 holds_bool truth = Some (item (record { bytes = from_bool truth ∷ []; alignment = 1 }))
 
--- a string, of these bytes
+-- a string
 abbrev pub holds_text : List ℕ → Option Content
 holds_text bytes = Some (value (text bytes))
 
--- a value of a fixed layout, such as a struct, an enum or a float
+-- a struct, an enum or a float
 abbrev pub holds_plain :
     {A : Type 0} {size alignment : ℕ} → Shape A size alignment → A → Option Content
 holds_plain {A} {size} {alignment} shape x =
@@ -102,33 +101,33 @@ holds_u32s numbers = Some (value (plain_list 4 4 (map (λ number. to_le_bytes w3
 abbrev pub holds_u64s : List ℕ → Option Content
 holds_u64s numbers = Some (value (plain_list 8 8 (map (λ number. to_le_bytes w64 number) numbers)))
 
--- a vector of strings, each of these bytes
+-- a vector of strings
 abbrev pub holds_texts : {X : Type 0} → (X → List ℕ) → List X → Option Content
 holds_texts bytes texts = Some (values (map (λ one. text (bytes one)) texts))
 
--- a vector of references to values written before
+-- a vector of references
 abbrev pub holds_offsets : {T : Type 0} → List (Offset T) → Option Content
 holds_offsets offsets = Some (value (reference_list (map (λ offset. offset.distance) offsets)))
 
--- a reference to a value written before, at this distance
+-- a reference to the value at this distance
 abbrev pub holds_offset : ℕ → Option Content
 holds_offset distance = Some (written distance)
 
--- the value and the tag of a union written before, if there is one
+-- the value and the tag of a union written before
 abbrev pub holds_union_value : {T : Type 0} → Option (UnionOffset T) → Option Content
 holds_union_value union = value_content (union_if (λ union. Some (written_union union)) union)
 
 abbrev pub holds_union_tag : {T : Type 0} → Option (UnionOffset T) → Option Content
 holds_union_tag union = tag_content (union_if (λ union. Some (written_union union)) union)
 
--- the tags and the values of a union vector, by each union's tag and content
+-- the tags and the values of a union vector
 abbrev pub holds_tags_of : List (ℕ × Content) → Option Content
 holds_tags_of unions = tags_content (Some (unions_hold unions))
 
 abbrev pub holds_values_of : List (ℕ × Content) → Option Content
 holds_values_of unions = values_content (Some (unions_hold unions))
 
--- the same for unions with one tag, each with its value
+-- the same for unions with one tag
 abbrev pub holds_variant_tags : {X : Type 0} → ℕ → (X → Value) → List X → Option Content
 holds_variant_tags tag content unions =
     holds_tags_of (map (λ union. (tag, value (content union))) unions)
@@ -144,7 +143,7 @@ holds_union_tags unions = holds_tags_of (map written_union unions)
 abbrev pub holds_union_values : {T : Type 0} → List (UnionOffset T) → Option Content
 holds_union_values unions = holds_values_of (map written_union unions)
 
--- the same for a union vector that is left out where it is empty
+-- the same, left out where empty
 abbrev pub holds_any_union_tags : {T : Type 0} → List (UnionOffset T) → Option Content
 holds_any_union_tags unions = tags_content (any_unions_hold (map written_union unions))
 

@@ -1,4 +1,4 @@
--- What is returned for the items of vectors.
+-- Results for the items of vectors.
 use Rattle.std.specs.Prelude.{◌≡◌, ℕ, ◌*◌, List, Option, Some, Result, IsOkAnd, IsSomeAnd}
 use Rattle.std.specs.Prelude.{slice_get}
 use Rattle.std.specs.Borrow.{Bor}
@@ -21,13 +21,13 @@ use Rattle.planus.specs.Views.{reads_as}
 use Rattle.planus.specs.declared.tables.table_ref.TableRef.{TableRef}
 
 module _ {T R A : Type 0} {kind : PlainGhosts R} (reads : Reads A) (name : List ℕ) where
-  -- what a type's read returns for an item of a vector, its error at the start of the items
+  -- the result of an item's read, its error at the start of the items
   abbrev pub IsItemRead : VectorOf (SliceView T R kind) → ℕ → Result A Error → Type 0
   IsItemRead vector i =
       Located (reads (view_of vector).bytes (view_of vector).start (i * kind.SIZE)) name item_method
       (view_of vector).start
 
--- a string, none out of bounds; of a vector that was written, the string at this index
+-- a string, or none out of bounds
 pub record IsTextItem {T R : Type 0} {kind : PlainGhosts R} (vector : VectorOf (SliceView T R kind))
     (index : ℕ) (r : Option (Result (Bor (List ℕ)) Error)) : Type 0 where
   pub answer : GetsItem (λ v. count_of v) (IsItemRead reads_text texts_name) vector index r
@@ -46,7 +46,7 @@ GetsTable {T} {R} {kind} K name =
     (view_of v).start)
     (λ (e f : Error). f ≡ e) item)
 
--- the view of a table; of a vector that was written, of the table at this index
+-- the view of a table, or none out of bounds
 pub record IsTableItem {T R V : Type 0} {kind : PlainGhosts R} (K : Type 0) (name : List ℕ)
     (table_of : V → Table) (vector : VectorOf (SliceView T R kind)) (index : ℕ)
     (r : Option (Result V Error)) : Type 0 where

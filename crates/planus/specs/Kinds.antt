@@ -1,23 +1,21 @@
--- The kinds of what steps write, and the error of naming a step as one of a kind.
+-- The kinds of what steps write.
 use Rattle.std.specs.Prelude.{ℕ, Option, Some, None}
 use Rattle.planus_write.specs.Parts.{Named}
 use Rattle.planus.specs.Steps.{Step, unions, finish, clear}
 use Rattle.planus.specs.declared.faults.Why.{Why}
 use Rattle.planus.specs.declared.faults.Why.TheVariants.{NoSuchStep, WrongKind}
 
--- a value has one distance; a union vector has two, of its tags and of its references
+-- a union vector has two distances, of its tags and of its references
 pub data Kind : Type 0 where
   a_value : Kind
   a_union_vector : Kind
 
--- the kind of what a step writes, if anything
 abbrev pub kind_of : Step → Option Kind
 kind_of (unions items) = Some a_union_vector
 kind_of (finish front root identifier) = None
 kind_of clear = None
 kind_of _ = Some a_value
 
--- the kind of what is named: only a union vector has tags
 abbrev pub kind_by_tags : Option ℕ → Kind
 kind_by_tags None = a_value
 kind_by_tags (Some tags) = a_union_vector
@@ -25,7 +23,7 @@ kind_by_tags (Some tags) = a_union_vector
 abbrev pub kind_named : Named → Kind
 kind_named named = kind_by_tags named.tags
 
--- the error of naming a step as one of this kind: no such step, or it writes none of that kind
+-- the error of naming a step as one of this kind
 abbrev pub naming_fault : Kind → Option (Option Kind) → Option Why
 naming_fault kind None = Some NoSuchStep
 naming_fault kind (Some None) = Some WrongKind

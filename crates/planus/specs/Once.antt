@@ -8,36 +8,34 @@ use Rattle.planus.specs.Steps.{Step, text, bytes}
 use Rattle.planus.specs.Runs.{Finish, Listed, State, Writes, LeadsTo, Runs, value_at}
 use Rattle.planus.specs.Replays.{is_clear}
 
--- the contents of a string or of a byte vector, under their kind; another step has none
+-- a string or a byte vector, with its kind
 abbrev pub contents_of : Step → Option Contents
 contents_of (text content) = Some (record { kind = texts; bytes = content })
 contents_of (bytes content) = Some (record { kind = byte_lists; bytes = content })
 contents_of _ = None
 
--- the contents of the step of a number, if it has any
 abbrev pub contents_at : List Step → ℕ → Option Contents
 contents_at steps number = option_and_then contents_of (slice_get steps number)
 
--- Where the cache of their kind is on, listed steps of equal contents have one distance.
+-- where their cache is on, steps of equal contents have one distance
 abbrev pub AreOnce : Switches → List Step → List Listed → Type 0
 AreOnce switches steps listed =
     (contents : Contents) → is_on switches contents.kind ≡ true → (i j d e : ℕ)
     → contents_at steps i ≡ Some contents → contents_at steps j ≡ Some contents
     → value_at listed i ≡ Some d → value_at listed j ≡ Some e → d ≡ e
 
--- Every finish of every run names equal strings, or byte vectors, by one distance, if cached.
+-- In every finish equal strings, or byte vectors, have one distance, if cached.
 abbrev pub EqualContentsHaveOneDistance : Type 0
 EqualContentsHaveOneDistance =
     (switches : Switches) (steps : List Step) (finished : List Finish)
     → Runs switches steps finished
     → AllByRecursion (λ given. AreOnce switches steps given.places) finished
 
--- one of these entries has the contents and got this distance
 abbrev pub Gets : Contents → List Entry → List ℕ → ℕ → Type 0
 Gets contents entries got distance = (n : ℕ) × (entry : Entry) × (slice_get entries n ≡ Some entry)
     × (entry.contents ≡ Some contents) × (slice_get got n ≡ Some distance)
 
--- In every run equal contents get one distance, if their cache is on, from one clear to the next.
+-- In every run equal contents get one distance between clears, if cached.
 abbrev pub EqualEntriesGetOneDistance : Type 0
 EqualEntriesGetOneDistance =
     (switches : Switches) (before between next after : State) (step later : Step)

@@ -1,4 +1,4 @@
--- What is read from a table that was written, by what its fields hold.
+-- What is read from a table that was written.
 use Rattle.std.specs.Prelude.{◌≡◌, ℕ, ◌+◌, ◌≤◌, ◌==◌, List, [], ◌∷◌, length, drop, Bool, true, not}
 use Rattle.std.specs.Prelude.{◌&&◌, if◌then◌else◌}
 use Rattle.std.specs.Prelude.{Option, Some, None, Result, Ok, IsOkAnd, IsSomeAnd, IsTrue, ⊤}
@@ -28,7 +28,6 @@ use Rattle.planus.specs.Contents.{TableIsKept}
 use Rattle.planus.specs.Views.{ShowsView}
 use Rattle.planus.specs.declared.tables.table_ref.TableRef.{TableRef}
 
--- the values are encoded in B at these distances, one by one
 abbrev pub AllStand : List ℕ → List Value → List ℕ → Type 0
 AllStand B [] [] = ⊤
 AllStand B (one ∷ others) (distance ∷ distances) =
@@ -37,7 +36,7 @@ AllStand B [] (distance ∷ distances) = ⊥
 AllStand B (one ∷ others) [] = ⊥
 
 abbrev mutual
-  -- The field holds this in B, and what was written with it is encoded there.
+  -- The field holds this in B, with all that it refers to.
   pub FieldHolds : List ℕ → Content → Field → Type 0
   FieldHolds B (item content) field = field ≡ plain content
   FieldHolds B (value content) field =
@@ -60,7 +59,7 @@ abbrev mutual
   FieldHolds B (written_tags distance) field = field ≡ tags distance
   FieldHolds B (written_values distance) field = field ≡ values_field distance
 
-  -- Unions, each a tag and a distance, have these tags, and their values hold these in B.
+  -- unions with these tags, whose values hold these in B
   pub UnionsHold : List ℕ → Unions → List (ℕ × ℕ) → Type 0
   UnionsHold B no_unions [] = ⊤
   UnionsHold B (union_and tag content others) (union ∷ unions) =
@@ -68,14 +67,12 @@ abbrev mutual
   UnionsHold B no_unions (union ∷ unions) = ⊥
   UnionsHold B (union_and tag content others) [] = ⊥
 
--- an optional field holds this in B, or both are absent
 abbrev pub FieldHoldsIf : List ℕ → Option Content → Option Field → Type 0
 FieldHoldsIf B None None = ⊤
 FieldHoldsIf B (Some content) (Some field) = FieldHolds B content field
 FieldHoldsIf B None (Some field) = ⊥
 FieldHoldsIf B (Some content) None = ⊥
 
--- the fields hold these in B, slot by slot
 abbrev pub FieldsHold : List ℕ → List (ℕ × Content) → List (ℕ × Field) → Type 0
 FieldsHold B [] [] = ⊤
 FieldsHold B (content ∷ contents) (field ∷ fields) =
@@ -83,7 +80,7 @@ FieldsHold B (content ∷ contents) (field ∷ fields) =
 FieldsHold B [] (field ∷ fields) = ⊥
 FieldsHold B (content ∷ contents) [] = ⊥
 
--- no entry has the slot; and no slot has two entries
+-- no entry has the slot
 abbrev pub is_other : ℕ → List (ℕ × Option Content) → Bool
 is_other slot [] = true
 is_other slot (one ∷ contents) = not (one.0 == slot) && is_other slot contents
@@ -92,12 +89,11 @@ abbrev pub are_apart : List (ℕ × Option Content) → Bool
 are_apart [] = true
 are_apart (one ∷ contents) = is_other one.0 contents && are_apart contents
 
--- what a slot holds, if anything
 abbrev pub content_at : List (ℕ × Option Content) → ℕ → Option Content
 content_at [] slot = None
 content_at (one ∷ contents) slot = if one.0 == slot then one.1 else content_at contents slot
 
--- A table with exactly these contents is encoded in B at the distance, with what it refers to.
+-- A table with exactly these contents is in B, with what it refers to.
 pub record TableStands (B : List ℕ) (contents : List (ℕ × Option Content)) (distance : ℕ)
     : Type 0 where
   pub fields : List (ℕ × Field)
@@ -113,7 +109,7 @@ pub record SlotHolds (B : List ℕ) (read : Table) (slot : ℕ) (content : Optio
   pub fields : HasFields B position entries read
   pub holds : FieldHoldsIf B content (field_at entries slot)
 
--- each slot of the table, also past the vtable's end, holds its content or nothing
+-- each slot, also past the vtable's end, holds its content or nothing
 abbrev pub TableHolds : List ℕ → List (ℕ × Option Content) → Table → Type 0
 TableHolds B contents read = (slot : ℕ) → SlotHolds B read slot (content_at contents slot)
 
@@ -124,14 +120,14 @@ KeptTablesStand =
     → TableIsKept past contents distance → IsTrue (are_apart contents)
     → TableStands past.written.bytes contents distance
 
--- A stored table stays so, whatever the builder writes later.
+-- A stored table stays so, whatever is written later.
 abbrev pub KeptTablesStay : Type 0
 KeptTablesStay =
     (before after : Past) (contents : List (ℕ × Option Content)) (distance : ℕ)
     → Extends before after → TableIsKept before contents distance
     → TableIsKept after contents distance
 
--- A stored table is encoded in the bytes of any finish, whatever the root.
+-- A stored table is encoded in the bytes of any finish.
 abbrev pub FinishesKeepTables : {X T : Type 0} → (X → State → Type 0) → (X → Outcome (Offset T))
     → Type 0
 FinishesKeepTables {X} may outcome =
@@ -140,7 +136,7 @@ FinishesKeepTables {X} may outcome =
     → TableIsKept past contents distance → IsTrue (are_apart contents) → may root state
     → FinishGives (outcome root) identifier state bytes → TableStands bytes contents distance
 
--- So it is in the bytes of a size-prefixed finish, and in those after the size.
+-- The same for a size-prefixed finish, also after its size.
 abbrev pub SizedFinishesKeepTables : {X T : Type 0} → (X → State → Type 0)
     → (X → Outcome (Offset T)) → Type 0
 SizedFinishesKeepTables {X} may outcome =
@@ -150,7 +146,7 @@ SizedFinishesKeepTables {X} may outcome =
     → SizedFinishGives (outcome root) identifier state bytes
     → TableStands bytes contents distance × TableStands (drop 4 bytes) contents distance
 
--- A finish's root table is encoded in its bytes, and the first reference leads to it.
+-- The first reference of a finish leads to its root table.
 abbrev pub FinishedTablesStand : Type 0 → Type 0
 FinishedTablesStand T =
     (contents : List (ℕ × Option Content)) (past : Past) (state : State) (offset : Offset T)
@@ -159,7 +155,7 @@ FinishedTablesStand T =
     → offset.distance ≤ length state.bytes → FinishGives (IsPrepared offset) identifier state bytes
     → TableStands bytes contents offset.distance × ReferenceStands bytes 0 offset.distance
 
--- So it is in the bytes after the size of a size-prefixed finish.
+-- The same after the size of a size-prefixed finish.
 abbrev pub SizedFinishedTablesStand : Type 0 → Type 0
 SizedFinishedTablesStand T =
     (contents : List (ℕ × Option Content)) (past : Past) (state : State) (offset : Offset T)
@@ -170,7 +166,7 @@ SizedFinishedTablesStand T =
     → TableStands (drop 4 bytes) contents offset.distance
     × ReferenceStands (drop 4 bytes) 0 offset.distance
 
--- A table reads back by each reference to it, with all its contents.
+-- A table reads back by each reference to it.
 abbrev pub ReferencesReadBack : Type 0 → Type 0
 ReferencesReadBack K =
     (B : List ℕ) (start f : ℕ) (contents : List (ℕ × Option Content)) (distance : ℕ)
@@ -179,7 +175,7 @@ ReferencesReadBack K =
     → Answer (shown (ShowsView (drop start B) start) (table_reading (drop start B) f)) r
     → IsOkAnd r (λ view. TableHolds B contents view.table)
 
--- It reads back as the root, where the first reference leads to it.
+-- The same as the root.
 abbrev pub RootsReadBack : Type 0 → Type 0
 RootsReadBack K =
     (B : List ℕ) (contents : List (ℕ × Option Content)) (distance : ℕ)
@@ -188,7 +184,7 @@ RootsReadBack K =
     → Located (Answer (shown (ShowsView B 0) (table_reading B 0))) type_ method offset r
     → IsOkAnd r (λ view. TableHolds B contents view.table)
 
--- It reads back as an item of a vector whose slice begins at start.
+-- The same as an item of a vector.
 abbrev pub ItemsReadBack : Type 0 → Type 0
 ItemsReadBack K =
     (B : List ℕ) (start f : ℕ) (contents : List (ℕ × Option Content)) (distance : ℕ)
@@ -198,7 +194,7 @@ ItemsReadBack K =
     type_ method offset r
     → IsOkAnd r (λ view. TableHolds B contents view.table)
 
--- what the calls of a table return at a slot with such content, for each kind of accessor
+-- results for a slot with this content, by kind of accessor
 pub record ContentsReadBack {X T : Type 0} (reads : Reads T) (May : List ℕ → X → Type 0)
     (content : X → Content) (IsRead : List ℕ → X → T → Type 0) : Type 0 where
   pub optional :
@@ -220,7 +216,7 @@ pub record ContentsReadBack {X T : Type 0} (reads : Reads T) (May : List ℕ →
       → Located (OrDefault default (FieldAnswer reads read slot)) type_ method offset r
       → IsOkAnd r (IsRead B x)
 
--- what they return at an empty slot: none, the error `MissingRequired`, or the default
+-- results for an empty slot: none, `MissingRequired`, or the default
 pub record AbsentFieldsReadBack {T : Type 0} (reads : Reads T) : Type 0 where
   pub optional :
       (B : List ℕ) (read : Table) (slot : ℕ) → SlotHolds B read slot None

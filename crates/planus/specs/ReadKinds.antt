@@ -1,4 +1,4 @@
--- What is read of a field of each kind, for contracts of callers.
+-- What is read of a field of each kind, for callers' contracts.
 use Rattle.std.specs.Prelude.{◌≡◌, ℕ, List, ⊤}
 use Rattle.std.specs.Borrow.{Bor}
 use Rattle.std.specs.Str.{IsUtf8}
@@ -12,7 +12,6 @@ use Rattle.planus.specs.ReadBack.{ContentsReadBack}
 use Rattle.planus.specs.Views.{ShowsView}
 use Rattle.planus.specs.declared.tables.table_ref.TableRef.{TableRef}
 
--- the results of reading a string, a byte vector and a view
 abbrev pub reads_text : Reads (Bor (List ℕ))
 reads_text S start f r = Answer (shown ShowsBytes (text_reading S f)) r
 
@@ -22,7 +21,7 @@ reads_bytes S start f r = Answer (shown ShowsBytes (byte_list_reading S f)) r
 abbrev pub reads_view : (K : Type 0) → Reads (TableRef K)
 reads_view K S start f r = Answer (shown (ShowsView S start) (table_reading S f)) r
 
--- A field that holds a UTF-8 string is read as it; a byte vector is read as it is.
+-- A UTF-8 string, or a byte vector, reads back.
 abbrev pub TextsReadBack : Type 0
 TextsReadBack =
     ContentsReadBack reads_text (λ B bytes. IsUtf8 bytes) (λ bytes. value (text bytes))

@@ -1,4 +1,4 @@
--- What is read from a field or an item of a fixed layout.
+-- Fields and items of a fixed layout, read back.
 use Rattle.std.specs.Prelude.{◌≡◌, ℕ, ◌*◌, List, map, Bool, Option, None, Result, Ok}
 use Rattle.std.specs.Prelude.{MatchOption, ⊤, slice_get, Some, IsTrue}
 use Rattle.planus_read.specs.declared.located.Error.{Error}
@@ -21,20 +21,17 @@ use Rattle.planus.specs.ReadBack.{ContentsReadBack, SlotHolds}
 use Rattle.planus.specs.ReadVectors.{ArePlainItems}
 
 module _ {T : Type 0} {size alignment : ℕ} (shape : Shape T size alignment) where
-  -- the results of its read
   abbrev pub reads_plain : Reads T
   reads_plain S start f r = Answer (plain_reading shape S f) r
 
-  -- what a field holds for it
   abbrev pub plain_content : T → Content
   plain_content x = item (record { bytes = shape.encoded x; alignment = alignment })
 
-  -- A field with such a value is read as it.
   abbrev pub PlainReadBack : Type 0
   PlainReadBack =
       ContentsReadBack reads_plain (λ B x. shape.fits x) plain_content (λ B x found. found ≡ x)
 
-  -- What a call returns for a slot's optional field, under the names in an error's location.
+  -- the result for an optional field; the names are those of its errors
   pub record IsPlainField
       (table : Table) (slot : ℕ) (type_ method : List ℕ) (r : Result (Option T) Error)
       : Type 0 where
@@ -59,13 +56,13 @@ module _ {T : Type 0} {size alignment : ℕ} (shape : Shape T size alignment) wh
           → SlotHolds B table slot (unless is_default (holds_plain shape x))
           → (IsTrue is_default → x ≡ default) → shape.fits x → r ≡ Ok x
 
--- T is the type of a vector's items, R what the vector holds for them.
+-- T is the type of items, R that of what the vector stores.
 module _ {T R : Type 0} {kind : PlainGhosts R} where
   -- the vector of these values, encoded in B
   abbrev pub ArePlain : List ℕ → List R → VectorOf (SliceView T R kind) → Type 0
   ArePlain B xs vector = ArePlainItems kind B (map kind.shape.encoded xs) vector
 
--- the result for an item of such a vector, an error being at the start of the items
+-- the result for an item whose read may fail
 abbrev pub IsPlainResult :
     {T : Type 0} {kind : PlainGhosts T} → VectorOf (SliceView (Result T Error) T kind) → ℕ
     → Result T Error → Type 0
@@ -73,7 +70,7 @@ IsPlainResult {T} {kind} vector i r =
     Converted (Located (Answer (plain_reading kind.shape (view_of vector).bytes (i * kind.SIZE)))
     plain_name item_method (view_of vector).start) (λ (e f : Error). f ≡ e) r
 
--- An item whose read may fail is read as the value at its index.
+-- An item whose read may fail reads back.
 abbrev pub PlainResultsReadBack : {T : Type 0} → PlainGhosts T → Type 0
 PlainResultsReadBack {T} kind =
     (B : List ℕ) (xs : List T) (x : T) (vector : VectorOf (SliceView (Result T Error) T kind))

@@ -1,4 +1,4 @@
--- What is read from the unions and union vectors of a table that was written.
+-- Unions and union vectors, read back.
 use Rattle.std.specs.Prelude.{◌≡◌, ◌≢◌, ℕ, ◌+◌, ◌<◌, List, drop, Option, Some, None, Result, Ok}
 use Rattle.std.specs.Prelude.{IsOkAnd, IsSomeAnd, ⊤}
 use Rattle.planus_read.specs.declared.errors.ErrorKind.{ErrorKind}
@@ -22,21 +22,19 @@ use Rattle.planus_write.specs.Contents.{written_values}
 use Rattle.planus.specs.Contents.{tag_content, value_content}
 use Rattle.planus.specs.ReadBack.{FieldHolds, SlotHolds, UnionsHold}
 
--- the field that holds this is a reference
 abbrev pub IsReference : Content → Type 0
 IsReference (value content) = ⊤
 IsReference (values contents) = ⊤
 IsReference (written distance) = ⊤
 IsReference _ = ⊥
 
--- the union type's result for its tag, where a reference that holds its content is encoded
 abbrev pub ReadsUnion :
     {T : Type 0} → ReadsBoth T → List ℕ → ℕ → Content → Result T ErrorKind → Type 0
 ReadsUnion reads B tag content r =
     (start f distance : ℕ) × FieldHolds B content (reference distance)
     × ReferenceStands B (start + f) distance × reads (drop start B) start tag f r
 
--- what the calls of a table return at the two slots of a union, and at two empty slots
+-- results for the two slots of a union, and for two empty ones
 pub record UnionsReadBack {T : Type 0} (reads : ReadsBoth T) : Type 0 where
   pub optional :
       (B : List ℕ) (read : Table) (slot tag : ℕ) (content : Content) → tag ≢ 0 → tag < 256
@@ -66,12 +64,11 @@ pub record UnionsReadBack {T : Type 0} (reads : ReadsBoth T) : Type 0 where
       → Located (Required (UnionAnswer reads read slot)) type_ method offset r
       → IsMissing type_ method offset r
 
--- the results of reading a union vector
 abbrev pub reads_unions : {T E : Type 0} → ReadsBoth (VectorOf (UnionSliceView T E))
 reads_unions S start f g r =
     Answer (shown (ShowsUnionVector S start) (union_vector_reading S f g)) r
 
--- the union vector of these items, wherever they are in B
+-- the union vector of these items, in B
 abbrev pub AreUnions : {T E : Type 0} → List ℕ → List (ℕ × ℕ) → VectorOf (UnionSliceView T E)
     → Type 0
 AreUnions {T} {E} B items vector = (kt kv : ℕ) × IsUnionVectorOf T E B kt kv items vector
@@ -82,7 +79,7 @@ abbrev pub AreNewUnions :
 AreNewUnions B contents vector =
     (unions : List (ℕ × ℕ)) × UnionsHold B contents unions × AreUnions B unions vector
 
--- what the calls of a table return at the two slots of a union vector
+-- results for the two slots of a union vector
 pub record UnionVectorSlotsReadBack (T E : Type 0) {X : Type 0} (May : List ℕ → X → Type 0)
     (tags_of values_of : X → Content)
     (IsRead : List ℕ → X → VectorOf (UnionSliceView T E) → Type 0) : Type 0 where
@@ -100,12 +97,12 @@ pub record UnionVectorSlotsReadBack (T E : Type 0) {X : Type 0} (May : List ℕ 
       → Located (Required (UnionVectorAnswer reads_unions read slot)) type_ method offset r
       → IsOkAnd r (IsRead B x)
 
--- So they do for one written with its table, and for one written before.
+-- The same for one written with its table, or before.
 abbrev pub NewUnionVectorsReadBack : (T E : Type 0) → Type 0
 NewUnionVectorsReadBack T E =
     UnionVectorSlotsReadBack T E (λ B contents. ⊤) union_tags union_values AreNewUnions
 
--- a union vector in B: its items, and the distances of its tags and of its values
+-- a union vector in B, with the distances of its tags and values
 pub record WrittenUnions : Type 0 where
   pub items : List (ℕ × ℕ)
   pub tags_at : ℕ
@@ -130,7 +127,6 @@ AbsentUnionVectorsReadBack T E =
     (r : Result (Option (VectorOf (UnionSliceView T E))) Error)
     → Located (UnionVectorAnswer reads_unions read slot) type_ method offset r → r ≡ Ok None
 
--- A required union vector is missing then.
 abbrev pub MissingUnionVectorsAreErrors : (T E : Type 0) → Type 0
 MissingUnionVectorsAreErrors T E =
     (B : List ℕ) (read : Table) (slot : ℕ) → SlotHolds B read slot None

@@ -1,4 +1,4 @@
--- What is read from the vectors of a table that was written, by what its slots hold.
+-- Vectors, read back.
 use Rattle.std.specs.Borrow.{Bor}
 use Rattle.std.specs.Prelude.{◌≡◌, ℕ, ◌*◌, List, length, drop, map, slice_get, Option, Some, Result}
 use Rattle.std.specs.Prelude.{IsOkAnd, ⊤}
@@ -21,12 +21,11 @@ use Rattle.planus.specs.ReadBack.{AllStand, ContentsReadBack, TableStands, Table
 use Rattle.planus.specs.Views.{ShowsView}
 use Rattle.planus.specs.declared.tables.table_ref.TableRef.{TableRef}
 
--- the offset of an item
 abbrev pub item_offset : {R : Type 0} → PlainGhosts R → ℕ → ℕ
 item_offset kind i = i * kind.SIZE
 
 module _ {T R : Type 0} (kind : PlainGhosts R) where
-  -- the vector of plain items of these bytes, or of references to these distances, anywhere in B
+  -- the vector of items of these bytes, or of these references, in B
   abbrev pub ArePlainItems : List ℕ → List (List ℕ) → VectorOf (SliceView T R kind) → Type 0
   ArePlainItems B items vector =
       (k : ℕ) × IsVectorOf kind (λ start f item. PlainReads (drop start B) f item) B k items vector
@@ -35,11 +34,10 @@ module _ {T R : Type 0} (kind : PlainGhosts R) where
   AreReferences B distances vector =
       (k : ℕ) × IsVectorOf kind (ReferenceReads B) B k distances vector
 
-  -- the bytes, the start and the offset from which an item is read
   abbrev pub item_bytes : VectorOf (SliceView T R kind) → List ℕ
   item_bytes vector = (view_of vector).bytes
 
-  -- the vector has the count of these strings, and each that is UTF-8 is read at its index
+  -- one item per string, read if it is UTF-8
   pub record ItemsAreTexts (texts : List (List ℕ)) (vector : VectorOf (SliceView T R kind)) : Type 0
     where
       pub count : count_of vector ≡ length texts
@@ -51,7 +49,7 @@ module _ {T R : Type 0} (kind : PlainGhosts R) where
           type_ method offset r
           → IsOkAnd r (λ found. found.now ≡ bytes)
 
-  -- the vector has the count of these distances, and each table there is read at its index
+  -- one item per distance, each read as a table
   pub record ItemsAreTables (K : Type 0) (B distances : List ℕ)
       (vector : VectorOf (SliceView T R kind))
       : Type 0 where
@@ -66,26 +64,25 @@ module _ {T R : Type 0} (kind : PlainGhosts R) where
         → IsOkAnd r (λ view. TableHolds B contents view.table)
 
 module _ (T : Type 0) {R : Type 0} (kind : PlainGhosts R) where
-  -- the results of reading a vector
   abbrev pub reads_vector : Reads (VectorOf (SliceView T R kind))
   reads_vector S start f r =
       Answer (shown (ShowsVector S start) (vector_reading S f kind.SIZE)) r
 
-  -- A slot with a vector of plain items of the element type's size is read as their vector.
+  -- A vector of plain items of the element's size reads back.
   abbrev pub PlainVectorsReadBack : Type 0
   PlainVectorsReadBack =
       ContentsReadBack {X = ℕ × List (List ℕ)} reads_vector (λ B list. ⊤)
       (λ list. value (plain_list kind.SIZE list.0 list.1))
       (λ B list vector. ArePlainItems kind B list.1 vector)
 
-  -- So is one with a vector of references, where the element type has the size of one.
+  -- So does a vector of references, for elements of that size.
   abbrev pub ReferenceVectorsReadBack : Type 0
   ReferenceVectorsReadBack =
       kind.SIZE ≡ 4
       → ContentsReadBack reads_vector (λ B distances. ⊤)
       (λ distances. value (reference_list distances)) (AreReferences {T = T} kind)
 
-  -- A slot with a vector of references to values is read as the references to these values in B.
+  -- References to values are read as references to these values.
   abbrev pub ValueVectorsReadBack : Type 0
   ValueVectorsReadBack =
       kind.SIZE ≡ 4
@@ -93,7 +90,6 @@ module _ (T : Type 0) {R : Type 0} (kind : PlainGhosts R) where
       (λ B contents vector. (distances : List ℕ) × AllStand B contents distances
       × AreReferences kind B distances vector)
 
-  -- So it is for references to strings in B.
   abbrev pub TextItemsReadBack : Type 0
   TextItemsReadBack =
       (B : List ℕ) (texts : List (List ℕ)) (distances : List ℕ)
@@ -101,7 +97,6 @@ module _ (T : Type 0) {R : Type 0} (kind : PlainGhosts R) where
       → AllStand B (map text texts) distances → AreReferences kind B distances vector
       → ItemsAreTexts kind texts vector
 
-  -- So it is for references to tables in B.
   abbrev pub TableItemsReadBack : Type 0 → Type 0
   TableItemsReadBack K =
       (B distances : List ℕ) (vector : VectorOf (SliceView T R kind))

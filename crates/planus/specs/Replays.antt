@@ -24,7 +24,6 @@ use Rattle.planus_write.specs.declared.errors.BuildError.{BuildError}
 use Rattle.planus_write.specs.declared.errors.BuildError.TheVariants as build
 use Rattle.planus.specs.declared.finishes.StepPlace.{StepPlace}
 
--- whether a step is a clear
 abbrev pub is_clear : Step → Bool
 is_clear clear = true
 is_clear _ = false
@@ -34,7 +33,6 @@ abbrev pub named_step : List Step → ℕ → Option Step
 named_step earlier number =
     if list_any is_clear (drop number earlier) then None else slice_get earlier number
 
--- the error of naming it as one of a kind
 abbrev pub fault_of : Kind → Option Step → Option Why
 fault_of kind step = naming_fault kind (option_map kind_of step)
 
@@ -43,18 +41,16 @@ abbrev pub first_fault : {X : Type 0} → (X → Option Why) → List X → Opti
 first_fault fault [] = None
 first_fault fault (x ∷ xs) = option_or (fault x) (first_fault fault xs)
 
--- the error of a union, by the errors of naming steps: its tag is 0, or its value can't be named
+-- a union's error: its tag is 0, or its value can't be named
 abbrev pub union_fault : (ℕ → Option Why) → ℕ × ℕ → Option Why
 union_fault fault item = if item.0 == 0 then Some ZeroTag else fault item.1
 
--- the error of numbers of a width, or of an unknown one
 abbrev pub numbers_fault : Option Width → List ℕ → Option Why
 numbers_fault None items = Some WidthUnknown
 numbers_fault (Some width) items =
     if list_all (fits_width width) items then None else Some ValueTooBig
 
--- the first failed check of a step: widths and numbers, named values, tags above 0, a table's
--- checks
+-- the first failed check of a step, by the errors of naming steps
 abbrev pub check_by : (Kind → ℕ → Option Why) → Step → Option Why
 check_by fault (numbers width items) = numbers_fault (width_of width) items
 check_by fault (refs steps) = first_fault (fault a_value) steps
@@ -63,28 +59,27 @@ check_by fault (table fields) = table_fault fault fields
 check_by fault (finish front root identifier) = fault a_value root
 check_by fault _ = None
 
--- the first failed check of a step, by the steps before it
+-- the same, by the steps before it
 abbrev pub broken_check : List Step → Step → Option Why
 broken_check earlier step =
     check_by (λ kind number. fault_of kind (named_step earlier number)) step
 
--- the step of this number with its failed check, if it has one, or else a later one
+-- this step if its check failed, else a later one
 abbrev pub first_bad_or : ℕ → Option Why → Option (ℕ × Why) → Option (ℕ × Why)
 first_bad_or n (Some why) later = Some (n, why)
 first_bad_or n None later = later
 
--- the first step with a failed check, and that check; it depends on the steps alone
+-- the first step with a failed check; it depends on the steps alone
 abbrev pub first_bad_after : List Step → List Step → Option (ℕ × Why)
 first_bad_after earlier [] = None
 first_bad_after earlier (step ∷ steps) =
     first_bad_or (length earlier) (broken_check earlier step)
     (first_bad_after (earlier ++ step ∷ []) steps)
 
--- the first bad step of a script
 abbrev pub first_bad : List Step → Option (ℕ × Why)
 first_bad steps = first_bad_after [] steps
 
--- a value's number of step, and its distances
+-- a value's step and its distances
 abbrev pub place_of : StepPlace → Listed
 place_of place = record {
   step = place.step;
@@ -97,8 +92,8 @@ abbrev pub finish_given : Finished → Finish
 finish_given finished =
     record { bytes = finished.bytes.items; places = map place_of finished.places.items }
 
--- The result is that of the run: its finishes, the first bad step, or a part that is too large. Out
--- of memory is always allowed; `StepRefused` says when a step may return it.
+-- The run's result: its finishes, the first bad step, or a part that is too large. Out of memory is
+-- always allowed; `StepRefused` says when a step may return it.
 abbrev pub Replays : Switches → List Step → Result (List Finish) ReplayError → Type 0
 Replays switches steps (Ok finished) = (first_bad steps ≡ None) × Runs switches steps finished
 Replays switches steps (Err (BadStep step why)) =
@@ -108,12 +103,12 @@ Replays switches steps (Err TooLarge) = (n : ℕ) × (first_bad (take (n + 1) st
     × ComesToTooLarge switches steps n
 Replays switches steps (Err OutOfMemory) = ⊤
 
--- an error of the builder, as a replay's error
+-- a builder's error, as a replay's
 abbrev pub replay_error : BuildError → ReplayError
 replay_error build.OutOfMemory = OutOfMemory
 replay_error build.TooLarge = TooLarge
 
--- the result, without the location of its finishes in memory
+-- the result, without locations in memory
 abbrev pub given_by : Result (Vec Finished Global) ReplayError → Result (List Finish) ReplayError
 given_by (Ok finished) = Ok (map finish_given finished.items)
 given_by (Err error) = Err error
@@ -130,11 +125,10 @@ AnswersAreOne =
     → Replays switches steps a → Replays switches steps b
     → IsOutOfMemory a ⊎ IsOutOfMemory b ⊎ (a ≡ b)
 
--- a result other than out of memory
 abbrev pub IsAnswered : Switches → List Step → Type 0
 IsAnswered switches steps = (answer : Result (List Finish) ReplayError)
     × Replays switches steps answer × (IsOutOfMemory answer → ⊥)
 
--- Every list of steps has such a result, since a good step can be taken, or has too large a part.
+-- Every list of steps has a result other than out of memory.
 abbrev pub AnAnswerIsThere : Type 0
 AnAnswerIsThere = (switches : Switches) (steps : List Step) → IsAnswered switches steps

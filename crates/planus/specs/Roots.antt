@@ -14,7 +14,7 @@ use Rattle.planus.specs.Contents.{WritesContents}
 use Rattle.planus.specs.ReadBack.{are_apart, TableStands, TableHolds}
 use Rattle.planus.specs.Views.{reads_as}
 
--- the view of a buffer's root has the contents with which its table was written
+-- the root's view has the contents with which its table was written
 pub record IsRoot {V : Type 0} (K : Type 0) (name : List ℕ) (table_of : V → Table) (bytes : List ℕ)
     (r : Result V Error) : Type 0 where
   pub answer : Located (reads_as table_of bytes 0 0) name (codes "read_as_root") 0 r

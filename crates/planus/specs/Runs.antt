@@ -1,4 +1,4 @@
--- Runs: the meaning of steps, by the definitions of entries and of how they are written alone.
+-- Runs: the meaning of steps, by the definitions alone.
 use Rattle.std.specs.Prelude.{◌≡◌, ℕ, ◌+◌, ◌==◌, ◌||◌, List, [], ◌∷◌, ◌++◌, take, slice_get, Option}
 use Rattle.std.specs.Prelude.{Some}
 use Rattle.std.specs.Prelude.{None, if◌then◌else◌, Bool, true, false, nat_lt, ◌^◌, map, length, ⊤}
@@ -21,12 +21,11 @@ use Rattle.planus.specs.Steps.{Front, root_first, size_first}
 use Rattle.planus.specs.Slots.{place_fault, alignment_of, greatest_field}
 use Rattle.planus.specs.declared.faults.Why.{Why}
 
--- a value's number of step, and its distances
+-- a value's step and its distances
 pub record Listed : Type 0 where
   pub step : ℕ
   pub named : Named
 
--- the distances of a step's value, if listed
 abbrev pub named_at : List Listed → ℕ → Option Named
 named_at [] step = None
 named_at (one ∷ rest) step = if one.step == step then Some one.named else named_at rest step
@@ -35,18 +34,16 @@ named_at (one ∷ rest) step = if one.step == step then Some one.named else name
 abbrev pub value_distance : Named → Option ℕ
 value_distance named = if is_none named.tags then Some named.distance else None
 
--- the distances of a union vector's tags and of its references; a value has none
+-- the distances of a union vector's tags and references
 abbrev pub tags_distance : Named → Option ℕ
 tags_distance named = named.tags
 
 abbrev pub references_distance : Named → Option ℕ
 references_distance named = option_map (λ tags. named.distance) named.tags
 
--- such a distance of a step, if listed
 abbrev pub distance_at : (Named → Option ℕ) → List Listed → ℕ → Option ℕ
 distance_at which listed step = option_and_then which (named_at listed step)
 
--- the distance of a step's value, if listed
 abbrev pub value_at : List Listed → ℕ → Option ℕ
 value_at listed step = distance_at value_distance listed step
 
@@ -56,11 +53,11 @@ width_of size =
     if size == 2 then Some w16
     else if size == 4 then Some w32 else if size == 8 then Some w64 else None
 
--- whether a number fits the width
+-- the number fits the width
 abbrev pub fits_width : Width → ℕ → Bool
 fits_width width number = nat_lt number (256 ^ byte_len width)
 
--- the vector of numbers of a known width that all fit it
+-- a vector of numbers that fit a known width
 -- The format: numbers are little-endian.
 abbrev pub numbers_value : Option Width → List ℕ → Option Value
 numbers_value None items = None
@@ -69,17 +66,16 @@ numbers_value (Some width) items =
     then Some (value.plain_list (byte_len width) (byte_len width) (map (to_le_bytes width) items))
     else None
 
--- both in one list, if both are there
 abbrev pub with_one : {Y : Type 0} → Option Y → Option (List Y) → Option (List Y)
 with_one None others = None
 with_one (Some one) others = option_map (λ rest. one ∷ rest) others
 
--- the results for all items, if all have one
+-- all results, if each item has one
 abbrev pub all_of : {X Y : Type 0} → (X → Option Y) → List X → Option (List Y)
 all_of gives [] = Some []
 all_of gives (x ∷ xs) = with_one (gives x) (all_of gives xs)
 
--- a union: its tag, above 0, and the distance of a step's value
+-- a union: its tag above 0, and its value's distance
 abbrev pub union_of : List Listed → ℕ × ℕ → Option (ℕ × ℕ)
 union_of listed item =
     if item.0 == 0 then None
@@ -89,7 +85,7 @@ union_of listed item =
 abbrev pub field_width : ℕ → Option Width
 field_width size = if size == 1 then Some w8 else width_of size
 
--- the field of a number that fits a known width
+-- a number that fits a known width
 -- The format: a number of n bytes has alignment n.
 abbrev pub plain_field : Option Width → ℕ → Option Field
 plain_field None number = None
@@ -99,7 +95,6 @@ plain_field (Some width) number =
     (record { bytes = to_le_bytes width number; alignment = byte_len width }))
     else None
 
--- the field that holds this, if there is one
 abbrev pub field_of : List Listed → FieldStep → Option Field
 field_of listed (number_field width number) = plain_field (field_width width) number
 field_of listed (ref_field step) = option_map value.reference (value_at listed step)
@@ -108,14 +103,13 @@ field_of listed (tags_field step) =
 field_of listed (values_field step) =
     option_map value.values (distance_at references_distance listed step)
 
--- one more field, if its place is right
 abbrev pub with_field : ℕ → Option Why → Option Field → Option (List (ℕ × Field))
     → Option (List (ℕ × Field))
 with_field slot None (Some field) rest = option_map (λ fields. (slot, field) ∷ fields) rest
 with_field slot None None rest = None
 with_field slot (Some why) field rest = None
 
--- the fields after those of these slots, the last of which has this alignment, if all are right
+-- the fields after those of these slots, the last with this alignment, if all are right
 abbrev pub fields_of : List Listed → List ℕ → ℕ → List (ℕ × FieldStep)
     → Option (List (ℕ × Field))
 fields_of listed slots before [] = Some []
@@ -123,7 +117,7 @@ fields_of listed slots before (entry ∷ fields) =
     with_field entry.0 (place_fault slots before entry) (field_of listed entry.1)
     (fields_of listed (slots ++ entry.0 ∷ []) (alignment_of entry.1) fields)
 
--- the value that a step writes, if any, by the values of the steps before it
+-- the value that a step writes, by the values before it
 abbrev pub value_of : List Listed → Step → Option Value
 value_of listed (text content) = Some (value.text content)
 value_of listed (bytes content) = Some (value.byte_list content)
@@ -135,30 +129,29 @@ value_of listed (table fields) =
 value_of listed (finish front root identifier) = None
 value_of listed clear = None
 
--- the finish of a root at a distance, by its front
 abbrev pub finish_of : Front → Option (List ℕ) → ℕ → List Entry
 finish_of root_first identifier root = finish_entry root identifier ∷ []
 finish_of size_first identifier root = sized_finish_entry root identifier ∷ []
 
--- what a step writes, if anything: the entries of its value, or of a finish
+-- the entries that a step writes: of its value, or of a finish
 abbrev pub entries_put : List Listed → Step → Option (List Entry)
 entries_put listed (finish front root identifier) =
     option_map (finish_of front identifier) (value_at listed root)
 entries_put listed step = option_map entries_of (value_of listed step)
 
--- what one finish gives: the bytes, and each value since the last clear
+-- a finish's bytes, and each value since the last clear
 pub record Finish : Type 0 where
   pub bytes : List ℕ
   pub places : List Listed
 
--- what was written since the last clear, its values, the next step's number, and the finishes
+-- what was written since the last clear, and all finishes
 pub record State : Type 0 where
   pub past : Past
   pub listed : List Listed
   pub next : ℕ
   pub finished : List Finish
 
--- nothing is written before the step of this number, and these finishes were given
+-- nothing is written before the step of this number
 abbrev pub nothing_since : ℕ → List Finish → State
 nothing_since next finished =
     record { past = no_past; listed = []; next = next; finished = finished }
@@ -167,12 +160,10 @@ nothing_since next finished =
 abbrev pub nothing_written : State
 nothing_written = nothing_since 0 []
 
--- what a step adds to the values, once its entries got these distances
 abbrev pub values_added : Option Value → ℕ → List ℕ → List Listed
 values_added None number got = []
 values_added (Some value) number got = record { step = number; named = named_by value got } ∷ []
 
--- what a step adds to the finishes: the bytes, and all values since the last clear
 abbrev pub finishes_added : Step → State → Past → List Finish
 finishes_added (finish front root identifier) before after =
     record { bytes = after.written.bytes; places = before.listed } ∷ []
@@ -190,16 +181,14 @@ pub record Writes (switches : Switches) (before : State) (step : Step)
   pub next : after.next ≡ before.next + 1
   pub finished : after.finished ≡ before.finished ++ finishes_added step before after.past
 
--- a clear: nothing is written, and nothing before it can be named
+-- nothing before a clear can be named
 abbrev pub cleared : State → State
 cleared before = nothing_since (before.next + 1) before.finished
 
--- one step leads from one state to the next
 abbrev pub Advances : Switches → State → Step → State → Type 0
 Advances switches before clear after = after ≡ cleared before
 Advances switches before step after = Writes switches before step after
 
--- the steps lead from one state to the other, one after another
 abbrev pub LeadsTo : Switches → State → List Step → State → Type 0
 LeadsTo switches before [] after = after ≡ before
 LeadsTo switches before (step ∷ steps) after =
@@ -216,7 +205,7 @@ pub record StepTooLarge (switches : Switches) (before : State) (step : Step) : T
   pub are : entries_put before.listed step ≡ Some entries
   pub too_large : ComesToTooLargeEntry switches entries [] before.past
 
--- the run comes to such a part in the step of this number
+-- the step of this number has a part that is too large
 pub record ComesToTooLarge (switches : Switches) (steps : List Step) (n : ℕ) : Type 0 where
   pub step : Step
   pub there : slice_get steps n ≡ Some step
@@ -229,13 +218,13 @@ abbrev pub IsNotTooLarge : Part → Written → Type 0
 IsNotTooLarge part written =
     IsWithinLimit (length written.bytes) part.size part.alignment written.promises
 
--- an entry that takes memory: it isn't found, and its part isn't too large
+-- an entry takes memory unless it is found or too large
 pub record AsksForMemory (switches : Switches) (entry : Entry) (got : List ℕ)
     (before : Past) : Type 0 where
   pub is_new : found_before switches entry before ≡ None
   pub fits : IsNotTooLarge (part_after entry got before) before.written
 
--- memory may run out for one of these entries, or after the last; no part up to there is too large
+-- memory may run out for one of these entries, or after the last
 abbrev pub ComesToRefusedEntry : Switches → List Entry → List ℕ → Past → Type 0
 ComesToRefusedEntry switches [] got before = ⊤
 ComesToRefusedEntry switches (entry ∷ entries) got before =
@@ -243,7 +232,7 @@ ComesToRefusedEntry switches (entry ∷ entries) got before =
     ⊎ ((distance : ℕ) × (between : Past) × Puts switches entry got before distance between
     × ComesToRefusedEntry switches entries (got ++ distance ∷ []) between)
 
--- whether a step takes memory for a list before it writes: numbers made narrower, or named values
+-- a step takes memory before it writes, to narrow numbers or find values
 abbrev pub takes_list : Step → Bool
 takes_list (numbers width items) = width == 2 || width == 4
 takes_list (refs steps) = true
@@ -256,7 +245,7 @@ pub record EntriesRefused (switches : Switches) (before : State) (step : Step) :
   pub are : entries_put before.listed step ≡ Some entries
   pub refused : ComesToRefusedEntry switches entries [] before.past
 
--- memory may run out in the step: for its list, or for its entries
+-- memory may run out in the step
 abbrev pub StepRefused : Switches → State → Step → Type 0
 StepRefused switches before step =
     (takes_list step ≡ true) ⊎ EntriesRefused switches before step

@@ -1,4 +1,4 @@
--- What two runs of the same steps have in common, whatever their cache settings.
+-- What two runs of the same steps have in common.
 use Rattle.std.specs.Prelude.{◌≡◌, ℕ, List, [], ◌∷◌, Option, Some, ⊤, slice_get}
 use Rattle.planus_read.specs.Values.{Value, Field, text, byte_list, plain_list, reference_list}
 use Rattle.planus_read.specs.Values.{union_vector, table, plain, reference, tags, values}
@@ -10,19 +10,19 @@ use Rattle.planus.specs.Headline.{root_at}
 use Rattle.planus.specs.Runs.{Finish, Listed, Runs, value_of, distance_at, value_distance}
 use Rattle.planus.specs.Runs.{tags_distance, references_distance}
 
--- two lists of equal length, related item by item
+-- two lists, related item by item
 abbrev pub AllPairs : {X Y : Type 0} → (X → Y → Type 0) → List X → List Y → Type 0
 AllPairs R [] [] = ⊤
 AllPairs R (x ∷ xs) (y ∷ ys) = R x y × AllPairs R xs ys
 AllPairs R [] (y ∷ ys) = ⊥
 AllPairs R (x ∷ xs) [] = ⊥
 
--- one step has the one distance in the one list, and the other in the other
+-- distances of one step in both lists
 abbrev pub LeadToOneStep : (Named → Option ℕ) → List Listed → List Listed → ℕ → ℕ → Type 0
 LeadToOneStep which ones others d e = (step : ℕ) × (distance_at which ones step ≡ Some d)
     × (distance_at which others step ≡ Some e)
 
--- fields equal but for their distances, which lead to the same steps
+-- fields equal but for distances, which lead to the same steps
 abbrev pub SameField : List Listed → List Listed → Field → Field → Type 0
 SameField ones others (plain item) (plain other) = item ≡ other
 SameField ones others (reference d) (reference e) =
@@ -31,16 +31,14 @@ SameField ones others (tags d) (tags e) = LeadToOneStep tags_distance ones other
 SameField ones others (values d) (values e) = LeadToOneStep references_distance ones others d e
 SameField ones others _ _ = ⊥
 
--- in one slot
 abbrev pub SameEntry : List Listed → List Listed → ℕ × Field → ℕ × Field → Type 0
 SameEntry ones others entry other = (entry.0 ≡ other.0) × SameField ones others entry.1 other.1
 
--- and unions with the same tag
 abbrev pub SameUnion : List Listed → List Listed → ℕ × ℕ → ℕ × ℕ → Type 0
 SameUnion ones others union other = (union.0 ≡ other.0)
     × LeadToOneStep value_distance ones others union.1 other.1
 
--- values equal but for their distances, which lead to the same steps
+-- values equal but for distances, which lead to the same steps
 abbrev pub SameValue : List Listed → List Listed → Value → Value → Type 0
 SameValue ones others (text content) (text other) = content ≡ other
 SameValue ones others (byte_list content) (byte_list other) = content ≡ other
@@ -54,7 +52,6 @@ SameValue ones others (table entries) (table other) =
     AllPairs (SameEntry ones others) entries other
 SameValue ones others _ _ = ⊥
 
--- the same values of one step
 pub record SamePlace (steps : List Step) (ones others : List Listed) (one other : Listed)
     : Type 0 where
   pub same_step : one.step ≡ other.step
@@ -66,8 +63,7 @@ pub record SamePlace (steps : List Step) (ones others : List Listed) (one other 
   pub is_other : value_of others step ≡ Some other_value
   pub same : SameValue ones others value other_value
 
--- two finishes of one step lead to the value of one step, and list the same values in the same
--- order
+-- finishes with one step as their root, and the same values in order
 pub record SameTrees (steps : List Step) (one other : Finish) : Type 0 where
   pub number : ℕ
   pub front : Front
@@ -82,7 +78,7 @@ pub record SameTrees (steps : List Step) (one other : Finish) : Type 0 where
   pub other_leads : ReferenceStands other.bytes (root_at front) other_distance
   pub places : AllPairs (SamePlace steps one.places other.places) one.places other.places
 
--- Two runs of the same steps have the same trees in their finishes, whatever the cache settings.
+-- Two runs of the same steps have the same trees, whatever the cache settings.
 abbrev pub TreesAreTheSame : Type 0
 TreesAreTheSame =
     (one other : Switches) (steps : List Step) (finished others : List Finish)

@@ -1,4 +1,4 @@
--- The steps of a run, without the location of their strings and vectors in memory.
+-- Steps of a run, without locations in memory.
 use Rattle.std.specs.Prelude.{ℕ, Bool, true, false, List, Option, map}
 use Rattle.std.specs.String.{string_bytes}
 use Rattle.planus.specs.declared.steps.Step as code
@@ -8,26 +8,24 @@ use Rattle.planus.specs.declared.steps.Field.{Field}
 use Rattle.planus.specs.declared.steps.FieldValue.{FieldValue}
 use Rattle.planus.specs.declared.steps.FieldValue.TheVariants.{Number, Ref, Tags, Values}
 
--- What a field holds: a number and its width in bytes, or a reference to a step's value, to its
--- tags or to its references.
+-- a number with its width in bytes, or a reference to a step's value, tags or references
 pub data FieldStep : Type 0 where
   number_field : (width : ℕ) → ℕ → FieldStep
   ref_field : ℕ → FieldStep
   tags_field : ℕ → FieldStep
   values_field : ℕ → FieldStep
 
--- what a finished buffer begins with: the reference to the root, or the size
+-- a buffer begins with the root's reference, or with its size
 pub data Front : Type 0 where
   root_first : Front
   size_first : Front
 
--- the front, by whether the size is wanted
+-- by whether the size is wanted
 abbrev pub front_of : Bool → Front
 front_of true = size_first
 front_of false = root_first
 
--- A step: a string, a byte vector, numbers and their width in bytes, references to earlier steps, a
--- union vector, a table, a finish, or a clear.
+-- numbers come with their width in bytes
 pub data Step : Type 0 where
   text : List ℕ → Step
   bytes : List ℕ → Step
@@ -45,11 +43,11 @@ content_of (Ref step) = ref_field step
 content_of (Tags step) = tags_field step
 content_of (Values step) = values_field step
 
--- a field: its slot, and what it holds
+-- a field's slot, and what it holds
 abbrev pub bare_field : Field → ℕ × FieldStep
 bare_field field = (field.slot, content_of field.value)
 
--- a step, without the location of its string or vector in memory
+-- a step, without its location in memory
 abbrev pub bare_step : code.Step → Step
 bare_step (Text words) = text (string_bytes words)
 bare_step (Bytes content) = bytes content.items

@@ -1,4 +1,4 @@
--- What is read from size-prefixed finishes, one after another.
+-- Size-prefixed finishes, read one after another.
 use Rattle.std.specs.Prelude.{◌≡◌, List, ◌++◌, drop, map, ℕ}
 use Rattle.std.specs.List.{AllByRecursion, concat}
 use Rattle.planus_read.specs.ReadingLaws.{IsAnswered}
@@ -8,7 +8,7 @@ use Rattle.planus.specs.Steps.{Step, size_first}
 use Rattle.planus.specs.Runs.{Finish}
 use Rattle.planus.specs.Headline.{FinishHolds, SizedHolds}
 
--- A size-prefixed finish is read with exactly its bytes after the size, and every value reads back.
+-- A size-prefixed finish is read with exactly its bytes, and every value reads back.
 abbrev pub SizedFinishesAreRead : Type 0
 SizedFinishesAreRead =
     (switches : Switches) (steps : List Step) (given : Finish)
@@ -17,18 +17,16 @@ SizedFinishesAreRead =
     (record { content = drop 4 given.bytes; rest = rest })
     × SizedHolds steps holds.root holds.identifier given
 
--- a size-prefixed finish of some run gives this
 pub record IsGivenSized (given : Finish) : Type 0 where
   pub switches : Switches
   pub steps : List Step
   pub holds : FinishHolds switches steps given
   pub sized : holds.front ≡ size_first
 
--- the bytes of some finishes
 abbrev pub bytes_given : List Finish → List (List ℕ)
 bytes_given finishes = map (λ given. given.bytes) finishes
 
--- Such finishes, of any runs, one after another, are read one by one, each with exactly its bytes.
+-- Such finishes, one after another, are read one by one.
 abbrev pub SizedStreamsAreRead : Type 0
 SizedStreamsAreRead =
     (finishes : List Finish) (left : List ℕ) → AllByRecursion IsGivenSized finishes

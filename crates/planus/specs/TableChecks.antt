@@ -9,26 +9,24 @@ use Rattle.planus.specs.Runs.{field_width, fits_width}
 use Rattle.planus.specs.declared.faults.Why.{Why}
 use Rattle.planus.specs.declared.faults.Why.TheVariants.{WidthUnknown, ValueTooBig}
 
--- the error of a number of a width, or of an unknown one
 abbrev pub number_fault : Option Width → ℕ → Option Why
 number_fault None number = Some WidthUnknown
 number_fault (Some width) number =
     if fits_width width number then None else Some ValueTooBig
 
--- the error of a field's content: a reference names a value, tags and values a union vector
+-- a reference names a value, tags and values a union vector
 abbrev pub content_fault : (Kind → ℕ → Option Why) → FieldStep → Option Why
 content_fault fault (number_field width number) = number_fault (field_width width) number
 content_fault fault (ref_field step) = fault a_value step
 content_fault fault (tags_field step) = fault a_union_vector step
 content_fault fault (values_field step) = fault a_union_vector step
 
--- the first failed check of a field: of its slot, its content, its alignment
+-- the first failed check: of the slot, the content, the alignment
 abbrev pub field_fault : (Kind → ℕ → Option Why) → List ℕ → ℕ → ℕ × FieldStep → Option Why
 field_fault fault slots before entry =
     option_or (slot_fault slots entry.0)
     (option_or (content_fault fault entry.1) (rising_fault before (alignment_of entry.1)))
 
--- the first failed check of the fields after those, in order
 abbrev pub fields_fault : (Kind → ℕ → Option Why) → List ℕ → ℕ → List (ℕ × FieldStep)
     → Option Why
 fields_fault fault slots before [] = None

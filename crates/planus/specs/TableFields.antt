@@ -1,4 +1,4 @@
--- The present fields of a table, in the order in which they are declared and written.
+-- The present fields of a table, in the order written.
 use Rattle.std.specs.Prelude.{ℕ, List, [], ◌∷◌, ◌++◌, Option, Some, None}
 use Rattle.planus_read.specs.Bytes.{BytesStand}
 use Rattle.planus_read.specs.Values.{Field, plain, reference, tags, values}
@@ -14,39 +14,38 @@ abbrev pub field_in : {A : Type 0} → ℕ → (A → Field) → Option A → Li
 field_in slot field None = []
 field_in slot field (Some prepared) = (slot, field prepared) ∷ []
 
--- fields one by one, each present or not, as one list
+-- optional fields, as one list
 abbrev pub all_of : List (List (ℕ × Field)) → List (ℕ × Field)
 all_of [] = []
 all_of (fields ∷ others) = fields ++ all_of others
 
--- the field of a tag
 abbrev pub tag_field : ℕ → Field
 tag_field tag = plain (record { bytes = to_le_bytes w8 tag; alignment = 1 })
 
--- the fields of a union, if present: the reference to its value, and its tag
+-- a union's value field, and its tag field, if present
 abbrev pub union_value_in : {T : Type 0} → ℕ → Option (UnionOffset T) → List (ℕ × Field)
 union_value_in slot union = field_in slot (λ union. reference (union_reach union)) union
 
 abbrev pub union_tag_in : {T : Type 0} → ℕ → Option (UnionOffset T) → List (ℕ × Field)
 union_tag_in slot union = field_in slot (λ union. tag_field union.tag) union
 
--- the fields of a union vector, if present: the references to its tags and to its values
+-- a union vector's tag field, and its value field, if present
 abbrev pub list_tags_in : {T : Type 0} → ℕ → Option (UnionVectorOffset T) → List (ℕ × Field)
 list_tags_in slot vector = field_in slot (λ vector. tags vector.tags.distance) vector
 
 abbrev pub list_values_in : {T : Type 0} → ℕ → Option (UnionVectorOffset T) → List (ℕ × Field)
 list_values_in slot vector = field_in slot (λ vector. values vector.values.distance) vector
 
--- the size of a field, 0 if absent
+-- a field's size, 0 if absent
 abbrev pub size_if : {A : Type 0} → ℕ → Option A → ℕ
 size_if size None = 0
 size_if size (Some prepared) = size
 
--- its bytes by its place, none if absent
+-- its bytes by its place
 abbrev pub item_if : {A : Type 0} → (A → Item) → Option A → Item
 item_if leaves None place = []
 item_if leaves (Some prepared) place = leaves prepared place
 
--- nothing is declared for the slot yet: its two bytes are 0
+-- nothing is declared for the slot: its two bytes are 0
 abbrev pub IsUnused : Writer → ℕ → Type 0
 IsUnused writer slot = BytesStand writer.vtable (slot_position slot) (0 ∷ 0 ∷ [])

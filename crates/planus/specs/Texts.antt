@@ -8,7 +8,7 @@ use Rattle.planus.specs.declared.faults.Why.TheVariants.{WidthUnknown, ValueTooB
 use Rattle.planus.specs.declared.faults.Why.TheVariants.{NoSuchStep, WrongKind, ZeroTag}
 use Rattle.planus.specs.declared.faults.Why.TheVariants.{SlotTooBig, SlotTwice, RisingAlignment}
 
--- the message of a step's error
+-- a step's error
 abbrev pub why_text : Why → List ℕ
 why_text WidthUnknown = codes "width unknown"
 why_text ValueTooBig = codes "value too big"
@@ -19,7 +19,7 @@ why_text SlotTooBig = codes "slot too big"
 why_text SlotTwice = codes "slot twice"
 why_text RisingAlignment = codes "rising alignment"
 
--- the message of a replay's error, with the number of a bad step
+-- a replay's error, with the number of a bad step
 abbrev pub replay_error_text : ReplayError → List ℕ
 replay_error_text OutOfMemory = codes "out of memory"
 replay_error_text TooLarge = codes "too large"

@@ -1,4 +1,4 @@
--- What is returned for unions, for union vectors, and for their items.
+-- Results for unions, union vectors and their items.
 use Rattle.std.specs.Prelude.{◌≡◌, ℕ, ◌+◌, ◌*◌, List, [], ◌∷◌, map, Option, Some, None, Result, Ok}
 use Rattle.std.specs.Prelude.{IsOkAnd}
 use Rattle.std.specs.Prelude.{IsSomeAnd, MatchOption, ⊤, slice_get, slice_index}
@@ -23,7 +23,7 @@ use Rattle.planus.specs.ReadUnions.{UnionsStand}
 use Rattle.planus.specs.Unions.{UnionVariant, HasVariants, UnionStands, IsUnion}
 
 module _ {U : Type 0} (reads : ReadsBoth U) (table : Table) (slot : ℕ) (type_ method : List ℕ) where
-  -- what a call returns for the optional union of a slot and the next
+  -- the optional union of a slot and the next
   pub record IsUnionField (K : Type 0) (r : Result (Option U) Error) : Type 0 where
     pub answer : Located (UnionAnswer reads table slot) type_ method (table_start table) r
     pub read_back :
@@ -43,7 +43,7 @@ module _ {U : Type 0} (reads : ReadsBoth U) (table : Table) (slot : ℕ) (type_ 
         → IsOkAnd r (SameIf (λ union. IsUnion variants B union.tag (written union.offset.distance))
         given)
 
-  -- the same for a required union
+  -- a required union
   pub record IsUnionRequired (r : Result U Error) : Type 0 where
     pub answer : Located (Required (UnionAnswer reads table slot)) type_ method (table_start table)
         r
@@ -56,7 +56,7 @@ module _ {U : Type 0} (reads : ReadsBoth U) (table : Table) (slot : ℕ) (type_ 
         (B : List ℕ) → SlotHolds B table slot None → SlotHolds B table (slot + 1) None
         → IsMissing type_ method (table_start table) r
 
--- a union written before, by its tag and its distance
+-- a union written before, by its tag and distance
 abbrev pub written_item : ℕ × ℕ → ℕ × Content
 written_item item = (item.0, written item.1)
 
@@ -65,14 +65,13 @@ module _ {T E : Type 0} where
   abbrev pub AreUnionsOf : List ℕ → List (ℕ × Content) → VectorOf (UnionSliceView T E) → Type 0
   AreUnionsOf B unions vector = AreNewUnions B (as_unions unions) vector
 
-  -- the same for one that is left out where it is empty
   abbrev pub AreAnyUnions :
       List ℕ → List (ℕ × Content) → Option (VectorOf (UnionSliceView T E)) → Type 0
   AreAnyUnions B [] found = found ≡ None
   AreAnyUnions B (union ∷ unions) found = IsSomeAnd found (AreUnionsOf B (union ∷ unions))
 
   module _ (table : Table) (slot : ℕ) (type_ method : List ℕ) where
-    -- what a call returns for the optional union vector of a slot and the next
+    -- the optional union vector of a slot and the next
     pub record IsUnionVector (r : Result (Option (VectorOf (UnionSliceView T E))) Error)
         : Type 0 where
       pub answer :
@@ -96,7 +95,7 @@ module _ {T E : Type 0} where
           → UnionsStand B unions
           → IsOkAnd r (λ found. IsSomeAnd found (AreUnionsOf B (map written_item unions.items)))
 
-    -- the same for a required union vector
+    -- a required union vector
     pub record IsUnionVectorRequired (r : Result (VectorOf (UnionSliceView T E)) Error)
         : Type 0 where
       pub answer :
@@ -115,7 +114,7 @@ module _ {T E : Type 0} where
           → SlotHolds B table (slot + 1) (Some (written_values unions.values_at))
           → UnionsStand B unions → IsOkAnd r (AreUnionsOf B (map written_item unions.items))
 
-  -- what is returned for an item of such a vector, none out of bounds
+  -- an item of such a vector, or none out of bounds
   pub record IsUnionItem {U : Type 0} (reads : ReadsBoth U) (name : List ℕ)
       (vector : VectorOf (UnionSliceView T E)) (index : ℕ) (r : Option (Result U Error))
       : Type 0 where

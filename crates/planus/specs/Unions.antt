@@ -15,7 +15,7 @@ use Rattle.planus.specs.ReadBack.{TableStands, TableHolds}
 use Rattle.planus.specs.ReadKinds.{reads_text}
 use Rattle.planus.specs.Views.{reads_as}
 
--- a variant by its tag: a table or a string that a union of this variant has
+-- a variant's tag, and the table or string that its union has
 pub data UnionVariant (U : Type 0) : Type 0 where
   table_variant : ℕ → (U → Option Table) → UnionVariant U
   text_variant : ℕ → (U → Option (Bor (List ℕ))) → UnionVariant U
@@ -24,7 +24,7 @@ abbrev pub tag_of : {U : Type 0} → UnionVariant U → ℕ
 tag_of (table_variant tag table_of) = tag
 tag_of (text_variant tag text_of) = tag
 
--- a union's value is this table, written before, or this string, written with it or before
+-- the value is this table, written before, or this string
 abbrev pub IsTable : List ℕ → Content → List (ℕ × Option Content) → Type 0
 IsTable B (written distance) contents = TableStands B contents distance
 IsTable B _ contents = ⊥
@@ -35,7 +35,6 @@ IsText B (written distance) bytes = Stands B (at (position_of B distance)) (text
 IsText B _ bytes = ⊥
 
 module _ {U : Type 0} where
-  -- the results of a variant's read
   abbrev pub ReadsVariant : UnionVariant U → Reads U
   ReadsVariant (table_variant tag table_of) S start f (Ok union) =
       IsSomeAnd (table_of union) (λ table. reads_as (λ (table : Table). table) S start f (Ok table))
@@ -45,14 +44,12 @@ module _ {U : Type 0} where
       IsSomeAnd (text_of union) (λ lent. reads_text S start f (Ok lent))
   ReadsVariant (text_variant tag text_of) S start f (Err e) = reads_text S start f (Err e)
 
-  -- the results of the variant with this tag
   abbrev pub ReadsTagged : List (UnionVariant U) → ReadsBoth U
   ReadsTagged [] S start tag f r = ⊥
   ReadsTagged (variant ∷ variants) S start tag f r =
       ((tag ≡ tag_of variant) × ReadsVariant variant S start f r)
       ⊎ ReadsTagged variants S start tag f r
 
-  -- no variant has the tag, or one does
   abbrev pub IsUnknown : List (UnionVariant U) → ℕ → Type 0
   IsUnknown [] tag = ⊤
   IsUnknown (variant ∷ variants) tag = (tag ≢ tag_of variant) × IsUnknown variants tag
@@ -61,7 +58,7 @@ module _ {U : Type 0} where
   IsKnown [] tag = ⊥
   IsKnown (variant ∷ variants) tag = (tag ≡ tag_of variant) ⊎ IsKnown variants tag
 
-  -- The results for a union of these variants: the variant with the tag, or an unknown tag.
+  -- The variant with the tag, or an unknown tag.
   abbrev pub ReadsVariants : List (UnionVariant U) → ReadsBoth U
   ReadsVariants variants S start tag f (Ok union) = ReadsTagged variants S start tag f (Ok union)
   ReadsVariants variants S start tag f (Err e) =
@@ -74,7 +71,6 @@ module _ {U : Type 0} where
       (S : List ℕ) (start tag f : ℕ) (r : Result U ErrorKind) → reads S start tag f r
       → ReadsVariants variants S start tag f r
 
-  -- the value of a union of this variant is encoded in B
   abbrev pub VariantStands : UnionVariant U → List ℕ → Content → Type 0
   VariantStands (table_variant tag table_of) B content =
       (contents : List (ℕ × Option Content)) × IsTable B content contents
@@ -86,7 +82,7 @@ module _ {U : Type 0} where
   EachStands (variant ∷ variants) B tag content =
       (tag ≡ tag_of variant → VariantStands variant B content) × EachStands variants B tag content
 
-  -- A union with the tag of one of the variants refers to a value that is encoded in B.
+  -- The union's tag is that of a variant, and its value is in B.
   pub record UnionStands
       (variants : List (UnionVariant U)) (B : List ℕ) (tag : ℕ) (content : Content) : Type 0 where
     pub known : IsKnown variants tag
@@ -94,7 +90,7 @@ module _ {U : Type 0} where
     pub below : tag < 256
     pub each : EachStands variants B tag content
 
-  -- what was read is of this variant, and has the table with these contents, or this string
+  -- the union read has this table, or this string
   abbrev pub IsVariant : UnionVariant U → List ℕ → Content → U → Type 0
   IsVariant (table_variant tag table_of) B content union =
       IsSomeAnd (table_of union)
@@ -104,7 +100,6 @@ module _ {U : Type 0} where
       IsSomeAnd (text_of union)
       (λ lent. (bytes : List ℕ) → IsUtf8 bytes → IsText B content bytes → lent.now ≡ bytes)
 
-  -- what was read is the union with this tag
   abbrev pub IsUnion : List (UnionVariant U) → List ℕ → ℕ → Content → U → Type 0
   IsUnion [] B tag content union = ⊥
   IsUnion (variant ∷ variants) B tag content union =

@@ -1,10 +1,10 @@
--- The effect of writing a union together with its value, and its laws.
+-- Unions that are written together with their values.
 use Rattle.std.specs.Prelude.{◌≡◌, ℕ, Ok, Err}
 use Rattle.planus_write.specs.Placing.{Outcome}
 use Rattle.planus_write.specs.declared.offset.Offset.{Offset}
 use Rattle.planus_write.specs.declared.union_offset.UnionOffset.{UnionOffset}
 
--- A union's value is prepared, and the union has this tag and refers to it; or there is an error.
+-- The value is prepared, and the union refers to it with this tag, or there is an error.
 abbrev pub WritesVariant : {K T : Type 0} → ℕ → Outcome (Offset K) → Outcome (UnionOffset T)
 WritesVariant {K} tag prepare old (Ok union) new =
     (union.tag ≡ tag) × ((offset : Offset K) × prepare old (Ok offset) new

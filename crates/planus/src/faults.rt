@@ -8,14 +8,13 @@ use std::fmt;
 /// What is wrong with a step.
 #[derive(Clone, Copy, Debug, PartialEq, Eq)]
 pub enum Why {
-    /// Numbers can't have this many bytes.
+    /// Numbers can't have this width.
     WidthUnknown,
     /// A number doesn't fit its bytes.
     ValueTooBig,
     /// No earlier step since the last clear has the number.
     NoSuchStep,
-    /// The named step wrote nothing of the kind: a reference names a value, tags and values name a
-    /// union vector.
+    /// The named step wrote no value, or for tags and values no union vector.
     WrongKind,
     /// The tag of a union is 0.
     ZeroTag,
@@ -23,7 +22,7 @@ pub enum Why {
     SlotTooBig,
     /// An earlier field has the slot.
     SlotTwice,
-    /// The alignment of a field is greater than that of the field before it.
+    /// The alignment is greater than that of the field before.
     RisingAlignment,
 }
 

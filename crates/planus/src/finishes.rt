@@ -5,19 +5,18 @@
 pub struct StepPlace {
     /// The step's number, from 0.
     pub step: usize,
-    /// The distance in bytes from the end of the finished bytes to the value's first byte. A union
-    /// vector's is the distance to its vector of references.
+    /// The distance in bytes from the end to the value's first byte, or to a union vector's
+    /// references.
     pub distance: u32,
-    /// A union vector's distance in bytes from the end to the first byte of its vector of tags, the
-    /// count.
+    /// The distance in bytes from the end to the count of a union vector's tags.
     pub tags: Option<u32>,
 }
 
-/// What a finish gives: the bytes, and where each value since the last clear is in them.
+/// The bytes of a finish, and where the values since the last clear are in them.
 #[derive(Clone, Debug, PartialEq, Eq, Drop)]
 pub struct Finished {
-    /// The whole buffer, with its size first where that was asked for.
+    /// The whole buffer, with its size first if asked for.
     pub bytes: Vec<u8>,
-    /// The values in the order of their steps, referenced or not.
+    /// In the order of their steps, referenced or not.
     pub places: Vec<StepPlace>,
 }

@@ -1,5 +1,6 @@
-//! The runtime of generated flatbuffers code: a builder that writes from the back, readers that
-//! take fields in place, and [`replay`], which turns a list of steps into finished buffers.
+//! The runtime of generated flatbuffers code: a builder that writes from the back, and readers in
+//! place. Start with [`create_table`] for tables, or with [`replay`], which turns a list of steps
+//! into finished buffers.
 #![tactic(auto)]
 
 mod faults;

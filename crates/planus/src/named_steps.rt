@@ -12,12 +12,10 @@ use crate::steps::FieldValue;
 use crate::written::Written;
 use planus_write::{Offset, UnionOffset, UnionVectorOffset};
 
-/// The steps since the last clear.
+/// The steps since the last clear, which are numbered from `first` on.
 #[derive(Clone, Copy)]
 pub(crate) struct NamedSteps<'a> {
-    /// The number of the first of them.
     pub(crate) first: usize,
-    /// What each of them wrote, if a value.
     pub(crate) offsets: &'a [Option<Written>],
 }
 

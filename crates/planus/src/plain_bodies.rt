@@ -12,8 +12,8 @@ use planus_read::located::Error;
 use planus_read::table_reader::Table;
 use planus_read::{Plain, SliceWithStartOffset};
 
-/// Writes the fields of a struct in the body of [`Plain::put`](crate::Plain::put): each by its name
-/// and its size in bytes, and `_` with a number of zero bytes for padding.
+/// Writes the fields of a struct in the body of [`Plain::put`](crate::Plain::put), each by its name
+/// and size in bytes; `_` is padding.
 ///
 /// ```text
 /// put_fields!(self, bytes; lat: 4, lon: 4, alt: 2, _: 2);
@@ -33,8 +33,8 @@ macro_rules! put_fields {
     };
 }
 
-/// Returns a struct read field by field, in the body of [`Plain::read`](crate::Plain::read): the
-/// first field by its name, each other one with its offset in bytes from the first.
+/// Returns a struct in the body of [`Plain::read`](crate::Plain::read): its first field, and the
+/// others with their offsets in bytes.
 ///
 /// ```text
 /// read_fields!(Pos, buffer, offset; lat, lon: 4, alt: 8)
@@ -50,7 +50,7 @@ macro_rules! read_fields {
 }
 
 /// Returns the variant whose number is at the offset, in the body of
-/// [`Plain::read`](crate::Plain::read): the type of the numbers, and all variants.
+/// [`Plain::read`](crate::Plain::read).
 ///
 /// ```text
 /// read_variant!(u8, buffer, offset; Kind::Car, Kind::Bike, Kind::Ship)
@@ -124,7 +124,6 @@ impl Plain for Padded {
     }
 }
 
-/// Reads a field with a default, as a user's accessor does.
 fn row_choice<'n>(table: &Table<'_>) -> Result<Choice, Error<'n>>
     ensures { IsPlainFieldOr choice_shape Second table.now 0 (codes "Row") (codes "choice") result }
 {

@@ -14,7 +14,6 @@ use planus_write::{ObjectWriter, Offset, TableWriter};
 /// The bytes of a vtable with 256 slots.
 pub(crate) const VTABLE_SIZE: usize = 516;
 
-/// A field of a table, ready to be declared and written.
 #[derive(Drop)]
 pub(crate) enum PreparedField {
     U8(u8),

@@ -47,7 +47,6 @@ pub(crate) struct ReplayState {
     pub(crate) finished: Vec<Finished>,
 }
 
-/// Returns the places of the values among these steps, which are numbered from `first` on.
 fn places_of(
     alloc: Global,
     first: usize,
@@ -72,13 +71,11 @@ fn places_of(
     Ok(places)
 }
 
-/// A number of 2 or 4 bytes in a vector of a step.
 trait Narrow: Drop + Sized {
     ghost width: { Width };
 
     ghost number: { Self → ℕ };
 
-    /// Returns the number in this width, if it fits.
     fn narrow(wide: u64) -> Option<Self>
         ensures { IsNarrowed number width wide result };
 }
@@ -168,7 +165,6 @@ impl ReplayState {
         self.earlier().union(item)
     }
 
-    /// Returns unions of the values of earlier steps.
     fn union_items(
         &self,
         alloc: Global,
@@ -222,7 +218,6 @@ impl ReplayState {
         }
     }
 
-    /// Writes numbers of 8 bytes each, which all fit.
     fn u64s(&mut self, items: &[u64]) -> Result<(), ReplayError>
         requires { list_all (fits_width w64) items.now ≡ true }
         ensures { Advanced self.old (step.numbers 8 items.now) result self.new }
@@ -326,7 +321,6 @@ impl ReplayState {
         self.offsets.clear();
     }
 
-    /// Finishes the value of an earlier step, size-prefixed if that is asked for.
     fn finish(
         &mut self,
         alloc: Global,

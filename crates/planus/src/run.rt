@@ -1,4 +1,4 @@
-//! Steps to finished bytes.
+//! From steps to finished bytes.
 ghost use Rattle.std.specs.Prelude.{map, IfOk};
 ghost use Rattle.std.specs.List.{AllByRecursion};
 ghost use Rattle.planus.specs.Steps.{bare_step};
@@ -13,15 +13,13 @@ use crate::steps::Step;
 use planus_write::Caches;
 use std::alloc::Global;
 
-/// Returns what each finish of the steps gives, in order.
+/// Returns what each finish of the steps gives, in order. Equal strings, byte vectors and vtables
+/// are written once where `caches` says so.
 ///
-/// Equal strings, byte vectors and vtables are written once where `caches` says so; equal contents
-/// of such a kind then have one distance in `places`.
-///
-/// Each step is checked before it writes, and the first that fails decides:
-/// [`ReplayError::BadStep`] where its check fails, [`ReplayError::TooLarge`] where its part would
-/// begin more than 2147483647 bytes from the end, and [`ReplayError::OutOfMemory`] where an
-/// allocation fails.
+/// Each step is checked before it writes, and the first that fails decides: with
+/// [`ReplayError::BadStep`] if its check fails, [`ReplayError::TooLarge`] if a part would begin
+/// more than 2147483647 bytes from the end, and [`ReplayError::OutOfMemory`] if an allocation
+/// fails.
 pub fn replay(alloc: Global, caches: Caches, steps: &[Step]) -> Result<Vec<Finished>, ReplayError>
     ensures run { Replays (switches_of caches) (map bare_step steps.now) (given_by result) }
     ensures holds { IfOk result (λ finished. AllByRecursion

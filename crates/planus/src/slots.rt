@@ -13,7 +13,6 @@ fn is_used(fields: &[Field], slot: u16) -> bool
     fields.iter().any(|field| field.slot == slot)
 }
 
-/// Checks the slot of a field after these.
 pub(crate) fn check_slot(fields: &[Field], slot: u16) -> Result<(), Why>
     ensures { ChecksSlot (slots_of (map bare_field fields.now)) slot result }
 {

@@ -9,7 +9,6 @@ use crate::named_steps::NamedSteps;
 use crate::steps::Field;
 use planus_write::{ObjectFill, ObjectWriter};
 
-/// Writes the fields of a table that was checked.
 #[derive(Drop)]
 pub(crate) struct TableBody<'a, 'b> {
     pub(crate) earlier: NamedSteps<'a>,

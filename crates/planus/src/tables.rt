@@ -1,4 +1,4 @@
-//! Tables from lists of their fields: one call that writes any table, and one view that reads it.
+//! Tables from lists of their fields.
 
 mod create;
 mod field_at;

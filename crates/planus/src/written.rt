@@ -2,7 +2,7 @@
 
 use planus_write::{Offset, UnionVectorOffset};
 
-/// What a step wrote: a value, or a union vector, which has two offsets.
+/// A union vector has two offsets.
 #[derive(Clone, Copy)]
 pub(crate) enum Written {
     Value(Offset<()>),
@@ -13,7 +13,7 @@ impl Written {
     ghost use Rattle.std.specs.Prelude.{◌≡◌};
     ghost use Rattle.planus.specs.inner.Names.{written_named};
 
-    /// Returns the distance; for a union vector, the distance of its references.
+    /// For a union vector, the distance of its references.
     pub(crate) fn distance(&self) -> u32
         ensures { result ≡ (written_named self.now).distance }
     {
@@ -23,7 +23,6 @@ impl Written {
         }
     }
 
-    /// Returns the distance of a union vector's tags.
     pub(crate) fn tags(&self) -> Option<u32>
         ensures { result ≡ (written_named self.now).tags }
     {

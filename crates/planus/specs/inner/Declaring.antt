@@ -1,4 +1,4 @@
--- The fields of a table, as a replay checks and declares them.
+-- A replay checks and declares the fields of a table.
 use Rattle.std.specs.Prelude.{◌≡◌, ℕ, List, [], map, Some, None, Result, Ok, Err}
 use Rattle.planus_read.specs.Values.{Field}
 use Rattle.planus_write.specs.Tables.{declared_of}
@@ -11,7 +11,6 @@ use Rattle.planus.specs.inner.Replaying.{values_listed, name_fault}
 use Rattle.planus.specs.declared.faults.Why.{Why}
 use Rattle.planus.specs.declared.replay_state.ReplayState.{ReplayState}
 
--- the slots of fields
 abbrev pub slots_of : List (ℕ × FieldStep) → List ℕ
 slots_of fields = map (λ entry. entry.0) fields
 
@@ -20,7 +19,7 @@ abbrev pub ChecksSlot : List ℕ → ℕ → Result (Unit {0}) Why → Type 0
 ChecksSlot slots slot (Ok good) = slot_fault slots slot ≡ None
 ChecksSlot slots slot (Err why) = slot_fault slots slot ≡ Some why
 
--- the fields of a table were declared, or this is the first error of them
+-- the fields were declared, or this is the first error of them
 abbrev pub DeclaresTable : ReplayState → List (ℕ × FieldStep) → Result Writer Why → Type 0
 DeclaresTable replay fields (Ok writer) = (all : List (ℕ × Field))
     × (fields_of (values_listed replay) [] greatest_field fields ≡ Some all)

@@ -1,4 +1,4 @@
--- The body of a table, as a replay writes it.
+-- A replay writes the body of a table.
 use Rattle.std.specs.Prelude.{ℕ, max, List, [], ◌∷◌, map, Option, Some, None}
 use Rattle.planus_read.specs.Values.{Field}
 use Rattle.planus.specs.Steps.{bare_field}
@@ -8,21 +8,17 @@ use Rattle.planus.specs.inner.Names.{name_of, listed_from}
 use Rattle.planus.specs.inner.Prepared.{field_reach}
 use Rattle.planus.specs.declared.table_body.TableBody.{TableBody}
 
--- the greatest distance that the fields refer to
 abbrev pub fields_reach : List (ℕ × Field) → ℕ
 fields_reach [] = 0
 fields_reach (entry ∷ entries) = max (field_reach entry.1) (fields_reach entries)
 
--- the fields, or none
 abbrev pub fields_or_none : Option (List (ℕ × Field)) → List (ℕ × Field)
 fields_or_none None = []
 fields_or_none (Some fields) = fields
 
--- the values that the fields of a table may refer to
 abbrev pub listed_since : TableBody → List Listed
 listed_since body = listed_from body.earlier.first (map name_of body.earlier.offsets.now)
 
--- the fields of a table that is written
 abbrev pub fields_in : TableBody → List (ℕ × Field)
 fields_in body =
     fields_or_none

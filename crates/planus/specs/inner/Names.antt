@@ -12,41 +12,36 @@ use Rattle.planus.specs.declared.faults.Why.{Why}
 use Rattle.planus.specs.declared.written.Written.{Written}
 use Rattle.planus.specs.declared.written.Written.TheVariants.{Value, Unions}
 
--- the name of a value
 abbrev pub offset_named : {T : Type 0} → Offset T → Named
 offset_named offset = record { distance = offset.distance; tags = None }
 
--- the name of a union vector
 abbrev pub vector_named : {T : Type 0} → UnionVectorOffset T → Named
 vector_named vector =
     record { distance = vector.values.distance; tags = Some vector.tags.distance }
 
--- the name of either
 abbrev pub written_named : Written → Named
 written_named (Value offset) = offset_named offset
 written_named (Unions vector) = vector_named vector
 
--- the name of what a step wrote, if anything
 abbrev pub name_of : Option Written → Option Named
 name_of written = option_map written_named written
 
--- what the steps numbered from n on wrote
 abbrev pub listed_from : ℕ → List (Option Named) → List Listed
 listed_from n [] = []
 listed_from n (None ∷ rest) = listed_from (n + 1) rest
 listed_from n (Some named ∷ rest) =
     record { step = n; named = named } ∷ listed_from (n + 1) rest
 
--- what the step of a number wrote, by what the steps from `first`, the last clear, on wrote
+-- `first` is the number of the first step after the last clear
 abbrev pub written_at : ℕ → List (Option Named) → ℕ → Option (Option Named)
 written_at first since step = if nat_lt step first then None else slice_get since (step - first)
 
--- the error of naming a step as one of this kind, by what the steps from `first` on wrote
+-- the error of naming a step as one of this kind
 abbrev pub fault_since : ℕ → List (Option Named) → Kind → ℕ → Option Why
 fault_since first since kind step =
     naming_fault kind (option_map (option_map kind_named) (written_at first since step))
 
--- The value asked for is there without an error, or this is the error.
+-- the value is there without an error, or this is the error
 abbrev pub Finds : {X Y A : Type 0} → (X → Option Y) → (X → Option Why) → (A → Y) → X
     → Result A Why → Type 0
 Finds found fault given x (Ok answer) = (found x ≡ Some (given answer)) × (fault x ≡ None)

@@ -1,4 +1,4 @@
--- The layouts of the struct and the enum that show the macros for bodies of `Plain`.
+-- Layouts of the struct and the enum that show the macros for `Plain`.
 use Rattle.std.specs.Prelude.{nat_eq, [], ◌∷◌}
 use Rattle.std.proofs.Common.{refl, lit≤, lit<}
 use Rattle.planus_read.specs.Enums.{Numbered, u8_enum}

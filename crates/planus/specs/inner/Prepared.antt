@@ -1,4 +1,4 @@
--- The fields of a table, as a replay prepares them.
+-- A replay prepares the fields of a table.
 use Rattle.std.specs.Prelude.{◌≡◌, ℕ, List, Option, Some, Result, Ok, Err}
 use Rattle.std.specs.Int.{Width, w8, w16, w32, w64, to_le_bytes}
 use Rattle.planus_read.specs.Values.{Field, plain, reference, tags, values}
@@ -16,7 +16,6 @@ use Rattle.planus.specs.declared.prepared_field.PreparedField.{PreparedField}
 use Rattle.planus.specs.declared.prepared_field.PreparedField.TheVariants.{U8, U16, U32, U64}
 use Rattle.planus.specs.declared.prepared_field.PreparedField.TheVariants.{Reference, Tags, Values}
 
--- the prepared field
 abbrev pub field_is : PreparedField → Field
 field_is (U8 number) = plain (record { bytes = to_le_bytes w8 number; alignment = 1 })
 field_is (U16 number) = plain (record { bytes = to_le_bytes w16 number; alignment = 2 })
@@ -26,7 +25,6 @@ field_is (Reference offset) = reference offset.distance
 field_is (Tags offset) = tags offset.distance
 field_is (Values offset) = values offset.distance
 
--- the distance that a field refers to
 abbrev pub field_reach : Field → ℕ
 field_reach (plain item) = 0
 field_reach (reference distance) = distance
@@ -45,7 +43,6 @@ PreparesField first since content answer =
     Finds (field_of (listed_from first since)) (content_fault (fault_since first since)) field_is
     content answer
 
--- a union of a vector is prepared, or this is its error
 abbrev pub PreparesUnion : ℕ → List (Option Named) → ℕ × ℕ → Result (UnionOffset (Unit {0})) Why
     → Type 0
 PreparesUnion first since item answer =

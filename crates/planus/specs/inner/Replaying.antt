@@ -31,7 +31,6 @@ use Rattle.planus.specs.declared.written.Written.{Written}
 abbrev pub names : ReplayState → List (Option Named)
 names replay = map name_of replay.offsets.items
 
--- what was written since the last clear, by the numbers of its steps
 abbrev pub values_listed : ReplayState → List Listed
 values_listed replay = listed_from replay.first (names replay)
 
@@ -44,11 +43,9 @@ state_with replay past = record {
   finished = map finish_given replay.finished.items;
 }
 
--- the error of naming a step as one of a kind, or none
 abbrev pub name_fault : ReplayState → Kind → ℕ → Option Why
 name_fault replay kind step = fault_since replay.first (names replay) kind step
 
--- all values asked for are there, or this is the first error
 abbrev pub FindsAll : {X Y A : Type 0} → (X → Option Y) → (X → Option Why) → (A → Y) → ReplayState
     → List X → Result (Vec A Global) ReplayError → Type 0
 FindsAll found fault given replay xs (Ok answers) =
@@ -58,21 +55,18 @@ FindsAll found fault given replay xs (Err TooLarge) = ⊥
 FindsAll found fault given replay xs (Err (BadStep number why)) =
     (number ≡ replay.first + length replay.offsets.items) × (first_fault fault xs ≡ Some why)
 
--- the values of earlier steps, or the first error
 abbrev pub FindsValues : ReplayState → List ℕ → Result (Vec (Offset (Unit {0})) Global) ReplayError
     → Type 0
 FindsValues replay steps answer =
     FindsAll (value_at (values_listed replay)) (name_fault replay a_value) (λ o. o.distance) replay
     steps answer
 
--- unions of the values of earlier steps, or the first error
 abbrev pub FindsUnions : ReplayState → List (ℕ × ℕ)
     → Result (Vec (UnionOffset (Unit {0})) Global) ReplayError → Type 0
 FindsUnions replay items answer =
     FindsAll (union_of (values_listed replay)) (union_fault (name_fault replay a_value)) item_of
     replay items answer
 
--- the number, if it fits the width, or none
 abbrev pub IsNarrowed : {A : Type 0} → (A → ℕ) → Width → ℕ → Option A → Type 0
 IsNarrowed number_of width number (Some narrow) =
     (fits_width width number ≡ true) × (number_of narrow ≡ number)
@@ -84,7 +78,7 @@ Narrowed number_of width items (Some numbers) =
     (list_all (fits_width width) items ≡ true) × (map number_of numbers.items ≡ items)
 Narrowed number_of width items None = list_all (fits_width width) items ≡ false
 
--- A value was written, and recorded by its name.
+-- a value was written, and recorded by its name
 pub record Noted {A : Type 0} (name : A → Named) (outcome : Outcome A)
     (old new : ReplayState) : Type 0 where
   pub answer : A
@@ -95,7 +89,7 @@ pub record Noted {A : Type 0} (name : A → Named) (outcome : Outcome A)
   pub pushed : new.offsets.items ≡ old.offsets.items ++ Some noted ∷ []
   pub finished : new.finished.items ≡ old.finished.items
 
--- A value was written by this outcome, or failed; or there was no memory to record it.
+-- the same, or there is an error
 abbrev pub WritesValue : {A : Type 0} → (A → Named) → Outcome A → ReplayState
     → Result (Unit {0}) ReplayError → ReplayState → Type 0
 WritesValue {A} name outcome old (Ok done) new = Noted name outcome old new
@@ -115,18 +109,17 @@ Stopped old step TooLarge = (past : Past) → IsPast old.builder past
 Stopped old step (BadStep number why) =
     (number ≡ old.first + length old.offsets.items) × (check_by (name_fault old) step ≡ Some why)
 
--- A step wrote what its kind says; a finish writes no value, and a clear starts anew.
+-- a finish writes no value, and a clear starts anew
 abbrev pub Wrote : Step → Option Named → Type 0
 Wrote step name = (is_clear step ≡ false) × (kind_of step ≡ option_map kind_named name)
 
--- each step wrote what its kind says
 abbrev pub AllWrote : List Step → List (Option Named) → Type 0
 AllWrote [] [] = ⊤
 AllWrote (step ∷ steps) (name ∷ rest) = Wrote step name × AllWrote steps rest
 AllWrote [] (name ∷ rest) = ⊥
 AllWrote (step ∷ steps) [] = ⊥
 
--- the replay has taken these steps: what each since the last clear wrote
+-- what each step since the last clear wrote
 pub record HasTaken (replay : ReplayState) (steps : List Step) : Type 0 where
   pub counted : replay.first + length replay.offsets.items ≡ length steps
   pub behind_clear : (replay.first ≡ 0) ⊎ (slice_get steps (replay.first - 1) ≡ Some clear)

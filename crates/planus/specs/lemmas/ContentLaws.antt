@@ -21,7 +21,6 @@ fields_stay before after (content ∷ contents) (field ∷ fields) extends are =
 fields_stay before after [] (field ∷ fields) extends are = are
 fields_stay before after (content ∷ contents) [] extends are = are
 
--- the content of a list of one field
 pub only_field
     : {A : Type 0} (past : Past) (slot : ℕ) (content : Option Content) (field : A → Field)
     (prepared : Option A) → HoldsIf past content field prepared

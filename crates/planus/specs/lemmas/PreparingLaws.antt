@@ -1,4 +1,4 @@
--- Laws for the encoding of a table, and for lists of fields.
+-- Laws for encoded tables and for lists of fields.
 use Rattle.std.specs.Prelude.{◌≡◌, ℕ, ◌≤◌, max, List, [], ◌∷◌, ◌++◌, Option, Some, None}
 use Rattle.std.specs.List.{AllByRecursion}
 use Rattle.std.proofs.Common.{refl, subst, sym, ap, ◌∙◌, arith, inl, inr}
@@ -14,13 +14,11 @@ use Rattle.planus_write.specs.FieldItems.{IsItem}
 abbrev entry_at : (slot size alignment : ℕ) → Declared
 entry_at slot size alignment = record { slot = slot; size = size; alignment = alignment }
 
--- optional fields stay among all fields
 pub among_more : (some all : List Declared) (first : Declared) → Among some all
     → Among some (first ∷ all)
 among_more [] all first h = tt
 among_more (one ∷ some) all first h = inr h
 
--- entries among two lists are among both together
 among_others : (some all others : List Declared) → Among some others → Among some (all ++ others)
 among_others some [] others among = among
 among_others some (one ∷ all) others among =
@@ -35,7 +33,6 @@ among_both (one ∷ some) more (entry ∷ all) others (inl first) second =
 among_both (one ∷ some) more (entry ∷ all) others (inr first) second =
     inr (among_both (one ∷ some) more all others first second)
 
--- fields of two lists are fields
 pub stand_both : (before : ℕ) (fields others : List (ℕ × Field))
     → AllByRecursion (λ entry. IsField before entry.1) fields
     → AllByRecursion (λ entry. IsField before entry.1) others
@@ -44,7 +41,6 @@ stand_both before [] others first second = second
 stand_both before (field ∷ fields) others first second =
     (first.0, stand_both before fields others first.1 second)
 
--- the entries of fields that follow others
 pub entries_append : (fields others : List (ℕ × Field))
     → declared_of (fields ++ others) ≡ declared_of fields ++ declared_of others
 entries_append [] others = refl
@@ -58,7 +54,6 @@ entries_append (entry ∷ fields) others =
 module _ {A : Type 0} (slot : ℕ) (field : A → Field) (reach : A → ℕ) (leaves : A → Item)
     (size alignment : ℕ)
     (items : (value : A) → IsItem size alignment (leaves value) (reach value) (field value)) where
-  -- a field after others is one of the format, as they are
   pub both_stand : (others : List (ℕ × Field)) (others_reach : ℕ) (value : Option A) (before : ℕ)
       → max others_reach (reach_if reach value) ≤ before
       → (others_reach ≤ before → AllByRecursion (λ entry. IsField before entry.1) others)
@@ -72,7 +67,6 @@ module _ {A : Type 0} (slot : ℕ) (field : A → Field) (reach : A → ℕ) (le
       one_stands None reached = tt
       one_stands (Some value) reached = ((items value).stands before reached, tt)
 
-  -- and their entries are among all
   pub both_among : (others : List (ℕ × Field)) (all : List Declared) (value : Option A)
       → Among (declared_of others) all
       → Among (declared_of (others ++ field_in slot field value))

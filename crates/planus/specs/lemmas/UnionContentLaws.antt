@@ -1,4 +1,4 @@
--- Laws for the contents of unions and union vectors, which have two fields each.
+-- Laws for the contents of unions and union vectors.
 use Rattle.std.specs.Prelude.{◌≡◌, ℕ, Option, Some, None}
 use Rattle.std.specs.Int.{w8, to_le_bytes}
 use Rattle.std.specs.Option.{option_map}
@@ -16,7 +16,6 @@ use Rattle.planus_write.specs.Contents.{UnionVectorHolds}
 use Rattle.planus.specs.Contents.{value_content, tag_content, tags_content, values_content}
 use Rattle.planus_write.specs.lemmas.ContentLaws.{field_stays}
 
--- a union: its tag and the reference to its value
 pub union_value_holds : {T U : Type 0} (offset_of : UnionOffset T → Offset U)
     → ((union : UnionOffset T) → (offset_of union).distance ≡ union_reach union)
     → (before after : Past) (content : Option (ℕ × Content)) (union : Option (UnionOffset T))
@@ -41,7 +40,6 @@ union_tag_holds before after (Some content) (Some union) holds =
 union_tag_holds before after None (Some union) holds = holds
 union_tag_holds before after (Some content) None holds = holds
 
--- a union vector: its two fields
 module _ {T A : Type 0} (of : UnionVectorOffset T → A) (field : A → Field) where
   pub list_tags_hold
       : ((vector : UnionVectorOffset T) → field (of vector) ≡ tags vector.tags.distance)

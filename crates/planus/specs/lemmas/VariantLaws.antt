@@ -1,4 +1,4 @@
--- The laws of unions that are written with their values.
+-- Laws of unions that are written with their values.
 use Rattle.std.specs.Prelude.{ℕ, ◌≤◌, length, Some, Result, Ok, Err}
 use Rattle.std.proofs.Common.{subst, sym}
 use Rattle.planus_read.specs.Values.{reference}
@@ -14,7 +14,6 @@ use Rattle.planus_write.specs.Contents.{Content, FieldIs, UnionHolds, Comes, Pre
 use Rattle.planus_write.specs.Contents.{PreparesUnionItem}
 use Rattle.planus.specs.Variants.{WritesVariant}
 
--- it is lawful if the preparing of its value is
 pub variant_is_lawful
     : {X Y K T : Type 0} {may : Y → State → Type 0} {outcome : Y → Outcome (Offset K)}
     (tag : ℕ) (of : X → Y) → IsLawful may outcome (λ offset. offset.distance)
@@ -35,7 +34,6 @@ variant_is_lawful {X} {Y} {K} {T} {may} {outcome} tag of lawful =
         subst (λ (d : ℕ). d ≤ length new.bytes) (sym done.1.2)
         (lawful.reaches (of x) old done.1.0 new may done.1.1)
 
--- once prepared, it has the tag, and its reference holds what the value holds
 pub variant_prepared
     : {X Y K T : Type 0} {may : Y → State → Type 0} {outcome : Y → Outcome (Offset K)}
     {content : Y → Content} (tag : ℕ) (of : X → Y)

@@ -35,7 +35,6 @@ impl<'a, F: PreparedFields, L: PreparedFields> ObjectFill for Body<'a, F, L> {
     }
 }
 
-/// Writes the table of prepared fields, those that come last after the others.
 #[inline(always)]
 pub(crate) fn write_table<T, W: TableWrite, F: PreparedFields, L: PreparedFields>(
     builder: &mut Builder,
@@ -59,18 +58,18 @@ pub(crate) fn write_table<T, W: TableWrite, F: PreparedFields, L: PreparedFields
     Ok(builder.current_offset())
 }
 
-/// Writes a table with exactly the fields that are present, and returns its offset. With `Ok` the
-/// table is stored, with the values it refers to, and all that was stored before still is.
+/// Writes a table with exactly the fields that are present, and returns its offset. All that was
+/// stored before still is.
 ///
 /// The fields come by falling alignment: numbers of eight bytes, then references, unions and
-/// numbers of four bytes, then numbers of two, then of one. They are prepared in order; the tags of
-/// unions and fields marked `last` are written after the others. Each slot is used once and is in
-/// the vtable of [`TableKind::Writer`], a union's two slots are neighbours, and with all fields the
-/// table has at most 65535 bytes without its vtable. All this is computed from the types.
+/// numbers of four bytes, then numbers of two, then of one. The tags of unions and fields marked
+/// `last` are written after the others. Each slot is used once and is in the vtable of
+/// [`TableKind::Writer`], a union's two slots are neighbours, and with all fields the table has at
+/// most 65535 bytes without its vtable. All this is computed from the types.
 ///
 /// The error is that of the first field that fails, or else that of the table:
-/// [`BuildError::TooLarge`] where a part would begin more than 2147483647 bytes from the end, and
-/// [`BuildError::OutOfMemory`] where an allocation fails. What was written before it stays.
+/// [`BuildError::TooLarge`] if a part would begin more than 2147483647 bytes from the end, and
+/// [`BuildError::OutOfMemory`] if an allocation fails. What was written before it stays.
 #[inline]
 pub fn create_table<K: TableKind, F: Fields + Drop>(
     builder: &mut Builder,

@@ -2,32 +2,29 @@
 
 use std::marker::PhantomData;
 
-/// A value for a slot, encoded as a `P`. A list of fields is `()`, or a pair of one of these and
-/// the others; [`fields`](crate::fields) writes such a list.
+/// A value for a slot, encoded as a `P`. [`fields`](crate::fields) writes lists of these.
 #[derive(Drop)]
 pub struct FieldAt<const SLOT: usize, P, V> {
     /// The value that is written.
     pub value: V,
-    /// The type as which it is encoded.
     pub _marker: PhantomData<P>,
 }
 
-/// Lists the fields of a table. `SLOT: KIND = VALUE` is a value encoded as the type `KIND`, and
-/// `SLOT: last KIND = VALUE` a [`TrailingField`](crate::TrailingField);
-/// `(TAG, VALUE): union KIND = VALUE` is a union by its two slots, and
-/// `(TAGS, VALUES): unions KIND = VALUE` a union vector. The result is `()`, one line, or pairs of
-/// pairs of lines.
+/// Lists the fields of a table, each in one of these forms:
+///
+/// - `SLOT: KIND = VALUE`, a value encoded as the type `KIND`
+/// - `SLOT: last KIND = VALUE`, a [`TrailingField`](crate::TrailingField)
+/// - `(TAG, VALUE): union KIND = VALUE`, a union
+/// - `(TAGS, VALUES): unions KIND = VALUE`, a union vector
 #[macro_export]
 macro_rules! fields {
-    // A field, by its type.
     (@at $slot:literal, $kind:ty, $value:expr) => {
         $crate::FieldAt::<$slot, $kind, _> {
             value: $value,
             _marker: std::marker::PhantomData,
         }
     };
-    // The lines so far, each in parentheses, and the next: four fields at once where there are as
-    // many, since a macro may take some 100 steps.
+    // Four fields at once where there are as many, since a macro may take some 100 steps.
     (@lines [$($lines:tt)*]) => { $crate::fields!(@pairs [] $($lines)*) };
     (@lines [$($lines:tt)*]
         $slot:literal: $kind:ty = $value:expr,
@@ -72,7 +69,6 @@ macro_rules! fields {
             }
         )] $($($rest)*)?)
     };
-    // The pairs so far, and the lines still to be paired.
     (@pairs []) => { () };
     (@pairs [] $only:tt) => { $only };
     (@pairs [$($pairs:tt)*]) => { $crate::fields!(@pairs [] $($pairs)*) };

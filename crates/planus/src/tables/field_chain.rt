@@ -10,15 +10,12 @@ use crate::tables::table_write::TableWrite;
 use planus_write::{ObjectWriter, Primitive, WriteAsPrimitive};
 use std::marker::PhantomData;
 
-/// Prepared fields, and one more after them, which may be absent. Both are borrowed, so that a list
-/// of any fields has the size of two references.
+/// Prepared fields, and one more, which may be absent. Both are borrowed, so that a list of any
+/// fields has the size of two references.
 #[derive(Drop)]
 pub struct FieldChain<'a, const SLOT: usize, P, B, A> {
-    /// The fields before it.
     pub before: &'a B,
-    /// The field, prepared, if present.
     pub value: &'a Option<A>,
-    /// The type as which it is encoded.
     pub _marker: PhantomData<P>,
 }
 

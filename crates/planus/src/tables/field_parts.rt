@@ -1,4 +1,4 @@
-//! One field of a table, declared and written if present.
+//! One field, declared and written if present.
 ghost use Rattle.std.specs.Prelude.{◌≡◌, ◌≤◌, ◌+◌, ℕ, List, [], ◌∷◌, ◌++◌, length};
 ghost use Rattle.planus_fields.specs.Fields.{reach_if};
 ghost use Rattle.planus_read.specs.Values.{Field};

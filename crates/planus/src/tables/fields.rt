@@ -27,39 +27,32 @@ use planus_fields::{WriteAsOptional, WriteAsOptionalUnion, WriteAsOptionalUnionV
 use planus_write::{BuildError, Builder, List as ListOf, Offset, Primitive};
 use std::marker::PhantomData;
 
-/// The fields of a table: one line of [`fields`](crate::fields), a pair of fields and the fields
-/// after them, or `()`. The tags of unions, and fields that come last, are written after all
-/// others, in the same order.
+/// The fields of a table: `()`, one line of [`fields`](crate::fields), or a pair of fields.
 ///
-/// `fields` nests its lines as pairs of pairs, so that the depth of the type is logarithmic in
-/// their number. No pair has a constant parameter, which would double a caller's cost of proof per
-/// field.
+/// Lines are nested as pairs of pairs, so that the depth of the type is logarithmic. No pair has a
+/// constant parameter, which would double a caller's cost of proof per field.
 ///
-/// The ghost members `all` and `all_last` have the entries of all fields, and of those that come
-/// last. `may` is the precondition, as in [`planus_write::WriteAsOffset`].
+/// The ghost members `all` and `all_last` are the entries of all fields, and of those written last.
+/// `may` is the precondition.
 pub trait Fields {
     ghost all: { List Declared };
 
     ghost all_last: { List Declared };
 
-    /// The two slots of each union and of each union vector.
     ghost unions: { List (ℕ × ℕ) };
 
-    /// The content of each slot, or nothing.
     ghost contents: { Self → List (ℕ × option Content) };
 
-    /// The same for the fields that come last.
     ghost last_contents: { Self → List (ℕ × option Content) };
 
-    /// The outcome of preparing the fields, one after another, after earlier fields and before
-    /// others; the first error ends it.
+    /// The first error ends it.
     ghost in_turn: { Self
         → ((ts ls : List (List (ℕ × Field))) → Outcome (List (List (ℕ × Field))))
         → (ts ls : List (List (ℕ × Field))) → Outcome (List (List (ℕ × Field))) };
 
     ghost may: { Self → State → Type 0 };
 
-    /// Prepares the fields, one after another, and goes on with those after them.
+    /// Prepares the fields in order, and goes on with those after them.
     fn write<T, W: TableWrite, B: PreparedFields, L: PreparedFields, R: Rest>(
         &self,
         others: &R,
@@ -84,7 +77,6 @@ pub trait Fields {
         ensures reached { IfOk result (λ offset. offset.distance ≤ length builder.new.bytes) }
         ensures grows { Grows builder.old builder.new };
 
-    /// The precondition stays true as the builder grows.
     ghost stays: { (field : Self) (old new : State) → Grows old new → may field old
         → may field new };
 }

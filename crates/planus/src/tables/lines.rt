@@ -1,5 +1,4 @@
-//! What [`fields`](crate::fields) and [`variant`](crate::variant) write: a type shows a line's
-//! slots and position in the list, the contract its value.
+//! What [`fields`](crate::fields) and [`variant`](crate::variant) write.
 ghost use Rattle.std.specs.Prelude.{◌≡◌};
 
 use crate::tables::field_at::FieldAt;
@@ -10,13 +9,10 @@ use crate::tables::variant::Variant;
 use crate::{fields, variant};
 use planus_write::{Offset, UnionOffset, UnionVectorOffset};
 
-/// Two fields.
 type Two<const A: usize, PA, const B: usize, PB> = (FieldAt<A, PA, PA>, FieldAt<B, PB, PB>);
 
-/// Four fields, by pairs of neighbours.
 type Four = (Two<0, u64, 1, u32>, Two<2, u32, 3, u16>);
 
-/// A field, one written after the others, a union and a union vector, likewise.
 type FourKinds = (
     (FieldAt<4, u16, u16>, TrailingField<5, u8, u8>),
     (

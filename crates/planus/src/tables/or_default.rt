@@ -7,13 +7,12 @@ use planus_fields::{
 };
 use planus_write::{BuildError, Builder, Primitive, UnionVectorOffset};
 
-/// A value that is left out where it is the default. The default of a vector or a union vector is
-/// `()`, the empty one.
+/// A value that is left out where it is the default, which for a vector or a union vector is `()`.
 #[derive(Debug, Drop)]
 pub struct OrDefault<V, D> {
     /// The value.
     pub value: V,
-    /// The default that the schema gives the field.
+    /// The default in the schema.
     pub default: D,
 }
 

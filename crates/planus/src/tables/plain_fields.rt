@@ -1,4 +1,4 @@
-//! Fields of a fixed layout, and vectors of these, read back.
+//! Fields and vectors of a fixed layout, read back.
 ghost use Rattle.std.specs.Prelude.{◌≡◌, ◌*◌, ℕ, List, Some, slice_get};
 ghost use Rattle.planus_view.specs.Indexes.{GetsItem};
 ghost use Rattle.planus_view.specs.VectorView.{count_of, view_of};
@@ -11,8 +11,8 @@ use planus_read::table_reader::Table;
 use planus_read::{Plain, PlainTotal, Stride};
 use planus_view::Vector;
 
-/// Returns the field of a fixed layout in a slot, or `None` where it is absent: `Table::access`,
-/// with a contract for accessors, which then need no proof file. The names are those in errors.
+/// Returns the field of a fixed layout in a slot, or `None` if absent: `Table::access` with a
+/// contract for accessors, which then need no proof file. The names are those in errors.
 pub fn plain_field<'n, T: Plain>(
     table: &Table<'_>,
     slot: usize,
@@ -24,7 +24,7 @@ pub fn plain_field<'n, T: Plain>(
     table.access::<T>(slot, type_, method)
 }
 
-/// Returns the same field, or the default where it is absent.
+/// Returns the field, or the default if absent.
 pub fn plain_field_or<'n, T: Plain>(
     table: &Table<'_>,
     slot: usize,
@@ -40,7 +40,7 @@ pub fn plain_field_or<'n, T: Plain>(
     }
 }
 
-/// Returns the same field, where it is required.
+/// Returns the field, or `MissingRequired` if absent.
 pub fn plain_required<'n, T: Plain>(
     table: &Table<'_>,
     slot: usize,
@@ -52,8 +52,8 @@ pub fn plain_required<'n, T: Plain>(
     table.access_required::<T>(slot, type_, method)
 }
 
-/// Returns the vector in a slot of values of a fixed layout, or `None` where it is absent. `T` is
-/// such a value, or a `Result` of one whose read may fail.
+/// Returns the vector in a slot, or `None` if absent. `T` is a value of a fixed layout, or a
+/// `Result` of one whose read may fail.
 pub fn plain_vector<'a, 'n, T: Stride + 'a>(
     table: &Table<'a>,
     slot: usize,
@@ -65,7 +65,7 @@ pub fn plain_vector<'a, 'n, T: Stride + 'a>(
     table.access::<Vector<'a, T>>(slot, type_, method)
 }
 
-/// Returns the same vector, where it is required.
+/// Returns the vector, or `MissingRequired` if absent.
 pub fn plain_vector_required<'a, 'n, T: Stride + 'a>(
     table: &Table<'a>,
     slot: usize,
@@ -77,7 +77,7 @@ pub fn plain_vector_required<'a, 'n, T: Stride + 'a>(
     table.access_required::<Vector<'a, T>>(slot, type_, method)
 }
 
-/// Returns the item at an index of a vector of values of a fixed layout, or `None` out of bounds.
+/// Returns an item of a fixed layout, or `None` out of bounds.
 pub fn plain_item<T: PlainTotal>(vector: &Vector<'_, T>, index: usize) -> Option<T>
     ensures item { GetsItem (λ v. count_of v) (λ v i x. (T.shape).There (view_of v).bytes (i * T.SIZE) x)
         vector.now index result }

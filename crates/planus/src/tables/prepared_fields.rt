@@ -12,12 +12,10 @@ ghost use Rattle.planus.specs.TableRules.{Among, has_slots, is_apart};
 use crate::tables::table_write::TableWrite;
 use planus_write::ObjectWriter;
 
-/// The fields of a table, prepared: `()`, or a [`FieldChain`](crate::FieldChain), one field after
-/// the others.
+/// Prepared fields: `()`, or a [`FieldChain`](crate::FieldChain).
 ///
-/// The ghost member `all` has the entries of all fields, and `there` the fields that are present,
-/// in order, with their slots. `reach` is the greatest distance from the end of the buffer that
-/// they refer to, in bytes.
+/// The ghost member `all` has the entries of all fields, `there` the present fields, and `reach` is
+/// the greatest distance in bytes from the end that they refer to.
 pub trait PreparedFields {
     ghost all: { List Declared };
 
@@ -25,8 +23,8 @@ pub trait PreparedFields {
 
     ghost reach: { Self → ℕ };
 
-    /// Declares the fields that are present, and no others. Requires that all slots are in the
-    /// vtable, apart and unused, and that the object has at most 65535 bytes with all fields.
+    /// Declares the fields that are present. Requires that all slots are in the vtable, apart and
+    /// unused, and that the object has at most 65535 bytes.
     fn declare<W: TableWrite>(&self, writer: &mut W)
         requires small { W.room ≤ 65534 }
         requires slots { IsTrue (has_slots W.room all) }
@@ -38,20 +36,17 @@ pub trait PreparedFields {
             → IsUnused (W.at writer.new) other }
         ensures size { (W.at writer.new).object_size ≤ (W.at writer.old).object_size + total_size all };
 
-    /// Writes the fields that are present after what is written. Requires that their bytes remain,
-    /// and that what they refer to is after these.
+    /// Writes the fields that are present. Requires room for their bytes, and that what they refer
+    /// to is after these.
     fn write(&self, writer: &mut ObjectWriter<'_>)
         requires room { body_size (there self.now) ≤ (body_of writer.old).remaining }
         requires reach { reach self.now + body_size (there self.now) ≤ (body_of writer.old).place }
         ensures { body_of writer.new ≡ wrote (body_size (there self.now))
             (λ place. body_bytes place (there self.now)) (body_of writer.old) };
 
-    /// The fields that are present are fields of the format, where what they refer to is in the
-    /// bytes before.
     ghost stand: { (fields : Self) (before : ℕ) → reach fields ≤ before
         → AllByRecursion (λ entry. IsField before entry.1) (there fields) };
 
-    /// Their entries are among all, in order.
     ghost among: { (fields : Self) → Among (declared_of (there fields)) all };
 }
 

@@ -9,7 +9,7 @@ ghost use Rattle.planus_write.specs.lemmas.ContentLaws.{content_prepared_as};
 use planus_fields::{WriteAs, WriteAsOptional};
 use planus_write::{BuildError, Builder, Primitive};
 
-/// The value of a field that the schema requires: it is always written.
+/// The value of a required field, which is always written.
 #[derive(Debug, Drop)]
 pub struct Required<V>(pub V);
 

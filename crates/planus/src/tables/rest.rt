@@ -1,4 +1,4 @@
-//! The fields of a table that are still to be prepared.
+//! Fields that are still to be prepared.
 ghost use Rattle.std.specs.Prelude.{◌≡◌, ◌≤◌, ℕ, List, [], ◌++◌, length, IfOk, IsTrue, ⊤};
 ghost use Rattle.std.specs.Prelude.{Option as option};
 ghost use Rattle.planus_read.specs.Values.{Field};
@@ -18,29 +18,23 @@ use crate::tables::prepared_fields::PreparedFields;
 use crate::tables::table_write::TableWrite;
 use planus_write::{BuildError, Builder, Offset};
 
-/// The fields of a table that are still to be prepared: none, or a [`Then`].
-///
-/// The ghost members `all` and `all_last` have the entries of all fields, and of those that come
-/// last. `may` is the precondition, as in [`planus_write::WriteAsOffset`].
+/// Fields that are still to be prepared: none, or a [`Then`]. The ghost members are those of
+/// `Fields`.
 pub trait Rest {
     ghost all: { List Declared };
 
     ghost all_last: { List Declared };
 
-    /// The content of each slot, or nothing.
     ghost contents: { Self → List (ℕ × option Content) };
 
-    /// The same for the fields that come last.
     ghost last_contents: { Self → List (ℕ × option Content) };
 
-    /// The outcome of preparing the fields, one after another, after earlier ones: all fields, each
-    /// present or not, and then all that come last. The first error ends it.
+    /// All fields come first, and then all that come last. The first error ends it.
     ghost in_turn: { Self → (ts ls : List (List (ℕ × Field))) → Outcome (List (List (ℕ × Field))) };
 
     ghost may: { Self → State → Type 0 };
 
-    /// Prepares the fields, one after another, and then writes the table of all. The error is that
-    /// of the first field that fails, or else that of the table.
+    /// Prepares the fields in order, and then writes the table of all.
     fn write<T, W: TableWrite, B: PreparedFields, L: PreparedFields>(
         &self,
         builder: &mut Builder,
@@ -60,7 +54,6 @@ pub trait Rest {
         ensures reached { IfOk result (λ offset. offset.distance ≤ length builder.new.bytes) }
         ensures grows { Grows builder.old builder.new };
 
-    /// The precondition stays true as the builder grows.
     ghost stays: { (fields : Self) (old new : State) → Grows old new → may fields old
         → may fields new };
 }
@@ -94,9 +87,7 @@ impl Rest for () {
 /// Some fields, and those after them.
 #[derive(Drop)]
 pub struct Then<'a, F, R> {
-    /// The fields that come first.
     pub first: &'a F,
-    /// The fields after them.
     pub others: &'a R,
 }
 

@@ -20,8 +20,8 @@ use planus_read::table_reader::Table;
 use planus_read::{Plain, ReadAsRoot, SliceWithStartOffset};
 use planus_view::Vector;
 
-/// Returns the view of the table in a slot, or `None` where it is absent: a [`TableRef`], or a
-/// user's own view. It has all contents of the table that was written.
+/// Returns the view of the table in a slot, or `None` if absent: a [`TableRef`], or a user's own
+/// view.
 pub fn table_field<'a, 'n, V: TableView<'a>>(
     table: &Table<'a>,
     slot: usize,
@@ -37,7 +37,7 @@ pub fn table_field<'a, 'n, V: TableView<'a>>(
     }
 }
 
-/// Returns the same view, where the field is required.
+/// Returns the view, or `MissingRequired` if absent.
 pub fn table_required<'a, 'n, V: TableView<'a>>(
     table: &Table<'a>,
     slot: usize,
@@ -52,7 +52,7 @@ pub fn table_required<'a, 'n, V: TableView<'a>>(
     }
 }
 
-/// Returns the vector in a slot of tables of kind `K`, or `None` where it is absent.
+/// Returns the vector of tables in a slot, or `None` if absent.
 pub fn table_vector<'a, 'n, K: TableKind + 'a>(
     table: &Table<'a>,
     slot: usize,
@@ -64,7 +64,7 @@ pub fn table_vector<'a, 'n, K: TableKind + 'a>(
     table.access::<Vector<'a, planus_read::Result<TableRef<'a, K>>>>(slot, type_, method)
 }
 
-/// Returns the same vector, where it is required.
+/// Returns the vector, or `MissingRequired` if absent.
 pub fn table_vector_required<'a, 'n, K: TableKind + 'a>(
     table: &Table<'a>,
     slot: usize,
@@ -87,7 +87,7 @@ fn viewed<'a, 'n, V: TableView<'a>>(
     }
 }
 
-/// Returns the view of an item, as `vector.get(index)` returned it, with all its contents.
+/// Returns the view of an item that `get` returned.
 pub fn table_item<'a, 'n, V: TableView<'a>>(
     item: Option<Result<TableRef<'a, V::Kind>, Error<'n>>>,
 ) -> Option<Result<V, Error<'n>>>
@@ -101,7 +101,7 @@ pub fn table_item<'a, 'n, V: TableView<'a>>(
     }
 }
 
-/// Returns the view of the root of a whole buffer, with all contents of the table that was written.
+/// Returns the view of the root of a whole buffer.
 pub fn read_root<'a, 'n, V: TableView<'a>>(bytes: &'a [u8]) -> Result<V, Error<'n>>
     ensures { IsRoot V.Kind V.Kind.name V.table bytes.entry.now result }
 {

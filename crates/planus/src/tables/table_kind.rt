@@ -3,17 +3,16 @@ ghost use Rattle.std.specs.Prelude.{◌≡◌, ℕ, List};
 
 use crate::tables::table_write::TableWrite;
 
-/// The kind of a table: as [`create_table`](crate::create_table) writes it, and as
-/// [`TableRef`](crate::TableRef) reads it. Offsets to such tables have it as their type.
+/// The kind of a table, as [`create_table`](crate::create_table) writes it and
+/// [`TableRef`](crate::TableRef) reads it.
 pub trait TableKind {
     /// The writer of its vtable: a [`TableWriter`](planus_write::TableWriter) of 4 bytes, and 2 for
-    /// each slot up to the greatest.
+    /// each slot.
     type Writer: TableWrite;
 
-    /// The name in the errors of its tables, as a root or as items of a vector.
     ghost name: { List ℕ };
 
-    /// Returns this name.
+    /// Returns the name in the errors of its tables.
     fn name() -> &'static str
         ensures { result.now ≡ name };
 }

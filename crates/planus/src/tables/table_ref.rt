@@ -18,12 +18,11 @@ use planus_read::{
 use std::alloc::AllocError;
 use std::marker::PhantomData;
 
-/// A table of kind `K` in a buffer. Its fields are what the calls of [`Table`] return.
+/// A table of kind `K` in a buffer, read by the calls of [`Table`].
 #[derive_where(Debug)]
 pub struct TableRef<'a, K> {
     /// The table.
     pub table: Table<'a>,
-    /// Its kind.
     #[derive_where(skip)]
     pub _marker: PhantomData<K>,
 }

@@ -12,7 +12,6 @@ use planus_write::{BuildError, Builder, ObjectFill, Primitive, TableWriter};
 pub trait TableWrite {
     ghost room: { ℕ };
 
-    /// The writer as the definitions have it.
     ghost at: { Self → Writer };
 
     /// Creates a writer with nothing declared.

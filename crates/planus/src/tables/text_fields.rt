@@ -8,8 +8,7 @@ use planus_read::located::Error;
 use planus_read::table_reader::Table;
 use planus_view::Vector;
 
-/// Returns the string in a slot, or `None` where it is absent. It is `Table::access` with a
-/// contract that states what is read back, as [`plain_field`](crate::plain_field).
+/// Returns the string in a slot, or `None` if absent.
 pub fn text_field<'a, 'n>(
     table: &Table<'a>,
     slot: usize,
@@ -21,7 +20,7 @@ pub fn text_field<'a, 'n>(
     table.access::<&str>(slot, type_, method)
 }
 
-/// Returns the same string, where it is required.
+/// Returns the string, or `MissingRequired` if absent.
 pub fn text_required<'a, 'n>(
     table: &Table<'a>,
     slot: usize,
@@ -33,7 +32,7 @@ pub fn text_required<'a, 'n>(
     table.access_required::<&str>(slot, type_, method)
 }
 
-/// Returns the bytes of the byte vector in a slot, or `None` where it is absent.
+/// Returns the byte vector in a slot, or `None` if absent.
 pub fn bytes_field<'a, 'n>(
     table: &Table<'a>,
     slot: usize,
@@ -45,7 +44,7 @@ pub fn bytes_field<'a, 'n>(
     table.access::<&[u8]>(slot, type_, method)
 }
 
-/// Returns the same bytes, where they are required.
+/// Returns the bytes, or `MissingRequired` if absent.
 pub fn bytes_required<'a, 'n>(
     table: &Table<'a>,
     slot: usize,
@@ -57,7 +56,7 @@ pub fn bytes_required<'a, 'n>(
     table.access_required::<&[u8]>(slot, type_, method)
 }
 
-/// Returns the vector of strings in a slot, or `None` where it is absent.
+/// Returns the vector of strings in a slot, or `None` if absent.
 pub fn text_vector<'a, 'n>(
     table: &Table<'a>,
     slot: usize,
@@ -69,7 +68,7 @@ pub fn text_vector<'a, 'n>(
     table.access::<Vector<'a, planus_read::Result<&'a str>>>(slot, type_, method)
 }
 
-/// Returns the same vector, where it is required.
+/// Returns the vector, or `MissingRequired` if absent.
 pub fn text_vector_required<'a, 'n>(
     table: &Table<'a>,
     slot: usize,
@@ -81,7 +80,7 @@ pub fn text_vector_required<'a, 'n>(
     table.access_required::<Vector<'a, planus_read::Result<&'a str>>>(slot, type_, method)
 }
 
-/// Returns the item at an index of a vector of strings, or `None` out of bounds.
+/// Returns an item of a vector of strings, or `None` out of bounds.
 pub fn text_item<'a>(
     vector: &Vector<'a, planus_read::Result<&'a str>>,
     index: usize,

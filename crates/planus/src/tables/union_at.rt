@@ -2,12 +2,10 @@
 
 use std::marker::PhantomData;
 
-/// A union of kind `T` for the slot of its tag and the slot of its value, an item of a list of
-/// fields like [`FieldAt`](crate::FieldAt).
+/// A union of kind `T`, with the slots of its tag and of its value.
 #[derive(Drop)]
 pub struct UnionAt<const TAG: usize, const VALUE: usize, T, V> {
     /// The union that is written.
     pub value: V,
-    /// Its kind.
     pub _marker: PhantomData<T>,
 }

@@ -8,8 +8,7 @@ use planus_read::table_reader::Table;
 use planus_read::{TableReadUnion, VectorReadUnion};
 use planus_view::UnionVector;
 
-/// Returns the union, of offset kind `K`, whose tag is in a slot and whose value is in the next, or
-/// `None` where it is absent. It is the variant that was written.
+/// Returns the union, of offset kind `K`, of a slot and the next, or `None` if absent.
 pub fn union_field<'a, 'n, K, U: TableReadUnion<'a>>(
     table: &Table<'a>,
     slot: usize,
@@ -21,7 +20,7 @@ pub fn union_field<'a, 'n, K, U: TableReadUnion<'a>>(
     table.access_union::<U>(slot, type_, method)
 }
 
-/// Returns the same union, where it is required.
+/// Returns the union, or `MissingRequired` if absent.
 pub fn union_required<'a, 'n, U: TableReadUnion<'a>>(
     table: &Table<'a>,
     slot: usize,
@@ -33,8 +32,7 @@ pub fn union_required<'a, 'n, U: TableReadUnion<'a>>(
     table.access_union_required::<U>(slot, type_, method)
 }
 
-/// Returns the union vector whose tags are in a slot and whose values are in the next, or `None`
-/// where it is absent.
+/// Returns the union vector of a slot and the next, or `None` if absent.
 pub fn union_vector<'a, 'n, U: 'a>(
     table: &Table<'a>,
     slot: usize,
@@ -46,7 +44,7 @@ pub fn union_vector<'a, 'n, U: 'a>(
     table.access_union_vector::<UnionVector<'a, U>>(slot, type_, method)
 }
 
-/// Returns the same vector, where it is required.
+/// Returns the vector, or `MissingRequired` if absent.
 pub fn union_vector_required<'a, 'n, U: 'a>(
     table: &Table<'a>,
     slot: usize,
@@ -58,7 +56,7 @@ pub fn union_vector_required<'a, 'n, U: 'a>(
     table.access_union_vector_required::<UnionVector<'a, U>>(slot, type_, method)
 }
 
-/// Returns the item at an index of a union vector, or `None` out of bounds.
+/// Returns an item of a union vector, or `None` out of bounds.
 pub fn union_item<'a, 'n, U: VectorReadUnion<'a>>(
     vector: &UnionVector<'a, U>,
     index: usize,

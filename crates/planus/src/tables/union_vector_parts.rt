@@ -1,4 +1,4 @@
-//! The references to the tags and to the values of a union vector.
+//! The references to the tags and the values of a union vector.
 ghost use Rattle.std.specs.Prelude.{◌≡◌};
 ghost use Rattle.std.specs.Option.{option_map};
 ghost use Rattle.planus_read.specs.Values.{tags, values};
@@ -7,7 +7,7 @@ ghost use Rattle.planus_write.specs.lemmas.FieldItemLaws.{tags_are_item, values_
 
 use planus_write::{List, Offset, UnionVectorOffset, WriteAsPrimitive};
 
-/// A reference to the tags of a union vector, as a field of a table.
+/// A reference to the tags of a union vector.
 #[derive(Clone, Copy)]
 pub struct TagsField(Offset<List<u8>>);
 
@@ -26,7 +26,7 @@ impl WriteAsPrimitive<Offset<List<u8>>> for TagsField {
     ghost is_item = { λ field. tags_are_item field.0.distance };
 }
 
-/// A reference to the values of a union vector, as a field of a table.
+/// A reference to the values of a union vector.
 #[derive(Clone, Copy)]
 pub struct ValuesField(Offset<List<Offset<()>>>);
 

@@ -17,14 +17,13 @@ use std::marker::PhantomData;
 pub struct Variant<const TAG: u8, K, V> {
     /// The value.
     pub value: V,
-    /// The type as which it is encoded.
     #[derive_where(skip)]
     pub _marker: PhantomData<K>,
     // Tag 0 means no union.
     ghost is_tagged: { 0 < TAG },
 }
 
-/// Creates a [`Variant`] from `TAG: KIND = VALUE`, where the value is encoded as the type `KIND`.
+/// Creates a [`Variant`] from `TAG: KIND = VALUE`.
 #[macro_export]
 macro_rules! variant {
     ($tag:literal: $kind:ty = $value:expr) => {

@@ -9,7 +9,6 @@ use Rattle.planus.specs.declared.faults.Why.TheVariants.{SlotTooBig, SlotTwice}
 use Rattle.planus.proofs.Declaring.{slot_is_used, slot_is_free}
 use Rattle.planus.proofs.slots.check_slot.Goals as goal
 
--- a slot above 255 is too big, whatever the slots before it
 slot_is_big : (slots : List ℕ) (slot : ℕ) → 255 < slot → slot_fault slots slot ≡ Some SlotTooBig
 slot_is_big slots slot big =
     let test : nat_lt 255 slot ≡ true = grind (arith, nat_tests, big) in

@@ -14,7 +14,6 @@ use Rattle.planus.specs.declared.faults.Why.{Why}
 use Rattle.planus.specs.declared.faults.Why.TheVariants.{ZeroTag}
 use Rattle.planus.proofs.named_steps.NamedSteps.union.Goals as goal
 
--- A union of an earlier step, of a tag above 0.
 module _ (first : ℕ) (since : List (Option Named)) (item : ℕ × ℕ) (above : 0 < item.0) where
   not_zero : (item.0 == 0) ≡ false
   not_zero = grind (arith, nat_tests, above)

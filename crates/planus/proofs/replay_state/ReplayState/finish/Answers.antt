@@ -21,7 +21,6 @@ finish-requires c = value_inside c.args.self.now c.requires.reached c.args.root 
 pub finish_size_prefixed-requires : goal.finish_size_prefixed-requires
 finish_size_prefixed-requires c = value_inside c.args.self.now c.requires.reached c.args.root c.in-Ok.root.distance (ap (option_and_then value_distance) c.in-Ok.ensures.0)
 
--- the replay afterwards, and what is given
 new : goal.In_ok-push-2 → ReplayState
 new c = record { builder = c.if-sized.self.builder; first = c.if-sized.self.first; offsets = c.push-2.new.self; finished = c.push.new.self }
 

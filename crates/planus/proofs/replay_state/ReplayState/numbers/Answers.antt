@@ -21,7 +21,6 @@ use Rattle.planus.specs.declared.replay_state.ReplayState.{ReplayState}
 use Rattle.planus.proofs.Stepping.{numbers_advanced}
 use Rattle.planus.proofs.replay_state.ReplayState.numbers.Goals as goal
 
--- numbers that are the items, each as itself
 same : {items : List ℕ} (numbers : List ℕ) → map (λ n. n) numbers ≡ items → numbers ≡ items
 same {items} numbers are = subst (λ ns. ns ≡ items) (map-id numbers) are
 
@@ -37,7 +36,6 @@ returns-in-Some-2 c =
     numbers_advanced c.args.width w32 c.args.items.now (ap width_of c.in-4.is) narrowed.0 c.args.self.now (ListOf ℕ) c.write-in-Some-2.result c.write-in-Some-2.new.self
     (subst (λ xs. WritesValue {A = Offset (ListOf ℕ)} offset_named (WritesList Answers (λ number. plain_item (to_le_bytes w32 number)) 4 4 xs) c.args.self.now c.write-in-Some-2.result c.write-in-Some-2.new.self) (same c.in-Some-2.items.items narrowed.1) c.write-in-Some-2.ensures)
 
--- numbers of 64 bits fit 8 bytes
 all_fit : (numbers : List ℕ) → ((k : ℕ) → get_or numbers k 0 < 18446744073709551616) → list_all (fits_width w64) numbers ≡ true
 all_fit [] fits = refl
 all_fit (number ∷ numbers) fits = rw (below (fits 0)) (all_fit numbers (λ k. fits (suc k)))
@@ -51,11 +49,9 @@ u64s-requires c = all_fit c.args.items.now (λ k. Fits-lt-pow (c.type_inv.items 
 pub returns-in-8 : goal.returns-in-8
 returns-in-8 c = rw c.in-8.is c.u64s.ensures
 
--- there are numbers of 2, 4 and 8 bytes alone
 no_width : (width : ℕ) → (width ≡ 2 → ⊥) → (width ≡ 4 → ⊥) → (width ≡ 8 → ⊥) → width_of width ≡ None
 no_width width not_2 not_4 not_8 = grind (arith, nat_tests, not_2, not_4, not_8)
 
--- numbers of another width are refused
 unknown : (old : ReplayState) (width : ℕ) (items : List ℕ) (error : ReplayError) → width_of width ≡ None → error ≡ BadStep (old.first + length old.offsets.items) WidthUnknown
     → Stopped old (step.numbers width items) error
 unknown old width items error none is = rw is (refl, ap (λ known. numbers_fault known items) none)

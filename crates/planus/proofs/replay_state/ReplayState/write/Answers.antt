@@ -6,7 +6,6 @@ use Rattle.planus.specs.declared.written.Written.TheVariants.{Value}
 use Rattle.planus.proofs.Stepping.{value_refused}
 use Rattle.planus.proofs.replay_state.ReplayState.write.Goals as goal
 
--- a value is named by its distance
 abbrev by_distance : ℕ → Named
 by_distance distance = record { distance = distance; tags = None }
 
