@@ -1,4 +1,4 @@
--- Bytes that stand at a position, cut in two and compared.
+-- Bytes at a position, cut in two and compared.
 use Rattle.std.proofs.Common.{◌≡◌, ℕ, ◌+◌, ◌-◌, Bool, true, false, List, ◌++◌, length, take, drop}
 use Rattle.std.proofs.Common.{refl, sym, ap, ◌∙◌, arith, nat_eq, IsTrue, length-append}
 use Rattle.std.proofs.Math.Seq.{take-add, take-append_seam}

@@ -1,4 +1,4 @@
--- A list that stands is read with its items.
+-- An encoded vector is read with its items.
 use Rattle.std.proofs.Common.{◌≡◌, ℕ, zero, suc, ◌+◌, ◌*◌, ◌≤◌, List, [], ◌∷◌, length, map, drop}
 use Rattle.std.proofs.Common.{take, refl, sym, ap, ◌∙◌, subst, arith, length-drop, Some, None, lit≤}
 use Rattle.std.proofs.Math.Nat.{suc-mul}
@@ -16,7 +16,6 @@ use Rattle.planus_read.specs.Reading.{Leads, VectorThere, UnionVectorThere}
 use Rattle.planus_read.specs.ListItems.{PlainItemsStand, ReferenceItemsStand, UnionItemsStand}
 use Rattle.planus_read.proofs.Reading.{num_inside, num_there, stood_inside}
 
--- items that stand one behind the other, each within the first n bytes, end within them
 items_inside :
     {X : Type 0} (A : ℕ → X → Type 0) (n size : ℕ)
     → ((p : ℕ) (x : X) → p ≤ n → A p x → p + size ≤ n) → (p : ℕ) (items : List X) → p ≤ n
@@ -39,7 +38,6 @@ reference_inside :
     (S : List ℕ) (p distance : ℕ) → p ≤ length S → ReferenceStands S p distance → p + 4 ≤ length S
 reference_inside S p distance here h = num_inside S p w32 h.0 h.1
 
--- a list whose items each lie in S is there as a vector
 list_there :
     {X : Type 0} (A : List ℕ → ℕ → X → Type 0) (S : List ℕ) (size : ℕ)
     → ((p : ℕ) (x : X) → p ≤ length S → A S p x → p + size ≤ length S) → (f k : ℕ) (items : List X)
@@ -93,7 +91,6 @@ union_vectors_stand_read S f g kt kv items to_tags to_references h =
           (map (λ item. item.1) items) to_references h.1);
     }
 
--- the item at an index
 item_at :
     {X : Type 0} (A : ℕ → X → Type 0) (p size : ℕ) (items : List X) → ItemsStand A p size items
     → (i : ℕ) (item : X) → slice_get items i ≡ Some item → A (p + i * size) item
@@ -114,7 +111,6 @@ some_bytes w32 = lit≤ tt
 some_bytes w64 = lit≤ tt
 some_bytes w128 = lit≤ tt
 
--- the number of bytes that stand
 pub num_of_bytes :
     (S : List ℕ) (f : ℕ) (w : Width) (bytes : List ℕ) → length bytes ≡ byte_len w
     → BytesStand S f bytes → Num S f w ≡ Some (from_le_bytes w bytes)
@@ -124,7 +120,6 @@ num_of_bytes S f w bytes long h =
     num_there S f w (omega (arith, length-drop f S))
     ∙ ap (λ l. Some (from_le_bytes w l)) (ap (λ n. take n (drop f S)) (sym long) ∙ h)
 
--- one byte of those that stand
 byte_stands :
     (B : List ℕ) (p : ℕ) (bytes : List ℕ) → BytesStand B p bytes → (i byte : ℕ)
     → slice_get bytes i ≡ Some byte → Num B (p + i) w8 ≡ Some byte

@@ -1,4 +1,4 @@
--- What stands keeps standing behind bytes that are put in front.
+-- Encoded values stay encoded where bytes are prepended.
 use Rattle.std.proofs.Common.{◌≡◌, ℕ, ◌+◌, ◌-◌, ◌*◌, ◌≤◌, ◌<◌, ◌-ℤ◌, pos, List, [], ◌∷◌, ◌++◌}
 use Rattle.std.proofs.Common.{length, map, Bool, take, drop, refl, sym, ap, ◌∙◌, arith, nat_le}
 use Rattle.std.proofs.Common.{Option, Some, None, length-append, if◌then◌else◌}
@@ -156,7 +156,6 @@ keeps_standing front B (at_both kt kv) (plain_list size alignment items) h = h
 keeps_standing front B (at_both kt kv) (reference_list distances) h = h
 keeps_standing front B (at_both kt kv) (table entries) h = h
 
--- the same without what is in front
 reference_back :
     (front B : List ℕ) (k j distance : ℕ) → j ≡ length front + k
     → ReferenceStands (front ++ B) j distance → ReferenceStands B k distance

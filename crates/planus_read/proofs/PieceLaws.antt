@@ -1,4 +1,4 @@
--- The laws of `PieceLaws`: what stands in some bytes stands in their pieces.
+-- What is encoded in bytes is encoded in their slices.
 use Rattle.std.proofs.Common.{◌≡◌, ℕ, ◌+◌, ◌≤◌, List, ◌++◌, length, take, drop, sym, ap, ◌∙◌, subst}
 use Rattle.std.proofs.Common.{arith}
 use Rattle.std.proofs.lemmas.List.{drop-drop, take-append-drop, length-take-le}

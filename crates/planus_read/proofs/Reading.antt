@@ -1,4 +1,4 @@
--- The clauses of a reader hold exactly where its value side stands.
+-- Clauses hold exactly where a value is encoded.
 use Rattle.std.proofs.Common.{◌≡◌, ℕ, ◌+◌, ◌*◌, ◌%◌, ◌≤◌, ◌<◌, ◌≤ℤ◌, ◌-ℤ◌, ℤ, pos, Bool, true}
 use Rattle.std.proofs.Common.{false, List, [], ◌∷◌, ◌++◌, length, take, drop, refl, sym, ap, subst}
 use Rattle.std.proofs.Common.{◌∙◌, arith, nat_le, Option, Some, None, Result, Ok, Err, inl, inr}
@@ -34,7 +34,6 @@ chosen : (b : Bool) (x n : ℕ) → (if b then Some x else None) ≡ Some n → 
 chosen true x n e = (refl, cc)
 chosen false x n e = absurd (let f : None ≡ Some n = e in cc)
 
--- what a number tells: its bytes lie in S, and it is their value
 pub num_inside :
     (S : List ℕ) (k : ℕ) (w : Width) (n : ℕ) → Num S k w ≡ Some n → k + byte_len w ≤ length S
 num_inside S k w n e = leb-true (k + byte_len w) (length S)
@@ -47,7 +46,6 @@ pub num_there :
     (S : List ℕ) (k : ℕ) (w : Width) → k + byte_len w ≤ length S → Num S k w ≡ Some (number S k w)
 num_there S k w h = rw (le-leb (k + byte_len w) (length S) h) refl
 
--- a reference and its target
 pub leads_there : (S : List ℕ) (f : ℕ) → f + byte_len w32 ≤ length S → Leads S f (target S f)
 leads_there S f h = (number S f w32, num_there S f w32 h, refl)
 
@@ -57,7 +55,6 @@ leads_inside S f k h = num_inside S f w32 h.0 h.1
 pub leads_to : (S : List ℕ) (f k : ℕ) → Leads S f k → k ≡ target S f
 leads_to S f k h = h.2 ∙ ap (λ n. f + n) (num_value S f w32 h.0 h.1)
 
--- a head
 pub head_there :
     (S : List ℕ) (f : ℕ) → f + byte_len w32 ≤ length S → target S f + byte_len w32 ≤ length S
     → HeadThere S f (items_at S f) (count_at S f)
@@ -91,13 +88,11 @@ head_facts S f position count h =
       count_is = num_value S (target S f) w32 count word;
     }
 
--- what the reader of heads hands on
 abbrev pub Head : List ℕ → ℕ → ℕ → SliceWithStartOffset → ℕ → Type 0
 Head S start f piece count =
     (items : Items) × HeadThere S f items.position items.count
     × ShowsItems S start items (piece, count)
 
--- the head of a piece, by its clauses
 record HeadRead (S : List ℕ) (f : ℕ) (items : SliceWithStartOffset) (count : ℕ) : Type 0 where
   holds : AllHold (head_clauses S f [])
   bytes : slice_bytes items ≡ drop (items_at S f) S
@@ -114,7 +109,6 @@ head_read S start f piece count h =
       counted = h.2.counted ∙ facts.count_is;
     }
 
--- a text
 zero_there : (S : List ℕ) (k : ℕ) → k < length S → get_or S k 0 ≡ 0 → BytesStand S k (0 ∷ [])
 zero_there S k h z = rw (drop-cons S k 0 h) (ap (λ b. b ∷ []) z)
 
@@ -185,7 +179,6 @@ text_holds S f content h =
       bytes,
     )
 
--- a text, read of the items behind its count
 text_of_head :
     (S : List ℕ) (f : ℕ) (count : ℕ) (content : List ℕ) → AllHold (head_clauses S f [])
     → count ≡ count_at S f → IsTextOf (drop (items_at S f) S) count content → TextThere S f content
@@ -280,7 +273,6 @@ text_answer S start f count items bytes (Err e) head same ok err =
     no_text_of_head S f count e read.holds read.counted
     (subst (λ l. FirstBroken (text_of_clauses l count) e) (same ∙ read.bytes) err)
 
--- a byte vector
 pub byte_list_there :
     (S : List ℕ) (f : ℕ) → AllHold (byte_list_clauses S f)
     → ByteListThere S f (take (count_at S f) (drop (items_at S f) S))
@@ -348,7 +340,6 @@ byte_list_answer S start f count items bytes head same within =
       ap (take count) here ∙ ap (λ n. take n (drop (items_at S f) S)) counted,
     )
 
--- vectors
 pub vector_there :
     (S : List ℕ) (f stride : ℕ) → AllHold (vector_clauses S f stride)
     → VectorThere S f stride (items_at S f) (count_at S f)
@@ -418,7 +409,6 @@ union_vector_holds S f g tags references count h =
       ),
     )
 
--- tables
 below_zero : (o : ℕ) (r : ℤ) → r ≤ℤ pos o → r ≡ pos o -ℤ pos (unsigned_abs (pos o -ℤ r))
 below_zero o r h = omega (arith, ints)
 
@@ -500,7 +490,6 @@ table_holds S f object vtable size h =
       size_is,
     )
 
--- what is refused of an object is refused of the table that a reference leads to there
 object_behind :
     (S : List ℕ) (object : ℕ) (e : ErrorKind) (b : Bool) → nat_le object (length S) ≡ b
     → FirstBroken (object_clauses S object) e

@@ -1,4 +1,4 @@
--- The laws of `ReadingLaws`: once over any reading, and then of each kind.
+-- The laws of `ReadingLaws`, for each kind of reading.
 use Rattle.std.proofs.Common.{subst, ◌≡◌, ℕ, ◌==◌, not, List, [], ◌∷◌, take, drop, refl, sym, ap}
 use Rattle.std.proofs.Common.{◌∙◌, Option, Some, None, Result, Ok, Err, inl, inr}
 use Rattle.std.specs.Int.{Width, w8, cast_signed}
@@ -30,13 +30,11 @@ use Rattle.planus_read.proofs.Reading.{text_there, text_holds, byte_list_there, 
 use Rattle.planus_read.proofs.Reading.{vector_there, vector_holds, union_vector_there}
 use Rattle.planus_read.proofs.Reading.{union_vector_holds, table_there, table_holds}
 
--- a clause is broken, so not all hold
 broken : (clauses : List Clause) (e : ErrorKind) → FirstBroken clauses e → AllHold clauses → ⊥
 broken [] e h all = h
 broken (first ∷ rest) e (inl h) all = h.0 all.0
 broken (first ∷ rest) e (inr h) all = broken rest e h.1 all.1
 
--- each clause has one error
 abbrev pub OneError : List Clause → Type 0
 OneError [] = ⊤
 OneError (first ∷ rest) = ((e other : ErrorKind) → first.errors e → first.errors other → e ≡ other)
@@ -94,7 +92,6 @@ is_shown reading Shows law x there (Ok shows) h = subst (λ y. Shows y shows)
     (law.one h.0 x h.1 there) h.2
 is_shown reading Shows law x there (Err e) h = absurd (law.nothing e h x there)
 
--- the errors of the clauses
 pub this_error : (error e other : ErrorKind) → e ≡ error → other ≡ error → e ≡ other
 this_error error e other h k = h ∙ sym k
 
@@ -146,7 +143,6 @@ table_errors S f =
     let size = this_error (InvalidVtableLength (vtable_size_at S (target S f))) in
     (offset, (offset, (offset, (offset, (offset, (size, (this_error InvalidLength, tt)))))))
 
--- numbers
 same_some : {A : Type 0} (m : Option A) (x y : A) → m ≡ Some x → m ≡ Some y → x ≡ y
 same_some m x y h k = let e : Some x ≡ Some y = sym h ∙ k in cc
 
@@ -168,7 +164,6 @@ mapped_there :
 mapped_there g None x h = absurd (let f : None ≡ Some x = h in cc)
 mapped_there g (Some n) x h = (n, refl)
 
--- a value that is computed of a number
 abbrev pub mapped_reading :
     {A : Type 0} → (ℕ → A) → List ℕ → ℕ → Width → Reading A
 mapped_reading g S f width =
@@ -197,7 +192,6 @@ lawful_signed S f width = lawful_mapped (cast_signed width) S f width
 pub lawful_truth : (S : List ℕ) (f : ℕ) → IsLawful (truth_reading S f)
 lawful_truth S f = lawful_mapped (λ n. not (n == 0)) S f w8
 
--- heads, texts and lists
 items_of : ℕ → ℕ → Items
 items_of position count = record { position = position; count = count }
 
@@ -308,7 +302,6 @@ lawful_union_vector S f g =
         k.references_there in
         same_union_items x y tags.0 references.0 tags.1
 
--- tables
 layout_of : ℕ → ℕ → ℕ → TableLayout
 layout_of object vtable size = record { object = object; vtable = vtable; size = size }
 
@@ -319,7 +312,6 @@ same_layout a b o t z =
     ap (λ n. layout_of n a.vtable a.size) o ∙ ap (λ n. layout_of b.object n a.size) t
     ∙ ap (layout_of b.object b.vtable) z
 
--- the layout of the table at f, by the clauses
 read_layout : List ℕ → ℕ → TableLayout
 read_layout S f = layout_of (target S f) (vtable_at S (target S f)) (vtable_size_at S (target S f))
 

@@ -1,4 +1,4 @@
--- The laws of `ReadsBack`: what stands reads back.
+-- An encoded value reads back.
 use Rattle.std.proofs.Common.{◌≡◌, ℕ, ◌+◌, ◌-◌, ◌*◌, ◌≤◌, ◌-ℤ◌, ◌==◌, not, pos, List, [], ◌∷◌}
 use Rattle.std.proofs.Common.{length, map, take, drop, refl, sym, ap, ◌∙◌, subst, arith, Some}
 use Rattle.std.proofs.Common.{Result, Ok, Err}
@@ -82,7 +82,6 @@ fields_read_back B start f (reference distance) h = reference_reads B start f di
 fields_read_back B start f (tags distance) h = reference_reads B start f distance h
 fields_read_back B start f (values distance) h = reference_reads B start f distance h
 
--- a value to which a reference of a piece leads lies in the piece
 record InPiece (B : List ℕ) (start f k : ℕ) : Type 0 where
   inside : start ≤ length B
   whole : k ≡ start + (k - start)

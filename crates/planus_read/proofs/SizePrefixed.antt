@@ -1,5 +1,4 @@
--- Buffers with their size in front: the clauses hold exactly where one stands, and streams of them
--- are read one by one.
+-- Size-prefixed buffers, and streams of them.
 use Rattle.std.proofs.Common.{◌≡◌, ℕ, ◌+◌, ◌≤◌, ◌<◌, List, [], ◌∷◌, ◌++◌, length, take, drop}
 use Rattle.std.proofs.Common.{refl, sym, ap, subst, ◌∙◌, arith, Some, Err, inl, inr}
 use Rattle.std.proofs.Common.{length-drop, length-append, Bor}
@@ -21,7 +20,6 @@ use Rattle.planus_read.specs.SizePrefixed.{StreamsRead, CutsAreRefused, BuffersA
 use Rattle.planus_read.proofs.Reading.{num_inside, num_there, num_value}
 use Rattle.planus_read.proofs.ReadingLaws.{OneError, lawful, this_error}
 
--- the clauses, and where content and rest are if they hold
 pub prefixed_there :
     (B : List ℕ) → AllHold (prefixed_clauses B)
     → PrefixedThere B (take (number B 0 w32) (drop 4 B)) (drop (number B 0 w32) (drop 4 B))
@@ -85,7 +83,6 @@ lawful_prefixed B = lawful (prefixed_reading B) (prefixed_errors B) decides one
         let b : PrefixedHolds B y.content y.rest = prefixed_holds B y.content y.rest k in
         same_prefixed x y (a.content_is ∙ sym b.content_is) (a.rest_is ∙ sym b.rest_is)
 
--- what the reader answers
 pub prefixed_answer :
     (B : List ℕ) (size : ℕ) (piece : SliceWithStartOffset) (rest : Bor (List ℕ))
     → Num B 0 w32 ≡ Some size → size ≤ length (drop 4 B)
@@ -102,7 +99,6 @@ prefixed_answer B size piece rest word fits content begin behind =
       record { content = content; begin = begin; rest = behind },
     )
 
--- a buffer with its size in front, and something behind it
 number_in_front :
     (B rest : List ℕ) (n : ℕ) → Num B 0 w32 ≡ Some n → Num (B ++ rest) 0 w32 ≡ Some n
 number_in_front B rest n h =
@@ -138,7 +134,6 @@ streams_read (buffer ∷ buffers) left h =
       streams_read buffers left h.1,
     )
 
--- a cut
 number_of_cut :
     (B : List ℕ) (n : ℕ) → 4 ≤ n → n ≤ length B → number (take n B) 0 w32 ≡ number B 0 w32
 number_of_cut B n h k = ap (from_le_bytes w32) (take-take 4 n B h)

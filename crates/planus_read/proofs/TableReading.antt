@@ -1,4 +1,4 @@
--- A table that stands is read with its fields.
+-- An encoded table is read with its fields.
 use Rattle.std.proofs.Common.{◌≡◌, ℕ, ◌+◌, ◌-◌, ◌*◌, ◌≤◌, ◌<◌, ◌==◌, Bool, true, false, max, List}
 use Rattle.std.proofs.Common.{[], ◌∷◌, length, take, drop, refl, sym, ap, subst, ◌∙◌, arith, Option}
 use Rattle.std.proofs.Common.{Some, None, Result, Ok, Err, ◌≢◌, if◌then◌else◌, length-drop, ◌⊎◌}
@@ -36,7 +36,6 @@ found false x rest field a n i here later e = let below : i + 1 ≤ n = later e 
 same_slot : (a i : ℕ) → (a == i) ≡ true → a ≡ i
 same_slot a i e = grind (arith, nat_tests)
 
--- a slot that holds a field is below the number of slots
 pub slot_below :
     (entries : List (ℕ × Field)) (i : ℕ) (field : Field) → field_at entries i ≡ Some field
     → i + 1 ≤ slot_count entries
@@ -45,7 +44,6 @@ slot_below (entry ∷ entries) i field e =
     found (entry.0 == i) entry.1 (field_at entries i) field entry.0 (slot_count entries) i
     (same_slot entry.0 i) (slot_below entries i field) e
 
--- the slots of a vtable of size z at t
 slots_length :
     (S : List ℕ) (t z : ℕ) → t + z ≤ length S → length (drop 4 (take z (drop t S))) ≡ z - 4
 slots_length S t z h =
@@ -122,7 +120,6 @@ any_slot S k entries h i (inr past) =
     (λ field e. let l : i + 1 ≤ slot_count entries = slot_below entries i field e in
     omega arith)
 
--- the table that stands at k, read by a reference of the bytes themselves
 pub table_there :
     (S : List ℕ) (f k : ℕ) (entries : List (ℕ × Field)) → Leads S f k
     → (h : TableStands S k entries) → TableThere S f k h.vtable (vtable_size entries)
@@ -150,7 +147,6 @@ table_slot_bytes S k entries h =
     slots_length S h.vtable (vtable_size entries) h.inside
     ∙ (let same : 4 + 2 * slot_count entries - 4 ≡ 2 * slot_count entries = omega arith in same)
 
--- a field of a slice of the bytes is the bytes' own
 pub slot_reads_whole :
     (B : List ℕ) (start k q : ℕ) (o : Option Field) → start ≤ length B
     → SlotReads (drop start B) k q o → SlotReads B (start + k) q o
@@ -162,7 +158,6 @@ slot_reads_whole B start k q (Some field) inside h = (
       (rw (length-take-le start B inside) (omega arith)) h.1),
 )
 
--- the last used slot holds a field
 last_used :
     (b : Bool) (x : Field) (rest : Option Field) (a n i : ℕ) → (b ≡ false → a ≡ i → ⊥)
     → max (a + 1) n ≡ i + 1 → (n ≡ i + 1 → rest ≡ None → ⊥) → (if b then Some x else rest) ≡ None
@@ -185,7 +180,6 @@ no_last (entry ∷ entries) i e h =
     last_used (entry.0 == i) entry.1 (field_at entries i) entry.0 (slot_count entries) i
     (other_slot entry.0 i) e (no_last entries i) h
 
--- answers over the object of a table
 here_in :
     {T : Type 0} (reads : List ℕ → ℕ → ℕ → Result T ErrorKind → Type 0) (B : List ℕ) (k : ℕ)
     (entries : List (ℕ × Field)) (table : Table)
@@ -195,7 +189,6 @@ here_in reads B k entries table h q r it =
     subst (λ s. reads (drop k B) s q r) h.begin
     (subst (λ o. reads o (table_start table) q r) h.object it)
 
--- where an answer is one of these, the answer of the accessor of a field that must be there is one of those
 required_of :
     {T : Type 0} (answers others : Result (Option T) ErrorKind → Type 0)
     → ((r : Result (Option T) ErrorKind) → answers r → others r) → (r : Result T ErrorKind)
@@ -239,7 +232,6 @@ fields_read {T} reads B k entries table h i = (
         → FieldRead reads B k (field_at entries i) r
     all = field_read reads B k entries table h i (field_at entries i) (h.slots i)
 
--- what slots i and i + 1 are read as
 absent :
     (B : List ℕ) (k : ℕ) (entries : List (ℕ × Field)) (table : Table) → HasFields B k entries table
     → (i : ℕ) → field_at entries i ≡ None → Slot (table_slots table) i ≡ 0
@@ -259,7 +251,6 @@ both_fit B k entries table h i field e =
     let below : i + 1 + 1 ≤ slot_count entries = slot_below entries (i + 1) field e in
     omega (arith, h.slot_bytes)
 
--- the vtable doesn't end between two slots that aren't used
 no_half :
     (B : List ℕ) (k : ℕ) (entries : List (ℕ × Field)) (table : Table) → HasFields B k entries table
     → (i : ℕ) → field_at entries i ≡ None → 2 * i < length (table_slots table)
@@ -267,7 +258,6 @@ no_half :
 no_half B k entries table h i e more less =
     let last : slot_count entries ≡ i + 1 = omega (arith, h.slot_bytes) in no_last entries i last e
 
--- the byte at 0 of the object is there
 some_tag :
     (B : List ℕ) (k : ℕ) (entries : List (ℕ × Field)) (table : Table) → HasFields B k entries table
     → (i : ℕ) → Slot (table_slots table) i ≡ 0 → tag_of table i ≡ None → ⊥

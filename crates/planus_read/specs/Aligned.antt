@@ -1,6 +1,5 @@
--- The alignment of encoded values.
--- The format: a number is at a multiple of its size from the buffer's start, and so are counts and
--- references.
+-- The format: a number, a count or a reference is at a multiple of its size from the buffer's
+-- start.
 use Rattle.std.specs.Prelude.{◌≡◌, ℕ, ◌+◌, ◌*◌, ◌≤◌, List, Some, None, Option, ⊤, pos, ◌-ℤ◌}
 use Rattle.std.specs.Int.{w16, ◌∣◌}
 use Rattle.planus_read.specs.Bytes.{Num, Int}
@@ -10,20 +9,19 @@ use Rattle.planus_read.specs.Values.{table, Field, plain, reference, tags, value
 use Rattle.planus_read.specs.Values.{field_at, vtable_size}
 use Rattle.planus_read.specs.Stands.{Position, at, at_both, ItemsStand}
 
--- the alignment of a field: a plain item's own, 4 for a reference
+-- 4 for a reference
 abbrev pub field_alignment : Field → ℕ
 field_alignment (plain item) = item.alignment
 field_alignment (reference distance) = 4
 field_alignment (tags distance) = 4
 field_alignment (values distance) = 4
 
--- a present field is aligned, by the number in its slot at s
 abbrev pub SlotAligned : List ℕ → ℕ → ℕ → Option Field → Type 0
 SlotAligned B k s None = ⊤
 SlotAligned B k s (Some field) =
     (q : ℕ) × (Num B s w16 ≡ Some q) × (field_alignment field ∣ (k + q))
 
--- the table at k is at a multiple of 4, its vtable of 2, and each field of its own alignment
+-- the table is at a multiple of 4, its vtable of 2, each field of its alignment
 pub record TableAligned (B : List ℕ) (k : ℕ) (entries : List (ℕ × Field)) : Type 0 where
   pub table : 4 ∣ k
   pub vtable : ℕ
@@ -33,12 +31,11 @@ pub record TableAligned (B : List ℕ) (k : ℕ) (entries : List (ℕ × Field))
       (i : ℕ) → 2 * i + 6 ≤ vtable_size entries
       → SlotAligned B k (vtable + 4 + 2 * i) (field_at entries i)
 
--- the count of a vector is aligned, and so is each item
 abbrev pub ListAligned : {X : Type 0} → ℕ → ℕ → ℕ → List X → Type 0
 ListAligned k size alignment items =
     (4 ∣ k) × ItemsStand (λ position item. alignment ∣ position) (k + 4) size items
 
--- Each part of the value encoded there is aligned.
+-- Each part of the encoded value is aligned.
 abbrev pub AlignedAt : List ℕ → Position → Value → Type 0
 AlignedAt B (at k) (text bytes) = 4 ∣ k
 AlignedAt B (at k) (byte_list bytes) = 4 ∣ k

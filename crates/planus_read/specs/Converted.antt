@@ -1,7 +1,7 @@
--- Results whose error is converted into another type.
+-- Results whose error is converted.
 use Rattle.std.specs.Prelude.{Result, Ok, Err}
 
--- the value of a result, or what its error converts to
+-- a value, or what its error converts to
 abbrev pub Converted :
     {T E F : Type 0} → (Result T F → Type 0) → (F → E → Type 0) → Result T E → Type 0
 Converted answers converts (Ok x) = answers (Ok x)

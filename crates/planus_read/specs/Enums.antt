@@ -1,4 +1,4 @@
--- Enums: variants with numbers, encoded as these.
+-- Enums: variants that are encoded as their numbers.
 use Rattle.std.specs.Prelude.{◌≡◌, ℕ, ℤ, pos, Bool, nat_eq, List, [], ◌∷◌, Option, Some, None}
 use Rattle.std.specs.Prelude.{IsSome}
 use Rattle.std.specs.Prelude.{if◌then◌else◌, Result, Ok, Err, FitsSigned}
@@ -20,18 +20,16 @@ use Rattle.planus_read.specs.lemmas.NumberLaws.{eight_bytes}
 use Rattle.planus_read.specs.lemmas.NumberLaws.{layout_of_one, layout_of_two, layout_of_four}
 use Rattle.planus_read.specs.lemmas.NumberLaws.{layout_of_eight, bytes_number, stood_by}
 
--- the variant with this number
 abbrev pub variant_in : {E N : Type 0} → (N → N → Bool) → List (N × E) → N → Option E
 variant_in equal [] n = None
 variant_in equal (one ∷ others) n = if equal n one.0 then Some one.1 else variant_in equal others n
 
--- a variant's number, by which it is found
 pub record Numbered {E N : Type 0} (equal : N → N → Bool) (variants : List (N × E)) (x : E)
     : Type 0 where
   pub number : N
   pub found : variant_in equal variants number ≡ Some x
 
--- an enum's shape: a variant is encoded as its number, `bits` of it, and read as `read_as`
+-- a variant is `bits` of its number
 abbrev pub enum_shape :
     {E N : Type 0} (width : Width) → AreBytes width → IsLayout (byte_len width) (byte_len width)
     → (bits : N → ℕ) (read_as : ℕ → N) (Fits : N → Type 0)
@@ -68,7 +66,6 @@ enum_shape {E} {N} width are layout bits read_as Fits few again tag equal varian
           ∙ (numbers x).found));
     }
 
--- an enum of unsigned numbers, and one of signed numbers
 abbrev pub unsigned_enum :
     {E : Type 0} (width : Width) → AreBytes width → IsLayout (byte_len width) (byte_len width)
     → (variants : List (ℕ × E)) → ((x : E) → Numbered nat_eq variants x)
@@ -117,12 +114,11 @@ abbrev pub i64_enum :
     {E : Type 0} {variants : List (ℤ × E)} → ((x : E) → Numbered int_eq variants x) → Shape E 8 8
 i64_enum {E} {variants} = signed_enum w64 eight_bytes layout_of_eight variants
 
--- another value for the error of an unknown number; any other error stays
 abbrev pub unless_unknown : {A : Type 0} → ErrorKind → A → Error → Result A Error
 unless_unknown (UnknownEnumTag source) other e = Ok other
 unless_unknown kind other e = Err e
 
--- what was read, or another value for an unknown number
+-- what was read, or another value
 abbrev pub known_or : {A : Type 0} → A → Result A Error → Result A Error
 known_or other (Ok x) = Ok x
 known_or other (Err e) = unless_unknown e.error_kind other e

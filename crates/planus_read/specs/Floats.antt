@@ -1,4 +1,4 @@
--- Floats: the numbers that are their bits.
+-- Floats, encoded as their bits.
 use Rattle.std.specs.Prelude.{◌≡◌, ℕ, List, Some, T, from_bits}
 use Rattle.std.specs.Int.{Width}
 use Rattle.std.specs.Option.{option_map}

@@ -1,32 +1,31 @@
--- Positions of a value once bytes are prepended.
+-- Encoded values where bytes are prepended.
 use Rattle.std.specs.Prelude.{ℕ, ◌+◌, List, ◌++◌, length}
 use Rattle.planus_read.specs.Values.{Value}
 use Rattle.planus_read.specs.Stands.{Position, at, at_both, Stands, ReferenceStands}
 
--- the positions, n bytes further on
 abbrev pub moved : ℕ → Position → Position
 moved n (at k) = at (n + k)
 moved n (at_both kt kv) = at_both (n + kt) (n + kv)
 
--- Whatever is prepended, an encoded value stays encoded, further on by the prepended length.
+-- An encoded value stays encoded.
 abbrev pub KeepsStanding : Type 0
 KeepsStanding =
     (front B : List ℕ) (p : Position) (v : Value) → Stands B p v
     → Stands (front ++ B) (moved (length front) p) v
 
--- Whatever is prepended, a reference leads to the same distance from the end.
+-- A reference leads to the same distance.
 abbrev pub KeepsLeading : Type 0
 KeepsLeading =
     (front B : List ℕ) (f distance : ℕ) → ReferenceStands B f distance
     → ReferenceStands (front ++ B) (length front + f) distance
 
--- An encoded value needs no bytes before it.
+-- A value needs no bytes before it.
 abbrev pub StandsAlone : Type 0
 StandsAlone =
     (front B : List ℕ) (p : Position) (v : Value) → Stands (front ++ B) (moved (length front) p) v
     → Stands B p v
 
--- A reference needs no bytes before it.
+-- A reference needs none.
 abbrev pub LeadsAlone : Type 0
 LeadsAlone =
     (front B : List ℕ) (f distance : ℕ) → ReferenceStands (front ++ B) (length front + f) distance

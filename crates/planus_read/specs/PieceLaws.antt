@@ -1,4 +1,4 @@
--- Values of a buffer are encoded in each slice of it that begins no further on.
+-- Values of a buffer are encoded in its slices.
 use Rattle.std.specs.Prelude.{ℕ, ◌+◌, ◌≤◌, List, length, drop}
 use Rattle.planus_read.specs.Bytes.{position_of}
 use Rattle.planus_read.specs.Values.{Value, Field}
@@ -6,24 +6,24 @@ use Rattle.planus_read.specs.Stands.{Position, Stands, ReferenceStands, FieldSta
 use Rattle.planus_read.specs.Moves.{moved}
 use Rattle.planus_read.specs.Reading.{Leads}
 
--- An encoded reference leads to the position of its distance.
+-- A reference leads to the position of its distance.
 abbrev pub ReferencesLead : Type 0
 ReferencesLead =
     (B : List ℕ) (f distance : ℕ) → ReferenceStands B f distance
     → Leads B f (position_of B distance)
 
--- In the slice from start on, a reference leads to the same byte.
+-- In a slice it leads to the same byte.
 abbrev pub LeadsInPieces : Type 0
 LeadsInPieces =
     (B : List ℕ) (start f k : ℕ) → Leads B (start + f) (start + k) → Leads (drop start B) f k
 
--- A field, and so a reference to a distance, is encoded in the slice from start on.
+-- A field is encoded in a slice.
 abbrev pub FieldsStandInPieces : Type 0
 FieldsStandInPieces =
     (B : List ℕ) (start f : ℕ) (field : Field) → start ≤ length B → FieldStands B (start + f) field
     → FieldStands (drop start B) f field
 
--- A value is encoded in the slice from start on.
+-- A value is encoded in a slice.
 abbrev pub StandsInPieces : Type 0
 StandsInPieces =
     (B : List ℕ) (start : ℕ) (p : Position) (v : Value) → start ≤ length B

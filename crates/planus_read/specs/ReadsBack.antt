@@ -1,4 +1,4 @@
--- That a value reads back, in each slice of the bytes, by each reference to it.
+-- Values read back in each slice, by each reference.
 use Rattle.std.specs.Prelude.{◌≡◌, ℕ, ◌+◌, ◌*◌, ◌==◌, not, List, [], ◌∷◌}
 use Rattle.std.specs.Prelude.{length, drop, slice_get, Some, ⊤, Result, IsOkAnd}
 use Rattle.std.specs.Int.{Width, w8, byte_len, from_le_bytes, cast_signed}
@@ -22,13 +22,11 @@ use Rattle.planus_read.specs.ReadingLaws.{IsAnswered}
 use Rattle.planus_read.specs.TableReading.{HasFields}
 use Rattle.planus_read.specs.Tables.{ShowsTable}
 
--- A value that can be read back.
 -- The format: the bytes of a string are UTF-8.
 abbrev pub WellFormed : Value → Type 0
 WellFormed (text bytes) = IsUtf8 bytes
 WellFormed _ = ⊤
 
--- a plain item at f of S reads back: as a number or signed number, and one byte as a bool
 pub record PlainReads (S : List ℕ) (f : ℕ) (bytes : List ℕ) : Type 0 where
   pub stands : BytesStand S f bytes
   pub number :
@@ -39,7 +37,6 @@ pub record PlainReads (S : List ℕ) (f : ℕ) (bytes : List ℕ) : Type 0 where
       → IsAnswered (signed_reading S f width) (cast_signed width (from_le_bytes width bytes))
   pub truth : (byte : ℕ) → bytes ≡ byte ∷ [] → IsAnswered (truth_reading S f) (not (byte == 0))
 
--- the reference at f leads to its distance, and so does the `Place` returned for it
 pub record ReferenceReads (B : List ℕ) (start f distance : ℕ) : Type 0 where
   pub leads : Leads B (start + f) (position_of B distance)
   pub place :
@@ -49,7 +46,6 @@ pub record ReferenceReads (B : List ℕ) (start f distance : ℕ) : Type 0 where
       (tag : ℕ) (tagged : TaggedPlace) → IsTaggedPlace (drop start B) start tag f tagged
       → TaggedLeadsOn B tag (position_of B distance) tagged
 
--- the field at f of the slice of B from start on reads back
 abbrev pub FieldReads : List ℕ → ℕ → ℕ → Field → Type 0
 FieldReads B start f (plain item) = PlainReads (drop start B) f item.bytes
 FieldReads B start f (reference distance) = ReferenceReads B start f distance
@@ -62,7 +58,6 @@ FieldsReadBack =
     (B : List ℕ) (start f : ℕ) (field : Field) → FieldStands B (start + f) field
     → FieldReads B start f field
 
--- the vector at k, read at f of the slice of B from start on: its count, its item size, its items
 pub record ListReads
     {X : Type 0} (ItemReads : ℕ → ℕ → X → Type 0) (B : List ℕ) (k start f size : ℕ) (items : List X)
     : Type 0 where
@@ -74,7 +69,6 @@ pub record ListReads
   pub each :
       (i : ℕ) (item : X) → slice_get items i ≡ Some item → ItemReads (k + 4) (i * size) item
 
--- the union vector at kt and kv, read at f and g of that slice: its count, its tags, its references
 pub record UnionVectorReads (B : List ℕ) (kt kv start f g : ℕ) (items : List (ℕ × ℕ)) : Type 0 where
   pub tags_position : ℕ
   pub references_position : ℕ
@@ -90,7 +84,6 @@ pub record UnionVectorReads (B : List ℕ) (kt kv start f g : ℕ) (items : List
       (i : ℕ) (item : ℕ × ℕ) → slice_get items i ≡ Some item
       → ReferenceReads B (kv + 4) (i * 4) item.1
 
--- the table at k, read at f of that slice: it is the only result, and has its fields
 pub record TableReads (B : List ℕ) (k start f : ℕ) (entries : List (ℕ × Field)) : Type 0 where
   pub layout : TableLayout
   pub answered : IsAnswered (table_reading (drop start B) f) layout
@@ -99,11 +92,10 @@ pub record TableReads (B : List ℕ) (k start f : ℕ) (entries : List (ℕ × F
       → Answer (shown (ShowsTable (drop start B) start) (table_reading (drop start B) f)) r
       → IsOkAnd r (HasFields B k entries)
 
--- this holds for each reference to k, in each slice of B that begins no further on than it
 abbrev pub ByReferences : List ℕ → ℕ → (ℕ → ℕ → Type 0) → Type 0
 ByReferences B k Answered = (start f : ℕ) → Leads B (start + f) k → Answered start f
 
--- the value here is the only result of each reference to it; its references are returned as places
+-- the only result of each reference, its own references being places
 abbrev pub ReadsBack : List ℕ → Position → Value → Type 0
 ReadsBack B (at k) (text bytes) =
     ByReferences B k (λ start f. IsAnswered (text_reading (drop start B) f) bytes)
@@ -121,7 +113,7 @@ ReadsBack B (at_both kt kv) (union_vector items) =
 ReadsBack B (at k) (union_vector items) = ⊥
 ReadsBack B (at_both kt kv) _ = ⊥
 
--- An encoded value reads back, if it is well-formed.
+-- An encoded, well-formed value reads back.
 abbrev pub WhatStandsReadsBack : Type 0
 WhatStandsReadsBack =
     (B : List ℕ) (p : Position) (v : Value) → WellFormed v → Stands B p v → ReadsBack B p v

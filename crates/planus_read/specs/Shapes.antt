@@ -16,7 +16,6 @@ use Rattle.planus_read.specs.lemmas.NumberLaws.{layout_of_eight, stood, stood_as
 use Rattle.planus_read.specs.lemmas.NumberLaws.{truth_fits}
 use Rattle.planus_read.specs.lemmas.NumberLaws.{truth_bytes, one_byte_is}
 
--- a number of a width
 abbrev pub unsigned_shape : (width : Width) → AreBytes width
     → IsLayout (byte_len width) (byte_len width) → Shape ℕ (byte_len width) (byte_len width)
 unsigned_shape width are layout = record {
@@ -30,7 +29,6 @@ unsigned_shape width are layout = record {
   again = λ S f n m fits stands there. stood width are S f n m fits stands there;
 }
 
--- a signed number of a width
 abbrev pub signed_shape : (width : Width) → AreBytes width
     → IsLayout (byte_len width) (byte_len width) → Shape ℤ (byte_len width) (byte_len width)
 signed_shape width are layout = record {
@@ -48,7 +46,6 @@ signed_shape width are layout = record {
       ∙ to_z-of_z fits;
 }
 
--- a float: the number that is its bits
 abbrev pub float_shape : (width : Width) (format : Format) → AreBytes width
     → ((x : Float) → FloatFits format x → NumberFits width (to_bits format x))
     → IsLayout (byte_len width) (byte_len width) → Shape Float (byte_len width) (byte_len width)
@@ -104,7 +101,7 @@ i32_shape = signed_shape w32 four_bytes layout_of_four
 abbrev pub i64_shape : Shape ℤ 8 8
 i64_shape = signed_shape w64 eight_bytes layout_of_eight
 
--- a bool: one byte, 0 or 1, of which each but 0 is read as true
+-- 0 or 1, of which each but 0 is read as true
 abbrev pub bool_shape : Shape Bool 1 1
 bool_shape = record {
   encoded = λ truth. from_bool truth ∷ [];

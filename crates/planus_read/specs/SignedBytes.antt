@@ -1,4 +1,4 @@
--- Vectors of signed bytes, by the bytes in the buffer.
+-- Vectors of signed bytes.
 use Rattle.std.specs.Prelude.{◌≡◌, ℕ, ℤ, List, Option, slice_get}
 use Rattle.std.specs.Int.{w8, cast_signed}
 use Rattle.std.specs.Option.{option_map}

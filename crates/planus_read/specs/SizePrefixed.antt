@@ -1,4 +1,4 @@
--- Size-prefixed buffers, as streams and files of records hold them one after another.
+-- Size-prefixed buffers, one after another.
 use Rattle.std.specs.Borrow.{Bor}
 use Rattle.std.specs.Prelude.{◌≡◌, ℕ, ◌+◌, ◌≤◌, ◌<◌, List, [], ◌∷◌, ◌++◌, length, take, drop, Some}
 use Rattle.std.specs.Prelude.{Result, Err}
@@ -13,48 +13,44 @@ use Rattle.planus_read.specs.Pieces.{slice_bytes, slice_start}
 use Rattle.planus_read.specs.Reading.{number, number_clause}
 use Rattle.planus_read.specs.ReadingLaws.{IsAnswered}
 
--- the bytes of a buffer after its size, and what follows the buffer
 pub record Prefixed : Type 0 where
   pub content : List ℕ
   pub rest : List ℕ
 
--- The size of the content, the content, and the rest.
 -- The format: a size-prefixed buffer begins with an unsigned number of 4 bytes, the number of bytes
 -- that follow.
 pub record PrefixedThere (B content rest : List ℕ) : Type 0 where
   pub size : Num B 0 w32 ≡ Some (length content)
   pub bytes : drop 4 B ≡ content ++ rest
 
--- the clauses of such a buffer: its size is in B, and so are that many bytes after it
 abbrev pub prefixed_clauses : List ℕ → List Clause
 prefixed_clauses B =
     number_clause B 0 w32 ∷ clause (4 + number B 0 w32 ≤ length B) InvalidLength ∷ []
 
--- the reading of such a buffer
+-- a size-prefixed buffer's reading
 abbrev pub prefixed_reading : List ℕ → Reading Prefixed
 prefixed_reading B = record {
   There = λ prefixed. PrefixedThere B prefixed.content prefixed.rest;
   clauses = prefixed_clauses B;
 }
 
--- the slice of the content, which starts after the size, and the rest
+-- the slice of the content, and the rest
 pub record ShowsPrefixed (prefixed : Prefixed) (shows : SliceWithStartOffset × Bor (List ℕ))
     : Type 0 where
   pub content : slice_bytes shows.0 ≡ prefixed.content
   pub begin : slice_start shows.0 ≡ 4
   pub rest : shows.1.now ≡ prefixed.rest
 
--- a size-prefixed buffer, and nothing after it
+-- a size-prefixed buffer with nothing after it
 abbrev pub IsPrefixed : List ℕ → Type 0
 IsPrefixed B = Num B 0 w32 ≡ Some (length (drop 4 B))
 
--- A size-prefixed buffer reads as its bytes after the size, and whatever follows the buffer.
+-- A buffer reads as its bytes after the size.
 abbrev pub BuffersAreRead : Type 0
 BuffersAreRead =
     (B rest : List ℕ) → IsPrefixed B
     → IsAnswered (prefixed_reading (B ++ rest)) (record { content = drop 4 B; rest = rest })
 
--- Read one by one, the bytes are these buffers, and then this rest.
 abbrev pub StreamReads : List ℕ → List (List ℕ) → List ℕ → Type 0
 StreamReads B [] left = B ≡ left
 StreamReads B (buffer ∷ buffers) left =
@@ -62,13 +58,13 @@ StreamReads B (buffer ∷ buffers) left =
     × IsAnswered (prefixed_reading B) (record { content = drop 4 buffer; rest = rest })
     × StreamReads rest buffers left
 
--- Size-prefixed buffers, one after another, are read one by one, whatever follows the last.
+-- Buffers are read one by one.
 abbrev pub StreamsRead : Type 0
 StreamsRead =
     (buffers : List (List ℕ)) (left : List ℕ) → AllByRecursion IsPrefixed buffers
     → StreamReads (concat buffers ++ left) buffers left
 
--- A buffer cut off after its size fails as too short.
+-- A buffer cut off after its size is too short.
 abbrev pub CutsAreRefused : Type 0
 CutsAreRefused =
     (B : List ℕ) (n : ℕ) → IsPrefixed B → 4 ≤ n → n < length B → (r : Result Prefixed ErrorKind)

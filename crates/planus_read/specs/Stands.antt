@@ -1,4 +1,4 @@
--- Where a value is encoded in bytes, by the rules of the format.
+-- Where a value is encoded.
 use Rattle.std.specs.Prelude.{◌≡◌, ℕ, ◌+◌, ◌*◌, ◌≤◌, ◌<◌, List, [], ◌∷◌, ◌++◌, length, map}
 use Rattle.std.specs.Prelude.{Option, Some, None, ⊤, pos, ◌-ℤ◌}
 use Rattle.std.specs.Int.{w16, w32}
@@ -8,39 +8,33 @@ use Rattle.planus_read.specs.Values.{union_vector}
 use Rattle.planus_read.specs.Values.{table, Field, plain, reference, tags, values}
 use Rattle.planus_read.specs.Values.{field_at, vtable_size}
 
--- A reference at f leads to the position at this distance from the end.
+-- A reference to this distance from the end.
 -- The format: a reference is an unsigned number of 4 bytes, the distance forward from itself.
 abbrev pub ReferenceStands : List ℕ → ℕ → ℕ → Type 0
 ReferenceStands B f distance = (n : ℕ) × (Num B f w32 ≡ Some n) × (f + n + distance ≡ length B)
 
--- each item is encoded, the first at the position, each next one `size` further on
 abbrev pub ItemsStand : {X : Type 0} → (ℕ → X → Type 0) → ℕ → ℕ → List X → Type 0
 ItemsStand StandsAt position size [] = ⊤
 ItemsStand StandsAt position size (item ∷ items) =
     StandsAt position item × ItemsStand StandsAt (position + size) size items
 
--- a count, followed by the items
 -- The format: a vector is a count of 4 bytes, followed by its items.
 abbrev pub ListStands : {X : Type 0} → (List ℕ → ℕ → X → Type 0) → List ℕ → ℕ → ℕ → List X → Type 0
 ListStands StandsAt B k size items =
     (Num B k w32 ≡ Some (length items)) × ItemsStand (StandsAt B) (k + 4) size items
 
--- a plain item of the vector's item size
 abbrev pub PlainStands : ℕ → List ℕ → ℕ → List ℕ → Type 0
 PlainStands size B position item = (length item ≡ size) × BytesStand B position item
 
--- a count, followed by that many bytes
 abbrev pub ByteListStands : List ℕ → ℕ → List ℕ → Type 0
 ByteListStands B k bytes = (Num B k w32 ≡ Some (length bytes)) × BytesStand B (k + 4) bytes
 
--- a field at f: the bytes of a plain item, or a reference to the distance
 abbrev pub FieldStands : List ℕ → ℕ → Field → Type 0
 FieldStands B f (plain item) = BytesStand B f item.bytes
 FieldStands B f (reference distance) = ReferenceStands B f distance
 FieldStands B f (tags distance) = ReferenceStands B f distance
 FieldStands B f (values distance) = ReferenceStands B f distance
 
--- The slot at s of the table at k: 0 for an absent field, else the field's distance from k.
 abbrev pub SlotStands : List ℕ → ℕ → ℕ → Option Field → Type 0
 SlotStands B k s None = Num B s w16 ≡ Some 0
 SlotStands B k s (Some field) =
@@ -58,14 +52,14 @@ pub record TableStands (B : List ℕ) (k : ℕ) (entries : List (ℕ × Field)) 
       (i : ℕ) → 2 * i + 6 ≤ vtable_size entries
       → SlotStands B k (vtable + 4 + 2 * i) (field_at entries i)
 
--- The positions of a value: one, or those of the tags and of the references of a union vector.
+-- one position, or those of a union vector's tags and references
 pub data Position : Type 0 where
   at : ℕ → Position
   at_both : ℕ → ℕ → Position
 
--- The value is encoded there. That a string is UTF-8 is left to `WellFormed` and to the readers.
 -- The format: a string is a vector of UTF-8 bytes followed by a zero byte outside the count; a byte
--- vector has no such byte; a union vector is two vectors, of tags and of references.
+-- vector has no such byte; a union vector is two vectors, of tags and of references. UTF-8 is left
+-- to `WellFormed` and to the readers.
 abbrev pub Stands : List ℕ → Position → Value → Type 0
 Stands B (at k) (text bytes) =
     (Num B k w32 ≡ Some (length bytes)) × BytesStand B (k + 4) (bytes ++ 0 ∷ [])

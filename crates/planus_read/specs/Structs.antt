@@ -9,12 +9,11 @@ use Rattle.planus_read.specs.Clauses.{Clause, AllHold}
 use Rattle.planus_read.specs.Plain.{IsLayout, Shape, place}
 use Rattle.planus_read.specs.lemmas.StructLaws.{parts_stand, behind, both_are, both_hold}
 
--- the number of zeros that bring an offset to a multiple of an alignment
+-- zeros up to a multiple of an alignment
 abbrev pub gap : ℕ → ℕ → ℕ
 gap k alignment = (alignment - k % alignment) % alignment
 
--- The fields of a struct from an offset on: their bytes, the encoded values, the clauses of a read,
--- and the law that no clause fails, and no others are encoded, where the bytes of some are.
+-- Where the bytes of some are, no clause fails and no others are encoded.
 pub record Fields (A : Type 0) : Type 1 where
   pub size : ℕ → ℕ
   pub alignment : ℕ
@@ -32,7 +31,6 @@ pub record Fields (A : Type 0) : Type 1 where
       (k : ℕ) (S : List ℕ) (f : ℕ) (x y : A) → fits x → BytesStand S (place f k) (encoded k x)
       → There k S f y → values y ≡ values x
 
--- no more fields
 abbrev pub no_more : {A : Type 0} → Fields A
 no_more {A} = record {
   size = λ k. 0;
@@ -48,8 +46,7 @@ no_more {A} = record {
   again = λ k S f x y fits stands there. refl;
 }
 
--- A field at the next multiple of its alignment, and the fields after it.
--- The format: each field of a struct is at a multiple of its own alignment, with zeros between.
+-- The format: each field of a struct is at a multiple of its alignment, with zeros between.
 abbrev pub field :
     {A B : Type 0} {bytes align : ℕ} → (A → B) → Shape B bytes align → Fields A → Fields A
 field {A} {B} {bytes} {align} get shape rest = record {
@@ -98,7 +95,6 @@ field {A} {B} {bytes} {align} get shape rest = record {
       there.1));
 }
 
--- The same fields in a struct of at least this alignment.
 -- The format: `force_align`.
 abbrev pub force_align : {A : Type 0} → ℕ → Fields A → Fields A
 force_align alignment fields = record {
@@ -115,7 +111,6 @@ force_align alignment fields = record {
   again = fields.again;
 }
 
--- The size of a struct, and its bytes: the fields, and zeros up to a multiple of its alignment.
 -- The format: a struct has the greatest alignment of its fields, and its size is a multiple of it.
 abbrev pub struct_size : {A : Type 0} → Fields A → ℕ
 struct_size fields = fields.size 0 + gap (fields.size 0) fields.alignment
@@ -123,7 +118,6 @@ struct_size fields = fields.size 0 + gap (fields.size 0) fields.alignment
 abbrev pub struct_bytes : {A : Type 0} → Fields A → A → List ℕ
 struct_bytes fields x = fields.encoded 0 x ++ replicate (gap (fields.size 0) fields.alignment) 0
 
--- n times the alignment 2 ^ k
 pub struct_layout : (k n : ℕ) → k ≤ 30 → 0 < n * 2 ^ k → IsLayout (n * 2 ^ k) (2 ^ k)
 struct_layout k n small positive = record {
   power = (k, small, refl);
@@ -131,7 +125,7 @@ struct_layout k n small positive = record {
   multiple = dvd-mul_left (2 ^ k) n;
 }
 
--- A struct of these fields, which may be a field of another. `make` makes it from their values.
+-- `make` makes it from the values of its fields
 abbrev pub struct_shape : {A : Type 0} (fields : Fields A)
     → IsLayout (struct_size fields) fields.alignment → (make : fields.Values → A)
     → ((x : A) → make (fields.values x) ≡ x) → Shape A (struct_size fields) fields.alignment

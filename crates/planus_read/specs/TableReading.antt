@@ -1,4 +1,4 @@
--- What a reader returns for a table that was written.
+-- What a reader returns for a written table.
 use Rattle.std.specs.Prelude.{◌≡◌, ◌≢◌, ℕ, ◌+◌, ◌*◌, ◌≤◌, List, [], ◌∷◌, length, drop}
 use Rattle.std.specs.Prelude.{Option, Some, None, Result, Ok, Err}
 use Rattle.planus_read.specs.declared.errors.ErrorKind.{ErrorKind}
@@ -11,12 +11,10 @@ use Rattle.planus_read.specs.Tables.{table_object, table_start, table_slots, slo
 use Rattle.planus_read.specs.Tables.{Reads, ReadsBoth}
 use Rattle.planus_read.specs.Tables.{FieldAnswer, UnionAnswer, UnionVectorAnswer}
 
--- The distance read from a slot of the table at k: the field's, or 0 for an absent field.
 abbrev pub SlotReads : List ℕ → ℕ → ℕ → Option Field → Type 0
 SlotReads B k q None = q ≡ 0
 SlotReads B k q (Some field) = (4 ≤ q) × FieldStands B (k + q) field
 
--- a `Table` of the bytes from k on, in which each slot, also past the vtable's end, is its field
 pub record HasFields
     (B : List ℕ) (k : ℕ) (entries : List (ℕ × Field)) (table : Table) : Type 0 where
   pub object : table_object table ≡ drop k B
@@ -25,21 +23,19 @@ pub record HasFields
   pub slot_bytes : length (table_slots table) ≡ 2 * slot_count entries
   pub slots : (i : ℕ) → SlotReads B k (slot_of table i) (field_at entries i)
 
--- some value of these results, or their error
 abbrev pub SomeOf :
     {T : Type 0} → (Result T ErrorKind → Type 0) → Result (Option T) ErrorKind → Type 0
 SomeOf answers (Ok None) = ⊥
 SomeOf answers (Ok (Some x)) = answers (Ok x)
 SomeOf answers (Err e) = answers (Err e)
 
--- the result for a field of the table at k: none if absent, else its type's result
 abbrev pub FieldRead :
     {T : Type 0} → Reads T → List ℕ → ℕ → Option Field → Result (Option T) ErrorKind → Type 0
 FieldRead reads B k None r = r ≡ Ok None
 FieldRead reads B k (Some field) r =
     (q : ℕ) × FieldStands B (k + q) field × SomeOf (reads (drop k B) k q) r
 
--- Every field is returned so, and likewise by the accessor of a required field.
+-- Every field is returned.
 abbrev pub FieldsRead : {T : Type 0} → Reads T → Type 0
 FieldsRead {T} reads =
     (B : List ℕ) (k : ℕ) (entries : List (ℕ × Field)) (table : Table) → HasFields B k entries table
@@ -49,7 +45,6 @@ FieldsRead {T} reads =
     × ((r : Result T ErrorKind) → Required (FieldAnswer reads table i) r
     → Required (FieldRead reads B k (field_at entries i)) r)
 
--- slots i and i + 1 hold a union of a tag above 0 and a reference to this distance, or nothing
 abbrev pub HoldUnion : List (ℕ × Field) → ℕ → Option (ℕ × ℕ) → Type 0
 HoldUnion entries i None = (field_at entries i ≡ None) × (field_at entries (i + 1) ≡ None)
 HoldUnion entries i (Some union) =
@@ -57,14 +52,13 @@ HoldUnion entries i (Some union) =
     × ((item : Plain) × (field_at entries i ≡ Some (plain item)) × (item.bytes ≡ union.0 ∷ []))
     × (field_at entries (i + 1) ≡ Some (reference union.1))
 
--- the result for a union: none if absent, else its type's result for the tag and the reference
 abbrev pub UnionRead :
     {T : Type 0} → ReadsBoth T → List ℕ → ℕ → Option (ℕ × ℕ) → Result (Option T) ErrorKind → Type 0
 UnionRead reads B k None r = r ≡ Ok None
 UnionRead reads B k (Some union) r =
     (q : ℕ) × ReferenceStands B (k + q) union.1 × SomeOf (reads (drop k B) k union.0 q) r
 
--- Every union is returned so.
+-- Every union is returned.
 abbrev pub UnionsRead : {T : Type 0} → ReadsBoth T → Type 0
 UnionsRead {T} reads =
     (B : List ℕ) (k : ℕ) (entries : List (ℕ × Field)) (table : Table) → HasFields B k entries table
@@ -74,13 +68,11 @@ UnionsRead {T} reads =
     × ((r : Result T ErrorKind) → Required (UnionAnswer reads table i) r
     → Required (UnionRead reads B k union) r)
 
--- slots i and i + 1 hold the tags and values of a union vector at these distances, or nothing
 abbrev pub HoldUnionVector : List (ℕ × Field) → ℕ → Option (ℕ × ℕ) → Type 0
 HoldUnionVector entries i None = (field_at entries i ≡ None) × (field_at entries (i + 1) ≡ None)
 HoldUnionVector entries i (Some both) =
     (field_at entries i ≡ Some (tags both.0)) × (field_at entries (i + 1) ≡ Some (values both.1))
 
--- the result for a union vector: none if absent, else its type's result for both references
 abbrev pub UnionVectorRead :
     {T : Type 0} → ReadsBoth T → List ℕ → ℕ → Option (ℕ × ℕ) → Result (Option T) ErrorKind → Type 0
 UnionVectorRead reads B k None r = r ≡ Ok None
@@ -88,7 +80,7 @@ UnionVectorRead reads B k (Some both) r =
     (q : ℕ) × ReferenceStands B (k + q) both.0
     × ((p : ℕ) × ReferenceStands B (k + p) both.1 × SomeOf (reads (drop k B) k q p) r)
 
--- Every union vector is returned so.
+-- Every union vector is returned.
 abbrev pub UnionVectorsRead : {T : Type 0} → ReadsBoth T → Type 0
 UnionVectorsRead {T} reads =
     (B : List ℕ) (k : ℕ) (entries : List (ℕ × Field)) (table : Table) → HasFields B k entries table

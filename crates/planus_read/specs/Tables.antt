@@ -1,4 +1,4 @@
--- Tables as readers hold them, and the results for their fields.
+-- Tables as readers hold them, and their fields.
 use Rattle.std.specs.Prelude.{◌≡◌, ◌≢◌, ℕ, ◌+◌, ◌*◌, ◌≤◌, ◌<◌, ◌⊎◌, List, length, take, drop}
 use Rattle.std.specs.Prelude.{Option, Some, None, Result, Ok, Err}
 use Rattle.std.specs.Option.{unwrap_or}
@@ -11,15 +11,15 @@ use Rattle.planus_read.specs.Bytes.{Num}
 use Rattle.planus_read.specs.Pieces.{slice_bytes, slice_start}
 use Rattle.planus_read.specs.Reading.{TableLayout}
 
--- the results of a type's read, by the bytes of a slice, its start and an offset in it
+-- a type's results by a slice's bytes, its start and an offset in it
 abbrev pub Reads : Type 0 → Type 1
 Reads T = List ℕ → ℕ → ℕ → Result T ErrorKind → Type 0
 
--- the same for a type read by two numbers: a tag and an offset, or two offsets
+-- by two numbers: a tag and an offset, or two offsets
 abbrev pub ReadsBoth : Type 0 → Type 1
 ReadsBoth T = List ℕ → ℕ → ℕ → ℕ → Result T ErrorKind → Type 0
 
--- the bytes from the table's first on, their start in the buffer, and the slots of its vtable
+-- the bytes from the table's first on
 abbrev pub table_object : Table → List ℕ
 table_object table = slice_bytes table.object
 
@@ -29,22 +29,21 @@ table_start table = slice_start table.object
 abbrev pub table_slots : Table → List ℕ
 table_slots table = table.vtable.now
 
--- a table in the slice S: its bytes from the first on, and its vtable's slots
+-- a table in S, with its vtable's slots
 pub record ShowsTable (S : List ℕ) (start : ℕ) (layout : TableLayout) (table : Table) : Type 0 where
   pub object_bytes : table_object table ≡ drop layout.object S
   pub object_start : table_start table ≡ start + layout.object
   pub slots : table_slots table ≡ drop 4 (take layout.size (drop layout.vtable S))
 
--- The field's distance from the table's first byte by slot i of the slots V, 0 for an absent field.
--- The format: a slot has two bytes, 0 for an absent field; slots past the vtable's end are absent.
+-- The format: a slot has two bytes, the field's distance from the table's first byte, 0 for an
+-- absent field. Slots past the vtable's end are absent.
 abbrev pub Slot : List ℕ → ℕ → ℕ
 Slot V i = unwrap_or (Num V (2 * i) w16) 0
 
--- that distance in slot i of the table
 abbrev pub slot_of : Table → ℕ → ℕ
 slot_of table i = Slot (table_slots table) i
 
--- The result for the field of a slot: none where it is absent, else its type's result.
+-- none if absent, else its type's result
 abbrev pub FieldAnswer : {T : Type 0} → Reads T → Table → ℕ → Result (Option T) ErrorKind → Type 0
 FieldAnswer reads table i (Ok None) = slot_of table i ≡ 0
 FieldAnswer reads table i (Ok (Some x)) =
@@ -52,15 +51,14 @@ FieldAnswer reads table i (Ok (Some x)) =
 FieldAnswer reads table i (Err e) =
     (slot_of table i ≢ 0) × reads (table_object table) (table_start table) (slot_of table i) (Err e)
 
--- slots i and i + 1 are both in the vtable
+-- both are in the vtable
 abbrev pub BothSlots : Table → ℕ → Type 0
 BothSlots table i = 2 * i + 4 ≤ length (table_slots table)
 
--- The tag byte of the union of slots i and i + 1, at the distance in slot i, even where that is 0.
+-- The tag byte at the distance in slot i, even where that is 0.
 abbrev pub tag_of : Table → ℕ → Option ℕ
 tag_of table i = Num (table_object table) (slot_of table i) w8
 
--- The union of slots i and i + 1 is there with this tag.
 -- The format: a union field is two slots, a tag of one byte and a reference. Tag 0 means none.
 pub record UnionThere (table : Table) (i tag : ℕ) : Type 0 where
   pub both : BothSlots table i
@@ -69,26 +67,25 @@ pub record UnionThere (table : Table) (i tag : ℕ) : Type 0 where
   pub tag_slot : slot_of table i ≢ 0
   pub value_slot : slot_of table (i + 1) ≢ 0
 
--- No union: the vtable ends before slot i, or the tag or a slot is 0.
+-- The vtable ends before slot i, or the tag or a slot is 0.
 abbrev pub UnionAbsent : Table → ℕ → Type 0
 UnionAbsent table i =
     (length (table_slots table) ≤ 2 * i)
     ⊎ (BothSlots table i × ((tag : ℕ) × (tag_of table i ≡ Some tag)
     × ((tag ≡ 0) ⊎ (slot_of table i ≡ 0) ⊎ (slot_of table (i + 1) ≡ 0))))
 
--- Damaged slots of a union: the tag isn't in the object, or the vtable ends between the two slots.
+-- The tag isn't in the object, or the vtable ends between the slots.
 abbrev pub UnionBroken : Table → ℕ → ErrorKind → Type 0
 UnionBroken table i e =
     (BothSlots table i × (tag_of table i ≡ None) × (e ≡ InvalidOffset))
     ⊎ ((2 * i < length (table_slots table)) × (length (table_slots table) < 2 * i + 4)
     × (e ≡ InvalidVtableLength (length (table_slots table) + 4)))
 
--- the type's result for a union, by the tag and the value's distance
 abbrev pub union_of : {T : Type 0} → ReadsBoth T → Table → ℕ → ℕ → Result T ErrorKind → Type 0
 union_of reads table i tag r =
     reads (table_object table) (table_start table) tag (slot_of table (i + 1)) r
 
--- the result for the union of slots i and i + 1: none, an error of damaged slots, or its type's
+-- none, an error of damaged slots, or its type's result
 abbrev pub UnionAnswer :
     {T : Type 0} → ReadsBoth T → Table → ℕ → Result (Option T) ErrorKind → Type 0
 UnionAnswer reads table i (Ok None) = UnionAbsent table i
@@ -98,27 +95,24 @@ UnionAnswer reads table i (Err e) =
     UnionBroken table i e
     ⊎ ((tag : ℕ) × UnionThere table i tag × union_of reads table i tag (Err e))
 
--- A union vector is there: both slots are in the vtable and hold a distance.
 -- The format: a union vector takes two slots, tags first.
 pub record UnionVectorSlots (table : Table) (i : ℕ) : Type 0 where
   pub both : BothSlots table i
   pub tags_slot : slot_of table i ≢ 0
   pub values_slot : slot_of table (i + 1) ≢ 0
 
--- exactly one of the two slots holds a distance
 abbrev pub HalfVector : Table → ℕ → Type 0
 HalfVector table i =
     BothSlots table i
     × (((slot_of table i ≡ 0) × (slot_of table (i + 1) ≢ 0))
     ⊎ ((slot_of table i ≢ 0) × (slot_of table (i + 1) ≡ 0)))
 
--- the type's result for a union vector, by both distances
 abbrev pub union_vector_of : {T : Type 0} → ReadsBoth T → Table → ℕ → Result T ErrorKind → Type 0
 union_vector_of reads table i r =
     reads (table_object table) (table_start table) (slot_of table i) (slot_of table (i + 1)) r
 
--- The result for the union vector of slots i and i + 1: none where both hold 0 or aren't both in
--- the vtable, an error where exactly one holds 0, else its type's result.
+-- none if both hold 0 or aren't both in the vtable, an error if exactly one holds 0, else its
+-- type's result
 abbrev pub UnionVectorAnswer :
     {T : Type 0} → ReadsBoth T → Table → ℕ → Result (Option T) ErrorKind → Type 0
 UnionVectorAnswer reads table i (Ok None) =

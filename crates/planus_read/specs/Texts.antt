@@ -16,18 +16,18 @@ use Rattle.planus_read.specs.declared.located.ErrorLocation.{ErrorLocation}
 use Rattle.planus_read.specs.declared.located.Error.{Error}
 use Rattle.planus_read.specs.declared.located.UnknownEnumTag.{UnknownEnumTag}
 
--- the string of an enum value that its reader doesn't know
+-- an unknown enum value
 abbrev pub unknown_tag_text : UnknownEnumTagKind → List ℕ
 unknown_tag_text kind = codes "Unknown enum (tag = " ++ signed_decimal kind.tag ++ codes ")"
 
--- the string of a UTF-8 error, by the numbers of valid bytes before it and of invalid ones, if any
+-- by the numbers of valid bytes before it and of invalid ones, if any
 abbrev pub utf8_text : ℕ → Option ℕ → List ℕ
 utf8_text valid_len (Some fault_len) =
     codes "invalid utf-8 sequence of "
     ++ (decimal fault_len ++ (codes " bytes from index " ++ decimal valid_len))
 utf8_text valid_len None = codes "incomplete utf-8 byte sequence from index " ++ decimal valid_len
 
--- the string of a kind
+-- a kind
 abbrev pub kind_text : ErrorKind → List ℕ
 kind_text InvalidOffset = codes "Invalid offset"
 kind_text InvalidLength = codes "Invalid length"
@@ -43,11 +43,11 @@ kind_text (InvalidUtf8 source) =
 kind_text MissingRequired = codes "Missing required field"
 kind_text MissingNullTerminator = codes "Missing null terminator"
 
--- the offset of a location that has none: 2^64 - 1
+-- where there is none: 2^64 - 1
 abbrev pub no_offset : ℕ
 no_offset = 2 ^ 64 - 1
 
--- the type, the offset in lower-case hexadecimal where there is one, and the method
+-- the type, the offset in lower-case hexadecimal if there is one, the method
 abbrev pub location_text : ErrorLocation → List ℕ
 location_text location =
     codes "<" ++ location.type_.now
@@ -55,14 +55,13 @@ location_text location =
     else codes "@" ++ digits 16 false location.byte_offset)
     ++ codes ">::" ++ location.method.now ++ codes "()"
 
--- a string at a location
 abbrev pub located_text : ErrorLocation → List ℕ → List ℕ
 located_text location kind = codes "In " ++ location_text location ++ codes ": " ++ kind
 
--- the string of an error
+-- an error
 abbrev pub error_text : Error → List ℕ
 error_text e = located_text e.source_location (kind_text e.error_kind)
 
--- the string of an unknown value at its location
+-- an unknown value, located
 abbrev pub unknown_enum_tag_text : UnknownEnumTag → List ℕ
 unknown_enum_tag_text e = located_text e.source_location (unknown_tag_text e.error_kind)

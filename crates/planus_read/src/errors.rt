@@ -1,4 +1,4 @@
-//! What goes wrong when bytes are read, and where.
+//! Errors of reads.
 
 ghost use Rattle.std.specs.Prelude.{◌≡◌};
 
@@ -6,68 +6,58 @@ use crate::located;
 use std::fmt;
 use std::str::Utf8Error;
 
-/// The error of a read: what is wrong with the bytes, and where it was found.
+/// What is wrong with the bytes, and where.
 pub type Error = located::Error<'static>;
 
-/// Where an error was found: the names of the type and the method that read, and the offset in the
-/// buffer.
+/// Where an error was found.
 pub type ErrorLocation = located::ErrorLocation<'static>;
 
-/// A value that its enum doesn't have, and where it was found.
+/// A value that its enum doesn't have, and where.
 pub type UnknownEnumTag = located::UnknownEnumTag<'static>;
 
-/// What can be wrong with bytes that are read.
+/// What can be wrong with the bytes.
 #[derive(Clone, Copy, Debug, PartialEq, Eq)]
 pub enum ErrorKind {
-    /// A reference leads past the end of the slice, a number isn't wholly in the slice, or a vtable
-    /// would begin before it. Also where exactly one slot of a union vector holds 0.
+    /// A number or the target of a reference isn't in the slice, a vtable would begin before it, or
+    /// exactly one slot of a union vector holds 0.
     InvalidOffset,
-    /// The items of a vector, or the slots of a vtable, pass the end of the slice that is read.
-    /// Also where a size-prefixed buffer is shorter than its size.
+    /// Items, slots or a size-prefixed buffer pass the end of the slice.
     InvalidLength,
-    /// The two parts of a union vector have different counts.
+    /// The vectors of a union vector have different counts.
     UnionVectorLengthsMismatched {
-        /// The number of tags, in items.
         tags_len: usize,
-        /// The number of references to values, in items.
         values_len: usize,
     },
-    /// A value that its enum doesn't have. Not always damage: a writer of a later schema may know
-    /// it.
+    /// A value that its enum doesn't have, perhaps of a later schema.
     UnknownEnumTag {
-        /// The value that was read.
         source: UnknownEnumTagKind,
     },
-    /// A tag that its union doesn't have. Not always damage, as with an enum's value.
+    /// A tag that its union doesn't have, perhaps of a later schema.
     UnknownUnionTag {
-        /// The tag that was read.
         tag: u8,
     },
-    /// A vtable's size is odd or below 4, or the vtable ends between the two slots of a union.
+    /// A vtable's size is odd or below 4, or it ends between the slots of a union.
     InvalidVtableLength {
-        /// The vtable's size in bytes, its own first 4 bytes included.
+        /// In bytes, its own first 4 included.
         length: u16,
     },
-    /// The bytes of a string aren't UTF-8.
+    /// A string isn't UTF-8.
     InvalidUtf8 {
-        /// The first UTF-8 error in these bytes.
         source: Utf8Error,
     },
-    /// A required field of a table is absent.
+    /// A required field is absent.
     MissingRequired,
-    /// A string isn't followed by a zero byte in the slice that is read.
+    /// No zero byte follows a string in the slice.
     MissingNullTerminator,
 }
 
 /// A value that its enum doesn't have.
 #[derive(Clone, Copy, Debug, PartialEq, Eq)]
 pub struct UnknownEnumTagKind {
-    /// The value that was read.
     pub tag: i128,
 }
 
-// The numbers of a `Utf8Error`: valid bytes before it, and invalid bytes, none where the string
-// ends within a character. They print like the error, whose own Display has no contract.
+// The numbers of a `Utf8Error`, whose own Display has no contract.
 #[derive(Clone, Copy)]
 struct Utf8Fault {
     valid_len: usize,
@@ -166,8 +156,7 @@ impl From<Utf8Error> for ErrorKind {
 }
 
 impl UnknownEnumTagKind {
-    /// Returns this error at a location: the names of the type and the method that read, and the
-    /// offset in bytes from the start of the buffer.
+    /// Returns this error at a location, with the offset in bytes.
     pub fn with_error_location<'n>(
         self,
         type_: &'n str,
@@ -190,8 +179,7 @@ impl UnknownEnumTagKind {
 }
 
 impl ErrorKind {
-    /// Returns this error at a location: the names of the type and the method that read, and the
-    /// offset in bytes from the start of the buffer.
+    /// Returns this error at a location, with the offset in bytes.
     pub fn with_error_location<'n>(
         self,
         type_: &'n str,

@@ -1,4 +1,4 @@
-//! Heads of vectors and strings: a reference, and the count to which it leads.
+//! Heads of vectors and strings: a reference, and its count.
 
 ghost use Rattle.std.specs.Prelude.{◌≡◌};
 ghost use Rattle.planus_read.specs.Clauses.{Answer, shown};
@@ -10,8 +10,8 @@ use crate::errors::ErrorKind;
 use crate::slice_helpers::SliceWithStartOffset;
 use crate::traits::TableRead;
 
-/// Returns the bytes from the first item on of the vector at a reference, and its count.
-/// [`ErrorKind::InvalidOffset`] where the reference, its target or the count isn't in the slice.
+/// Returns the bytes of a vector from its first item on, and its count, or
+/// [`ErrorKind::InvalidOffset`].
 pub fn array_from_buffer<'buf>(
     buffer: SliceWithStartOffset<'buf>,
     offset: usize,

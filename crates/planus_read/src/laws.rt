@@ -1,5 +1,4 @@
-//! Laws over where values are encoded and what readers return. Each function is a theorem; its body
-//! is empty.
+//! Laws over encoded values and readers. Each function is a theorem.
 
 ghost use Rattle.std.specs.Int.{Width};
 ghost use Rattle.std.specs.Prelude.{◌≡◌, ℕ, List};
@@ -25,7 +24,7 @@ ghost use Rattle.planus_read.specs.Moves.{KeepsStanding, KeepsLeading, StandsAlo
 use crate::plain::Plain;
 use crate::traits::{TableRead, TableReadUnion, TableReadUnionVector};
 
-/// The alignment of a number, a bool and a float is its size.
+/// A scalar's alignment is its size.
 pub fn scalars_are_aligned_to_their_size()
     ensures u8 { ⟦<u8 as Plain>⟧.ALIGNMENT ≡ ⟦<u8 as Plain>⟧.SIZE }
     ensures u16 { ⟦<u16 as Plain>⟧.ALIGNMENT ≡ ⟦<u16 as Plain>⟧.SIZE }
@@ -40,22 +39,20 @@ pub fn scalars_are_aligned_to_their_size()
     ensures f64 { ⟦<f64 as Plain>⟧.ALIGNMENT ≡ ⟦<f64 as Plain>⟧.SIZE }
 {}
 
-/// Whatever is prepended to some bytes, a value in them stays encoded at the same distances from
-/// the end, and a reference leads to the same distance.
+/// Whatever is prepended, values stay encoded and references lead to the same distance from the
+/// end.
 pub fn keeps_standing()
     ensures value { KeepsStanding }
     ensures reference { KeepsLeading }
 {}
 
-/// A value needs no bytes before it: it is encoded as well where those are cut off, and a reference
-/// leads to its distance there too.
+/// A value or a reference needs no bytes before it.
 pub fn stands_alone()
     ensures value { StandsAlone }
     ensures reference { LeadsAlone }
 {}
 
-/// All clauses of a reading hold exactly where a value of its kind is encoded, which is then the
-/// only value and result; an error means that there is none; and there is at most one result.
+/// All clauses hold exactly where a value is encoded, which is then the only result.
 pub fn readings_are_lawful()
     ensures number { (S : List ℕ) (f : ℕ) (width : Width) → IsLawful (number_reading S f width) }
     ensures signed { (S : List ℕ) (f : ℕ) (width : Width) → IsLawful (signed_reading S f width) }
@@ -69,8 +66,7 @@ pub fn readings_are_lawful()
     ensures size_prefixed { (B : List ℕ) → IsLawful (prefixed_reading B) }
 {}
 
-/// Where a value is encoded, its reader returns what shows it: the string, the slice, the signed
-/// bytes, the slice of the items with their count, or the table.
+/// A reader returns what shows the encoded value.
 pub fn readers_show_values()
     ensures head { (S : List ℕ) (start f : ℕ) → IsShown (head_reading S f) (ShowsItems S start) }
     ensures text { (S : List ℕ) (f : ℕ) → IsShown (text_reading S f) ShowsBytes }
@@ -80,16 +76,14 @@ pub fn readers_show_values()
     ensures size_prefixed { (B : List ℕ) → IsShown (prefixed_reading B) ShowsPrefixed }
 {}
 
-/// A stream of size-prefixed buffers is read one by one, each with exactly its bytes. One that is
-/// cut off after its size fails with [`InvalidLength`](crate::errors::ErrorKind::InvalidLength).
+/// Size-prefixed buffers are read one by one, and one that is cut off fails.
 pub fn streams_are_read()
     ensures first { BuffersAreRead }
     ensures read { StreamsRead }
     ensures cut { CutsAreRefused }
 {}
 
-/// An encoded reference leads to the position of its distance. In each slice of the bytes that
-/// begins no further on, so it does, and fields and values are encoded as in the bytes.
+/// What is encoded is encoded in each slice that begins no further on.
 pub fn pieces_keep_what_stands()
     ensures reference { ReferencesLead }
     ensures leads { LeadsInPieces }
@@ -97,34 +91,29 @@ pub fn pieces_keep_what_stands()
     ensures value { StandsInPieces }
 {}
 
-/// Item i of a vector follows the count and i items: a plain item, a reference, and the tag and the
-/// reference of a union.
+/// Item i of a vector follows the count and i items.
 pub fn items_stand()
     ensures plain { PlainItemsStand }
     ensures references { ReferenceItemsStand }
     ensures unions { UnionItemsStand }
 {}
 
-/// An encoded field is read as its value, in each slice that begins no further on: a plain item as
-/// the number or bool of its bytes, a reference as the place from which reading goes on.
+/// An encoded field is read as its value.
 pub fn fields_read_back()
     ensures { FieldsReadBack }
 {}
 
-/// An encoded value whose strings are UTF-8 reads back: by each reference to it, in each slice of
-/// the bytes that begins no further on than the reference, it is the only result.
+/// An encoded value whose strings are UTF-8 is the only result of each reference to it.
 pub fn what_stands_reads_back()
     ensures { WhatStandsReadsBack }
 {}
 
-/// `access` and `access_required` return the fields of a table that was written: what `T` returns,
-/// or for an absent field, also past the vtable's end, `None` and `MissingRequired`.
+/// `access` and `access_required` return the fields of a written table.
 pub fn fields_are_answered<'buf, T: TableRead<'buf>>()
     ensures { FieldsRead T.reads }
 {}
 
-/// `access_union` and `access_union_required` return the unions of a table that was written: what
-/// `T` returns for the tag, or for two unused slots `None` and `MissingRequired`.
+/// `access_union` and `access_union_required` do the same for unions.
 pub fn unions_are_answered<'buf, T: TableReadUnion<'buf>>()
     ensures { UnionsRead T.reads }
 {}

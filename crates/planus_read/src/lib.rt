@@ -1,4 +1,5 @@
-//! Zero-copy readers of flatbuffers, and definitions of what is encoded at which position.
+//! Zero-copy readers of flatbuffers, and definitions of what is encoded where. Start with
+//! [`ReadAsRoot`] and [`TableRead`].
 #![tactic(auto)]
 
 pub mod errors;
@@ -32,6 +33,6 @@ pub use traits::{
 /// The result of a read that names its location.
 pub type Result<T> = std::result::Result<T, Error>;
 
-/// A type that has no value, for code that names it.
+/// A type that has no value.
 #[derive(Clone, Copy)]
 pub enum Void {}

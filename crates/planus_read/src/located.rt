@@ -1,44 +1,35 @@
-//! The errors, with names of any lifetime, as the accessors of tables return them. With static
-//! names they are those of [`crate::errors`].
+//! The errors, with names of any lifetime.
 
 use crate::errors::{ErrorKind, UnknownEnumTagKind};
 use std::fmt;
 
-// The offset of a location that has none.
 const NO_OFFSET: usize = usize::MAX;
 
-// The method in the error of an item.
 pub(crate) const ITEM_METHOD: &str = "get";
 
-/// The error of a read: what is wrong with the bytes, and where it was found.
+/// What is wrong with the bytes, and where.
 #[derive(Clone, Copy, Debug, PartialEq, Eq)]
 pub struct Error<'n> {
-    /// Where the error was found.
     pub source_location: ErrorLocation<'n>,
-    /// What is wrong.
     pub error_kind: ErrorKind,
 }
 
-/// Where an error was found: the names of the type and the method that read, and the offset in the
-/// buffer.
+/// Where an error was found.
 #[derive(Clone, Copy, Debug, PartialEq, Eq)]
 pub struct ErrorLocation<'n> {
-    /// The name of the type that was read.
+    /// The type that was read.
     pub type_: &'n str,
-    /// The name of the method that read it.
+    /// The method that read it.
     pub method: &'n str,
-    /// The offset in bytes from the buffer's start, `usize::MAX` where there is none: of a table's
-    /// first byte for its fields, and of the slice of the items for an item.
+    /// In bytes from the buffer's start: of the table's first byte, or of the slice of the items;
+    /// `usize::MAX` where there is none.
     pub byte_offset: usize,
 }
 
-/// A value that its enum doesn't have, and where it was found. A writer of a later schema may know
-/// it.
+/// A value that its enum doesn't have, and where.
 #[derive(Clone, Debug, PartialEq, Eq, Drop)]
 pub struct UnknownEnumTag<'n> {
-    /// Where the value was found.
     pub source_location: ErrorLocation<'n>,
-    /// The value that was read.
     pub error_kind: UnknownEnumTagKind,
 }
 

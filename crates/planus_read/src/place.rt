@@ -9,15 +9,14 @@ use crate::traits::{Stride, TableRead, TableReadUnion, VectorRead, VectorReadUni
 
 const VECTOR_NAME: &str = "[union]";
 
-/// Where a field, or an item of 4 bytes such as a reference, is encoded: a slice of a buffer and an
-/// offset in it. How it is read is chosen later; until then nothing is tested.
+/// Where a field, or an item of 4 bytes, is encoded. Nothing is tested until it is read.
 #[derive(Clone, Copy, Debug)]
 pub struct Place<'buf> {
     buffer: SliceWithStartOffset<'buf>,
     offset: usize,
 }
 
-/// A union's tag, 0 for none, and where the reference to its value is encoded. Neither is tested.
+/// A union's tag, 0 for none, and where its reference is encoded. Neither is tested.
 #[derive(Clone, Copy, Debug)]
 pub struct TaggedPlace<'buf> {
     tag: u8,
@@ -27,7 +26,7 @@ pub struct TaggedPlace<'buf> {
 impl<'buf> Place<'buf> {
     ghost use Rattle.planus_read.specs.Places.{place_bytes, place_start, place_offset};
 
-    /// Returns the value of type `T` that is encoded here, or the error of `T`.
+    /// Returns the value of type `T` that is encoded here.
     #[inline]
     pub fn read<T: TableRead<'buf>>(&self) -> Result<T, ErrorKind>
         ensures { T.reads (place_bytes self.now) (place_start self.now)
@@ -77,7 +76,7 @@ impl<'buf> TaggedPlace<'buf> {
         self.tag
     }
 
-    /// Returns where the reference to the union's value is encoded.
+    /// Returns where the union's reference is encoded.
     #[inline]
     pub fn place(&self) -> Place<'buf>
         ensures { result ≡ tagged_place self.now }

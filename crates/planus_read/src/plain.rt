@@ -15,13 +15,11 @@ use crate::traits::{ReadError, Stride, TableRead, VectorRead, VectorReadInner};
 
 const VECTOR_NAME: &str = "[plain]";
 
-/// A value of a fixed layout, which a table or a vector holds in place: a number, a bool, a float,
-/// an enum or a struct. In the format the fields of a struct follow one another, each at a multiple
-/// of its own alignment, with zeros between and after them.
+/// A value of a fixed layout, stored in place. In the format a struct's fields are each at a
+/// multiple of their alignment, with zeros between and after them.
 ///
-/// The ghost member `shape` names the bytes of each value, which values the type has, which one is
-/// encoded at an offset, and what a read tests there. For a struct it is `struct_shape` of
-/// `specs/Structs.antt` over the list of its fields, without a proof.
+/// For a struct the ghost member `shape` is `struct_shape` of `specs/Structs.antt`, without a
+/// proof.
 pub trait Plain: Copy {
     ghost ALIGNMENT: { ℕ };
 
@@ -29,28 +27,26 @@ pub trait Plain: Copy {
 
     ghost shape: { Shape Self SIZE ALIGNMENT };
 
-    /// The alignment in bytes, from the start of a buffer.
+    /// The alignment in bytes.
     const ALIGNMENT: usize;
 
     /// The size in bytes.
     const SIZE: usize;
 
-    /// Writes the value's bytes over the given ones, of the same number.
+    /// Writes the value's bytes over the given ones.
     fn put(&self, bytes: &mut [u8])
         requires { length bytes.old ≡ SIZE }
         ensures encoded { bytes.new ≡ (shape).encoded self.now }
         ensures fits { (shape).fits self.now };
 
-    /// Returns the value at the offset, in bytes from the start of the slice, or its first error.
-    /// Requires all of its bytes to be in the slice.
+    /// Returns the value at the offset in bytes. Requires all its bytes to be in the slice.
     fn read(buffer: SliceWithStartOffset<'_>, offset: usize) -> Result<Self, ErrorKind>
         requires { offset + SIZE ≤ length (slice_bytes buffer) }
         ensures answer { Answer (own_reading shape (slice_bytes buffer.entry) offset) result }
         ensures fits { IfOk result (shape).fits };
 }
 
-/// A value of a fixed layout whose read has no error, an item that is read as it is. Any other item
-/// is read as a `Result`.
+/// A value whose read has no error. As an item, any other is read as a `Result`.
 pub trait PlainTotal: Plain + Stride<Stands = Self> {
     ghost never_fails: { (S : List ℕ) (f : ℕ) (e : ErrorKind)
         → FirstBroken ((Self.shape).clauses S f) e → ⊥ };

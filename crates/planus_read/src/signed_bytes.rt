@@ -9,8 +9,7 @@ use crate::signed_items::SignedItems;
 use crate::slice_helpers::SliceWithStartOffset;
 use crate::traits::TableRead;
 
-/// A vector of signed bytes, each in two's complement. In the format it is a byte vector, with no
-/// zero byte after it.
+/// A vector of signed bytes, in the format a byte vector.
 #[derive(Clone, Copy, Debug)]
 pub struct SignedBytes<'buf> {
     bytes: &'buf [u8],

@@ -1,4 +1,4 @@
-//! Iterators over vectors of signed bytes.
+//! Iterators over signed bytes.
 
 ghost use Rattle.std.specs.Prelude.{◌≡◌, length, Some, IfSome, ⊤};
 ghost use Rattle.std.specs.Iterator.{at_most, UpTo};
@@ -9,7 +9,7 @@ use std::alloc::AllocError;
 use std::iter::FusedIterator;
 use std::slice::Iter;
 
-/// An iterator over the signed bytes of a vector.
+/// An iterator over signed bytes.
 #[derive(Drop)]
 pub struct SignedItems<'buf> {
     bytes: Iter<'buf, u8>,

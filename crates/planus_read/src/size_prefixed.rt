@@ -1,4 +1,4 @@
-//! Size-prefixed buffers, one after another, and file identifiers.
+//! Size-prefixed buffers and file identifiers.
 
 ghost use Rattle.std.specs.Prelude.{◌↔◌, IsTrue};
 ghost use Rattle.planus_read.specs.Bytes.{BytesStand};
@@ -9,11 +9,9 @@ use crate::errors::ErrorKind;
 use crate::slice_helpers::SliceWithStartOffset;
 use crate::traits::TableRead;
 
-/// Returns the first of these size-prefixed buffers, and the bytes after it. Before each buffer is
-/// its size in 4 bytes; the slice returned starts at 4, with the reference to the root.
-///
-/// [`ErrorKind::InvalidOffset`] where there are fewer than 4 bytes, then
-/// [`ErrorKind::InvalidLength`] where fewer bytes than the size follow.
+/// Returns the first size-prefixed buffer, as the slice after its size, and the bytes after it.
+/// Fails with [`ErrorKind::InvalidOffset`] if there are fewer than 4 bytes, and with
+/// [`ErrorKind::InvalidLength`] if fewer than the size follow.
 #[inline]
 pub fn read_size_prefixed<'buf>(
     bytes: &'buf [u8],
@@ -30,8 +28,8 @@ pub fn read_size_prefixed<'buf>(
     Ok((SliceWithStartOffset::new(content, 4), rest))
 }
 
-/// Returns whether the file identifier is the 4 bytes at offset 4, after the reference to the root.
-/// For a size-prefixed buffer, pass the bytes after the size.
+/// Returns whether the file identifier is at offset 4. For a size-prefixed buffer, pass the bytes
+/// after the size.
 #[inline]
 pub fn has_identifier(bytes: &[u8], identifier: [u8; 4]) -> bool
     ensures { IsTrue result ↔ BytesStand bytes.now 4 identifier }

@@ -1,11 +1,11 @@
-//! Slices of a buffer, with their offset in it.
+//! Slices of a buffer.
 
 ghost use Rattle.std.specs.Prelude.{◌≡◌, ◌+◌, ◌<◌, ◌≤◌, ◌^◌, ◌==◌, length, IfOk, IfErr};
 
 use crate::errors::ErrorKind;
 use std::fmt;
 
-/// Bytes of a buffer, and where in the buffer they start.
+/// Bytes of a buffer, and where they start.
 #[derive(Clone, Copy, Debug)]
 pub struct SliceWithStartOffset<'buf> {
     buffer: &'buf [u8],
@@ -13,7 +13,7 @@ pub struct SliceWithStartOffset<'buf> {
     ghost fits: { offset_from_start + length buffer.now < 2 ^ 64 },
 }
 
-/// `N` bytes of a buffer, and where in the buffer they start.
+/// `N` bytes of a buffer, and where they start.
 #[derive(Clone, Copy)]
 pub struct ArrayWithStartOffset<'buf, const N: usize> {
     buffer: &'buf [u8; N],
@@ -37,8 +37,7 @@ impl<'buf, const N: usize> fmt::Debug for ArrayWithStartOffset<'buf, N> {
 impl<'buf> SliceWithStartOffset<'buf> {
     ghost use Rattle.planus_read.specs.Pieces.{slice_bytes, slice_start, IsAdvanced, IsArrayAt};
 
-    /// Creates a slice from bytes that begin at this offset, in bytes from the start of a buffer.
-    /// Requires that the offset and the number of bytes together are below 2^64.
+    /// Creates a slice that begins at this offset in bytes. Requires its end to be below 2^64.
     #[inline]
     pub fn new(buffer: &'buf [u8], offset_from_start: usize) -> Self
         requires { offset_from_start + length buffer.now < 2 ^ 64 }
@@ -51,7 +50,7 @@ impl<'buf> SliceWithStartOffset<'buf> {
         }
     }
 
-    /// Returns the offset of the first byte, in bytes from the start of the buffer.
+    /// Returns the offset of the first byte in the buffer.
     #[inline]
     pub fn offset_from_start(&self) -> usize
         ensures { result ≡ slice_start self.now }
@@ -83,8 +82,7 @@ impl<'buf> SliceWithStartOffset<'buf> {
         self.buffer
     }
 
-    /// Returns the slice from `amount` bytes further on, or [`ErrorKind::InvalidOffset`] past the
-    /// end.
+    /// Returns the slice from `amount` bytes on, or [`ErrorKind::InvalidOffset`] past the end.
     #[inline]
     pub fn advance(&self, amount: usize) -> Result<Self, ErrorKind>
         ensures piece { IfOk result (λ piece. IsAdvanced self.now amount piece) }
@@ -97,8 +95,7 @@ impl<'buf> SliceWithStartOffset<'buf> {
         Ok(self.unchecked_advance(amount))
     }
 
-    /// Returns the slice from `amount` bytes further on, or the empty one at the end if that is
-    /// nearer.
+    /// Returns the slice from `amount` bytes on.
     #[inline]
     pub fn unchecked_advance(&self, amount: usize) -> Self
         requires { amount ≤ length (slice_bytes self.now) }
@@ -110,8 +107,8 @@ impl<'buf> SliceWithStartOffset<'buf> {
         }
     }
 
-    /// Returns the `N` bytes from `amount` bytes further on, or [`ErrorKind::InvalidOffset`] where
-    /// they aren't all in this slice.
+    /// Returns the `N` bytes from `amount` on, or [`ErrorKind::InvalidOffset`] if they pass the
+    /// end.
     #[inline]
     pub fn advance_as_array<const N: usize>(
         &self,
@@ -130,7 +127,7 @@ impl<'buf> SliceWithStartOffset<'buf> {
         }
     }
 
-    /// Returns the `N` bytes from `amount` bytes further on. Requires that all are in this slice.
+    /// Returns the `N` bytes from `amount` on. Requires all to be in this slice.
     #[inline]
     pub fn unchecked_advance_as_array<const N: usize>(
         &self,
@@ -153,8 +150,8 @@ impl<'buf> SliceWithStartOffset<'buf> {
 impl<'buf, const N: usize> ArrayWithStartOffset<'buf, N> {
     ghost use Rattle.planus_read.specs.Pieces.{array_bytes, array_start, IsArrayAt};
 
-    /// Creates an array from bytes that begin at this offset, in bytes from the start of a buffer.
-    /// Requires that the offset and `N` together are below 2^64, and `N` below 2^63.
+    /// Creates an array that begins at this offset in bytes. Requires its end to be below 2^64, and
+    /// `N` below 2^63.
     #[inline]
     pub fn new(buffer: &'buf [u8; N], offset_from_start: usize) -> Self
         requires fits { offset_from_start + N < 2 ^ 64 }
@@ -168,7 +165,7 @@ impl<'buf, const N: usize> ArrayWithStartOffset<'buf, N> {
         }
     }
 
-    /// Returns the offset of the first byte, in bytes from the start of the buffer.
+    /// Returns the offset of the first byte in the buffer.
     #[inline]
     pub fn offset_from_start(&self) -> usize
         ensures { result ≡ array_start self.now }
@@ -184,8 +181,8 @@ impl<'buf, const N: usize> ArrayWithStartOffset<'buf, N> {
         self.buffer
     }
 
-    /// Returns the `K` bytes from `amount` bytes further on, or [`ErrorKind::InvalidOffset`] where
-    /// they aren't all in this array.
+    /// Returns the `K` bytes from `amount` on, or [`ErrorKind::InvalidOffset`] if they pass the
+    /// end.
     #[inline]
     pub fn advance_as_array<const K: usize>(
         &self,

@@ -13,9 +13,8 @@ use crate::located::Error;
 use crate::slice_helpers::SliceWithStartOffset;
 use crate::traits::{TableRead, TableReadUnion, TableReadUnionVector};
 
-/// A view of a table: its bytes from its first on, and the slots of its vtable. In the format a
-/// table begins with a signed number of 4 bytes that leads to its vtable, which has a slot of 2
-/// bytes for each field: its distance from the table's first byte, 0 for an absent field.
+/// A view of a table. In the format it begins with a signed number of 4 bytes that leads to its
+/// vtable, which has 2 bytes for each field: the distance from the table's first byte, 0 if absent.
 #[derive(Clone, Copy, Debug)]
 pub struct Table<'buf> {
     object: SliceWithStartOffset<'buf>,
@@ -80,11 +79,10 @@ impl<'buf> Table<'buf> {
     ghost use Rattle.planus_read.specs.Tables.{FieldAnswer, UnionAnswer, UnionVectorAnswer};
     ghost use Rattle.planus_read.specs.Tables.{UnionThere, UnionAbsent, UnionBroken};
 
-    /// Returns the table to which the reference at the offset leads, in bytes from the slice's
-    /// start. Its vtable may be anywhere in the slice. [`ErrorKind::InvalidOffset`] where a number
-    /// or the table is outside, or the vtable would begin before the slice;
-    /// [`ErrorKind::InvalidVtableLength`] for an odd size of the vtable or one below 4;
-    /// [`ErrorKind::InvalidLength`] where the vtable passes the end.
+    /// Returns the table to which the reference at the offset in bytes leads. Fails with
+    /// [`ErrorKind::InvalidOffset`] if a number or the table is outside the slice or the vtable
+    /// would begin before it, [`ErrorKind::InvalidVtableLength`] for a size that is odd or below 4,
+    /// and [`ErrorKind::InvalidLength`] if the vtable passes the end.
     pub fn from_buffer(buffer: SliceWithStartOffset<'buf>, offset: usize) -> Result<Self, ErrorKind>
         ensures { let S = slice_bytes buffer.entry in let start = slice_start buffer.entry in
             Answer (shown (ShowsTable S start) (table_reading S offset)) result }
@@ -109,7 +107,6 @@ impl<'buf> Table<'buf> {
         }
     }
 
-    // Returns the number in a slot, 0 past the vtable's end.
     #[inline]
     fn slot(&self, slot: usize) -> usize
         ensures value { result ≡ Slot (table_slots self.now) slot }
@@ -121,7 +118,6 @@ impl<'buf> Table<'buf> {
         self.slot_inside(slot)
     }
 
-    // Returns the numbers in a slot and the next, or `None` where these aren't both in the vtable.
     #[inline]
     fn both_slots(&self, slot: usize) -> Option<(usize, usize)>
         ensures both { IfSome result (λ _. BothSlots self.now slot) }
@@ -165,8 +161,6 @@ impl<'buf> Table<'buf> {
         Ok(Some(T::from_buffer(self.object, offset)?))
     }
 
-    // Returns the tag of the union of a slot and the next, and the distance in the second, or
-    // `None` where there is no union.
     fn union_at(&self, slot: usize) -> Result<Option<(u8, usize)>, ErrorKind>
         ensures some { IfOk result (λ found.
             IfSome found (λ union. UnionThere self.now slot union.0)) }
@@ -218,8 +212,8 @@ impl<'buf> Table<'buf> {
         Ok(Some(T::from_buffer(self.object, tags, values)?))
     }
 
-    /// Returns the field of a slot, or `None` where it is absent, also past the vtable's end. Slots
-    /// count from 0. The errors are those of `T`, at the location of this table under these names.
+    /// Returns the field of a slot, or `None` if absent. The errors are those of `T`, located at
+    /// this table under these names.
     pub fn access<'n, T: TableRead<'buf>>(
         &self,
         slot: usize,
@@ -247,11 +241,10 @@ impl<'buf> Table<'buf> {
         self.located(answer, type_, method)
     }
 
-    /// Returns the union of a slot, for its tag, and the next, for its reference, or `None` where
-    /// the tag or a slot is 0 or the vtable ends before both. [`ErrorKind::InvalidOffset`] where
-    /// the tag, which is read first, isn't in the buffer; [`ErrorKind::InvalidVtableLength`] where
-    /// the vtable ends between the two slots; then the errors of `T`. All are at the location of
-    /// this table under these names.
+    /// Returns the union with its tag in a slot and its reference in the next, or `None` if the tag
+    /// or a slot is 0 or the vtable ends before both. Fails with [`ErrorKind::InvalidOffset`] if
+    /// the tag isn't in the buffer, [`ErrorKind::InvalidVtableLength`] if the vtable ends between
+    /// the slots, then as `T` does.
     pub fn access_union<'n, T: TableReadUnion<'buf>>(
         &self,
         slot: usize,
@@ -279,10 +272,9 @@ impl<'buf> Table<'buf> {
         self.located(answer, type_, method)
     }
 
-    /// Returns the union vector of a slot, for its tags, and the next, for its values, or `None`
-    /// where both slots are 0 or aren't both in the vtable. [`ErrorKind::InvalidOffset`] where
-    /// exactly one is 0; then the errors of `T`. All are at the location of this table under these
-    /// names.
+    /// Returns the union vector with its tags in a slot and its values in the next, or `None` if
+    /// both slots are 0 or aren't both in the vtable. Fails with [`ErrorKind::InvalidOffset`] if
+    /// exactly one is 0, then as `T` does.
     pub fn access_union_vector<'n, T: TableReadUnionVector<'buf>>(
         &self,
         slot: usize,

@@ -1,4 +1,4 @@
--- Laws for numbers: their layouts, and the number of bytes.
+-- Laws for numbers and their bytes.
 use Rattle.std.specs.Prelude.{◌≡◌, ℕ, ◌+◌, ℤ, List, [], ◌∷◌, length, take, drop, Bool, true, false}
 use Rattle.std.specs.Prelude.{not, ◌==◌, Option, Some, None, nat_le, if◌then◌else◌, FitsSigned}
 use Rattle.std.specs.Int.{Width, w8, w16, w32, w64, byte_len, to_le_bytes, from_le_bytes}
@@ -29,7 +29,6 @@ pub layout_of_eight : IsLayout 8 8
 layout_of_eight =
     record { power = (3, lit≤ tt, refl); positive = lit< tt; multiple = dvd-mul_left 8 1 }
 
--- a number of the width is this many bytes, from which it is made again
 pub record AreBytes (width : Width) : Type 0 where
   pub sized : (n : ℕ) → length (to_le_bytes width n) ≡ byte_len width
   pub again : (n : ℕ) → NumberFits width n → from_le_bytes width (to_le_bytes width n) ≡ n
@@ -67,7 +66,6 @@ chosen : (b : Bool) (x n : ℕ) → (if b then Some x else None) ≡ Some n → 
 chosen true x n e = cc
 chosen false x n e = absurd (let f : None ≡ Some n = e in cc)
 
--- the number of some bytes at f
 pub bytes_number : (width : Width) → AreBytes width → (S : List ℕ) (f n : ℕ) → NumberFits width n
     → BytesStand S f (to_le_bytes width n) → number S f width ≡ n
 bytes_number width are S f n fits stands =
@@ -75,14 +73,12 @@ bytes_number width are S f n fits stands =
     ap (λ k. take k (drop f S)) (sym (are.sized n)) ∙ stands in
     ap (from_le_bytes width) bytes ∙ are.again n fits
 
--- the number at f is that of its bytes
 pub stood : (width : Width) → AreBytes width → (S : List ℕ) (f n m : ℕ) → NumberFits width n
     → BytesStand S f (to_le_bytes width n) → NumberThere S f width m → m ≡ n
 stood width are S f n m fits stands there =
     chosen (nat_le (f + byte_len width) (length S)) (number S f width) m there
     ∙ bytes_number width are S f n fits stands
 
--- so is what is computed from it
 pub stood_as : {A : Type 0} (g : ℕ → A) (width : Width) → AreBytes width
     → (S : List ℕ) (f n : ℕ) (y : A)
     → NumberFits width n → BytesStand S f (to_le_bytes width n)
@@ -94,7 +90,6 @@ stood_as {A} g width are S f n y fits stands there = at (Num S f width) refl the
     at (Some m) e h =
         let same : y ≡ g m = cc in same ∙ ap g (stood width are S f n m fits stands e)
 
--- so is what may be computed from it
 pub stood_by : {A : Type 0} (g : ℕ → Option A) (width : Width) → AreBytes width
     → (S : List ℕ) (f n : ℕ) (y : A)
     → NumberFits width n → BytesStand S f (to_le_bytes width n)

@@ -1,4 +1,4 @@
--- Laws for the fields of structs: bytes are cut, and are at equal positions.
+-- Laws for the fields of structs.
 use Prim.Native.Nat.{zero, suc}
 use Rattle.std.specs.Prelude.{◌≡◌, ℕ, ◌+◌, List, [], ◌∷◌, ◌++◌, length, take, drop}
 use Rattle.std.proofs.Common.{refl, sym, subst, ap, ◌∙◌, arith, length-append}
@@ -8,7 +8,6 @@ use Rattle.planus_read.specs.Bytes.{BytesStand}
 use Rattle.planus_read.specs.Clauses.{Clause, AllHold}
 use Rattle.planus_read.specs.Plain.{place}
 
--- bytes at a position, cut in two
 cut :
     (B x y : List ℕ) (p : ℕ)
     → take (length (x ++ y)) (drop p B) ≡ take (length x) (drop p B) ++ take (length y)
@@ -47,7 +46,6 @@ both_are {A} {B} x y first second =
     let pair : A → B → A × B = λ a b. (a, b) in
     ap (λ a. pair a x.1) first ∙ ap (λ b. pair y.0 b) second
 
--- the clauses of two lists hold
 pub both_hold : (a b : List Clause) → AllHold a → AllHold b → AllHold (a ++ b)
 both_hold [] b none more = more
 both_hold (one ∷ a) b all more = (all.0, both_hold a b all.1 more)

@@ -1,4 +1,4 @@
-//! Bools: one byte, 0 or 1; each other number is read as true.
+//! Bools: one byte, 0 or 1; any other is true.
 
 ghost use Rattle.planus_read.specs.Shapes.{bool_shape};
 

@@ -1,4 +1,4 @@
-//! Byte vectors as fields of tables.
+//! Byte vectors as fields.
 
 ghost use Rattle.std.specs.Prelude.{◌≡◌};
 ghost use Rattle.planus_read.specs.Clauses.{Answer, shown};

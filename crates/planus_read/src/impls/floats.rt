@@ -1,4 +1,4 @@
-//! Floats: their bits, as a number. A NaN that is read has no payload.
+//! Floats, as their bits. A NaN that is read has no payload.
 
 ghost use Rattle.std.specs.Prelude.{◌≡◌, to_bits};
 ghost use lib.Ieee.{binary32, binary64};

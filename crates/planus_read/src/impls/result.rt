@@ -1,4 +1,4 @@
-//! Items of vectors whose read may fail.
+//! Items whose read may fail.
 
 ghost use Rattle.planus_read.specs.Converted.{Converted};
 

@@ -1,4 +1,4 @@
-//! Strings as fields of tables and as items of vectors.
+//! Strings as fields and items.
 
 ghost use Rattle.std.specs.Prelude.{◌≡◌, IfOk, IfErr};
 ghost use Rattle.planus_read.specs.Located.{Located};
@@ -15,7 +15,6 @@ use crate::traits::{ReadError, Stride, TableRead, VectorReadInner};
 
 const VECTOR_NAME: &str = "[str]";
 
-// Returns the string of the first count items, if a zero byte follows.
 #[inline]
 fn text_of(items: &[u8], count: usize) -> Result<&str, ErrorKind>
     ensures text { IfOk result (λ text. IsTextOf items.now count text.now) }
