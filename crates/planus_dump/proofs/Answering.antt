@@ -1,4 +1,4 @@
--- Readers answer what the functions of their bytes say.
+-- Readers return what the functions of their bytes say.
 use Rattle.std.proofs.Common.{inl, inr, ◌≢◌, ◌≡◌, ℕ, ◌+◌, ◌*◌, ◌<◌, ◌≤◌, ◌%◌, List, [], ◌∷◌, ◌++◌, length, take, drop, get_or, refl, sym, ap, ◌∙◌, subst, arith, Bool, true, false, Option, Some, None, Result, Ok, Err, ℤ, pos, ◌-ℤ◌, ◌≤ℤ◌}
 use Rattle.std.specs.Prelude.{nat_lt, ◌==◌, ◌||◌, ◌⊎◌, nat_le, if◌then◌else◌, unsigned_abs, codes}
 use Rattle.std.specs.Option.{option_map}
@@ -28,7 +28,6 @@ use Rattle.planus_dump.specs.Answers.{Seen, table_at, union_at, tagged_union, un
 use Rattle.planus_dump.specs.Seeing.{SeesUnion, answer_seen, table_seen}
 use Rattle.planus_dump.proofs.Matching.{le_false, lt_false, eq_false, le_ℤ_match, Matches, all_pass, first_fails, le_match, eq_match, size_match, zero_match, utf8_match}
 
--- a number that stands lies in S, and is the number there
 pub record NumberIs (S : List ℕ) (p : ℕ) (w : Width) (v : ℕ) : Type 0 where
   pub inside : p + byte_len w ≤ length S
   pub is : number S p w ≡ v
@@ -42,7 +41,6 @@ number_is S p w v h =
     let both : (nat_le (p + byte_len w) (length S) ≡ true) × (number S p w ≡ v) = if_some (nat_le (p + byte_len w) (length S)) (number S p w) v h in
     record { inside = leb-true (p + byte_len w) (length S) both.0; is = both.1 }
 
--- a text in front of a zero byte
 pub record ZeroEnds (R content : List ℕ) : Type 0 where
   pub inside : length content < length R
   pub zero_byte : get_or R (length content) 0 ≡ 0
@@ -58,11 +56,9 @@ zero_ends (c ∷ content) (r ∷ R) h =
     let more : ZeroEnds R content = zero_ends content R rest in
     record { inside = omega (arith, more.inside); zero_byte = more.zero_byte; front = ap (λ x. x ∷ take (length content) R) first ∙ ap (λ xs. c ∷ xs) more.front }
 
--- a head: the reference and the count
 pub head_matches : (S : List ℕ) (f : ℕ) (cs : List Clause) (ts : List Test) → Matches cs ts → Matches (head_clauses S f cs) (head_tests S f ts)
 head_matches S f cs ts m = (le_match (f + 4) (length S) InvalidOffset, (le_match (target S f) (length S) InvalidOffset, (le_match (target S f + 4) (length S) InvalidOffset, m)))
 
--- where a head leads
 pub record HeadIs (S : List ℕ) (f position count : ℕ) : Type 0 where
   pub inside : f + 4 ≤ length S
   pub leads : target S f ≡ position
@@ -83,11 +79,9 @@ head_is S f position count (n, e, at) word =
       behind = ap (λ k. k + 4) leads;
     }
 
--- the clauses of a head hold where it leads, and then come further ones
 pub head_holds : (S : List ℕ) (f position count : ℕ) (cs : List Clause) → HeadIs S f position count → AllHold cs → AllHold (head_clauses S f cs)
 head_holds S f position count cs h rest = (h.inside, (subst (λ k. k ≤ length S) (sym h.leads) (omega (arith, h.word)), (subst (λ k. k + 4 ≤ length S) (sym h.leads) h.word, rest)))
 
--- behind the head of a text
 text_rest : List ℕ → ℕ → List Clause
 text_rest S f = clause (ZeroByte S (items_at S f) (count_at S f)) MissingNullTerminator ∷ utf8_clause (content_at S f) ∷ []
 
@@ -98,14 +92,12 @@ pub text_matches : (S : List ℕ) (f : ℕ) → Matches (text_clauses S f) (text
 unfolding text_rest text_rest_tests
 text_matches S f = head_matches S f (text_rest S f) (text_rest_tests S f) (zero_match S (items_at S f) (count_at S f), (utf8_match (content_at S f), tt))
 
--- a zero byte behind the items
 zero_at : (S : List ℕ) (items count : ℕ) (content : List ℕ) → ZeroEnds (drop items S) content → count ≡ length content
     → ZeroByte S items count × (take count (drop items S) ≡ content)
 zero_at S items count content z e =
     let inside : items + count < length S = omega (arith, z.inside, length-drop items S, e) in
     ((inside, sym (get_or-drop items S count 0) ∙ ap (λ k. get_or (drop items S) k 0) e ∙ z.zero_byte), ap (λ k. take k (drop items S)) e ∙ z.front)
 
--- what stands of a text
 text_holds : (S : List ℕ) (f : ℕ) (content : List ℕ) → TextThere S f content → AllHold (text_clauses S f) × (content_at S f ≡ content)
 unfolding text_rest
 text_holds S f content (position, leads, stands, utf8) =
@@ -123,7 +115,6 @@ text_answer S f (Ok text) (content, there, is) =
     ap (λ xs. Ok (quoted xs)) same ∙ sym all
 text_answer S f (Err e) h = sym (first_fails (text_clauses S f) (text_tests S f) (quoted (content_at S f)) e (text_matches S f) h)
 
--- tables
 pub table_matches : (S : List ℕ) (f : ℕ) → Matches (table_clauses S f) (table_tests S f)
 table_matches S f = let o = target S f in let size = vtable_size_at S o in (
   le_match (f + 4) (length S) InvalidOffset,
@@ -149,7 +140,6 @@ signed_is (Some n) z e = (n, refl, cc)
 zero_from : (o t : ℕ) (r : ℤ) → r ≡ pos o -ℤ pos t → (r ≤ℤ pos o) × (unsigned_abs (pos o -ℤ r) ≡ t)
 zero_from o t r e = (omega (arith, ints), omega (arith, ints))
 
--- where an object's vtable lies
 record ObjectIs (S : List ℕ) (o vtable size : ℕ) : Type 0 where
   inside : o + 4 ≤ length S
   behind : signed_number S o ≤ℤ pos o
@@ -172,7 +162,6 @@ object_is S o vtable size word size_word =
       sized = ap (λ k. number S k w16) both.1 ∙ second.is;
     }
 
--- what stands of a table
 record TableIs (S : List ℕ) (f object vtable size : ℕ) : Type 0 where
   holds : AllHold (table_clauses S f)
   at : target S f ≡ object
@@ -216,7 +205,6 @@ table_answer S start f (Ok table) (layout, there, shows) =
     ap Ok same ∙ sym all
 table_answer S start f (Err e) h = sym (first_fails (table_clauses S f) (table_tests S f) (record { object = drop (target S f) S; slots = slots_of S (target S f) }) e (table_matches S f) h)
 
--- unions
 abbrev pub reads_tagged : List ℕ → ℕ → ℕ → ℕ → Result TaggedPlace ErrorKind → Type 0
 reads_tagged S start tag f r = Answer (tagged_place_reading S start tag f) r
 
@@ -236,7 +224,6 @@ none_zero false false true e f g = cc
 none_zero false true c e f g = cc
 none_zero true b c e f g = cc
 
--- both slots lie in the vtable
 pub union_at_both : (table : Table) (i : ℕ) → BothSlots table i → union_at (table_seen table) i ≡ tagged_union (table_seen table) i (tag_of table i)
 union_at_both table i both =
     let past : nat_le (length (table_slots table)) (2 * i) ≡ false = le_false (length (table_slots table)) (2 * i) (omega (arith, both)) in
@@ -266,7 +253,6 @@ union_answer table i None h = union_absent table i h
 union_answer table i (Some tagged) (tag, there, shows) =
     (record { tag = tag; offset = slot_of table (i + 1) }, union_there table i tag there, record { tag = shows.tag_is; bytes = shows.place_is.bytes; offset = shows.place_is.offset })
 
--- union vectors
 union_vector_rest : List ℕ → ℕ → ℕ → List Clause
 union_vector_rest S f g =
     clause (items_at S f + count_at S f ≤ length S) InvalidLength ∷ clause (items_at S g + count_at S g * 4 ≤ length S) InvalidLength

@@ -1,4 +1,4 @@
--- What a dump says of some bytes is what readers answer.
+-- A dump prints what readers return.
 use Rattle.std.proofs.Common.{◌≡◌, ◌≢◌, ℕ, zero, suc, ◌+◌, ◌*◌, ◌<◌, ◌≤◌, List, [], ◌∷◌, length, refl, sym, ap, ◌∙◌, subst, arith, Bool, true, false, Option, Some, None, Result, Ok, Err, inl, inr}
 use Rattle.std.specs.Prelude.{nat_lt, nat_le, ◌==◌, ◌⊎◌, not}
 use Rattle.std.specs.Option.{option_map}
@@ -24,7 +24,6 @@ use Rattle.planus_dump.proofs.Matching.{Matches, all_pass, first_fails, passed_a
 use Rattle.planus_dump.proofs.Answering.{text_matches, table_matches, union_vector_matches, union_at_both, union_absent, union_there, unions_both, half, whole}
 use Rattle.planus_dump.proofs.Leaves.{byte_list_matches, vector_matches}
 
--- Tests that match the clauses of a reading, and a value that is that which stands.
 module _ {A B : Type 0} (reading : Reading A) (sees : A → B) (ts : List Test) (value : B) (matches : Matches reading.clauses ts)
     (holds : (x : A) → reading.There x → AllHold reading.clauses × (value ≡ sees x)) (there : AllHold reading.clauses → (x : A) × reading.There x) where
   by_answer : (r : Result A ErrorKind) → Answer reading r → answered ts value ≡ answer_seen sees r
@@ -43,7 +42,6 @@ module _ {A B : Type 0} (reading : Reading A) (sees : A → B) (ts : List Test) 
   says : SaysAsRead reading sees (answered ts value)
   says = record { answer = by_answer; value = by_value; fault = by_fault }
 
--- a value that is computed of a number
 mapped : {A : Type 0} (g : ℕ → A) (m : Option ℕ) (x : A) → option_map g m ≡ Some x → (n : ℕ) × (m ≡ Some n) × (g n ≡ x)
 mapped g None x e = cc
 mapped g (Some n) x e = (n, refl, cc)
@@ -130,12 +128,10 @@ module _ (S : List ℕ) (f : ℕ) where
     table = table_said;
   }
 
--- a number is 0 or isn't
 zero_or : (n : ℕ) → (n ≡ 0) ⊎ (n ≢ 0)
 zero_or zero = inl refl
 zero_or (suc n) = inr (λ e. absurd (omega (arith, e)))
 
--- an answer is one thing
 none_or_some : {A : Type 0} (r : Result (Option A) (List ℕ)) (x : A) → r ≡ Ok None → r ≡ Ok (Some x) → ⊥
 none_or_some (Ok None) x e f = cc
 none_or_some (Ok (Some y)) x e f = cc
@@ -154,7 +150,6 @@ one_fault : {A : Type 0} (r : Result A (List ℕ)) (a b : List ℕ) → r ≡ Er
 one_fault (Ok x) a b e f = cc
 one_fault (Err text) a b e f = cc
 
--- The slots i and i + 1 of a table.
 module _ (table : Table) (i : ℕ) where
   abbrev slots : ℕ
   slots = length (table_slots table)
@@ -251,7 +246,6 @@ module _ (table : Table) (i : ℕ) where
     broken = λ text. (broken_back text, λ h. union_broken h.0 h.1 ∙ ap Err (sym h.2));
   }
 
-  -- a union vector
   no_vector : NoUnionVector table i → unions_at (table_seen table) i ≡ Ok None
   no_vector (inl short) = let ends : nat_lt slots (2 * i + 4) ≡ true = lt-ltb slots (2 * i + 4) short in rw ends refl
   no_vector (inr (both, first, second)) =

@@ -23,7 +23,6 @@ finishes_have_no_fault switches steps given holds schema good fits =
     tables_no_fault steps given holds.values schema (good_names schema good) greatest_depth schema.root holds.root holds.leads.0 (root_at holds.front) 0 (codes "root") fits holds.leads.1
     (subst (λ n. Leads given.bytes n (position_of given.bytes holds.leads.0)) at_zero leads) (refl, (refl, (refl, (refl, tt))))
 
--- the lines of events without faults
 line_no_fault : (e : Event) (l : List ℕ) → Shows e l → IsNoFault e → is_fault_line l ≡ false
 line_no_fault (line text) l is h = subst (λ x. is_fault_line x ≡ false) (sym is) h
 line_no_fault deep l is h = absurd is

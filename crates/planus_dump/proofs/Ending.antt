@@ -7,7 +7,6 @@ use Rattle.planus_dump.specs.declared.line_sink.Stop.TheVariants.{Going, TooDeep
 use Rattle.planus_dump.specs.declared.views.End.TheVariants as ends
 use Rattle.planus_dump.proofs.Feeds.{Taken, Answered, shown_length}
 
--- the lines of what was taken
 part : (es rest lines : List Event) (texts : List (List ℕ)) (most size : ℕ) → Taken [] (Some size) es rest lines most → AreShown lines texts → ViewsPart es texts rest most size
 part es rest lines texts most size t shows = record {
   begin = record { front = t.new; split = t.split; shown = subst (λ ls. AreShown ls texts) t.is shows };

@@ -1,4 +1,4 @@
--- Lines at a path without spaces, and what has none.
+-- Lines at paths without spaces.
 use Rattle.std.proofs.Common.{◌≡◌, ℕ, zero, suc, ◌+◌, ◌/◌, ◌%◌, ◌==◌, List, [], ◌∷◌, ◌++◌, refl, ap, subst, ◌∙◌, arith, Bool, true, false, if◌then◌else◌}
 use Rattle.std.specs.Prelude.{nat_lt, not, ◌&&◌, length, codes, slice_get, Some}
 use Rattle.std.specs.List.{AllByRecursion, list_all}
@@ -14,12 +14,10 @@ use Rattle.planus_dump.specs.declared.schemas.Schema.{Schema}
 use Rattle.planus_dump.specs.declared.schemas.TableSchema.{TableSchema}
 use Rattle.planus_dump.specs.declared.schemas.FieldSchema.{FieldSchema}
 
--- what holds of each of two lists holds of both together
 pub all_append : {X : Type 0} (P : X → Type 0) (xs ys : List X) → AllByRecursion P xs → AllByRecursion P ys → AllByRecursion P (xs ++ ys)
 all_append P [] ys h k = k
 all_append P (x ∷ xs) ys h k = (h.0, all_append P xs ys h.1 k)
 
--- a path is skipped
 behind_path : (path rest : List ℕ) → HasNoSpace path → is_fault_line (path ++ rest) ≡ is_fault_line rest
 behind_path [] rest h = refl
 behind_path (byte ∷ path) rest h = ap (λ space. if space then begins_with 33 (path ++ rest) else is_fault_line (path ++ rest)) h.0 ∙ behind_path path rest h.1
@@ -35,7 +33,6 @@ lines_told path h = record {
   structs = λ name. behind_path path (codes ": struct " ++ name) h;
 }
 
--- digits are no spaces
 glyph_no_space : (d : ℕ) → (digit_glyph false d == 32) ≡ false
 glyph_no_space d = by_test (nat_lt d 10)
   where
@@ -65,7 +62,6 @@ item_path_no_space path i h = all_append (λ byte. (byte == 32) ≡ false) path 
 pub field_path_no_space : (path name : List ℕ) → HasNoSpace path → HasNoSpace name → HasNoSpace (field_path path name)
 field_path_no_space path name h named = all_append (λ byte. (byte == 32) ≡ false) path (codes "." ++ name) h (refl, named)
 
--- names of a good schema
 pub both_true : (a b : Bool) → (a && b) ≡ true → (a ≡ true) × (b ≡ true)
 both_true true true e = (refl, refl)
 both_true true false e = cc
@@ -101,7 +97,6 @@ no_space_in_paths = record {
   item = item_path_no_space;
 }
 
--- the names of a table's fields have no spaces
 abbrev pub HasNames : TableSchema → Type 0
 HasNames shape = AllByRecursion (λ field. HasNoSpace (field_label field)) shape.fields.items
 
@@ -112,7 +107,6 @@ label_no_space field h = by_test field.deprecated
     by_test true = all_append (λ byte. (byte == 32) ≡ false) (string_bytes field.name) (codes "(deprecated)") h (refl, (refl, (refl, (refl, (refl, (refl, (refl, (refl, (refl, (refl, (refl, (refl, tt))))))))))))
     by_test false = h
 
--- the parts of a good schema
 pub record GoodParts (schema : Schema) : Type 0 where
   pub root : nat_lt schema.root (table_count schema) ≡ true
   pub tables : list_all (table_fits (table_count schema) (union_count schema)) schema.tables.items ≡ true

@@ -1,4 +1,4 @@
--- How events are fed one after another, and what comes of it.
+-- How events are fed one after another.
 use Rattle.std.proofs.Common.{◌≡◌, ◌≢◌, ℕ, zero, suc, ◌+◌, ◌-◌, ◌*◌, ◌<◌, ◌≤◌, List, [], ◌∷◌, ◌++◌, map, length, drop, get_or, Option, Some, None, slice_get, refl, sym, ap, ◌∙◌, subst, arith, length-append, Bool, true, false, ◌==◌, inr}
 use Rattle.std.specs.Prelude.{if◌then◌else◌, slice_index}
 use Rattle.std.specs.Prelude.{Vec, String, codes, nat_lt, ⊤}
@@ -29,7 +29,6 @@ use Rattle.planus_dump.specs.declared.schemas.Schema.{Schema}
 use Rattle.planus_dump.specs.declared.schemas.FieldSchema.{FieldSchema}
 use Rattle.planus_dump.specs.declared.schemas.Item.{Item}
 
--- events may be fed in two parts
 pub feed-append : (s : Shown) (xs ys : List Event) → feed s (xs ++ ys) ≡ feed (feed s xs) ys
 feed-append s [] ys = refl
 feed-append s (x ∷ xs) ys = feed-append (step s x) xs ys
@@ -40,19 +39,17 @@ stay s TooDeep e h = refl
 stay s TooMany e h = refl
 stay s TooLong e h = refl
 
--- a walk that was stopped takes no more events, so it may return at once
+-- A stopped walk takes no more events, so it may return at once.
 pub feed-stopped : (s : Shown) (es : List Event) → s.stop ≢ Going → feed s es ≡ s
 feed-stopped s [] h = refl
 feed-stopped s (e ∷ es) h = ap (λ t. feed t es) (stay s s.stop e h) ∙ feed-stopped s es h
 
--- where a walk was stopped, or nothing is left
 pub stopped_done : (s : Shown) (rest : List Event) (done : Shown) → s.stop ≢ Going → feed s rest ≡ done → s ≡ done
 stopped_done s rest done h e = sym (feed-stopped s rest h) ∙ e
 
 pub all_done : (s : Shown) (rest : List Event) (done : Shown) → rest ≡ [] → feed s rest ≡ done → s ≡ done
 all_done s rest done h e = ap (feed s) (sym h) ∙ e
 
--- a table that isn't too deep
 pub events-more : (schema : Schema) (left index : ℕ) (S : List ℕ) (f : ℕ) (path : List ℕ) → left ≢ 0
     → events schema left index S f path ≡ shape_events (events schema (left - 1)) schema (slice_get schema.tables.items index) S f path
 unfolding events
@@ -64,11 +61,9 @@ unfolding events
 events-none schema zero index S f path h = refl
 events-none schema (suc left) index S f path h = absurd (omega (arith, h))
 
--- what was fed in part, and then the rest
 pub fed_on : (s t : Shown) (xs ys all : List Event) (done : Shown) → all ≡ xs ++ ys → t ≡ feed s xs → feed s all ≡ done → feed t ys ≡ done
 fed_on s t xs ys all done split fed whole = ap (λ u. feed u ys) fed ∙ sym (feed-append s xs ys) ∙ ap (feed s) (sym split) ∙ whole
 
--- the first of some fields, and then the others
 fields-split : (E : TableEvents) (schema : Schema) (table : Seen) (path : List ℕ) (fields : List FieldSchema) (i : ℕ) (field : FieldSchema) → i < length fields
     → fields_events E schema table path (drop i fields) ≡ kind_events E schema (get_or fields i field).kind (get_or fields i field).slot table (field_path path (field_label (get_or fields i field))) ++ fields_events E schema table path (drop (i + 1) fields)
 fields-split E schema table path fields i field h = ap (fields_events E schema table path) (drop_more fields i field h)
@@ -79,7 +74,6 @@ fields-none E schema table path [] (suc i) h = refl
 fields-none E schema table path (field ∷ fields) zero h = absurd (omega (arith, h))
 fields-none E schema table path (field ∷ fields) (suc i) h = fields-none E schema table path fields i (omega (arith, h))
 
--- a field was walked
 pub field_fed : (E : TableEvents) (schema : Schema) (table : Seen) (path : List ℕ) (fields : List FieldSchema) (i : ℕ) (field : FieldSchema) (s t done : Shown) → i < length fields
     → field ≡ get_or fields i field
     → t ≡ feed s (kind_events E schema field.kind field.slot table (field_path path (field_label field)))
@@ -95,7 +89,6 @@ items-split : (E : TableEvents) (item : Item) (S path : List ℕ) (n i : ℕ) �
 items-split E item S path zero i h = absurd (omega (arith, h))
 items-split E item S path (suc n) i h = let e : suc n - 1 ≡ n = omega arith in ap (λ k. item_events E item S (i * stride_of item) (item_path path i) ++ items_events E item S path k (i + 1)) (sym e)
 
--- an item was walked
 pub item_fed : (E : TableEvents) (item : Item) (S path : List ℕ) (n i : ℕ) (s t done : Shown) → i < n
     → t ≡ feed s (item_events E item S (i * stride_of item) (item_path path i))
     → feed s (items_events E item S path (n - i) i) ≡ done
@@ -105,7 +98,6 @@ item_fed E item S path n i s t done h fed whole =
     fed_on s t (item_events E item S (i * stride_of item) (item_path path i)) (items_events E item S path (n - (i + 1)) (i + 1)) (items_events E item S path (n - i) i) done
     (items-split E item S path (n - i) i some ∙ ap (λ k. item_events E item S (i * stride_of item) (item_path path i) ++ items_events E item S path k (i + 1)) e) fed whole
 
--- the same, of what was found there
 pub found_fed : (E : TableEvents) (item : Item) (S path at : List ℕ) (n i : ℕ) (found : Found) (s t done : Shown) → i < n
     → IsFound item S (i * stride_of item) found → at ≡ item_path path i → t ≡ feed s (found_events E at found)
     → feed s (items_events E item S path (n - i) i) ≡ done
@@ -124,7 +116,6 @@ union_items-split E schema index items path zero i h = absurd (omega (arith, h))
 union_items-split E schema index items path (suc n) i h = let e : suc n - 1 ≡ n = omega arith in
     ap (λ k. union_events E (slice_get schema.unions.items index) (slice_index items.tags i) items.references (i * 4) (item_path path i) ++ union_items_events E schema index items path k (i + 1)) (sym e)
 
--- a union of a vector was walked
 pub union_item_fed : (E : TableEvents) (schema : Schema) (index : ℕ) (items : SeenUnions) (path : List ℕ) (n i : ℕ) (s t done : Shown) → i < n
     → t ≡ feed s (union_events E (slice_get schema.unions.items index) (slice_index items.tags i) items.references (i * 4) (item_path path i))
     → feed s (union_items_events E schema index items path (n - i) i) ≡ done
@@ -135,7 +126,6 @@ union_item_fed E schema index items path n i s t done h fed whole =
     fed_on s t first (union_items_events E schema index items path (n - (i + 1)) (i + 1)) (union_items_events E schema index items path (n - i) i) done
     (union_items-split E schema index items path (n - i) i some ∙ ap (λ k. first ++ union_items_events E schema index items path k (i + 1)) e) fed whole
 
--- the same, as it was read
 pub tagged_fed : (E : TableEvents) (schema : Schema) (index : ℕ) (items : SeenUnions) (path at : List ℕ) (n i : ℕ) (tagged : TaggedPlace) (s t done : Shown) → i < n
     → IsUnionIn items.references (record { tag = slice_index items.tags i; offset = i * 4 }) tagged → at ≡ item_path path i
     → t ≡ feed s (union_events E (slice_get schema.unions.items index) (tagged_tag tagged) (place_bytes (tagged_place tagged)) (place_offset (tagged_place tagged)) at)
@@ -153,11 +143,9 @@ pub union_items-none : (E : TableEvents) (schema : Schema) (index : ℕ) (items 
 union_items-none E schema index items path zero i h = refl
 union_items-none E schema index items path (suc n) i h = absurd (omega (arith, h))
 
--- events that have lines
 abbrev pub AreLines : List Event → Type 0
 AreLines es = AllByRecursion (λ e. e ≢ deep) es
 
--- the bytes of lines fit in a room, or don't
 abbrev pub Fits : Option ℕ → ℕ → Type 0
 Fits None n = ⊤
 Fits (Some room) n = n ≤ room
@@ -166,7 +154,6 @@ abbrev pub Exceeds : Option ℕ → ℕ → Type 0
 Exceeds None n = ⊥
 Exceeds (Some room) n = room < n
 
--- the first events were taken as lines, behind those so far
 pub record Taken (ls : List Event) (room : Option ℕ) (es rest lines : List Event) (budget : ℕ) : Type 0 where
   pub new : List Event
   pub split : es ≡ new ++ rest
@@ -175,7 +162,6 @@ pub record Taken (ls : List Event) (room : Option ℕ) (es rest lines : List Eve
   pub most : length lines ≤ budget
   pub fits : Fits room (costs new)
 
--- what comes of some events: their lines, or what stopped the walk
 abbrev pub Answered : List Event → Option ℕ → List Event → ℕ → List Event → Stop → Type 0
 Answered ls room es budget lines Going = Taken ls room es [] lines budget
 Answered ls room es budget lines TooDeep = (rest : List Event) × Taken ls room es (deep ∷ rest) lines budget
@@ -192,7 +178,6 @@ many_stops e = cc
 long_stops : TooLong ≢ Going
 long_stops e = cc
 
--- the room that a line leaves
 abbrev left_in : Option ℕ → ℕ → Option ℕ
 left_in None n = None
 left_in (Some room) n = Some (room - n)
@@ -231,12 +216,10 @@ here ls budget room stop = record { lines = ls; budget = budget; room = room; st
 abbrev After : List Event → Option ℕ → List Event → ℕ → Shown → Type 0
 After ls room es budget r = Answered ls room es budget r.lines r.stop
 
--- no line was taken
 none_taken : (ls : List Event) (room : Option ℕ) (es : List Event) (budget : ℕ) → length ls ≤ budget → Taken ls room es es ls budget
 none_taken ls None es budget h = record { new = []; split = refl; all = tt; is = sym (append-nil ls); most = h; fits = tt }
 none_taken ls (Some room) es budget h = record { new = []; split = refl; all = tt; is = sym (append-nil ls); most = h; fits = omega arith }
 
--- a line comes next, and the budget has room for it
 within : (l : Event) (es ls : List Event) (budget : ℕ) (room : Option ℕ) → l ≢ deep → length (ls ++ l ∷ []) ≤ budget → length ls ≤ budget
     → (After (ls ++ l ∷ []) (left_in room (cost l)) es budget (feed (here (ls ++ l ∷ []) budget (left_in room (cost l)) Going) es))
     → After ls room (l ∷ es) budget (feed (by_room (here ls budget room Going) l room) es)
@@ -254,7 +237,6 @@ within l es ls budget (Some room) is more h rest = by_test (nat_lt room (cost l)
         let below : cost l ≤ room = ltb-false room (cost l) e in
         let r = feed (here (ls ++ l ∷ []) budget (Some (room - cost l)) Going) es in shift ls (Some room) l es budget r.lines r.stop is below rest
 
--- a line comes next
 answered_line : (l : Event) (es ls : List Event) (budget : ℕ) (room : Option ℕ) → l ≢ deep → length ls ≤ budget
     → (length (ls ++ l ∷ []) ≤ budget → After (ls ++ l ∷ []) (left_in room (cost l)) es budget (feed (here (ls ++ l ∷ []) budget (left_in room (cost l)) Going) es))
     → After ls room (l ∷ es) budget (feed (added (here ls budget room Going) l) es)
@@ -282,14 +264,12 @@ answered (line l ∷ es) ls budget room h = answered_line (line l) es ls budget 
 answered (float path number ∷ es) ls budget room h =
     answered_line (float path number) es ls budget room (float_is path number) h (λ more. answered es (ls ++ float path number ∷ []) budget (left_in room (cost (float path number))) more)
 
--- what a walk from no lines leaves
 pub walked : (es : List Event) (budget : ℕ) (room : Option ℕ) (out : LineSink) (stop : Stop) → shown out ≡ feed (begin budget room) es → out.stop ≡ stop
     → Answered [] room es budget (map event_of out.lines.items) stop
 walked es budget room out stop fed is =
     let whole : After [] room es budget (shown out) = subst (After [] room es budget) (sym fed) (answered es [] budget room (omega arith)) in
     subst (Answered [] room es budget (map event_of out.lines.items)) is whole
 
--- a line of an event; a float by the number of its bits
 abbrev pub some_line : Event → List ℕ
 some_line (line l) = l
 some_line deep = []
@@ -300,16 +280,13 @@ some_line_shows (line l) h = refl
 some_line_shows deep h = absurd (h refl)
 some_line_shows (float path number) h = (codes "bits " ++ decimal (number_of number), refl, inr (inr refl))
 
--- events that have lines have these
 pub some_lines_shown : (es : List Event) → AreLines es → AreShown es (map some_line es)
 some_lines_shown [] h = tt
 some_lines_shown (e ∷ es) h = (some_line_shows e h.0, some_lines_shown es h.1)
 
--- the first events have such lines
 pub begins : (es new rest : List Event) → es ≡ new ++ rest → AreLines new → Begin es (map some_line new) rest
 begins es new rest e all = record { front = new; split = e; shown = some_lines_shown new all }
 
--- one more line
 pub one_more_shown : {X Y : Type 0} (event : X → Event) (text : Y → List ℕ) (xs : List X) (ys : List Y) (x : X) (y : Y) → AreShown (map event xs) (map text ys) → Shows (event x) (text y)
     → AreShown (map event (xs ++ x ∷ [])) (map text (ys ++ y ∷ []))
 one_more_shown event text [] [] x y all one = (one, tt)
@@ -323,7 +300,6 @@ shown_length [] (l ∷ lines) h = absurd h
 shown_length (e ∷ es) [] h = absurd h
 shown_length (e ∷ es) (l ∷ lines) h = ap suc (shown_length es lines h.1)
 
--- the lines, where the walk wasn't stopped
 pub all_lines : (es : List Event) (budget : ℕ) (lines : List Event) (texts : List (String Global)) → Answered [] None es budget lines Going → AreShown lines (map string_bytes texts)
     → Begin es (map string_bytes texts) [] × (length texts ≤ budget)
 all_lines es budget lines texts t shows =
@@ -343,12 +319,10 @@ too_many es budget lines (l, rest, is, t, n) =
 pub not_too_long : (es : List Event) (budget : ℕ) (lines : List Event) → Answered [] None es budget lines TooLong → ⊥
 not_too_long es budget lines (l, rest, is, t, n) = n
 
--- a union whose variants don't have its tag
 pub union_unknown : (E : TableEvents) (o : Option (Vec (ℕ × ℕ) Global)) (variants : Vec (ℕ × ℕ) Global) (tag : ℕ) (S : List ℕ) (f : ℕ) (path : List ℕ) → o ≡ Some variants → variant_of variants.items tag ≡ None
     → union_events E o tag S f path ≡ fault_event path (fault_text (UnknownUnionTag tag)) ∷ []
 union_unknown E o variants tag S f path some none = ap (λ v. union_events E v tag S f path) some ∙ ap (variant_events E tag S f path) none
 
--- the walk from the root of a buffer
 pub root_fed : (schema : Schema) (budget : ℕ) (room : Option ℕ) (bytes S : List ℕ) (f : ℕ) (path : List ℕ) (o r : LineSink) → S ≡ bytes → f ≡ 0 → shown o ≡ begin budget room
     → shown r ≡ feed (shown o) (events schema 64 schema.root S f path) → shown r ≡ feed (begin budget room) (events schema 64 schema.root bytes 0 path)
 root_fed schema budget room bytes S f path o r same first empty fed =

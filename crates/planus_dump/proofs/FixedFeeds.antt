@@ -10,7 +10,6 @@ use Rattle.planus_dump.specs.declared.schemas.StructFieldSchema.{StructFieldSche
 use Rattle.planus_dump.specs.declared.schemas.Fixed.{Fixed}
 use Rattle.planus_dump.proofs.Feeds.{fed_on}
 
--- a struct that isn't too deep
 pub structs-more : (schema : Schema) (left index : ℕ) (S : List ℕ) (f : ℕ) (path : List ℕ) → left ≢ 0
     → structs schema left index S f path ≡ struct_events schema (structs schema (left - 1)) (slice_get schema.structs.items index) S f path
 unfolding structs
@@ -28,7 +27,6 @@ struct_fields-none schema T S path [] (suc i) h = refl
 struct_fields-none schema T S path (field ∷ fields) zero h = absurd (omega (arith, h))
 struct_fields-none schema T S path (field ∷ fields) (suc i) h = struct_fields-none schema T S path fields i (omega (arith, h))
 
--- a field of a struct was walked
 pub struct_field_fed : (schema : Schema) (T : TableEvents) (S path : List ℕ) (fields : List StructFieldSchema) (i : ℕ) (field : StructFieldSchema) (s t done : Shown) → i < length fields
     → field ≡ get_or fields i field
     → t ≡ feed s (fixed_events schema T field.fixed S field.distance (field_path path (string_bytes field.name)))
@@ -49,7 +47,6 @@ pub values-none : (schema : Schema) (value : Fixed) (S path : List ℕ) (n i : �
 values-none schema value S path zero i h = refl
 values-none schema value S path (suc n) i h = absurd (omega (arith, h))
 
--- a value of a vector was walked
 pub value_fed : (schema : Schema) (value : Fixed) (S path at : List ℕ) (n i : ℕ) (s t done : Shown) → i < n → at ≡ item_path path i
     → t ≡ feed s (value_events schema value S (i * fixed_size schema value) at)
     → feed s (values_events schema value S path (n - i) i) ≡ done

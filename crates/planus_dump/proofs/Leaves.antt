@@ -1,4 +1,4 @@
--- Readings that pass their tests, and the events of what has no parts.
+-- Readings that pass their tests.
 use Rattle.std.proofs.Common.{◌≡◌, ℕ, suc, ◌+◌, ◌*◌, ◌≤◌, List, [], ◌∷◌, length, drop, take, get_or, refl, sym, ap, ◌∙◌, subst, arith, Some, None, Result, Ok}
 use Rattle.std.specs.Prelude.{nat_le, slice_index, not, ◌==◌}
 use Rattle.std.specs.Fmt.{decimal, signed_decimal}
@@ -26,11 +26,9 @@ use Rattle.planus_dump.proofs.Matching.{Matches, all_pass, le_match}
 use Rattle.planus_dump.proofs.Answering.{head_matches, text_matches, union_vector_matches}
 use Rattle.planus_dump.proofs.FaultLines.{lines_told}
 
--- a value is no fault
 pub value_event : (path : List ℕ) (r : Result (List ℕ) (List ℕ)) (text : List ℕ) → r ≡ Ok text → HasNoSpace path → HaveNoFault (answer_event path r ∷ [])
 value_event path r text e h = subst (λ (a : Result (List ℕ) (List ℕ)). HaveNoFault (answer_event path a ∷ [])) (sym e) ((lines_told path h).value text, tt)
 
--- a number that lies in S
 number_passes : {A : Type 0} (S : List ℕ) (f : ℕ) (w : Width) (x : A) → f + byte_len w ≤ length S → answered (number_test S f w ∷ []) x ≡ Ok x
 number_passes S f w x h = rw (le-leb (f + byte_len w) (length S) h) refl
 
@@ -46,7 +44,6 @@ truth_event S f path inside h = value_event path (leaf_at LeafBool S f) (truth_t
 some_same : (a b : ℕ) → Some a ≡ Some b → a ≡ b
 some_same a b e = cc
 
--- an item that is a number or a bool, and such a field
 pub plain_item_event : (E : TableEvents) (item : Item) (size : ℕ) (S : List ℕ) (f : ℕ) (path : List ℕ) → plain_size item ≡ Some size → f + size ≤ length S → HasNoSpace path
     → HaveNoFault (item_events E item S f path)
 plain_item_event E U16 size S f path e inside h = let same : 2 ≡ size = some_same 2 size e in unsigned_event w16 S f path (omega arith) h
@@ -72,7 +69,6 @@ plain_field_event E (Fixed value) size S f path e inside h = cc
 plain_field_event E (FixedList value) size S f path e inside h = cc
 plain_field_event E (Nested index) size S f path e inside h = cc
 
--- an item has its size in a list, and a reference 4 bytes
 pub plain_stride : (item : Item) (size : ℕ) → plain_size item ≡ Some size → stride_of item ≡ size
 plain_stride U16 size e = some_same 2 size e
 plain_stride U32 size e = some_same 4 size e
@@ -95,12 +91,10 @@ reference_stride Bool e = cc
 reference_stride Text e = refl
 reference_stride (Table index) e = refl
 
--- a text
 pub text_event : (S : List ℕ) (f : ℕ) (content path : List ℕ) → TextThere S f content → HasNoSpace path → HaveNoFault (leaf_events LeafText S f path)
 text_event S f content path there h =
     value_event path (leaf_at LeafText S f) (quoted (content_at S f)) (all_pass (text_clauses S f) (text_tests S f) (quoted (content_at S f)) (text_matches S f) (text_holds S f content there).0) h
 
--- a byte vector
 pub byte_list_matches : (S : List ℕ) (f : ℕ) → Matches (byte_list_clauses S f) (byte_list_tests S f)
 byte_list_matches S f =
     head_matches S f (clause (items_at S f + count_at S f ≤ length S) InvalidLength ∷ []) (test (nat_le (items_at S f + count_at S f) (length S)) InvalidLength ∷ [])
@@ -110,13 +104,11 @@ pub byte_list_event : (S : List ℕ) (f : ℕ) (content path : List ℕ) → Byt
 byte_list_event S f content path there h =
     value_event path (leaf_at LeafBytes S f) (bytes_text (content_at S f)) (all_pass (byte_list_clauses S f) (byte_list_tests S f) (bytes_text (content_at S f)) (byte_list_matches S f) (byte_list_holds S f content there).0) h
 
--- a vector
 pub vector_matches : (S : List ℕ) (f stride : ℕ) → Matches (vector_clauses S f stride) (vector_tests S f stride)
 vector_matches S f stride =
     head_matches S f (clause (items_at S f + count_at S f * stride ≤ length S) InvalidLength ∷ []) (test (nat_le (items_at S f + count_at S f * stride) (length S)) InvalidLength ∷ [])
     (le_match (items_at S f + count_at S f * stride) (length S) InvalidLength, tt)
 
--- a vector that passes its tests, and where its items lie
 pub record VectorIs (stride : ℕ) (S : List ℕ) (f : ℕ) : Type 0 where
   pub is : vector_at stride S f ≡ Ok (record { bytes = drop (items_at S f) S; count = count_at S f })
   pub inside : items_at S f + count_at S f * stride ≤ length S
@@ -126,7 +118,6 @@ vector_passes stride S f h =
     let seen : SeenItems = record { bytes = drop (items_at S f) S; count = count_at S f } in
     record { is = all_pass (vector_clauses S f stride) (vector_tests S f stride) seen (vector_matches S f stride) h; inside = h.1.1.1.0 }
 
--- the vector that is answered
 pub record AnsweredVector (stride : ℕ) (S : List ℕ) (f : ℕ) (items : Items) : Type 0 where
   pub vector : VectorIs stride S f
   pub position : items.position ≡ items_at S f
@@ -137,14 +128,12 @@ answered_vector stride S f items a =
     let holds : AllHold (vector_clauses S f stride) × (items.position ≡ items_at S f) × (items.count ≡ count_at S f) = vector_holds S f stride items.position items.count a.there in
     record { vector = vector_passes stride S f holds.0; position = holds.1; count = holds.2 }
 
--- a byte vector is a vector of items of one byte
 pub bytes_vector : (S : List ℕ) (f : ℕ) (content : List ℕ) → ByteListThere S f content → VectorIs 1 S f
 bytes_vector S f content there =
     let h : AllHold (byte_list_clauses S f) = (byte_list_holds S f content there).0 in
     let inside : items_at S f + count_at S f * 1 ≤ length S = omega (arith, h.1.1.1.0) in
     vector_passes 1 S f (h.0, (h.1.0, (h.1.1.0, (inside, tt))))
 
--- a union vector: that its tests pass, and where its parts lie
 pub record AnsweredUnions (S : List ℕ) (f g : ℕ) (items : UnionItems) : Type 0 where
   pub is : union_vector_at S f g ≡ Ok (record { tags = drop (items_at S f) S; references = drop (items_at S g) S; count = count_at S f })
   pub tags : items.tags ≡ items_at S f
@@ -163,7 +152,6 @@ answered_unions S f g items a =
       count = tags.2;
     }
 
--- the byte at a position
 pub byte_at : (S : List ℕ) (i v : ℕ) → Num S i w8 ≡ Some v → slice_index S i ≡ v
 byte_at S i v e =
     let inside : i + 1 ≤ length S = num_inside S i w8 v e in

@@ -1,4 +1,4 @@
--- A list of clauses and a list of tests that say the same.
+-- Clauses and tests that say the same.
 use Rattle.std.proofs.Common.{◌≢◌, ◌≡◌, ℕ, ◌+◌, ◌<◌, ◌≤◌, ◌%◌, List, [], ◌∷◌, length, refl, sym, ap, subst, arith, Bool, true, false, ◌&&◌, Ok, Err, inl, inr, ℤ}
 use Rattle.std.specs.Prelude.{if◌then◌else◌, T, ⊤, nat_le, nat_lt, ◌==◌, ◌≤ℤ◌, int_le, slice_index, codes}
 use Rattle.std.specs.Str.{is_utf8}
@@ -13,7 +13,6 @@ use Rattle.planus_read.specs.Reading.{ZeroByte}
 use Rattle.planus_read.specs.Utf8.{IsUtf8Error, utf8_clause}
 use Rattle.planus_dump.specs.Tests.{Test, test, answered, fault_text, is_zero_byte}
 
--- a clause and a test say the same
 pub record Match (c : Clause) (t : Test) : Type 0 where
   pub passes : c.holds → t.passes ≡ true
   pub back : t.passes ≡ true → c.holds
@@ -39,7 +38,6 @@ first_fails (c ∷ cs) [] x e m h = absurd m
 first_fails (c ∷ cs) (t ∷ ts) x e m (inl h) = rw (m.0.fails h.0) (ap Err (sym (m.0.fault e h.1)))
 first_fails (c ∷ cs) (t ∷ ts) x e m (inr h) = rw (m.0.passes h.0) (first_fails cs ts x e m.1 h.1)
 
--- where all tests pass, no clause fails, and the value is said
 pub passed_all : {A : Type 0} (cs : List Clause) (ts : List Test) (x y : A) → Matches cs ts → answered ts x ≡ Ok y → AllHold cs × (x ≡ y)
 passed_all [] [] x y m e = (tt, cc)
 passed_all [] (t ∷ ts) x y m e = absurd m
@@ -50,7 +48,6 @@ passed_all (c ∷ cs) (t ∷ ts) x y m e = by_test t.passes refl e (passed_all c
     by_test true is e rest = ((m.0.back is, (rest e).0), (rest e).1)
     by_test false is e rest = cc
 
--- a test that is false where its fact doesn't hold
 not_true : (b : Bool) → (b ≡ true → ⊥) → b ≡ false
 not_true true h = absurd (h refl)
 not_true false h = refl

@@ -1,4 +1,4 @@
--- What a run finished has no events of faults, where the schema describes it.
+-- The buffer of a run has no errors, if the schema fits.
 use Rattle.std.proofs.Common.{◌≡◌, ◌≢◌, ℕ, zero, suc, ◌+◌, ◌-◌, ◌*◌, ◌<◌, ◌≤◌, ◌==◌, ◌||◌, List, [], ◌∷◌, length, map, drop, take, refl, sym, length-drop, ap, ◌∙◌, subst, arith, Option, Some, None, Result, Ok, Bool, true, false, ◌⊎◌, inl, inr}
 use Rattle.std.specs.Option.{unwrap_or}
 use Rattle.std.specs.Prelude.{if◌then◌else◌, max, slice_get, slice_index, nat_le, nat_lt, Vec}
@@ -46,7 +46,6 @@ use Rattle.planus_dump.proofs.FaultLines.{all_append, all_at, lines_told, item_p
 use Rattle.planus_dump.proofs.Written.{list_width, IsNumber, field_number, SameSlot, same_slots, Held, value_held, lists_held, Referred, referred_at, Tagged, tagged_at}
 use Rattle.planus_dump.proofs.Leaves.{plain_item_event, plain_field_event, plain_stride, reference_stride, text_event, byte_list_event, VectorIs, answered_vector, bytes_vector, answered_unions, byte_at}
 
--- items one after another, none of which is a fault
 items_no_fault : (E : TableEvents) (item : Item) (S path : List ℕ) (n i : ℕ) → ((j : ℕ) → i ≤ j → j < i + n → HaveNoFault (item_events E item S (j * stride_of item) (item_path path j)))
     → HaveNoFault (items_events E item S path n i)
 items_no_fault E item S path zero i each = tt
@@ -61,7 +60,6 @@ list_no_fault E item S f path v h each =
     subst (λ (a : Result SeenItems (List ℕ)). HaveNoFault (list_events E item path a)) (sym v.is)
     ((lines_told path h).list (count_at S f), items_no_fault E item (drop (items_at S f) S) path (count_at S f) 0 (λ j least below. each j (omega arith)))
 
--- a list of numbers or bools
 plain_list_no_fault : (E : TableEvents) (item : Item) (size : ℕ) (S : List ℕ) (f : ℕ) (path : List ℕ) → plain_size item ≡ Some size → VectorIs size S f → HasNoSpace path
     → HaveNoFault (place_events E (ListOf item) S f path)
 plain_list_no_fault E item size S f path is v h =
@@ -79,7 +77,6 @@ plain_list_no_fault E item size S f path is v h =
 module _ (steps : List Step) (given : Finish) (values : AllByRecursion (ValueHolds steps given) given.places) (E : TableEvents) (IsTable : ℕ → ℕ → Type 0)
     (tables : (index n d start f : ℕ) (path : List ℕ) → IsTable index n → value_at given.places n ≡ Some d → Leads given.bytes (start + f) (position_of given.bytes d) → HasNoSpace path
     → HaveNoFault (E index (drop start given.bytes) f path)) where
-  -- a text, to which the reference at f of the piece from start on leads
   text_by : (d start f : ℕ) (path : List ℕ) (step : Step) (v : Value) → IsText (Some step) → value_of given.places step ≡ Some v → ReadsBack given.bytes (at (position_of given.bytes d)) v
       → Leads given.bytes (start + f) (position_of given.bytes d) → HasNoSpace path → HaveNoFault (leaf_events LeafText (drop start given.bytes) f path)
   text_by d start f path (text content) v is e reads leads h =
@@ -94,14 +91,12 @@ module _ (steps : List Step) (given : Finish) (values : AllByRecursion (ValueHol
       let held : Held steps given.places given.bytes (at (position_of given.bytes d)) n = value_held steps given values n d e in
       text_by d start f path held.step held.value (subst IsText held.there is) held.is_value held.reads_back leads h
 
-  -- an item to which a reference leads
   item_no_fault : (item : Item) (n d start f : ℕ) (path : List ℕ) → IsItem steps IsTable item n → value_at given.places n ≡ Some d → Leads given.bytes (start + f) (position_of given.bytes d) → HasNoSpace path
       → HaveNoFault (item_events E item (drop start given.bytes) f path)
   item_no_fault Text n d start f path is e leads h = text_no_fault n d start f path is e leads h
   item_no_fault (Table index) n d start f path is e leads h = tables index n d start f path is e leads h
   item_no_fault _ n d start f path is e leads h = absurd is
 
-  -- a byte vector
   byte_list_by : (d start f : ℕ) (path : List ℕ) (step : Step) (v : Value) → IsByteList (Some step) → value_of given.places step ≡ Some v → ReadsBack given.bytes (at (position_of given.bytes d)) v
       → Leads given.bytes (start + f) (position_of given.bytes d) → HasNoSpace path → HaveNoFault (leaf_events LeafBytes (drop start given.bytes) f path)
   byte_list_by d start f path (bytes content) v is e reads leads h =
@@ -116,11 +111,9 @@ module _ (steps : List Step) (given : Finish) (values : AllByRecursion (ValueHol
       let held : Held steps given.places given.bytes (at (position_of given.bytes d)) n = value_held steps given values n d e in
       byte_list_by d start f path held.step held.value (subst IsByteList held.there is) held.is_value held.reads_back leads h
 
-  -- where the bytes from the first item on lie
   items_here : (start k position items : ℕ) → start + position ≡ k + 4 → position ≡ items → drop items (drop start given.bytes) ≡ drop (k + 4) given.bytes
   items_here start k position items first is = drop-drop items start given.bytes ∙ ap (λ p. drop p given.bytes) (omega arith)
 
-  -- a list of numbers
   numbers_by : (item : Item) (d start f : ℕ) (path : List ℕ) (size : ℕ) (o : Option Width) (items : List ℕ) (v : Value) → plain_size item ≡ Some size → ((w : Width) → o ≡ Some w → byte_len w ≡ size)
       → numbers_value o items ≡ Some v → ReadsBack given.bytes (at (position_of given.bytes d)) v → Leads given.bytes (start + f) (position_of given.bytes d) → HasNoSpace path
       → HaveNoFault (place_events E (ListOf item) (drop start given.bytes) f path)
@@ -138,7 +131,6 @@ module _ (steps : List Step) (given : Finish) (values : AllByRecursion (ValueHol
           plain_list_no_fault E item size (drop start given.bytes) f path is (subst (λ n. VectorIs n (drop start given.bytes) f) (sizes w refl) found.vector) h
       by_fit false e = cc
 
-  -- a list of references
   refs_by : (item : Item) (d start f : ℕ) (path : List ℕ) (referred distances : List ℕ) → plain_size item ≡ None → AllByRecursion (IsItem steps IsTable item) referred
       → all_of (value_at given.places) referred ≡ Some distances → ReadsBack given.bytes (at (position_of given.bytes d)) (value.reference_list distances)
       → Leads given.bytes (start + f) (position_of given.bytes d) → HasNoSpace path → HaveNoFault (place_events E (ListOf item) (drop start given.bytes) f path)
@@ -169,7 +161,6 @@ module _ (steps : List Step) (given : Finish) (values : AllByRecursion (ValueHol
       refs_by item d start f path referred made.0 is.0 is.1 made.1 (subst (ReadsBack given.bytes (at (position_of given.bytes d))) (sym made.2) reads) leads h
   list_by item d start f path _ v is e reads leads h = absurd is
 
-  -- a field that is a reference
   referred_no_fault : (kind : Kind) (n d start f : ℕ) (path : List ℕ) → IsReferred steps IsTable kind n → value_at given.places n ≡ Some d → Leads given.bytes (start + f) (position_of given.bytes d)
       → HasNoSpace path → HaveNoFault (place_events E kind (drop start given.bytes) f path)
   referred_no_fault (One item) n d start f path is e leads h = item_no_fault item n d start f path is e leads h
@@ -179,7 +170,6 @@ module _ (steps : List Step) (given : Finish) (values : AllByRecursion (ValueHol
       list_by item d start f path held.step held.value (subst (IsListOf steps IsTable item) held.there is) held.is_value held.reads_back leads h
   referred_no_fault _ n d start f path is e leads h = absurd is
 
-  -- a field that is there
   field_no_fault : (kind : Kind) (content : FieldStep) (field : Field) (k q : ℕ) (path : List ℕ) → IsField steps IsTable kind (Some content) → field_of given.places content ≡ Some field
       → FieldStands given.bytes (k + q) field → HasNoSpace path → HaveNoFault (place_events E kind (drop k given.bytes) q path)
   field_no_fault kind (number_field size number) field k q path is e stands h =
@@ -194,7 +184,6 @@ module _ (steps : List Step) (given : Finish) (values : AllByRecursion (ValueHol
   field_no_fault kind (tags_field n) field k q path is e stands h = absurd is
   field_no_fault kind (values_field n) field k q path is e stands h = absurd is
 
-  -- a field that may be there
   present_no_fault : (schema : Schema) (kind : Kind) (o : Option FieldStep) (p : Option Field) (k q : ℕ) (path : List ℕ) → IsField steps IsTable kind o → SameSlot given.places o p
       → SlotReads given.bytes k q p → HasNoSpace path → HaveNoFault (present E schema q (place_events E kind (drop k given.bytes) q path))
   present_no_fault schema kind None p k q path is same reads h =
@@ -206,7 +195,6 @@ module _ (steps : List Step) (given : Finish) (values : AllByRecursion (ValueHol
       let test : (q == 0) ≡ false = eq_false q 0 (λ z. absurd (omega arith)) in
       rw test (field_no_fault kind content field k q path is e here.1 h)
 
-  -- a union, with its tag and the reference to its table
   variant_no_fault : (o : Option ℕ) (tag n d start f : ℕ) (path : List ℕ) → IsVariant steps IsTable o n → value_at given.places n ≡ Some d → Leads given.bytes (start + f) (position_of given.bytes d)
       → HasNoSpace path → HaveNoFault (variant_events E tag (drop start given.bytes) f path o)
   variant_no_fault (Some index) tag n d start f path is e leads h = ((lines_told path h).union tag, tables index n d start f path is e leads h)
@@ -217,14 +205,12 @@ module _ (steps : List Step) (given : Finish) (values : AllByRecursion (ValueHol
   tagged_no_fault (Some variants) tag n d start f path is e leads h = variant_no_fault (variant_of variants.items tag) tag n d start f path is e leads h
   tagged_no_fault None tag n d start f path is e leads h = absurd is
 
--- a table as it is seen: its bytes, and its slots, also those past the vtable's end
 record Sees (B : List ℕ) (k : ℕ) (entries : List (ℕ × Field)) (seen : Seen) : Type 0 where
   object : seen.object ≡ drop k B
   inside : k + 4 ≤ length B
   slot_bytes : length seen.slots ≡ 2 * slot_count entries
   slots : (i : ℕ) → SlotReads B k (Slot seen.slots i) (field_at entries i)
 
--- a table that stands is seen by each reference that leads to it
 record Found (B : List ℕ) (k start f : ℕ) (entries : List (ℕ × Field)) : Type 0 where
   seen : Seen
   is : table_at (drop start B) f ≡ Ok seen
@@ -259,7 +245,6 @@ table_found B k start f entries stands leads =
       };
     }
 
--- a slot that holds a distance lies in the vtable
 slot_lies : (V : List ℕ) (i : ℕ) (o : Option ℕ) → Num V (2 * i) w16 ≡ o → unwrap_or o 0 ≢ 0 → 2 * i + 2 ≤ length V
 slot_lies V i None is some = absurd (some refl)
 slot_lies V i (Some q) is some = num_inside V (2 * i) w16 q is
@@ -267,7 +252,6 @@ slot_lies V i (Some q) is some = num_inside V (2 * i) w16 q is
 slot_inside : (V : List ℕ) (i : ℕ) → 4 ≤ Slot V i → 2 * i + 2 ≤ length V
 slot_inside V i least = slot_lies V i (Num V (2 * i) w16) refl (λ z. absurd (omega (arith, least, z)))
 
--- the last slot holds a field
 last_holds : (here : Bool) (a n i : ℕ) (field : Field) (rest : Option Field) → (here ≡ false → a ≢ i) → max (a + 1) n ≡ i + 1 → (n ≡ i + 1 → rest ≡ None → ⊥)
     → (if here then Some field else rest) ≡ None → ⊥
 last_holds true a n i field rest other most further e = cc
@@ -288,7 +272,6 @@ tests_zero false false c e = cc
 le_or_lt : (a b : ℕ) → (a ≤ b) ⊎ (b < a)
 le_or_lt a b = grind arith
 
--- no union is seen in slots that hold nothing
 module _ (B : List ℕ) (k : ℕ) (entries : List (ℕ × Field)) (seen : Seen) (sees : Sees B k entries seen) (i : ℕ) (none : field_at entries i ≡ None) (next : field_at entries (i + 1) ≡ None) where
   zero_slot : Slot seen.slots i ≡ 0
   zero_slot = subst (SlotReads B k (Slot seen.slots i)) none (sees.slots i)
@@ -327,7 +310,6 @@ module _ (B : List ℕ) (k : ℕ) (entries : List (ℕ × Field)) (seen : Seen) 
           let second : (Slot seen.slots (i + 1) == 0) ≡ true = eq-eqb (Slot seen.slots (i + 1)) 0 next_zero in
           rw (first, second) refl
 
--- the events of a union's slots and of a union vector's, as these are answered
 union_field_by : (E : TableEvents) (schema : Schema) (index : ℕ) (object path : List ℕ) (r : Result (Option SeenUnion) (List ℕ)) (o : Option SeenUnion) → r ≡ Ok o
     → HaveNoFault (union_field_events E schema index object path (Ok o)) → HaveNoFault (union_field_events E schema index object path r)
 union_field_by E schema index object path r o e h = subst (λ (a : Result (Option SeenUnion) (List ℕ)). HaveNoFault (union_field_events E schema index object path a)) (sym e) h
@@ -336,7 +318,6 @@ unions_by : (E : TableEvents) (schema : Schema) (index : ℕ) (path : List ℕ) 
     → HaveNoFault (unions_events E schema index path (Ok o)) → HaveNoFault (unions_events E schema index path r)
 unions_by E schema index path r o e h = subst (λ (a : Result (Option SeenUnions) (List ℕ)). HaveNoFault (unions_events E schema index path a)) (sym e) h
 
--- unions one after another, none of which is a fault
 union_items_no_fault : (E : TableEvents) (schema : Schema) (index : ℕ) (items : SeenUnions) (path : List ℕ) (n i : ℕ)
     → ((j : ℕ) → i ≤ j → j < i + n → HaveNoFault (union_events E (slice_get schema.unions.items index) (slice_index items.tags j) items.references (j * 4) (item_path path j)))
     → HaveNoFault (union_items_events E schema index items path n i)
@@ -346,7 +327,6 @@ union_items_no_fault E schema index items path (suc n) i each =
     (union_items_events E schema index items path n (i + 1))
     (each i (omega arith) (omega arith)) (union_items_no_fault E schema index items path n (i + 1) (λ j least below. each j (omega arith) (omega arith)))
 
--- a union that is there
 union_is : (seen : Seen) (i tag q p : ℕ) → 2 * i + 4 ≤ length seen.slots → Slot seen.slots i ≡ q → Slot seen.slots (i + 1) ≡ p → q ≢ 0 → p ≢ 0 → Num seen.object q w8 ≡ Some tag
     → (union_at seen i ≡ Ok None) ⊎ (union_at seen i ≡ Ok (Some (record { tag = tag; offset = p })))
 union_is seen i tag q p both slot next some more byte =
@@ -365,7 +345,6 @@ union_is seen i tag q p both slot next some more byte =
         let offset : tagged_union seen i (Some tag) ≡ Ok (Some (record { tag = tag; offset = Slot seen.slots (i + 1) })) = rw (is, one, two) refl in
         inr (known ∙ offset ∙ ap (λ n. Ok (Some (let u : SeenUnion = record { tag = tag; offset = n } in u))) next)
 
--- a union vector that is there
 unions_is : (seen : Seen) (i q p : ℕ) → 2 * i + 4 ≤ length seen.slots → Slot seen.slots i ≡ q → Slot seen.slots (i + 1) ≡ p → q ≢ 0 → p ≢ 0
     → unions_at seen i ≡ some_of (union_vector_at seen.object q p)
 unions_is seen i q p both slot next some more =
@@ -383,14 +362,12 @@ module _ (steps : List Step) (given : Finish) (values : AllByRecursion (ValueHol
     (tables : (index n d start f : ℕ) (path : List ℕ) → IsTable index n → value_at given.places n ≡ Some d → Leads given.bytes (start + f) (position_of given.bytes d) → HasNoSpace path
     → HaveNoFault (E index (drop start given.bytes) f path))
     (schema : Schema) (k : ℕ) (entries : List (ℕ × Field)) (seen : Seen) (sees : Sees given.bytes k entries seen) (path : List ℕ) (h : HasNoSpace path) (i : ℕ) where
-  -- a field that has one place
   place_no_fault : (kind : Kind) (o : Option FieldStep) → IsField steps IsTable kind o → SameSlot given.places o (field_at entries i)
       → HaveNoFault (present E schema (Slot seen.slots i) (place_events E kind seen.object (Slot seen.slots i) path))
   place_no_fault kind o is same =
       subst (λ bytes. HaveNoFault (present E schema (Slot seen.slots i) (place_events E kind bytes (Slot seen.slots i) path))) (sym sees.object)
       (present_no_fault steps given values E IsTable tables schema kind o (field_at entries i) k (Slot seen.slots i) path is same (sees.slots i) h)
 
-  -- a field that no step writes is absent
   absent_no_fault : (kind : Kind) (o : Option FieldStep) (es : List Event) → plain_field_size kind ≡ None → ((n : ℕ) → IsReferred steps IsTable kind n → ⊥)
       → IsField steps IsTable kind o → SameSlot given.places o (field_at entries i) → HaveNoFault (present E schema (Slot seen.slots i) es)
   absent_no_fault kind None es none refers is same =
@@ -401,7 +378,6 @@ module _ (steps : List Step) (given : Finish) (values : AllByRecursion (ValueHol
   absent_no_fault kind (Some (tags_field n)) es none refers is same = absurd is
   absent_no_fault kind (Some (values_field n)) es none refers is same = absurd is
 
-  -- a union
   union_no_fault : (index : ℕ) (o p : Option FieldStep) → IsUnion steps IsTable (slice_get schema.unions.items index) o p → SameSlot given.places o (field_at entries i)
       → SameSlot given.places p (field_at entries (i + 1)) → HaveNoFault (kind_events E schema (Union index) i seen path)
   union_no_fault index None None is same next = union_field_by E schema index seen.object path (union_at seen i) None (union_none given.bytes k entries seen sees i same next) tt
@@ -430,7 +406,6 @@ module _ (steps : List Step) (given : Finish) (values : AllByRecursion (ValueHol
           (references_lead given.bytes (k + Slot seen.slots (i + 1)) d leads) h))
   union_no_fault index _ _ is same next = absurd is
 
-  -- the items of a union vector
   union_vector_items_no_fault : (index q p t d : ℕ) (step : Step) (v : Value) → IsVectorOfUnions steps IsTable (slice_get schema.unions.items index) (Some step) → value_of given.places step ≡ Some v
       → ReadsBack given.bytes (at_both (position_of given.bytes t) (position_of given.bytes d)) v
       → Leads given.bytes (k + q) (position_of given.bytes t) → Leads given.bytes (k + p) (position_of given.bytes d)
@@ -462,7 +437,6 @@ module _ (steps : List Step) (given : Finish) (values : AllByRecursion (ValueHol
       )
   union_vector_items_no_fault index q p t d _ v is e reads tags references = absurd is
 
-  -- a union vector
   union_vector_no_fault : (index : ℕ) (o p : Option FieldStep) → IsUnionVector steps IsTable (slice_get schema.unions.items index) o p → SameSlot given.places o (field_at entries i)
       → SameSlot given.places p (field_at entries (i + 1)) → HaveNoFault (kind_events E schema (UnionVector index) i seen path)
   union_vector_no_fault index None None is same next = unions_by E schema index path (unions_at seen i) None (unions_none given.bytes k entries seen sees i same next) tt
@@ -484,7 +458,6 @@ module _ (steps : List Step) (given : Finish) (values : AllByRecursion (ValueHol
       (references_lead given.bytes (k + Slot seen.slots i) made_tags.0 there) (references_lead given.bytes (k + Slot seen.slots (i + 1)) made.0 behind))
   union_vector_no_fault index _ _ is same next = absurd is
 
-  -- a field of any kind
   kind_no_fault : (fields : List (ℕ × FieldStep)) → ((j : ℕ) → SameSlot given.places (held_at fields j) (field_at entries j)) → (kind : Kind) → HasKind steps IsTable schema fields i kind
       → HaveNoFault (kind_events E schema kind i seen path)
   kind_no_fault fields same (Union index) is = union_no_fault index (held_at fields i) (held_at fields (i + 1)) is (same i) (same (i + 1))
@@ -502,7 +475,6 @@ module _ (steps : List Step) (given : Finish) (values : AllByRecursion (ValueHol
   module _ (E : TableEvents) (IsTable : ℕ → ℕ → Type 0)
       (tables : (index n d start f : ℕ) (path : List ℕ) → IsTable index n → value_at given.places n ≡ Some d → Leads given.bytes (start + f) (position_of given.bytes d) → HasNoSpace path
       → HaveNoFault (E index (drop start given.bytes) f path)) where
-    -- the fields of a table
     fields_no_fault : (k : ℕ) (entries : List (ℕ × Field)) (seen : Seen) → Sees given.bytes k entries seen → (path : List ℕ) → HasNoSpace path → (fields : List (ℕ × FieldStep))
         → ((j : ℕ) → SameSlot given.places (held_at fields j) (field_at entries j)) → (shape : List FieldSchema) → AllByRecursion (λ field. HasNoSpace (field_label field)) shape
         → AllByRecursion (λ field. HasKind steps IsTable schema fields field.slot field.kind) shape → HaveNoFault (fields_events E schema seen path shape)
@@ -533,7 +505,6 @@ module _ (steps : List Step) (given : Finish) (values : AllByRecursion (ValueHol
         let held : Held steps given.places given.bytes (at (position_of given.bytes d)) n = value_held steps given values n d e in
         table_by shape d start f path held.step held.value (named shape refl) (subst (IsTableOf steps IsTable schema (Some shape)) held.there is) held.is_value held.stands leads h
 
-  -- a table down to any depth
   pub tables_no_fault : (left index n d start f : ℕ) (path : List ℕ) → Describes schema steps left index n → value_at given.places n ≡ Some d → Leads given.bytes (start + f) (position_of given.bytes d)
       → HasNoSpace path → HaveNoFault (events schema left index (drop start given.bytes) f path)
   unfolding events Describes

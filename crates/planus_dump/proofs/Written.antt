@@ -1,4 +1,4 @@
--- What stands of the steps of a run, by the values that they are listed with.
+-- What is encoded of the steps of a run.
 use Rattle.std.proofs.Common.{◌≡◌, ℕ, zero, suc, ◌<◌, ◌≤◌, ◌==◌, List, [], ◌∷◌, ◌++◌, length, refl, sym, ap, ◌∙◌, subst, arith, Option, Some, None, Bool, true, false}
 use Rattle.std.specs.Prelude.{if◌then◌else◌, slice_get}
 use Rattle.std.specs.Option.{option_map, is_none}
@@ -19,7 +19,6 @@ use Rattle.planus.proofs.Lists.{made_of, made_after, all_made, all_named}
 use Rattle.planus.proofs.TableFields.{fields_made}
 use Rattle.planus_dump.specs.Describes.{held_at}
 
--- sizes and widths
 width_size : (size : ℕ) (w : Width) → width_of size ≡ Some w → byte_len w ≡ size
 width_size size w e = by_two (size == 2) (size == 4) (size == 8) refl refl refl e
   where
@@ -54,8 +53,6 @@ some_bytes w32 = omega arith
 some_bytes w64 = omega arith
 some_bytes w128 = omega arith
 
--- a number that is a field: the bytes of a width of this size, of which it is made again if they
--- are one
 pub record IsNumber (size number : ℕ) (field : Field) : Type 0 where
   pub item : Plain
   pub is : field ≡ value.plain item
@@ -91,7 +88,6 @@ number_is (Some w) size number field sizes e = by_fit (fits_width w number) refl
 pub field_number : (listed : List Listed) (size number : ℕ) (field : Field) → field_of listed (number_field size number) ≡ Some field → IsNumber size number field
 field_number listed size number field e = number_is (field_width size) size number field (field_size size) e
 
--- what a slot of a table holds is the field of what its step holds there
 abbrev pub SameSlot : List Listed → Option FieldStep → Option Field → Type 0
 SameSlot listed None o = o ≡ None
 SameSlot listed (Some content) o = (field : Field) × (o ≡ Some field) × (field_of listed content ≡ Some field)
@@ -109,7 +105,6 @@ same_slots listed slots before (entry ∷ fields) entries e i =
     by_test true field is rest h = (field, refl, is)
     by_test false field is rest h = h
 
--- what is known of a step in the bytes of a finish: its value stands and reads back at a position
 pub record Held (steps : List Step) (places : List Listed) (B : List ℕ) (position : Position) (n : ℕ) : Type 0 where
   pub step : Step
   pub value : Value
@@ -129,7 +124,6 @@ module _ (steps : List Step) (given : Finish) (values : AllByRecursion (ValueHol
   one_place distance None d e = let same : distance ≡ d = cc in ap (λ k. at (position_of given.bytes k)) same
   one_place distance (Some tags) d e = cc
 
-  -- the value of a step, where it has a distance
   pub value_held : (n d : ℕ) → value_at given.places n ≡ Some d → Held steps given.places given.bytes (at (position_of given.bytes d)) n
   value_held n d e =
       let made = made_after value_distance (named_at given.places n) d e in
@@ -144,7 +138,6 @@ module _ (steps : List Step) (given : Finish) (values : AllByRecursion (ValueHol
   same_named : (o : Option Named) (a b : Named) → o ≡ Some a → o ≡ Some b → a ≡ b
   same_named o a b e h = cc
 
-  -- a union vector, where it has both distances
   pub lists_held : (n t d : ℕ) → distance_at tags_distance given.places n ≡ Some t → distance_at references_distance given.places n ≡ Some d
       → Held steps given.places given.bytes (at_both (position_of given.bytes t) (position_of given.bytes d)) n
   lists_held n t d e h =
@@ -154,7 +147,6 @@ module _ (steps : List Step) (given : Finish) (values : AllByRecursion (ValueHol
       let here : references_distance tags.0 ≡ Some d = subst (λ (named : Named). references_distance named ≡ Some d) same references.2 in
       subst (λ p. Held steps given.places given.bytes p n) (both_places tags.0.distance tags.0.tags t d tags.2 here) (held_by n tags.0 tags.1)
 
--- item i of what several steps refer to
 pub record Referred (P : ℕ → Type 0) (places : List Listed) (distances : List ℕ) (i : ℕ) : Type 0 where
   pub step : ℕ
   pub distance : ℕ
@@ -176,7 +168,6 @@ referred_at P places (n ∷ referred) distances e all i below =
         let further : Referred P places more i = rest i (omega arith) in
         record { step = further.step; distance = further.distance; there = further.there; is_value = further.is_value; holds = further.holds }
 
--- union i of a list
 pub record Tagged (P : ℕ → ℕ → Type 0) (places : List Listed) (pairs : List (ℕ × ℕ)) (i : ℕ) : Type 0 where
   pub step : ℕ
   pub pair : ℕ × ℕ

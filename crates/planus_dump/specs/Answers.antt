@@ -1,4 +1,4 @@
--- What readers return, as functions of the bytes: a value, or the message of an error.
+-- What readers return, as functions of the bytes.
 use Rattle.std.specs.Prelude.{ℕ, ◌+◌, ◌*◌, nat_le, nat_lt, ◌==◌, not, ◌||◌, ◌&&◌}
 use Rattle.std.specs.Prelude.{List, [], ◌∷◌, length, drop}
 use Rattle.std.specs.Prelude.{Option, Some, None, Result, Ok, Err, if◌then◌else◌}
@@ -21,7 +21,6 @@ use Rattle.planus_dump.specs.declared.values.Leaf.TheVariants.{Bool, Text, Bytes
 abbrev pub bits_at : Width → List ℕ → ℕ → Result ℕ (List ℕ)
 bits_at width S f = answered (number_test S f width ∷ []) (number S f width)
 
--- the printed unsigned number of this width at f, and the signed one
 abbrev pub unsigned_at : Width → List ℕ → ℕ → Result (List ℕ) (List ℕ)
 unsigned_at width S f = answered (number_test S f width ∷ []) (decimal (number S f width))
 
@@ -43,7 +42,7 @@ leaf_at Bool S f = answered (number_test S f w8 ∷ []) (truth_text (not (number
 leaf_at Text S f = answered (text_tests S f) (quoted (content_at S f))
 leaf_at Bytes S f = answered (byte_list_tests S f) (bytes_text (content_at S f))
 
--- a table: the bytes from its first on, and the slots of its vtable
+-- the bytes from the table's first on, and the slots of its vtable
 pub record Seen : Type 0 where
   pub object : List ℕ
   pub slots : List ℕ
@@ -54,7 +53,7 @@ table_at S f =
     answered (table_tests S f)
     (record { object = drop (target S f) S; slots = slots_of S (target S f) })
 
--- a vector: the bytes from its first item on, and its count
+-- the bytes from the first item on, and the count
 pub record SeenItems : Type 0 where
   pub bytes : List ℕ
   pub count : ℕ
@@ -65,13 +64,12 @@ vector_at stride S f =
     answered (vector_tests S f stride)
     (record { bytes = drop (items_at S f) S; count = count_at S f })
 
--- a union vector: the bytes from its first tag on, those from its first reference on, and its count
+-- the bytes from the first tag on, those from the first reference on, and the count
 pub record SeenUnions : Type 0 where
   pub tags : List ℕ
   pub references : List ℕ
   pub count : ℕ
 
--- the union vector to which the references at f and g lead
 abbrev pub union_vector_at : List ℕ → ℕ → ℕ → Result SeenUnions (List ℕ)
 union_vector_at S f g =
     answered (union_vector_tests S f g)
@@ -81,19 +79,19 @@ union_vector_at S f g =
       count = count_at S f;
     })
 
--- a union: its tag, and the offset of the reference to its table in the object
+-- the tag, and the offset of the table's reference in the object
 pub record SeenUnion : Type 0 where
   pub tag : ℕ
   pub offset : ℕ
 
--- the union of slots i and i + 1, by its tag byte: none where that or a slot is 0
+-- none where the tag byte or a slot is 0
 abbrev pub tagged_union : Seen → ℕ → Option ℕ → Result (Option SeenUnion) (List ℕ)
 tagged_union table i None = Err (fault_text InvalidOffset)
 tagged_union table i (Some tag) =
     if tag == 0 || Slot table.slots i == 0 || Slot table.slots (i + 1) == 0 then Ok None
     else Ok (Some (record { tag = tag; offset = Slot table.slots (i + 1) }))
 
--- the union of slots i and i + 1: none where the vtable ends before both, an error between them
+-- none where the vtable ends before both slots, an error between them
 abbrev pub union_at : Seen → ℕ → Result (Option SeenUnion) (List ℕ)
 union_at table i =
     if nat_le (length table.slots) (2 * i) then Ok None
@@ -101,19 +99,18 @@ union_at table i =
     then Err (fault_text (InvalidVtableLength (length table.slots + 4)))
     else tagged_union table i (Num table.object (Slot table.slots i) w8))
 
--- the same result, as an optional one
 abbrev pub some_of : {A : Type 0} → Result A (List ℕ) → Result (Option A) (List ℕ)
 some_of (Ok x) = Ok (Some x)
 some_of (Err fault) = Err fault
 
--- the union vector of two distances: none where both are 0
+-- none where both distances are 0
 abbrev pub union_vector_by : List ℕ → ℕ → ℕ → Result (Option SeenUnions) (List ℕ)
 union_vector_by object f g =
     if f == 0 && g == 0 then Ok None
     else (if f == 0 || g == 0 then Err (fault_text InvalidOffset)
     else some_of (union_vector_at object f g))
 
--- The union vector of slots i and i + 1: none where these aren't both in the vtable.
+-- none where the slots aren't both in the vtable
 abbrev pub unions_at : Seen → ℕ → Result (Option SeenUnions) (List ℕ)
 unions_at table i =
     if nat_lt (length table.slots) (2 * i + 4) then Ok None

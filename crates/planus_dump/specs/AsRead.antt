@@ -1,4 +1,4 @@
--- A dump prints what the readers of `planus_read` return: the tests of a dump are their clauses.
+-- The tests of a dump are the clauses of `planus_read`.
 use Rattle.std.specs.Prelude.{◌≡◌, ◌↔◌, ℕ, ◌+◌, ◌*◌, ◌<◌, ◌⊎◌, List, length, drop, take, Some, None}
 use Rattle.std.specs.Prelude.{Result, Ok, Err}
 use Rattle.std.specs.Fmt.{decimal, signed_decimal}
@@ -20,14 +20,13 @@ use Rattle.planus_dump.specs.Answers.{SeenUnions, some_of}
 use Rattle.planus_dump.specs.Seeing.{answer_seen, table_seen}
 use Rattle.planus_dump.specs.declared.values.Leaf.TheVariants.{Bool, Text, Bytes}
 
--- a dump has the reading's result: the value if one is encoded, else the message of an error
+-- the value if one is encoded, else the message of an error
 pub record SaysAsRead {A B : Type 0} (reading : Reading A) (sees : A → B)
     (said : Result B (List ℕ)) : Type 0 where
   pub answer : (r : Result A ErrorKind) → Answer reading r → said ≡ answer_seen sees r
   pub value : (b : B) → said ≡ Ok b → (x : A) × reading.There x × (b ≡ sees x)
   pub fault : (text : List ℕ) → said ≡ Err text → AllHold reading.clauses → ⊥
 
--- the items of a vector in S
 abbrev pub items_in : List ℕ → Items → SeenItems
 items_in S items = record { bytes = drop items.position S; count = items.count }
 
@@ -39,7 +38,6 @@ unions_in S items =
       count = items.count;
     }
 
--- a table in S
 abbrev pub layout_in : List ℕ → TableLayout → Seen
 layout_in S layout =
     record {
@@ -47,7 +45,7 @@ layout_in S layout =
       slots = drop 4 (take layout.size (drop layout.vtable S));
     }
 
--- The dump has the result of each kind of reading.
+-- A dump has the result of each kind of reading.
 pub record ReadingsAreSaid (S : List ℕ) (f : ℕ) : Type 0 where
   pub unsigned :
       (width : Width) → SaysAsRead (number_reading S f width) decimal (unsigned_at width S f)
@@ -62,7 +60,7 @@ pub record ReadingsAreSaid (S : List ℕ) (f : ℕ) : Type 0 where
       (g : ℕ) → SaysAsRead (union_vector_reading S f g) (unions_in S) (union_vector_at S f g)
   pub table : SaysAsRead (table_reading S f) (layout_in S) (table_at S f)
 
--- The dump has the accessor's result for the union in slots i and i + 1.
+-- It has the accessor's result for a union.
 pub record UnionsAreSaid (table : Table) (i : ℕ) : Type 0 where
   pub absent : (union_at (table_seen table) i ≡ Ok None) ↔ UnionAbsent table i
   pub there : (union : SeenUnion) → (union_at (table_seen table) i ≡ Ok (Some union))
@@ -70,13 +68,13 @@ pub record UnionsAreSaid (table : Table) (i : ℕ) : Type 0 where
   pub broken : (text : List ℕ) → (union_at (table_seen table) i ≡ Err text)
       ↔ ((e : ErrorKind) × UnionBroken table i e × (text ≡ fault_text e))
 
--- no union vector is in slots i and i + 1: they aren't both in the vtable, or both hold 0
+-- both slots aren't in the vtable, or both hold 0
 abbrev pub NoUnionVector : Table → ℕ → Type 0
 NoUnionVector table i =
     (length (table_slots table) < 2 * i + 4)
     ⊎ (BothSlots table i × (slot_of table i ≡ 0) × (slot_of table (i + 1) ≡ 0))
 
--- So it has for a union vector, by its reading.
+-- It has the accessor's result for a union vector.
 pub record UnionVectorsAreSaid (table : Table) (i : ℕ) : Type 0 where
   pub absent : NoUnionVector table i → unions_at (table_seen table) i ≡ Ok None
   pub half : HalfVector table i → unions_at (table_seen table) i ≡ Err (fault_text InvalidOffset)

@@ -1,4 +1,4 @@
--- When a schema describes the steps of a run: their fields, and what these refer to.
+-- When a schema describes the steps of a run.
 use Rattle.std.specs.Prelude.{◌≡◌, ℕ, zero, suc, ◌+◌, ◌==◌, List, [], ◌∷◌, Vec, ⊤}
 use Rattle.std.specs.Prelude.{Option, Some, None, slice_get, if◌then◌else◌}
 use Rattle.std.specs.List.{AllByRecursion}
@@ -16,7 +16,7 @@ use Rattle.planus_dump.specs.declared.schemas.Item.{Item}
 use Rattle.planus_dump.specs.declared.schemas.Item.TheVariants.{U16, U32, U64, I16, I32, I64}
 use Rattle.planus_dump.specs.declared.schemas.Item.TheVariants.{Bool, Text, Table}
 
--- the size of an item that is a number or a bool
+-- the size of a number or a bool
 abbrev pub plain_size : Item → Option ℕ
 plain_size U16 = Some 2
 plain_size U32 = Some 4
@@ -28,37 +28,32 @@ plain_size Bool = Some 1
 plain_size Text = None
 plain_size (Table index) = None
 
--- the same for a field
 abbrev pub plain_field_size : Kind → Option ℕ
 plain_field_size (One item) = plain_size item
 plain_field_size U8 = Some 1
 plain_field_size I8 = Some 1
 plain_field_size _ = None
 
--- the step writes a string
 abbrev pub IsText : Option Step → Type 0
 IsText (Some (text content)) = ⊤
 IsText _ = ⊥
 
--- the step writes a byte vector
 abbrev pub IsByteList : Option Step → Type 0
 IsByteList (Some (bytes content)) = ⊤
 IsByteList _ = ⊥
 
--- what the field of a slot holds
 abbrev pub held_at : List (ℕ × FieldStep) → ℕ → Option FieldStep
 held_at [] slot = None
 held_at (field ∷ fields) slot = if field.0 == slot then Some field.1 else held_at fields slot
 
 -- IsTable index n: the schema's table with this index describes step n.
 module _ (steps : List Step) (IsTable : ℕ → ℕ → Type 0) where
-  -- an item refers to the step of this number: a string or a table
   abbrev pub IsItem : Item → ℕ → Type 0
   IsItem Text n = IsText (slice_get steps n)
   IsItem (Table index) n = IsTable index n
   IsItem _ n = ⊥
 
-  -- the step writes a vector of such items; a byte vector has items of one byte
+  -- a byte vector has items of one byte
   abbrev pub IsListOf : Item → Option Step → Type 0
   IsListOf item (Some (numbers width values)) = plain_size item ≡ Some width
   IsListOf item (Some (bytes content)) = plain_size item ≡ Some 1
@@ -66,14 +61,13 @@ module _ (steps : List Step) (IsTable : ℕ → ℕ → Type 0) where
       (plain_size item ≡ None) × AllByRecursion (IsItem item) referred
   IsListOf item _ = ⊥
 
-  -- a field of this kind refers to the step of this number
   abbrev pub IsReferred : Kind → ℕ → Type 0
   IsReferred (One item) n = IsItem item n
   IsReferred Bytes n = IsByteList (slice_get steps n)
   IsReferred (ListOf item) n = IsListOf item (slice_get steps n)
   IsReferred _ n = ⊥
 
-  -- a field of this kind is absent, a number of its size, or a reference to a value of the kind
+  -- the field is absent, a number of its size, or a reference to a value of the kind
   abbrev pub IsField : Kind → Option FieldStep → Type 0
   IsField kind None = ⊤
   IsField kind (Some (number_field width value)) = plain_field_size kind ≡ Some width
@@ -81,17 +75,15 @@ module _ (steps : List Step) (IsTable : ℕ → ℕ → Type 0) where
   IsField kind (Some (tags_field n)) = ⊥
   IsField kind (Some (values_field n)) = ⊥
 
-  -- the step of this number is the table of a variant, if there is one
   abbrev pub IsVariant : Option ℕ → ℕ → Type 0
   IsVariant (Some index) n = IsTable index n
   IsVariant None n = ⊥
 
-  -- the step of this number is the table of the variant with this tag
   abbrev pub IsTagged : Option (Vec (ℕ × ℕ) Global) → ℕ → ℕ → Type 0
   IsTagged (Some variants) tag n = IsVariant (variant_of variants.items tag) n
   IsTagged None tag n = ⊥
 
-  -- a union: both slots are absent, or hold a tag of one byte and a reference to its table
+  -- both slots are absent, or hold a tag of one byte and a reference to its table
   abbrev pub IsUnion :
       Option (Vec (ℕ × ℕ) Global) → Option FieldStep → Option FieldStep → Type 0
   IsUnion variants None None = ⊤
@@ -99,13 +91,12 @@ module _ (steps : List Step) (IsTable : ℕ → ℕ → Type 0) where
       (width ≡ 1) × IsTagged variants tag n
   IsUnion variants _ _ = ⊥
 
-  -- the step writes a vector of such unions
   abbrev pub IsVectorOfUnions : Option (Vec (ℕ × ℕ) Global) → Option Step → Type 0
   IsVectorOfUnions variants (Some (unions items)) =
       AllByRecursion (λ item. IsTagged variants item.0 item.1) items
   IsVectorOfUnions variants _ = ⊥
 
-  -- a union vector: both slots are absent, or hold the tags and the values of one such vector
+  -- both slots are absent, or hold the tags and the values of one such vector
   abbrev pub IsUnionVector :
       Option (Vec (ℕ × ℕ) Global) → Option FieldStep → Option FieldStep → Type 0
   IsUnionVector variants None None = ⊤
@@ -114,7 +105,6 @@ module _ (steps : List Step) (IsTable : ℕ → ℕ → Type 0) where
   IsUnionVector variants _ _ = ⊥
 
   module _ (schema : Schema) where
-    -- the field of this slot is of this kind
     abbrev pub HasKind : List (ℕ × FieldStep) → ℕ → Kind → Type 0
     HasKind fields i (Union index) =
         IsUnion (slice_get schema.unions.items index) (held_at fields i) (held_at fields (i + 1))
@@ -123,19 +113,18 @@ module _ (steps : List Step) (IsTable : ℕ → ℕ → Type 0) where
         (held_at fields (i + 1))
     HasKind fields i kind = IsField kind (held_at fields i)
 
-    -- the step writes a table of this schema
     abbrev pub IsTableOf : Option TableSchema → Option Step → Type 0
     IsTableOf (Some shape) (Some (table fields)) =
         AllByRecursion (λ field. HasKind fields field.slot field.kind) shape.fields.items
     IsTableOf _ _ = ⊥
 
--- the schema's table with this index describes the step of this number, down to this depth
+-- the schema's table with this index describes step n, down to this depth
 unfoldable pub Describes : Schema → List Step → ℕ → ℕ → ℕ → Type 0
 Describes schema steps zero index n = ⊤
 Describes schema steps (suc left) index n =
     IsTableOf steps (Describes schema steps left) schema (slice_get schema.tables.items index)
     (slice_get steps n)
 
--- The schema fits what the step of this number writes, as deep as a dump goes.
+-- The schema fits what the step writes, as deep as a dump goes.
 abbrev pub Fits : Schema → List Step → ℕ → Type 0
 Fits schema steps root = Describes schema steps greatest_depth schema.root root

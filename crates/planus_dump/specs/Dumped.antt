@@ -16,11 +16,11 @@ use Rattle.planus_dump.specs.declared.dumps.DumpError.TheVariants.{TooDeep, TooM
 abbrev pub greatest_depth : ℕ
 greatest_depth = 64
 
--- the events of a buffer: those of the table at 0, with the path `root`
+-- the events of the table at 0, with the path `root`
 abbrev pub events_of : Schema → List ℕ → List Event
 events_of schema bytes = events schema greatest_depth schema.root bytes 0 (codes "root")
 
--- The line of an event: its own, or a path and the text of a float.
+-- an event's own line, or a path and the text of a float
 abbrev pub Shows : Event → List ℕ → Type 0
 Shows (line l) shown = shown ≡ l
 Shows deep shown = ⊥
@@ -34,14 +34,14 @@ AreShown [] (l ∷ lines) = ⊥
 AreShown (e ∷ es) [] = ⊥
 AreShown (e ∷ es) (l ∷ lines) = Shows e l × AreShown es lines
 
--- the first events have these lines, and the rest follows
+-- the first events have these lines
 pub record Begin (es : List Event) (lines : List (List ℕ)) (rest : List Event) : Type 0 where
   pub front : List Event
   pub split : es ≡ front ++ rest
   pub shown : AreShown front lines
 
--- The result for these events: their lines, if they fit the budget and no table is too deep; else
--- the error that comes first. Out of memory is allowed unless the budget is 0.
+-- The lines, if they fit the budget and no table is too deep; else the error that comes first. Out
+-- of memory is allowed unless the budget is 0.
 abbrev pub Answers : List Event → ℕ → Result (Vec (String Global) Global) DumpError → Type 0
 Answers es budget (Ok lines) =
     Begin es (map string_bytes lines.items) [] × (length lines.items ≤ budget)
@@ -54,7 +54,7 @@ Answers es budget (Err TooManyLines) =
 Answers es budget (Err BadSchema) = ⊥
 Answers es budget (Err OutOfMemory) = 0 < budget
 
--- The result of a dump: `BadSchema` exactly for a bad schema, else the result for the events.
+-- `BadSchema` exactly for a bad schema, else the result for the events.
 abbrev pub Dumped : Schema → List ℕ → ℕ → Result (Vec (String Global) Global) DumpError → Type 0
 Dumped schema bytes budget (Err BadSchema) = is_good schema ≡ false
 Dumped schema bytes budget result =

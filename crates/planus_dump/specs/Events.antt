@@ -1,4 +1,4 @@
--- The events of a dump: the tables that are reached from the root, line by line.
+-- The events of a dump, line by line.
 use Rattle.std.specs.Prelude.{ℕ, zero, suc, ◌+◌, ◌*◌, ◌/◌, ◌%◌, ◌==◌, List, [], ◌∷◌, ◌++◌, Vec}
 use Rattle.std.specs.Prelude.{slice_get, slice_index, drop, length, nat_le, codes, String}
 use Rattle.std.specs.Prelude.{Bool as Truth, true, false, not, ◌&&◌}
@@ -44,8 +44,7 @@ use Rattle.planus_dump.specs.declared.values.Leaf.TheVariants.{I32 as LeafI32, I
 use Rattle.planus_dump.specs.declared.values.Leaf.TheVariants.{Bool as LeafBool, Text as LeafText}
 use Rattle.planus_dump.specs.declared.values.Leaf.TheVariants.{Bytes as LeafBytes}
 
--- a line, the mark of a table or a struct that is too deep and isn't read, or the line of a path
--- and a float
+-- a line, the mark of a table or a struct that is too deep and isn't read, or a float at a path
 pub data Event : Type 0 where
   line : List ℕ → Event
   deep : Event
@@ -57,7 +56,6 @@ field_label field =
     if field.deprecated then string_bytes field.name ++ codes "(deprecated)"
     else string_bytes field.name
 
--- an error of a reader
 abbrev pub fault_event : List ℕ → List ℕ → Event
 fault_event path fault = line (fault_line path fault)
 
@@ -87,13 +85,13 @@ abbrev pub variant_of : List (ℕ × ℕ) → ℕ → Option ℕ
 variant_of [] tag = None
 variant_of (variant ∷ rest) tag = if variant.0 == tag then Some variant.1 else variant_of rest tag
 
--- a table's events, by its index in the schema, bytes, its reference's offset, and its path
+-- by a table's index in the schema, bytes, the offset of its reference, and its path
 abbrev pub TableEvents : Type 0
 TableEvents = ℕ → List ℕ → ℕ → List ℕ → List Event
 
 -- ---- values of a fixed size
 
--- an integer's width, and how it is printed
+-- the width of an integer
 abbrev pub number_width : Number → Width
 number_width numbers.U8 = w8
 number_width numbers.U16 = w16
@@ -114,7 +112,6 @@ number_leaf numbers.I16 = LeafI16
 number_leaf numbers.I32 = LeafI32
 number_leaf numbers.I64 = LeafI64
 
--- a float by its bits, or its error
 abbrev pub float_event : (ℕ → Bits) → List ℕ → Result ℕ (List ℕ) → Event
 float_event make path (Ok n) = float path (make n)
 float_event make path (Err fault) = fault_event path fault
@@ -131,12 +128,11 @@ names_in flags number (value ∷ values) =
     if has_value flags number value.0 then string_bytes value.1 ∷ names_in flags number values
     else names_in flags number values
 
--- a number's text and its names, or its error
 abbrev pub named : Result (List ℕ) (List ℕ) → List (List ℕ) → Result (List ℕ) (List ℕ)
 named (Ok text) names = Ok (text ++ names_text names)
 named (Err fault) names = Err fault
 
--- a number of an enum at f of S
+-- the number of an enum at f of S
 abbrev pub enum_at : EnumSchema → List ℕ → ℕ → Result (List ℕ) (List ℕ)
 enum_at shape S f =
     named (leaf_at (number_leaf shape.number) S f)
@@ -158,14 +154,13 @@ module _ (schema : Schema) (T : TableEvents) where
       enum_events (slice_get schema.enums.items index) S f path
   fixed_events (fixed.Struct index) S f path = T index S f path
 
-  -- the fields of the struct with which S begins
   abbrev pub struct_fields_events : List StructFieldSchema → List ℕ → List ℕ → List Event
   struct_fields_events [] S path = []
   struct_fields_events (field ∷ fields) S path =
       fixed_events field.fixed S field.distance (field_path path (string_bytes field.name))
       ++ struct_fields_events fields S path
 
-  -- a struct of this schema at f of S, or its error
+  -- a struct at f of S, or its error
   abbrev pub struct_events : Option StructSchema → List ℕ → ℕ → List ℕ → List Event
   struct_events None S f path = []
   struct_events (Some shape) S f path =
@@ -173,13 +168,12 @@ module _ (schema : Schema) (T : TableEvents) where
       ∷ struct_fields_events shape.fields.items (drop f S) path
       else fault_event path (fault_text InvalidOffset) ∷ []
 
--- the events of a struct, with up to left - 1 levels of structs in it
+-- a struct, with up to left - 1 levels of structs in it
 unfoldable pub structs : Schema → ℕ → TableEvents
 structs schema zero index S f path = deep ∷ []
 structs schema (suc left) index S f path =
     struct_events schema (structs schema left) (slice_get schema.structs.items index) S f path
 
--- the greatest number of structs in one another
 abbrev pub greatest_nesting : ℕ
 greatest_nesting = 64
 
@@ -188,7 +182,7 @@ abbrev pub value_events : Schema → Fixed → List ℕ → ℕ → List ℕ →
 value_events schema value S f path =
     fixed_events schema (structs schema greatest_nesting) value S f path
 
--- the size of such a value
+-- the size of an enum's number
 abbrev pub enum_size : Option EnumSchema → ℕ
 enum_size None = 1
 enum_size (Some shape) = byte_len (number_width shape.number)
@@ -205,7 +199,6 @@ fixed_size schema fixed.F64 = 8
 fixed_size schema (fixed.Enum index) = enum_size (slice_get schema.enums.items index)
 fixed_size schema (fixed.Struct index) = struct_size (slice_get schema.structs.items index)
 
--- n values of a vector from value i on, by the bytes from the first on
 abbrev pub values_events : Schema → Fixed → List ℕ → List ℕ → ℕ → ℕ → List Event
 values_events schema value S path zero i = []
 values_events schema value S path (suc n) i =
@@ -221,7 +214,6 @@ fixed_list_events schema value path (Err fault) = fault_event path fault ∷ []
 -- ---- what has parts
 
 module _ (E : TableEvents) where
-  -- an item at f of S, of a field or of a vector
   abbrev pub item_events : Item → List ℕ → ℕ → List ℕ → List Event
   item_events U16 S f path = leaf_events LeafU16 S f path
   item_events U32 S f path = leaf_events LeafU32 S f path
@@ -233,7 +225,6 @@ module _ (E : TableEvents) where
   item_events Text S f path = leaf_events LeafText S f path
   item_events (Table index) S f path = E index S f path
 
-  -- n items of a vector from item i on, by the bytes from the first on
   abbrev pub items_events : Item → List ℕ → List ℕ → ℕ → ℕ → List Event
   items_events item S path zero i = []
   items_events item S path (suc n) i =
@@ -255,7 +246,7 @@ module _ (E : TableEvents) where
   nested_events index path (Ok content) = buffer_events index path content (table_at content 0)
   nested_events index path (Err fault) = fault_event path fault ∷ []
 
-  -- a field with one place, f of S: all but a union, a union vector and values of a fixed size
+  -- a field with one place, of no fixed size
   abbrev pub place_events : Kind → List ℕ → ℕ → List ℕ → List Event
   place_events (One item) S f path = item_events item S f path
   place_events U8 S f path = leaf_events LeafU8 S f path
@@ -269,19 +260,17 @@ module _ (E : TableEvents) where
   place_events (Nested index) S f path =
       nested_events index path (answered (byte_list_tests S f) (content_at S f))
 
-  -- a union with this tag, by its variant's table
   abbrev pub variant_events : ℕ → List ℕ → ℕ → List ℕ → Option ℕ → List Event
   variant_events tag S f path (Some index) = line (union_line path tag) ∷ E index S f path
   variant_events tag S f path None = fault_event path (fault_text (UnknownUnionTag tag)) ∷ []
 
-  -- a union of these variants, if the schema has them, with its tag, its reference at f of S
+  -- a union of these variants, if the schema has them
   abbrev pub union_events : Option (Vec (ℕ × ℕ) Global) → ℕ → List ℕ → ℕ → List ℕ → List Event
   union_events None tag S f path = []
   union_events (Some variants) tag S f path =
       variant_events tag S f path (variant_of variants.items tag)
 
   module _ (schema : Schema) where
-    -- the union field of an object, or its error
     abbrev pub union_field_events :
         ℕ → List ℕ → List ℕ → Result (Option SeenUnion) (List ℕ) → List Event
     union_field_events index object path (Ok None) = []
@@ -289,7 +278,6 @@ module _ (E : TableEvents) where
         union_events (slice_get schema.unions.items index) union.tag object union.offset path
     union_field_events index object path (Err fault) = fault_event path fault ∷ []
 
-    -- n items of a union vector from item i on
     abbrev pub union_items_events : ℕ → SeenUnions → List ℕ → ℕ → ℕ → List Event
     union_items_events index items path zero i = []
     union_items_events index items path (suc n) i =
@@ -304,11 +292,11 @@ module _ (E : TableEvents) where
         line (unions_line path items.count) ∷ union_items_events index items path items.count 0
     unions_events index path (Err fault) = fault_event path fault ∷ []
 
-    -- events only for a distance other than 0
+    -- only for a distance other than 0
     abbrev pub present : ℕ → List Event → List Event
     present distance events = if distance == 0 then [] else events
 
-    -- a field of this kind in this slot of a table
+    -- a field of this kind in this slot
     abbrev pub kind_events : Kind → ℕ → Seen → List ℕ → List Event
     kind_events (Union index) i table path =
         union_field_events index table.object path (union_at table i)
@@ -322,26 +310,24 @@ module _ (E : TableEvents) where
     kind_events kind i table path =
         present (Slot table.slots i) (place_events kind table.object (Slot table.slots i) path)
 
-    -- a table's fields
     abbrev pub fields_events : Seen → List ℕ → List FieldSchema → List Event
     fields_events table path [] = []
     fields_events table path (field ∷ fields) =
         kind_events field.kind field.slot table (field_path path (field_label field))
         ++ fields_events table path fields
 
-    -- a table of this schema, or its error
+    -- a table, or its error
     abbrev pub table_events : TableSchema → List ℕ → Result Seen (List ℕ) → List Event
     table_events shape path (Ok table) =
         line (table_line path (string_bytes shape.name))
         ∷ fields_events table path shape.fields.items
     table_events shape path (Err fault) = fault_event path fault ∷ []
 
-    -- the same, if the schema has it
     abbrev pub shape_events : Option TableSchema → List ℕ → ℕ → List ℕ → List Event
     shape_events None S f path = []
     shape_events (Some shape) S f path = table_events shape path (table_at S f)
 
--- the events of a table, with up to left - 1 levels of tables below it, so finitely many
+-- a table, with up to left - 1 levels of tables below it, so finitely many events
 unfoldable pub events : Schema → ℕ → TableEvents
 events schema zero index S f path = deep ∷ []
 events schema (suc left) index S f path =

@@ -9,7 +9,7 @@ abbrev pub begins_with : ℕ → List ℕ → Bool
 begins_with byte [] = false
 begins_with byte (first ∷ rest) = first == byte
 
--- Whether a line states an error: a `!` follows its first space. A path has no space.
+-- A `!` follows the first space. A path has no space.
 abbrev pub is_fault_line : List ℕ → Bool
 is_fault_line [] = false
 is_fault_line (byte ∷ rest) = if byte == 32 then begins_with 33 rest else is_fault_line rest
@@ -18,12 +18,10 @@ is_fault_line (byte ∷ rest) = if byte == 32 then begins_with 33 rest else is_f
 abbrev pub HasNoSpace : List ℕ → Type 0
 HasNoSpace bytes = AllByRecursion (λ byte. (byte == 32) ≡ false) bytes
 
--- an event other than such a line
 abbrev pub IsNoFault : Event → Type 0
 IsNoFault (line l) = is_fault_line l ≡ false
 IsNoFault deep = ⊤
 IsNoFault (float path number) = HasNoSpace path
 
--- no event is such a line
 abbrev pub HaveNoFault : List Event → Type 0
 HaveNoFault es = AllByRecursion IsNoFault es

@@ -6,7 +6,6 @@ use lib.Ieee.{Float, Format, binary32, binary64}
 use Rattle.planus_dump.specs.declared.line.Bits.{Bits}
 use Rattle.planus_dump.specs.declared.line.Bits.TheVariants as bits
 
--- the bits as a number, and the format that they are of
 abbrev pub number_of : Bits → ℕ
 number_of (bits.F32 n) = n
 number_of (bits.F64 n) = n
@@ -20,7 +19,7 @@ abbrev pub IsNan : Bits → Type 0
 IsNan (bits.F32 n) = 0x7f80_0000 < n % 0x8000_0000
 IsNan (bits.F64 n) = 0x7ff0_0000_0000_0000 < n % 0x8000_0000_0000_0000
 
--- the text is a decimal that reads back to the same bits
+-- a decimal that reads back to the same bits
 pub record ReadsBackTo (b : Bits) (text : List ℕ) : Type 0 where
   pub float : Float
   pub parsed : parse_float (format_of b) text ≡ Some float

@@ -15,7 +15,7 @@ use Rattle.planus_dump.specs.Dumped.{Dumped, events_of}
 use Rattle.planus_dump.specs.Schemas.{is_name, is_good}
 use Rattle.planus_dump.specs.declared.schemas.Schema.{Schema}
 
--- At a path without spaces, the line of an error is an error line, and no other line is.
+-- At a path without spaces, exactly the line of an error is an error line.
 pub record FaultLinesAreTold (path : List ℕ) : Type 0 where
   pub fault : (fault : List ℕ) → is_fault_line (fault_line path fault) ≡ true
   pub value : (text : List ℕ) → is_fault_line (value_line path text) ≡ false
@@ -33,12 +33,12 @@ pub record PathsHaveNoSpace : Type 0 where
       → HasNoSpace (field_path path name)
   pub item : (path : List ℕ) (i : ℕ) → HasNoSpace path → HasNoSpace (item_path path i)
 
--- The bytes of a finish from the reference to its root on: all of them, or those after the size.
+-- the bytes from the root's reference on: all of them, or those after the size
 abbrev pub piece_of : (switches : Switches) (steps : List Step) (given : Finish)
     → FinishHolds switches steps given → List ℕ
 piece_of switches steps given holds = drop (root_at holds.front) given.bytes
 
--- For a finish of any run, no event is an error, if the schema fits what its root's step wrote.
+-- No event of a finish is an error, if the schema fits its root.
 abbrev pub FinishesHaveNoFault : Type 0
 FinishesHaveNoFault =
     (switches : Switches) (steps : List Step) (given : Finish)

@@ -1,4 +1,4 @@
--- The lines of a dump, as bytes of UTF-8. A path is a string too.
+-- The lines of a dump, in UTF-8.
 use Rattle.std.specs.Prelude.{ℕ, ◌/◌, ◌%◌, nat_lt, ◌==◌, List, [], ◌∷◌, ◌++◌, codes}
 use Rattle.std.specs.Prelude.{Bool, true, false, ◌||◌, if◌then◌else◌}
 use Rattle.std.specs.Char.{encode_utf8, digit_char}
@@ -9,18 +9,18 @@ use Rattle.planus_dump.specs.declared.values.Value.{Value}
 use Rattle.planus_dump.specs.declared.values.Value.TheVariants.{Unsigned, Signed, Truth, Text}
 use Rattle.planus_dump.specs.declared.values.Value.TheVariants.{Bytes}
 
--- the path of a field, and the path of an item
+-- the path of a field
 abbrev pub field_path : List ℕ → List ℕ → List ℕ
 field_path path name = path ++ (codes "." ++ name)
 
 abbrev pub item_path : List ℕ → ℕ → List ℕ
 item_path path i = path ++ (codes "[" ++ (decimal i ++ codes "]"))
 
--- two hexadecimal digits of a byte, in lower case
+-- two hexadecimal digits, in lower case
 abbrev pub hex_of : ℕ → List ℕ
 hex_of byte = digit_char (byte / 16) ∷ digit_char (byte % 16) ∷ []
 
--- a character within quotes: `\` before a quote and `\`, `\x` and two digits below U+0020
+-- `\` before a quote and `\`, `\x` and two digits below U+0020
 abbrev pub escaped : ℕ → List ℕ
 escaped c =
     if nat_lt c 32 then 92 ∷ 120 ∷ hex_of c
@@ -30,12 +30,11 @@ escaped c =
 abbrev pub quoted : List ℕ → List ℕ
 quoted text = 34 ∷ [] ++ (flat_map escaped (chars text) ++ 34 ∷ [])
 
--- a byte vector: its bytes in hexadecimal, without spaces inside
+-- a byte vector in hexadecimal, without spaces
 abbrev pub bytes_text : List ℕ → List ℕ
 bytes_text [] = codes "bytes"
 bytes_text (byte ∷ bytes) = codes "bytes " ++ flat_map hex_of (byte ∷ bytes)
 
--- a bool
 abbrev pub truth_text : Bool → List ℕ
 truth_text true = codes "true"
 truth_text false = codes "false"
@@ -48,7 +47,7 @@ value_text (Truth b) = truth_text b
 value_text (Text text) = quoted text.now
 value_text (Bytes bytes) = bytes_text bytes.now
 
--- the lines of a value, of an error, and of what has parts
+-- the line of a value
 abbrev pub value_line : List ℕ → List ℕ → List ℕ
 value_line path text = path ++ (codes " = " ++ text)
 
@@ -70,7 +69,7 @@ unions_line path count = path ++ (codes ": unions " ++ decimal count)
 abbrev pub struct_line : List ℕ → List ℕ → List ℕ
 struct_line path name = path ++ (codes ": struct " ++ name)
 
--- the names of an enum's values in parentheses; nothing where there are none
+-- the names of an enum's values in parentheses
 abbrev pub spaced : List (List ℕ) → List ℕ
 spaced names = flat_map (λ name. 32 ∷ name) names
 

@@ -1,4 +1,4 @@
--- Steps, and the dump of what they finish.
+-- The dump of what steps finish.
 use Rattle.std.specs.Prelude.{◌≡◌, ℕ, List, [], ◌∷◌, slice_get, false, Vec, String}
 use Rattle.std.specs.Prelude.{Option, Some, None, Result, Ok, Err}
 use Rattle.std.specs.List.{AllByRecursion}
@@ -17,7 +17,7 @@ use Rattle.planus_dump.specs.declared.dumps.DumpError.{DumpError}
 use Rattle.planus_dump.specs.declared.runs.DumpRunError.{DumpRunError}
 use Rattle.planus_dump.specs.declared.runs.DumpRunError.TheVariants.{Replay, Dump}
 
--- the steps' first finish, and the result of its dump
+-- the result of the first finish's dump
 pub record DumpsFirst
     (switches : Switches) (steps : List Step) (schema : Schema) (budget : ℕ)
     (answer : Result (Vec (String Global) Global) DumpError) : Type 0 where
@@ -26,7 +26,7 @@ pub record DumpsFirst
   pub run : Replays switches steps (Ok (given ∷ others))
   pub dumped : Dumped schema given.bytes budget answer
 
--- the first finish has no error line in its dump, if the schema fits its root's step
+-- the dump has no error line, if the schema fits the root's step
 pub record DumpsFit
     (switches : Switches) (steps : List Step) (schema : Schema) (budget : ℕ)
     (lines : Vec (String Global) Global) : Type 0 where
@@ -37,7 +37,7 @@ pub record DumpsFit
       holds.front ≡ root_first → Fits schema steps holds.root
       → AllByRecursion (λ line. is_fault_line (string_bytes line) ≡ false) lines.items
 
--- the result for steps: the error of their run, none without a finish, or the first finish's result
+-- the error of the run, none without a finish, or the first finish's result
 abbrev pub DumpsRun :
     Switches → List Step → Schema → ℕ
     → Result (Option (Vec (String Global) Global)) DumpRunError → Type 0

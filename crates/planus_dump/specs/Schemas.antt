@@ -20,7 +20,6 @@ use Rattle.planus_dump.specs.declared.schemas.Fixed.TheVariants as fixed
 use Rattle.planus_dump.specs.declared.schemas.Item.{Item}
 use Rattle.planus_dump.specs.declared.schemas.Item.TheVariants.{Table}
 
--- the number of tables, and of unions
 abbrev pub table_count : Schema → ℕ
 table_count schema = length schema.tables.items
 
@@ -32,16 +31,16 @@ abbrev pub is_name_byte : ℕ → Bool
 is_name_byte byte =
     is_in_range 65 90 byte || is_in_range 97 122 byte || is_in_range 48 57 byte || byte == 95
 
--- a name has only such bytes, and at least one
+-- at least one such byte, and no others
 abbrev pub is_name : List ℕ → Bool
 is_name bytes = not (length bytes == 0) && list_all is_name_byte bytes
 
--- the schema has the table that an item names
+-- the schema has the item's table
 abbrev pub item_fits : ℕ → Item → Bool
 item_fits tables (Table index) = nat_lt index tables
 item_fits tables _ = true
 
--- the schema has the table or the union that a kind names
+-- the schema has the kind's table or union
 abbrev pub kind_fits : ℕ → ℕ → Kind → Bool
 kind_fits tables unions (One item) = item_fits tables item
 kind_fits tables unions (ListOf item) = item_fits tables item
@@ -54,7 +53,7 @@ kind_fits tables unions (FixedKind value) = true
 kind_fits tables unions (FixedList value) = true
 kind_fits tables unions (Nested index) = nat_lt index tables
 
--- a field has a name, and what its kind names is there
+-- a field has a name, and its kind fits
 abbrev pub field_fits : ℕ → ℕ → FieldSchema → Bool
 field_fits tables unions field =
     is_name (string_bytes field.name) && kind_fits tables unions field.kind
@@ -64,7 +63,7 @@ abbrev pub table_fits : ℕ → ℕ → TableSchema → Bool
 table_fits tables unions table =
     is_name (string_bytes table.name) && list_all (field_fits tables unions) table.fields.items
 
--- a union's variants: no tag is 0 or used twice, and each variant's table is there
+-- no tag is 0 or used twice, and each variant's table is there
 abbrev pub variants_fit : ℕ → List (ℕ × ℕ) → Bool
 variants_fit tables [] = true
 variants_fit tables (variant ∷ rest) =
@@ -75,7 +74,7 @@ variants_fit tables (variant ∷ rest) =
 abbrev pub union_fits : ℕ → Vec (ℕ × ℕ) Global → Bool
 union_fits tables variants = variants_fit tables variants.items
 
--- the schema has the enum or the struct that a value of a fixed size names
+-- the schema has the value's enum or struct
 abbrev pub fixed_fits : ℕ → ℕ → Fixed → Bool
 fixed_fits enums structs (fixed.Enum index) = nat_lt index enums
 fixed_fits enums structs (fixed.Struct index) = nat_lt index structs
@@ -90,7 +89,6 @@ abbrev pub fixed_kinds_fit : ℕ → ℕ → TableSchema → Bool
 fixed_kinds_fit enums structs table =
     list_all (λ field. fixed_kind_fits enums structs field.kind) table.fields.items
 
--- a struct has a name, and good fields
 abbrev pub struct_field_fits : ℕ → ℕ → StructFieldSchema → Bool
 struct_field_fits enums structs field =
     is_name (string_bytes field.name) && fixed_fits enums structs field.fixed
@@ -100,7 +98,7 @@ struct_fits enums structs shape =
     is_name (string_bytes shape.name)
     && list_all (struct_field_fits enums structs) shape.fields.items
 
--- what the schema says of values of a fixed size
+-- the same for all values of a fixed size
 abbrev pub fixed_values_fit : ℕ → ℕ → Schema → Bool
 fixed_values_fit enums structs schema =
     list_all (fixed_kinds_fit enums structs) schema.tables.items

@@ -1,4 +1,4 @@
--- The values of a dump's readers, in the terms of the definitions.
+-- The values of a dump's readers, in terms of the definitions.
 use Rattle.std.specs.Prelude.{◌≡◌, ◌≢◌, ℕ, ◌+◌, ◌*◌, ◌<◌, ◌≤◌, List, [], ◌∷◌, slice_index}
 use Rattle.std.specs.Prelude.{length, drop}
 use Rattle.std.specs.Prelude.{Option, Some, None, Result, Ok, Err}
@@ -31,22 +31,18 @@ abbrev pub answer_seen : {A B : Type 0} → (A → B) → Result A ErrorKind →
 answer_seen sees (Ok x) = Ok (sees x)
 answer_seen sees (Err kind) = Err (fault_text kind)
 
--- a table
 abbrev pub table_seen : Table → Seen
 table_seen table = record { object = table_object table; slots = table_slots table }
 
--- an optional field
 abbrev pub option_seen : {A B : Type 0} → (A → B) → Option A → Option B
 option_seen sees None = None
 option_seen sees (Some x) = Some (sees x)
 
--- a union, in the bytes of its table
 pub record IsUnionIn (object : List ℕ) (union : SeenUnion) (tagged : TaggedPlace) : Type 0 where
   pub tag : tagged_tag tagged ≡ union.tag
   pub bytes : place_bytes (tagged_place tagged) ≡ object
   pub offset : place_offset (tagged_place tagged) ≡ union.offset
 
--- the result for the union in a table's slots
 abbrev pub SeesUnion :
     List ℕ → Result (Option SeenUnion) (List ℕ) → Result (Option TaggedPlace) ErrorKind → Type 0
 SeesUnion object seen (Ok None) = seen ≡ Ok None
@@ -54,14 +50,13 @@ SeesUnion object seen (Ok (Some tagged)) =
     (union : SeenUnion) × (seen ≡ Ok (Some union)) × IsUnionIn object union tagged
 SeesUnion object seen (Err kind) = seen ≡ Err (fault_text kind)
 
--- the place of a slot's field in a table, none where the field is absent
+-- none where the field is absent
 abbrev pub SeesPlace : Seen → ℕ → Option Place → Type 0
 SeesPlace table i None = Slot table.slots i ≡ 0
 SeesPlace table i (Some place) =
     (Slot table.slots i ≢ 0) × (place_bytes place ≡ table.object)
     × (place_offset place ≡ Slot table.slots i)
 
--- a union vector
 abbrev pub unions_view : Unions → UnionView
 unions_view unions = union_view_of unions.vector
 
@@ -70,40 +65,36 @@ unions_seen unions =
     let view = unions_view unions in
     record { tags = view.tags; references = view.references; count = view.count }
 
--- union i of them; none out of bounds
+-- none out of bounds
 abbrev pub GetsUnion : UnionView → ℕ → Option TaggedPlace → Type 0
 GetsUnion view i None = view.count ≤ i
 GetsUnion view i (Some tagged) =
     (i < view.count)
     × IsUnionIn view.references (record { tag = slice_index view.tags i; offset = i * 4 }) tagged
 
--- a place is where it was asked for
 abbrev pub IsPosition : List ℕ → ℕ → Result Position ErrorKind → Type 0
 IsPosition S f (Ok position) = (slice_bytes position.slice ≡ S) × (position.offset ≡ f)
 IsPosition S f (Err kind) = ⊥
 
--- the bytes from f on, which are at least so many; else an error
+-- the bytes from f on, at least this many, or an error
 abbrev pub IsSliceFrom :
     List ℕ → ℕ → ℕ → Result SliceWithStartOffset ErrorKind → Type 0
 IsSliceFrom S f size (Ok slice) = (f + size ≤ length S) × (slice_bytes slice ≡ drop f S)
 IsSliceFrom S f size (Err kind) = (length S < f + size) × (kind ≡ InvalidOffset)
 
--- a vector of values
 abbrev pub values_seen : SliceWithStartOffset × ℕ → SeenItems
 values_seen values = record { bytes = slice_bytes values.0; count = values.1 }
 
--- a float, by its bits
 abbrev pub IsFloat : (ℕ → Bits) → Result ℕ (List ℕ) → Result Bits ErrorKind → Type 0
 IsFloat make said (Ok bits) = (n : ℕ) × (bits ≡ make n) × (said ≡ Ok n)
 IsFloat make said (Err kind) = said ≡ Err (fault_text kind)
 
--- the events of what was found at a path
 abbrev pub found_events : TableEvents → List ℕ → Found → List Event
 found_events E path (FoundValue value) = line (value_line path (value_text value)) ∷ []
 found_events E path (FoundFault kind) = fault_event path (fault_text kind) ∷ []
 found_events E path (FoundTable index place) = E index (place_bytes place) (place_offset place) path
 
--- what is at an item of these bytes, whatever the tables' events
+-- whatever the tables' events
 abbrev pub IsFound : Item → List ℕ → ℕ → Found → Type 0
 IsFound item S f found =
     (E : TableEvents) (path : List ℕ) → found_events E path found ≡ item_events E item S f path

@@ -11,7 +11,6 @@ use Rattle.planus_dump.specs.declared.schemas.StructFieldSchema.{StructFieldSche
 use Rattle.planus_dump.specs.declared.schemas.Fixed.{Fixed}
 use Rattle.planus_dump.specs.declared.schemas.Number.{Number}
 
--- a field: its slot, its name and its kind, and whether it is deprecated
 pub record FieldShape : Type 0 where
   pub slot : ℕ
   pub name : List ℕ
@@ -26,7 +25,6 @@ field_shape field = record {
   deprecated = field.deprecated;
 }
 
--- a table: its name and its fields
 pub record TableShape : Type 0 where
   pub name : List ℕ
   pub fields : List FieldShape
@@ -35,7 +33,7 @@ abbrev pub table_shape : TableSchema → TableShape
 table_shape shape =
     record { name = string_bytes shape.name; fields = map field_shape shape.fields.items }
 
--- the schema has these tables, these unions, no enum and no struct, and this root
+-- the schema has these tables and unions, no enum and no struct, and this root
 pub record HasShape
     (schema : Schema) (tables : List TableShape) (unions : List (List (ℕ × ℕ))) (root : ℕ)
     : Type 0 where
@@ -50,7 +48,7 @@ field_of slot name kind = record { slot = slot; name = name; kind = kind; deprec
 
 -- ---- values of a fixed size
 
--- an enum: its type, whether its values are flags, and their bits and names
+-- the values by their bits and names
 pub record EnumShape : Type 0 where
   pub number : Number
   pub flags : Bool
@@ -63,7 +61,6 @@ enum_shape shape = record {
   values = map (λ value. (value.0, string_bytes value.1)) shape.values.items;
 }
 
--- a field of a struct: its distance, its name, and how it is read
 pub record StructFieldShape : Type 0 where
   pub distance : ℕ
   pub name : List ℕ
@@ -73,7 +70,6 @@ abbrev pub struct_field_shape : StructFieldSchema → StructFieldShape
 struct_field_shape field =
     record { distance = field.distance; name = string_bytes field.name; fixed = field.fixed }
 
--- a struct: its name, its size and its fields
 pub record StructShape : Type 0 where
   pub name : List ℕ
   pub size : ℕ
@@ -86,7 +82,6 @@ struct_shape shape = record {
   fields = map struct_field_shape shape.fields.items;
 }
 
--- the schema has these tables, unions, enums and structs, and this root
 pub record HasShapes (schema : Schema) (tables : List TableShape) (unions : List (List (ℕ × ℕ)))
     (enums : List EnumShape) (structs : List StructShape) (root : ℕ) : Type 0 where
   pub tables_are : map table_shape schema.tables.items ≡ tables

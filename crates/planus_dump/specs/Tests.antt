@@ -1,4 +1,4 @@
--- What a reader tests, in order, with the messages: the clauses of `planus_read`.
+-- What a reader tests, in order: the clauses of `planus_read`.
 use Rattle.std.specs.Prelude.{ℕ, ◌+◌, ◌*◌, ◌%◌, nat_lt, nat_le, ◌==◌, int_le, pos}
 use Rattle.std.specs.Prelude.{List, [], ◌∷◌, length, take, drop, slice_index, codes}
 use Rattle.std.specs.Prelude.{Bool, ◌&&◌, if◌then◌else◌, Result, Ok, Err}
@@ -14,12 +14,11 @@ use Rattle.planus_read.specs.Reading.{target, count_at, items_at, signed_number,
 use Rattle.planus_read.specs.Reading.{vtable_size_at}
 use Rattle.planus_read.specs.Texts.{kind_text}
 
--- The message of an error. For UTF-8 the words after the colon are left out.
+-- For UTF-8 the words after the colon are left out.
 abbrev pub fault_text : ErrorKind → List ℕ
 fault_text (InvalidUtf8 source) = codes "Invalid utf-8"
 fault_text kind = kind_text kind
 
--- a test, and the message where it fails
 pub record Test : Type 0 where
   pub passes : Bool
   pub fault : List ℕ
@@ -27,36 +26,31 @@ pub record Test : Type 0 where
 abbrev pub test : Bool → ErrorKind → Test
 test passes kind = record { passes = passes; fault = fault_text kind }
 
--- the value where all tests pass, else the message of the first that fails
+-- the value, or the message of the first test that fails
 abbrev pub answered : {A : Type 0} → List Test → A → Result A (List ℕ)
 answered [] value = Ok value
 answered (first ∷ rest) value = if first.passes then answered rest value else Err first.fault
 
--- a number is in S
 abbrev pub number_test : List ℕ → ℕ → Width → Test
 number_test S position width = test (nat_le (position + byte_len width) (length S)) InvalidOffset
 
--- a reference to a count, and the tests after it
 abbrev pub head_tests : List ℕ → ℕ → List Test → List Test
 head_tests S f rest =
     number_test S f w32 ∷ test (nat_le (target S f) (length S)) InvalidOffset
     ∷ number_test S (target S f) w32 ∷ rest
 
--- the byte at the position exists and is 0
 abbrev pub is_zero_byte : List ℕ → ℕ → Bool
 is_zero_byte S position = nat_lt position (length S) && slice_index S position == 0
 
--- the bytes of a string or a byte vector
 abbrev pub content_at : List ℕ → ℕ → List ℕ
 content_at S f = take (count_at S f) (drop (items_at S f) S)
 
--- a string: a zero byte follows it, and it is UTF-8
+-- a zero byte follows, and the bytes are UTF-8
 abbrev pub text_tests : List ℕ → ℕ → List Test
 text_tests S f =
     head_tests S f (test (is_zero_byte S (items_at S f + count_at S f)) MissingNullTerminator
     ∷ record { passes = is_utf8 (content_at S f); fault = codes "Invalid utf-8" } ∷ [])
 
--- a byte vector, or a vector with items of this size, is in S
 abbrev pub vector_tests : List ℕ → ℕ → ℕ → List Test
 vector_tests S f stride =
     head_tests S f
@@ -66,7 +60,6 @@ abbrev pub byte_list_tests : List ℕ → ℕ → List Test
 byte_list_tests S f =
     head_tests S f (test (nat_le (items_at S f + count_at S f) (length S)) InvalidLength ∷ [])
 
--- a union vector: both parts are in S, and have equal counts
 abbrev pub union_vector_tests : List ℕ → ℕ → ℕ → List Test
 union_vector_tests S f g =
     head_tests S f (head_tests S g
@@ -76,7 +69,7 @@ union_vector_tests S f g =
     (UnionVectorLengthsMismatched (count_at S f) (count_at S g))
     ∷ []))
 
--- the object at a position: its word leads to a vtable in S, of an even size from 4 on
+-- its word leads to a vtable in S, of an even size from 4 on
 abbrev pub object_tests : List ℕ → ℕ → List Test
 object_tests S object =
     number_test S object w32 ∷ test (int_le (signed_number S object) (pos object)) InvalidOffset
@@ -85,7 +78,6 @@ object_tests S object =
     (InvalidVtableLength (vtable_size_at S object))
     ∷ test (nat_le (vtable_at S object + vtable_size_at S object) (length S)) InvalidLength ∷ []
 
--- a table
 abbrev pub table_tests : List ℕ → ℕ → List Test
 table_tests S f =
     number_test S f w32 ∷ test (nat_le (target S f) (length S)) InvalidOffset

@@ -1,4 +1,4 @@
--- A view of a buffer: the lines of its dump, as far as they are wanted.
+-- A dump as far as it is wanted.
 use Rattle.std.specs.Prelude.{◌≡◌, ◌≢◌, ℕ, ◌+◌, ◌<◌, ◌≤◌, List, [], ◌∷◌, length, map, true, false}
 use Rattle.std.specs.Prelude.{Result, Ok, Err}
 use Rattle.std.specs.String.{string_bytes}
@@ -13,7 +13,7 @@ use Rattle.planus_dump.specs.declared.views.End.{End}
 use Rattle.planus_dump.specs.declared.views.End.TheVariants as ends
 use Rattle.planus_dump.specs.declared.views.FirstLines.{FirstLines}
 
--- how many bytes the line of an event counts; the text of a float counts 32
+-- the bytes of a line; the text of a float counts 32
 abbrev pub cost : Event → ℕ
 cost (line l) = length l
 cost deep = 0
@@ -23,14 +23,13 @@ abbrev pub costs : List Event → ℕ
 costs [] = 0
 costs (e ∷ es) = cost e + costs es
 
--- the lines of the first events, not more than wanted; the rest follows
+-- the lines of the first events, not more than wanted
 pub record ViewsPart (es : List Event) (lines : List (List ℕ)) (rest : List Event) (most size : ℕ)
     : Type 0 where
   pub begin : Begin es lines rest
   pub few : length lines ≤ most
   pub small : costs begin.front ≤ size
 
--- why the lines end
 abbrev pub EndsBy : End → List Event → List (List ℕ) → ℕ → ℕ → Type 0
 EndsBy ends.Whole es lines most size = ViewsPart es lines [] most size
 EndsBy ends.TooDeep es lines most size =
@@ -43,7 +42,7 @@ EndsBy ends.TooManyBytes es lines most size =
     × (part : ViewsPart es lines (next ∷ rest) most size)
     × (size < costs part.begin.front + cost next)
 
--- The result of a view: `BadSchema` exactly for a bad schema, else the lines and why they end.
+-- `BadSchema` exactly for a bad schema, else the lines and why they end.
 abbrev pub Viewed : Schema → List ℕ → ℕ → ℕ → Result FirstLines DumpError → Type 0
 Viewed schema bytes most size (Ok view) =
     (is_good schema ≡ true)

@@ -14,7 +14,7 @@ use std::alloc::{AllocError, Global};
 use std::error::Error;
 use std::fmt;
 
-/// The greatest depth of a table, the root having depth 1.
+/// The root has depth 1.
 const GREATEST_DEPTH: usize = 64;
 
 /// Why there is no dump.
@@ -22,12 +22,12 @@ const GREATEST_DEPTH: usize = 64;
 pub enum DumpError {
     /// An allocation failed.
     OutOfMemory,
-    /// The schema names a table, a union, an enum or a struct that it doesn't have, has a union
-    /// with a tag 0 or a tag used twice, or a name that is empty or has a byte other than ASCII
-    /// letters, digits and `_`.
+    /// The schema names a table, a union, an enum or a struct that it doesn't have, a union has a
+    /// tag 0 or a tag twice, or a name is empty or has a byte other than ASCII letters, digits and
+    /// `_`.
     BadSchema,
-    /// A table at depth 65, or a struct in 64 others, is reached before a line past the budget. The
-    /// root has depth 1.
+    /// A table at depth 65, or a struct in 64 others, comes before a line past the budget. The root
+    /// has depth 1.
     TooDeep,
     /// There are more lines than the budget.
     TooManyLines,
@@ -63,8 +63,7 @@ impl From<AllocError> for DumpError {
     }
 }
 
-/// Walks over the tables that are reached from the root of a buffer. `room` is the greatest number
-/// of bytes of its lines, if that is bounded.
+/// `room` is the greatest number of bytes of its lines.
 pub(crate) fn walk_from_root(
     alloc: Global,
     schema: &Schema,
@@ -81,8 +80,8 @@ pub(crate) fn walk_from_root(
     Ok(out)
 }
 
-/// Returns the lines of the tables that are reached from the root of a buffer, which begins with
-/// the reference to it. The path of the root is `root`. An error in the bytes is a line of its own.
+/// Returns the lines of the tables that are reached from the root of a buffer. The path of the root
+/// is `root`. An error in the bytes is a line of its own.
 ///
 /// Time and memory are linear in the budget and the bytes, as a test shows.
 pub fn dump(

@@ -7,7 +7,6 @@ ghost use Rattle.planus_dump.specs.Events.{has_value as has_value_lem, names_in}
 use crate::schemas::EnumSchema;
 use std::alloc::{AllocError, Global};
 
-/// Returns whether a number is this value, or has this flag.
 fn has_value(flags: bool, number: u64, value: u64) -> bool
     ensures { result ≡ has_value_lem flags number value }
 {
@@ -18,7 +17,6 @@ fn has_value(flags: bool, number: u64, value: u64) -> bool
     }
 }
 
-/// Returns the names of the values that a number has, in parentheses.
 pub fn names_of(alloc: Global, shape: &EnumSchema, number: u64) -> Result<String, AllocError>
     ensures { IfOk result (λ text. string_bytes text ≡ names_text
         (names_in shape.now.flags number shape.now.values.items)) }

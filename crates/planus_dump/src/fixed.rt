@@ -1,4 +1,3 @@
-//! Values of a fixed size.
 ghost use Rattle.std.specs.Prelude.{◌≡◌, ◌-◌, OnOk, slice_get};
 ghost use Rattle.std.specs.Int.{byte_len};
 ghost use Rattle.planus_read.specs.Places.{place_bytes, place_offset};
@@ -21,7 +20,6 @@ use crate::values::Leaf;
 use planus::Place;
 use std::alloc::AllocError;
 
-/// The greatest number of structs in one another.
 const GREATEST_NESTING: usize = 64;
 
 fn leaf_of(number: Number) -> Leaf
@@ -50,7 +48,6 @@ fn number_size(number: Number) -> usize
     }
 }
 
-/// Returns the size in bytes of a value of a fixed size.
 fn fixed_size(schema: &Schema, fixed: Fixed) -> usize
     ensures { result ≡ fixed_size_lem schema.now fixed }
 {
@@ -70,7 +67,6 @@ fn fixed_size(schema: &Schema, fixed: Fixed) -> usize
     }
 }
 
-/// Dumps an integer or a bool.
 fn dump_leaf(out: &mut LineSink, path: &str, leaf: Leaf, place: Place<'_>) -> Result<(), AllocError>
     ensures { OnOk result (shown out.new ≡ feed (shown out.old)
         (leaf_events leaf (place_bytes place.entry) (place_offset place.entry) path.now)) }
@@ -81,7 +77,6 @@ fn dump_leaf(out: &mut LineSink, path: &str, leaf: Leaf, place: Place<'_>) -> Re
     }
 }
 
-/// Dumps a number of an enum.
 fn dump_enum(
     out: &mut LineSink,
     path: &str,
@@ -103,7 +98,6 @@ fn dump_enum(
     out.put_named(path, value, names.as_str())
 }
 
-/// Dumps a value of a fixed size, with up to `left` levels of structs in it.
 #[cycle(fixed)]
 fn dump_fixed(
     schema: &Schema,
@@ -136,7 +130,6 @@ fn dump_fixed(
     }
 }
 
-/// Dumps the struct at a place, with up to `left - 1` levels of structs in it.
 #[cycle(fixed)]
 fn dump_struct(
     schema: &Schema,
@@ -159,7 +152,6 @@ fn dump_struct(
     }
 }
 
-/// Dumps a struct of this schema, with up to `left` levels of structs in it.
 #[cycle(fixed)]
 fn dump_struct_shape(
     schema: &Schema,
@@ -189,7 +181,6 @@ fn dump_struct_shape(
     Ok(())
 }
 
-/// Dumps a value of a fixed size.
 pub fn dump_value(
     schema: &Schema,
     out: &mut LineSink,
@@ -203,7 +194,6 @@ pub fn dump_value(
     dump_fixed(schema, out, GREATEST_NESTING, path, fixed, place)
 }
 
-/// Dumps the vector of values of a fixed size to which the reference at a place leads.
 pub fn dump_values(
     schema: &Schema,
     out: &mut LineSink,

@@ -20,7 +20,6 @@ fn is_nan(bits: Bits) -> bool
     }
 }
 
-/// Returns the decimal that `std` prints.
 fn decimal_text(alloc: Global, bits: Bits) -> Result<String, AllocError> {
     match bits {
         Bits::F32(bits) => {
@@ -34,7 +33,6 @@ fn decimal_text(alloc: Global, bits: Bits) -> Result<String, AllocError> {
     }
 }
 
-/// Returns whether a text reads back to the same bits.
 fn reads_back(text: &str, bits: Bits) -> bool
     ensures { IsTrue result → ReadsBackTo bits text.now }
 {
@@ -59,8 +57,8 @@ fn bits_text(alloc: Global, bits: Bits) -> Result<String, AllocError>
     }
 }
 
-/// Returns a float as text: the shortest decimal that reads back to the same bits, as `std` prints
-/// it, `nan`, `inf` or `-inf`.
+/// The shortest decimal that reads back to the same bits, as `std` prints it, `nan`, `inf` or
+/// `-inf`.
 fn float_text(alloc: Global, bits: Bits) -> Result<String, AllocError>
     ensures { IfOk result (λ text. PrintsFloat bits (string_bytes text)) }
 {
@@ -74,7 +72,6 @@ fn float_text(alloc: Global, bits: Bits) -> Result<String, AllocError>
     bits_text(alloc, bits)
 }
 
-/// Returns a line as text.
 fn line_text(alloc: Global, line: Line) -> Result<String, AllocError>
     ensures { IfOk result (λ text. Shows (event_of line) (string_bytes text)) }
 {
@@ -87,7 +84,6 @@ fn line_text(alloc: Global, line: Line) -> Result<String, AllocError>
     }
 }
 
-/// Returns lines as text.
 pub fn line_texts(alloc: Global, lines: Vec<Line>) -> Result<Vec<String>, AllocError>
     ensures { IfOk result (λ texts. AreShown (map event_of lines.items)
         (map string_bytes texts.items)) }

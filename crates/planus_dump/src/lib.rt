@@ -1,4 +1,5 @@
 //! Prints the tables, fields and values of a buffer, line by line, by a schema that is a value.
+//! Start with [`dump`] and [`Schema`].
 #![tactic(auto)]
 
 mod dumps;

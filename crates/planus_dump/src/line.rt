@@ -3,14 +3,12 @@ ghost use Rattle.std.specs.Prelude.{◌≡◌};
 ghost use Rattle.planus_dump.specs.Views.{cost};
 ghost use Rattle.planus_dump.specs.inner.Shown.{event_of};
 
-/// The bits of a float.
 #[derive(Clone, Copy)]
 pub enum Bits {
     F32(u32),
     F64(u64),
 }
 
-/// A line, or a path with the float that is printed after it.
 #[derive(Drop)]
 pub enum Line {
     Text(String),
@@ -18,7 +16,7 @@ pub enum Line {
 }
 
 impl Line {
-    /// Returns how many bytes the line counts: its own, or those of the path, ` = ` and 32.
+    /// A line's own bytes, or those of the path, ` = ` and 32.
     pub fn size(&self) -> usize
         ensures { result ≡ cost (event_of self.now) }
     {

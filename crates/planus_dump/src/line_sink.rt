@@ -15,7 +15,6 @@ use crate::values::Value;
 use planus::errors::ErrorKind;
 use std::alloc::{AllocError, Global};
 
-/// Whether the walk goes on.
 #[derive(Clone, Copy)]
 pub enum Stop {
     Going,
@@ -24,8 +23,6 @@ pub enum Stop {
     TooLong,
 }
 
-/// The lines so far, their greatest number, how many bytes more they may have, if that is bounded,
-/// and whether the walk goes on.
 #[derive(Drop)]
 pub struct LineSink {
     pub alloc: Global,
@@ -35,7 +32,6 @@ pub struct LineSink {
     pub stop: Stop,
 }
 
-/// Returns a value as text.
 fn value_string(alloc: Global, value: Value<'_>) -> Result<String, AllocError>
     ensures { IfOk result (λ text. string_bytes text ≡ value_text value.entry) }
 {
@@ -50,7 +46,6 @@ fn value_string(alloc: Global, value: Value<'_>) -> Result<String, AllocError>
 }
 
 impl LineSink {
-    /// Creates a sink with no lines.
     pub fn new(alloc: Global, budget: usize, room: Option<usize>) -> LineSink
         ensures { shown result ≡ begin budget room }
     {
@@ -63,14 +58,12 @@ impl LineSink {
         }
     }
 
-    /// Returns whether the walk is over.
     pub fn is_stopped(&self) -> bool
         ensures { IsStopped self.now result }
     {
         !matches!(self.stop, Stop::Going)
     }
 
-    /// Adds a line, or stops where there is no room for its bytes.
     fn put_in_room(&mut self, line: Line) -> Result<(), AllocError>
         ensures { OnOk result (shown self.new
             ≡ by_room (shown self.old) (event_of line) self.old.room) }
@@ -87,7 +80,6 @@ impl LineSink {
         Ok(())
     }
 
-    /// Adds a line, or stops where the budget is used up.
     fn put_line(&mut self, line: Line) -> Result<(), AllocError>
         ensures { OnOk result (shown self.new ≡ step (shown self.old) (event_of line)) }
     {
@@ -103,14 +95,12 @@ impl LineSink {
         }
     }
 
-    /// Adds a line of text.
     fn put(&mut self, text: String) -> Result<(), AllocError>
         ensures { OnOk result (shown self.new ≡ step (shown self.old) (line (string_bytes text))) }
     {
         self.put_line(Line::Text(text))
     }
 
-    /// Adds the line of a float.
     pub fn put_float(&mut self, path: &str, bits: Bits) -> Result<(), AllocError>
         ensures { OnOk result (shown self.new ≡ step (shown self.old) (float path.now bits)) }
     {
@@ -118,7 +108,6 @@ impl LineSink {
         self.put_line(Line::Float(path, bits))
     }
 
-    /// Adds the line of a struct.
     pub fn put_struct(&mut self, path: &str, name: &str) -> Result<(), AllocError>
         ensures { OnOk result (shown self.new
             ≡ step (shown self.old) (line (struct_line path.now name.now))) }
@@ -126,7 +115,6 @@ impl LineSink {
         self.put(format!(in self.alloc; "{path}: struct {name}")?)
     }
 
-    /// Stops at a table that is too deep.
     pub fn put_deep(&mut self)
         ensures { shown self.new ≡ step (shown self.old) deep }
     {
@@ -135,7 +123,6 @@ impl LineSink {
         }
     }
 
-    /// Adds the line of a table.
     pub fn put_table(&mut self, path: &str, name: &str) -> Result<(), AllocError>
         ensures { OnOk result (shown self.new
             ≡ step (shown self.old) (line (table_line path.now name.now))) }
@@ -143,7 +130,6 @@ impl LineSink {
         self.put(format!(in self.alloc; "{path}: table {name}")?)
     }
 
-    /// Adds the line of a vector with its count.
     pub fn put_list(&mut self, path: &str, count: usize) -> Result<(), AllocError>
         ensures { OnOk result (shown self.new
             ≡ step (shown self.old) (line (list_line path.now count))) }
@@ -151,7 +137,6 @@ impl LineSink {
         self.put(format!(in self.alloc; "{path}: list {count}")?)
     }
 
-    /// Adds the line of a union with this tag.
     pub fn put_union(&mut self, path: &str, tag: u8) -> Result<(), AllocError>
         ensures { OnOk result (shown self.new
             ≡ step (shown self.old) (line (union_line path.now tag))) }
@@ -159,7 +144,6 @@ impl LineSink {
         self.put(format!(in self.alloc; "{path}: union {tag}")?)
     }
 
-    /// Adds the line of a union vector with its count.
     pub fn put_unions(&mut self, path: &str, count: usize) -> Result<(), AllocError>
         ensures { OnOk result (shown self.new
             ≡ step (shown self.old) (line (unions_line path.now count))) }
@@ -167,7 +151,6 @@ impl LineSink {
         self.put(format!(in self.alloc; "{path}: unions {count}")?)
     }
 
-    /// Adds the line of a value.
     pub fn put_value(&mut self, path: &str, value: Value<'_>) -> Result<(), AllocError>
         ensures { OnOk result (shown self.new
             ≡ step (shown self.old) (line (value_line path.now (value_text value.entry)))) }
@@ -176,7 +159,6 @@ impl LineSink {
         self.put(format!(in self.alloc; "{path} = {text}")?)
     }
 
-    /// Adds the line of an enum's number, with the names of its values.
     pub fn put_named(&mut self, path: &str, value: Value<'_>, names: &str) -> Result<(), AllocError>
         ensures { OnOk result (shown self.new ≡ step (shown self.old)
             (line (value_line path.now (value_text value.entry ++ names.now)))) }
@@ -185,7 +167,6 @@ impl LineSink {
         self.put(format!(in self.alloc; "{path} = {text}{names}")?)
     }
 
-    /// Adds the line of an error.
     pub fn put_fault(&mut self, path: &str, kind: ErrorKind) -> Result<(), AllocError>
         ensures { OnOk result (shown self.new
             ≡ step (shown self.old) (line (fault_line path.now (fault_text kind)))) }

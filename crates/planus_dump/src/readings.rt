@@ -24,8 +24,6 @@ pub const TYPE: &str = "Table";
 
 pub const METHOD: &str = "dump";
 
-/// What is at a place: a value, an error, or a table at this index of the schema, to be read from
-/// there.
 #[derive(Clone, Copy)]
 pub enum Found<'buf> {
     Value(Value<'buf>),
@@ -62,7 +60,6 @@ pub fn value_at<'buf>(place: Place<'buf>, leaf: Leaf) -> Result<Value<'buf>, Err
     }
 }
 
-/// Returns the scalar at a place, or its error.
 pub fn leaf_found<'buf>(place: Place<'buf>, leaf: Leaf) -> Found<'buf>
     ensures { (E : TableEvents) (path : List ℕ) → found_events E path result
         ≡ leaf_events leaf (place_bytes place.entry) (place_offset place.entry) path }
@@ -73,7 +70,6 @@ pub fn leaf_found<'buf>(place: Place<'buf>, leaf: Leaf) -> Found<'buf>
     }
 }
 
-/// Returns the item at a place.
 pub fn item_found<'buf>(place: Place<'buf>, item: Item) -> Found<'buf>
     ensures { IsFound item (place_bytes place.entry) (place_offset place.entry) result }
 {
@@ -90,7 +86,6 @@ pub fn item_found<'buf>(place: Place<'buf>, item: Item) -> Found<'buf>
     }
 }
 
-/// A place whose slice and offset can be had.
 #[derive(Clone, Copy)]
 pub struct Position<'buf> {
     slice: SliceWithStartOffset<'buf>,
@@ -110,7 +105,6 @@ impl<'buf> TableRead<'buf> for Position<'buf> {
     }
 }
 
-/// Returns the place at an offset of a slice.
 pub fn place_in<'buf>(slice: SliceWithStartOffset<'buf>, offset: usize) -> Place<'buf>
     ensures bytes { place_bytes result ≡ slice_bytes slice.entry }
     ensures offset { place_offset result ≡ offset }
@@ -121,7 +115,6 @@ pub fn place_in<'buf>(slice: SliceWithStartOffset<'buf>, offset: usize) -> Place
     }
 }
 
-/// Returns the slice from a place on, which has at least `size` bytes.
 pub fn slice_from<'buf>(
     place: Place<'buf>,
     size: usize,
@@ -136,8 +129,6 @@ pub fn slice_from<'buf>(
     Ok(slice)
 }
 
-/// Returns the slice from the first item on of the vector to which the reference at a place leads,
-/// and the number of its items, which have `size` bytes each.
 pub fn read_values<'buf>(
     place: Place<'buf>,
     size: usize,
@@ -154,7 +145,6 @@ pub fn read_values<'buf>(
     }
 }
 
-/// Returns the bits of the integer at a place.
 pub fn read_bits(place: Place<'_>, number: Number) -> Result<u64, ErrorKind>
     ensures { answer_seen (λ bits. bits) result
         ≡ bits_at (number_width number) (place_bytes place.entry) (place_offset place.entry) }
@@ -167,7 +157,6 @@ pub fn read_bits(place: Place<'_>, number: Number) -> Result<u64, ErrorKind>
     }
 }
 
-/// Returns the float of 4 bytes at a place, by its bits.
 pub fn single_at(place: Place<'_>) -> Result<Bits, ErrorKind>
     ensures { IsFloat Bits.F32 (bits_at w32 (place_bytes place.entry) (place_offset place.entry))
         result }
@@ -175,7 +164,6 @@ pub fn single_at(place: Place<'_>) -> Result<Bits, ErrorKind>
     Ok(Bits::F32(place.read::<u32>()?))
 }
 
-/// Returns the float of 8 bytes at a place, by its bits.
 pub fn double_at(place: Place<'_>) -> Result<Bits, ErrorKind>
     ensures { IsFloat Bits.F64 (bits_at w64 (place_bytes place.entry) (place_offset place.entry))
         result }
@@ -183,7 +171,6 @@ pub fn double_at(place: Place<'_>) -> Result<Bits, ErrorKind>
     Ok(Bits::F64(place.read::<u64>()?))
 }
 
-/// Returns the table to which the reference at a place leads.
 pub fn read_table(place: Place<'_>) -> Result<Table<'_>, ErrorKind>
     ensures { answer_seen table_seen result
         ≡ table_at (place_bytes place.entry) (place_offset place.entry) }
@@ -191,7 +178,6 @@ pub fn read_table(place: Place<'_>) -> Result<Table<'_>, ErrorKind>
     place.read::<Table<'_>>()
 }
 
-/// Returns the place of a slot's field, or `None` where it is absent.
 pub fn field_place<'buf>(table: Table<'buf>, slot: usize) -> Option<Place<'buf>>
     ensures { SeesPlace (table_seen table.entry) slot result }
 {
@@ -201,7 +187,6 @@ pub fn field_place<'buf>(table: Table<'buf>, slot: usize) -> Option<Place<'buf>>
     }
 }
 
-/// Returns the union of a slot and the next, or `None` where there is none.
 pub fn read_union<'buf>(
     table: Table<'buf>,
     slot: usize,

@@ -4,14 +4,14 @@
 /// digits and `_`.
 #[derive(Debug, Drop)]
 pub struct Schema {
-    /// The tables, which items name by their indices here.
+    /// The tables, which items name by index.
     pub tables: Vec<TableSchema>,
-    /// The variants of the unions, which kinds name by their indices here: a tag above 0, used
-    /// once, and the index of the variant's table.
+    /// The variants of the unions, which kinds name by index: a tag above 0, used once, and the
+    /// index of the variant's table.
     pub unions: Vec<Vec<(u8, usize)>>,
-    /// The enums, which fixed values name by their indices here.
+    /// The enums, which fixed values name by index.
     pub enums: Vec<EnumSchema>,
-    /// The structs, which fixed values name by their indices here.
+    /// The structs, which fixed values name by index.
     pub structs: Vec<StructSchema>,
     /// The index of the root's table.
     pub root: usize,
@@ -20,22 +20,22 @@ pub struct Schema {
 /// A table.
 #[derive(Debug, Drop)]
 pub struct TableSchema {
-    /// Its name.
+    /// The name.
     pub name: String,
-    /// Its fields, in the order in which they are dumped.
+    /// The fields, in the order in which they are dumped.
     pub fields: Vec<FieldSchema>,
 }
 
 /// A field of a table.
 #[derive(Debug, Drop)]
 pub struct FieldSchema {
-    /// Its slot in the vtable, from 0 on. A union or a union vector has this slot and the next.
+    /// The slot in the vtable, from 0 on. A union or a union vector has this slot and the next.
     pub slot: usize,
-    /// Its name.
+    /// The name.
     pub name: String,
-    /// How it is read.
+    /// How the field is read.
     pub kind: Kind,
-    /// Whether `(deprecated)` stands after its name.
+    /// Whether `(deprecated)` is printed after the name.
     pub deprecated: bool,
 }
 
@@ -44,31 +44,31 @@ pub struct FieldSchema {
 pub struct EnumSchema {
     /// The type of its numbers.
     pub number: Number,
-    /// Whether its values are flags, each a power of two, and a number has several of them.
+    /// Whether the values are flags, each a power of two, of which a number has several.
     pub flags: bool,
-    /// Its values, each by its bits as an unsigned number and its name.
+    /// Each value's bits as an unsigned number, and its name.
     pub values: Vec<(u64, String)>,
 }
 
 /// A struct.
 #[derive(Debug, Drop)]
 pub struct StructSchema {
-    /// Its name.
+    /// The name.
     pub name: String,
-    /// Its size in bytes.
+    /// The size in bytes.
     pub size: usize,
-    /// Its fields, in the order in which they are dumped.
+    /// The fields, in the order in which they are dumped.
     pub fields: Vec<StructFieldSchema>,
 }
 
 /// A field of a struct.
 #[derive(Debug, Drop)]
 pub struct StructFieldSchema {
-    /// Its distance from the first byte of the struct, in bytes.
+    /// The distance from the first byte of the struct, in bytes.
     pub distance: usize,
-    /// Its name.
+    /// The name.
     pub name: String,
-    /// How it is read.
+    /// How the field is read.
     pub fixed: Fixed,
 }
 
@@ -85,16 +85,15 @@ pub enum Kind {
     Bytes,
     /// A vector of items.
     List(Item),
-    /// The union at this index of the schema.
+    /// The union at this index.
     Union(usize),
-    /// A vector of the union at this index of the schema.
+    /// A vector of the union at this index.
     UnionVector(usize),
     /// A value of a fixed size.
     Fixed(Fixed),
     /// A vector of such values.
     FixedList(Fixed),
-    /// A byte vector that is a buffer of its own, whose root is the table at this index of the
-    /// schema.
+    /// A byte vector that is a buffer, whose root is the table at this index.
     Nested(usize),
 }
 
@@ -117,11 +116,11 @@ pub enum Item {
     Bool,
     /// A string.
     Text,
-    /// The table at this index of the schema.
+    /// The table at this index.
     Table(usize),
 }
 
-/// A value of a fixed size, which stands in a table, a struct or a vector itself.
+/// A value of a fixed size, stored in a table, a struct or a vector itself.
 #[derive(Clone, Copy, Debug)]
 pub enum Fixed {
     /// An integer.
@@ -132,9 +131,9 @@ pub enum Fixed {
     F32,
     /// A float of 8 bytes.
     F64,
-    /// The enum at this index of the schema.
+    /// The enum at this index.
     Enum(usize),
-    /// The struct at this index of the schema.
+    /// The struct at this index.
     Struct(usize),
 }
 

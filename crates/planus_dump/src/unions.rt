@@ -9,13 +9,11 @@ use planus::errors::ErrorKind;
 use planus::table_reader::Table;
 use planus::{TaggedPlace, UnionVector};
 
-/// A union vector, the variants of which are chosen later.
 #[derive(Clone, Copy)]
 pub struct Unions<'buf> {
     pub vector: UnionVector<'buf, TaggedPlace<'buf>>,
 }
 
-/// Returns the union vector of a slot and the next, or `None` where there is none.
 pub fn read_unions<'buf>(table: Table<'buf>, slot: usize) -> Result<Option<Unions<'buf>>, ErrorKind>
     ensures { answer_seen (option_seen unions_seen) result
         ≡ unions_at (table_seen table.entry) slot }
@@ -28,14 +26,12 @@ pub fn read_unions<'buf>(table: Table<'buf>, slot: usize) -> Result<Option<Union
 }
 
 impl<'buf> Unions<'buf> {
-    /// Returns the number of unions.
     pub fn len(&self) -> usize
         ensures { result ≡ (unions_view self.now).count }
     {
         self.vector.len()
     }
 
-    /// Returns the union at an index, or `None` out of bounds.
     pub fn get(&self, i: usize) -> Option<TaggedPlace<'buf>>
         ensures { GetsUnion (unions_view self.now) i result }
     {

@@ -167,7 +167,6 @@ fn fixed_values_fit_in(schema: &Schema) -> bool
         && structs_fit_in(schema.structs.as_slice(), enums, structs)
 }
 
-/// Returns whether a schema is good.
 pub fn is_good_schema(schema: &Schema) -> bool
     ensures { result ≡ is_good schema.now }
 {

@@ -1,6 +1,5 @@
 //! Scalars.
 
-/// The kind of a scalar.
 #[derive(Clone, Copy)]
 pub enum Leaf {
     U8,
@@ -16,7 +15,6 @@ pub enum Leaf {
     Bytes,
 }
 
-/// A scalar, as it is printed.
 #[derive(Clone, Copy)]
 pub enum Value<'buf> {
     Unsigned(u64),

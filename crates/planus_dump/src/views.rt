@@ -28,10 +28,9 @@ pub struct FirstLines {
     pub end: End,
 }
 
-/// Returns the first lines that [`dump`](crate::dump) would return, at most `most` lines and at
-/// most `size` bytes, where the text of a float counts as 32 bytes.
-///
-/// The error is [`DumpError::OutOfMemory`] or [`DumpError::BadSchema`].
+/// Returns the first lines that [`dump`](crate::dump) would return, at most `most` lines and `size`
+/// bytes, where the text of a float counts as 32 bytes. Fails with [`DumpError::OutOfMemory`] or
+/// [`DumpError::BadSchema`].
 pub fn view(
     alloc: Global,
     schema: &Schema,

@@ -24,7 +24,6 @@ use planus::table_reader::Table;
 use planus::{Place, SliceWithStartOffset, TaggedPlace};
 use std::alloc::{AllocError, Global};
 
-/// Dumps the table to which the reference at a place leads, with up to `left - 1` levels below it.
 #[cycle(walk)]
 pub fn dump_table(
     schema: &Schema,
@@ -48,7 +47,6 @@ pub fn dump_table(
     }
 }
 
-/// Dumps a table of this schema, with up to `left` levels below it.
 #[cycle(walk)]
 fn dump_shape(
     schema: &Schema,
@@ -76,7 +74,6 @@ fn dump_shape(
     Ok(())
 }
 
-/// Returns the size in bytes of an item of a vector.
 fn stride_of(item: Item) -> usize
     ensures { result ≡ stride_lem item }
 {
@@ -88,7 +85,6 @@ fn stride_of(item: Item) -> usize
     }
 }
 
-/// Returns the path of a field.
 fn field_path(alloc: Global, path: &str, field: &FieldSchema) -> Result<String, AllocError>
     ensures { IfOk result (λ text. string_bytes text
         ≡ field_path_lem path.now (field_label field.now)) }
@@ -117,7 +113,6 @@ fn dump_field(
     dump_kind(schema, out, left, path.as_str(), table, field)
 }
 
-/// Dumps a field at its path.
 #[cycle(walk)]
 fn dump_kind(
     schema: &Schema,
@@ -171,7 +166,6 @@ fn dump_found(
     }
 }
 
-/// Dumps a byte vector that is a buffer: its root, or its bytes where that can't be read.
 #[cycle(walk)]
 fn dump_nested(
     schema: &Schema,
@@ -192,7 +186,6 @@ fn dump_nested(
     }
 }
 
-/// Dumps a field that has one place: all but a union, a union vector and values of a fixed size.
 #[cycle(walk)]
 fn dump_place(
     schema: &Schema,
@@ -220,7 +213,6 @@ fn dump_place(
     }
 }
 
-/// Dumps the vector of items to which the reference at a place leads.
 #[cycle(walk)]
 fn dump_items(
     schema: &Schema,

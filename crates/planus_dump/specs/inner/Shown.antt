@@ -10,13 +10,11 @@ use Rattle.planus_dump.specs.declared.line_sink.Stop.{Stop}
 use Rattle.planus_dump.specs.declared.line_sink.Stop.TheVariants.{Going, TooDeep, TooMany, TooLong}
 use Rattle.planus_dump.specs.declared.line_sink.LineSink.{LineSink}
 
--- the event of a line
 abbrev pub event_of : Line → Event
 event_of (Text text) = line (string_bytes text)
 event_of (Float path number) = float (string_bytes path) number
 
--- the events of the lines so far, their greatest number, how many bytes more they may have, and
--- whether the walk goes on
+-- the lines so far, their greatest number, the bytes left, and whether the walk goes on
 pub record Shown : Type 0 where
   pub lines : List Event
   pub budget : ℕ
@@ -31,23 +29,19 @@ shown out = record {
   stop = out.stop;
 }
 
--- the state before the first event
 abbrev pub begin : ℕ → Option ℕ → Shown
 begin budget room = record { lines = []; budget = budget; room = room; stop = Going }
 
--- one more line, with this room
 abbrev pub by_room : Shown → Event → Option ℕ → Shown
 by_room s e None = record s { lines = s.lines ++ e ∷ [] }
 by_room s e (Some room) =
     if nat_lt room (cost e) then record s { stop = TooLong }
     else record s { lines = s.lines ++ e ∷ []; room = Some (room - cost e) }
 
--- a line that comes while the walk goes on
 abbrev pub added : Shown → Event → Shown
 added s e =
     if length s.lines == s.budget then record s { stop = TooMany } else by_room s e s.room
 
--- an event that comes while the walk goes on
 abbrev pub going : Shown → Event → Shown
 going s deep = record s { stop = TooDeep }
 going s (line l) = added s (line l)
@@ -59,16 +53,14 @@ step_at s TooDeep e = s
 step_at s TooMany e = s
 step_at s TooLong e = s
 
--- an event; a walk that was stopped stays as it is
+-- a walk that was stopped stays as it is
 abbrev pub step : Shown → Event → Shown
 step s e = step_at s s.stop e
 
--- one event after another
 abbrev pub feed : Shown → List Event → Shown
 feed s [] = s
 feed s (e ∷ es) = feed (step s e) es
 
--- whether the walk was stopped
 abbrev pub IsStopped : LineSink → Bool → Type 0
 IsStopped out true = out.stop ≢ Going
 IsStopped out false = out.stop ≡ Going

@@ -5,7 +5,7 @@ use Rattle.planus_dump.specs.Events.{structs, struct_events, struct_fields_event
 use Rattle.planus_dump.specs.inner.Shown.{shown, feed}
 use Rattle.planus_dump.proofs.fixed.+fixed.Given as goal
 
--- the depth that is left falls from a struct to those in it; in between the calls lead on
+-- The depth falls from a struct to those in it; the summands order the calls in between.
 abbrev pub decreases-dump_struct : goal.decreases-dump_struct
 decreases-dump_struct l = 3 * l.left
 
@@ -15,7 +15,6 @@ decreases-dump_fixed l = 3 * l.left + 1
 abbrev pub decreases-dump_struct_shape : goal.decreases-dump_struct_shape
 decreases-dump_struct_shape l = 3 * l.left + 2
 
--- what is left to be fed leads to the same lines
 abbrev pub invariant-dump_struct_shape-loop-field : goal.invariant-dump_struct_shape-loop-field
 invariant-dump_struct_shape-loop-field l =
     feed (shown l.out) (struct_fields_events l.schema (structs l.schema l.left) (drop l.field-index l.field-items) (slice_bytes l.slice) l.path)

@@ -6,7 +6,6 @@ use Rattle.planus_dump.specs.Events.{values_events, fixed_list_events, fixed_siz
 use Rattle.planus_dump.specs.inner.Shown.{shown, feed}
 use Rattle.planus_dump.proofs.fixed.dump_values.Given as goal
 
--- what is left to be fed leads to the same lines
 abbrev pub invariant-loop-i : goal.invariant-loop-i
 invariant-loop-i l =
     feed (shown l.out) (values_events l.schema l.fixed (slice_bytes l.slice) l.path (l.count - l.i-counter) l.i-counter)

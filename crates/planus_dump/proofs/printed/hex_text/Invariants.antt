@@ -4,6 +4,5 @@ use Rattle.std.specs.String.{string_bytes}
 use Rattle.planus_dump.specs.Lines.{hex_of}
 use Rattle.planus_dump.proofs.printed.hex_text.Given as goal
 
--- the bytes so far
 abbrev pub invariant-loop-byte : goal.invariant-loop-byte
 invariant-loop-byte l = string_bytes l.text ≡ codes "bytes " ++ flat_map hex_of (take l.byte-index l.bytes)

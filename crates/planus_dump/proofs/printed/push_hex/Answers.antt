@@ -4,7 +4,6 @@ use Rattle.std.specs.Char.{digit_char}
 use Rattle.std.specs.String.{string_bytes}
 use Rattle.planus_dump.proofs.printed.push_hex.Goals as goal
 
--- two digits one after the other
 two_pushed : (text between after first second one two : List ℕ) → between ≡ text ++ first → first ≡ one → after ≡ between ++ second → second ≡ two
     → after ≡ text ++ (one ++ two)
 two_pushed text between after first second one two b f a s =

@@ -4,6 +4,5 @@ use Rattle.std.specs.String.{string_bytes}
 use Rattle.planus_dump.specs.Lines.{escaped}
 use Rattle.planus_dump.proofs.printed.quoted_text.Given as goal
 
--- the characters so far
 abbrev pub invariant-loop-c : goal.invariant-loop-c
 invariant-loop-c l = string_bytes l.quotation ≡ 34 ∷ flat_map escaped l.yielded

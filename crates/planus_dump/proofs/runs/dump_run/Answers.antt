@@ -16,12 +16,10 @@ use Rattle.planus_dump.specs.declared.dumps.DumpError.{DumpError}
 use Rattle.planus_dump.proofs.CleanDumps.{dumps_have_no_fault}
 use Rattle.planus_dump.proofs.runs.dump_run.Goals as goal
 
--- a list with a first item
 with_first : {X : Type 0} (xs : List X) (x : X) → 1 ≤ length xs → x ≡ get_or xs 0 x → (rest : List X) × (xs ≡ x ∷ rest)
 with_first [] x h e = absurd (omega arith)
 with_first (y ∷ rest) x h e = (rest, ap (λ z. z ∷ rest) (sym e))
 
--- the first of some finishes, with what is answered of its bytes
 first_dumped : (switches : Switches) (steps : List Step) (schema : Schema) (budget : ℕ) (answer : Result (Vec (String Global) Global) DumpError) (finished : List Finished) (first : Finished)
     → (rest : List Finished) × (finished ≡ first ∷ rest) → Replays switches steps (Ok (map finish_given finished)) → Dumped schema (finish_given first).bytes budget answer
     → DumpsFirst switches steps schema budget answer
@@ -35,7 +33,6 @@ first_dumped switches steps schema budget answer finished first (rest, e) run du
 whole_piece : (switches : Switches) (steps : List Step) (given : Finish) (holds : FinishHolds switches steps given) → holds.front ≡ root_first → piece_of switches steps given holds ≡ given.bytes
 whole_piece switches steps given holds e = ap (λ (front : Front). drop (root_at front) given.bytes) e
 
--- the first finish of some is that of the first of these numbers
 first_is : (switches : Switches) (steps : List Step) (numbers : List ℕ) (given : Finish) (rest : List Finish) → AreFinishesOf switches steps numbers (given ∷ rest)
     → (holds : FinishHolds switches steps given) × (slice_get numbers 0 ≡ Some holds.number)
 first_is switches steps [] given rest h = absurd h

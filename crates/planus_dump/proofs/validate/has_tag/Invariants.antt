@@ -3,6 +3,5 @@ use Rattle.std.specs.List.{list_any}
 use Rattle.std.specs.Prelude.{◌==◌}
 use Rattle.planus_dump.proofs.validate.has_tag.Given as goal
 
--- no variant so far has the tag
 abbrev pub invariant-loop-other : goal.invariant-loop-other
 invariant-loop-other l = list_any (λ other. other.0 == l.tag) (drop l.other-index l.variants) ≡ list_any (λ other. other.0 == l.tag) l.variants

@@ -7,7 +7,7 @@ use Rattle.planus_dump.specs.Seeing.{unions_seen, table_seen}
 use Rattle.planus_dump.specs.inner.Shown.{shown, feed}
 use Rattle.planus_dump.proofs.walk.+walk.Given as goal
 
--- the depth that is left falls from a table to those of its fields; in between the calls lead on
+-- The depth falls from a table to those of its fields; the summands order the calls in between.
 abbrev pub decreases-dump_table : goal.decreases-dump_table
 decreases-dump_table l = 8 * l.left
 
@@ -38,7 +38,6 @@ decreases-dump_kind l = 8 * l.left + 5
 abbrev pub decreases-dump_shape : goal.decreases-dump_shape
 decreases-dump_shape l = 8 * l.left + 7
 
--- what is left to be fed leads to the same lines
 abbrev pub invariant-dump_items-loop-i : goal.invariant-dump_items-loop-i
 invariant-dump_items-loop-i l =
     feed (shown l.out) (items_events (events l.schema l.left) l.item (slice_bytes l.slice) l.path (l.count - l.i-counter) l.i-counter)
