@@ -1,4 +1,4 @@
--- One item more is converted.
+-- One more item is converted.
 use Rattle.std.proofs.Common.{◌≡◌, ℕ, ◌<◌, ◌≤◌, List, [], ◌∷◌, ◌++◌, length, slice_get, Some}
 use Rattle.std.proofs.Common.{Result, Ok, sym, ◌∙◌, ⊎_elim, arith, ap}
 use Rattle.std.proofs.lemmas.Bool.{cases_lt}
@@ -9,7 +9,6 @@ use Rattle.planus_view.specs.Copies.{AreFirstConverted, ItemConverts}
 
 module _ {V A O : Type 0} (is_sub_view : V → ℕ → ℕ → V → Type 0) (is_item : V → ℕ → A
     → Type 0) (converts : A → Result O CopyError → Type 0) where
-  -- an element of the longer list is one of the list, or the last
   old_at :
       (out : List O) (y z : O) (i : ℕ) → i < length out → slice_get (out ++ y ∷ []) i ≡ Some z
       → slice_get out i ≡ Some z

@@ -1,4 +1,4 @@
--- What is left of a list after steps from both ends.
+-- Steps from both ends of a list.
 use Rattle.std.proofs.Common.{◌≡◌, ℕ, ◌+◌, ◌-◌, ◌<◌, ◌≤◌, List, [], ◌∷◌, ◌++◌, length, take, drop}
 use Rattle.std.proofs.Common.{get_or, slice_get, Some, refl, sym, ap, ◌∙◌, arith, ⊎_elim}
 use Rattle.std.proofs.Math.Seq.{take-append_seam}
@@ -10,7 +10,6 @@ use Rattle.planus_view.proofs.LeftOf.{left_first, left_last}
 use Rattle.planus_view.specs.Laws.{EndsAddUp, EndsStep}
 use Rattle.planus_view.specs.Ranges.{ends}
 
--- a part of a part of a list
 inner :
     {X : Type 0} (R : List X) (a n c m : ℕ) → c ≤ n → m ≤ n - c
     → take m (drop c (take n (drop a R))) ≡ take m (drop (a + c) R)
@@ -23,7 +22,6 @@ inner R a n c m h i =
       drop-drop c a R,
     ) refl
 
--- the same where n may be less than c
 inner_or_none :
     {X : Type 0} (R : List X) (a n c m : ℕ) → m ≤ n - c
     → take m (drop c (take n (drop a R))) ≡ take m (drop (a + c) R)
@@ -31,7 +29,6 @@ inner_or_none R a n c m i =
     ⊎_elim (λ (h : n < c). let z : m ≡ 0 = omega arith in rw z refl)
     (λ (h : c ≤ n). inner R a n c m h i) (cases_lt n c)
 
--- how many are left
 count_left : {X : Type 0} (R : List X) (a b : ℕ) → length (ends R a b) ≡ length R - (a + b)
 count_left R a b = length-take-le (length R - (a + b)) (drop a R) (omega (arith, length-drop a R))
 
@@ -42,7 +39,6 @@ ends_add_up R a b c d =
     rw m
     (inner_or_none R a (length R - (a + b)) c (length R - (a + c + (b + d))) (omega arith))
 
--- some dropped in front, and at the back
 drops_front : {X : Type 0} (L : List X) (k : ℕ) → ends L k 0 ≡ drop k L
 drops_front L k = take_all (length L - (k + 0)) (drop k L) (omega (arith, length-drop k L))
 
@@ -61,7 +57,6 @@ dropped_back R a b k =
     let e : a + 0 ≡ a = omega arith in
     sym (drops_back (ends R a b) k) ∙ ends_add_up R a b 0 k ∙ ap (λ n. ends R n (b + k)) e
 
--- the range that a step in front takes
 first_taken :
     (R : List (ℕ × ℕ)) (a b : ℕ) (range : ℕ × ℕ) (left : List (ℕ × ℕ))
     → ends R a b ≡ range ∷ left → slice_get R a ≡ Some range
@@ -75,7 +70,6 @@ first_taken R a b range left e =
     ap (λ k. get_or (take k (drop a R)) 0 range) (sym same) ∙ ap (λ l. get_or l 0 range) shown in
     this ∙ ap Some (sym got ∙ ap (λ l. get_or l 0 range) e)
 
--- the range that a step at the back takes
 last_taken :
     (R : List (ℕ × ℕ)) (a b : ℕ) (range : ℕ × ℕ) (left : List (ℕ × ℕ))
     → ends R a b ≡ left ++ range ∷ [] → slice_get R (length R - (b + 1)) ≡ Some range

@@ -1,8 +1,7 @@
--- Where the items of a sub-view lie.
+-- Where the items of a sub-view are.
 use Rattle.std.proofs.Common.{◌≡◌, ℕ, ◌-◌, ◌*◌, ◌≤◌, arith}
 use Rattle.std.proofs.Math.Nat.{mul-sub, mul-le-mul_left, mul_comm}
 
--- the items lo up to hi of n items of w bytes lie in what is left behind lo of them
 pub items_lie :
     (lo hi n w len : ℕ) → lo ≤ hi → hi ≤ n → n * w ≤ len → (hi - lo) * w ≤ len - lo * w
 items_lie lo hi n w len a b c =

@@ -1,4 +1,4 @@
--- How many ranges there are, and which is range i.
+-- The number of ranges, and each range.
 use Rattle.std.proofs.Common.{◌≡◌, ℕ, zero, suc, ◌+◌, ◌-◌, ◌*◌, ◌/◌, ◌<◌, ◌≤◌, min, Bool, true}
 use Rattle.std.proofs.Common.{false}
 use Rattle.std.proofs.Common.{nat_lt, nat_le, map, length, Some, refl, ap, ◌∙◌, ⊎_elim, arith}
@@ -14,12 +14,10 @@ use Rattle.std.specs.List.{filter, range_with_len}
 use Rattle.planus_view.specs.Ranges.{ranges_where, chunk, chunks, rchunk, rchunks, exact_chunk}
 use Rattle.planus_view.specs.Ranges.{chunks_exact, rchunks_exact, window, windows}
 
--- the test holds at the numbers below k, and at no others
 pub record HoldsBelow (holds : ℕ → Bool) (k : ℕ) : Type 0 where
   pub below : (i : ℕ) → i < k → holds i ≡ true
   pub above : (i : ℕ) → k ≤ i → holds i ≡ false
 
--- the numbers at which it holds, of m numbers from a on
 filter_holds :
     (holds : ℕ → Bool) (k : ℕ) → HoldsBelow holds k → (m a : ℕ)
     → filter holds (range_with_len a m) ≡ range_with_len a (min m (k - a))
@@ -35,7 +33,6 @@ filter_holds holds k h (suc m) a =
     rw (h.above a l, e, filter_holds holds k h m (a + 1), z) refl)
     (cases_lt a k)
 
--- so the ranges are those of the numbers below k
 counted :
     (n k : ℕ) (holds : ℕ → Bool) (range : ℕ → ℕ × ℕ) → HoldsBelow holds k → k ≤ n
     → ranges_where n holds range ≡ map range (range_with_len 0 k)
@@ -43,14 +40,12 @@ counted n k holds range h l =
     let e : min n (k - 0) ≡ k = omega arith in
     ap (map range) (filter_holds holds k h n 0 ∙ ap (range_with_len 0) e)
 
--- how many they are
 count_of :
     (n k : ℕ) (holds : ℕ → Bool) (range : ℕ → ℕ × ℕ) → HoldsBelow holds k → k ≤ n
     → length (ranges_where n holds range) ≡ k
 count_of n k holds range h l =
     ap length (counted n k holds range h l) ∙ length-map-range_with_len range 0 k
 
--- and which is range i
 range_of :
     (n k : ℕ) (holds : ℕ → Bool) (range : ℕ → ℕ × ℕ) → HoldsBelow holds k → k ≤ n
     → (i : ℕ) → i < k → slice_get (ranges_where n holds range) i ≡ Some (range i)
@@ -60,7 +55,6 @@ range_of n k holds range h l i inside =
     (omega (arith, length-map-range_with_len range 0 k))
     ∙ ap Some (get_or-map-range_with_len range 0 k i i (0, 0) inside (omega arith))
 
--- a chunk of c positions begins in n positions exactly where its number is below that of chunks
 chunk_begins : (n c i : ℕ) → 0 < c → i < div_ceil n c → i * c < n
 chunk_begins n c i p h =
     let t : (n ≤ div_ceil n c * c) × (div_ceil n c * c < n + c) = div_ceil_times n c p in
@@ -86,7 +80,6 @@ chunks_hold n c p = record {
   above = λ i h. le-ltb (i * c) n (chunk_past n c i p h);
 }
 
--- an exact chunk lies in n positions exactly where its number is below that of exact chunks
 exact_lies : (n c i : ℕ) → i < n / c → (i + 1) * c ≤ n
 exact_lies n c i h =
     let m : c * (i + 1) ≤ c * (n / c) = mul-le-mul_left c (omega arith) in
@@ -116,7 +109,6 @@ windows_hold n c = record {
   above = λ i h. lt-leb (i + c) n (omega arith);
 }
 
--- the number of ranges of each kind
 pub chunks_count : (n c : ℕ) → 0 < c → length (chunks n c) ≡ div_ceil n c
 chunks_count n c p = count_of n (div_ceil n c) _ (chunk n c) (chunks_hold n c p) (chunks_few n c p)
 
@@ -135,7 +127,6 @@ rchunks_exact_count n c p =
 pub windows_count : (n c : ℕ) → 0 < c → length (windows n c) ≡ n + 1 - c
 windows_count n c p = count_of n (n + 1 - c) _ (window n c) (windows_hold n c) (omega arith)
 
--- which range is range i of each kind, and where it lies
 pub chunks_at :
     (n c i : ℕ) → 0 < c → i < length (chunks n c)
     → (slice_get (chunks n c) i ≡ Some (chunk n c i)) × (i * c < n)
@@ -184,7 +175,6 @@ windows_at n c i p h =
 pub suc_times : (i c : ℕ) → (i + 1) * c ≡ i * c + c
 suc_times i c = let e : 1 * c ≡ c = omega arith in add-mul i 1 c ∙ ap (λ k. i * c + k) e
 
--- every number of which the condition holds has a range
 pub chunks_one : (n c i : ℕ) → 0 < c → i * c < n → i < length (chunks n c)
 chunks_one n c i p h =
     ⊎_elim (λ (k : i < div_ceil n c). omega (arith, k, chunks_count n c p))

@@ -1,4 +1,4 @@
--- A list that stands is returned as its vector.
+-- An encoded vector is returned as its vector.
 use Rattle.std.proofs.Common.{◌≡◌, ℕ, ◌+◌, List, length, drop, ap, ◌∙◌, Result, Ok, Err}
 use Rattle.std.specs.Prelude.{IsOkAnd}
 use Rattle.std.proofs.lemmas.List.{drop-drop}
@@ -17,7 +17,6 @@ use Rattle.planus_view.specs.VectorView.{view_of, ShowsVector}
 use Rattle.planus_view.specs.Views.{View}
 
 module _ (T : Type 0) {S : Type 0} (kind : PlainGhosts S) where
-  -- the view of the items from a position on, where it stands in the whole
   view_moves :
       (B : List ℕ) (start position count place n : ℕ) → start + position ≡ place → count ≡ n
       → (v : View)
@@ -27,7 +26,6 @@ module _ (T : Type 0) {S : Type 0} (kind : PlainGhosts S) where
       let bytes : drop position (drop start B) ≡ drop place B =
       drop-drop position start B ∙ ap (λ k. drop k B) e in cc
 
-  -- what is returned for a list that reads back
   vector_of :
       {X : Type 0} (ItemReads : ℕ → ℕ → X → Type 0) (B : List ℕ) (k start f : ℕ) (items : List X)
       → ListReads ItemReads B k start f kind.SIZE items

@@ -1,4 +1,4 @@
--- The items of a vector that a reader has found.
+-- The items of a vector that was found.
 use Rattle.std.proofs.Common.{◌≡◌, ℕ, ◌+◌, ◌-◌, ◌*◌, ◌≤◌, List, length, arith, ap, subst, refl, sym, ◌∙◌, inl, inr}
 use Rattle.std.specs.Int.{w32}
 use Rattle.std.proofs.lemmas.List.{length-drop}
@@ -11,7 +11,6 @@ use Rattle.planus_read.specs.Reading.{union_vector_clauses}
 use Rattle.planus_read.specs.declared.errors.ErrorKind.TheVariants.{UnionVectorLengthsMismatched}
 use Rattle.planus_read.specs.declared.slice_helpers.SliceWithStartOffset.{SliceWithStartOffset}
 
--- they are there, where as many as the count says fit the bytes behind it
 pub vector_there : (S : List ℕ) (start f stride : ℕ) (items : Items) (head : SliceWithStartOffset × ℕ)
     → HeadThere S f items.position items.count → ShowsItems S start items head
     → head.1 * stride ≤ length (slice_bytes head.0) → VectorThere S f stride items.position items.count
@@ -24,7 +23,6 @@ vector_there S start f stride items head there shows fits =
     subst (λ n. n * stride ≤ length (slice_bytes head.0)) shows.counted fits in
     record { head = there; inside = omega (arith, word, behind, rest, all) }
 
--- tags and references that are there, but not as many, are no union vector
 pub counts_differ : (S : List ℕ) (f g tags tag_count values value_count : ℕ) → VectorThere S f 1 tags tag_count
     → VectorThere S g 4 values value_count → (tag_count ≡ value_count → ⊥)
     → FirstBroken (union_vector_clauses S f g) (UnionVectorLengthsMismatched tag_count value_count)

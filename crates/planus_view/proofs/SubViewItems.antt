@@ -1,4 +1,4 @@
--- Where the items of a sub-view stand in the view.
+-- The items of sub-views.
 use Rattle.std.proofs.Common.{refl, ◌==◌, not, ◌≡◌, ℕ, ◌+◌, ◌*◌, ◌<◌, ◌≤◌, List, length, drop, sym}
 use Rattle.std.proofs.Common.{ap, ◌∙◌, arith, ⊎_elim, None}
 use Rattle.std.proofs.Math.Nat.{add-mul}
@@ -12,11 +12,9 @@ use Rattle.planus_read.specs.Bytes.{Num}
 use Rattle.planus_view.specs.Laws.{SameItems, ItemsOfSubViews}
 use Rattle.planus_view.proofs.SubViewTexts.{same_texts}
 
--- there is no number past the end
 none_past : (S : List ℕ) (f : ℕ) (w : Width) → length S < f + byte_len w → Num S f w ≡ None
 none_past S f w h = rw (lt-leb (f + byte_len w) (length S) h) refl
 
--- a number of the bytes from a position on
 num_behind :
     (S : List ℕ) (p f : ℕ) (w : Width) → 1 ≤ byte_len w → Num S (p + f) w ≡ Num (drop p S) f w
 num_behind S p f w one =

@@ -1,4 +1,4 @@
--- Where the texts of a sub-view stand in the view.
+-- The strings of sub-views.
 use Rattle.std.proofs.Common.{◌≡◌, ℕ, ◌+◌, ◌<◌, ◌≤◌, ◌↔◌, List, [], ◌∷◌, length, take, drop, sym}
 use Rattle.std.proofs.Common.{ap, ◌∙◌, subst, arith, get_or, inl, inr, ⊎_elim, length-drop}
 use Rattle.std.proofs.Common.{Result, Ok, Err}
@@ -12,7 +12,6 @@ use Rattle.planus_read.specs.Reading.{text_clauses, text_reading}
 use Rattle.planus_read.specs.Utf8.{utf8_clause}
 use Rattle.planus_read.proofs.Reading.{text_there, text_holds}
 
--- clauses that hold alike and have the same errors, one by one, as far as those in front hold
 abbrev SameClauses : List Clause → List Clause → Type 0
 SameClauses [] [] = ⊤
 SameClauses (x ∷ xs) (y ∷ ys) =

@@ -9,7 +9,6 @@ use Rattle.planus_view.proofs.RangeLists.{rchunks_exact_one, windows_one, chunks
 use Rattle.planus_view.proofs.RangeLists.{rchunks_exact_count}
 use Rattle.planus_view.specs.Laws.{TableHolds, AreRanges}
 
--- if the numbers below a bound satisfy the condition, and their ranges are these
 ranges_are :
     (R : List (ℕ × ℕ)) (Holds : ℕ → Type 0) (range : ℕ → ℕ × ℕ)
     → ((i : ℕ) → i < length R → (slice_get R i ≡ Some (range i)) × Holds i)

@@ -1,14 +1,13 @@
--- The state of an iterator over the items of a view: the view, and the positions that are left.
+-- The state of an iterator over items.
 use Rattle.std.specs.Prelude.{◌≡◌, ℕ, ◌+◌, ◌-◌, ◌<◌, Option, Some, None}
 use Rattle.planus_view.specs.declared.items.Items.{Items}
 use Rattle.planus_view.specs.declared.view.View.{Ghosts as ViewGhosts}
 
 module _ {V : Type 0} {view : ViewGhosts V} where
-  -- the view
   abbrev pub items_of : Items V view → V
   items_of s = s.whole
 
-  -- the first position that is left, and the one after the last
+  -- the first position that is left
   abbrev pub front_of : Items V view → ℕ
   front_of s = s.front
 
@@ -19,31 +18,30 @@ module _ {V : Type 0} {view : ViewGhosts V} where
   abbrev pub count_left : Items V view → ℕ
   count_left s = back_of s - front_of s
 
-  -- an iterator over v with all its items left
+  -- over v, with all its items left
   pub record IsOverAll (v : V) (s : Items V view) : Type 0 where
     pub whole : items_of s ≡ v
     pub front_is : front_of s ≡ 0
     pub back_is : back_of s ≡ view.count v
 
-  -- t is over the view of s, with these positions left
+  -- over the view of s, with these positions left
   pub record IsLeft (s : Items V view) (front back : ℕ) (t : Items V view) : Type 0 where
     pub same : items_of t ≡ items_of s
     pub front_is : front_of t ≡ front
     pub back_is : back_of t ≡ back
 
   module _ {A : Type 0} (is_item : V → ℕ → A → Type 0) where
-    -- x is item i of the sub-view that is left
     abbrev pub ItemOfLeft : Items V view → ℕ → A → Type 0
     ItemOfLeft s i x =
         (left : V) × view.is_sub_view (items_of s) (front_of s) (back_of s) left × is_item left i x
 
-    -- A step from the front takes the first item that is left; with none left nothing changes.
+    -- Takes the first item left; with none left nothing changes.
     abbrev pub ReadsFirst : Items V view → Option A → Items V view → Type 0
     ReadsFirst s None t = (front_of s ≡ back_of s) × (t ≡ s)
     ReadsFirst s (Some x) t =
         (front_of s < back_of s) × ItemOfLeft s 0 x × IsLeft s (front_of s + 1) (back_of s) t
 
-    -- A step from the back takes the last item that is left.
+    -- Takes the last item left.
     abbrev pub ReadsLast : Items V view → Option A → Items V view → Type 0
     ReadsLast s None t = (front_of s ≡ back_of s) × (t ≡ s)
     ReadsLast s (Some x) t =

@@ -1,4 +1,4 @@
--- Which ranges each kind has, what steps from both ends leave, and which items sub-views have.
+-- Which ranges each kind has.
 use Rattle.std.specs.Prelude.{◌≡◌, ℕ, ◌+◌, ◌-◌, ◌*◌, ◌<◌, ◌≤◌, ◌↔◌, ℤ, Bool, List, [], ◌∷◌, ◌++◌}
 use Rattle.std.specs.Prelude.{length, take, drop, slice_get, Some, Result}
 use Rattle.std.specs.Int.{Width}
@@ -9,32 +9,30 @@ use Rattle.planus_view.specs.Ranges.{chunk, chunks, rchunk, rchunks, exact_chunk
 use Rattle.planus_view.specs.Ranges.{rchunks_exact, window, windows, remainder, ends}
 use Rattle.planus_view.specs.Views.{View, IsSubView}
 
--- Range i is one of these exactly where the condition holds for i, and it is this one.
+-- range i is there exactly where the condition holds
 pub record AreRanges (R : List (ℕ × ℕ)) (Holds : ℕ → Type 0) (range : ℕ → ℕ × ℕ) : Type 0 where
   pub there : (i : ℕ) → Holds i → slice_get R i ≡ Some (range i)
   pub no_other : (i : ℕ) (r : ℕ × ℕ) → slice_get R i ≡ Some r → Holds i
 
--- the table, for n positions and a size c above 0: each kind's condition of range i, and range i
+-- each kind's condition of range i, and range i
 pub record RangesOfTable (n c : ℕ) : Type 0 where
   pub chunks_are : AreRanges (chunks n c) (λ i. i * c < n) (chunk n c)
   pub rchunks_are : AreRanges (rchunks n c) (λ i. i * c < n) (rchunk n c)
   pub chunks_exact_are : AreRanges (chunks_exact n c) (λ i. (i + 1) * c ≤ n) (exact_chunk n c)
   pub rchunks_exact_are : AreRanges (rchunks_exact n c) (λ i. (i + 1) * c ≤ n) (rchunk n c)
   pub windows_are : AreRanges (windows n c) (λ i. i + c ≤ n) (window n c)
-  -- the exact chunks of either kind and the remainder have all positions between them
   pub exact_whole : length (chunks_exact n c) * c + remainder n c ≡ n
   pub rexact_whole : length (rchunks_exact n c) * c + remainder n c ≡ n
 
--- the table holds for each size above 0
+-- for each size above 0
 abbrev pub TableHolds : Type 0
 TableHolds = (n c : ℕ) → 0 < c → RangesOfTable n c
 
--- What steps from both ends leave of what other such steps left adds up.
+-- What steps from both ends leave adds up.
 abbrev pub EndsAddUp : Type 0
 EndsAddUp =
     (R : List (ℕ × ℕ)) (a b c d : ℕ) → ends (ends R a b) c d ≡ ends R (a + c) (b + d)
 
--- what is left of R after a steps from the front and b from the back, step by step
 pub record StepsOfEnds (R : List (ℕ × ℕ)) (a b : ℕ) : Type 0 where
   pub all : ends R 0 0 ≡ R
   pub first :
@@ -46,11 +44,10 @@ pub record StepsOfEnds (R : List (ℕ × ℕ)) (a b : ℕ) : Type 0 where
   pub dropped_front : (k : ℕ) → drop k (ends R a b) ≡ ends R (a + k) b
   pub dropped_back : (k : ℕ) → take (length (ends R a b) - k) (ends R a b) ≡ ends R a (b + k)
 
--- the same for all ranges and numbers of steps
+-- what steps from both ends leave, step by step
 abbrev pub EndsStep : Type 0
 EndsStep = (R : List (ℕ × ℕ)) (a b : ℕ) → StepsOfEnds R a b
 
--- the same numbers and bools are at f of S and at g of R, and the same string or kind of error
 pub record SameItems (S : List ℕ) (f : ℕ) (R : List ℕ) (g : ℕ) : Type 0 where
   pub numbers : (width : Width) (x : ℕ) → NumberThere S f width x ↔ NumberThere R g width x
   pub signed : (width : Width) (x : ℤ) → SignedThere S f width x ↔ SignedThere R g width x
@@ -58,7 +55,7 @@ pub record SameItems (S : List ℕ) (f : ℕ) (R : List ℕ) (g : ℕ) : Type 0 
   pub texts :
       (r : Result (List ℕ) ErrorKind) → Answer (text_reading S f) r ↔ Answer (text_reading R g) r
 
--- Item i of a sub-view is the item of the view at its position there.
+-- A sub-view has the view's items at their positions.
 abbrev pub ItemsOfSubViews : Type 0
 ItemsOfSubViews =
     (stride : ℕ) (v u : View) (lo hi i : ℕ) → IsSubView stride v lo hi u

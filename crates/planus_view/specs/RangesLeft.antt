@@ -1,4 +1,4 @@
--- The state of an iterator over sub-views: the view, and the ranges that are left.
+-- The state of an iterator over sub-views.
 use Rattle.std.specs.Prelude.{◌≡◌, ℕ, ◌-◌, List, [], ◌∷◌, ◌++◌, length, take, drop}
 use Rattle.std.specs.Prelude.{Option, Some, None}
 use Rattle.planus_view.specs.declared.cuts.Cut.{Ghosts as CutGhosts}
@@ -6,7 +6,7 @@ use Rattle.planus_view.specs.declared.sub_views.SubViews.{SubViews}
 use Rattle.planus_view.specs.declared.view.View.{Ghosts as ViewGhosts}
 
 module _ {V C : Type 0} {view : ViewGhosts V} {cut : CutGhosts C} where
-  -- the view that is cut, and the size
+  -- the view that is cut
   abbrev pub whole_of : SubViews V C view cut → V
   whole_of s = s.whole
 
@@ -21,43 +21,42 @@ module _ {V C : Type 0} {view : ViewGhosts V} {cut : CutGhosts C} where
   abbrev pub left_of : SubViews V C view cut → List (ℕ × ℕ)
   left_of s = take (s.back - s.front) (drop s.front (ranges_of s))
 
-  -- an iterator over v, cut for this size, with these ranges left
+  -- over v, cut for this size, with these ranges left
   pub record IsOverRanges
       (v : V) (size : ℕ) (left : List (ℕ × ℕ)) (s : SubViews V C view cut) : Type 0 where
     pub whole : whole_of s ≡ v
     pub size_is : size_of s ≡ size
     pub left_is : left_of s ≡ left
 
-  -- both are over one view, for one size
   pub record IsSameCut (s t : SubViews V C view cut) : Type 0 where
     pub whole : whole_of t ≡ whole_of s
     pub size : size_of t ≡ size_of s
 
-  -- a step from the front takes the sub-view at the first range left, if any
+  -- Takes the sub-view at the first range left, if any.
   abbrev pub TakesFirst : SubViews V C view cut → Option V → SubViews V C view cut → Type 0
   TakesFirst s None t = (left_of s ≡ []) × (t ≡ s)
   TakesFirst s (Some u) t =
       (range : ℕ × ℕ) × (left_of s ≡ range ∷ left_of t)
       × view.is_sub_view (whole_of s) range.0 range.1 u × IsSameCut s t
 
-  -- A step from the back takes the sub-view at the last range left.
+  -- Takes the sub-view at the last range left.
   abbrev pub TakesLast : SubViews V C view cut → Option V → SubViews V C view cut → Type 0
   TakesLast s None t = (left_of s ≡ []) × (t ≡ s)
   TakesLast s (Some u) t =
       (range : ℕ × ℕ) × (left_of s ≡ left_of t ++ range ∷ [])
       × view.is_sub_view (whole_of s) range.0 range.1 u × IsSameCut s t
 
-  -- up to this number of ranges are skipped at the front
+  -- up to this number of ranges are skipped
   pub record SkipsFront (skipped : ℕ) (s t : SubViews V C view cut) : Type 0 where
     pub left : left_of t ≡ drop skipped (left_of s)
     pub same : IsSameCut s t
 
-  -- up to this number of ranges are skipped at the back
+  -- up to this number of ranges are skipped
   pub record SkipsBack (skipped : ℕ) (s t : SubViews V C view cut) : Type 0 where
     pub left : left_of t ≡ take (length (left_of s) - skipped) (left_of s)
     pub same : IsSameCut s t
 
-  -- a copy of the iterator: the same view, with the same ranges left
+  -- the same view, with the same ranges left
   pub record IsCopy (s t : SubViews V C view cut) : Type 0 where
     pub same : IsSameCut s t
     pub left : left_of t ≡ left_of s

@@ -1,4 +1,4 @@
--- What a reader of vectors returns for an encoded vector.
+-- What a reader of vectors returns.
 use Rattle.std.specs.Prelude.{◌≡◌, ℕ, ◌+◌, ◌*◌, List, length, drop, slice_get, Some}
 use Rattle.std.specs.Prelude.{Result, IsOkAnd}
 use Rattle.planus_read.specs.declared.errors.ErrorKind.{ErrorKind}
@@ -13,7 +13,6 @@ use Rattle.planus_view.specs.declared.vector_of.VectorOf.{VectorOf}
 use Rattle.planus_view.specs.VectorView.{view_of, ShowsVector}
 
 module _ {T S : Type 0} (kind : PlainGhosts S) where
-  -- the vector of these items at k of B: it begins after the count, and returns each
   pub record IsVectorOf
       {X : Type 0} (ItemReads : ℕ → ℕ → X → Type 0) (B : List ℕ) (k : ℕ) (items : List X)
       (v : VectorOf (SliceView T S kind)) : Type 0 where
@@ -24,7 +23,6 @@ module _ {T S : Type 0} (kind : PlainGhosts S) where
         → ItemReads (k + 4) (i * kind.SIZE) item
 
 module _ (T : Type 0) {S : Type 0} (kind : PlainGhosts S) where
-  -- the value at k of B is returned as its vector by each reference to it, in each slice with that
   abbrev pub IsReturnedAsVector :
       {X : Type 0} → (List ℕ → ℕ → ℕ → X → Type 0) → (List X → Value) → Type 0
   IsReturnedAsVector {X} ItemReads list =
@@ -35,13 +33,13 @@ module _ (T : Type 0) {S : Type 0} (kind : PlainGhosts S) where
       (shown (ShowsVector (drop start B) start) (vector_reading (drop start B) f kind.SIZE)) r
       → IsOkAnd r (IsVectorOf kind (ItemReads B) B k items)
 
-  -- A vector of plain items of the element type's size reads back.
+  -- A vector of plain items of the element's size reads back.
   abbrev pub PlainListsReadBack : Type 0
   PlainListsReadBack =
       (alignment : ℕ)
       → IsReturnedAsVector (λ B start f item. PlainReads (drop start B) f item)
       (plain_list kind.SIZE alignment)
 
-  -- A vector of references reads back, where the element type has the size of one.
+  -- So does one of references, for elements of that size.
   abbrev pub ReferenceListsReadBack : Type 0
   ReferenceListsReadBack = kind.SIZE ≡ 4 → IsReturnedAsVector ReferenceReads reference_list

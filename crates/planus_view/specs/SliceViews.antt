@@ -1,10 +1,10 @@
--- Views of items that follow one another in a slice of a buffer.
+-- Views of items in a slice.
 use Rattle.std.specs.Prelude.{ℕ, ◌*◌, List}
 use Rattle.planus_read.specs.Pieces.{slice_bytes, slice_start}
 use Rattle.planus_view.specs.Views.{View, IsSubView}
 use Rattle.planus_view.specs.declared.vector.SliceView.{SliceView}
 
--- the view, and its count
+-- the view of a slice
 abbrev pub slice_view : {T S : _} {kind : _} → SliceView T S kind → View
 slice_view v =
     record { bytes = slice_bytes v.buffer; start = slice_start v.buffer; count = v.count }
@@ -12,12 +12,12 @@ slice_view v =
 abbrev pub slice_count : {T S : _} {kind : _} → SliceView T S kind → ℕ
 slice_count v = (slice_view v).count
 
--- the last view is the sub-view of the first at these positions, for this item size
+-- the sub-view at these positions
 abbrev pub IsSubSlice :
     {T S : _} {kind : _} → ℕ → SliceView T S kind → ℕ → ℕ → SliceView T S kind → Type 0
 IsSubSlice size v lo hi u = IsSubView size (slice_view v) lo hi (slice_view u)
 
--- x may be returned for the item at the position, for this item size and type
+-- a possible item at the position
 abbrev pub IsItemOfSlice :
     {T S : _} {kind : _} {A : Type 0} → ℕ → (List ℕ → ℕ → ℕ → A → Type 0) → SliceView T S kind
     → ℕ → A → Type 0

@@ -1,10 +1,9 @@
--- A sub-view has an item for each position, and a sub-view of a sub-view is one of the whole.
+-- Sub-views of sub-views.
 use Rattle.std.proofs.Common.{◌≡◌, ℕ, ◌+◌, ◌-◌, ◌*◌, ◌≤◌, drop, arith, ap, refl, ◌∙◌}
 use Rattle.std.proofs.lemmas.List.{drop-drop}
 use Rattle.std.proofs.Math.Nat.{add-mul}
 use Rattle.planus_view.specs.Views.{View, sub_view, IsSubView}
 
--- what a sub-view of a sub-view computes to
 twice :
     (w : ℕ) (v : View) (lo hi a b : ℕ) → a ≤ b
     → sub_view w (sub_view w v lo hi) a b ≡ sub_view w v (lo + a) (lo + b)

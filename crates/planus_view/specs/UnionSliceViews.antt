@@ -1,4 +1,4 @@
--- Views of unions, with tags in one slice of a buffer and references in another.
+-- Views of unions in two slices.
 use Rattle.std.specs.Prelude.{ℕ, ◌*◌, List, slice_index, Result}
 use Rattle.planus_read.specs.Converted.{Converted}
 use Rattle.planus_read.specs.Located.{Located}
@@ -8,7 +8,7 @@ use Rattle.planus_read.specs.declared.located.Error.{Error}
 use Rattle.planus_view.specs.UnionViews.{UnionView, IsSubView}
 use Rattle.planus_view.specs.declared.union_vector.UnionSliceView.{UnionSliceView}
 
--- the view, and its count
+-- the view of both slices
 abbrev pub union_view : {T E : _} → UnionSliceView T E → UnionView
 union_view v =
     record {
@@ -21,11 +21,11 @@ union_view v =
 abbrev pub union_count : {T E : _} → UnionSliceView T E → ℕ
 union_count v = (union_view v).count
 
--- the last view is the sub-view of the first at these positions
+-- the sub-view at these positions
 abbrev pub IsSubUnions : {T E : _} → UnionSliceView T E → ℕ → ℕ → UnionSliceView T E → Type 0
 IsSubUnions v lo hi u = IsSubView (union_view v) lo hi (union_view u)
 
--- r may be returned for the item at the position, an error being at the start of the references
+-- an error is at the start of the references
 abbrev pub IsUnionOf :
     {T E : _} {A B : Type 0} → (List ℕ → ℕ → ℕ → ℕ → Result A ErrorKind → Type 0) → List ℕ
     → List ℕ → (Error → B → Type 0) → UnionSliceView T E → ℕ → Result A B → Type 0

@@ -6,14 +6,14 @@ use Rattle.planus_view.specs.UnionViews.{UnionView}
 use Rattle.planus_view.specs.declared.union_vector.UnionSliceView.{UnionSliceView}
 use Rattle.planus_view.specs.declared.vector_of.VectorOf.{VectorOf}
 
--- the view of a union vector, and its count
+-- the view of a union vector
 abbrev pub view_of : {T E : _} → VectorOf (UnionSliceView T E) → UnionView
 view_of v = union_view v.view
 
 abbrev pub count_of : {T E : _} → VectorOf (UnionSliceView T E) → ℕ
 count_of v = (view_of v).count
 
--- The vector is the view of these items of the slice S with this start.
+-- of these items of the slice S
 abbrev pub ShowsUnionVector :
     {T E : _} → List ℕ → ℕ → UnionItems → VectorOf (UnionSliceView T E) → Type 0
 ShowsUnionVector S start items v =

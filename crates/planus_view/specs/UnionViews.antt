@@ -1,5 +1,4 @@
--- A view of unions: tags of one byte, references of 4 bytes with their start in the buffer, the
--- count.
+-- A view of unions: tags, references, count.
 use Rattle.std.specs.Prelude.{◌≡◌, ℕ, ◌+◌, ◌-◌, ◌*◌, ◌≤◌, List, drop}
 use Rattle.std.proofs.Common.{arith, ap, refl, ◌∙◌}
 use Rattle.std.proofs.lemmas.List.{drop-drop}
@@ -11,7 +10,6 @@ pub record UnionView : Type 0 where
   pub start : ℕ
   pub count : ℕ
 
--- the positions lo up to hi of a view of unions: from tag lo and reference lo on to the end
 abbrev pub sub_view : UnionView → ℕ → ℕ → UnionView
 sub_view v lo hi =
     record {
@@ -21,13 +19,11 @@ sub_view v lo hi =
       count = hi - lo;
     }
 
--- u has the positions lo up to hi of v, all of which v has
 pub record IsSubView (v : UnionView) (lo hi : ℕ) (u : UnionView) : Type 0 where
   pub order : lo ≤ hi
   pub inside : hi ≤ v.count
   pub same : u ≡ sub_view v lo hi
 
--- what a sub-view of a sub-view computes to
 twice :
     (v : UnionView) (lo hi a b : ℕ) → a ≤ b
     → sub_view (sub_view v lo hi) a b ≡ sub_view v (lo + a) (lo + b)

@@ -6,14 +6,14 @@ use Rattle.planus_view.specs.Views.{View}
 use Rattle.planus_view.specs.declared.vector.SliceView.{SliceView}
 use Rattle.planus_view.specs.declared.vector_of.VectorOf.{VectorOf}
 
--- the view of a vector, and its count
+-- the view of a vector
 abbrev pub view_of : {T S : _} {kind : _} → VectorOf (SliceView T S kind) → View
 view_of v = slice_view v.view
 
 abbrev pub count_of : {T S : _} {kind : _} → VectorOf (SliceView T S kind) → ℕ
 count_of v = (view_of v).count
 
--- The vector is the view of these items of the slice S with this start.
+-- of these items of the slice S
 abbrev pub ShowsVector :
     {T S : _} {kind : _} → List ℕ → ℕ → Items → VectorOf (SliceView T S kind) → Type 0
 ShowsVector S start items v =

@@ -7,10 +7,10 @@ module _ {V : Type 0} where
   abbrev pub count_in : (V → ℕ) → VectorOf V → ℕ
   count_in count v = count v.view
 
-  -- the last vector is the sub-vector of the first from one position up to another
+  -- the sub-vector at these positions
   abbrev pub IsSubVector : (V → ℕ → ℕ → V → Type 0) → VectorOf V → ℕ → ℕ → VectorOf V → Type 0
   IsSubVector is_sub_view v lo hi u = is_sub_view v.view lo hi u.view
 
-  -- x may be returned for the item at the position
+  -- a possible item at the position
   abbrev pub IsItemIn : {A : Type 0} → (V → ℕ → A → Type 0) → VectorOf V → ℕ → A → Type 0
   IsItemIn is_item v i x = is_item v.view i x

@@ -1,4 +1,4 @@
--- A view of items: the bytes from the first item on, their start in the buffer, and the count.
+-- A view of items: bytes, their start, count.
 use Rattle.std.specs.Prelude.{◌≡◌, ℕ, ◌+◌, ◌-◌, ◌*◌, ◌≤◌, List, drop}
 
 pub record View : Type 0 where
@@ -6,7 +6,6 @@ pub record View : Type 0 where
   pub start : ℕ
   pub count : ℕ
 
--- the positions lo up to hi of a view of items of this stride: from item lo on to the end
 abbrev pub sub_view : ℕ → View → ℕ → ℕ → View
 sub_view stride v lo hi =
     record {
@@ -15,7 +14,6 @@ sub_view stride v lo hi =
       count = hi - lo;
     }
 
--- u has the positions lo up to hi of v, all of which v has
 pub record IsSubView (stride : ℕ) (v : View) (lo hi : ℕ) (u : View) : Type 0 where
   pub order : lo ≤ hi
   pub inside : hi ≤ v.count

@@ -1,4 +1,4 @@
-//! The items of a view, converted into a `Vec`.
+//! Items of a view, converted.
 
 ghost use Rattle.std.specs.Prelude.{◌≡◌, IfOk, IfErr, Result as std_result};
 ghost use Rattle.planus_view.specs.declared.copies.CopyError.{CopyError};
@@ -10,8 +10,7 @@ use planus_read::located::Error;
 use std::alloc::{AllocError, Global};
 use std::fmt;
 
-/// Why items can't be copied, with names of any lifetime in the error of a read. With static names
-/// it is [`crate::CopyError`].
+/// Why items can't be copied, with names of any lifetime.
 #[derive(Clone, Copy, Debug, PartialEq, Eq)]
 pub enum CopyError<'n> {
     /// An allocation failed.
@@ -56,9 +55,8 @@ impl<'n> From<Error<'n>> for CopyError<'n> {
     }
 }
 
-/// What an item of a view can be converted to.
+/// What items can be converted to.
 pub trait FromItem<T>: Sized {
-    /// The results for an item.
     ghost converts: { T → std_result Self CopyError → Type 0 };
 
     /// Returns the item, converted, or its error.
@@ -90,20 +88,16 @@ impl<'buf> FromItem<&'buf str> for String {
     }
 }
 
-/// A way to convert items.
 pub trait Conversion<A, O> {
-    /// The results for an item.
     ghost gives: { A → std_result O CopyError → Type 0 };
 
-    /// Returns the item, converted, or its error.
     fn convert(alloc: Global, item: A) -> Result<O, CopyError<'static>>
         ensures { gives item result };
 }
 
-/// Each item by its own conversion.
 pub struct EachItem;
 
-/// Each item that was read by its own conversion; an error of a read unchanged.
+/// An error of a read is unchanged.
 pub struct EachRead;
 
 impl<A, O: FromItem<A>> Conversion<A, O> for EachItem {
@@ -127,8 +121,7 @@ impl<T, E: Into<Error<'static>>, O: FromItem<T>> Conversion<Result<T, E>, O> for
     }
 }
 
-/// Returns all items of the view, converted in order, or the first error. Memory for them is
-/// allocated once, before the first is read.
+/// Memory is allocated once, before the first item is read.
 pub fn copy_items<'n, V: ReadView, O: Drop, C: Conversion<V::Item, O>>(
     alloc: Global,
     view: &V,

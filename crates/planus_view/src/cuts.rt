@@ -3,10 +3,8 @@
 ghost use Rattle.std.specs.Prelude.{◌≡◌, ℕ, ◌<◌, ◌≤◌, List, length, slice_get, Some};
 ghost use Rattle.planus_view.specs.Ranges.{chunks, rchunks, chunks_exact, rchunks_exact, windows};
 
-/// A way to cut positions into ranges, for a size above 0.
+/// A way to cut positions into ranges.
 pub trait Cut {
-    /// The ranges of a number of positions for a size, each from its first position up to its
-    /// second.
     ghost ranges: { ℕ → ℕ → List (ℕ × ℕ) };
 
     /// Returns the number of ranges of `len` positions.
@@ -14,7 +12,7 @@ pub trait Cut {
         requires { 0 < size }
         ensures { result ≡ length (ranges len size) };
 
-    /// Returns range `i` of `len` positions. Requires `i` to be below their number.
+    /// Returns range `i` of `len` positions.
     fn range(len: usize, size: usize, i: usize) -> (usize, usize)
         requires positive { 0 < size }
         requires inside { i < length (ranges len size) }
@@ -23,19 +21,19 @@ pub trait Cut {
         ensures end { result.1 ≤ len };
 }
 
-/// Ranges of a size from the front on; the last may be shorter.
+/// Ranges from the front; the last may be shorter.
 #[derive(Debug)]
 pub struct ByChunks;
 
-/// Ranges of a size from the back on; the last, at the front, may be shorter.
+/// Ranges from the back; the last, at the front, may be shorter.
 #[derive(Debug)]
 pub struct ByRChunks;
 
-/// Ranges of exactly a size from the front on.
+/// Ranges of exactly a size from the front.
 #[derive(Debug)]
 pub struct ByChunksExact;
 
-/// Ranges of exactly a size from the back on.
+/// Ranges of exactly a size from the back.
 #[derive(Debug)]
 pub struct ByRChunksExact;
 

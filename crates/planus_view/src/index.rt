@@ -1,4 +1,4 @@
-//! Items and parts of a view by an index.
+//! Indexes of views.
 
 ghost use Rattle.std.specs.Prelude.{◌≡◌, ℕ, ◌<◌, ◌≤◌, Option};
 ghost use Rattle.std.specs.declared.ops.Bound.{Bound};
@@ -15,25 +15,22 @@ impl Sealed for usize {}
 
 impl<R: PositionRange> Sealed for R {}
 
-/// What a view can be indexed by: a position, a range of positions, or two bounds of one.
+/// A position, a range of positions, or two bounds of one.
 pub trait ViewIndex<V: View>: Sealed {
     /// The item or the sub-view.
     type Output;
 
-    /// The results for the index.
     ghost gets: { V → Self → Option Self.Output → Type 0 };
 
-    /// The view has the index.
     ghost fits: { V → Self → Type 0 };
 
-    /// The results for an index that the view has.
     ghost is_there: { V → Self → Self.Output → Type 0 };
 
-    /// Returns the item or sub-view at the index, or `None` out of bounds.
+    /// Returns the item or sub-view, or `None` out of bounds.
     fn get(self, view: &V) -> Option<Self::Output>
         ensures { gets view.now self result };
 
-    /// Returns the item or sub-view at the index. Requires the index to be in bounds.
+    /// Returns the item or sub-view, which must be in bounds.
     fn get_unchecked(self, view: &V) -> Self::Output
         requires { fits view.now self }
         ensures { is_there view.now self result };
@@ -62,12 +59,9 @@ impl<V: ReadView> ViewIndex<V> for usize {
     }
 }
 
-/// A range of positions.
 pub trait PositionRange {
-    /// The bounds.
     ghost bounds: { Self → Bound ℕ × Bound ℕ };
 
-    /// Returns the bounds.
     fn bounds(self) -> (Bound<usize>, Bound<usize>)
         ensures { result ≡ bounds self };
 }

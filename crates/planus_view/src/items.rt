@@ -1,4 +1,4 @@
-//! Iterators over the items of a view.
+//! Iterators over items.
 
 ghost use Rattle.std.specs.Prelude.{◌≡◌, ℕ, ◌+◌, ◌-◌, ◌<◌, ◌≤◌, min, Some, IfSome, ⊤};
 ghost use Rattle.std.specs.Iterator.{at_most, UpTo};
@@ -8,8 +8,8 @@ use crate::view::{ReadView, View};
 use std::alloc::AllocError;
 use std::iter::FusedIterator;
 
-/// An iterator over the items of a view. An item is read when it is asked for, from the sub-view
-/// that is left, whose start is in the item's error.
+/// An iterator over items, which are read when they are asked for. An error has the start of what
+/// is left.
 #[derive(Debug, Drop)]
 pub struct Items<V: View> {
     whole: V,
@@ -23,7 +23,7 @@ impl<V: View> Items<V> {
     ghost use Rattle.planus_view.specs.ItemsLeft.{front_of, back_of, count_left, IsLeft};
     ghost use Rattle.planus_view.specs.ItemsLeft.{IsOverAll};
 
-    /// Creates an iterator over all items of the view.
+    /// Creates an iterator over all items.
     #[inline]
     pub fn new(whole: V) -> Self
         ensures { IsOverAll whole result }
@@ -131,7 +131,7 @@ impl<V: ReadView> Items<V> {
     ghost use Rattle.planus_view.specs.ItemsLeft.{front_of, back_of, count_left, IsLeft};
     ghost use Rattle.planus_view.specs.ItemsLeft.{ReadsFirst, ReadsLast};
 
-    /// Skips up to `skipped` items at the front and returns the next one, or `None` at the end.
+    /// Skips up to `skipped` items and returns the next one.
     #[inline]
     pub fn nth(&mut self, skipped: usize) -> Option<V::Item>
         ensures { (mid : Items V V.View) × IsLeft self.old
@@ -142,8 +142,7 @@ impl<V: ReadView> Items<V> {
         self.next()
     }
 
-    /// Skips up to `skipped` items at the back and returns the one before them, or `None` at the
-    /// end.
+    /// Skips up to `skipped` items at the back and returns the one before.
     #[inline]
     pub fn nth_back(&mut self, skipped: usize) -> Option<V::Item>
         ensures { (mid : Items V V.View) × IsLeft self.old (front_of self.old)
@@ -154,7 +153,7 @@ impl<V: ReadView> Items<V> {
         self.next_back()
     }
 
-    /// Returns the last item, or `None` if none is left.
+    /// Returns the last item that is left.
     #[inline]
     pub fn last(mut self) -> Option<V::Item>
         ensures { (after : Items V V.View) × ReadsLast V.is_item self result after }

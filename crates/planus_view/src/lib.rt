@@ -1,5 +1,5 @@
-//! Vectors and union vectors in a buffer: items and sub-vectors by index, and iterators from both
-//! ends.
+//! Vectors and union vectors in a buffer, by index and by iterators. Start with [`Vector`] and
+//! [`VectorOf`].
 #![tactic(auto)]
 
 mod copies;

@@ -11,7 +11,7 @@ use std::alloc::AllocError;
 use std::iter::FusedIterator;
 use std::marker::PhantomData;
 
-/// An iterator over the sub-views of a view at the ranges into which its positions are cut.
+/// An iterator over the sub-views of a view.
 #[derive(Debug, Drop)]
 pub struct SubViews<V: View, C: Cut> {
     whole: V,
@@ -27,7 +27,7 @@ pub struct SubViews<V: View, C: Cut> {
 impl<V: View, C: Cut> SubViews<V, C> {
     ghost use Rattle.planus_view.specs.RangesLeft.{whole_of, ranges_of, IsOverRanges};
 
-    /// Creates an iterator over the sub-views at all ranges of the view. Requires a size above 0.
+    /// Creates an iterator over all sub-views.
     #[inline]
     #[tactic(auto, using(crate::proofs::LeftOf::all_left))]
     pub fn new(whole: V, size: usize) -> Self
@@ -152,7 +152,7 @@ impl<V: View, C: Cut> SubViews<V, C> {
         self.back -= skipped.min(self.back - self.front);
     }
 
-    /// Skips up to `skipped` sub-views at the front and returns the next one, or `None` at the end.
+    /// Skips up to `skipped` sub-views and returns the next one.
     #[inline]
     pub fn nth(&mut self, skipped: usize) -> Option<V>
         ensures { (mid : SubViews V C V.View C.Cut) × SkipsFront skipped self.old mid
@@ -162,8 +162,7 @@ impl<V: View, C: Cut> SubViews<V, C> {
         self.next()
     }
 
-    /// Skips up to `skipped` sub-views at the back and returns the one before them, or `None` at
-    /// the end.
+    /// Skips up to `skipped` sub-views at the back and returns the one before.
     #[inline]
     pub fn nth_back(&mut self, skipped: usize) -> Option<V>
         ensures { (mid : SubViews V C V.View C.Cut) × SkipsBack skipped self.old mid
@@ -173,7 +172,7 @@ impl<V: View, C: Cut> SubViews<V, C> {
         self.next_back()
     }
 
-    /// Returns the last sub-view, or `None` if none is left.
+    /// Returns the last sub-view that is left.
     #[inline]
     pub fn last(mut self) -> Option<V>
         ensures { (after : SubViews V C V.View C.Cut) × TakesLast self result after }
@@ -194,7 +193,7 @@ impl<V: View> SubViews<V, ByChunksExact> {
     ghost use Rattle.planus_view.specs.RangesLeft.{whole_of, size_of};
     ghost use Rattle.planus_view.specs.Ranges.{remainder};
 
-    /// Returns what remains of the view after all exact chunks, whatever was taken of them.
+    /// Returns what remains after all exact chunks, whatever was taken of them.
     #[must_use]
     pub fn remainder(&self) -> V
         ensures { let whole = whole_of self.now in let n = V.count whole in
@@ -209,7 +208,7 @@ impl<V: View> SubViews<V, ByRChunksExact> {
     ghost use Rattle.planus_view.specs.RangesLeft.{whole_of, size_of};
     ghost use Rattle.planus_view.specs.Ranges.{remainder};
 
-    /// Returns what remains of the view before all exact chunks, whatever was taken of them.
+    /// Returns what remains before all exact chunks, whatever was taken of them.
     #[must_use]
     pub fn remainder(&self) -> V
         ensures { let whole = whole_of self.now in

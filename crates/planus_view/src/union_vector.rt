@@ -13,13 +13,11 @@ use planus_read::{SliceWithStartOffset, TableReadUnionVector, VectorReadUnion, a
 use std::alloc::AllocError;
 use std::marker::PhantomData;
 
-/// A view of the items of a union vector, each a [`planus_read::Result`], read when they are asked
-/// for. In the format it is two vectors of equal count: tags of one byte, and references of 4
-/// bytes.
+/// A view of the items of a union vector, each a [`planus_read::Result`]. In the format it is a
+/// vector of tags and one of references.
 pub type UnionVector<'buf, T> = VectorOf<UnionSliceView<'buf, T, AsRead>>;
 
-/// A view of unions whose tags follow one another in one slice of a buffer, and their references in
-/// another. The errors of items are returned as `E` says.
+/// A view of unions, with tags in one slice and references in another.
 pub struct UnionSliceView<'buf, T, E> {
     tags: SliceWithStartOffset<'buf>,
     values: SliceWithStartOffset<'buf>,
@@ -136,7 +134,7 @@ impl<'buf, T, E> TableReadUnionVector<'buf> for VectorOf<UnionSliceView<'buf, T,
 impl<'buf, T, E> VectorOf<UnionSliceView<'buf, T, E>> {
     ghost use Rattle.planus_view.specs.UnionVectorView.{view_of};
 
-    /// Returns a vector with no items, in no buffer, with start 0.
+    /// Returns an empty vector with start 0.
     #[inline]
     #[must_use]
     pub fn new_empty() -> VectorOf<UnionSliceView<'buf, T, E>>

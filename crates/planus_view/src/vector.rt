@@ -13,11 +13,11 @@ use planus_read::{
 use std::alloc::{AllocError, Global};
 use std::marker::PhantomData;
 
-/// A view of the items of a vector, which are read when they are asked for. In the format a vector
-/// is a count of 4 bytes, followed by its items.
+/// A view of the items of a vector. In the format a vector is a count of 4 bytes, followed by its
+/// items.
 pub type Vector<'buf, T> = VectorOf<SliceView<'buf, T>>;
 
-/// A view of items that follow one another in a slice of a buffer.
+/// A view of items in a slice.
 pub struct SliceView<'buf, T: Stride> {
     buffer: SliceWithStartOffset<'buf>,
     count: usize,
@@ -116,7 +116,7 @@ impl<'buf, T: Stride> TableRead<'buf> for Vector<'buf, T> {
 impl<'buf, T: Stride> Vector<'buf, T> {
     ghost use Rattle.planus_view.specs.VectorView.{view_of};
 
-    /// Returns a vector with no items, in no buffer, with start 0.
+    /// Returns an empty vector with start 0.
     #[inline]
     #[must_use]
     pub fn new_empty() -> Vector<'buf, T>
@@ -141,9 +141,8 @@ impl<'buf, T: VectorReadInner<'buf> + Drop, E: From<T::Error> + Into<Error> + Dr
     ghost use Rattle.planus_view.specs.VectorView.{count_of};
     ghost use Rattle.planus_view.specs.Vectors.{IsSubVector, IsItemIn};
 
-    /// Returns the values of all items, converted in order, or the first error: of a conversion,
-    /// [`CopyError::Read`] for an item, or [`CopyError::OutOfMemory`]. Memory is allocated once,
-    /// first.
+    /// Returns the values of all items, or the first error: of a conversion, [`CopyError::Read`],
+    /// or [`CopyError::OutOfMemory`]. Memory is allocated once.
     pub fn to_vec_result<'n, O: FromItem<T> + Drop>(
         &self,
         alloc: Global,

@@ -1,4 +1,4 @@
-//! The methods of vectors, over any view.
+//! The methods of vectors.
 
 ghost use Rattle.std.specs.Prelude.{◌≡◌, ◌<◌, ◌≤◌, ◌==◌, IfOk, IfErr};
 
@@ -11,7 +11,7 @@ use crate::view::{ReadView, View};
 use std::alloc::Global;
 use std::fmt;
 
-/// A vector of the items of a view, which are read when they are asked for.
+/// The items of a view, which are read when they are asked for.
 #[derive(Clone, Copy)]
 pub struct VectorOf<V> {
     pub(crate) view: V,
@@ -92,7 +92,7 @@ impl<V: View> VectorOf<V> {
         index.get(self)
     }
 
-    /// Returns the item at an index, or the sub-vector at a range. Requires it to be in bounds.
+    /// Returns the item or the sub-vector at an index in bounds.
     #[inline]
     #[must_use]
     pub fn get_unchecked<I: ViewIndex<VectorOf<V>>>(&self, index: I) -> I::Output
@@ -102,8 +102,7 @@ impl<V: View> VectorOf<V> {
         index.get_unchecked(self)
     }
 
-    /// Returns the sub-vectors of the first `mid` items and of the others, or `None` if there are
-    /// fewer.
+    /// Returns the first `mid` items and the others, or `None` if there are fewer.
     #[inline]
     #[must_use]
     pub fn split_at(&self, mid: usize) -> Option<(VectorOf<V>, VectorOf<V>)>
@@ -115,7 +114,7 @@ impl<V: View> VectorOf<V> {
         Some(self.split_at_unchecked(mid))
     }
 
-    /// Returns the sub-vectors of the first `mid` items and of the others. Requires `mid` items.
+    /// Returns the first `mid` items and the others.
     #[inline]
     #[must_use]
     pub fn split_at_unchecked(&self, mid: usize) -> (VectorOf<V>, VectorOf<V>)
@@ -134,8 +133,8 @@ impl<V: View> VectorOf<V> {
         Items::new(*self)
     }
 
-    /// Returns an iterator over sub-vectors of `size` items from the front on; the last may be
-    /// shorter. Requires a `size` above 0.
+    /// Returns an iterator over sub-vectors of `size` items from the front; the last may be
+    /// shorter.
     #[inline]
     #[must_use]
     pub fn chunks(&self, size: usize) -> SubViews<VectorOf<V>, ByChunks>
@@ -145,8 +144,7 @@ impl<V: View> VectorOf<V> {
         SubViews::new(*self, size)
     }
 
-    /// Returns an iterator over sub-vectors of `size` items from the back on; the last, at the
-    /// front, may be shorter. Requires a `size` above 0.
+    /// Returns an iterator over sub-vectors of `size` items from the back; the last may be shorter.
     #[inline]
     #[must_use]
     pub fn rchunks(&self, size: usize) -> SubViews<VectorOf<V>, ByRChunks>
@@ -156,8 +154,8 @@ impl<V: View> VectorOf<V> {
         SubViews::new(*self, size)
     }
 
-    /// Returns an iterator over sub-vectors of exactly `size` items from the front on; its
-    /// `remainder` is what is left at the back. Requires a `size` above 0.
+    /// Returns an iterator over sub-vectors of exactly `size` items from the front; `remainder` has
+    /// the others.
     #[inline]
     #[must_use]
     pub fn chunks_exact(&self, size: usize) -> SubViews<VectorOf<V>, ByChunksExact>
@@ -168,8 +166,8 @@ impl<V: View> VectorOf<V> {
         SubViews::new(*self, size)
     }
 
-    /// Returns an iterator over sub-vectors of exactly `size` items from the back on; its
-    /// `remainder` is what is left at the front. Requires a `size` above 0.
+    /// Returns an iterator over sub-vectors of exactly `size` items from the back; `remainder` has
+    /// the others.
     #[inline]
     #[must_use]
     pub fn rchunks_exact(&self, size: usize) -> SubViews<VectorOf<V>, ByRChunksExact>
@@ -180,8 +178,7 @@ impl<V: View> VectorOf<V> {
         SubViews::new(*self, size)
     }
 
-    /// Returns an iterator over all sub-vectors of exactly `size` items, which overlap. Requires a
-    /// `size` above 0.
+    /// Returns an iterator over all sub-vectors of exactly `size` items.
     #[inline]
     #[must_use]
     pub fn windows(&self, size: usize) -> SubViews<VectorOf<V>, ByWindows>
@@ -197,7 +194,7 @@ impl<V: ReadView> VectorOf<V> {
     ghost use Rattle.planus_view.specs.Splits.{FirstAndRest, LastAndRest, LastItem};
     ghost use Rattle.planus_view.specs.Vectors.{count_in, IsSubVector, IsItemIn};
 
-    /// Returns the first item, or `None` where there is none.
+    /// Returns the first item, if any.
     #[inline]
     #[must_use]
     pub fn first(&self) -> Option<V::Item>
@@ -206,7 +203,7 @@ impl<V: ReadView> VectorOf<V> {
         self.get(0usize)
     }
 
-    /// Returns the last item, or `None` where there is none.
+    /// Returns the last item, if any.
     #[inline]
     #[must_use]
     pub fn last(&self) -> Option<V::Item>
@@ -216,7 +213,7 @@ impl<V: ReadView> VectorOf<V> {
         Some(self.item(last))
     }
 
-    /// Returns the first item and the sub-vector of the others, or `None` where there is none.
+    /// Returns the first item and the others, if any.
     #[inline]
     #[must_use]
     pub fn split_first(&self) -> Option<(V::Item, VectorOf<V>)>
@@ -230,7 +227,7 @@ impl<V: ReadView> VectorOf<V> {
         Some((self.item(0), self.sub_view(1, len)))
     }
 
-    /// Returns the last item and the sub-vector of the others, or `None` where there is none.
+    /// Returns the last item and the others, if any.
     #[inline]
     #[must_use]
     pub fn split_last(&self) -> Option<(V::Item, VectorOf<V>)>
@@ -249,9 +246,8 @@ where
     ghost use Rattle.planus_view.specs.Copies.{AreAllConverted, IsRefusal};
     ghost use Rattle.planus_view.specs.Vectors.{count_in, IsSubVector, IsItemIn};
 
-    /// Returns all items, converted in order, or the first error: of a conversion, in a union
-    /// vector [`CopyError::Read`] for an item, or [`CopyError::OutOfMemory`]. Memory is allocated
-    /// once, first.
+    /// Returns all items, converted, or the first error: of a conversion, in a union vector
+    /// [`CopyError::Read`], or [`CopyError::OutOfMemory`]. Memory is allocated once.
     pub fn to_vec<'n, O: Drop>(&self, alloc: Global) -> Result<Vec<O>, CopyError<'n>>
     where
         V::Copied: Conversion<V::Item, O>,
