@@ -1,4 +1,4 @@
--- A list of numbers is kept once it is written.
+-- A vector of numbers is stored.
 use Rattle.std.proofs.Common.{◌≡◌, ℕ, List, [], ◌∷◌, length, refl, sym, subst, ap, lit<}
 use Rattle.std.specs.Prelude.{None, Result, Ok, Err, IfOk, map}
 use Rattle.std.specs.Int.{w16, to_le_bytes}
@@ -16,7 +16,6 @@ use Rattle.planus.specs.write.State.{State, IsPast}
 use Rattle.planus.specs.write.declared.errors.BuildError.{BuildError}
 use Rattle.planus.specs.write.declared.offset.Offset.{Offset}
 
--- each number has 2 bytes
 two_bytes : (numbers : List ℕ)
     → AllByRecursion (λ item. length item ≡ 2) (map (to_le_bytes w16) numbers)
 two_bytes [] = tt

@@ -1,9 +1,8 @@
--- The names of the ships of a list, one by one.
+-- Names of ships.
 use Rattle.std.proofs.Common.{◌≡◌, ℕ, ◌+◌, ◌<◌, List, [], length, map, take, ◌++◌, ◌∷◌, get_or, ap, ◌∙◌, sym}
 use Rattle.std.proofs.lemmas.List.{map_push, take_more}
 use Rattle.std.specs.Borrow.{Bor}
 
--- the texts of a list that grows by one
 pub one_more_name : (names : List (List ℕ)) (index : ℕ) (found more : List (Bor (List ℕ)))
     (last : Bor (List ℕ)) → map (λ text. text.now) found ≡ take index names
     → index < length names → last.now ≡ get_or names index [] → more ≡ found ++ last ∷ []

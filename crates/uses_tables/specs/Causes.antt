@@ -5,7 +5,6 @@ use Rattle.planus.specs.Unions.{UnionVariant, table_variant}
 use Rattle.uses_tables.specs.declared.cause.CauseRef.{CauseRef}
 use Rattle.uses_tables.specs.declared.cause.CauseRef.TheVariants as cause
 
--- the table of an entry, and that of an origin
 abbrev pub entry_of : CauseRef → Option Table
 entry_of (cause.Entry view) = Some view.table
 entry_of (cause.Origin view) = None
@@ -14,6 +13,5 @@ abbrev pub origin_of : CauseRef → Option Table
 origin_of (cause.Entry view) = None
 origin_of (cause.Origin view) = Some view.table
 
--- tag 1 an entry, tag 2 an origin
 abbrev pub cause_variants : List (UnionVariant CauseRef)
 cause_variants = table_variant 1 entry_of ∷ table_variant 2 origin_of ∷ []

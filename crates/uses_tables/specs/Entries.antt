@@ -7,8 +7,7 @@ use Rattle.planus.specs.Holds.{holds_offset, holds_offsets, holds_union_value, h
 use Rattle.uses_tables.specs.Levels.{level_shape}
 use Rattle.uses_tables.specs.declared.entry.EntryFields.{EntryFields}
 
--- Slot by slot, in the order written, by descending alignment. Retries of 3, and an absent origin
--- or cause, are left out.
+-- Retries of 3, and an absent origin or cause, are left out.
 abbrev pub entry_contents : EntryFields → List (ℕ × Option Content)
 entry_contents entry =
     (0, holds_u64 entry.at)

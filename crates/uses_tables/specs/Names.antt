@@ -20,15 +20,14 @@ use Rattle.uses_tables.specs.declared.ship.Ship.{Ship}
 use Rattle.uses_tables.specs.declared.ship_names.NamesError.{NamesError}
 use Rattle.uses_tables.specs.declared.ship_names.NamesError.TheVariants.{OutOfMemory}
 
--- A table with this string in slot 0 is encoded in B at the distance.
+-- with this string in slot 0
 pub record NamedTableStands (B : List ℕ) (distance : ℕ) (name : List ℕ) : Type 0 where
   pub contents : List (ℕ × Option Content)
   pub stands : TableStands B contents distance
   pub named : content_at contents 0 ≡ holds_text name
   pub is_utf8 : IsUtf8 name
 
--- A vector of references to these distances is encoded at k of B, and at each distance a table
--- whose name is the string of the same index.
+-- references to tables with these names
 pub record NamedTablesStand (B : List ℕ) (k : ℕ) (distances : List ℕ) (names : List (List ℕ))
     : Type 0 where
   pub list : Stands B (at k) (reference_list distances)
@@ -37,18 +36,16 @@ pub record NamedTablesStand (B : List ℕ) (k : ℕ) (distances : List ℕ) (nam
       (i : ℕ) → i < length distances
       → NamedTableStands B (get_or distances i 0) (get_or names i [])
 
--- the view of the items of a vector of this count at k of B
 abbrev pub items_view : List ℕ → ℕ → ℕ → View
 items_view B k count = record { bytes = drop (k + 4) B; start = k + 4; count = count }
 
--- the result for the ship of a view's item
 abbrev pub ItemIs : View → ℕ → Result (TableRef Ship) Error → Type 0
 ItemIs view index r =
     Located (Answer
     (shown (ShowsView view.bytes view.start) (table_reading view.bytes (index * 4))))
     (codes "[ShipRef]") (codes "get") view.start r
 
--- exactly these strings, or refused memory
+-- exactly these strings, or no memory
 abbrev pub AreNames : List (List ℕ) → Result (Vec (Bor (List ℕ)) Global) NamesError → Type 0
 AreNames names (Ok found) = map (λ text. text.now) found.items ≡ names
 AreNames names (Err error) = error ≡ OutOfMemory

@@ -6,7 +6,6 @@ use Rattle.planus.specs.Unions.{UnionVariant, table_variant, text_variant}
 use Rattle.uses_tables.specs.declared.owner.OwnerRef.{OwnerRef}
 use Rattle.uses_tables.specs.declared.owner.OwnerRef.TheVariants as owner
 
--- the name, and the table of the ship
 abbrev pub name_of : OwnerRef → Option (Bor (List ℕ))
 name_of (owner.Name name) = Some name
 name_of (owner.Ship ship) = None
@@ -15,6 +14,5 @@ abbrev pub ship_of : OwnerRef → Option Table
 ship_of (owner.Name name) = None
 ship_of (owner.Ship ship) = Some ship.table
 
--- tag 1 a name, tag 2 a ship
 abbrev pub owner_variants : List (UnionVariant OwnerRef)
 owner_variants = text_variant 1 name_of ∷ table_variant 2 ship_of ∷ []

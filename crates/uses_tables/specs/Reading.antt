@@ -13,15 +13,13 @@ use Rattle.uses_tables.specs.declared.entry.Entry.{Entry}
 use Rattle.uses_tables.specs.declared.entry.EntryFields.{EntryFields}
 use Rattle.uses_tables.specs.declared.read_back.EntryRead.{EntryRead}
 
--- Each table kept in a builder is encoded in B, with all that it refers to.
 abbrev pub KeptTablesStandIn : List ℕ → State → Type 0
 KeptTablesStandIn B state =
     (past : Past) (contents : List (ℕ × Option Content)) (distance : ℕ) → IsPast state past
     → TableIsKept past contents distance → IsTrue (are_apart contents)
     → TableStands B contents distance
 
--- The fields of an entry read as they were given: numbers and strings equal, an origin and a cause
--- encoded in B as their views, none where none was given.
+-- Each field reads as it was given.
 pub record IsRead (B : List ℕ) (entry : EntryFields) (read : EntryRead) : Type 0 where
   pub at : read.at ≡ entry.at
   pub retries : read.retries ≡ entry.retries

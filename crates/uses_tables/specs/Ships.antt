@@ -13,8 +13,7 @@ use Rattle.planus.specs.write.declared.offset.Text.{Text}
 use Rattle.planus.specs.Preparing.{WritesFields}
 use Rattle.planus.specs.TableFields.{field_in}
 
--- The fields of a ship: its name in slot 0, its cargo in slot 2, its hull in slot 1, each if
--- present.
+-- name in slot 0, cargo in slot 2, hull in slot 1
 abbrev pub ship_fields : {A B : Type 0} → Option (Offset A) → Option (Offset B) → Option ℕ
     → List (List (ℕ × Field))
 ship_fields name cargo hull =
@@ -22,7 +21,6 @@ ship_fields name cargo hull =
     ∷ field_in 2 (λ offset. reference offset.distance) cargo
     ∷ field_in 1 (λ hull. plain (record { bytes = to_le_bytes w16 hull; alignment = 2 })) hull ∷ []
 
--- the cargo was written or refused, or there is none
 abbrev pub PreparesCargo : {T : Type 0} → Option (Bor (List ℕ)) → Outcome (Option (Offset T))
 PreparesCargo cargo =
     PreparesIf
@@ -31,8 +29,7 @@ PreparesCargo cargo =
     old answer new)
     cargo
 
--- A ship was written, or a step refused: its name, its cargo, its hull unless 100, then its table
--- with the present fields.
+-- The name, the cargo and the hull unless 100, or an error.
 abbrev pub CreatesShip : {T : Type 0} → List ℕ → ℕ → Option (Bor (List ℕ)) → Outcome (Offset T)
 CreatesShip {T} name hull cargo =
     then_does

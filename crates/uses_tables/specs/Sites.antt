@@ -24,6 +24,6 @@ site_contents equal site =
     ∷ (3, unless (equal site.kind Bike) (holds_plain kind_shape site.kind))
     ∷ (7, holds_plain features_shape site.features) ∷ []
 
--- the result of such a read, with another value for an unknown number
+-- with another value for an unknown number
 abbrev pub IsKnownOr : {A : Type 0} → A → (Result A Error → Type 0) → Result A Error → Type 0
 IsKnownOr {A} other Reads r = (read : Result A Error) × Reads read × (r ≡ known_or other read)

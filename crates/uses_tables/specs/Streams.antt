@@ -1,4 +1,4 @@
--- Streams of size-prefixed buffers, one after another.
+-- Streams of size-prefixed buffers.
 use Rattle.std.specs.Prelude.{◌≡◌, ℕ, ◌<◌, List, [], ◌∷◌, ◌++◌, length, map, Option, Some, None}
 use Rattle.planus.specs.read.declared.errors.ErrorKind.{ErrorKind}
 use Rattle.planus.specs.read.Clauses.{FirstBroken}
@@ -11,7 +11,7 @@ use Rattle.planus.specs.write.Preparing.{WritesText}
 use Rattle.planus.specs.write.Finishing.{SizedFinishGives}
 use Rattle.uses_tables.specs.declared.stream.Records.{Records}
 
--- What an empty builder's size-prefixed finish of this string returns was appended to the stream.
+-- This string was appended as a size-prefixed finish.
 pub record IsAppended (text old new : List ℕ) : Type 0 where
   pub builder : State
   pub past : IsPast builder no_past
@@ -20,18 +20,18 @@ pub record IsAppended (text old new : List ℕ) : Type 0 where
   pub size : IsPrefixed buffer
   pub behind : new ≡ old ++ buffer
 
--- The stream begins with size-prefixed buffers of these contents, in order, followed by the rest.
+-- Buffers of these contents come first, then the rest.
 abbrev pub BeginsWith : List ℕ → List (List ℕ) → List ℕ → Type 0
 BeginsWith stream [] rest = stream ≡ rest
 BeginsWith stream (content ∷ contents) rest =
     (next : List ℕ) × PrefixedThere stream content next × BeginsWith next contents rest
 
--- Why reading ends: nothing is left, or what is left fails with this error.
+-- Nothing is left, or it fails with this error.
 abbrev pub EndsFor : Option ErrorKind → List ℕ → Type 0
 EndsFor None rest = rest ≡ []
 EndsFor (Some error) rest = (0 < length rest) × FirstBroken (prefixed_clauses rest) error
 
--- All buffers of the stream are read, up to its end or the first that fails.
+-- All buffers are read, up to the first that fails.
 pub record ReadsAll (stream : List ℕ) (records : Records) : Type 0 where
   pub rest : List ℕ
   pub begins : BeginsWith stream (map slice_bytes records.pieces.items) rest

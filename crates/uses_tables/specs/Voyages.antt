@@ -9,7 +9,6 @@ use Rattle.planus.specs.Holds.{holds_union_value, holds_union_tag, holds_any_uni
 use Rattle.planus.specs.Holds.{holds_any_union_values}
 use Rattle.uses_tables.specs.declared.voyage.VoyageFields.{VoyageFields}
 
--- Slot by slot, in the order written.
 abbrev pub voyage_contents : VoyageFields → List (ℕ × Option Content)
 voyage_contents voyage =
     (0, holds_u64 voyage.id)

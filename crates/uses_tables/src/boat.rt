@@ -24,7 +24,7 @@ use planus::{
     WriteAsOptional, create_table, fields, text_required,
 };
 
-/// A callsign, always present and encoded as a string.
+/// A callsign, encoded as a string.
 #[derive(Clone, Copy)]
 pub struct Callsign<'a>(pub &'a str);
 
@@ -52,7 +52,7 @@ impl<'a> WriteAsOptional<Offset<Text>> for Callsign<'a> {
     ghost has_content = { always_prepared (text_prepared (λ callsign. callsign.0.now)) };
 }
 
-/// The kind of an offset to a boat.
+/// The kind of a boat.
 pub struct Boat;
 
 impl Boat {
@@ -71,7 +71,6 @@ impl Boat {
         create_table::<Boat, _>(builder, fields)
     }
 
-    /// Returns a boat's callsign.
     pub fn callsign<'a>(boat: &TableRef<'a, Boat>) -> Result<&'a str>
         ensures { IsTextRequired boat.now.table 0 (codes "Boat") (codes "callsign") result }
     {

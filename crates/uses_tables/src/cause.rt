@@ -4,15 +4,13 @@ use crate::origin::OriginRef;
 use planus::errors::ErrorKind;
 use planus::{SliceWithStartOffset, TableRead, TableReadUnion};
 
-/// The kind of a union that is a cause: tag 1 an entry, tag 2 an origin.
+/// The kind of a cause.
 pub struct Cause;
 
 /// A cause in a buffer.
 #[derive(Clone, Copy)]
 pub enum CauseRef<'a> {
-    /// Another entry.
     Entry(EntryRef<'a>),
-    /// An origin.
     Origin(OriginRef<'a>),
 }
 

@@ -32,14 +32,13 @@ use planus::{
     text_required, text_vector, union_field,
 };
 
-/// The kind of an entry, and of an offset to one.
+/// The kind of an entry.
 pub struct Entry;
 
 /// An entry in a buffer.
 pub type EntryRef<'a> = TableRef<'a, Entry>;
 
-/// The fields of an entry, as `Entry::create` takes them. Its origin, cause and parents are written
-/// already.
+/// The fields of an entry.
 #[derive(Drop)]
 pub struct EntryFields<'a> {
     pub at: u64,
@@ -53,8 +52,7 @@ pub struct EntryFields<'a> {
 }
 
 impl Entry {
-    /// Writes an entry. Retries of 3 are left out. With `Ok` it is kept with exactly these fields,
-    /// whatever was written before.
+    /// Writes an entry, whose origin, cause and parents are written already.
     pub fn create(
         builder: &mut Builder,
         entry: EntryFields<'_>,
@@ -84,35 +82,35 @@ impl Entry {
         create_table::<Entry, _>(builder, fields)
     }
 
-    /// Returns the time, 0 if absent.
+    /// Returns the time.
     pub fn at(entry: &EntryRef<'_>) -> Result<u64>
         ensures { IsPlainFieldOr u64_shape 0 entry.now.table 0 (codes "Entry") (codes "at") result }
     {
         plain_field_or(&entry.table, 0, 0, "Entry", "at")
     }
 
-    /// Returns the number of retries, 3 if absent.
+    /// Returns the number of retries.
     pub fn retries(entry: &EntryRef<'_>) -> Result<u16>
         ensures { IsPlainFieldOr u16_shape 3 entry.now.table 1 (codes "Entry") (codes "retries") result }
     {
         plain_field_or(&entry.table, 1, 3, "Entry", "retries")
     }
 
-    /// Returns its text.
+    /// Returns the text.
     pub fn text<'a>(entry: &EntryRef<'a>) -> Result<&'a str>
         ensures { IsTextRequired entry.now.table 2 (codes "Entry") (codes "text") result }
     {
         text_required(&entry.table, 2, "Entry", "text")
     }
 
-    /// Returns the tags, or `None` if absent.
+    /// Returns the tags.
     pub fn tags<'a>(entry: &EntryRef<'a>) -> Result<Option<Vector<'a, Result<&'a str>>>>
         ensures { IsTextVector entry.now.table 3 (codes "Entry") (codes "tags") result }
     {
         text_vector(&entry.table, 3, "Entry", "tags")
     }
 
-    /// Returns the origin, or `None` if absent.
+    /// Returns the origin.
     pub fn origin<'a>(entry: &EntryRef<'a>) -> Result<Option<OriginRef<'a>>>
         ensures { IsTableField Origin (λ origin. origin.table) entry.now.table 4 (codes "Entry")
             (codes "origin") result }
@@ -120,7 +118,7 @@ impl Entry {
         table_field(&entry.table, 4, "Entry", "origin")
     }
 
-    /// Returns the cause, or `None` if absent.
+    /// Returns the cause.
     pub fn cause<'a>(entry: &EntryRef<'a>) -> Result<Option<CauseRef<'a>>>
         ensures { IsUnionField (ReadsVariants cause_variants) entry.now.table 5 (codes "Entry")
             (codes "cause") Cause result }
@@ -128,14 +126,14 @@ impl Entry {
         union_field::<Cause, CauseRef<'a>>(&entry.table, 5, "Entry", "cause")
     }
 
-    /// Returns the parents, or `None` if absent.
+    /// Returns the parents.
     pub fn parents<'a>(entry: &EntryRef<'a>) -> Result<Option<Vector<'a, Result<EntryRef<'a>>>>>
         ensures { IsTableVector Entry entry.now.table 7 (codes "Entry") (codes "parents") result }
     {
         table_vector(&entry.table, 7, "Entry", "parents")
     }
 
-    /// Returns the level, `Info` if absent.
+    /// Returns the level.
     pub fn level(entry: &EntryRef<'_>) -> Result<Level>
         ensures { IsPlainFieldOr level_shape Level.INFO entry.now.table 8 (codes "Entry")
             (codes "level") result }

@@ -6,24 +6,22 @@ ghost use Rattle.uses_tables.specs.Structs.{features_shape};
 use planus::errors::ErrorKind;
 use planus::{Plain, PlainField, SliceWithStartOffset, put_fields, read_fields};
 
-/// A set of features, one bit each. Unnamed bits are kept.
+/// A set of features. Unnamed bits are kept.
 #[derive(Clone, Copy, Debug, PartialEq)]
 pub struct Features {
-    /// The bits.
     pub bits: u8,
 }
 
 impl Features {
-    /// None of these.
     pub const NOTHING: Features = Features { bits: 0 };
-    /// Water.
+
     pub const WATER: Features = Features { bits: 1 };
-    /// Power.
+
     pub const POWER: Features = Features { bits: 2 };
-    /// A road.
+
     pub const ROAD: Features = Features { bits: 4 };
 
-    /// Returns whether all of these are in the set.
+    /// Returns whether the set has all of these.
     pub fn has(&self, others: Features) -> bool
         ensures { result ≡ (bit_and self.now.bits others.bits == others.bits) }
     {

@@ -9,11 +9,9 @@ use planus::{Plain, PlainField, SliceWithStartOffset, Stride, put_fields, read_f
 /// When something was where.
 #[derive(Clone, Copy, Debug, PartialEq)]
 pub struct Fix {
-    /// When it was, in milliseconds.
+    /// In milliseconds.
     pub when: u64,
-    /// Where it was.
     pub at: Pos,
-    /// What it was.
     pub kind: Kind,
 }
 

@@ -21,14 +21,14 @@ use planus::{
     Variant, create_table, fields, union_field, union_vector, variant,
 };
 
-/// The kind of an offset to a fleet.
+/// The kind of a fleet.
 pub struct Fleet;
 
 /// An owner by name.
 pub type Named<'a> = Variant<1, Text, &'a str>;
 
 impl Fleet {
-    /// Writes a fleet with the names of its owner and captains.
+    /// Writes a fleet, with the names of owner and captains.
     pub fn create(
         builder: &mut Builder,
         owner: &str,
@@ -50,7 +50,6 @@ impl Fleet {
         create_table::<Fleet, _>(builder, fields)
     }
 
-    /// Returns a fleet's owner, or `None` if absent.
     pub fn owner<'a>(fleet: &TableRef<'a, Fleet>) -> Result<Option<OwnerRef<'a>>>
         ensures { IsUnionField (ReadsVariants owner_variants) fleet.now.table 0 (codes "Fleet")
             (codes "owner") Owner result }
@@ -58,7 +57,6 @@ impl Fleet {
         union_field::<Owner, OwnerRef<'a>>(&fleet.table, 0, "Fleet", "owner")
     }
 
-    /// Returns a fleet's captains, or `None` if absent.
     pub fn captains<'a>(
         fleet: &TableRef<'a, Fleet>,
     ) -> Result<Option<UnionVector<'a, OwnerRef<'a>>>>

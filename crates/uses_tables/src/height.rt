@@ -7,11 +7,8 @@ use planus::{Plain, PlainField, SliceWithStartOffset, read_variant};
 /// How high something is.
 #[derive(Clone, Copy, Debug, PartialEq)]
 pub enum Height {
-    /// Low.
     Low = -300,
-    /// In the middle.
     Mid = 0,
-    /// High.
     High = 300,
 }
 

@@ -7,11 +7,8 @@ use planus::{Plain, PlainField, SliceWithStartOffset, Stride, read_variant};
 /// What a site is.
 #[derive(Clone, Copy, Debug, PartialEq)]
 pub enum Kind {
-    /// A car.
     Car = 0,
-    /// A bike.
     Bike = 1,
-    /// A ship.
     Ship = 2,
 }
 

@@ -8,9 +8,7 @@ use planus::{Plain, PlainField, SliceWithStartOffset, put_fields, read_fields};
 /// From where to where something went.
 #[derive(Clone, Copy, Debug, PartialEq)]
 pub struct Leg {
-    /// Where it began.
     pub from: Fix,
-    /// Where it ended.
     pub to: Fix,
 }
 

@@ -10,11 +10,10 @@ use planus::{Plain, PlainField, SliceWithStartOffset};
 pub struct Level(pub u8);
 
 impl Level {
-    /// For information only.
     pub const INFO: Level = Level(0);
-    /// Something that is worth a look.
+
     pub const WARNING: Level = Level(1);
-    /// Something that is broken.
+
     pub const FAULT: Level = Level(2);
 }
 

@@ -1,7 +1,4 @@
-//! Examples of a user's own types, written and read back in place. Tables: ships, ports, fleets,
-//! boats, voyages, and log entries with origins and causes. Structs, enums, flags and floats:
-//! sites, samples and probes. Also the names of a vector of ships, a stream of buffers, and a
-//! vector of numbers.
+//! Examples of a user's own types, written and read back in place. Start with [`Ship`].
 #![tactic(auto)]
 
 mod boat;

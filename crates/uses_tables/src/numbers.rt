@@ -1,4 +1,4 @@
-//! A vector that is kept, proved from the contracts and laws alone.
+//! A stored vector, proved from contracts and laws alone.
 
 ghost use Rattle.std.specs.Prelude.{map, IfOk, None};
 ghost use Rattle.std.specs.Int.{w16, to_le_bytes};
@@ -10,8 +10,7 @@ ghost use Rattle.planus.specs.write.Kept.{IsKept};
 use planus::laws::write_laws;
 use planus::{BuildError, Builder, List, Offset};
 
-/// Writes a vector of `u16`s. Whatever was written before, it is kept at the returned distance,
-/// aligned in all finished bytes that end in these.
+/// Writes a vector of `u16`s, which is stored.
 pub fn create_numbers(
     builder: &mut Builder,
     numbers: &[u16],

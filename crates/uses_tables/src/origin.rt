@@ -12,15 +12,14 @@ use planus::{
     fields, plain_field_or, text_field,
 };
 
-/// The kind of an origin, and of an offset to one.
+/// The kind of an origin.
 pub struct Origin;
 
 /// An origin in a buffer.
 pub type OriginRef<'a> = TableRef<'a, Origin>;
 
 impl Origin {
-    /// Writes an origin. With `Ok` it is kept with exactly these fields, whatever was written
-    /// before.
+    /// Writes an origin.
     pub fn create(
         builder: &mut Builder,
         host: &str,
@@ -38,14 +37,12 @@ impl Origin {
         create_table::<Origin, _>(builder, fields)
     }
 
-    /// Returns the host, or `None` if absent.
     pub fn host<'a>(origin: &OriginRef<'a>) -> Result<Option<&'a str>>
         ensures { IsTextField origin.now.table 0 (codes "Origin") (codes "host") result }
     {
         text_field(&origin.table, 0, "Origin", "host")
     }
 
-    /// Returns the port, 0 if absent.
     pub fn port(origin: &OriginRef<'_>) -> Result<u16>
         ensures { IsPlainFieldOr u16_shape 0 origin.now.table 1 (codes "Origin") (codes "port") result }
     {

@@ -7,15 +7,13 @@ use crate::ship::ShipRef;
 use planus::errors::ErrorKind;
 use planus::{SliceWithStartOffset, TableRead, TableReadUnion, VectorReadUnion, read_view};
 
-/// The kind of a union that is an owner: tag 1 a name, tag 2 a ship.
+/// The kind of an owner.
 pub struct Owner;
 
 /// An owner in a buffer.
 #[derive(Clone, Copy)]
 pub enum OwnerRef<'a> {
-    /// A name.
     Name(&'a str),
-    /// A ship.
     Ship(ShipRef<'a>),
 }
 

@@ -1,4 +1,4 @@
-//! Ports: tables with a union and fields of other kinds, of the schema
+//! Ports, of the schema
 //!
 //! ```text
 //! table Port {
@@ -33,10 +33,10 @@ use planus::{
     table_vector, union_field, union_item, union_vector,
 };
 
-/// The kind of an offset to a port.
+/// The kind of a port.
 pub struct Port;
 
-/// The fields of a port, as `Port::create` takes them.
+/// The fields of a port.
 #[derive(Drop)]
 pub struct PortFields<'a> {
     pub owner: Option<UnionOffset<Owner>>,
@@ -49,8 +49,7 @@ pub struct PortFields<'a> {
 }
 
 impl Port {
-    /// Writes a port, whose owner, ships and shares are written already. A depth of -5 and absent
-    /// shares are left out.
+    /// Writes a port, whose owner, ships and shares are written already.
     pub fn create(
         builder: &mut Builder,
         port: PortFields<'_>,
@@ -92,7 +91,7 @@ impl Port {
         create_table::<Port, _>(builder, fields)
     }
 
-    /// Returns a port's owner, or `None` if absent.
+    /// Returns the owner.
     pub fn owner<'a>(port: &TableRef<'a, Port>) -> Result<Option<OwnerRef<'a>>>
         ensures { IsUnionField (ReadsVariants owner_variants) port.now.table 0 (codes "Port")
             (codes "owner") Owner result }
@@ -100,14 +99,14 @@ impl Port {
         union_field::<Owner, OwnerRef<'a>>(&port.table, 0, "Port", "owner")
     }
 
-    /// Returns a port's shareholders, or `None` if absent.
+    /// Returns the shareholders.
     pub fn shares<'a>(port: &TableRef<'a, Port>) -> Result<Option<UnionVector<'a, OwnerRef<'a>>>>
         ensures { IsUnionVector port.now.table 7 (codes "Port") (codes "shares") result }
     {
         union_vector(&port.table, 7, "Port", "shares")
     }
 
-    /// Returns a port's ships, or `None` if absent.
+    /// Returns the ships.
     pub fn ships<'a>(
         port: &TableRef<'a, Port>,
     ) -> Result<Option<Vector<'a, Result<TableRef<'a, Ship>>>>>
@@ -116,7 +115,7 @@ impl Port {
         table_vector(&port.table, 2, "Port", "ships")
     }
 
-    /// Returns a port's depth, -5 if absent.
+    /// Returns the depth.
     pub fn depth(port: &TableRef<'_, Port>) -> Result<i16>
         ensures { IsPlainFieldOr i16_shape (negsuc 4) port.now.table 4 (codes "Port")
             (codes "depth") result }
@@ -125,7 +124,7 @@ impl Port {
     }
 }
 
-/// Returns a ship of a port, or `None` out of bounds.
+/// Returns a ship, or `None` out of bounds.
 pub fn ship_at<'a>(
     ships: &Vector<'a, Result<TableRef<'a, Ship>>>,
     index: usize,

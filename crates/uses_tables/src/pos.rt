@@ -9,11 +9,8 @@ use planus::{
 /// Where something is.
 #[derive(Clone, Copy, Debug, PartialEq)]
 pub struct Pos {
-    /// The latitude.
     pub lat: i32,
-    /// The longitude.
     pub lon: i32,
-    /// The height.
     pub alt: i16,
 }
 

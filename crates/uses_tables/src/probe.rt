@@ -23,11 +23,11 @@ use planus::{
     create_table, fields, plain_field, plain_field_or, plain_vector,
 };
 
-/// The kind of an offset to a probe.
+/// The kind of a probe.
 pub struct Probe;
 
 impl Probe {
-    /// Writes a probe. A level `Mid` is left out.
+    /// Writes a probe.
     pub fn create(
         builder: &mut Builder,
         level: Height,
@@ -56,29 +56,25 @@ impl Probe {
         create_table::<Probe, _>(builder, fields)
     }
 
-    /// Returns the level, `Mid` if absent.
     pub fn level(probe: &TableRef<'_, Probe>) -> Result<Height>
         ensures { IsPlainFieldOr height_shape Mid probe.now.table 0 (codes "Probe") (codes "level") result }
     {
         plain_field_or(&probe.table, 0, Height::Mid, "Probe", "level")
     }
 
-    /// Returns the reading, or `None` if absent.
     pub fn reading(probe: &TableRef<'_, Probe>) -> Result<Option<Reading>>
         ensures { IsPlainField reading_shape probe.now.table 1 (codes "Probe") (codes "reading") result }
     {
         plain_field(&probe.table, 1, "Probe", "reading")
     }
 
-    /// Returns the readings, or `None` if absent. Each is a `Result`: its level's number may be
-    /// unknown.
+    /// Returns the readings, whose levels may be unknown.
     pub fn readings<'a>(probe: &TableRef<'a, Probe>) -> Result<Option<Vector<'a, Result<Reading>>>>
         ensures { IsPlainVector probe.now.table 2 (codes "Probe") (codes "readings") result }
     {
         plain_vector(&probe.table, 2, "Probe", "readings")
     }
 
-    /// Returns the fixes, or `None` if absent.
     pub fn fixes<'a>(probe: &TableRef<'a, Probe>) -> Result<Option<Vector<'a, Result<Fix>>>>
         ensures { IsPlainVector probe.now.table 3 (codes "Probe") (codes "fixes") result }
     {

@@ -1,4 +1,4 @@
-//! What was written is read back.
+//! Entries, read back.
 
 ghost use Rattle.std.specs.Prelude.{◌≡◌, IfOk, List as list, MatchOption, ℕ, ⊤};
 ghost use Rattle.planus.specs.write.InBuilder.{IsIn, AllIn};
@@ -10,12 +10,10 @@ use crate::level::Level;
 use crate::origin::OriginRef;
 use planus::{BuildError, Builder, Error, Offset, Vector, laws, read_root};
 
-/// Why an entry could not be written or read.
+/// Why an entry can't be written or read.
 #[derive(Clone, Copy, Debug)]
 pub enum LogError {
-    /// It can't be written.
     Build(BuildError),
-    /// It can't be read.
     Read(Error),
 }
 
@@ -39,7 +37,7 @@ impl From<Error> for LogError {
     }
 }
 
-/// Writes an entry as the root of a buffer and reads its string: with `Ok`, that of the argument.
+/// Writes an entry and reads its string.
 pub fn text_read_back<'b>(
     builder: &'b mut Builder,
     entry: EntryFields<'_>,
@@ -56,7 +54,7 @@ pub fn text_read_back<'b>(
     Ok(Entry::text(&root)?)
 }
 
-/// The eight fields read of an entry, each in place.
+/// The fields read.
 #[derive(Drop)]
 pub struct EntryRead<'a> {
     pub at: u64,
@@ -69,9 +67,7 @@ pub struct EntryRead<'a> {
     pub level: Level,
 }
 
-/// Writes an entry as the root of a buffer and reads it. With `Ok` each field is that of the
-/// argument: numbers and string are equal, tags are read as items of a vector, and the origin,
-/// cause and parents written before as views with all their contents.
+/// Writes an entry and reads it as it was given.
 pub fn all_read_back<'b>(
     builder: &'b mut Builder,
     entry: EntryFields<'_>,

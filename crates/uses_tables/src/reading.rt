@@ -13,21 +13,13 @@ use planus::{Plain, PlainField, SliceWithStartOffset, Stride, put_fields, read_f
 /// What an instrument shows.
 #[derive(Clone, Copy, Debug, PartialEq)]
 pub struct Reading {
-    /// Whether it is on.
     pub on: bool,
-    /// A small number.
     pub tiny: i8,
-    /// Where it is plugged in.
     pub port: u16,
-    /// How often it was read.
     pub count: u32,
-    /// What it has counted.
     pub total: i64,
-    /// What it shows roughly.
     pub rough: f32,
-    /// What it shows exactly.
     pub exact: f64,
-    /// How high that is.
     pub level: Height,
 }
 

@@ -16,13 +16,11 @@ use planus::{
     create_table, fields, plain_field_or, plain_vector,
 };
 
-/// The kind of an offset to a sample.
+/// The kind of a sample.
 pub struct Sample;
 
-/// The default of `exact`.
 pub const USUAL: f64 = 0.0;
 
-/// The default of `rough`.
 pub const ROUGHLY: f32 = 0.0;
 
 impl Sample {
@@ -52,21 +50,18 @@ impl Sample {
         create_table::<Sample, _>(builder, fields)
     }
 
-    /// Returns `exact`, 0 if absent.
     pub fn exact(sample: &TableRef<'_, Sample>) -> Result<f64>
         ensures { IsPlainFieldOr f64_shape USUAL sample.now.table 0 (codes "Sample") (codes "exact") result }
     {
         plain_field_or(&sample.table, 0, USUAL, "Sample", "exact")
     }
 
-    /// Returns `rough`, 0 if absent.
     pub fn rough(sample: &TableRef<'_, Sample>) -> Result<f32>
         ensures { IsPlainFieldOr f32_shape ROUGHLY sample.now.table 1 (codes "Sample") (codes "rough") result }
     {
         plain_field_or(&sample.table, 1, ROUGHLY, "Sample", "rough")
     }
 
-    /// Returns the series, or `None` if absent.
     pub fn series<'a>(sample: &TableRef<'a, Sample>) -> Result<Option<Vector<'a, f64>>>
         ensures { IsPlainVector sample.now.table 2 (codes "Sample") (codes "series") result }
     {

@@ -20,15 +20,11 @@ use planus::{
     Vector, create_table, fields, plain_field_or, plain_vector, text_required,
 };
 
-/// The kind of a ship, and of an offset to one.
+/// The kind of a ship.
 pub struct Ship;
 
 impl Ship {
-    /// Writes a ship: its name, its cargo if given, and the table that refers to them. A hull of
-    /// 100 is left out. With `Ok` the ship is kept whatever was written before, and so is all that
-    /// was kept before.
-    ///
-    /// [`BuildError::TooLarge`] and [`BuildError::OutOfMemory`] as of [`Builder::create_vector`].
+    /// Writes a ship, its name, and its cargo if given. Fails as [`Builder::create_vector`] does.
     pub fn create(
         builder: &mut Builder,
         name: &str,
@@ -64,21 +60,21 @@ pub struct ShipRef<'a> {
 }
 
 impl<'a> ShipRef<'a> {
-    /// Returns its name.
+    /// Returns the name.
     pub fn name(&self) -> Result<&'a str>
         ensures { IsTextRequired self.now.table 0 (codes "Ship") (codes "name") result }
     {
         text_required(&self.table, 0, "Ship", "name")
     }
 
-    /// Returns the hull, 100 if absent.
+    /// Returns the hull.
     pub fn hull(&self) -> Result<u16>
         ensures { IsPlainFieldOr u16_shape 100 self.now.table 1 (codes "Ship") (codes "hull") result }
     {
         plain_field_or(&self.table, 1, 100, "Ship", "hull")
     }
 
-    /// Returns the cargo, or `None` if absent.
+    /// Returns the cargo.
     pub fn cargo(&self) -> Result<Option<Vector<'a, u32>>>
         ensures { IsPlainVector self.now.table 2 (codes "Ship") (codes "cargo") result }
     {

@@ -1,4 +1,4 @@
-//! The names of all ships of a vector.
+//! The names of ships.
 
 ghost use Rattle.std.specs.Prelude.{◌≡◌, ◌<◌, ◌+◌, ◌*◌, ℕ, List, length};
 ghost use Rattle.std.specs.Result.{IsOkAnd};
@@ -13,12 +13,10 @@ use planus::laws::{read_laws, view_laws};
 use planus::{Error, Result, SliceWithStartOffset, TableRead, TableRef, Vector, text_required};
 use std::alloc::{AllocError, AllocFailed, Global};
 
-/// Why the names could not be returned.
+/// Why there are no names.
 #[derive(Clone, Copy, Debug)]
 pub enum NamesError {
-    /// Memory for them was refused.
     OutOfMemory,
-    /// A name or its ship could not be read.
     Read(Error),
 }
 
@@ -52,7 +50,6 @@ impl From<Error> for NamesError {
     }
 }
 
-// The name of a ship of a vector, where its reference leads to a table with a name.
 fn name_at<'a>(
     ships: &Vector<'a, std::result::Result<TableRef<'a, Ship>, Error>>,
     index: usize,
@@ -68,8 +65,7 @@ fn name_at<'a>(
     text_required(&ship.table, 0, "Ship", "name")
 }
 
-/// Returns the names of the ships of a vector: exactly these strings where each is a table with a
-/// string as its name, unless memory is refused.
+/// Returns the names of the ships of a vector.
 pub fn names<'a>(
     alloc: Global,
     ships: &Vector<'a, std::result::Result<TableRef<'a, Ship>, Error>>,
@@ -87,8 +83,7 @@ pub fn names<'a>(
     Ok(names)
 }
 
-/// Returns the names of the ships of a buffer whose root is a vector of them: exactly these strings
-/// where each is a table with a string as its name, unless memory is refused.
+/// Returns the names of the ships of a buffer's root.
 pub fn names_in(alloc: Global, bytes: &[u8]) -> std::result::Result<Vec<&str>, NamesError>
     ensures { (k : ℕ) (distances : List ℕ) (names : List (List ℕ)) → Leads bytes.now 0 k
         → NamedTablesStand bytes.now k distances names → AreNames names result }

@@ -28,13 +28,12 @@ use planus::{
     create_table, fields, known_or, plain_field, plain_field_or, plain_item, plain_vector,
 };
 
-/// The kind of an offset to a site.
+/// The kind of a site.
 pub struct Site;
 
-/// The default of a site's heat.
 pub const USUAL_HEAT: f32 = 1.0;
 
-/// What a site has.
+/// The fields of a site.
 #[derive(Drop)]
 pub struct SiteFields<'a> {
     pub home: Option<Pos>,
@@ -48,7 +47,7 @@ pub struct SiteFields<'a> {
 }
 
 impl Site {
-    /// Writes a site. A kind `Bike` is left out.
+    /// Writes a site.
     pub fn create(
         builder: &mut Builder,
         site: SiteFields<'_>,
@@ -75,35 +74,31 @@ impl Site {
         create_table::<Site, _>(builder, fields)
     }
 
-    /// Returns the home, or `None` if absent.
     pub fn home(site: &TableRef<'_, Site>) -> Result<Option<Pos>>
         ensures { IsPlainField pos_shape site.now.table 0 (codes "Site") (codes "home") result }
     {
         plain_field(&site.table, 0, "Site", "home")
     }
 
-    /// Returns the track, or `None` if absent.
     pub fn track<'a>(site: &TableRef<'a, Site>) -> Result<Option<Vector<'a, Pos>>>
         ensures { IsPlainVector site.now.table 1 (codes "Site") (codes "track") result }
     {
         plain_vector(&site.table, 1, "Site", "track")
     }
 
-    /// Returns the fix, or `None` if absent.
     pub fn fix(site: &TableRef<'_, Site>) -> Result<Option<Fix>>
         ensures { IsPlainField fix_shape site.now.table 2 (codes "Site") (codes "fix") result }
     {
         plain_field(&site.table, 2, "Site", "fix")
     }
 
-    /// Returns the kind, `Bike` if absent.
     pub fn kind(site: &TableRef<'_, Site>) -> Result<Kind>
         ensures { IsPlainFieldOr kind_shape Bike site.now.table 3 (codes "Site") (codes "kind") result }
     {
         plain_field_or(&site.table, 3, Kind::Bike, "Site", "kind")
     }
 
-    /// Returns the kind, or another one for an unknown number, as of a later schema.
+    /// Returns the kind, or another for an unknown number.
     pub fn kind_or(site: &TableRef<'_, Site>, other: Kind) -> Result<Kind>
         ensures { IsKnownOr other (IsPlainFieldOr kind_shape Bike site.now.table 3 (codes "Site")
             (codes "kind")) result }
@@ -111,28 +106,25 @@ impl Site {
         known_or(Site::kind(site), other)
     }
 
-    /// Returns the heat, 1 if absent.
     pub fn heat(site: &TableRef<'_, Site>) -> Result<f32>
         ensures { IsPlainFieldOr f32_shape USUAL_HEAT site.now.table 4 (codes "Site") (codes "heat") result }
     {
         plain_field_or(&site.table, 4, USUAL_HEAT, "Site", "heat")
     }
 
-    /// Returns the kinds, or `None` if absent. Each is a `Result`: its number may be unknown.
+    /// Returns the kinds, whose numbers may be unknown.
     pub fn kinds<'a>(site: &TableRef<'a, Site>) -> Result<Option<Vector<'a, Result<Kind>>>>
         ensures { IsPlainVector site.now.table 5 (codes "Site") (codes "kinds") result }
     {
         plain_vector(&site.table, 5, "Site", "kinds")
     }
 
-    /// Returns the leg, or `None` if absent.
     pub fn leg(site: &TableRef<'_, Site>) -> Result<Option<Leg>>
         ensures { IsPlainField leg_shape site.now.table 6 (codes "Site") (codes "leg") result }
     {
         plain_field(&site.table, 6, "Site", "leg")
     }
 
-    /// Returns the features, none if absent.
     pub fn features(site: &TableRef<'_, Site>) -> Result<Features>
         ensures { IsPlainFieldOr features_shape Features.NOTHING site.now.table 7 (codes "Site")
             (codes "features") result }
@@ -141,8 +133,7 @@ impl Site {
     }
 }
 
-/// Returns a point of a track, or `None` out of bounds. For a vector of positions it is the
-/// position at this index.
+/// Returns a point, or `None` out of bounds.
 pub fn point(track: &Vector<'_, Pos>, index: usize) -> Option<Pos>
     ensures { (B : list ℕ) (positions : list Pos) (pos : Pos) → ArePlain B positions track.now
         → slice_get positions index ≡ Some pos → pos_shape.fits pos → result ≡ Some pos }

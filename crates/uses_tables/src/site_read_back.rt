@@ -1,16 +1,14 @@
-//! What was written is read back.
+//! Sites, read back.
 ghost use Rattle.std.specs.Prelude.{◌≡◌, IfOk};
 
 use crate::pos::Pos;
 use crate::site::{Site, SiteFields};
 use planus::{BuildError, Builder, Error, TableRef, read_root};
 
-/// Why a site could not be written or read.
+/// Why a site can't be written or read.
 #[derive(Clone, Copy, Debug)]
 pub enum SiteError {
-    /// It can't be written.
     Build(BuildError),
-    /// It can't be read.
     Read(Error),
 }
 
@@ -34,7 +32,7 @@ impl From<Error> for SiteError {
     }
 }
 
-/// Writes a site as the root of a buffer and reads its home: with `Ok`, that of the argument.
+/// Writes a site and reads its home.
 pub fn home_read_back(builder: &mut Builder, site: SiteFields<'_>) -> Result<Option<Pos>, SiteError>
     ensures { IfOk result (λ home. home ≡ site.entry.home) }
 {

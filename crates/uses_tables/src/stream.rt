@@ -1,4 +1,4 @@
-//! A stream of size-prefixed buffers, one after another.
+//! A stream of size-prefixed buffers.
 
 ghost use Rattle.std.specs.Prelude.{IfOk};
 ghost use Rattle.uses_tables.specs.Streams.{IsAppended, ReadsAll};
@@ -10,13 +10,13 @@ use std::alloc::{AllocError, Global};
 /// What is read of a stream.
 #[derive(Drop)]
 pub struct Records<'a> {
-    /// The buffers without their sizes, in order.
+    /// The buffers without their sizes.
     pub pieces: Vec<SliceWithStartOffset<'a>>,
-    /// The error of what follows them, if any.
+    /// The error of what follows, if any.
     pub fault: Option<ErrorKind>,
 }
 
-/// Writes a string as a size-prefixed buffer and appends it to the stream.
+/// Appends a string as a size-prefixed buffer.
 pub fn append(stream: &mut Vec<u8>, builder: &mut Builder, text: &str) -> Result<(), BuildError>
     ensures { IfOk result (λ done. IsAppended text.now stream.old.items stream.new.items) }
 {
@@ -26,8 +26,7 @@ pub fn append(stream: &mut Vec<u8>, builder: &mut Builder, text: &str) -> Result
     Ok(())
 }
 
-/// Reads the buffers of a stream one by one, up to its end or the first that fails, as where the
-/// stream was cut.
+/// Reads all buffers, up to the first that fails.
 pub fn read_all<'a>(alloc: Global, stream: &'a [u8]) -> Result<Records<'a>, AllocError>
     ensures { IfOk result (ReadsAll stream.now) }
 {

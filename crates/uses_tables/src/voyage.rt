@@ -1,17 +1,4 @@
-//! Voyages: tables of forty fields, of the schema
-//!
-//! ```text
-//! table Voyage {
-//!     id: uint64; departed: uint64; arrived: uint64; insurer: uint64;
-//!     name: string (required); captain: string; note: string; flag: string; legs: [uint32];
-//!     soundings: [uint16]; costs: [uint32]; freight: [uint32]; water: [uint16];
-//!     fares: [uint16]; ports: [string]; ship: Ship; consorts: [Ship]; owner: Owner;
-//!     shares: [Owner]; distance: uint32; latitude: int32; longitude: int32; drift: int32;
-//!     balance: int32; crew: uint16 = 1; days: uint16; frost: int16 = -5; depth: int16;
-//!     heading: int16; masts: uint8; decks: uint8; guns: uint8; rating: uint8; class: uint8;
-//!     insured: bool; late: bool; armed: bool; stormy: bool; heel: int8; trim: int8;
-//! }
-//! ```
+//! Voyages: tables of forty fields, of many types.
 
 ghost use Rattle.std.specs.Prelude.{◌≡◌, ◌≤◌, length, codes, IfOk, MatchOption, ⊤};
 ghost use Rattle.planus.specs.write.State.{Grows};
@@ -30,11 +17,10 @@ use planus::{
     UnionOffset, UnionVector, create_table, fields, union_field, union_vector,
 };
 
-/// The kind of a voyage, and of an offset to one.
+/// The kind of a voyage.
 pub struct Voyage;
 
-/// The fields of a voyage, as `Voyage::create` takes them. Its ships, owner and shares are written
-/// already.
+/// The fields of a voyage.
 #[derive(Drop)]
 pub struct VoyageFields<'a> {
     pub id: u64,
@@ -80,8 +66,7 @@ pub struct VoyageFields<'a> {
 }
 
 impl Voyage {
-    /// Writes a voyage. A crew of 1, a frost of -5 and absent shares are left out. With `Ok` it is
-    /// kept with exactly these fields, whatever was written before.
+    /// Writes a voyage, whose ships, owner and shares are written already.
     pub fn create(
         builder: &mut Builder,
         voyage: VoyageFields<'_>,
@@ -152,7 +137,6 @@ impl Voyage {
         create_table::<Voyage, _>(builder, fields)
     }
 
-    /// Returns a voyage's owner, or `None` if absent.
     pub fn owner<'a>(voyage: &TableRef<'a, Voyage>) -> Result<Option<OwnerRef<'a>>>
         ensures { IsUnionField (ReadsVariants owner_variants) voyage.now.table 17 (codes "Voyage")
             (codes "owner") Owner result }
@@ -160,7 +144,6 @@ impl Voyage {
         union_field::<Owner, OwnerRef<'a>>(&voyage.table, 17, "Voyage", "owner")
     }
 
-    /// Returns a voyage's shareholders, or `None` if absent.
     pub fn shares<'a>(
         voyage: &TableRef<'a, Voyage>,
     ) -> Result<Option<UnionVector<'a, OwnerRef<'a>>>>

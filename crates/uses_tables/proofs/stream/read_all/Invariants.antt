@@ -4,7 +4,6 @@ use Rattle.uses_tables.specs.Streams.{BeginsWith}
 use Rattle.uses_tables.proofs.ReadStreams.{FaultsFor, still_to_read}
 use Rattle.uses_tables.proofs.stream.read_all.Given as goal
 
--- the stream begins with what was read so far, and the rest is left
 abbrev pub invariant-loop-rest : goal.invariant-loop-rest
 invariant-loop-rest l = record {
   begins : BeginsWith l.stream (map slice_bytes l.pieces.items) l.rest;
