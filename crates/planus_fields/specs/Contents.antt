@@ -18,7 +18,7 @@ HoldsIf past (Some content) field (Some prepared) = FieldIs past content (field 
 HoldsIf past None field (Some prepared) = ⊥
 HoldsIf past (Some content) field None = ⊥
 
--- Once an optional value is prepared, its field holds its content.
+-- A prepared value's field holds its content.
 pub record PreparesOptional {X A : Type 0} (may : X → State → Type 0)
     (outcome : X → Outcome (Option A)) (content : X → Option Content) (field : A → Field)
     : Type 0 where
@@ -27,7 +27,7 @@ pub record PreparesOptional {X A : Type 0} (may : X → State → Type 0)
       → outcome x old (Ok prepared) new → IsPast old past
       → Comes past new (λ after. HoldsIf after (content x) field prepared)
 
--- Once a union is prepared, it has its tag and its content.
+-- A prepared union has its tag and its content.
 pub record PreparesUnion {X T : Type 0} (may : X → State → Type 0)
     (outcome : X → Outcome (Option (UnionOffset T))) (content : X → Option (ℕ × Content))
     : Type 0 where
@@ -36,7 +36,7 @@ pub record PreparesUnion {X T : Type 0} (may : X → State → Type 0)
       → may x old → outcome x old (Ok prepared) new → IsPast old past
       → Comes past new (λ after. UnionHolds after (content x) prepared)
 
--- Once a union vector is prepared, its two fields hold these.
+-- A prepared union vector's fields hold these.
 pub record PreparesUnionVector {X T : Type 0} (may : X → State → Type 0)
     (outcome : X → Outcome (Option (UnionVectorOffset T)))
     (contents : X → Option (Content × Content)) : Type 0 where
@@ -45,16 +45,15 @@ pub record PreparesUnionVector {X T : Type 0} (may : X → State → Type 0)
       → may x old → outcome x old (Ok prepared) new → IsPast old past
       → Comes past new (λ after. UnionVectorHolds after (contents x) prepared)
 
--- nothing where the value is the default, else this
+-- nothing where the value is the default
 abbrev pub unless : {A : Type 0} → Bool → Option A → Option A
 unless is_default content = if is_default then None else content
 
--- a vector has no items
 abbrev pub is_empty : {A : Type 0} → List A → Bool
 is_empty [] = true
 is_empty (x ∷ xs) = false
 
--- the contents of the two fields of a union vector that is left out where it is empty
+-- the two fields of a vector that is left out where it is empty
 abbrev pub any_unions_hold : List (ℕ × Content) → Option (Content × Content)
 any_unions_hold contents = unless (is_empty contents) (Some (unions_hold contents))
 

@@ -4,12 +4,12 @@ use Rattle.planus_write.specs.State.{State}
 use Rattle.planus_write.specs.Placing.{Outcome}
 use Rattle.planus_write.specs.Preparing.{Answers}
 
--- the distance that a prepared field refers to, 0 if absent
+-- the distance that it refers to, 0 if absent
 abbrev pub reach_if : {A : Type 0} → (A → ℕ) → Option A → ℕ
 reach_if reach None = 0
 reach_if reach (Some a) = reach a
 
--- The field is left out where this holds, and nothing is written; else it is prepared.
+-- left out where this holds, else prepared
 abbrev pub LeftOutWhere : {A : Type 0} → Type 0 → Outcome A → Outcome (Option A)
 LeftOutWhere {A} Absent prepare old (Ok None) new = Absent × (new ≡ old)
 LeftOutWhere {A} Absent prepare old (Ok (Some a)) new = (Absent → ⊥) × prepare old (Ok a) new
@@ -19,7 +19,7 @@ LeftOutWhere {A} Absent prepare old (Err error) new = (Absent → ⊥) × prepar
 abbrev pub AlwaysWritten : {A : Type 0} → Outcome A → Outcome (Option A)
 AlwaysWritten prepare = LeftOutWhere ⊥ prepare
 
--- an optional field: if absent, nothing is prepared
+-- if absent, nothing is prepared
 abbrev pub PreparesIf : {X A : Type 0} → (X → Outcome (Option A)) → Option X → Outcome (Option A)
 PreparesIf prepare None = Answers None
 PreparesIf prepare (Some x) = prepare x

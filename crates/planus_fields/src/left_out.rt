@@ -1,4 +1,4 @@
-//! The prepared type of a field that is always left out.
+//! Fields that are always left out.
 ghost use Rattle.std.specs.Prelude.{replicate};
 ghost use Rattle.planus_read.specs.Values.{plain};
 ghost use Rattle.planus_write.specs.lemmas.FieldItemLaws.{zeros_are_item};
@@ -6,8 +6,7 @@ ghost use Rattle.planus_write.specs.Items.{plain_item};
 
 use planus_write::{Primitive, WriteAsPrimitive};
 
-/// The prepared type of a field that is always left out. No call returns one, and no other crate
-/// can make one; its bytes would be zeros.
+/// The prepared type of a field that is always left out. No other crate can create one.
 #[derive(Drop)]
 pub struct LeftOut(());
 

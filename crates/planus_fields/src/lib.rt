@@ -1,4 +1,4 @@
-//! What can be written as a field of a table: with or without a default, or not at all.
+//! What can be written as a field of a table. Start with [`WriteAs`].
 #![tactic(auto)]
 
 mod default_value;

@@ -1,8 +1,7 @@
 //! What can be written as a field.
 //!
 //! The ghost members `may`, the precondition, and `outcome` of each trait are as in
-//! [`planus_write::WriteAsOffset`], and so is their law: the bytes before are the end of the bytes
-//! after, every alignment constraint stays, and the result refers to what is in the bytes.
+//! [`planus_write::WriteAsOffset`], and so is their law.
 ghost use Rattle.std.specs.Prelude.{ℕ, Option as option, Result};
 ghost use Rattle.planus_write.specs.Contents.{Content, PreparesContent};
 ghost use Rattle.planus_fields.specs.Contents.{PreparesOptional};
@@ -29,20 +28,16 @@ pub trait WriteAs<P: Primitive> {
 
     ghost outcome: { Self → State → Result Self.Prepared BuildError → State → Type 0 };
 
-    /// What the field holds.
     ghost content: { Self → Content };
 
-    /// Writes what the field refers to, unless that is written already.
-    ///
-    /// [`BuildError::TooLarge`] and [`BuildError::OutOfMemory`] as in
-    /// [`planus_write::WriteAsOffset::prepare`].
+    /// Writes what the field refers to, unless that is written already. Fails as
+    /// [`planus_write::WriteAsOffset::prepare`] does.
     fn prepare(&self, builder: &mut Builder) -> std::result::Result<Self::Prepared, BuildError>
         requires { may self.now builder.old }
         ensures { outcome self.now builder.old result builder.new };
 
     ghost is_lawful: { IsLawful may outcome Self.Prepared.reach };
 
-    /// Once the value is prepared, the field holds this.
     ghost has_content: { PreparesContent may outcome content Self.Prepared.field };
 }
 
@@ -55,11 +50,10 @@ pub trait WriteAsOptional<P: Primitive> {
 
     ghost outcome: { Self → State → Result (option Self.Prepared) BuildError → State → Type 0 };
 
-    /// What the field holds, or nothing where it is left out.
     ghost content: { Self → option Content };
 
-    /// Writes what the field refers to, as [`WriteAs::prepare`] does. With `None` the field is left
-    /// out, and nothing was written.
+    /// Writes what the field refers to, as [`WriteAs::prepare`] does. With `None` nothing was
+    /// written.
     fn prepare(
         &self,
         builder: &mut Builder,
@@ -69,7 +63,6 @@ pub trait WriteAsOptional<P: Primitive> {
 
     ghost is_lawful: { IsLawful may outcome (reach_if Self.Prepared.reach) };
 
-    /// Once the value is prepared, the field holds this.
     ghost has_content: { PreparesOptional may outcome content Self.Prepared.field };
 }
 
@@ -82,11 +75,10 @@ pub trait WriteAsDefault<P: Primitive, D> {
 
     ghost outcome: { Self → D → State → Result (option Self.Prepared) BuildError → State → Type 0 };
 
-    /// What the field holds, by its default, or nothing where it is left out.
     ghost content: { Self → D → option Content };
 
-    /// Writes what the field refers to, as [`WriteAs::prepare`] does. With `None` the field is left
-    /// out, and nothing was written.
+    /// Writes what the field refers to, as [`WriteAs::prepare`] does. With `None` nothing was
+    /// written.
     fn prepare(
         &self,
         builder: &mut Builder,
@@ -98,7 +90,6 @@ pub trait WriteAsDefault<P: Primitive, D> {
     ghost is_lawful: { (default : D)
         → IsLawful may (λ x. outcome x default) (reach_if Self.Prepared.reach) };
 
-    /// Once the value is prepared, the field holds this.
     ghost has_content: { (default : D) → PreparesOptional may
         (λ value old answer new. outcome value default old answer new)
         (λ value. content value default) Self.Prepared.field };
@@ -110,11 +101,10 @@ pub trait WriteAsOptionalUnion<T> {
 
     ghost outcome: { Self → State → Result (option (UnionOffset T)) BuildError → State → Type 0 };
 
-    /// The tag and the value's content, or nothing where the union is left out.
     ghost content: { Self → option (ℕ × Content) };
 
-    /// Writes the union's value, as [`planus_write::WriteAsUnion::prepare`] does. With `None` the
-    /// union is left out, and nothing was written.
+    /// Writes the union's value, as [`planus_write::WriteAsUnion::prepare`] does. With `None`
+    /// nothing was written.
     fn prepare(
         &self,
         builder: &mut Builder,
@@ -124,7 +114,6 @@ pub trait WriteAsOptionalUnion<T> {
 
     ghost is_lawful: { IsLawful may outcome (reach_if union_reach) };
 
-    /// Once the union is prepared, it has this tag and holds this.
     ghost has_content: { PreparesUnion may outcome content };
 }
 
@@ -135,11 +124,10 @@ pub trait WriteAsDefaultUnionVector<T> {
     ghost outcome: { Self → State → Result (option (UnionVectorOffset T)) BuildError → State → Type
         0 };
 
-    /// What the two fields hold, or nothing where the vector is left out.
     ghost contents: { Self → option (Content × Content) };
 
-    /// Writes the vector, as [`planus_write::WriteAsUnionVector::prepare`] does. With `None` it is
-    /// left out, and nothing was written.
+    /// Writes the vector, as [`planus_write::WriteAsUnionVector::prepare`] does. With `None`
+    /// nothing was written.
     fn prepare(
         &self,
         builder: &mut Builder,
@@ -149,7 +137,6 @@ pub trait WriteAsDefaultUnionVector<T> {
 
     ghost is_lawful: { IsLawful may outcome (reach_if union_vector_reach) };
 
-    /// Once the vector is prepared, its fields hold these.
     ghost has_contents: { PreparesUnionVector may outcome contents };
 }
 
@@ -160,11 +147,10 @@ pub trait WriteAsOptionalUnionVector<T> {
     ghost outcome: { Self → State → Result (option (UnionVectorOffset T)) BuildError → State → Type
         0 };
 
-    /// What the two fields hold, or nothing where the vector is left out.
     ghost contents: { Self → option (Content × Content) };
 
-    /// Writes the vector, as [`planus_write::WriteAsUnionVector::prepare`] does. With `None` it is
-    /// left out, and nothing was written.
+    /// Writes the vector, as [`planus_write::WriteAsUnionVector::prepare`] does. With `None`
+    /// nothing was written.
     fn prepare(
         &self,
         builder: &mut Builder,
@@ -174,6 +160,5 @@ pub trait WriteAsOptionalUnionVector<T> {
 
     ghost is_lawful: { IsLawful may outcome (reach_if union_vector_reach) };
 
-    /// Once the vector is prepared, its fields hold these.
     ghost has_contents: { PreparesUnionVector may outcome contents };
 }

@@ -13,7 +13,6 @@ use Rattle.planus_write.specs.Contents.{Content, Comes, PreparesContent}
 use Rattle.planus_fields.specs.Contents.{HoldsIf, unless, holds_if, PreparesOptional, is_empty}
 use Rattle.planus_write.specs.lemmas.ContentLaws.{stays_there}
 
--- a value left out by a test
 pub left_out_prepared : {X A : Type 0} {may : X → State → Type 0} {outcome : X → Outcome A}
     {content : X → Content} {field : A → Field} (is_default : X → Bool) (Default : X → Type 0)
     → ((x : X) → Decides (is_default x) (Default x)) → PreparesContent may outcome content field
@@ -50,7 +49,6 @@ left_out_prepared {X} {A} {may} {outcome} {content} {field} is_default Default d
     comes x old (Some found) new past may done is_past =
         written x old found new past (is_default x) may refl done.0 done.1 is_past
 
--- one never left out
 pub always_prepared : {X A : Type 0} {may : X → State → Type 0} {outcome : X → Outcome A}
     {content : X → Content} {field : A → Field} → PreparesContent may outcome content field
     → PreparesOptional may (λ x old answer new. LeftOutWhere ⊥ (outcome x) old answer new)
@@ -58,7 +56,6 @@ pub always_prepared : {X A : Type 0} {may : X → State → Type 0} {outcome : X
 always_prepared lawful =
     left_out_prepared (λ x. false) (λ x. ⊥) (λ x. ((λ same. cc), (λ none. absurd none))) lawful
 
--- one always left out
 pub never_prepared : {X A : Type 0} {may : X → State → Type 0} {field : A → Field}
     → PreparesOptional {X = X} may (λ x old answer new. Answers None old answer new) (λ x. None)
     field
@@ -70,7 +67,6 @@ never_prepared {X} {A} {may} {field} = record {
       (stays_there past old new (λ after. ⊤) done.1 is_past tt));
 }
 
--- an optional field
 pub optional_prepared : {X A : Type 0} {may : X → State → Type 0} {outcome : X → Outcome (Option A)}
     {content : X → Option Content} {field : A → Field} → PreparesOptional may outcome content field
     → PreparesOptional (λ x old. MayIf may x old)
@@ -87,7 +83,6 @@ optional_prepared {X} {A} {may} {outcome} {content} {field} lawful = record { co
     prepared (Some x) old found new past may done is_past =
         lawful.comes x old found new past may done is_past
 
--- what is prepared as something else
 pub prepared_as : {X Y A : Type 0} {may : X → State → Type 0} {outcome : X → Outcome (Option A)}
     {content : X → Option Content} {field : A → Field} (of : Y → X)
     → PreparesOptional may outcome content field
@@ -95,7 +90,6 @@ pub prepared_as : {X Y A : Type 0} {may : X → State → Type 0} {outcome : X �
     (λ y. content (of y)) field
 prepared_as of lawful = record { comes = λ y. lawful.comes (of y) }
 
--- whether a vector is empty
 pub empty_decides : {A : Type 0} (xs : List A) → Decides (is_empty xs) (xs ≡ [])
 empty_decides [] = ((λ h. refl), (λ h. refl))
 empty_decides (x ∷ xs) = ((λ h. cc), (λ h. cc))

@@ -8,7 +8,6 @@ use Rattle.planus_write.specs.lemmas.Laws.{unchanged_grows}
 use Rattle.planus_write.specs.declared.errors.BuildError.{BuildError}
 use Rattle.planus_fields.specs.Fields.{reach_if, LeftOutWhere, PreparesIf, MayIf}
 
--- a field that a test leaves out is lawful if its preparing is
 pub left_out_is_lawful : {X A : Type 0} {may : X → State → Type 0} {outcome : X → Outcome A}
     {reach : A → ℕ}
     (Absent : X → Type 0) → IsLawful may outcome reach
@@ -29,7 +28,6 @@ left_out_is_lawful {X} {A} {may} {outcome} {reach} Absent lawful =
     reaches x old None new may done = omega arith
     reaches x old (Some a) new may done = lawful.reaches x old a new may done.1
 
--- a field always left out is lawful
 pub left_out_always_is_lawful : {X A : Type 0} {reach : A → ℕ}
     → IsLawful {X = X} (λ x old. ⊤) (λ x old answer new. Answers None old answer new)
     (reach_if reach)
@@ -43,7 +41,6 @@ left_out_always_is_lawful {X} {A} {reach} =
       stays = λ x old new grows may. tt;
     }
 
--- an optional field is lawful if its preparing is
 pub optional_is_lawful : {X A : Type 0} {may : X → State → Type 0}
     {outcome : X → Outcome (Option A)} {reach : A → ℕ}
     → IsLawful may outcome (reach_if reach)

@@ -18,11 +18,9 @@ use Rattle.planus_fields.specs.Contents.{any_unions_hold, PreparesUnion, Prepare
 use Rattle.planus_write.specs.lemmas.ContentLaws.{stays_there}
 use Rattle.planus_write.specs.lemmas.UnionContentLaws.{vector_comes}
 
--- Unions, prepared one after another, are an optional vector.
 module _ {X T : Type 0} {may : X → State → Type 0} {outcome : X → Outcome (UnionOffset T)}
     (lawful : IsLawful may outcome union_reach) (content : X → ℕ × Content)
     (prepares : PreparesUnionItem may outcome content) where
-  -- a vector of such unions
   pub unions_prepared : {Y : Type 0} (items : Y → List X)
       → PreparesUnionVector (λ y old. AllMay may (items y) old)
       (λ y old answer new. LeftOutWhere ⊥ (WritesUnionVector outcome (items y)) old answer new)
@@ -40,7 +38,6 @@ module _ {X T : Type 0} {may : X → State → Type 0} {outcome : X → Outcome 
       comes y old (Some vector) new past mays done is_past =
           vector_comes lawful content prepares (items y) old vector new past mays done.1 is_past
 
-  -- the same for one left out where it is empty
   pub unions_or_none_prepared : {Y : Type 0} (items : Y → List X)
       → PreparesUnionVector (λ y old. AllMay may (items y) old)
       (λ y old answer new. LeftOutWhere (items y ≡ []) (WritesUnionVector outcome (items y)) old
@@ -64,7 +61,6 @@ module _ {X T : Type 0} {may : X → State → Type 0} {outcome : X → Outcome 
       comes (x ∷ xs) old (Some vector) new past mays done is_past =
           vector_comes lawful content prepares (x ∷ xs) old vector new past mays done.1 is_past
 
--- an optional union vector
 pub optional_union_vector_prepared : {X T : Type 0} {may : X → State → Type 0}
     {outcome : X → Outcome (Option (UnionVectorOffset T))}
     {contents : X → Option (Content × Content)}
@@ -85,7 +81,6 @@ optional_union_vector_prepared {X} {T} {may} {outcome} {contents} lawful =
     prepared (Some x) old found new past may done is_past =
         lawful.comes x old found new past may done is_past
 
--- a union vector that is written already
 pub union_vector_offset_prepared : {T : Type 0} {may : UnionVectorOffset T → State → Type 0}
     → PreparesUnionVector may
     (λ vector old answer new. LeftOutWhere ⊥ (Answers vector) old answer new)
@@ -111,7 +106,6 @@ union_vector_offset_prepared {T} {may} = record { comes = comes }
           ap (λ (vector : UnionVectorOffset T). values_field vector.values.distance) same,
         )
 
--- a union that is always there
 pub always_union_prepared : {X T : Type 0} {may : X → State → Type 0}
     {outcome : X → Outcome (UnionOffset T)} {content : X → ℕ × Content}
     → PreparesUnionItem may outcome content
@@ -126,7 +120,6 @@ always_union_prepared {X} {T} {may} {outcome} {content} lawful = record { comes 
     comes x old (Some union) new past may done is_past =
         lawful.comes x old union new past may done.1 is_past
 
--- an optional union
 pub optional_union_prepared : {X T : Type 0} {may : X → State → Type 0}
     {outcome : X → Outcome (Option (UnionOffset T))} {content : X → Option (ℕ × Content)}
     → PreparesUnion may outcome content
@@ -145,7 +138,6 @@ optional_union_prepared {X} {T} {may} {outcome} {content} lawful = record { come
     prepared (Some x) old found new past may done is_past =
         lawful.comes x old found new past may done is_past
 
--- a union always left out
 pub never_union_prepared : {X T : Type 0} {may : X → State → Type 0}
     → PreparesUnion {X = X} {T = T} may (λ x old answer new. Answers None old answer new)
     (λ x. None)
@@ -157,7 +149,6 @@ never_union_prepared {X} {T} {may} = record {
       (stays_there past old new (λ after. ⊤) done.1 is_past tt));
 }
 
--- a union that is prepared as something else
 pub union_prepared_as : {X Y T : Type 0} {may : X → State → Type 0}
     {outcome : X → Outcome (Option (UnionOffset T))} {content : X → Option (ℕ × Content)}
     (of : Y → X)
@@ -166,7 +157,6 @@ pub union_prepared_as : {X Y T : Type 0} {may : X → State → Type 0}
     (λ y. content (of y))
 union_prepared_as of lawful = record { comes = λ y. lawful.comes (of y) }
 
--- a union vector always left out
 pub never_union_vector_prepared : {X T : Type 0} {may : X → State → Type 0}
     → PreparesUnionVector {X = X} {T = T} may (λ x old answer new. Answers None old answer new)
     (λ x. None)
@@ -178,7 +168,6 @@ never_union_vector_prepared {X} {T} {may} = record {
       (stays_there past old new (λ after. ⊤) done.1 is_past tt));
 }
 
--- a union vector that is prepared as something else
 pub union_vector_prepared_as : {X Y T : Type 0} {may : X → State → Type 0}
     {outcome : X → Outcome (Option (UnionVectorOffset T))}
     {contents : X → Option (Content × Content)}
