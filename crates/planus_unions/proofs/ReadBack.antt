@@ -1,4 +1,4 @@
--- A union vector that stands is returned.
+-- An encoded union vector is returned.
 use Rattle.std.proofs.Common.{◌≡◌, ℕ, zero, suc, ◌+◌, ◌≤◌, List, [], ◌∷◌, length, take, drop, ap, ◌∙◌, sym}
 use Rattle.std.proofs.Common.{Result, Ok, Err, Some, arith}
 use Rattle.std.specs.Prelude.{IsOkAnd, slice_index}
@@ -19,7 +19,6 @@ use Rattle.planus_unions.specs.ReadBack.{IsUnionVectorOf, UnionVectorsReadBack}
 use Rattle.planus_view.specs.UnionVectorView.{view_of, ShowsUnionVector}
 use Rattle.planus_view.specs.UnionViews.{UnionView}
 
--- the tag of one byte
 byte_at : (S : List ℕ) (i : ℕ) → i + 1 ≤ length S → slice_index S i ≡ from_le_bytes w8 (take 1 (drop i S))
 byte_at [] i inside = absurd (omega (arith, inside))
 byte_at (byte ∷ S) zero inside = omega arith
@@ -28,7 +27,6 @@ byte_at (byte ∷ S) (suc i) inside = byte_at S i (omega (arith, inside))
 tag_at : (S : List ℕ) (i tag : ℕ) → Num S i w8 ≡ Some tag → slice_index S i ≡ tag
 tag_at S i tag e = byte_at S i (num_inside S i w8 tag e) ∙ sym (num_value S i w8 tag e)
 
--- the view of the items from two positions on, where it stands in the whole
 view_moves :
     (B : List ℕ) (start tags references count kt kv n : ℕ) → start + tags ≡ kt
     → start + references ≡ kv → count ≡ n → (v : UnionView)

@@ -12,8 +12,7 @@ use Rattle.planus_view.specs.declared.vector_of.VectorOf.{VectorOf}
 use Rattle.planus_view.specs.UnionVectorView.{view_of, ShowsUnionVector}
 
 module _ (T E : Type 0) where
-  -- the vector of these unions at kt and kv of B: their tags, and references from which reading
-  -- goes on
+  -- these unions at kt and kv of B: their tags, and references from which reading goes on
   pub record IsUnionVectorOf
       (B : List ℕ) (kt kv : ℕ) (items : List (ℕ × ℕ)) (v : VectorOf (UnionSliceView T E)) : Type 0
     where
@@ -31,8 +30,7 @@ module _ (T E : Type 0) where
           (i : ℕ) (item : ℕ × ℕ) → slice_get items i ≡ Some item
           → ReferenceReads B (kv + 4) (i * 4) item.1
 
-  -- A union vector at kt and kv of B is returned by any two references to it, in each slice with
-  -- both.
+  -- A union vector is returned by any two references to it, in each slice with both.
   abbrev pub UnionVectorsReadBack : Type 0
   UnionVectorsReadBack =
       (B : List ℕ) (kt kv start f g : ℕ) (items : List (ℕ × ℕ))
